@@ -1,0 +1,24 @@
+-- What a reader answers, where the text that spells each value is known.
+use Rattle.std.proofs.Common.{◌≡◌, Option, Some, None, Result, Ok, Err, IfOk, OnErr, refl, sym, ◌∙◌}
+use Rattle.std.specs.Option.{ok_or}
+use Rattle.std.specs.Result.{result_ok}
+
+-- a reader that answers one error answers the value, or the error
+pub result_ok-ok_or : {A E : Type 0} (o : Option A) (e : E) → result_ok (ok_or o e) ≡ o
+result_ok-ok_or None e = refl
+result_ok-ok_or (Some a) e = refl
+
+-- what was read is spelled
+pub ok_spelled : {A E : Type 0} (r : Result A E) (o : Option A) (Spells : A → Type 0) → result_ok r ≡ o → ((a : A) → o ≡ Some a → Spells a) → IfOk r Spells
+ok_spelled (Ok a) o Spells same spelled = spelled a (sym same)
+ok_spelled (Err e) o Spells same spelled = tt
+
+-- where nothing was read, nothing is spelled
+pub err_unspelled : {A E : Type 0} (r : Result A E) (o : Option A) (Spells : A → Type 0) → result_ok r ≡ o → ((a : A) → Spells a → o ≡ Some a) → OnErr r ((a : A) → Spells a → ⊥)
+err_unspelled (Ok a) o Spells same read = tt
+err_unspelled (Err e) o Spells same read = λ a spells. let found = read a spells in cc
+
+-- what is spelled was read
+pub only_spelled : {A E : Type 0} (r : Result A E) (o : Option A) → result_ok r ≡ o → (a : A) → o ≡ Some a → r ≡ Ok a
+only_spelled (Ok b) o same a read = let found : Some b ≡ Some a = same ∙ read in cc
+only_spelled (Err e) o same a read = absurd (cc)

@@ -1,0 +1,33 @@
+-- How masks are spelled: `0x` and up to eight hexadecimal digits.
+use Rattle.std.specs.Prelude.{◌≡◌, ℕ, ◌≤◌, ◌↔◌, Bool, ◌&&◌, nat_lt, nat_le, nat_eq, if◌then◌else◌, List, ◌++◌, length, drop, codes, IsTrue, Option, Some, None}
+use Rattle.std.specs.List.{starts_with}
+use Rattle.std.specs.Str.Parse.{digits_value}
+use Rattle.cspf_addr.specs.Numbers.{are_digits}
+
+-- a text is `0x` and one to eight hexadecimal digits of either case, and their value is n
+pub record SpellsMask (text : List ℕ) (n : ℕ) : Type 0 where
+  pub digits : List ℕ
+  pub whole : text ≡ codes "0x" ++ digits
+  pub some : 1 ≤ length digits
+  pub most : length digits ≤ 8
+  pub hexadecimal : IsTrue (are_digits 16 digits)
+  pub value : n ≡ digits_value 16 digits
+
+-- one to eight hexadecimal digits
+abbrev pub are_mask_digits : List ℕ → Bool
+are_mask_digits digits = nat_lt 0 (length digits) && nat_le (length digits) 8 && are_digits 16 digits
+
+-- the bits of the mask that a text spells
+unfoldable pub mask_of : List ℕ → Option ℕ
+mask_of text =
+    if starts_with nat_eq text (codes "0x") && are_mask_digits (drop 2 text)
+    then Some (digits_value 16 (drop 2 text))
+    else None
+
+-- the reader of masks finds exactly what is spelled
+abbrev pub AreMasksRead : Type 0
+AreMasksRead = (text : List ℕ) (n : ℕ) → (mask_of text ≡ Some n) ↔ SpellsMask text n
+
+-- a text spells one mask at most
+abbrev pub SpellsOneMask : Type 0
+SpellsOneMask = (text : List ℕ) (m n : ℕ) → SpellsMask text m → SpellsMask text n → m ≡ n

@@ -1,0 +1,65 @@
+ghost use Rattle.std.specs.Prelude.{◌≡◌, ◌≢◌, ℕ, ◌^◌, ◌<◌, ◌≤◌, ◌+◌, ◌*◌, ◌↔◌, length, IsTrue, IfSome, IfNone};
+ghost use Rattle.std.specs.Fmt.{decimal};
+ghost use Rattle.std.specs.Char.{digit_value};
+ghost use Rattle.std.specs.Str.Parse.{digits_value};
+ghost use Rattle.cspf_addr.specs.Numbers.{are_digits, is_decimal, number_of, has_plain_start, AreSpelledOnce};
+
+/// The value of a text of digits in base `base`; `None` where a byte is no such digit, or the value
+/// is 2^64 or more.
+pub(crate) fn value(text: &[u8], base: u32) -> Option<u64>
+    requires least { 2 ≤ base }
+    requires most { base ≤ 36 }
+    ensures some { IfSome result
+        (λ n. IsTrue (are_digits base text.now) × (n ≡ digits_value base text.now)) }
+    ensures none { IfNone result
+        (IsTrue (are_digits base text.now) → 2 ^ 64 ≤ digits_value base text.now) }
+    ensures small { IfSome result (λ n. n < 2 ^ 64) }
+{
+    let mut value: u64 = 0;
+    for byte in text {
+        value = one_more(value, *byte, base)?;
+    }
+    Some(value)
+}
+
+/// The value with one more digit behind it.
+fn one_more(value: u64, byte: u8, base: u32) -> Option<u64>
+    requires least { 2 ≤ base }
+    requires most { base ≤ 36 }
+    ensures some { IfSome result
+        (λ n. (digit_value byte < base) × (n ≡ value * base + digit_value byte)) }
+    ensures none { IfNone result
+        (digit_value byte < base → 2 ^ 64 ≤ value * base + digit_value byte) }
+    ensures small { IfSome result (λ n. n < 2 ^ 64) }
+{
+    let digit = char::from(byte).to_digit(base)?;
+    value
+        .checked_mul(u64::from(base))?
+        .checked_add(u64::from(digit))
+}
+
+/// Whether a text is one byte or more, the first of several not `0`.
+fn has_plain_start(text: &[u8]) -> bool
+    ensures { result ≡ has_plain_start text.now }
+{
+    !text.is_empty() && (text.len() == 1 || text[0] != b'0')
+}
+
+/// The number that a text spells in decimal: digits with no sign and no leading zeros, below 2^64.
+pub fn number(text: &[u8]) -> Option<u64>
+    ensures value { result ≡ number_of text.now }
+    ensures some { IfSome result (λ n. text.now ≡ decimal n) }
+    ensures none { IfNone result ((n : ℕ) → n < 2 ^ 64 → text.now ≢ decimal n) }
+    ensures only { (n : ℕ) → n < 2 ^ 64 → text.now ≡ decimal n → result ≡ Some n }
+{
+    if has_plain_start(text) {
+        value(text, 10)
+    } else {
+        None
+    }
+}
+
+/// Law: `number` finds a number exactly where the text is what is written for it.
+pub fn numbers_are_spelled_once()
+    ensures { AreSpelledOnce }
+{}
