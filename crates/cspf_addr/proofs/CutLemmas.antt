@@ -86,3 +86,8 @@ cut_whole mark text some =
   where
     inside : (mark : ℕ) (text : List ℕ) → 0 < length (drop (position_or_len (λ byte. eqb byte mark) text + 1) text) → position_or_len (λ byte. eqb byte mark) text < length text
     inside mark text some = omega (arith, simp length-drop at some)
+
+-- a text with something in front of a byte that is none of its kind
+pub Lacks-append : (mark : ℕ) (front back : List ℕ) → Lacks mark front → Lacks mark back → Lacks mark (front ++ back)
+Lacks-append mark [] back lacks_front lacks_back = lacks_back
+Lacks-append mark (byte ∷ front) back lacks_front lacks_back = (lacks_front.0, Lacks-append mark front back lacks_front.1 lacks_back)

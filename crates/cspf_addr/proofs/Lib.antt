@@ -4,3 +4,6 @@ pub mod NumberLemmas
 pub mod Readers
 pub mod AddressLemmas
 pub mod MaskLemmas
+pub mod PrefixLemmas
+pub mod HopLemmas
+pub mod HopListLemmas

@@ -1,15 +1,22 @@
 -- The masks that texts spell.
-use Rattle.std.proofs.Common.{◌≡◌, ℕ, ◌^◌, ◌<◌, ◌≤◌, Bool, true, false, cond, List, ◌++◌, length, take, drop, codes, Some, None, Result, Ok, IfOk, OnErr, lit<, refl, sym, ap, ◌∙◌, arith}
+use Rattle.std.proofs.Common.{◌≡◌, ℕ, ◌^◌, ◌<◌, ◌≤◌, Bool, true, false, cond, List, ◌++◌, length, take, drop, codes, Some, None, Result, Ok, IfOk, OnErr, lit<, refl, sym, ap, ◌∙◌, arith, ◌+◌, ◌*◌, ◌/◌, ◌%◌, [], ◌∷◌, map}
 use Rattle.std.proofs.lemmas.Bool.{ltb-true, lt-ltb, leb-true, le-leb}
-use Rattle.std.proofs.lemmas.Int.Digits.{digits_value-lt}
+use Rattle.std.proofs.lemmas.Int.Digits.{digits_value-lt, digits_value_is}
 use Rattle.std.proofs.lemmas.List.{take-append-drop}
 use Rattle.std.proofs.Math.Nat.{pow-le-pow_right}
 use Rattle.std.specs.Cmp.Lexicographic.{bytes_decides}
 use Rattle.std.specs.Result.{result_ok}
-use Rattle.std.specs.Str.Parse.{digits_value}
+use Rattle.std.specs.Fmt.{digit_glyph}
+use Rattle.std.specs.Char.{digit_value}
+use Rattle.std.specs.List.{flat_map, AllByRecursion}
+use Rattle.std.specs.Int.{w32, to_be_bytes}
+use Rattle.std.specs.Int.Digits.{number_from_digits, number_from_digits_after}
+use Rattle.std.proofs.lemmas.Bool.Decides.{nat_tests}
+use Rattle.std.proofs.lemmas.Nat.{from_be_bytes-to_be_bytes_4}
+use Rattle.std.specs.Str.Parse.{AllDigits, digits_value}
 use Rattle.cspf_addr.specs.Numbers.{are_digits}
-use Rattle.cspf_addr.specs.MaskText.{SpellsMask, mask_of, AreMasksRead, SpellsOneMask}
-use Rattle.cspf_addr.proofs.DigitLemmas.{and_parts, AllDigits-are_digits}
+use Rattle.cspf_addr.specs.MaskText.{SpellsMask, mask_of, AreMasksRead, SpellsOneMask, AreMasksReadBack, byte_digits, mask_text}
+use Rattle.cspf_addr.proofs.DigitLemmas.{and_parts, AllDigits-are_digits, are_digits-AllDigits}
 use Rattle.cspf_addr.proofs.NumberLemmas.{chosen}
 use Rattle.cspf_addr.proofs.Readers.{ok_spelled, err_unspelled, only_spelled}
 
@@ -73,3 +80,50 @@ pub spells_one_mask : SpellsOneMask
 spells_one_mask text m n spells_m spells_n =
     let found : Some m ≡ Some n = sym (mask_of-spells text m spells_m) ∙ mask_of-spells text n spells_n in
     cc
+
+-- a hexadecimal digit that is written has its value
+glyph_value : (d : ℕ) → d < 16 → digit_value (digit_glyph false d) ≡ d
+glyph_value d small = grind (arith, nat_tests)
+
+-- the two digits of a byte as numbers
+abbrev halves : ℕ → List ℕ
+halves byte = byte / 16 ∷ byte % 16 ∷ []
+
+glyph_values : (bytes : List ℕ) → AllByRecursion (λ byte. byte < 256) bytes → map digit_value (flat_map byte_digits bytes) ≡ flat_map halves bytes
+glyph_values [] small = refl
+glyph_values (byte ∷ bytes) small = rw (glyph_value (byte / 16) (omega (arith, small.0)), glyph_value (byte % 16) (omega arith), glyph_values bytes small.1) refl
+
+glyph_digits : (bytes : List ℕ) → AllByRecursion (λ byte. byte < 256) bytes → AllDigits 16 (flat_map byte_digits bytes)
+glyph_digits [] small = tt
+glyph_digits (byte ∷ bytes) small = (
+  omega (arith, glyph_value (byte / 16) (omega (arith, small.0)), small.0),
+  (omega (arith, glyph_value (byte % 16) (omega arith)), glyph_digits bytes small.1),
+)
+
+-- the number of hexadecimal digits is that of the bytes
+halves_number : (n : ℕ) (bytes : List ℕ) → number_from_digits_after 16 n (flat_map halves bytes) ≡ number_from_digits_after 256 n bytes
+halves_number n [] = refl
+halves_number n (byte ∷ bytes) =
+    halves_number ((n * 16 + byte / 16) * 16 + byte % 16) bytes ∙ ap (λ m. number_from_digits_after 256 m bytes) (whole n byte)
+  where
+    whole : (n byte : ℕ) → (n * 16 + byte / 16) * 16 + byte % 16 ≡ n * 256 + byte
+    whole n byte = omega arith
+
+glyphs_length : (bytes : List ℕ) → length (flat_map byte_digits bytes) ≡ 2 * length bytes
+glyphs_length [] = refl
+glyphs_length (byte ∷ bytes) = omega (arith, glyphs_length bytes)
+
+mask_of-bytes : (bytes : List ℕ) → length bytes ≡ 4 → AllByRecursion (λ byte. byte < 256) bytes → mask_of (codes "0x" ++ flat_map byte_digits bytes) ≡ Some (number_from_digits 256 bytes)
+mask_of-bytes bytes four small =
+    mask_of-digits (flat_map byte_digits bytes) (omega (arith, glyphs_length bytes)) (omega (arith, glyphs_length bytes)) (are_digits-AllDigits 16 (flat_map byte_digits bytes) (glyph_digits bytes small))
+    ∙ ap Some (digits_value_is 16 (flat_map byte_digits bytes) ∙ (ap (number_from_digits 16) (glyph_values bytes small) ∙ halves_number 0 bytes))
+
+same_bytes : (a b c d n : ℕ) → a * 256 ^ 3 + b * 256 ^ 2 + c * 256 ^ 1 + d ≡ n → number_from_digits 256 (a ∷ b ∷ c ∷ d ∷ []) ≡ n
+same_bytes a b c d n same = omega (arith, same)
+
+-- a mask is read back from its text
+pub mask_of-mask_text : AreMasksReadBack
+unfolding mask_text
+mask_of-mask_text bits small =
+    mask_of-bytes (to_be_bytes w32 bits) refl (omega arith, (omega arith, (omega arith, (omega arith, tt))))
+    ∙ ap Some (same_bytes (bits / 256 ^ 3 % 256) (bits / 256 ^ 2 % 256) (bits / 256 ^ 1 % 256) (bits % 256) bits (from_be_bytes-to_be_bytes_4 bits small))

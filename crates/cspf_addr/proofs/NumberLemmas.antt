@@ -53,6 +53,11 @@ decimal-is_decimal text passes small =
     let start = plain_start text parts.0 in
     decimal-digits_value own text (AllDigits-are_digits 10 text parts.1) start.0 start.1 small
 
+-- a decimal has a digit
+pub is_decimal-some : (text : List ℕ) → is_decimal text ≡ true → 0 < length text
+unfolding is_decimal
+is_decimal-some text passes = (plain_start text (and_parts _ _ passes).0).0
+
 pub number_of-spelled : (text : List ℕ) (n : ℕ) → number_of text ≡ Some n → (n < 2 ^ 64) × (text ≡ decimal n)
 unfolding number_of
 number_of-spelled text n found =

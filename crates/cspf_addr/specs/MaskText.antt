@@ -1,6 +1,8 @@
 -- How masks are spelled: `0x` and up to eight hexadecimal digits.
-use Rattle.std.specs.Prelude.{◌≡◌, ℕ, ◌≤◌, ◌↔◌, Bool, ◌&&◌, nat_lt, nat_le, nat_eq, if◌then◌else◌, List, ◌++◌, length, drop, codes, IsTrue, Option, Some, None}
-use Rattle.std.specs.List.{starts_with}
+use Rattle.std.specs.Prelude.{◌≡◌, ℕ, ◌/◌, ◌%◌, ◌^◌, ◌<◌, ◌≤◌, ◌↔◌, Bool, false, ◌&&◌, nat_lt, nat_le, nat_eq, if◌then◌else◌, List, [], ◌∷◌, ◌++◌, length, drop, codes, IsTrue, Option, Some, None}
+use Rattle.std.specs.Fmt.{digit_glyph}
+use Rattle.std.specs.Int.{w32, to_be_bytes}
+use Rattle.std.specs.List.{starts_with, flat_map}
 use Rattle.std.specs.Str.Parse.{digits_value}
 use Rattle.cspf_addr.specs.Numbers.{are_digits}
 
@@ -31,3 +33,15 @@ AreMasksRead = (text : List ℕ) (n : ℕ) → (mask_of text ≡ Some n) ↔ Spe
 -- a text spells one mask at most
 abbrev pub SpellsOneMask : Type 0
 SpellsOneMask = (text : List ℕ) (m n : ℕ) → SpellsMask text m → SpellsMask text n → m ≡ n
+
+-- the two lower-case hexadecimal digits of a byte
+abbrev pub byte_digits : ℕ → List ℕ
+byte_digits byte = digit_glyph false (byte / 16) ∷ digit_glyph false (byte % 16) ∷ []
+
+-- the text of the mask with these bits
+unfoldable pub mask_text : ℕ → List ℕ
+mask_text bits = codes "0x" ++ flat_map byte_digits (to_be_bytes w32 bits)
+
+-- a mask is read back from its text
+abbrev pub AreMasksReadBack : Type 0
+AreMasksReadBack = (bits : ℕ) → bits < 2 ^ 32 → mask_of (mask_text bits) ≡ Some bits

@@ -6,6 +6,7 @@ ghost use Rattle.cspf_addr.specs.Spelling.{spelling, octet_of, octets_of, addres
 use crate::cuts::cut;
 use crate::decimals::number;
 use std::alloc::{AllocError, Global};
+use std::fmt;
 use std::marker::Model;
 use thiserror::Error;
 
@@ -58,12 +59,23 @@ impl Addr {
     }
 
     /// The text of the address, as in `192.0.2.1`.
-    #[tactic(auto, unfolding(crate::specs::Spelling::spelling))]
     pub fn text(self, alloc: Global) -> Result<String, AllocError>
         ensures { IfOk result (λ text. string_bytes text ≡ spelling self) }
     {
+        format!(in alloc; "{self}")
+    }
+}
+
+impl fmt::Display for Addr {
+    ghost use Rattle.std.specs.Prelude.{Some};
+    ghost use Rattle.cspf_addr.specs.Spelling.{spelling};
+
+    ghost output = { λ address. Some (spelling address) };
+
+    #[tactic(auto, unfolding(crate::specs::Spelling::spelling))]
+    fn fmt<W: fmt::Write>(&self, f: &mut fmt::Formatter<W>) -> fmt::Result {
         let [a, b, c, d] = self.0.to_be_bytes();
-        format!(in alloc; "{a}.{b}.{c}.{d}")
+        write!(f, "{a}.{b}.{c}.{d}")
     }
 }
 

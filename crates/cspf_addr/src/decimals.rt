@@ -1,4 +1,4 @@
-ghost use Rattle.std.specs.Prelude.{◌≡◌, ◌≢◌, ℕ, ◌^◌, ◌<◌, ◌≤◌, ◌+◌, ◌*◌, ◌↔◌, length, IsTrue, IfSome, IfNone};
+ghost use Rattle.std.specs.Prelude.{◌≡◌, ◌≢◌, ℕ, ◌^◌, ◌<◌, ◌≤◌, ◌+◌, ◌*◌, IsTrue, IfSome, IfNone};
 ghost use Rattle.std.specs.Fmt.{decimal};
 ghost use Rattle.std.specs.Char.{digit_value};
 ghost use Rattle.std.specs.Str.Parse.{digits_value};
@@ -57,6 +57,22 @@ pub fn number(text: &[u8]) -> Option<u64>
     } else {
         None
     }
+}
+
+/// Whether a text is decimal digits with no leading zeros, however many.
+#[tactic(auto, unfolding(crate::specs::Numbers::is_decimal))]
+pub(crate) fn is_decimal(text: &[u8]) -> bool
+    ensures { result ≡ is_decimal text.now }
+{
+    has_plain_start(text) && are_digits(text)
+}
+
+/// Whether each byte of a text is a decimal digit.
+#[tactic(auto, unfolding(crate::specs::Numbers::are_digits))]
+fn are_digits(text: &[u8]) -> bool
+    ensures { result ≡ are_digits 10 text.now }
+{
+    text.iter().all(|byte| char::from(*byte).is_digit(10))
 }
 
 /// Law: `number` finds a number exactly where the text is what is written for it.

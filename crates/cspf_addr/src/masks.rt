@@ -1,10 +1,12 @@
 ghost use Rattle.std.specs.Prelude.{◌≡◌, ◌≤◌, ℕ, length, if◌then◌else◌, IfOk, OnErr};
 ghost use Rattle.std.specs.Result.{result_ok};
+ghost use Rattle.std.specs.String.{string_bytes};
 ghost use Rattle.std.specs.Str.Parse.{digits_value};
 ghost use Rattle.cspf_addr.specs.Numbers.{are_digits};
-ghost use Rattle.cspf_addr.specs.MaskText.{mask_of, SpellsMask, AreMasksRead, SpellsOneMask};
+ghost use Rattle.cspf_addr.specs.MaskText.{mask_of, mask_text, SpellsMask, AreMasksRead, SpellsOneMask, AreMasksReadBack};
 
 use crate::decimals::value;
+use std::alloc::{AllocError, Global};
 use std::marker::Model;
 use thiserror::Error;
 
@@ -54,6 +56,16 @@ impl Mask {
     {
         read_mask(text).ok_or(MaskError::NotAMask)
     }
+
+    /// The text of the mask: `0x` and eight lower-case hexadecimal digits, as in `0x0000000a`.
+    #[tactic(auto, using(std::proofs::lemmas::Fmt::hex_byte), unfolding(crate::specs::MaskText::mask_text))]
+    pub fn text(self, alloc: Global) -> Result<String, AllocError>
+        ensures value { IfOk result (λ text. string_bytes text ≡ mask_text self) }
+        ensures read { IfOk result (λ text. mask_of (string_bytes text) ≡ Some self) }
+    {
+        let [a, b, c, d] = self.0.to_be_bytes();
+        format!(in alloc; "0x{a:02x}{b:02x}{c:02x}{d:02x}")
+    }
 }
 
 /// The mask that a text spells.
@@ -78,8 +90,10 @@ fn word(digits: &[u8]) -> Option<Mask>
     Some(Mask(bits as u32))
 }
 
-/// Law: a mask is read exactly where the text spells it, and a text spells one mask at most.
+/// Law: a mask is read exactly where the text spells it, a text spells one mask at most, and a mask
+/// is read back from its text.
 pub fn masks_are_spelled()
     ensures read { AreMasksRead }
     ensures one { SpellsOneMask }
+    ensures back { AreMasksReadBack }
 {}

@@ -1,0 +1,61 @@
+ghost use Rattle.std.specs.Prelude.{◌≡◌, ◌≤◌, length};
+ghost use Rattle.cspf_addr.specs.HopLists.{hops_of, hops_from, parts_of, AreHopListsReadBack};
+
+use crate::hop_list::{Hops, MOST_HOPS};
+use crate::single_hop::read_hop;
+use thiserror::Error;
+
+/// Why a text is no list of hops.
+#[derive(Clone, Copy, Debug, PartialEq, Eq, Error)]
+pub enum HopsError {
+    /// More than seven parts.
+    #[error("more than 7 hops")]
+    TooManyHops,
+    /// The first part that is no hop, numbered from 1.
+    #[error("part {at} is not a hop")]
+    BadHop { at: usize },
+}
+
+/// The hops that a text spells, with a space (0x20) between each two: none by the empty text, and
+/// else one by each part of the text before, between and behind the spaces. More than seven parts
+/// are refused before any is read.
+#[tactic(auto, unfolding(crate::specs::HopLists::hops_of))]
+pub fn parse_hops(text: &[u8]) -> Result<Hops, HopsError>
+    ensures { result ≡ hops_of text.now }
+{
+    if text.is_empty() {
+        return Ok(Hops::none());
+    }
+    if part_count(text) > MOST_HOPS {
+        return Err(HopsError::TooManyHops);
+    }
+    read_parts(text)
+}
+
+/// How many parts a text has before, between and behind its spaces.
+#[tactic(auto, unfolding(crate::specs::HopLists::parts_of))]
+fn part_count(text: &[u8]) -> usize
+    ensures { result ≡ length (parts_of text.now) }
+{
+    text.iter().filter(|byte| **byte == b' ').count() + 1
+}
+
+/// The hops of the parts of a text.
+fn read_parts(text: &[u8]) -> Result<Hops, HopsError>
+    requires { length (parts_of text.now) ≤ 7 }
+    ensures { result ≡ hops_from 1 (parts_of text.now) }
+{
+    let mut hops = Hops::none();
+    for part in text.split(|byte| *byte == b' ') {
+        let Some(hop) = read_hop(part) else {
+            return Err(HopsError::BadHop { at: hops.len() + 1 });
+        };
+        hops.push(hop);
+    }
+    Ok(hops)
+}
+
+/// Law: a list of at most seven hops is read back from its text.
+pub fn hop_lists_are_read_back()
+    ensures { AreHopListsReadBack }
+{}

@@ -1,0 +1,17 @@
+pub mod Keys
+pub mod Listed
+pub mod Found
+pub mod Few
+pub mod Changing
+pub mod Leaving
+pub mod Counting
+pub mod Collecting
+pub mod Refusing
+pub mod Keeping
+pub mod Orders
+pub mod Deciding
+pub mod Counted
+pub mod Worked
+pub mod Owning
+pub mod WithoutHops
+pub mod ExampleRoutes

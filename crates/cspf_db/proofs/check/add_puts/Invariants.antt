@@ -1,0 +1,10 @@
+use Rattle.std.proofs.Common.{◌≡◌, ◌≤◌, drop}
+use Rattle.std.specs.FinSet as set
+use Rattle.cspf_db.specs.Kept.{links_put, with_ends}
+use Rattle.cspf_db.proofs.check.add_puts.Given as goal
+
+abbrev pub invariant-loop-change : goal.invariant-loop-change
+invariant-loop-change l = record {
+  left : with_ends l.routers (links_put (drop l.change-index l.changes)) ≡ with_ends l.fn.routers (links_put l.changes);
+  few : set.len l.routers ≤ 1024;
+}

@@ -1,0 +1,5 @@
+use Rattle.cspf_db.proofs.Refusing.{one_reason}
+use Rattle.cspf_db.proofs.laws.one_refusal.Goals as goal
+
+pub returns : goal.returns
+returns c = one_reason

@@ -1,0 +1,20 @@
+use Rattle.std.specs.Prelude.{◌≡◌, ◌≢◌, ◌≤◌, ◌⊎◌, bit_and, bit_xor, slice_index}
+use Rattle.cspf_db.specs.declared.link.Link.{Link}
+use Rattle.cspf_db.specs.declared.request.Request.{Request}
+use Rattle.cspf_db.specs.Database.{Database, IsLinkOf}
+
+-- A link passes the affinities of a request where it passes all three tests of RFC 3209 4.7.4.
+pub record HasAffinity (q : Request) (l : Link) : Type 0 where
+  pub exclude_any : bit_and l.group q.exclude_any ≡ 0
+  pub include_any : (q.include_any ≡ 0) ⊎ (bit_and l.group q.include_any ≢ 0)
+  pub include_all : (q.include_all ≡ 0) ⊎ (bit_xor (bit_and l.group q.include_all) q.include_all ≡ 0)
+
+-- it has the affinity, and the bandwidth is unreserved at the setup priority
+pub record IsAdmitted (q : Request) (l : Link) : Type 0 where
+  pub affinity : HasAffinity q l
+  pub room : q.bandwidth ≤ slice_index l.free q.setup
+
+-- a link of the database that is admitted
+pub record IsAdmissible (d : Database) (q : Request) (l : Link) : Type 0 where
+  pub link : IsLinkOf d l
+  pub admitted : IsAdmitted q l

@@ -1,0 +1,60 @@
+use Rattle.std.specs.Prelude.{◌≡◌, ℕ, ◌⊎◌, Option, Some, List, [], ◌∷◌, All, Contains}
+use Rattle.std.specs.Ordering.{nat_cmp, ordering_then}
+use Rattle.std.specs.declared.cmp.Ordering.{Ordering}
+use Rattle.std.specs.List.{flat_map}
+use Rattle.std.specs.FinMap as map
+use Rattle.std.specs.FinSet as set
+use Rattle.cspf_db.specs.declared.link.Link.{Link}
+
+-- what tells the links of a database apart: the router that a link runs from, and its interface there
+abbrev pub Key : Type 0
+Key = ℕ × ℕ
+
+-- the key of a link
+abbrev pub key_of : Link → Key
+key_of l = (l.from, l.local)
+
+-- by the router, then by the interface
+abbrev pub key_cmp : Key → Key → Ordering
+key_cmp a b = ordering_then (nat_cmp a.0 b.0) (nat_cmp a.1 b.1)
+
+-- a traffic engineering database: links by their keys
+pub record Database : Type 0 where
+  pub links : map.FinMap key_cmp Link
+
+-- the link with this key, if there is one
+abbrev pub link_at : Database → Key → Option Link
+link_at d k = map.get d.links k
+
+-- the link is in the database
+abbrev pub IsLinkOf : Database → Link → Type 0
+IsLinkOf d l = link_at d (key_of l) ≡ Some l
+
+-- how many links the database has
+abbrev pub link_count : Database → ℕ
+link_count d = map.len d.links
+
+-- the rows are the links of the database, and no others
+pub record AreLinksOf (d : Database) (rows : List Link) : Type 0 where
+  pub each : All (IsLinkOf d) rows
+  pub whole : (l : Link) → IsLinkOf d l → Contains rows l
+
+-- the link begins or ends at the router
+abbrev pub EndsAt : ℕ → Link → Type 0
+EndsAt router l = (l.from ≡ router) ⊎ (l.to ≡ router)
+
+-- the routers of a database are both ends of each of its links
+abbrev pub IsRouterOf : Database → ℕ → Type 0
+IsRouterOf d router = (l : Link) × IsLinkOf d l × EndsAt router l
+
+-- both ends of each link
+abbrev pub ends_of : List Link → List ℕ
+ends_of links = flat_map (λ l. l.from ∷ l.to ∷ []) links
+
+-- the set of the ends of all links
+abbrev pub all_routers : Database → set.FinSet nat_cmp
+all_routers d = set.from_list (ends_of (map.values d.links))
+
+-- how many routers the database has
+abbrev pub router_count : Database → ℕ
+router_count d = set.len (all_routers d)

@@ -1,0 +1,55 @@
+use Rattle.std.specs.Prelude.{◌≡◌, ◌<◌, ◌≤◌, ℕ, List}
+use Rattle.cspf_addr.specs.declared.single_hop.Hop.{Hop}
+use Rattle.cspf_db.specs.declared.link.Link.{Link}
+use Rattle.cspf_db.specs.declared.request.Request.{Request}
+use Rattle.cspf_db.specs.declared.request.RequestError.{RequestError}
+use Rattle.cspf_db.specs.declared.request.RequestError.TheVariants.{Priority, SameEnds}
+
+-- the attributes of a link, without the facts that each link keeps
+pub record LinkFields : Type 0 where
+  pub from : ℕ
+  pub local : ℕ
+  pub to : ℕ
+  pub remote : ℕ
+  pub metric : ℕ
+  pub group : ℕ
+  pub free : List ℕ
+
+-- the link has these attributes
+pub record HasFields (link : Link) (fields : LinkFields) : Type 0 where
+  pub from : link.from ≡ fields.from
+  pub local : link.local ≡ fields.local
+  pub to : link.to ≡ fields.to
+  pub remote : link.remote ≡ fields.remote
+  pub metric : link.metric ≡ fields.metric
+  pub group : link.group ≡ fields.group
+  pub free : link.free ≡ fields.free
+
+-- what a request says, without the facts that each request keeps
+pub record RequestFields : Type 0 where
+  pub id : ℕ
+  pub from : ℕ
+  pub to : ℕ
+  pub setup : ℕ
+  pub bandwidth : ℕ
+  pub exclude_any : ℕ
+  pub include_any : ℕ
+  pub include_all : ℕ
+  pub hops : List Hop
+
+-- the request says this
+pub record Says (q : Request) (fields : RequestFields) : Type 0 where
+  pub id : q.id ≡ fields.id
+  pub from : q.from ≡ fields.from
+  pub to : q.to ≡ fields.to
+  pub setup : q.setup ≡ fields.setup
+  pub bandwidth : q.bandwidth ≡ fields.bandwidth
+  pub exclude_any : q.exclude_any ≡ fields.exclude_any
+  pub include_any : q.include_any ≡ fields.include_any
+  pub include_all : q.include_all ≡ fields.include_all
+  pub hops : q.hops ≡ fields.hops
+
+-- why fields make no request: a setup priority above 7 comes first, then equal ends
+abbrev pub IsRequestFault : RequestFields → RequestError → Type 0
+IsRequestFault fields Priority = 7 < fields.setup
+IsRequestFault fields SameEnds = (fields.setup ≤ 7) × (fields.from ≡ fields.to)

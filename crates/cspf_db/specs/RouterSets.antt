@@ -1,0 +1,15 @@
+use Rattle.std.specs.Prelude.{◌≡◌, ◌≤◌, take, length}
+use Rattle.std.specs.Ordering.{nat_cmp, eq_by_cmp}
+use Rattle.std.specs.List.{IsDistinct}
+use Rattle.std.specs.FinSet.{FinSet, from_list}
+use Rattle.cspf_db.specs.declared.routers.Routers.TheInside.{Inside}
+
+-- the set of those found so far
+abbrev pub routers_in : Inside → FinSet nat_cmp
+routers_in a = from_list (take a.count a.found)
+
+-- at most 1,024, each once
+pub record AreRouters (a : Inside) : Type 0 where
+  pub room : length a.found ≡ 1024
+  pub most : a.count ≤ 1024
+  pub once : IsDistinct (eq_by_cmp nat_cmp) (take a.count a.found)

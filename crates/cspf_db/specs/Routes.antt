@@ -1,0 +1,11 @@
+use Rattle.std.specs.Prelude.{List}
+use Rattle.cspf_db.specs.declared.link.Link.{Link}
+use Rattle.cspf_db.specs.declared.request.Request.{Request}
+use Rattle.cspf_db.specs.Database.{Database}
+use Rattle.cspf_db.specs.Walks.{IsWalk}
+use Rattle.cspf_db.specs.Legs.{IsCutInto}
+
+-- a walk that can be cut into legs, one to each hop of the request and one to its tail-end
+pub record IsRoute (d : Database) (q : Request) (walk : List Link) : Type 0 where
+  pub is_walk : IsWalk d q walk
+  pub cut : (legs : List (List Link)) × IsCutInto d q walk legs

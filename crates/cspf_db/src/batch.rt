@@ -1,0 +1,53 @@
+ghost use Rattle.std.specs.Prelude.{◌≡◌};
+
+use crate::Link;
+use cspf_addr::Addr;
+use std::marker::Model;
+
+/// A change to the link of one key.
+#[derive(Clone, Copy, Debug)]
+pub enum Change {
+    /// Puts the link, in place of the one with its key where there is one.
+    Put(Link),
+    /// Takes out the link with this key.
+    Remove {
+        /// The router that the link runs from.
+        from: Addr,
+        /// The address of its interface there.
+        local: Addr,
+    },
+}
+
+impl Change {
+    ghost use Rattle.std.specs.Ordering.{eq_by_cmp};
+    ghost use Rattle.cspf_db.specs.Database.{key_cmp};
+    ghost use Rattle.cspf_db.specs.Changes.{key_changed};
+
+    /// The key of the link that is changed: the router that it runs from, and the address of its
+    /// interface there.
+    pub fn key(&self) -> (Addr, Addr)
+        ensures { result ≡ key_changed self.now }
+    {
+        match self {
+            Change::Put(link) => (link.from, link.local),
+            Change::Remove { from, local } => (*from, *local),
+        }
+    }
+}
+
+/// A numbered list of changes that take effect together.
+#[derive(Debug, Drop)]
+pub struct Batch {
+    /// The version that the batch makes.
+    pub number: u32,
+    /// The changes, in order.
+    pub changes: Vec<Change>,
+}
+
+impl Model for Batch {
+    ghost use Rattle.cspf_db.specs.Numbered.{NumberedChanges};
+
+    ghost Value = { NumberedChanges };
+
+    ghost view = { λ a. record { number = a.number; changes = a.changes.items } };
+}

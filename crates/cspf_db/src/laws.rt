@@ -1,0 +1,63 @@
+//! What follows from the definitions of `specs/` alone. Each call here does nothing: its contract is
+//! the law.
+ghost use Rattle.std.specs.Cmp.{IsTotalOrder};
+ghost use Rattle.cspf_db.specs.Changes.{database_after};
+ghost use Rattle.cspf_db.specs.Walks.{walk_cmp};
+ghost use Rattle.cspf_db.specs.Numbered.{NumberedChanges};
+ghost use Rattle.std.specs.Prelude.{List};
+ghost use Rattle.cspf_db.specs.Laws.{WalksAreTold, RoutesAreRanked, OneBestAnswer, LastChangeDecides, OneDatabase, OneMoreBatch, AreAtTheirKeys, RoutersAreCounted, OneRefusal, AddressesCompareAsNumbers, FewerLinksComeFirst, LastPutStands, LastRemovalStands, ExactBandwidthIsEnough, LessBandwidthIsNot};
+
+/// Walks are in a total order. Their local addresses tell the walks of a request apart, so only equal
+/// routes of one request tie.
+pub fn order_of_walks()
+    ensures total { IsTotalOrder walk_cmp }
+    ensures told { WalksAreTold }
+    ensures ranked { RoutesAreRanked }
+{}
+
+/// A request has one best answer at most.
+pub fn one_best_answer()
+    ensures { OneBestAnswer }
+{}
+
+/// The database after a list of batches has at each key what the last change on it left, and is the
+/// only one that has.
+pub fn last_change_decides()
+    ensures decides { LastChangeDecides }
+    ensures one { OneDatabase }
+{}
+
+/// One more batch makes its changes in the database of the batches before it.
+pub fn absorbing()
+    ensures { OneMoreBatch }
+{}
+
+/// The routers that are counted are those of the database, where each link is at its own key, as it is
+/// after any list of batches.
+pub fn counted_routers()
+    ensures counted { RoutersAreCounted }
+    ensures at_their_keys { (batches : List NumberedChanges) → AreAtTheirKeys (database_after batches) }
+{}
+
+/// A batch is refused for one reason at most.
+pub fn one_refusal()
+    ensures { OneRefusal }
+{}
+
+/// Two orders of routes: addresses compare as numbers, and fewer links go before smaller addresses.
+pub fn worked_orders()
+    ensures numbers { AddressesCompareAsNumbers }
+    ensures fewer { FewerLinksComeFirst }
+{}
+
+/// Three changes of one key: the last one stands.
+pub fn worked_changes()
+    ensures put { LastPutStands }
+    ensures removed { LastRemovalStands }
+{}
+
+/// A link with 1,000 bytes per second unreserved is admitted for 1,000, and not for 1,001.
+pub fn worked_admission()
+    ensures enough { ExactBandwidthIsEnough }
+    ensures too_little { LessBandwidthIsNot }
+{}

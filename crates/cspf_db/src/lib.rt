@@ -1,0 +1,29 @@
+//! Links, requests, batches of changes and the table that keeps the traffic engineering database.
+//! `specs/` has the definitions that every crate above cites: databases, admissible links, walks,
+//! routes, their order and the best answer.
+#![tactic(auto)]
+
+mod batch;
+mod check;
+mod hop_laws;
+mod laws;
+mod link;
+mod refusal;
+mod request;
+mod routers;
+mod rows;
+mod table;
+
+pub use batch::{Batch, Change};
+pub use hop_laws::{route_without_hops, worked_routes};
+pub use laws::{
+    absorbing, counted_routers, last_change_decides, one_best_answer, one_refusal, order_of_walks,
+    worked_admission, worked_changes, worked_orders,
+};
+pub use link::{Link, LinkError};
+pub use refusal::Refusal;
+pub use request::{Request, RequestError};
+pub use table::Table;
+
+#[cfg(test)]
+mod tests;

@@ -1,0 +1,77 @@
+ghost use Rattle.std.specs.Prelude.{◌≡◌, ◌<◌, ◌≤◌, [], ◌∷◌};
+ghost use Rattle.std.specs.Bool.{OnTrue, OnFalse};
+ghost use Rattle.std.specs.FinSet as set;
+ghost use Rattle.std.specs.Ordering.{nat_cmp};
+
+use crate::Link;
+use std::marker::Model;
+
+/// How many routers a database may have.
+const ROUTERS: usize = 1024;
+
+/// A set of at most 1,024 routers, kept in place as numbers.
+#[derive(Drop)]
+pub struct Routers {
+    found: [u32; ROUTERS],
+    count: usize,
+}
+
+impl Model for Routers {
+    ghost use Rattle.std.specs.FinSet as set;
+    ghost use Rattle.std.specs.Ordering.{nat_cmp};
+    ghost use Rattle.std.specs.Coded.{coded_ℕ};
+
+    ghost Value = { set.FinSet nat_cmp };
+
+    ghost coded = { set.code coded_ℕ };
+
+    ghost use Rattle.cspf_db.specs.RouterSets.{routers_in, AreRouters};
+
+    ghost view = { routers_in };
+
+    ghost invariant = { AreRouters };
+}
+
+impl Routers {
+    ghost use Rattle.cspf_db.specs.Kept.{with_ends};
+
+    /// No routers.
+    pub fn new() -> Self
+        ensures { result ≡ set.empty }
+    {
+        Routers::kept_in([0; ROUTERS])
+    }
+
+    /// No routers, with the places where they are kept. What stands there doesn't matter.
+    fn kept_in(found: [u32; ROUTERS]) -> Self
+        ensures { result ≡ set.empty }
+    {
+        Routers { found, count: 0 }
+    }
+
+    /// Adds the router with this number. It is false where there would be more than 1,024.
+    fn add(&mut self, router: u32) -> bool
+        ensures added { OnTrue result (self.new ≡ set.insert self.old router) }
+        ensures full { OnFalse result (1024 < set.len (set.insert self.old router)) }
+        ensures few { OnTrue result (set.len self.new ≤ 1024) }
+    {
+        if self.found[..self.count].contains(&router) {
+            return true;
+        }
+        if self.count == ROUTERS {
+            return false;
+        }
+        self.found[self.count] = router;
+        self.count += 1;
+        true
+    }
+
+    /// Adds both ends of a link. It is false where there would be more than 1,024 routers.
+    pub fn add_ends(&mut self, link: &Link) -> bool
+        ensures added { OnTrue result (self.new ≡ with_ends self.old (link.now ∷ [])) }
+        ensures full { OnFalse result (1024 < set.len (with_ends self.old (link.now ∷ []))) }
+        ensures few { OnTrue result (set.len self.new ≤ 1024) }
+    {
+        self.add(link.from.number()) && self.add(link.to.number())
+    }
+}

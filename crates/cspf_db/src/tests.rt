@@ -1,0 +1,171 @@
+use super::*;
+use cspf_addr::{Addr, Hop, Hops, Mask, Prefix};
+use std::alloc::{AllocError, Global};
+use std::test::Fail;
+
+const ONE: u32 = 16843009; // 1.1.1.1
+
+const TWO: u32 = 33686018; // 2.2.2.2
+
+fn link(from: u32, local: u32, to: u32) -> Result<Link, LinkError> {
+    let remote = Addr::new(local);
+    Link::new(
+        Addr::new(from),
+        Addr::new(local),
+        Addr::new(to),
+        remote,
+        10,
+        Mask::new(1),
+        [1000; 8],
+    )
+}
+
+// A put of the link from 1.1.1.1 to 2.2.2.2 with this local address.
+fn put(local: u32) -> Result<Change, LinkError> {
+    Ok(Change::Put(link(ONE, local, TWO)?))
+}
+
+fn drop_of(local: u32) -> Change {
+    Change::Remove {
+        from: Addr::new(ONE),
+        local: Addr::new(local),
+    }
+}
+
+fn batch(alloc: Global, changes: &[Change]) -> Result<Batch, AllocError> {
+    Ok(Batch {
+        number: 1,
+        changes: Vec::from_slice(alloc, changes)?,
+    })
+}
+
+// Puts of links from 1.1.1.1 to 2.2.2.2 whose local addresses are the numbers of a range.
+fn puts(alloc: Global, first: u32, end: u32) -> Result<Batch, Fail> {
+    let mut changes = Vec::new(alloc);
+    for local in first..end {
+        changes.push(put(local)?)?;
+    }
+    Ok(Batch { number: 1, changes })
+}
+
+// A table with the links whose local addresses are 0 to 16,383.
+fn full_table(alloc: Global) -> Result<Table, Fail> {
+    let mut table = Table::new(alloc)?;
+    for first in [0, 4096, 8192, 12288] {
+        let batch = puts(alloc, first, first + 4096)?;
+        table.absorb(&batch);
+    }
+    Ok(table)
+}
+
+#[test]
+fn links_and_requests(rt: HostRuntime) -> Result<(), Fail> {
+    assert_eq!(rt; link(ONE, 5, ONE).err(), Some(LinkError::SelfLink));
+    let made = link(ONE, 5, TWO)?;
+    assert_eq!(rt; (made.from, made.to), (Addr::new(ONE), Addr::new(TWO)));
+    assert_eq!(rt; put(5)?.key(), (Addr::new(ONE), Addr::new(5)));
+    assert_eq!(rt; drop_of(6).key(), (Addr::new(ONE), Addr::new(6)));
+    let (one, two, none) = (Addr::new(ONE), Addr::new(TWO), Mask::new(0));
+    let high = Request::new(7, one, one, 8, 1, none, none, none, Hops::none());
+    assert_eq!(rt; high.err(), Some(RequestError::Priority));
+    let same = Request::new(7, one, one, 7, 1, none, none, none, Hops::none());
+    assert_eq!(rt; same.err(), Some(RequestError::SameEnds));
+    let mut hops = Hops::none();
+    hops.push(Hop {
+        prefix: Prefix::new(two, 32)?,
+        loose: true,
+    });
+    let request = Request::new(7, one, two, 7, 1, none, none, none, hops)?;
+    assert_eq!(rt; request.setup, 7);
+    assert_eq!(rt; request.hops, hops);
+    Ok(())
+}
+
+#[test]
+fn refused_changes(rt: HostRuntime) -> Result<(), Fail> {
+    let alloc = rt.alloc();
+    let mut table = Table::new(alloc)?;
+    let twice = batch(alloc, &[put(1)?, put(1)?])?;
+    assert_eq!(rt; table.check(&twice), Err(Refusal::Duplicate { at: 2 }));
+    table.absorb(&twice);
+    let absent = batch(alloc, &[drop_of(1), put(2)?])?;
+    assert_eq!(rt; table.check(&absent), Err(Refusal::Absent { at: 1 }));
+    table.absorb(&absent);
+    let long = puts(alloc, 0, 4097)?;
+    assert_eq!(rt; table.check(&long), Err(Refusal::TooLong));
+    table.absorb(&long);
+    assert!(rt; table.links().is_empty());
+    assert!(rt; !table.has_router(Addr::new(ONE)));
+    Ok(())
+}
+
+#[test]
+fn a_full_table(rt: HostRuntime) -> Result<(), Fail> {
+    let alloc = rt.alloc();
+    let (one, first, last) = (Addr::new(ONE), Addr::new(0), Addr::new(16384));
+    let mut table = full_table(alloc)?;
+    assert_eq!(rt; table.links().len(), 16384);
+    let more = batch(alloc, &[put(16384)?])?;
+    assert_eq!(rt; table.check(&more), Err(Refusal::Full));
+    table.absorb(&more);
+    assert!(rt; table.find(one, last).is_none());
+    let drop_first = batch(alloc, &[drop_of(0), put(16384)?])?;
+    assert_eq!(rt; table.check(&drop_first), Ok(()));
+    table.absorb(&drop_first);
+    assert_eq!(rt; table.links().len(), 16384);
+    assert!(rt; table.find(one, first).is_none());
+    assert!(rt; table.find(one, last).is_some());
+    let put_first = batch(alloc, &[put(0)?, drop_of(16384)])?;
+    assert_eq!(rt; table.check(&put_first), Ok(()));
+    table.absorb(&put_first);
+    assert_eq!(rt; table.links().len(), 16384);
+    assert!(rt; table.find(one, first).is_some());
+    assert!(rt; table.find(one, last).is_none());
+    Ok(())
+}
+
+#[test]
+fn routers_after_a_batch(rt: HostRuntime) -> Result<(), Fail> {
+    let alloc = rt.alloc();
+    let mut table = Table::new(alloc)?;
+    let mut changes = Vec::new(alloc);
+    for to in 1..1025 {
+        changes.push(Change::Put(link(0, to, to)?))?;
+    }
+    let mut star = Batch { number: 1, changes };
+    assert_eq!(rt; table.check(&star), Err(Refusal::TooManyRouters));
+    let _ = star.changes.pop();
+    assert_eq!(rt; table.check(&star), Ok(()));
+    table.absorb(&star);
+    assert!(rt; table.has_router(Addr::new(1023)));
+    let more = batch(alloc, &[Change::Put(link(0, 1024, 1024)?)])?;
+    assert_eq!(rt; table.check(&more), Err(Refusal::TooManyRouters));
+    table.absorb(&more);
+    assert!(rt; !table.has_router(Addr::new(1024)));
+    let out = Change::Remove {
+        from: Addr::new(0),
+        local: Addr::new(1023),
+    };
+    let moved = batch(alloc, &[Change::Put(link(0, 1024, 1024)?), out])?;
+    assert_eq!(rt; table.check(&moved), Ok(()));
+    table.absorb(&moved);
+    assert!(rt; table.has_router(Addr::new(1024)));
+    assert!(rt; !table.has_router(Addr::new(1023)));
+    Ok(())
+}
+
+#[test]
+fn owners_of_prefixes(rt: HostRuntime) -> Result<(), Fail> {
+    let alloc = rt.alloc();
+    let mut table = Table::new(alloc)?;
+    let local = 167775233; // 10.0.12.1
+    table.absorb(&batch(alloc, &[put(local)?])?);
+    let (one, two, three) = (Addr::new(ONE), Addr::new(TWO), Addr::new(50529027));
+    let interface = Prefix::new(Addr::new(local), 24)?;
+    assert!(rt; table.owns(one, interface));
+    assert!(rt; !table.owns(two, interface));
+    assert!(rt; table.owns(two, Prefix::new(two, 8)?));
+    assert!(rt; !table.owns(one, Prefix::new(two, 8)?));
+    assert!(rt; !table.owns(three, Prefix::new(three, 8)?));
+    Ok(())
+}

@@ -1,0 +1,104 @@
+use Rattle.std.proofs.Common.{◌≡◌, ℕ, zero, suc, ◌+◌, ◌^◌, ◌<◌, Some, None, IsSome, List, [], ◌∷◌, ◌++◌, length, slice_index_or, refl, sym, ap, subst, ◌∙◌, arith}
+use Rattle.std.specs.Ordering.{nat_cmp, ordering_then, is_gt}
+use Rattle.std.specs.declared.cmp.Ordering.{Ordering}
+use Rattle.std.proofs.lemmas.Cmp.{tied_itself}
+use Rattle.std.proofs.lemmas.List.{length_push}
+use Rattle.std.proofs.lemmas.Option.{slice_get_read, same_Some}
+use Rattle.cspf_db.specs.declared.link.Link.{Link}
+use Rattle.cspf_db.specs.declared.request.Request.{Request}
+use Rattle.cspf_db.specs.Admissible.{IsAdmitted}
+use Rattle.cspf_search.specs.declared.arena.Node.{Node}
+use Rattle.cspf_search.specs.States.{State}
+use Rattle.cspf_search.specs.Settled.{state_cmp, locals_cmp}
+use Rattle.cspf_search.specs.Arena.{went, walk_at, walks, walk_of, place_of, IsNumbered, AreNodes, IsNext}
+use Rattle.cspf_search.specs.Rounds.{CrossesBy, IsFirstOf}
+use Rattle.cspf_search.proofs.Orders.{states_total, cost_of-push, locals_cmp-last, then_assoc}
+
+-- a link from a node, and the way back along parents
+
+-- the node that a link leads to
+abbrev pub node_by : ℕ → Node → Link → Node
+node_by at from l = record { parent = at; by = Some l; leg = from.leg; router = l.to; cost = from.cost + l.metric; links = from.links + 1 }
+
+module _ (q : Request) (nodes : List Node) (are : AreNodes nodes) (at : ℕ) (within : at < length nodes) (from : Node) (is : from ≡ slice_index_or nodes at from)
+    (l : Link) (small : l.metric < 2 ^ 32) where
+  from_numbered : IsNumbered from (walk_at (walks nodes) at) at
+  from_numbered = subst (λ n. IsNumbered n (walk_at (walks nodes) at) at) (sym is) (are.numbered at from within)
+
+  from_leg : from.leg ≡ 1
+  from_leg = ap (λ (n : Node). n.leg) is ∙ are.first_leg at from within
+
+  by_next : IsNext nodes (node_by at from l)
+  by_next = record {
+    parent = within;
+    linked = refl;
+    numbered = record {
+      cost = ap (λ c. c + l.metric) from_numbered.cost ∙ sym (cost_of-push (walk_at (walks nodes) at) l);
+      links = ap (λ c. c + 1) from_numbered.links ∙ sym (length_push (walk_at (walks nodes) at) l);
+      few = omega (arith, from_numbered.few);
+      small = omega (arith, from_numbered.small);
+    };
+    first_leg = from_leg;
+  }
+
+  -- where it is admitted and leads to an open state it crosses, and nothing else does by that link
+  pub by_first : l.from ≡ from.router → IsAdmitted q l → place_of nodes (record { leg = from.leg; router = l.to }) ≡ None
+      → IsFirstOf nodes (CrossesBy q nodes at l) (node_by at from l)
+  by_first runs admitted left =
+      let there = slice_get_read nodes (length nodes) at from refl within is in
+      let me : ℕ × List Link = (from.leg, walk_at (walks nodes) at ++ (l ∷ [])) in
+      record {
+        next = by_next;
+        passes = record { node = from; there = there; runs = runs; admitted = admitted; walk = refl; state = refl; still_open = left };
+        first = λ w t x.
+            let same : from ≡ x.node = same_Some from x.node (sym there ∙ x.there) in
+            let whole : (t.leg, w) ≡ me = λ i. ((ap (λ (s : State). s.leg) x.state ∙ ap (λ (n : Node). n.leg) (sym same)) i, x.walk i) in
+            ap (λ y. is_gt (state_cmp me y)) whole ∙ ap is_gt (tied_itself states_total me);
+      }
+
+-- a node on the way back from another, when some links of its walk have been passed
+pub record IsBehind (nodes : List Node) (n : Node) (passed : ℕ) (count : ℕ) : Type 0 where
+  pub parent : n.parent < length nodes
+  pub left : length (walk_of nodes n) + passed ≡ count
+  pub linked : passed < count → IsSome n.by
+
+pub behind_next : (nodes : List Node) (n : Node) (count : ℕ) → IsNext nodes n → n.links ≡ count → IsBehind nodes n 0 count
+behind_next nodes n count next e = record { parent = next.parent; left = omega (arith, next.numbered.links); linked = λ _. next.linked }
+
+module _ (nodes : List Node) (are : AreNodes nodes) (n m : Node) (within : n.parent < length nodes) (is : m ≡ slice_index_or nodes n.parent m) (l : Link)
+    (by : n.by ≡ Some l) where
+  -- the walk of a node is its parent's, with its own link
+  pub walk_back : walk_of nodes n ≡ walk_of nodes m ++ (l ∷ [])
+  walk_back =
+      ap (went (walk_at (walks nodes) n.parent)) by ∙ ap (λ w. w ++ (l ∷ [])) (are.grown n.parent m within ∙ ap (walk_of nodes) (sym is))
+
+  pub parent_within : m.parent < length nodes
+  parent_within = rw is (parent_at n.parent m within)
+    where
+      parent_at : (i : ℕ) (d : Node) → i < length nodes → (slice_index_or nodes i d).parent < length nodes
+      parent_at zero d h = rw (are.root d).parent are.some
+      parent_at (suc i) d h = omega (arith, are.back (suc i) d (omega arith) h)
+
+  linked_behind : (i : ℕ) → i ≡ n.parent → 0 < length (walk_of nodes m) → IsSome m.by
+  linked_behind zero e h =
+      let root : walk_of nodes m ≡ [] = ap (walk_of nodes) is ∙ sym (are.grown n.parent m within) ∙ ap (walk_at (walks nodes)) (sym e) ∙ are.begun in
+      absurd (omega (arith, ap (λ (w : List Link). length w) root))
+  linked_behind (suc i) e h = rw is (are.linked n.parent m (omega arith) within)
+
+  pub behind_more : (passed count : ℕ) → IsBehind nodes n passed count → IsBehind nodes m (passed + 1) count
+  behind_more passed count behind =
+      let left : length (walk_of nodes m) + (passed + 1) ≡ count =
+      omega (arith, behind.left, ap (λ (w : List Link). length w) walk_back, length_push (walk_of nodes m) l) in
+      record {
+        parent = parent_within;
+        left = left;
+        linked = λ h. linked_behind n.parent refl (omega arith);
+      }
+
+-- the last links of two walks are compared behind what comes before them
+pub locals_more : (v w v' w' : List Link) (l k : Link) (found goal : Ordering) → v ≡ v' ++ (l ∷ []) → w ≡ w' ++ (k ∷ []) → length v' ≡ length w'
+    → ordering_then (locals_cmp v w) found ≡ goal → ordering_then (locals_cmp v' w') (ordering_then (nat_cmp l.local k.local) found) ≡ goal
+locals_more v w v' w' l k found goal ev ew e h =
+    let last : ordering_then (locals_cmp v' w') (nat_cmp l.local k.local) ≡ locals_cmp v w =
+    sym (locals_cmp-last v' w' l k e) ∙ (λ i. locals_cmp (sym ev i) (sym ew i)) in
+    sym (then_assoc (locals_cmp v' w') (nat_cmp l.local k.local) found) ∙ ap (λ o. ordering_then o found) last ∙ h

@@ -1,0 +1,59 @@
+use Rattle.std.proofs.Common.{◌≡◌, ◌⊎◌, inl, inr, ℕ, true, false, cond, Option, Some, None, List, refl, ap}
+use Rattle.std.specs.Ordering.{is_gt, ordering_reverse}
+use Rattle.std.specs.declared.cmp.Ordering.TheVariants.{Less, Equal, Greater}
+use Rattle.std.proofs.lemmas.Cmp.{upto}
+use Rattle.cspf_db.specs.declared.link.Link.{Link}
+use Rattle.cspf_search.specs.declared.arena.Node.{Node}
+use Rattle.cspf_search.specs.States.{State}
+use Rattle.cspf_search.specs.Settled.{state_cmp}
+use Rattle.cspf_search.specs.Arena.{walk_of}
+use Rattle.cspf_search.specs.Rounds.{IsFirstOf, IsFirst, earlier_of}
+use Rattle.cspf_search.proofs.Orders.{states_total}
+
+-- of two firsts the earlier is the first of both kinds
+
+turned : (a b : ℕ × List Link) → is_gt (state_cmp a b) ≡ true → is_gt (state_cmp b a) ≡ false
+turned a b h =
+    elim (state_cmp a b) as (λ o. state_cmp b a ≡ ordering_reverse o → is_gt o ≡ true → is_gt (state_cmp b a) ≡ false) [
+      | Less ↦ λ e g. absurd (cc)
+      | Equal ↦ λ e g. absurd (cc)
+      | Greater ↦ λ e g. ap is_gt e
+    ] (states_total.antisymm b a) h
+
+module _ (nodes : List Node) (P Q R : List Link → State → Type 0) (from_left : (w : List Link) (t : State) → P w t → R w t)
+    (from_right : (w : List Link) (t : State) → Q w t → R w t) (cases : (w : List Link) (t : State) → R w t → P w t ⊎ Q w t) where
+  left_first : (a : Node) → IsFirstOf nodes P a → ((w : List Link) (t : State) → Q w t → is_gt (state_cmp (a.leg, walk_of nodes a) (t.leg, w)) ≡ false) → IsFirstOf nodes R a
+  left_first a is rest = record {
+    next = is.next;
+    passes = from_left _ _ is.passes;
+    first = λ w t r. elim (cases w t r) [ inl p ↦ is.first w t p | inr q ↦ rest w t q ];
+  }
+
+  right_first : (b : Node) → IsFirstOf nodes Q b → ((w : List Link) (t : State) → P w t → is_gt (state_cmp (b.leg, walk_of nodes b) (t.leg, w)) ≡ false) → IsFirstOf nodes R b
+  right_first b is rest = record {
+    next = is.next;
+    passes = from_right _ _ is.passes;
+    first = λ w t r. elim (cases w t r) [ inl p ↦ rest w t p | inr q ↦ is.first w t q ];
+  }
+
+  pub first_both : (a b : Option Node) → IsFirst nodes P a → IsFirst nodes Q b → IsFirst nodes R (earlier_of nodes a b)
+  first_both None None p q = λ w t r. elim (cases w t r) [ inl h ↦ p w t h | inr h ↦ q w t h ]
+  first_both None (Some b) p q = right_first b q (λ w t h. absurd (p w t h))
+  first_both (Some a) None p q = left_first a p (λ w t h. absurd (q w t h))
+  first_both (Some a) (Some b) p q =
+      let x : ℕ × List Link = (a.leg, walk_of nodes a) in
+      let y : ℕ × List Link = (b.leg, walk_of nodes b) in
+      elim (is_gt (state_cmp x y)) as (λ g. is_gt (state_cmp x y) ≡ g → IsFirst nodes R (cond g (Some b) (Some a))) [
+        | true ↦ λ e. right_first b q (λ w t h. upto states_total y x (t.leg, w) (turned x y e) (p.first w t h))
+        | false ↦ λ e. left_first a p (λ w t h. upto states_total x y (t.leg, w) e (q.first w t h))
+      ] refl
+
+-- a kind that has the same walks has the same first
+pub first_same : (nodes : List Node) (P R : List Link → State → Type 0) → ((w : List Link) (t : State) → P w t → R w t) → ((w : List Link) (t : State) → R w t → P w t)
+    → (a : Option Node) → IsFirst nodes P a → IsFirst nodes R a
+first_same nodes P R up down None p = λ w t r. p w t (down w t r)
+first_same nodes P R up down (Some a) p = record {
+  next = p.next;
+  passes = up _ _ p.passes;
+  first = λ w t r. p.first w t (down w t r);
+}

@@ -1,0 +1,16 @@
+pub mod Orders
+pub mod Walked
+pub mod Settles
+pub mod Labelled
+pub mod Firsts
+pub mod Backs
+pub mod Scans
+pub mod Grown
+pub mod Answered
+pub mod Twice
+pub mod RowsRead
+pub mod RowFields
+pub mod Joined
+pub mod RunLemmas
+pub mod Uniqueness
+pub mod Accepted

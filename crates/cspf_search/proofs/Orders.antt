@@ -1,0 +1,126 @@
+use Rattle.std.proofs.Common.{◌≡◌, ℕ, ◌+◌, ◌<◌, ◌≤◌, false, List, [], ◌∷◌, ◌++◌, length, refl, sym, ap, ◌∙◌, arith}
+use Rattle.std.specs.Ordering.{nat_cmp, ordering_then, is_gt}
+use Rattle.std.specs.declared.cmp.Ordering.{Ordering}
+use Rattle.std.specs.declared.cmp.Ordering.TheVariants.{Less, Equal, Greater}
+use Rattle.std.specs.Cmp.{IsTotalOrder, nat_cmp_total}
+use Rattle.std.specs.Cmp.Lexicographic.{slice_cmp}
+use Rattle.std.proofs.lemmas.Cmp.{then_total, on_total, nat_list_cmp_total, tied_itself}
+use Rattle.std.proofs.lemmas.Bool.Decides.{nat_tests}
+use Rattle.std.proofs.lemmas.List.{map_push, length_push, length-map}
+use Rattle.std.proofs.lemmas.List.Sums.{sum_by_push}
+use Rattle.cspf_db.specs.declared.link.Link.{Link}
+use Rattle.cspf_db.specs.Walks.{cost_of, locals_of, walk_cmp}
+use Rattle.cspf_search.specs.Settled.{IsNoLater, rank_cmp, locals_cmp, state_cmp}
+
+-- the orders are total
+
+pub walks_total : IsTotalOrder walk_cmp
+walks_total = then_total (on_total cost_of nat_cmp_total) (then_total (on_total (λ (w : List Link). length w) nat_cmp_total) (on_total locals_of nat_list_cmp_total))
+
+pub ranks_total : IsTotalOrder rank_cmp
+ranks_total =
+    then_total (on_total (λ (a : ℕ × List Link). cost_of a.1) nat_cmp_total)
+    (then_total (on_total (λ (a : ℕ × List Link). length a.1) nat_cmp_total) (on_total (λ (a : ℕ × List Link). a.0) nat_cmp_total))
+
+pub states_total : IsTotalOrder state_cmp
+states_total = then_total ranks_total (on_total (λ (a : ℕ × List Link). locals_of a.1) nat_list_cmp_total)
+
+-- one comparison after another
+
+then-equal : (o : Ordering) → ordering_then o Equal ≡ o
+then-equal Less = refl
+then-equal Equal = refl
+then-equal Greater = refl
+
+pub then_assoc : (o p q : Ordering) → ordering_then (ordering_then o p) q ≡ ordering_then o (ordering_then p q)
+then_assoc Less p q = refl
+then_assoc Equal p q = refl
+then_assoc Greater p q = refl
+
+-- what comes second matters only where the first ties
+then_same : (o p q : Ordering) → (o ≡ Equal → p ≡ q) → ordering_then o p ≡ ordering_then o q
+then_same Less p q h = refl
+then_same Equal p q h = h refl
+then_same Greater p q h = refl
+
+front_no_later : (o p : Ordering) → is_gt (ordering_then o p) ≡ false → is_gt o ≡ false
+front_no_later Less p h = refl
+front_no_later Equal p h = refl
+front_no_later Greater p h = h
+
+-- where legs tie, what is first by rank is first
+
+less_first : (a b d : Ordering) → ordering_then a (ordering_then b Equal) ≡ Less → is_gt (ordering_then a (ordering_then b d)) ≡ false
+less_first Less b d h = refl
+less_first Equal Less d h = refl
+less_first Equal Equal d h = cc
+less_first Equal Greater d h = cc
+less_first Greater b d h = cc
+
+first_ranks : (a b d : Ordering) → is_gt (ordering_then a (ordering_then b d)) ≡ false → is_gt (ordering_then a (ordering_then b Equal)) ≡ false
+first_ranks Less b d h = refl
+first_ranks Equal Less d h = refl
+first_ranks Equal Equal d h = refl
+first_ranks Equal Greater d h = h
+first_ranks Greater b d h = h
+
+rank_then : (a b d : Ordering) → ordering_then (ordering_then a (ordering_then b Equal)) d ≡ ordering_then a (ordering_then b d)
+rank_then Less b d = refl
+rank_then Equal b d = ap (λ o. ordering_then o d) (then-equal b)
+rank_then Greater b d = refl
+
+pub walk_from_less : (k : ℕ) (w x : List Link) → rank_cmp (k, w) (k, x) ≡ Less → IsNoLater w x
+walk_from_less k w x h = less_first (nat_cmp (cost_of w) (cost_of x)) (nat_cmp (length w) (length x)) (locals_cmp w x) (rw (tied_itself nat_cmp_total k) at h)
+
+pub rank_from_walk : (k : ℕ) (w x : List Link) → IsNoLater w x → is_gt (rank_cmp (k, w) (k, x)) ≡ false
+rank_from_walk k w x h = rw (tied_itself nat_cmp_total k) (first_ranks (nat_cmp (cost_of w) (cost_of x)) (nat_cmp (length w) (length x)) (locals_cmp w x) h)
+
+pub walk_from_state : (k : ℕ) (w x : List Link) → is_gt (state_cmp (k, w) (k, x)) ≡ false → IsNoLater w x
+walk_from_state k w x h =
+    let e = rank_then (nat_cmp (cost_of w) (cost_of x)) (nat_cmp (length w) (length x)) (locals_cmp w x) in
+    rw (← e) (rw (tied_itself nat_cmp_total k) at h)
+
+pub rank_from_state : (j k : ℕ) (w x : List Link) → is_gt (state_cmp (j, w) (k, x)) ≡ false → is_gt (rank_cmp (j, w) (k, x)) ≡ false
+rank_from_state j k w x h = front_no_later (rank_cmp (j, w) (k, x)) (locals_cmp w x) h
+
+-- one more link
+
+pub cost_of-push : (v : List Link) (l : Link) → cost_of (v ++ (l ∷ [])) ≡ cost_of v + l.metric
+cost_of-push v l = sum_by_push (λ (l : Link). l.metric) v l
+
+nat_cmp-add : (a b n : ℕ) → nat_cmp (a + n) (b + n) ≡ nat_cmp a b
+nat_cmp-add a b n = grind (arith, nat_tests)
+
+tied_same : (a b : ℕ) → nat_cmp a b ≡ Equal → a ≡ b
+tied_same a b h = grind (arith, nat_tests)
+
+slice_cmp-last : (xs ys : List ℕ) (x y : ℕ) → length xs ≡ length ys
+    → slice_cmp nat_cmp (xs ++ (x ∷ [])) (ys ++ (y ∷ [])) ≡ ordering_then (slice_cmp nat_cmp xs ys) (nat_cmp x y)
+slice_cmp-last [] [] x y e = then-equal (nat_cmp x y)
+slice_cmp-last [] (b ∷ ys) x y e = absurd (omega arith)
+slice_cmp-last (a ∷ xs) [] x y e = absurd (omega arith)
+slice_cmp-last (a ∷ xs) (b ∷ ys) x y e =
+    ap (ordering_then (nat_cmp a b)) (slice_cmp-last xs ys x y (omega arith)) ∙ sym (then_assoc (nat_cmp a b) (slice_cmp nat_cmp xs ys) (nat_cmp x y))
+
+-- of walks with as many links, the last links are compared last
+pub locals_cmp-last : (v w : List Link) (l m : Link) → length v ≡ length w
+    → locals_cmp (v ++ (l ∷ [])) (w ++ (m ∷ [])) ≡ ordering_then (locals_cmp v w) (nat_cmp l.local m.local)
+locals_cmp-last v w l m e =
+    rw (map_push (λ (l : Link). l.local) v l, map_push (λ (l : Link). l.local) w m)
+    (slice_cmp-last (locals_of v) (locals_of w) l.local m.local (length-map v (λ (l : Link). l.local) ∙ e ∙ sym (length-map w (λ (l : Link). l.local))))
+
+-- the same link behind both keeps the order of walks
+pub walk_cmp-push : (v w : List Link) (l : Link) → walk_cmp (v ++ (l ∷ [])) (w ++ (l ∷ [])) ≡ walk_cmp v w
+walk_cmp-push v w l =
+    rw (cost_of-push v l, cost_of-push w l, length_push v l, length_push w l, nat_cmp-add (cost_of v) (cost_of w) l.metric, nat_cmp-add (length v) (length w) 1)
+    (ap (ordering_then (nat_cmp (cost_of v) (cost_of w)))
+    (then_same (nat_cmp (length v) (length w)) (locals_cmp (v ++ (l ∷ [])) (w ++ (l ∷ []))) (locals_cmp v w)
+    (λ tie. locals_cmp-last v w l l (tied_same _ _ tie) ∙ ap (ordering_then (locals_cmp v w)) (tied_itself nat_cmp_total l.local) ∙ then-equal (locals_cmp v w))))
+
+grows : (a n b k : ℕ) (o : Ordering) → a ≤ b → n < k → ordering_then (nat_cmp a b) (ordering_then (nat_cmp n k) o) ≡ Less
+grows a n b k o up more = grind (arith, nat_tests)
+
+-- a walk ranks before itself with one link more
+pub rank_cmp-push : (k : ℕ) (v : List Link) (l : Link) → rank_cmp (k, v) (k, v ++ (l ∷ [])) ≡ Less
+rank_cmp-push k v l =
+    rw (cost_of-push v l, length_push v l) (grows (cost_of v) (length v) (cost_of v + l.metric) (length v + 1) (nat_cmp k k) (omega arith) (omega arith))

@@ -1,0 +1,13 @@
+use Rattle.std.proofs.Common.{◌-◌, length}
+use Rattle.cspf_search.specs.Settled.{AreSettled}
+use Rattle.cspf_search.specs.Arena.{AreNodes, labels_of}
+use Rattle.cspf_search.proofs.search.settled.Given as goal
+
+abbrev pub invariant-loop-node : goal.invariant-loop-node
+invariant-loop-node l = record {
+  arena : AreNodes l.nodes.items;
+  settled : AreSettled l.table l.request (labels_of l.nodes.items);
+}
+
+abbrev pub decreases-loop-node : goal.decreases-loop-node
+decreases-loop-node l = 1024 - length l.nodes.items

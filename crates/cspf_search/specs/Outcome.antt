@@ -1,0 +1,10 @@
+use Rattle.cspf_db.specs.Best.{Answer, unknown_from, unknown_to, no_route, route}
+use Rattle.cspf_search.specs.declared.outcome.Outcome.{Outcome}
+use Rattle.cspf_search.specs.declared.outcome.Outcome.TheVariants.{Route, NoRoute, UnknownFrom, UnknownTo}
+
+-- the answer that an outcome gives
+abbrev pub answer_of : Outcome → Answer
+answer_of (Route links) = route links
+answer_of NoRoute = no_route
+answer_of UnknownFrom = unknown_from
+answer_of UnknownTo = unknown_to

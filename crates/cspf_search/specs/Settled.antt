@@ -1,0 +1,52 @@
+use Rattle.std.specs.Prelude.{◌≡◌, ℕ, Option, Some, None, List, [], false, length}
+use Rattle.std.specs.Ordering.{nat_cmp, ordering_then, is_gt}
+use Rattle.std.specs.declared.cmp.Ordering.{Ordering}
+use Rattle.std.specs.Cmp.Lexicographic.{slice_cmp}
+use Rattle.cspf_db.specs.declared.link.Link.{Link}
+use Rattle.cspf_db.specs.declared.request.Request.{Request}
+use Rattle.cspf_db.specs.Database.{Database}
+use Rattle.cspf_db.specs.Walks.{cost_of, locals_of, walk_cmp}
+use Rattle.cspf_search.specs.States.{State, IsStep, Reaches, start_of}
+
+-- Words of the search's own contracts, as `States.antt`.
+
+-- the walk that is settled at each state, if there is one
+abbrev pub Labels : Type 0
+Labels = State → Option (List Link)
+
+abbrev pub IsNoLater : List Link → List Link → Type 0
+IsNoLater v w = is_gt (walk_cmp v w) ≡ false
+
+-- by cost, then by the number of links, then by leg
+abbrev pub rank_cmp : ℕ × List Link → ℕ × List Link → Ordering
+rank_cmp a b = ordering_then (nat_cmp (cost_of a.1) (cost_of b.1)) (ordering_then (nat_cmp (length a.1) (length b.1)) (nat_cmp a.0 b.0))
+
+abbrev pub RanksNoLater : State → List Link → State → List Link → Type 0
+RanksNoLater s v t w = is_gt (rank_cmp (s.leg, v) (t.leg, w)) ≡ false
+
+abbrev pub locals_cmp : List Link → List Link → Ordering
+locals_cmp v w = slice_cmp nat_cmp (locals_of v) (locals_of w)
+
+-- by rank, then by local addresses: the order in which a search settles walks in legs
+abbrev pub state_cmp : ℕ × List Link → ℕ × List Link → Ordering
+state_cmp a b = ordering_then (rank_cmp a b) (locals_cmp a.1 b.1)
+
+-- The start is settled, each settled walk reaches its state, and none that reaches it is before it.
+pub record AreSettled (d : Database) (q : Request) (labels : Labels) : Type 0 where
+  pub start : labels (start_of q) ≡ Some []
+  pub reached : (s : State) (w : List Link) → labels s ≡ Some w → Reaches d q w s
+  pub least : (s : State) (w x : List Link) → labels s ≡ Some w → Reaches d q x s → IsNoLater w x
+
+-- one step leads from a settled walk to a walk whose state is open
+pub record Crosses (d : Database) (q : Request) (labels : Labels) (w : List Link) (t : State) : Type 0 where
+  pub state : State
+  pub front : List Link
+  pub settled : labels state ≡ Some front
+  pub step : IsStep d q front state w t
+  pub still_open : labels t ≡ None
+
+-- no other that crosses into its state is before it, and none at all ranks before it
+pub record IsFirstCrossing (d : Database) (q : Request) (labels : Labels) (w : List Link) (t : State) : Type 0 where
+  pub crosses : Crosses d q labels w t
+  pub first_here : (x : List Link) → Crosses d q labels x t → IsNoLater w x
+  pub first : (x : List Link) (u : State) → Crosses d q labels x u → RanksNoLater t w u x

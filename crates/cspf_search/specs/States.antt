@@ -1,0 +1,31 @@
+use Rattle.std.specs.Prelude.{ℕ, List, [], ◌∷◌, ◌++◌}
+use Rattle.cspf_db.specs.declared.link.Link.{Link}
+use Rattle.cspf_db.specs.declared.request.Request.{Request}
+use Rattle.cspf_db.specs.Database.{Database}
+use Rattle.cspf_db.specs.Admissible.{IsAdmissible}
+
+-- Words of the search's own contracts. A reader of `best` need not believe them: its own contract has
+-- the definitions of `cspf_db` alone.
+
+-- where a walk stands: in a leg of the request, at a router
+pub record State : Type 0 where
+  pub leg : ℕ
+  pub router : ℕ
+
+-- what leads on from a walk that stands at a state, to a walk and its state: an admissible link
+pub data IsStep (d : Database) (q : Request) : List Link → State → List Link → State → Type 0 where
+  by_link : {walk : List Link} {leg : ℕ} (l : Link) → IsAdmissible d q l
+      → IsStep d q walk (record { leg = leg; router = l.from }) (walk ++ (l ∷ [])) (record { leg = leg; router = l.to })
+
+-- the head-end, in the first leg
+abbrev pub start_of : Request → State
+start_of q = record { leg = 1; router = q.from }
+
+-- the tail-end, in the last leg
+abbrev pub end_state : Request → State
+end_state q = record { leg = 1; router = q.to }
+
+-- a walk that steps lead along from the start, with the state where it stands
+pub data Reaches (d : Database) (q : Request) : List Link → State → Type 0 where
+  starts : Reaches d q [] (start_of q)
+  steps : {v w : List Link} {s t : State} → Reaches d q v s → IsStep d q v s w t → Reaches d q w t

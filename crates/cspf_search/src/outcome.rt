@@ -1,0 +1,14 @@
+use crate::Route;
+
+/// What a request is answered.
+#[derive(Debug, Drop)]
+pub enum Outcome {
+    /// The least route.
+    Route(Route),
+    /// No walk of admissible links is a route.
+    NoRoute,
+    /// The database doesn't have the head-end.
+    UnknownFrom,
+    /// The database doesn't have the tail-end.
+    UnknownTo,
+}
