@@ -48,6 +48,7 @@ said q = record {
   hops = q.hops;
 }
 
+-- a request says just these fields
 said_fields : (q : Request) (f : RequestFields) → Says q f → said q ≡ f
 said_fields q f says = λ i. record {
   id = says.id i;
@@ -87,10 +88,12 @@ found rows to apart two_ends = record {
   );
 }
 
+-- the first network can be met
 pub six_links_found : AreFound six_links (router 4)
 unfolding IsDistinct
 six_links_found = found six_links (router 4) (search rules) (eqb-false _ _ refl)
 
+-- the second network can be met
 pub three_links_found : AreFound three_links (router 3)
 unfolding IsDistinct
 three_links_found = found three_links (router 3) (search rules) (eqb-false _ _ refl)
@@ -113,22 +116,28 @@ admitted tail_end hops priority two_ends from local to remote metric apart = rec
 }
 
 module _ (d : Database) (listed : AreLinksOf d six_links) where
+  -- each row is a link of the database
   rows : AllByRecursion (IsLinkOf d) six_links
   rows = recursion_from_All (IsLinkOf d) six_links listed.each
 
+  -- the strict hop is owned by 10.9.0.1
   owned_inner_1 : Owns d inner_hop.prefix (inner 1)
   owned_inner_1 = record { known = (from_1_to_inner_1, rows.1.0, inr refl); covered = inl refl }
 
+  -- and by 10.9.0.2
   owned_inner_2 : Owns d inner_hop.prefix (inner 2)
   owned_inner_2 = record { known = (from_1_to_inner_2, rows.1.1.0, inr refl); covered = inl refl }
 
+  -- the head-end owns its own hop
   owned_router_1 : Owns d first_router_hop.prefix (router 1)
   owned_router_1 = record { known = (from_1_to_3, rows.0, inl refl); covered = inl refl }
 
   module _ (hops : List Hop) (priority : 0 < 8) (two_ends : router 1 ≢ router 4) where
+    -- a request for the first network
     abbrev q : Request
     q = made (asked (router 4) hops) priority two_ends
 
+    -- the way by 10.9.0.2 is a walk
     inside_walk : IsWalk d q way_inside
     inside_walk = record {
       links = (
@@ -138,6 +147,7 @@ module _ (d : Database) (listed : AreLinksOf d six_links) where
       joined = (refl, (refl, (refl, tt)));
     }
 
+    -- the way by 3.3.3.3 is a walk
     outside_walk : IsWalk d q way_outside
     outside_walk = record {
       links = (
@@ -147,6 +157,7 @@ module _ (d : Database) (listed : AreLinksOf d six_links) where
       joined = (refl, (refl, (refl, tt)));
     }
 
+-- the strict leg of the way by 10.9.0.2 stands at owners alone
 pub may_stand_at_owners : MayStandAtOwners
 may_stand_at_owners d q listed says =
     let owns_1 = owned_inner_1 d listed in
@@ -166,6 +177,7 @@ may_stand_at_owners d q listed says =
       );
     }) q says
 
+-- the loose leg of the way by 3.3.3.3 may stand there
 pub may_stand_anywhere : MayStandAnywhere
 may_stand_anywhere d q listed says =
     for_each (asked (router 4) (loose_inner_hop ∷ [])) (λ q. IsRoute d q way_outside) (λ priority two_ends. record {
@@ -183,6 +195,7 @@ may_stand_anywhere d q listed says =
       );
     }) q says
 
+-- the leg to the head-end is empty
 pub may_be_empty : MayBeEmpty
 may_be_empty d q listed says =
     let owns_first = owned_router_1 d listed in
@@ -206,6 +219,7 @@ may_be_empty d q listed says =
       );
     }) q says
 
+-- the way by 3.3.3.3 costs less
 pub is_outside_before_inside : IsOutsideBeforeInside
 is_outside_before_inside = refl
 
@@ -231,13 +245,16 @@ none_begins r =
     )
 
 module _ (d : Database) (listed : AreLinksOf d six_links) where
+  -- the strict hop isn't owned by 1.1.1.1
   not_owned_router_1 : ¬ Owns d inner_hop.prefix (router 1)
   not_owned_router_1 = not_owned d inner_hop.prefix (router 1) six_links listed (eqb-false _ _ refl) (none_begins (router 1))
 
+  -- nor by 3.3.3.3
   not_owned_router_3 : ¬ Owns d inner_hop.prefix (router 3)
   not_owned_router_3 = not_owned d inner_hop.prefix (router 3) six_links listed (eqb-false _ _ refl) (none_begins (router 3))
 
   module _ (priority : 0 < 8) (two_ends : router 1 ≢ router 4) where
+    -- a request with the strict hop
     abbrev asking : Request
     asking = made (asked (router 4) (inner_hop ∷ [])) priority two_ends
 
@@ -247,6 +264,7 @@ module _ (d : Database) (listed : AreLinksOf d six_links) where
     not_inside (inr (inl first)) = eqb-false (router 3) (router 1) refl first
     not_inside (inr (inr owns)) = not_owned_router_3 owns
 
+    -- however the way by 3.3.3.3 is cut, its first leg does not do
     not_cut : (legs : List (List Link)) → ¬ IsCutInto d asking way_outside legs
     not_cut [] cut = absurd (omega (arith, cut.number))
     not_cut ([] ∷ rest) cut = not_owned_router_1 cut.each.0.arrives
@@ -254,6 +272,7 @@ module _ (d : Database) (listed : AreLinksOf d six_links) where
         let same : l ≡ from_1_to_3 = cc (cut.whole) in
         not_inside (subst (λ (m : Link). IsInside d asking 1 m.to) same cut.each.0.within.1.0)
 
+-- the way by 3.3.3.3 is no route for the strict hop
 pub may_not_stand_elsewhere : MayNotStandElsewhere
 may_not_stand_elsewhere d q listed says =
     for_each (asked (router 4) (inner_hop ∷ [])) (λ q. ¬ IsRoute d q way_outside) (λ priority two_ends route. not_cut d listed priority two_ends route.cut.0 route.cut.1) q says

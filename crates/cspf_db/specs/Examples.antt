@@ -55,25 +55,32 @@ asked to hops = record {
 abbrev pub hop : ℕ → ℕ → Bool → Hop
 hop first length loose = record { prefix = record { address = first; length = length }; loose = loose }
 
--- From 1.1.1.1 the ways to 4.4.4.4 lead to 10.9.0.1 first, straight or by 3.3.3.3 or by 10.9.0.2.
+-- First network: from 1.1.1.1 the ways to 4.4.4.4 lead to 10.9.0.1 first, straight or by 3.3.3.3 or by 10.9.0.2.
+-- from 1.1.1.1 to 3.3.3.3, of metric 1
 abbrev pub from_1_to_3 : Link
 from_1_to_3 = link (router 1) (address 10 0 1 1) (router 3) (address 10 0 1 3) 1 1000 (eqb-false (router 1) (router 3) refl)
 
+-- from 1.1.1.1 to 10.9.0.1, of metric 10
 abbrev pub from_1_to_inner_1 : Link
 from_1_to_inner_1 = link (router 1) (address 10 0 2 1) (inner 1) (address 10 0 2 2) 10 1000 (eqb-false (router 1) (inner 1) refl)
 
+-- from 1.1.1.1 to 10.9.0.2, of metric 2
 abbrev pub from_1_to_inner_2 : Link
 from_1_to_inner_2 = link (router 1) (address 10 0 3 1) (inner 2) (address 10 0 3 2) 2 1000 (eqb-false (router 1) (inner 2) refl)
 
+-- from 3.3.3.3 to 10.9.0.1, of metric 1
 abbrev pub from_3_to_inner_1 : Link
 from_3_to_inner_1 = link (router 3) (address 10 0 4 3) (inner 1) (address 10 0 4 1) 1 1000 (eqb-false (router 3) (inner 1) refl)
 
+-- from 10.9.0.1 to 4.4.4.4, of metric 1
 abbrev pub from_inner_1_to_4 : Link
 from_inner_1_to_4 = link (inner 1) (address 10 0 5 1) (router 4) (address 10 0 5 4) 1 1000 (eqb-false (inner 1) (router 4) refl)
 
+-- from 10.9.0.2 to 10.9.0.1, of metric 3
 abbrev pub from_inner_2_to_inner_1 : Link
 from_inner_2_to_inner_1 = link (inner 2) (address 10 0 6 2) (inner 1) (address 10 0 6 1) 3 1000 (eqb-false (inner 2) (inner 1) refl)
 
+-- the links of the first network
 abbrev pub six_links : List Link
 six_links = from_1_to_3 ∷ from_1_to_inner_1 ∷ from_1_to_inner_2 ∷ from_3_to_inner_1 ∷ from_inner_1_to_4 ∷ from_inner_2_to_inner_1 ∷ []
 
@@ -85,26 +92,32 @@ way_outside = from_1_to_3 ∷ from_3_to_inner_1 ∷ from_inner_1_to_4 ∷ []
 abbrev pub way_inside : List Link
 way_inside = from_1_to_inner_2 ∷ from_inner_2_to_inner_1 ∷ from_inner_1_to_4 ∷ []
 
--- the hop to 10.9.0.0/16, strict and loose, and the strict hop to 1.1.1.1/32
+-- the strict hop to 10.9.0.0/16
 abbrev pub inner_hop : Hop
 inner_hop = hop (address 10 9 0 0) 16 false
 
+-- the loose hop to 10.9.0.0/16
 abbrev pub loose_inner_hop : Hop
 loose_inner_hop = hop (address 10 9 0 0) 16 true
 
+-- the strict hop to 1.1.1.1/32
 abbrev pub first_router_hop : Hop
 first_router_hop = hop (router 1) 32 false
 
--- From 1.1.1.1 a way leads by 2.2.2.2 to 3.3.3.3. A further link from 2.2.2.2 has no bandwidth left.
+-- Second network: from 1.1.1.1 a way leads by 2.2.2.2 to 3.3.3.3. A further link from 2.2.2.2 has no bandwidth left.
+-- from 1.1.1.1 to 2.2.2.2
 abbrev pub from_1_to_2 : Link
 from_1_to_2 = link (router 1) (address 10 0 12 1) (router 2) (address 10 0 12 2) 10 1000 (eqb-false (router 1) (router 2) refl)
 
+-- from 2.2.2.2 to 3.3.3.3
 abbrev pub from_2_to_3 : Link
 from_2_to_3 = link (router 2) (address 10 0 23 2) (router 3) (address 10 0 23 3) 10 1000 (eqb-false (router 2) (router 3) refl)
 
+-- from 2.2.2.2 by 172.16.0.2 to 4.4.4.4, with no bandwidth
 abbrev pub from_2_to_4 : Link
 from_2_to_4 = link (router 2) (address 172 16 0 2) (router 4) (address 172 16 0 4) 10 0 (eqb-false (router 2) (router 4) refl)
 
+-- the links of the second network
 abbrev pub three_links : List Link
 three_links = from_1_to_2 ∷ from_2_to_3 ∷ from_2_to_4 ∷ []
 
@@ -125,10 +138,11 @@ pub record AreFound (links : List Link) (to : ℕ) : Type 0 where
 abbrev pub MayStandAtOwners : Type 0
 MayStandAtOwners = Holds six_links (router 4) (inner_hop ∷ []) (λ d q. IsRoute d q way_inside)
 
--- it may not stand at 3.3.3.3, which a loose leg may
+-- it may not stand at 3.3.3.3
 abbrev pub MayNotStandElsewhere : Type 0
 MayNotStandElsewhere = Holds six_links (router 4) (inner_hop ∷ []) (λ d q. ¬ IsRoute d q way_outside)
 
+-- a loose leg to 10.9.0.0/16 may stand at 3.3.3.3
 abbrev pub MayStandAnywhere : Type 0
 MayStandAnywhere = Holds six_links (router 4) (loose_inner_hop ∷ []) (λ d q. IsRoute d q way_outside)
 

@@ -21,7 +21,7 @@ loop-read-preserved g c = record {
       steps (rows_left g.R.Read.remaining c.args.rows.now) (rows_left g.R.Read.remaining c.loop-read.rows) (rows_left g.R.Read.remaining c.next_row.new.rows)
       (g.W.Write.contents c.args.writer.now) (g.W.Write.contents c.loop-read.writer) (g.W.Write.contents c.answer_row.new.writer)
       c.loop-read.solver c.answer_row.new.solver c.loop-read.read (fields_of c.next_row.new.fields)
-      c.loop-read.invariant.going c.loop-read-test.true (rw c.if-not-branch.false at c.in_ok-next_row.ensures.row) c.in_ok-answer_row.ensures;
+      c.loop-read.invariant.going (omega arith) (rw c.if-not-branch.false at c.in_ok-next_row.ensures.row) c.in_ok-answer_row.ensures;
 }
 
 pub returns : goal.returns

@@ -1,0 +1,4 @@
+pub mod Made
+pub mod Spelled
+pub mod RowLaws
+pub mod ReadBack

@@ -1,0 +1,76 @@
+-- The records that are written for rows are read back.
+use Rattle.std.proofs.Common.{◌≡◌, ℕ, zero, suc, ◌<◌, List, [], ◌∷◌, map, length, slice_index, unwrap_or, refl, lit<, arith}
+use Rattle.std.proofs.lemmas.List.{length-map}
+use Rattle.std.specs.Fmt.{decimal}
+use Rattle.csv.specs.Records.{field_at}
+use Rattle.cspf_addr.specs.HopLists.{AreHopListsReadBack}
+use Rattle.cspf_rows.specs.declared.rows.Row.TheVariants as row
+use Rattle.cspf_rows.specs.Written.{put_fields, drop_fields, end_fields, ask_fields, ArePutsReadBack, AreDropsReadBack, AreEndsReadBack, AreAsksReadBack}
+use Rattle.cspf_rows.proofs.Spelled.{AreTextsRead}
+use Rattle.cspf_rows.proofs.RowLaws.{row_of-said}
+
+-- a field that is written for a number of a list
+decimal_at : (xs : List ℕ) (place : ℕ) → place < length xs → unwrap_or (field_at (map decimal xs) place) [] ≡ decimal (slice_index xs place)
+unfolding field_at
+decimal_at [] place within = absurd (omega (arith, within))
+decimal_at (x ∷ xs) zero within = refl
+decimal_at (x ∷ xs) (suc place) within = decimal_at xs place (omega (arith, within))
+
+pub puts_read_back : AreTextsRead → ArePutsReadBack
+unfolding field_at
+puts_read_back texts link group range mask =
+    row_of-said texts (put_fields link group) (row.Put link) (record {
+      count = omega (arith, length-map link.free decimal, link.eight);
+      kind = refl;
+      from = record { small = range.from; written = refl };
+      local = record { small = range.local; written = refl };
+      to = record { small = range.to; written = refl };
+      remote = record { small = range.remote; written = refl };
+      metric = record { small = range.metric; written = refl };
+      group = mask;
+      free_0 = record { small = range.free 0 (lit< tt); written = decimal_at link.free 0 (omega (arith, link.eight)) };
+      free_1 = record { small = range.free 1 (lit< tt); written = decimal_at link.free 1 (omega (arith, link.eight)) };
+      free_2 = record { small = range.free 2 (lit< tt); written = decimal_at link.free 2 (omega (arith, link.eight)) };
+      free_3 = record { small = range.free 3 (lit< tt); written = decimal_at link.free 3 (omega (arith, link.eight)) };
+      free_4 = record { small = range.free 4 (lit< tt); written = decimal_at link.free 4 (omega (arith, link.eight)) };
+      free_5 = record { small = range.free 5 (lit< tt); written = decimal_at link.free 5 (omega (arith, link.eight)) };
+      free_6 = record { small = range.free 6 (lit< tt); written = decimal_at link.free 6 (omega (arith, link.eight)) };
+      free_7 = record { small = range.free 7 (lit< tt); written = decimal_at link.free 7 (omega (arith, link.eight)) };
+    })
+
+pub drops_read_back : AreTextsRead → AreDropsReadBack
+unfolding field_at
+drops_read_back texts from local small_from small_local =
+    row_of-said texts (drop_fields from local) (row.Remove from local) (record {
+      count = refl;
+      kind = refl;
+      from = record { small = small_from; written = refl };
+      local = record { small = small_local; written = refl };
+    })
+
+pub ends_read_back : AreTextsRead → AreEndsReadBack
+unfolding field_at
+ends_read_back texts number count small_number small_count =
+    row_of-said texts (end_fields number count) (row.End number count) (record {
+      count = refl;
+      kind = refl;
+      number = record { small = small_number; written = refl };
+      has = record { small = small_count; written = refl };
+    })
+
+pub asks_read_back : AreTextsRead → AreHopListsReadBack → AreAsksReadBack
+unfolding field_at
+asks_read_back texts hop_lists request exclude_any include_any include_all range exclude_mask any_mask all_mask =
+    row_of-said texts (ask_fields request exclude_any include_any include_all) (row.Ask request) (record {
+      count = refl;
+      kind = refl;
+      id = record { small = range.id; written = refl };
+      from = record { small = range.from; written = refl };
+      to = record { small = range.to; written = refl };
+      setup = record { small = request.priority; written = refl };
+      bandwidth = record { small = range.bandwidth; written = refl };
+      exclude_any = exclude_mask;
+      include_any = any_mask;
+      include_all = all_mask;
+      hops = hop_lists request.hops range.few range.hops;
+    })

@@ -1,0 +1,300 @@
+-- A record is read as a row exactly where it says that row.
+use Rattle.std.proofs.Common.{◌≡◌, ℕ, ◌<◌, Bool, true, false, cond, eqb, List, [], ◌∷◌, length, slice_index, Result, Ok, Err, refl, sym, ap, ◌∙◌, subst, arith}
+use Rattle.std.proofs.lemmas.Bool.{eqb-true}
+use Rattle.std.proofs.lemmas.Slice.Eq.{bytes_eq-Decides}
+use Rattle.std.specs.Prelude.{codes}
+use Rattle.std.specs.Str.{bytes_eq}
+use Rattle.cspf_db.specs.Fields.{LinkFields, RequestFields, HasFields, Says as SaysRequest}
+use Rattle.cspf_db.specs.declared.link.Link.{Link}
+use Rattle.cspf_db.specs.declared.request.Request.{Request}
+use Rattle.cspf_rows.specs.declared.rows.Row.{Row}
+use Rattle.cspf_rows.specs.declared.rows.Row.TheVariants as row
+use Rattle.cspf_rows.specs.declared.refusals.RowError.{RowError}
+use Rattle.cspf_rows.specs.FieldValues.{◌>>=◌, field, number_at, small_number_at, priority_at, address_at, mask_at, hops_at}
+use Rattle.cspf_rows.specs.Rows.{put_between, put, ask_between, ask, put_of, drop_of, end_of, ask_of, row_of}
+use Rattle.cspf_rows.specs.Says.{SaysPut, SaysRemove, SaysEnd, SaysAsk, Says, AreRowsRead, SaysOneRow}
+use Rattle.cspf_rows.proofs.Made.{put-link, ask-request}
+use Rattle.cspf_rows.proofs.Spelled.{AreTextsRead, first_step, number_at-spelled, spelled-number_at, small_number_at-spelled, spelled-small_number_at, priority_at-spelled, spelled-priority_at, address_at-spelled, spelled-address_at, mask_at-spelled, spelled-mask_at, hops_at-spelled, spelled-hops_at}
+
+-- eight numbers, one by one
+eight_items : (xs : List ℕ) → length xs ≡ 8
+    → xs ≡ slice_index xs 0 ∷ slice_index xs 1 ∷ slice_index xs 2 ∷ slice_index xs 3 ∷ slice_index xs 4 ∷ slice_index xs 5 ∷ slice_index xs 6 ∷ slice_index xs 7 ∷ []
+eight_items [] n = absurd (omega (arith, n))
+eight_items (a ∷ []) n = absurd (omega (arith, n))
+eight_items (a ∷ b ∷ []) n = absurd (omega (arith, n))
+eight_items (a ∷ b ∷ c ∷ []) n = absurd (omega (arith, n))
+eight_items (a ∷ b ∷ c ∷ d ∷ []) n = absurd (omega (arith, n))
+eight_items (a ∷ b ∷ c ∷ d ∷ e ∷ []) n = absurd (omega (arith, n))
+eight_items (a ∷ b ∷ c ∷ d ∷ e ∷ f ∷ []) n = absurd (omega (arith, n))
+eight_items (a ∷ b ∷ c ∷ d ∷ e ∷ f ∷ g ∷ []) n = absurd (omega (arith, n))
+eight_items (a ∷ b ∷ c ∷ d ∷ e ∷ f ∷ g ∷ h ∷ []) n = refl
+eight_items (a ∷ b ∷ c ∷ d ∷ e ∷ f ∷ g ∷ h ∷ i ∷ rest) n = absurd (omega (arith, n))
+
+-- a record that says a put is read as it
+put_of-said : AreTextsRead → (fields : List (List ℕ)) (link : Link) → SaysPut fields link → put_of fields ≡ Ok (row.Put link)
+unfolding put_of
+put_of-said texts fields link s =
+    rw (
+      address_at-spelled texts fields 2 link.from s.from,
+      address_at-spelled texts fields 3 link.local s.local,
+      address_at-spelled texts fields 4 link.to s.to,
+      address_at-spelled texts fields 5 link.remote s.remote,
+      small_number_at-spelled texts fields 6 link.metric s.metric,
+      mask_at-spelled texts fields 7 link.group s.group,
+      number_at-spelled texts fields 8 (slice_index link.free 0) s.free_0,
+      number_at-spelled texts fields 9 (slice_index link.free 1) s.free_1,
+      number_at-spelled texts fields 10 (slice_index link.free 2) s.free_2,
+      number_at-spelled texts fields 11 (slice_index link.free 3) s.free_3,
+      number_at-spelled texts fields 12 (slice_index link.free 4) s.free_4,
+      number_at-spelled texts fields 13 (slice_index link.free 5) s.free_5,
+      number_at-spelled texts fields 14 (slice_index link.free 6) s.free_6,
+      number_at-spelled texts fields 15 (slice_index link.free 7) s.free_7,
+    ) (put-link link _ refl (record {
+      from = refl;
+      local = refl;
+      to = refl;
+      remote = refl;
+      metric = refl;
+      group = refl;
+      free = eight_items link.free link.eight;
+    }))
+
+drop_of-said : AreTextsRead → (fields : List (List ℕ)) (from local : ℕ) → SaysRemove fields from local → drop_of fields ≡ Ok (row.Remove from local)
+unfolding drop_of
+drop_of-said texts fields from local s = rw (address_at-spelled texts fields 2 from s.from, address_at-spelled texts fields 3 local s.local) refl
+
+end_of-said : AreTextsRead → (fields : List (List ℕ)) (number count : ℕ) → SaysEnd fields number count → end_of fields ≡ Ok (row.End number count)
+unfolding end_of
+end_of-said texts fields number count s =
+    rw (small_number_at-spelled texts fields 2 number s.number, small_number_at-spelled texts fields 3 count s.has) refl
+
+ask_of-said : AreTextsRead → (fields : List (List ℕ)) (request : Request) → SaysAsk fields request → ask_of fields ≡ Ok (row.Ask request)
+unfolding ask_of
+ask_of-said texts fields request s =
+    rw (
+      number_at-spelled texts fields 2 request.id s.id,
+      address_at-spelled texts fields 3 request.from s.from,
+      address_at-spelled texts fields 4 request.to s.to,
+      priority_at-spelled texts fields 5 request.setup s.setup,
+      number_at-spelled texts fields 6 request.bandwidth s.bandwidth,
+      mask_at-spelled texts fields 7 request.exclude_any s.exclude_any,
+      mask_at-spelled texts fields 8 request.include_any s.include_any,
+      mask_at-spelled texts fields 9 request.include_all s.include_all,
+      hops_at-spelled fields 10 request.hops s.hops,
+    ) (ask-request request _ (record {
+      id = refl;
+      from = refl;
+      to = refl;
+      setup = refl;
+      bandwidth = refl;
+      exclude_any = refl;
+      include_any = refl;
+      include_all = refl;
+      hops = refl;
+    }))
+
+-- a record that says a row is read as it
+pub row_of-said : AreTextsRead → (fields : List (List ℕ)) (r : Row) → Says fields r → row_of fields ≡ Ok r
+unfolding row_of
+row_of-said texts fields (row.Put link) s = rw (s.kind, s.count) (put_of-said texts fields link s)
+row_of-said texts fields (row.Remove from local) s = rw (s.kind, s.count) (drop_of-said texts fields from local s)
+row_of-said texts fields (row.End number count) s = rw (s.kind, s.count) (end_of-said texts fields number count s)
+row_of-said texts fields (row.Ask request) s = rw (s.kind, s.count) (ask_of-said texts fields request s)
+
+-- the link that is made of attributes
+said-put : (link : LinkFields) (eight : length link.free ≡ 8) (ends : Dec (link.from ≡ link.to)) (r : Row) → put_between link eight ends ≡ Ok r
+    → (l : Link) × (row.Put l ≡ r) × HasFields l link
+said-put link eight (yes same) r made = absurd (cc)
+said-put link eight (no apart) r made = (
+  record {
+    from = link.from;
+    local = link.local;
+    to = link.to;
+    remote = link.remote;
+    metric = link.metric;
+    group = link.group;
+    free = link.free;
+    eight = eight;
+    two_ends = apart;
+  },
+  cc,
+  record { from = refl; local = refl; to = refl; remote = refl; metric = refl; group = refl; free = refl },
+)
+
+-- the request that is made of what it says
+said-ask : (request : RequestFields) (low : Dec (request.setup < 8)) (ends : Dec (request.from ≡ request.to)) (r : Row) → ask_between request low ends ≡ Ok r
+    → (q : Request) × (row.Ask q ≡ r) × SaysRequest q request
+said-ask request (no above) ends r made = absurd (cc)
+said-ask request (yes below) (yes same) r made = absurd (cc)
+said-ask request (yes below) (no apart) r made = (
+  record {
+    id = request.id;
+    from = request.from;
+    to = request.to;
+    setup = request.setup;
+    bandwidth = request.bandwidth;
+    exclude_any = request.exclude_any;
+    include_any = request.include_any;
+    include_all = request.include_all;
+    hops = request.hops;
+    priority = below;
+    two_ends = apart;
+  },
+  cc,
+  record { id = refl; from = refl; to = refl; setup = refl; bandwidth = refl; exclude_any = refl; include_any = refl; include_all = refl; hops = refl },
+)
+
+-- the link of attributes that were read is said by the record
+said-link : AreTextsRead → (fields : List (List ℕ)) (l : Link) (link : LinkFields) → HasFields l link → length fields ≡ 15 → field fields 1 ≡ codes "put"
+    → address_at fields 2 ≡ Ok link.from
+    → address_at fields 3 ≡ Ok link.local
+    → address_at fields 4 ≡ Ok link.to
+    → address_at fields 5 ≡ Ok link.remote
+    → small_number_at fields 6 ≡ Ok link.metric
+    → mask_at fields 7 ≡ Ok link.group
+    → number_at fields 8 ≡ Ok (slice_index link.free 0)
+    → number_at fields 9 ≡ Ok (slice_index link.free 1)
+    → number_at fields 10 ≡ Ok (slice_index link.free 2)
+    → number_at fields 11 ≡ Ok (slice_index link.free 3)
+    → number_at fields 12 ≡ Ok (slice_index link.free 4)
+    → number_at fields 13 ≡ Ok (slice_index link.free 5)
+    → number_at fields 14 ≡ Ok (slice_index link.free 6)
+    → number_at fields 15 ≡ Ok (slice_index link.free 7)
+    → SaysPut fields l
+said-link texts fields l link has count kind from local to remote metric group u0 u1 u2 u3 u4 u5 u6 u7 = record {
+  count = count;
+  kind = kind;
+  from = spelled-address_at texts fields 2 l.from (from ∙ ap Ok (sym has.from));
+  local = spelled-address_at texts fields 3 l.local (local ∙ ap Ok (sym has.local));
+  to = spelled-address_at texts fields 4 l.to (to ∙ ap Ok (sym has.to));
+  remote = spelled-address_at texts fields 5 l.remote (remote ∙ ap Ok (sym has.remote));
+  metric = spelled-small_number_at texts fields 6 l.metric (metric ∙ ap Ok (sym has.metric));
+  group = spelled-mask_at texts fields 7 l.group (group ∙ ap Ok (sym has.group));
+  free_0 = spelled-number_at texts fields 8 (slice_index l.free 0) (u0 ∙ ap (λ free. Ok (slice_index free 0)) (sym has.free));
+  free_1 = spelled-number_at texts fields 9 (slice_index l.free 1) (u1 ∙ ap (λ free. Ok (slice_index free 1)) (sym has.free));
+  free_2 = spelled-number_at texts fields 10 (slice_index l.free 2) (u2 ∙ ap (λ free. Ok (slice_index free 2)) (sym has.free));
+  free_3 = spelled-number_at texts fields 11 (slice_index l.free 3) (u3 ∙ ap (λ free. Ok (slice_index free 3)) (sym has.free));
+  free_4 = spelled-number_at texts fields 12 (slice_index l.free 4) (u4 ∙ ap (λ free. Ok (slice_index free 4)) (sym has.free));
+  free_5 = spelled-number_at texts fields 13 (slice_index l.free 5) (u5 ∙ ap (λ free. Ok (slice_index free 5)) (sym has.free));
+  free_6 = spelled-number_at texts fields 14 (slice_index l.free 6) (u6 ∙ ap (λ free. Ok (slice_index free 6)) (sym has.free));
+  free_7 = spelled-number_at texts fields 15 (slice_index l.free 7) (u7 ∙ ap (λ free. Ok (slice_index free 7)) (sym has.free));
+}
+
+-- what follows from the first step of two that gave a value
+stepped : {A B : Type 0} {G : Type 0} (r : Result A RowError) (f : A → Result B RowError) (y : B) → (r >>= f) ≡ Ok y → ((x : A) → r ≡ Ok x → f x ≡ Ok y → G) → G
+stepped (Ok x) f y found next = next x refl found
+stepped (Err e) f y found next = absurd (cc)
+
+-- a record that is read as a put says it
+said-put_of : AreTextsRead → (fields : List (List ℕ)) (r : Row) → length fields ≡ 15 → field fields 1 ≡ codes "put" → put_of fields ≡ Ok r → Says fields r
+unfolding put_of put
+said-put_of texts fields r count kind read =
+    stepped (address_at fields 2) _ r read (λ from is_from after_from.
+    stepped (address_at fields 3) _ r after_from (λ local is_local after_local.
+    stepped (address_at fields 4) _ r after_local (λ to is_to after_to.
+    stepped (address_at fields 5) _ r after_to (λ remote is_remote after_remote.
+    stepped (small_number_at fields 6) _ r after_remote (λ metric is_metric after_metric.
+    stepped (mask_at fields 7) _ r after_metric (λ group is_group after_group.
+    stepped (number_at fields 8) _ r after_group (λ u0 is_u0 after_u0.
+    stepped (number_at fields 9) _ r after_u0 (λ u1 is_u1 after_u1.
+    stepped (number_at fields 10) _ r after_u1 (λ u2 is_u2 after_u2.
+    stepped (number_at fields 11) _ r after_u2 (λ u3 is_u3 after_u3.
+    stepped (number_at fields 12) _ r after_u3 (λ u4 is_u4 after_u4.
+    stepped (number_at fields 13) _ r after_u4 (λ u5 is_u5 after_u5.
+    stepped (number_at fields 14) _ r after_u5 (λ u6 is_u6 after_u6.
+    stepped (number_at fields 15) _ r after_u6 (λ u7 is_u7 after_u7.
+    let made = said-put _ _ _ r after_u7 in
+    subst (Says fields) made.1 (said-link texts fields made.0 _ made.2 count kind is_from is_local is_to is_remote is_metric is_group is_u0 is_u1 is_u2 is_u3 is_u4 is_u5 is_u6 is_u7)))))))))))))))
+
+said-drop_of : AreTextsRead → (fields : List (List ℕ)) (r : Row) → length fields ≡ 3 → field fields 1 ≡ codes "drop" → drop_of fields ≡ Ok r → Says fields r
+unfolding drop_of
+said-drop_of texts fields r count kind read =
+    let from = first_step _ _ _ read in
+    let local = first_step _ _ _ from.2 in
+    let same : row.Remove from.0 local.0 ≡ r = cc (local.2) in
+    subst (Says fields) same (record {
+      count = count;
+      kind = kind;
+      from = spelled-address_at texts fields 2 from.0 from.1;
+      local = spelled-address_at texts fields 3 local.0 local.1;
+    })
+
+said-end_of : AreTextsRead → (fields : List (List ℕ)) (r : Row) → length fields ≡ 3 → field fields 1 ≡ codes "end" → end_of fields ≡ Ok r → Says fields r
+unfolding end_of
+said-end_of texts fields r count kind read =
+    let number = first_step _ _ _ read in
+    let changes = first_step _ _ _ number.2 in
+    let same : row.End number.0 changes.0 ≡ r = cc (changes.2) in
+    subst (Says fields) same (record {
+      count = count;
+      kind = kind;
+      number = spelled-small_number_at texts fields 2 number.0 number.1;
+      has = spelled-small_number_at texts fields 3 changes.0 changes.1;
+    })
+
+said-ask_of : AreTextsRead → (fields : List (List ℕ)) (r : Row) → length fields ≡ 10 → field fields 1 ≡ codes "ask" → ask_of fields ≡ Ok r → Says fields r
+unfolding ask_of ask
+said-ask_of texts fields r count kind read =
+    let id = first_step (number_at fields 2) _ r read in
+    let from = first_step (address_at fields 3) _ r id.2 in
+    let to = first_step (address_at fields 4) _ r from.2 in
+    let setup = first_step (priority_at fields 5) _ r to.2 in
+    let bandwidth = first_step (number_at fields 6) _ r setup.2 in
+    let exclude_any = first_step (mask_at fields 7) _ r bandwidth.2 in
+    let include_any = first_step (mask_at fields 8) _ r exclude_any.2 in
+    let include_all = first_step (mask_at fields 9) _ r include_any.2 in
+    let hops = first_step (hops_at fields 10) _ r include_all.2 in
+    let made = said-ask _ _ _ r hops.2 in
+    let says = made.2 in
+    let said : SaysAsk fields made.0 = record {
+      count = count;
+      kind = kind;
+      id = spelled-number_at texts fields 2 made.0.id (id.1 ∙ ap Ok (sym says.id));
+      from = spelled-address_at texts fields 3 made.0.from (from.1 ∙ ap Ok (sym says.from));
+      to = spelled-address_at texts fields 4 made.0.to (to.1 ∙ ap Ok (sym says.to));
+      setup = spelled-priority_at texts fields 5 made.0.setup (setup.1 ∙ ap Ok (sym says.setup));
+      bandwidth = spelled-number_at texts fields 6 made.0.bandwidth (bandwidth.1 ∙ ap Ok (sym says.bandwidth));
+      exclude_any = spelled-mask_at texts fields 7 made.0.exclude_any (exclude_any.1 ∙ ap Ok (sym says.exclude_any));
+      include_any = spelled-mask_at texts fields 8 made.0.include_any (include_any.1 ∙ ap Ok (sym says.include_any));
+      include_all = spelled-mask_at texts fields 9 made.0.include_all (include_all.1 ∙ ap Ok (sym says.include_all));
+      hops = spelled-hops_at fields 10 made.0.hops (hops.1 ∙ ap Ok (sym says.hops));
+    } in
+    subst (Says fields) made.1 said
+
+-- a row that a test lets through
+passed_row : (b : Bool) (x : Result Row RowError) (e : RowError) (r : Row) → cond b x (Err e) ≡ Ok r → (b ≡ true) × (x ≡ Ok r)
+passed_row true x e r read = (refl, read)
+passed_row false x e r read = absurd (cc)
+
+-- a record of the right number of fields
+counted : (fields : List (List ℕ)) (count : ℕ) (x : Result Row RowError) (e : RowError) (r : Row) → cond (eqb (length fields) count) x (Err e) ≡ Ok r
+    → (length fields ≡ count) × (x ≡ Ok r)
+counted fields count x e r read =
+    let h = passed_row (eqb (length fields) count) x e r read in
+    (eqb-true (length fields) count h.0, h.1)
+
+-- what follows from the way that a test on a word took
+by_word : {G : Type 0} (text name : List ℕ) (x y : Result Row RowError) (r : Row) (b : Bool) → b ≡ bytes_eq text name → cond b x y ≡ Ok r
+    → (text ≡ name → x ≡ Ok r → G) → (y ≡ Ok r → G) → G
+by_word text name x y r true is read here there = here ((bytes_eq-Decides text name).0 (sym is)) read
+by_word text name x y r false is read here there = there read
+
+-- a record that is read as a row says it
+pub said-row_of : AreTextsRead → (fields : List (List ℕ)) (r : Row) → row_of fields ≡ Ok r → Says fields r
+unfolding row_of
+said-row_of texts fields r read =
+    by_word (field fields 1) (codes "put") _ _ r _ refl read (λ kind h. let n = counted fields 15 (put_of fields) _ r h in said-put_of texts fields r n.0 kind n.1)
+    (λ no_put. by_word (field fields 1) (codes "drop") _ _ r _ refl no_put (λ kind h. let n = counted fields 3 (drop_of fields) _ r h in said-drop_of texts fields r n.0 kind n.1)
+    (λ no_drop. by_word (field fields 1) (codes "end") _ _ r _ refl no_drop (λ kind h. let n = counted fields 3 (end_of fields) _ r h in said-end_of texts fields r n.0 kind n.1)
+    (λ no_end. by_word (field fields 1) (codes "ask") _ _ r _ refl no_end (λ kind h. let n = counted fields 10 (ask_of fields) _ r h in said-ask_of texts fields r n.0 kind n.1)
+    (λ none. absurd (cc)))))
+
+pub rows_read : AreTextsRead → AreRowsRead
+rows_read texts fields r = (said-row_of texts fields r, row_of-said texts fields r)
+
+-- what says two rows is read as both
+pub one_row : AreTextsRead → SaysOneRow
+one_row texts fields r other first second =
+    let read = row_of-said texts fields r first in
+    let again = row_of-said texts fields other second in
+    cc

@@ -1,0 +1,17 @@
+use Rattle.cspf_rows.proofs.Spelled.{AreTextsRead}
+use Rattle.cspf_rows.proofs.ReadBack.{puts_read_back, drops_read_back, ends_read_back, asks_read_back}
+use Rattle.cspf_rows.proofs.laws.rows_are_read_back.Goals as goal
+
+pub returns : goal.returns
+returns c =
+    let texts : AreTextsRead = record {
+      numbers = c.numbers_are_spelled_once.ensures;
+      addresses = c.addresses_are_spelled_once.ensures.read;
+      masks = c.masks_are_spelled.ensures.read;
+    } in
+    record {
+      puts = puts_read_back texts;
+      drops = drops_read_back texts;
+      ends = ends_read_back texts;
+      asks = asks_read_back texts c.hop_lists_are_read_back.ensures;
+    }

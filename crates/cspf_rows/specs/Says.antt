@@ -1,0 +1,86 @@
+-- What a record says, field by field, as it is written.
+use Rattle.std.specs.Prelude.{◌≡◌, ℕ, ◌^◌, ◌<◌, ◌↔◌, List, length, slice_index, codes, Ok}
+use Rattle.std.specs.Fmt.{decimal}
+use Rattle.cspf_addr.specs.Spelling.{spelling}
+use Rattle.cspf_addr.specs.MaskText.{SpellsMask}
+use Rattle.cspf_addr.specs.HopLists.{hops_of}
+use Rattle.cspf_db.specs.declared.link.Link.{Link}
+use Rattle.cspf_db.specs.declared.request.Request.{Request}
+use Rattle.cspf_rows.specs.declared.rows.Row.{Row}
+use Rattle.cspf_rows.specs.declared.rows.Row.TheVariants as row
+use Rattle.cspf_rows.specs.FieldValues.{field}
+use Rattle.cspf_rows.specs.Rows.{row_of}
+
+-- a text is what is written for a number below a bound, at most 2^64
+pub record SpellsNumber (bound : ℕ) (text : List ℕ) (n : ℕ) : Type 0 where
+  pub small : n < bound
+  pub written : text ≡ decimal n
+
+-- a text is what is written for an address
+pub record SpellsAddress (text : List ℕ) (n : ℕ) : Type 0 where
+  pub small : n < 2 ^ 32
+  pub written : text ≡ spelling n
+
+-- `put`, the router, the local address, the neighbor, the remote address, the metric, the group, and the
+-- unreserved bandwidths at the priorities 0 to 7
+pub record SaysPut (fields : List (List ℕ)) (link : Link) : Type 0 where
+  pub count : length fields ≡ 15
+  pub kind : field fields 1 ≡ codes "put"
+  pub from : SpellsAddress (field fields 2) link.from
+  pub local : SpellsAddress (field fields 3) link.local
+  pub to : SpellsAddress (field fields 4) link.to
+  pub remote : SpellsAddress (field fields 5) link.remote
+  pub metric : SpellsNumber (2 ^ 32) (field fields 6) link.metric
+  pub group : SpellsMask (field fields 7) link.group
+  pub free_0 : SpellsNumber (2 ^ 64) (field fields 8) (slice_index link.free 0)
+  pub free_1 : SpellsNumber (2 ^ 64) (field fields 9) (slice_index link.free 1)
+  pub free_2 : SpellsNumber (2 ^ 64) (field fields 10) (slice_index link.free 2)
+  pub free_3 : SpellsNumber (2 ^ 64) (field fields 11) (slice_index link.free 3)
+  pub free_4 : SpellsNumber (2 ^ 64) (field fields 12) (slice_index link.free 4)
+  pub free_5 : SpellsNumber (2 ^ 64) (field fields 13) (slice_index link.free 5)
+  pub free_6 : SpellsNumber (2 ^ 64) (field fields 14) (slice_index link.free 6)
+  pub free_7 : SpellsNumber (2 ^ 64) (field fields 15) (slice_index link.free 7)
+
+-- `drop`, and the router and the local address of the link that is taken out
+pub record SaysRemove (fields : List (List ℕ)) (router address : ℕ) : Type 0 where
+  pub count : length fields ≡ 3
+  pub kind : field fields 1 ≡ codes "drop"
+  pub from : SpellsAddress (field fields 2) router
+  pub local : SpellsAddress (field fields 3) address
+
+-- `end`, the number of the batch, and how many changes it has
+pub record SaysEnd (fields : List (List ℕ)) (version changes : ℕ) : Type 0 where
+  pub count : length fields ≡ 3
+  pub kind : field fields 1 ≡ codes "end"
+  pub number : SpellsNumber (2 ^ 32) (field fields 2) version
+  pub has : SpellsNumber (2 ^ 32) (field fields 3) changes
+
+-- `ask`, the id, the head-end, the tail-end, the setup priority, the bandwidth, the three affinities, and the
+-- hops, which may be spelled in more than one way
+pub record SaysAsk (fields : List (List ℕ)) (request : Request) : Type 0 where
+  pub count : length fields ≡ 10
+  pub kind : field fields 1 ≡ codes "ask"
+  pub id : SpellsNumber (2 ^ 64) (field fields 2) request.id
+  pub from : SpellsAddress (field fields 3) request.from
+  pub to : SpellsAddress (field fields 4) request.to
+  pub setup : SpellsNumber 8 (field fields 5) request.setup
+  pub bandwidth : SpellsNumber (2 ^ 64) (field fields 6) request.bandwidth
+  pub exclude_any : SpellsMask (field fields 7) request.exclude_any
+  pub include_any : SpellsMask (field fields 8) request.include_any
+  pub include_all : SpellsMask (field fields 9) request.include_all
+  pub hops : hops_of (field fields 10) ≡ Ok request.hops
+
+-- the record says this row
+abbrev pub Says : List (List ℕ) → Row → Type 0
+Says fields (row.Put link) = SaysPut fields link
+Says fields (row.Remove from local) = SaysRemove fields from local
+Says fields (row.End number count) = SaysEnd fields number count
+Says fields (row.Ask request) = SaysAsk fields request
+
+-- a record is read as a row exactly where it says that row
+abbrev pub AreRowsRead : Type 0
+AreRowsRead = (fields : List (List ℕ)) (row : Row) → (row_of fields ≡ Ok row) ↔ Says fields row
+
+-- a record says one row at most
+abbrev pub SaysOneRow : Type 0
+SaysOneRow = (fields : List (List ℕ)) (row other : Row) → Says fields row → Says fields other → row ≡ other

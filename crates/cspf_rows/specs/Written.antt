@@ -1,0 +1,64 @@
+-- The records that are written for rows, and that they are read back.
+use Rattle.std.specs.Prelude.{◌≡◌, ℕ, ◌^◌, ◌<◌, ◌≤◌, List, [], ◌∷◌, map, length, slice_index, codes, Ok}
+use Rattle.std.specs.Fmt.{decimal}
+use Rattle.std.specs.List.{AllByRecursion}
+use Rattle.cspf_addr.specs.Spelling.{spelling}
+use Rattle.cspf_addr.specs.MaskText.{SpellsMask}
+use Rattle.cspf_addr.specs.PrefixParts.{IsPrefix}
+use Rattle.cspf_addr.specs.HopLists.{hops_text}
+use Rattle.cspf_db.specs.declared.link.Link.{Link}
+use Rattle.cspf_db.specs.declared.request.Request.{Request}
+use Rattle.cspf_rows.specs.declared.rows.Row.TheVariants as row
+use Rattle.cspf_rows.specs.Rows.{row_of}
+
+-- the numbers of a link are those of its types
+pub record IsLinkInRange (link : Link) : Type 0 where
+  pub from : link.from < 2 ^ 32
+  pub local : link.local < 2 ^ 32
+  pub to : link.to < 2 ^ 32
+  pub remote : link.remote < 2 ^ 32
+  pub metric : link.metric < 2 ^ 32
+  pub free : (priority : ℕ) → priority < 8 → slice_index link.free priority < 2 ^ 64
+
+-- the numbers of a request are those of its types, and it has at most seven hops
+pub record IsRequestInRange (request : Request) : Type 0 where
+  pub id : request.id < 2 ^ 64
+  pub from : request.from < 2 ^ 32
+  pub to : request.to < 2 ^ 32
+  pub bandwidth : request.bandwidth < 2 ^ 64
+  pub few : length request.hops ≤ 7
+  pub hops : AllByRecursion (λ hop. IsPrefix hop.prefix) request.hops
+
+-- the record that is written for a link, its group by a text that spells it
+abbrev pub put_fields : Link → List ℕ → List (List ℕ)
+put_fields link group =
+    codes "put" ∷ spelling link.from ∷ spelling link.local ∷ spelling link.to ∷ spelling link.remote ∷ decimal link.metric ∷ group ∷ map decimal link.free
+
+-- the record that is written for the removal of a link
+abbrev pub drop_fields : ℕ → ℕ → List (List ℕ)
+drop_fields from local = codes "drop" ∷ spelling from ∷ spelling local ∷ []
+
+-- the record that is written for the end of a batch
+abbrev pub end_fields : ℕ → ℕ → List (List ℕ)
+end_fields number count = codes "end" ∷ decimal number ∷ decimal count ∷ []
+
+-- the record that is written for a request, its affinities by texts that spell them
+abbrev pub ask_fields : Request → List ℕ → List ℕ → List ℕ → List (List ℕ)
+ask_fields request exclude_any include_any include_all =
+    codes "ask" ∷ decimal request.id ∷ spelling request.from ∷ spelling request.to ∷ decimal request.setup ∷ decimal request.bandwidth
+    ∷ exclude_any ∷ include_any ∷ include_all ∷ hops_text request.hops ∷ []
+
+abbrev pub ArePutsReadBack : Type 0
+ArePutsReadBack = (link : Link) (group : List ℕ) → IsLinkInRange link → SpellsMask group link.group → row_of (put_fields link group) ≡ Ok (row.Put link)
+
+abbrev pub AreDropsReadBack : Type 0
+AreDropsReadBack = (from local : ℕ) → from < 2 ^ 32 → local < 2 ^ 32 → row_of (drop_fields from local) ≡ Ok (row.Remove from local)
+
+abbrev pub AreEndsReadBack : Type 0
+AreEndsReadBack = (number count : ℕ) → number < 2 ^ 32 → count < 2 ^ 32 → row_of (end_fields number count) ≡ Ok (row.End number count)
+
+abbrev pub AreAsksReadBack : Type 0
+AreAsksReadBack =
+    (request : Request) (exclude_any include_any include_all : List ℕ) → IsRequestInRange request
+    → SpellsMask exclude_any request.exclude_any → SpellsMask include_any request.include_any → SpellsMask include_all request.include_all
+    → row_of (ask_fields request exclude_any include_any include_all) ≡ Ok (row.Ask request)

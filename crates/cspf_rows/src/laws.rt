@@ -1,0 +1,30 @@
+ghost use Rattle.cspf_rows.specs.Says.{AreRowsRead, SaysOneRow};
+ghost use Rattle.cspf_rows.specs.Written.{ArePutsReadBack, AreDropsReadBack, AreEndsReadBack, AreAsksReadBack};
+
+use cspf_addr::{
+    addresses_are_spelled_once, hop_lists_are_read_back, masks_are_spelled,
+    numbers_are_spelled_once,
+};
+
+/// Law: a record is read as a row exactly where it says that row, and it says one row at most.
+pub fn rows_are_read()
+    ensures read { AreRowsRead }
+    ensures one { SaysOneRow }
+{
+    numbers_are_spelled_once();
+    addresses_are_spelled_once();
+    masks_are_spelled();
+}
+
+/// Law: the record that is written for a row is read as that row.
+pub fn rows_are_read_back()
+    ensures puts { ArePutsReadBack }
+    ensures drops { AreDropsReadBack }
+    ensures ends { AreEndsReadBack }
+    ensures asks { AreAsksReadBack }
+{
+    numbers_are_spelled_once();
+    addresses_are_spelled_once();
+    masks_are_spelled();
+    hop_lists_are_read_back();
+}
