@@ -8,13 +8,14 @@ use Rattle.std.specs.Int.{w32, to_be_bytes, from_be_bytes}
 use Rattle.std.specs.List.{join_with_byte}
 use Rattle.std.specs.Option.{option_and_then, option_map}
 use Rattle.std.specs.Result.{result_ok}
-use Rattle.cspf_addr.specs.Spelling.{spelling, text_before, text_after, octet_of, octets_of, address_of, AreAddressesSpelledOnce, IsSpellingInjective}
+use Rattle.cspf_addr.specs.AddressText.{address_text, text_before, text_after, octet_of, octets_of, address_of, AreAddressesSpelledOnce, IsAddressTextInjective}
 use Rattle.cspf_addr.proofs.CutLemmas.{Lacks, Lacks-digits, before-front, after-front, cut_whole}
 use Rattle.cspf_addr.proofs.Readers.{ok_spelled, only_spelled}
 use Rattle.cspf_addr.proofs.NumberLemmas.{own, chosen, number_of-spelled, number_of-decimal}
 
 -- the first step of two that gave a value
-pub first_step : {A B : Type 0} (o : Option A) (f : A → Option B) (y : B) → option_and_then f o ≡ Some y → (x : A) × (o ≡ Some x) × (f x ≡ Some y)
+pub first_step : {A B : Type 0} (o : Option A) (f : A → Option B) (y : B)
+    → option_and_then f o ≡ Some y → (x : A) × (o ≡ Some x) × (f x ≡ Some y)
 first_step None f y found = absurd (cc)
 first_step (Some x) f y found = (x, refl, found)
 
@@ -32,7 +33,8 @@ unfolding octet_of
 octet_of-decimal n small = rw (number_of-decimal n (omega arith), lt-ltb n 256 small) refl
 
 -- what a map of a value that is there came from
-mapped : {A B : Type 0} (f : A → B) (o : Option A) (y : B) → option_map f o ≡ Some y → (x : A) × (o ≡ Some x) × (f x ≡ y)
+mapped : {A B : Type 0} (f : A → B) (o : Option A) (y : B) → option_map f o ≡ Some y
+    → (x : A) × (o ≡ Some x) × (f x ≡ y)
 mapped f None y found = absurd (cc)
 mapped f (Some x) y found = (x, refl, cc)
 
@@ -80,7 +82,8 @@ record Spelled (text all : List ℕ) : Type 0 where
   octets : all ≡ a ∷ b ∷ c ∷ d ∷ []
   whole : text ≡ decimal a ++ 46 ∷ (decimal b ++ 46 ∷ (decimal c ++ 46 ∷ decimal d))
 
-behind_mark : (text : List ℕ) (a : ℕ) (rest : List ℕ) → octet_of (text_before 46 text) ≡ Some a → text_after 46 text ≡ rest → 0 < length rest → (a < 256) × (text ≡ decimal a ++ 46 ∷ rest)
+behind_mark : (text : List ℕ) (a : ℕ) (rest : List ℕ) → octet_of (text_before 46 text) ≡ Some a
+    → text_after 46 text ≡ rest → 0 < length rest → (a < 256) × (text ≡ decimal a ++ 46 ∷ rest)
 behind_mark text a rest found after some =
     let spelled = octet_of-spelled (text_before 46 text) a found in
     let cut = cut_whole 46 text (rw after some) in
@@ -114,7 +117,8 @@ octets_spelled text all found =
     }
 
 -- each of four octets is a byte
-four_small : (a b c d : ℕ) → a < 256 → b < 256 → c < 256 → d < 256 → (i : ℕ) → get_or (a ∷ b ∷ c ∷ d ∷ []) i 0 < 256
+four_small : (a b c d : ℕ) → a < 256 → b < 256 → c < 256 → d < 256 → (i : ℕ)
+    → get_or (a ∷ b ∷ c ∷ d ∷ []) i 0 < 256
 four_small a b c d ha hb hc hd zero = ha
 four_small a b c d ha hb hc hd (suc zero) = hb
 four_small a b c d ha hb hc hd (suc (suc zero)) = hc
@@ -122,14 +126,17 @@ four_small a b c d ha hb hc hd (suc (suc (suc zero))) = hd
 four_small a b c d ha hb hc hd (suc (suc (suc (suc i)))) = lit< tt
 
 -- the number of four octets, and the octets of that number
-four_number : (a b c d n : ℕ) → a < 256 → b < 256 → c < 256 → d < 256 → from_be_bytes w32 (a ∷ b ∷ c ∷ d ∷ []) ≡ n → (n < 2 ^ 32) × (to_be_bytes w32 n ≡ a ∷ b ∷ c ∷ d ∷ [])
+four_number : (a b c d n : ℕ) → a < 256 → b < 256 → c < 256 → d < 256
+    → from_be_bytes w32 (a ∷ b ∷ c ∷ d ∷ []) ≡ n
+    → (n < 2 ^ 32) × (to_be_bytes w32 n ≡ a ∷ b ∷ c ∷ d ∷ [])
 four_number a b c d n ha hb hc hd same = (
   omega (arith, same),
   be_bytes_4 (a ∷ b ∷ c ∷ d ∷ []) n refl (four_small a b c d ha hb hc hd) (sym same),
 )
 
-pub address_of-spelled : (text : List ℕ) (n : ℕ) → address_of text ≡ Some n → (n < 2 ^ 32) × (text ≡ spelling n)
-unfolding address_of spelling
+pub address_of-spelled : (text : List ℕ) (n : ℕ) → address_of text ≡ Some n
+    → (n < 2 ^ 32) × (text ≡ address_text n)
+unfolding address_of address_text
 address_of-spelled text n found =
     let four = mapped (from_be_bytes w32) (octets_of text) n found in
     let spelled = octets_spelled text four.0 four.1 in
@@ -140,7 +147,8 @@ lacks_point : (n : ℕ) → n < 256 → Lacks 46 (decimal n)
 lacks_point n small = Lacks-digits 46 (decimal n) (lit< tt) (digits_decimal own n (omega arith))
 
 -- what is written for four octets is read as those
-octets_of-written : (a b c d : ℕ) → a < 256 → b < 256 → c < 256 → d < 256 → octets_of (decimal a ++ 46 ∷ (decimal b ++ 46 ∷ (decimal c ++ 46 ∷ decimal d))) ≡ Some (a ∷ b ∷ c ∷ d ∷ [])
+octets_of-written : (a b c d : ℕ) → a < 256 → b < 256 → c < 256 → d < 256
+    → octets_of (decimal a ++ 46 ∷ (decimal b ++ 46 ∷ (decimal c ++ 46 ∷ decimal d))) ≡ Some (a ∷ b ∷ c ∷ d ∷ [])
 unfolding octets_of
 octets_of-written a b c d ha hb hc hd =
     let text1 = decimal b ++ 46 ∷ (decimal c ++ 46 ∷ decimal d) in
@@ -159,31 +167,41 @@ octets_of-written a b c d ha hb hc hd =
     ) refl
 
 -- the address of the text that is written for one is that address
-pub address_of-spelling : (n : ℕ) → n < 2 ^ 32 → address_of (spelling n) ≡ Some n
-unfolding address_of spelling
-address_of-spelling n small =
-    ap (option_map (from_be_bytes w32)) (octets_of-written (n / 256 ^ 3 % 256) (n / 256 ^ 2 % 256) (n / 256 ^ 1 % 256) (n % 256) (omega arith) (omega arith) (omega arith) (omega arith))
+pub address_of-address_text : (n : ℕ) → n < 2 ^ 32 → address_of (address_text n) ≡ Some n
+unfolding address_of address_text
+address_of-address_text n small =
+    ap (option_map (from_be_bytes w32))
+    (octets_of-written (n / 256 ^ 3 % 256) (n / 256 ^ 2 % 256) (n / 256 ^ 1 % 256) (n % 256) (omega arith) (omega arith) (omega arith) (omega arith))
     ∙ ap Some (from_be_bytes-to_be_bytes_4 n small)
 
 -- a text spells an address exactly where it is what is written for it
 pub addresses_spelled_once : AreAddressesSpelledOnce
-addresses_spelled_once text n = (address_of-spelled text n, λ h. ap address_of h.1 ∙ address_of-spelling n h.0)
+addresses_spelled_once text n =
+    (address_of-spelled text n, λ h. ap address_of h.1 ∙ address_of-address_text n h.0)
 
 -- the address that was read is spelled
-pub address_ok : {E : Type 0} (text : List ℕ) (r : Result ℕ E) → result_ok r ≡ address_of text → IfOk r (λ n. text ≡ spelling n)
-address_ok text r same = ok_spelled r (address_of text) (λ n. text ≡ spelling n) same (λ n found. (address_of-spelled text n found).1)
+pub address_ok : {E : Type 0} (text : List ℕ) (r : Result ℕ E) → result_ok r ≡ address_of text
+    → IfOk r (λ n. text ≡ address_text n)
+address_ok text r same =
+    ok_spelled r (address_of text) (λ n. text ≡ address_text n) same
+    (λ n found. (address_of-spelled text n found).1)
 
 -- where none was read, none is spelled
-pub address_err : {E : Type 0} (text : List ℕ) (r : Result ℕ E) → result_ok r ≡ address_of text → OnErr r ((n : ℕ) → n < 2 ^ 32 → text ≢ spelling n)
+pub address_err : {E : Type 0} (text : List ℕ) (r : Result ℕ E) → result_ok r ≡ address_of text
+    → OnErr r ((n : ℕ) → n < 2 ^ 32 → text ≢ address_text n)
 address_err text (Ok n) same = tt
-address_err text (Err e) same = λ n small spelled. let found = ap address_of spelled ∙ address_of-spelling n small in cc
+address_err text (Err e) same =
+    λ n small spelled. let found = ap address_of spelled ∙ address_of-address_text n small in cc
 
 -- the address that is spelled was read
-pub address_only : {E : Type 0} (text : List ℕ) (r : Result ℕ E) → result_ok r ≡ address_of text → (n : ℕ) → n < 2 ^ 32 → text ≡ spelling n → r ≡ Ok n
-address_only text r same n small spelled = only_spelled r (address_of text) same n (ap address_of spelled ∙ address_of-spelling n small)
+pub address_only : {E : Type 0} (text : List ℕ) (r : Result ℕ E) → result_ok r ≡ address_of text
+    → (n : ℕ) → n < 2 ^ 32 → text ≡ address_text n → r ≡ Ok n
+address_only text r same n small spelled =
+    only_spelled r (address_of text) same n
+    (ap address_of spelled ∙ address_of-address_text n small)
 
 -- two addresses are never spelled alike
-pub spelling_injective : IsSpellingInjective
+pub spelling_injective : IsAddressTextInjective
 spelling_injective m n small_m small_n same =
-    let found : Some m ≡ Some n = sym (address_of-spelling m small_m) ∙ (ap address_of same ∙ address_of-spelling n small_n) in
+    let found : Some m ≡ Some n = sym (address_of-address_text m small_m) ∙ (ap address_of same ∙ address_of-address_text n small_n) in
     cc

@@ -8,40 +8,53 @@ use Rattle.std.specs.Str.Parse.{AllDigits}
 use Rattle.std.proofs.Math.Seq.{take-length}
 use Rattle.std.proofs.Math.Numerals.{one-add}
 use Rattle.std.specs.List.{position, position_or_len, AllByRecursion}
-use Rattle.cspf_addr.specs.Spelling.{text_before, text_after}
+use Rattle.cspf_addr.specs.AddressText.{text_before, text_after}
 
-place_some : (place whole at : ℕ) (b : Bool) → ltb place whole ≡ b → cond b (Some place) None ≡ Some at → (place ≡ at) × (at < whole)
-place_some place whole at true test found = let same : place ≡ at = cc in (same, rw same at (ltb-true _ _ test))
+place_some : (place whole at : ℕ) (b : Bool) → ltb place whole ≡ b
+    → cond b (Some place) None ≡ Some at → (place ≡ at) × (at < whole)
+place_some place whole at true test found =
+    let same : place ≡ at = cc in (same, rw same at (ltb-true _ _ test))
 place_some place whole at false test found = absurd (cc)
 
-place_none : (place whole : ℕ) (b : Bool) → ltb place whole ≡ b → place ≤ whole → cond b (Some place) None ≡ None → place ≡ whole
+place_none : (place whole : ℕ) (b : Bool) → ltb place whole ≡ b → place ≤ whole
+    → cond b (Some place) None ≡ None → place ≡ whole
 place_none place whole true test most found = absurd (cc)
 place_none place whole false test most found = omega (arith, ltb-false _ _ test)
 
 -- where a byte is found, it is the first of its kind
-pub position_some : (mark : ℕ) (text : List ℕ) (at : ℕ) → position (λ byte. eqb byte mark) text ≡ Some at → (position_or_len (λ byte. eqb byte mark) text ≡ at) × (at < length text)
+pub position_some : (mark : ℕ) (text : List ℕ) (at : ℕ)
+    → position (λ byte. eqb byte mark) text ≡ Some at
+    → (position_or_len (λ byte. eqb byte mark) text ≡ at) × (at < length text)
 position_some mark text at found = place_some _ _ at _ refl found
 
 -- where none is found, the whole text has none
-pub position_none : (mark : ℕ) (text : List ℕ) → position (λ byte. eqb byte mark) text ≡ None → position_or_len (λ byte. eqb byte mark) text ≡ length text
+pub position_none : (mark : ℕ) (text : List ℕ) → position (λ byte. eqb byte mark) text ≡ None
+    → position_or_len (λ byte. eqb byte mark) text ≡ length text
 position_none mark text found = place_none _ _ _ refl (prefix_len-le-length _ text) found
 
 -- the part of a text up to the byte that was found
-pub before_some : (mark : ℕ) (text : List ℕ) (at : ℕ) → position (λ byte. eqb byte mark) text ≡ Some at → take at text ≡ text_before mark text
+pub before_some : (mark : ℕ) (text : List ℕ) (at : ℕ)
+    → position (λ byte. eqb byte mark) text ≡ Some at → take at text ≡ text_before mark text
 unfolding text_before
 before_some mark text at found = ap (λ n. take n text) (sym (position_some mark text at found).0)
 
 -- and the part behind it
-pub after_some : (mark : ℕ) (text : List ℕ) (at : ℕ) → position (λ byte. eqb byte mark) text ≡ Some at → take (length text - (at + 1)) (drop (at + 1) text) ≡ text_after mark text
+pub after_some : (mark : ℕ) (text : List ℕ) (at : ℕ)
+    → position (λ byte. eqb byte mark) text ≡ Some at
+    → take (length text - (at + 1)) (drop (at + 1) text) ≡ text_after mark text
 unfolding text_after
-after_some mark text at found = take_rest text (at + 1) ∙ ap (λ n. drop (n + 1) text) (sym (position_some mark text at found).0)
+after_some mark text at found =
+    take_rest text (at + 1) ∙ ap (λ n. drop (n + 1) text) (sym (position_some mark text at found).0)
 
 -- the same where no such byte was found
-pub before_none : (mark : ℕ) (text : List ℕ) → position (λ byte. eqb byte mark) text ≡ None → text ≡ text_before mark text
+pub before_none : (mark : ℕ) (text : List ℕ) → position (λ byte. eqb byte mark) text ≡ None
+    → text ≡ text_before mark text
 unfolding text_before
-before_none mark text found = sym (take-length text) ∙ ap (λ n. take n text) (sym (position_none mark text found))
+before_none mark text found =
+    sym (take-length text) ∙ ap (λ n. take n text) (sym (position_none mark text found))
 
-pub after_none : (mark : ℕ) (text : List ℕ) → position (λ byte. eqb byte mark) text ≡ None → [] ≡ text_after mark text
+pub after_none : (mark : ℕ) (text : List ℕ) → position (λ byte. eqb byte mark) text ≡ None
+    → [] ≡ text_after mark text
 unfolding text_after
 after_none mark text found = sym (drop_all _ text (omega (arith, position_none mark text found)))
 
@@ -52,42 +65,56 @@ Lacks mark text = AllByRecursion (λ byte. byte ≢ mark) text
 -- digits hold no byte that is no digit
 pub Lacks-digits : (mark : ℕ) (text : List ℕ) → mark < 48 → AllDigits 10 text → Lacks mark text
 Lacks-digits mark [] low digits = tt
-Lacks-digits mark (byte ∷ rest) low digits = (λ same. omega (arith, same, digit_from_value byte digits.0), Lacks-digits mark rest low digits.1)
+Lacks-digits mark (byte ∷ rest) low digits =
+    (λ same. omega (arith, same, digit_from_value byte digits.0), Lacks-digits mark rest low digits.1)
 
 -- the first mark stands behind a text with none
-position-front : (mark : ℕ) (front back : List ℕ) → Lacks mark front → position_or_len (λ byte. eqb byte mark) (front ++ mark ∷ back) ≡ length front
+position-front : (mark : ℕ) (front back : List ℕ) → Lacks mark front
+    → position_or_len (λ byte. eqb byte mark) (front ++ mark ∷ back) ≡ length front
 position-front mark [] back lacks = rw (eq-eqb mark mark refl) refl
-position-front mark (byte ∷ front) back lacks = rw (ne_eqb byte mark lacks.0, position-front mark front back lacks.1) (one-add (length front))
+position-front mark (byte ∷ front) back lacks =
+    rw (ne_eqb byte mark lacks.0, position-front mark front back lacks.1) (one-add (length front))
 
-drop_behind : (mark : ℕ) (front back : List ℕ) → drop (length front + 1) (front ++ mark ∷ back) ≡ back
+drop_behind : (mark : ℕ) (front back : List ℕ)
+    → drop (length front + 1) (front ++ mark ∷ back) ≡ back
 drop_behind mark front back = rw add-one (behind mark front back)
   where
-    behind : (mark : ℕ) (front back : List ℕ) → drop (suc (length front)) (front ++ mark ∷ back) ≡ back
+    behind : (mark : ℕ) (front back : List ℕ)
+        → drop (suc (length front)) (front ++ mark ∷ back) ≡ back
     behind mark [] back = refl
     behind mark (byte ∷ front) back = behind mark front back
 
 -- a text cut at a mark behind a text with none
-pub before-front : (mark : ℕ) (front back : List ℕ) → Lacks mark front → text_before mark (front ++ mark ∷ back) ≡ front
+pub before-front : (mark : ℕ) (front back : List ℕ) → Lacks mark front
+    → text_before mark (front ++ mark ∷ back) ≡ front
 unfolding text_before
-before-front mark front back lacks = take_at front (mark ∷ back) _ (sym (position-front mark front back lacks))
+before-front mark front back lacks =
+    take_at front (mark ∷ back) _ (sym (position-front mark front back lacks))
 
-pub after-front : (mark : ℕ) (front back : List ℕ) → Lacks mark front → text_after mark (front ++ mark ∷ back) ≡ back
+pub after-front : (mark : ℕ) (front back : List ℕ) → Lacks mark front
+    → text_after mark (front ++ mark ∷ back) ≡ back
 unfolding text_after
 after-front mark front back lacks =
-    ap (λ at. drop (at + 1) (front ++ mark ∷ back)) (position-front mark front back lacks) ∙ drop_behind mark front back
+    ap (λ at. drop (at + 1) (front ++ mark ∷ back)) (position-front mark front back lacks)
+    ∙ drop_behind mark front back
 
 -- a text with something behind its first mark, whole again
-pub cut_whole : (mark : ℕ) (text : List ℕ) → 0 < length (text_after mark text) → text ≡ text_before mark text ++ mark ∷ text_after mark text
+pub cut_whole : (mark : ℕ) (text : List ℕ) → 0 < length (text_after mark text)
+    → text ≡ text_before mark text ++ mark ∷ text_after mark text
 unfolding text_before text_after
 cut_whole mark text some =
     let within : position_or_len (λ byte. eqb byte mark) text < length text = inside mark text some in
     let at : get_or text (position_or_len (λ byte. eqb byte mark) text) 0 ≡ mark = eqb-true _ _ (passes_at_first (λ byte. eqb byte mark) text 0 within) in
     rw at at (split_at_first (λ byte. eqb byte mark) text 0 within)
   where
-    inside : (mark : ℕ) (text : List ℕ) → 0 < length (drop (position_or_len (λ byte. eqb byte mark) text + 1) text) → position_or_len (λ byte. eqb byte mark) text < length text
+    inside : (mark : ℕ) (text : List ℕ)
+        → 0 < length (drop (position_or_len (λ byte. eqb byte mark) text + 1) text)
+        → position_or_len (λ byte. eqb byte mark) text < length text
     inside mark text some = omega (arith, simp length-drop at some)
 
 -- a text with something in front of a byte that is none of its kind
-pub Lacks-append : (mark : ℕ) (front back : List ℕ) → Lacks mark front → Lacks mark back → Lacks mark (front ++ back)
+pub Lacks-append : (mark : ℕ) (front back : List ℕ) → Lacks mark front → Lacks mark back
+    → Lacks mark (front ++ back)
 Lacks-append mark [] back lacks_front lacks_back = lacks_back
-Lacks-append mark (byte ∷ front) back lacks_front lacks_back = (lacks_front.0, Lacks-append mark front back lacks_front.1 lacks_back)
+Lacks-append mark (byte ∷ front) back lacks_front lacks_back =
+    (lacks_front.0, Lacks-append mark front back lacks_front.1 lacks_back)

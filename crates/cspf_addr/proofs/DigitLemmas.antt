@@ -29,25 +29,31 @@ are_digits-AllDigits base [] h = refl
 are_digits-AllDigits base (c ∷ cs) h = both_true (lt-ltb _ _ h.0) (are_digits-AllDigits base cs h.1)
 
 -- each byte of digits is one
-pub AllDigits-at : (base : ℕ) (ds : List ℕ) (i : ℕ) → AllDigits base ds → i < length ds → digit_value (get_or ds i 0) < base
+pub AllDigits-at : (base : ℕ) (ds : List ℕ) (i : ℕ) → AllDigits base ds → i < length ds
+    → digit_value (get_or ds i 0) < base
 AllDigits-at base [] i h within = absurd (omega arith)
 AllDigits-at base (c ∷ cs) zero h within = h.0
 AllDigits-at base (c ∷ cs) (suc i) h within = AllDigits-at base cs i h.1 (omega arith)
 
 -- the value of more digits is no less
-digits_value_more_le : (base : ℕ) (text : List ℕ) (at value : ℕ) → 1 ≤ base → at < length text → value ≡ digits_value base (take at text) → value * base + digit_value (get_or text at 0) ≤ digits_value base text
+digits_value_more_le : (base : ℕ) (text : List ℕ) (at value : ℕ) → 1 ≤ base → at < length text
+    → value ≡ digits_value base (take at text)
+    → value * base + digit_value (get_or text at 0) ≤ digits_value base text
 digits_value_more_le base text at value least within same =
-    rw same (rw (← digits_value_more base text at within) (digits_value-take-le base text (at + 1) least))
+    rw same
+    (rw (← digits_value_more base text at within) (digits_value-take-le base text (at + 1) least))
 
 -- where no digit follows below 2^64, the text is no number below it
-pub digits_more_none : (base : ℕ) (text : List ℕ) (at value : ℕ) → 1 ≤ base → at < length text → value ≡ digits_value base (take at text)
+pub digits_more_none : (base : ℕ) (text : List ℕ) (at value : ℕ) → 1 ≤ base → at < length text
+    → value ≡ digits_value base (take at text)
     → (digit_value (get_or text at 0) < base → 2 ^ 64 ≤ value * base + digit_value (get_or text at 0)) → are_digits base text ≡ true → 2 ^ 64 ≤ digits_value base text
 digits_more_none base text at value least within same more all =
     let large = more (AllDigits-at base text at (AllDigits-are_digits base text all) within) in
     omega (arith, large, digits_value_more_le base text at value least within same)
 
 -- one more digit of a text
-pub digits_more_some : (base : ℕ) (text : List ℕ) (at value more : ℕ) → at < length text → AllDigits base (take at text) × (value ≡ digits_value base (take at text))
+pub digits_more_some : (base : ℕ) (text : List ℕ) (at value more : ℕ) → at < length text
+    → AllDigits base (take at text) × (value ≡ digits_value base (take at text))
     → (digit_value (get_or text at 0) < base) × (more ≡ value * base + digit_value (get_or text at 0))
     → AllDigits base (take (at + 1) text) × (more ≡ digits_value base (take (at + 1) text))
 digits_more_some base text at value more within before next = (
@@ -56,7 +62,8 @@ digits_more_some base text at value more within before next = (
 )
 
 -- the digits up to the end are the whole text
-pub digits_whole : (base : ℕ) (text : List ℕ) (at value : ℕ) → length text ≤ at → AllDigits base (take at text) × (value ≡ digits_value base (take at text))
+pub digits_whole : (base : ℕ) (text : List ℕ) (at value : ℕ) → length text ≤ at
+    → AllDigits base (take at text) × (value ≡ digits_value base (take at text))
     → (are_digits base text ≡ true) × (value ≡ digits_value base text)
 digits_whole base text at value end before =
     let whole : take at text ≡ text = take_all at text end in

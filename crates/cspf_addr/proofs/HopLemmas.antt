@@ -4,11 +4,11 @@ use Rattle.std.proofs.lemmas.List.{take_at, take_all, take_more, length_push}
 use Rattle.std.proofs.lemmas.Bool.{eqb-true}
 use Rattle.std.specs.Option.{option_and_then}
 use Rattle.std.specs.Result.{result_ok}
-use Rattle.cspf_addr.specs.declared.prefixes.PrefixError.{PrefixError}
+use Rattle.cspf_addr.specs.declared.prefix.PrefixError.{PrefixError}
 use Rattle.cspf_addr.specs.PrefixParts.{PrefixParts}
 use Rattle.cspf_addr.specs.Prefixes.{prefix_of, prefix_text}
 use Rattle.cspf_addr.specs.HopText.{hop_letter, loose_of, hop_of, hop_text, IsHopText, AreHopTextsRead, AreHopsReadBack}
-use Rattle.cspf_addr.specs.declared.single_hop.Hop.{Hop}
+use Rattle.cspf_addr.specs.declared.hop.Hop.{Hop}
 use Rattle.cspf_addr.proofs.PrefixLemmas.{prefix_of-prefix_text}
 
 nothing_after : {A B : Type 0} (first : Option A) → option_and_then {U = B} (λ _. None) first ≡ None
@@ -27,19 +27,22 @@ unfolding loose_of
 loose_of-letter true = refl
 loose_of-letter false = refl
 
-last_byte : (front : List ℕ) (letter : ℕ) → get_or (front ++ (letter ∷ [])) (length front) 0 ≡ letter
+last_byte : (front : List ℕ) (letter : ℕ)
+    → get_or (front ++ (letter ∷ [])) (length front) 0 ≡ letter
 last_byte [] letter = refl
 last_byte (byte ∷ front) letter = last_byte front letter
 
 -- a prefix and the letter of a hop are read as the hop
-hop_of-front : (front : List ℕ) (hop : Hop) → prefix_of front ≡ Ok hop.prefix → hop_of (front ++ (hop_letter hop.loose ∷ [])) ≡ Some hop
+hop_of-front : (front : List ℕ) (hop : Hop) → prefix_of front ≡ Ok hop.prefix
+    → hop_of (front ++ (hop_letter hop.loose ∷ [])) ≡ Some hop
 unfolding hop_of
 hop_of-front front hop read =
     let at : length (front ++ (hop_letter hop.loose ∷ [])) - 1 ≡ length front = omega (arith, length_push front (hop_letter hop.loose)) in
     rw (at, take_at front (hop_letter hop.loose ∷ []) (length front) refl, read, last_byte front (hop_letter hop.loose), loose_of-letter hop.loose) refl
 
 -- what the two steps of a reader of hops gave
-two_steps : (found : Result PrefixParts PrefixError) (letter : Option Bool) (hop : Hop) → option_and_then (λ prefix. option_and_then (λ loose. Some (record { prefix = prefix; loose = loose })) letter) (result_ok found) ≡ Some hop
+two_steps : (found : Result PrefixParts PrefixError) (letter : Option Bool) (hop : Hop)
+    → option_and_then (λ prefix. option_and_then (λ loose. Some (record { prefix = prefix; loose = loose })) letter) (result_ok found) ≡ Some hop
     → (found ≡ Ok hop.prefix) × (letter ≡ Some hop.loose)
 two_steps (Ok prefix) (Some loose) hop same =
     let whole : record { prefix = prefix; loose = loose } ≡ hop = cc in
@@ -47,8 +50,10 @@ two_steps (Ok prefix) (Some loose) hop same =
 two_steps (Ok prefix) None hop same = absurd (cc)
 two_steps (Err e) letter hop same = absurd (cc)
 
-letter_cases : (letter : ℕ) (is_loose is_strict loose : Bool) → eqb letter 108 ≡ is_loose → eqb letter 115 ≡ is_strict
-    → cond is_loose (Some true) (cond is_strict (Some false) None) ≡ Some loose → letter ≡ hop_letter loose
+letter_cases : (letter : ℕ) (is_loose is_strict loose : Bool) → eqb letter 108 ≡ is_loose
+    → eqb letter 115 ≡ is_strict
+    → cond is_loose (Some true) (cond is_strict (Some false) None) ≡ Some loose
+    → letter ≡ hop_letter loose
 letter_cases letter true is_strict true first second found = eqb-true letter 108 first
 letter_cases letter true is_strict false first second found = absurd (cc)
 letter_cases letter false true true first second found = absurd (cc)
@@ -56,14 +61,17 @@ letter_cases letter false true false first second found = eqb-true letter 115 se
 letter_cases letter false false loose first second found = absurd (cc)
 
 -- a letter that is read is that of the hop
-letter_of-loose : (letter : ℕ) (loose : Bool) → loose_of letter ≡ Some loose → letter ≡ hop_letter loose
+letter_of-loose : (letter : ℕ) (loose : Bool) → loose_of letter ≡ Some loose
+    → letter ≡ hop_letter loose
 unfolding loose_of
 letter_of-loose letter loose found = letter_cases letter _ _ loose refl refl found
 
 -- a text is all but its last byte, and that byte
-all_but_last : (text : List ℕ) → 0 < length text → text ≡ take (length text - 1) text ++ (get_or text (length text - 1) 0 ∷ [])
+all_but_last : (text : List ℕ) → 0 < length text
+    → text ≡ take (length text - 1) text ++ (get_or text (length text - 1) 0 ∷ [])
 all_but_last text some =
-    sym (take_all (length text - 1 + 1) text (omega arith)) ∙ take_more text (length text - 1) 0 (omega arith)
+    sym (take_all (length text - 1 + 1) text (omega arith))
+    ∙ take_more text (length text - 1) 0 (omega arith)
 
 letter_some : (loose : Bool) → 0 < hop_letter loose
 letter_some true = lit< tt
@@ -82,16 +90,19 @@ hop_of-text text hop found =
     let some = some_text text (omega (arith, letter, letter_some hop.loose)) in
     record {
       front = take (length text - 1) text;
-      whole = all_but_last text some ∙ ap (λ byte. take (length text - 1) text ++ (byte ∷ [])) letter;
+      whole =
+          all_but_last text some ∙ ap (λ byte. take (length text - 1) text ++ (byte ∷ [])) letter;
       prefix = steps.0;
     }
 
 -- a text is read as a hop exactly where it is a prefix and the letter of the hop
 pub hop_texts_read : AreHopTextsRead
-hop_texts_read text hop = (hop_of-text text hop, λ h. ap hop_of h.whole ∙ hop_of-front h.front hop h.prefix)
+hop_texts_read text hop =
+    (hop_of-text text hop, λ h. ap hop_of h.whole ∙ hop_of-front h.front hop h.prefix)
 
 -- a hop is read back where its prefix is
-pub hop_of-written : (hop : Hop) → prefix_of (prefix_text hop.prefix) ≡ Ok hop.prefix → hop_of (hop_text hop) ≡ Some hop
+pub hop_of-written : (hop : Hop) → prefix_of (prefix_text hop.prefix) ≡ Ok hop.prefix
+    → hop_of (hop_text hop) ≡ Some hop
 unfolding hop_text
 hop_of-written hop read = hop_of-front (prefix_text hop.prefix) hop read
 

@@ -6,4 +6,5 @@ pub mod AddressLemmas
 pub mod MaskLemmas
 pub mod PrefixLemmas
 pub mod HopLemmas
+pub mod HopPartLemmas
 pub mod HopListLemmas

@@ -21,17 +21,23 @@ use Rattle.cspf_addr.proofs.NumberLemmas.{chosen}
 use Rattle.cspf_addr.proofs.Readers.{ok_spelled, err_unspelled, only_spelled}
 
 -- eight hexadecimal digits are below 2^32
-pub short_value : (digits : List ℕ) → length digits ≤ 8 → are_digits 16 digits ≡ true → digits_value 16 digits < 2 ^ 32
+pub short_value : (digits : List ℕ) → length digits ≤ 8 → are_digits 16 digits ≡ true
+    → digits_value 16 digits < 2 ^ 32
 short_value digits short all =
     let most : 16 ^ length digits ≤ 16 ^ 8 = pow-le-pow_right (lit< tt) short in
     omega (arith, most, digits_value-lt 16 digits (AllDigits-are_digits 16 digits all))
 
 -- where the digits are none, or too large, there is none of them
-pub word_none : (digits : List ℕ) → length digits ≤ 8 → (are_digits 16 digits ≡ true → 2 ^ 64 ≤ digits_value 16 digits) → None ≡ cond (are_digits 16 digits) (Some (digits_value 16 digits)) None
+pub word_none : (digits : List ℕ) → length digits ≤ 8
+    → (are_digits 16 digits ≡ true → 2 ^ 64 ≤ digits_value 16 digits)
+    → None ≡ cond (are_digits 16 digits) (Some (digits_value 16 digits)) None
 word_none digits short large = refused _ digits refl short large
   where
-    refused : (b : Bool) (digits : List ℕ) → are_digits 16 digits ≡ b → length digits ≤ 8 → (b ≡ true → 2 ^ 64 ≤ digits_value 16 digits) → None ≡ cond b (Some (digits_value 16 digits)) None
-    refused true digits all short large = absurd (omega (arith, large refl, short_value digits short all))
+    refused : (b : Bool) (digits : List ℕ) → are_digits 16 digits ≡ b → length digits ≤ 8
+        → (b ≡ true → 2 ^ 64 ≤ digits_value 16 digits)
+        → None ≡ cond b (Some (digits_value 16 digits)) None
+    refused true digits all short large =
+        absurd (omega (arith, large refl, short_value digits short all))
     refused false digits all short large = refl
 
 mask_of-spelled : (text : List ℕ) (n : ℕ) → mask_of text ≡ Some n → SpellsMask text n
@@ -51,28 +57,34 @@ mask_of-spelled text n found =
       value = sym choice.1;
     }
 
-mask_of-digits : (digits : List ℕ) → 1 ≤ length digits → length digits ≤ 8 → are_digits 16 digits ≡ true → mask_of (codes "0x" ++ digits) ≡ Some (digits_value 16 digits)
+mask_of-digits : (digits : List ℕ) → 1 ≤ length digits → length digits ≤ 8
+    → are_digits 16 digits ≡ true → mask_of (codes "0x" ++ digits) ≡ Some (digits_value 16 digits)
 unfolding mask_of
-mask_of-digits digits some most all = rw (lt-ltb 0 (length digits) some, le-leb (length digits) 8 most, all) refl
+mask_of-digits digits some most all =
+    rw (lt-ltb 0 (length digits) some, le-leb (length digits) 8 most, all) refl
 
 mask_of-spells : (text : List ℕ) (n : ℕ) → SpellsMask text n → mask_of text ≡ Some n
 mask_of-spells text n spells =
-    ap mask_of spells.whole ∙ (mask_of-digits spells.digits spells.some spells.most spells.hexadecimal ∙ ap Some (sym spells.value))
+    ap mask_of spells.whole
+    ∙ (mask_of-digits spells.digits spells.some spells.most spells.hexadecimal ∙ ap Some (sym spells.value))
 
 -- the masks that are read are those that are spelled
 pub masks_read : AreMasksRead
 masks_read text n = (mask_of-spelled text n, mask_of-spells text n)
 
 -- the mask that was read is spelled
-pub mask_ok : {E : Type 0} (text : List ℕ) (r : Result ℕ E) → result_ok r ≡ mask_of text → IfOk r (SpellsMask text)
+pub mask_ok : {E : Type 0} (text : List ℕ) (r : Result ℕ E) → result_ok r ≡ mask_of text
+    → IfOk r (SpellsMask text)
 mask_ok text r same = ok_spelled r (mask_of text) (SpellsMask text) same (mask_of-spelled text)
 
 -- where none was read, none is spelled
-pub mask_err : {E : Type 0} (text : List ℕ) (r : Result ℕ E) → result_ok r ≡ mask_of text → OnErr r ((n : ℕ) → SpellsMask text n → ⊥)
+pub mask_err : {E : Type 0} (text : List ℕ) (r : Result ℕ E) → result_ok r ≡ mask_of text
+    → OnErr r ((n : ℕ) → SpellsMask text n → ⊥)
 mask_err text r same = err_unspelled r (mask_of text) (SpellsMask text) same (mask_of-spells text)
 
 -- the mask that is spelled was read
-pub mask_only : {E : Type 0} (text : List ℕ) (r : Result ℕ E) → result_ok r ≡ mask_of text → (n : ℕ) → SpellsMask text n → r ≡ Ok n
+pub mask_only : {E : Type 0} (text : List ℕ) (r : Result ℕ E) → result_ok r ≡ mask_of text → (n : ℕ)
+    → SpellsMask text n → r ≡ Ok n
 mask_only text r same n spells = only_spelled r (mask_of text) same n (mask_of-spells text n spells)
 
 -- a text spells one mask at most
@@ -89,11 +101,14 @@ glyph_value d small = grind (arith, nat_tests)
 abbrev halves : ℕ → List ℕ
 halves byte = byte / 16 ∷ byte % 16 ∷ []
 
-glyph_values : (bytes : List ℕ) → AllByRecursion (λ byte. byte < 256) bytes → map digit_value (flat_map byte_digits bytes) ≡ flat_map halves bytes
+glyph_values : (bytes : List ℕ) → AllByRecursion (λ byte. byte < 256) bytes
+    → map digit_value (flat_map byte_digits bytes) ≡ flat_map halves bytes
 glyph_values [] small = refl
-glyph_values (byte ∷ bytes) small = rw (glyph_value (byte / 16) (omega (arith, small.0)), glyph_value (byte % 16) (omega arith), glyph_values bytes small.1) refl
+glyph_values (byte ∷ bytes) small =
+    rw (glyph_value (byte / 16) (omega (arith, small.0)), glyph_value (byte % 16) (omega arith), glyph_values bytes small.1) refl
 
-glyph_digits : (bytes : List ℕ) → AllByRecursion (λ byte. byte < 256) bytes → AllDigits 16 (flat_map byte_digits bytes)
+glyph_digits : (bytes : List ℕ) → AllByRecursion (λ byte. byte < 256) bytes
+    → AllDigits 16 (flat_map byte_digits bytes)
 glyph_digits [] small = tt
 glyph_digits (byte ∷ bytes) small = (
   omega (arith, glyph_value (byte / 16) (omega (arith, small.0)), small.0),
@@ -101,10 +116,12 @@ glyph_digits (byte ∷ bytes) small = (
 )
 
 -- the number of hexadecimal digits is that of the bytes
-halves_number : (n : ℕ) (bytes : List ℕ) → number_from_digits_after 16 n (flat_map halves bytes) ≡ number_from_digits_after 256 n bytes
+halves_number : (n : ℕ) (bytes : List ℕ)
+    → number_from_digits_after 16 n (flat_map halves bytes) ≡ number_from_digits_after 256 n bytes
 halves_number n [] = refl
 halves_number n (byte ∷ bytes) =
-    halves_number ((n * 16 + byte / 16) * 16 + byte % 16) bytes ∙ ap (λ m. number_from_digits_after 256 m bytes) (whole n byte)
+    halves_number ((n * 16 + byte / 16) * 16 + byte % 16) bytes
+    ∙ ap (λ m. number_from_digits_after 256 m bytes) (whole n byte)
   where
     whole : (n byte : ℕ) → (n * 16 + byte / 16) * 16 + byte % 16 ≡ n * 256 + byte
     whole n byte = omega arith
@@ -113,17 +130,24 @@ glyphs_length : (bytes : List ℕ) → length (flat_map byte_digits bytes) ≡ 2
 glyphs_length [] = refl
 glyphs_length (byte ∷ bytes) = omega (arith, glyphs_length bytes)
 
-mask_of-bytes : (bytes : List ℕ) → length bytes ≡ 4 → AllByRecursion (λ byte. byte < 256) bytes → mask_of (codes "0x" ++ flat_map byte_digits bytes) ≡ Some (number_from_digits 256 bytes)
+mask_of-bytes : (bytes : List ℕ) → length bytes ≡ 4 → AllByRecursion (λ byte. byte < 256) bytes
+    → mask_of (codes "0x" ++ flat_map byte_digits bytes) ≡ Some (number_from_digits 256 bytes)
 mask_of-bytes bytes four small =
-    mask_of-digits (flat_map byte_digits bytes) (omega (arith, glyphs_length bytes)) (omega (arith, glyphs_length bytes)) (are_digits-AllDigits 16 (flat_map byte_digits bytes) (glyph_digits bytes small))
-    ∙ ap Some (digits_value_is 16 (flat_map byte_digits bytes) ∙ (ap (number_from_digits 16) (glyph_values bytes small) ∙ halves_number 0 bytes))
+    mask_of-digits (flat_map byte_digits bytes) (omega (arith, glyphs_length bytes))
+    (omega (arith, glyphs_length bytes))
+    (are_digits-AllDigits 16 (flat_map byte_digits bytes) (glyph_digits bytes small))
+    ∙ ap Some
+    (digits_value_is 16 (flat_map byte_digits bytes) ∙ (ap (number_from_digits 16) (glyph_values bytes small) ∙ halves_number 0 bytes))
 
-same_bytes : (a b c d n : ℕ) → a * 256 ^ 3 + b * 256 ^ 2 + c * 256 ^ 1 + d ≡ n → number_from_digits 256 (a ∷ b ∷ c ∷ d ∷ []) ≡ n
+same_bytes : (a b c d n : ℕ) → a * 256 ^ 3 + b * 256 ^ 2 + c * 256 ^ 1 + d ≡ n
+    → number_from_digits 256 (a ∷ b ∷ c ∷ d ∷ []) ≡ n
 same_bytes a b c d n same = omega (arith, same)
 
 -- a mask is read back from its text
 pub mask_of-mask_text : AreMasksReadBack
 unfolding mask_text
 mask_of-mask_text bits small =
-    mask_of-bytes (to_be_bytes w32 bits) refl (omega arith, (omega arith, (omega arith, (omega arith, tt))))
-    ∙ ap Some (same_bytes (bits / 256 ^ 3 % 256) (bits / 256 ^ 2 % 256) (bits / 256 ^ 1 % 256) (bits % 256) bits (from_be_bytes-to_be_bytes_4 bits small))
+    mask_of-bytes (to_be_bytes w32 bits) refl
+    (omega arith, (omega arith, (omega arith, (omega arith, tt))))
+    ∙ ap Some
+    (same_bytes (bits / 256 ^ 3 % 256) (bits / 256 ^ 2 % 256) (bits / 256 ^ 1 % 256) (bits % 256) bits (from_be_bytes-to_be_bytes_4 bits small))

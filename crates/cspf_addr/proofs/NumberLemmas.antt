@@ -20,16 +20,19 @@ chosen true v n same = (refl, cc)
 chosen false v n same = absurd (cc)
 
 -- the first byte of several is not `0`
-plain_start : (text : List ℕ) → has_plain_start text ≡ true → (0 < length text) × (get_or text 0 0 ≡ 48 → length text ≡ 1)
+plain_start : (text : List ℕ) → has_plain_start text ≡ true
+    → (0 < length text) × (get_or text 0 0 ≡ 48 → length text ≡ 1)
 plain_start text plain = (
   ltb-true _ _ (and_parts _ _ plain).0,
   λ zero_first. one_digit text zero_first (and_parts _ _ plain).1,
 )
   where
-    one_digit : (text : List ℕ) → get_or text 0 0 ≡ 48 → (eqb (length text) 1 || not (eqb (get_or text 0 0) 48)) ≡ true → length text ≡ 1
+    one_digit : (text : List ℕ) → get_or text 0 0 ≡ 48
+        → (eqb (length text) 1 || not (eqb (get_or text 0 0) 48)) ≡ true → length text ≡ 1
     one_digit text first plain = grind (arith, nat_tests)
 
-start_plain : (text : List ℕ) → 0 < length text → (get_or text 0 0 ≡ 48 → length text ≡ 1) → has_plain_start text ≡ true
+start_plain : (text : List ℕ) → 0 < length text → (get_or text 0 0 ≡ 48 → length text ≡ 1)
+    → has_plain_start text ≡ true
 start_plain text some plain = grind (arith, nat_tests)
 
 decimal_start : (n : ℕ) → n < 2 ^ 64 → get_or (decimal n) 0 0 ≡ 48 → length (decimal n) ≡ 1
@@ -43,10 +46,12 @@ decimal_start n small first =
 pub is_decimal-decimal : (n : ℕ) → n < 2 ^ 64 → is_decimal (decimal n) ≡ true
 unfolding is_decimal
 is_decimal-decimal n small =
-    both_true (start_plain (decimal n) (decimal_nonempty n small) (decimal_start n small)) (are_digits-AllDigits 10 (decimal n) (digits_decimal own n small))
+    both_true (start_plain (decimal n) (decimal_nonempty n small) (decimal_start n small))
+    (are_digits-AllDigits 10 (decimal n) (digits_decimal own n small))
 
 -- and a decimal is what is written for its value
-pub decimal-is_decimal : (text : List ℕ) → is_decimal text ≡ true → digits_value 10 text < 2 ^ 64 → decimal (digits_value 10 text) ≡ text
+pub decimal-is_decimal : (text : List ℕ) → is_decimal text ≡ true → digits_value 10 text < 2 ^ 64
+    → decimal (digits_value 10 text) ≡ text
 unfolding is_decimal
 decimal-is_decimal text passes small =
     let parts = and_parts _ _ passes in
@@ -58,7 +63,13 @@ pub is_decimal-some : (text : List ℕ) → is_decimal text ≡ true → 0 < len
 unfolding is_decimal
 is_decimal-some text passes = (plain_start text (and_parts _ _ passes).0).0
 
-pub number_of-spelled : (text : List ℕ) (n : ℕ) → number_of text ≡ Some n → (n < 2 ^ 64) × (text ≡ decimal n)
+-- a decimal is digits only
+pub is_decimal-AllDigits : (text : List ℕ) → is_decimal text ≡ true → AllDigits 10 text
+unfolding is_decimal
+is_decimal-AllDigits text passes = AllDigits-are_digits 10 text (and_parts _ _ passes).1
+
+pub number_of-spelled : (text : List ℕ) (n : ℕ) → number_of text ≡ Some n
+    → (n < 2 ^ 64) × (text ≡ decimal n)
 unfolding number_of
 number_of-spelled text n found =
     let choice = chosen _ _ _ found in
@@ -69,33 +80,41 @@ number_of-spelled text n found =
 -- the number of the text that is written for a number is that number
 pub number_of-decimal : (n : ℕ) → n < 2 ^ 64 → number_of (decimal n) ≡ Some n
 unfolding number_of
-number_of-decimal n small = rw (is_decimal-decimal n small, digits_value-decimal own n small, lt-ltb n (2 ^ 64) small) refl
+number_of-decimal n small =
+    rw (is_decimal-decimal n small, digits_value-decimal own n small, lt-ltb n (2 ^ 64) small) refl
 
 -- a text spells a number exactly where it is what is written for it
 pub spelled_once : AreSpelledOnce
 spelled_once text n = (number_of-spelled text n, λ h. ap number_of h.1 ∙ number_of-decimal n h.0)
 
 -- a number that was read is spelled
-pub number_some : (text : List ℕ) (r : Option ℕ) → r ≡ number_of text → IfSome r (λ n. text ≡ decimal n)
+pub number_some : (text : List ℕ) (r : Option ℕ) → r ≡ number_of text
+    → IfSome r (λ n. text ≡ decimal n)
 number_some text None same = tt
 number_some text (Some n) same = (number_of-spelled text n (sym same)).1
 
 -- where none was read, none is spelled
-pub number_none : (text : List ℕ) (r : Option ℕ) → r ≡ number_of text → IfNone r ((n : ℕ) → n < 2 ^ 64 → text ≢ decimal n)
-number_none text None same = λ n small spelled. let found = ap number_of spelled ∙ number_of-decimal n small in cc
+pub number_none : (text : List ℕ) (r : Option ℕ) → r ≡ number_of text
+    → IfNone r ((n : ℕ) → n < 2 ^ 64 → text ≢ decimal n)
+number_none text None same =
+    λ n small spelled. let found = ap number_of spelled ∙ number_of-decimal n small in cc
 number_none text (Some n) same = tt
 
 -- the number that is spelled was read
-pub number_only : (text : List ℕ) (r : Option ℕ) → r ≡ number_of text → (n : ℕ) → n < 2 ^ 64 → text ≡ decimal n → r ≡ Some n
+pub number_only : (text : List ℕ) (r : Option ℕ) → r ≡ number_of text → (n : ℕ) → n < 2 ^ 64
+    → text ≡ decimal n → r ≡ Some n
 number_only text r same n small spelled = same ∙ (ap number_of spelled ∙ number_of-decimal n small)
 
-refused : (b : Bool) (value : ℕ) → (b ≡ true → 2 ^ 64 ≤ value) → None ≡ cond (b && ltb value (2 ^ 64)) (Some value) None
+refused : (b : Bool) (value : ℕ) → (b ≡ true → 2 ^ 64 ≤ value)
+    → None ≡ cond (b && ltb value (2 ^ 64)) (Some value) None
 refused true value large = rw (le-ltb value (2 ^ 64) (large refl)) refl
 refused false value large = refl
 
 -- the reader of digits, behind a plain start, reads numbers
-pub number_value : (text : List ℕ) (r : Option ℕ) → has_plain_start text ≡ true → IfSome r (λ n. (are_digits 10 text ≡ true) × (n ≡ digits_value 10 text))
-    → IfNone r (are_digits 10 text ≡ true → 2 ^ 64 ≤ digits_value 10 text) → IfSome r (λ n. n < 2 ^ 64) → r ≡ number_of text
+pub number_value : (text : List ℕ) (r : Option ℕ) → has_plain_start text ≡ true
+    → IfSome r (λ n. (are_digits 10 text ≡ true) × (n ≡ digits_value 10 text))
+    → IfNone r (are_digits 10 text ≡ true → 2 ^ 64 ≤ digits_value 10 text)
+    → IfSome r (λ n. n < 2 ^ 64) → r ≡ number_of text
 unfolding number_of is_decimal
 number_value text None plain some none small = rw plain (refused _ _ none)
 number_value text (Some n) plain some none small =

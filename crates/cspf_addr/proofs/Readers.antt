@@ -9,16 +9,19 @@ result_ok-ok_or None e = refl
 result_ok-ok_or (Some a) e = refl
 
 -- what was read is spelled
-pub ok_spelled : {A E : Type 0} (r : Result A E) (o : Option A) (Spells : A → Type 0) → result_ok r ≡ o → ((a : A) → o ≡ Some a → Spells a) → IfOk r Spells
+pub ok_spelled : {A E : Type 0} (r : Result A E) (o : Option A) (Spells : A → Type 0)
+    → result_ok r ≡ o → ((a : A) → o ≡ Some a → Spells a) → IfOk r Spells
 ok_spelled (Ok a) o Spells same spelled = spelled a (sym same)
 ok_spelled (Err e) o Spells same spelled = tt
 
 -- where nothing was read, nothing is spelled
-pub err_unspelled : {A E : Type 0} (r : Result A E) (o : Option A) (Spells : A → Type 0) → result_ok r ≡ o → ((a : A) → Spells a → o ≡ Some a) → OnErr r ((a : A) → Spells a → ⊥)
+pub err_unspelled : {A E : Type 0} (r : Result A E) (o : Option A) (Spells : A → Type 0)
+    → result_ok r ≡ o → ((a : A) → Spells a → o ≡ Some a) → OnErr r ((a : A) → Spells a → ⊥)
 err_unspelled (Ok a) o Spells same read = tt
 err_unspelled (Err e) o Spells same read = λ a spells. let found = read a spells in cc
 
 -- what is spelled was read
-pub only_spelled : {A E : Type 0} (r : Result A E) (o : Option A) → result_ok r ≡ o → (a : A) → o ≡ Some a → r ≡ Ok a
+pub only_spelled : {A E : Type 0} (r : Result A E) (o : Option A) → result_ok r ≡ o → (a : A)
+    → o ≡ Some a → r ≡ Ok a
 only_spelled (Ok b) o same a read = let found : Some b ≡ Some a = same ∙ read in cc
 only_spelled (Err e) o same a read = absurd (cc)

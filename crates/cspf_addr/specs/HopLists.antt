@@ -2,17 +2,12 @@
 use Rattle.std.specs.Prelude.{◌≡◌, ℕ, ◌+◌, ◌≤◌, ◌==◌, nat_lt, if◌then◌else◌, List, [], ◌∷◌, length, map, Result, Ok, Err}
 use Rattle.std.specs.List.{slice_split, join_with_byte, AllByRecursion}
 use Rattle.std.specs.Option.{ok_or}
+use Rattle.cspf_addr.specs.ResultSteps.{◌>>=◌}
 use Rattle.cspf_addr.specs.PrefixParts.{IsPrefix}
 use Rattle.cspf_addr.specs.HopText.{hop_of, hop_text}
-use Rattle.cspf_addr.specs.declared.single_hop.Hop.{Hop}
+use Rattle.cspf_addr.specs.declared.hop.Hop.{Hop}
 use Rattle.cspf_addr.specs.declared.hop_reader.HopsError.{HopsError}
 use Rattle.cspf_addr.specs.declared.hop_reader.HopsError.TheVariants as error
-
--- the second step, where the first gave a value
-infixl 10 ◌>>=◌
-abbrev pub ◌>>=◌ : {A B : Type 0} → Result A HopsError → (A → Result B HopsError) → Result B HopsError
-Ok x >>= second = second x
-Err e >>= second = Err e
 
 -- the parts of a text between its spaces, also those that are empty
 unfoldable pub parts_of : List ℕ → List (List ℕ)
@@ -26,12 +21,15 @@ hops_from at (part ∷ parts) = do
   hops ← hops_from (at + 1) parts
   Ok (hop ∷ hops)
 
--- the hops that a text spells, none by the empty text; more than seven parts are refused before any of them is read
+-- the hops that a text spells, none by the empty text; more than seven parts are refused before any
+-- of them is read
 unfoldable pub hops_of : List ℕ → Result (List Hop) HopsError
 hops_of text =
     if length text == 0
     then Ok []
-    else (if nat_lt 7 (length (parts_of text)) then Err error.TooManyHops else hops_from 1 (parts_of text))
+    else (if nat_lt 7 (length (parts_of text))
+    then Err error.TooManyHops
+    else hops_from 1 (parts_of text))
 
 -- the text of a list of hops
 unfoldable pub hops_text : List Hop → List ℕ
@@ -39,4 +37,6 @@ hops_text hops = join_with_byte 32 (map hop_text hops)
 
 -- a list of at most seven hops is read back from its text
 abbrev pub AreHopListsReadBack : Type 0
-AreHopListsReadBack = (hops : List Hop) → length hops ≤ 7 → AllByRecursion (λ hop. IsPrefix hop.prefix) hops → hops_of (hops_text hops) ≡ Ok hops
+AreHopListsReadBack =
+    (hops : List Hop) → length hops ≤ 7 → AllByRecursion (λ hop. IsPrefix hop.prefix) hops
+    → hops_of (hops_text hops) ≡ Ok hops

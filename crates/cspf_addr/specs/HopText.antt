@@ -1,14 +1,10 @@
 -- How hops are spelled: a prefix, and then `s` for a strict hop or `l` for a loose one.
-use Rattle.std.specs.Prelude.{◌≡◌, ℕ, ◌-◌, Bool, true, false, ◌==◌, if◌then◌else◌, List, [], ◌∷◌, ◌++◌, length, take, slice_index, Option, Some, None, option_and_then, ◌↔◌, Ok}
+use Rattle.std.specs.Prelude.{◌≡◌, ℕ, ◌-◌, Bool, true, false, ◌==◌, if◌then◌else◌, List, [], ◌∷◌, ◌++◌, length, take, slice_index, Option, Some, None, ◌↔◌, Ok}
 use Rattle.std.specs.Result.{result_ok}
+use Rattle.cspf_addr.specs.OptionSteps.{◌>>=◌}
 use Rattle.cspf_addr.specs.PrefixParts.{IsPrefix}
 use Rattle.cspf_addr.specs.Prefixes.{prefix_of, prefix_text}
-use Rattle.cspf_addr.specs.declared.single_hop.Hop.{Hop}
-
--- the second step, where the first gave a value
-infixl 10 ◌>>=◌
-abbrev pub ◌>>=◌ : {A B : Type 0} → Option A → (A → Option B) → Option B
-first >>= second = option_and_then second first
+use Rattle.cspf_addr.specs.declared.hop.Hop.{Hop}
 
 -- the letter of a hop: `l` if it is loose, and `s` if it is strict
 abbrev pub hop_letter : Bool → ℕ

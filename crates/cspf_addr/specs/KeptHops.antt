@@ -1,8 +1,8 @@
--- How up to seven hops are kept in seven places.
+-- Private: how up to seven hops are kept in seven places.
 use Rattle.std.specs.Prelude.{◌≡◌, ℕ, ◌-◌, ◌≤◌, false, List, ◌++◌, length, take, drop, replicate}
 use Rattle.std.proofs.Common.{sym, ap, subst, ◌∙◌}
 use Rattle.std.proofs.lemmas.List.{length-take-le, take-append-drop}
-use Rattle.cspf_addr.specs.declared.single_hop.Hop.{Hop}
+use Rattle.cspf_addr.specs.declared.hop.Hop.{Hop}
 
 -- what stands in a place that is free
 abbrev pub free_place : Hop
@@ -19,11 +19,14 @@ pub record AreKept (places : List Hop) (count : ℕ) : Type 0 where
   pub free : drop count places ≡ replicate (7 - count) free_place
 
 -- how many hops the places hold
-pub length-kept : (places : List Hop) (count : ℕ) → AreKept places count → length (take count places) ≡ count
-length-kept places count kept = length-take-le count places (subst (λ n. count ≤ n) (sym kept.seven) kept.most)
+pub length-kept : (places : List Hop) (count : ℕ)
+    → AreKept places count → length (take count places) ≡ count
+length-kept places count kept =
+    length-take-le count places (subst (λ n. count ≤ n) (sym kept.seven) kept.most)
 
 -- the hops of the places, in seven places again
-pub places-kept : (places : List Hop) (count : ℕ) → AreKept places count → in_seven_places (take count places) ≡ places
+pub places-kept : (places : List Hop) (count : ℕ)
+    → AreKept places count → in_seven_places (take count places) ≡ places
 places-kept places count kept =
     ap (λ n. take count places ++ replicate (7 - n) free_place) (length-kept places count kept)
     ∙ ap (λ behind. take count places ++ behind) (sym kept.free)

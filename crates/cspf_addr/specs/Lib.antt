@@ -1,8 +1,12 @@
+pub mod OptionSteps
+pub mod ResultSteps
 pub mod Numbers
-pub mod Spelling
+pub mod AddressText
+pub mod AddressOrder
 pub mod MaskText
 pub mod PrefixParts
 pub mod Prefixes
 pub mod HopText
 pub mod KeptHops
 pub mod HopLists
+pub mod HopListLaws

@@ -17,7 +17,8 @@ pub record SpellsMask (text : List ℕ) (n : ℕ) : Type 0 where
 
 -- one to eight hexadecimal digits
 abbrev pub are_mask_digits : List ℕ → Bool
-are_mask_digits digits = nat_lt 0 (length digits) && nat_le (length digits) 8 && are_digits 16 digits
+are_mask_digits digits =
+    nat_lt 0 (length digits) && nat_le (length digits) 8 && are_digits 16 digits
 
 -- the bits of the mask that a text spells
 unfoldable pub mask_of : List ℕ → Option ℕ

@@ -11,7 +11,8 @@ are_digits base text = list_all (λ byte. nat_lt (digit_value byte) base) text
 
 -- one byte or more, the first of several not `0`
 abbrev pub has_plain_start : List ℕ → Bool
-has_plain_start text = nat_lt 0 (length text) && (length text == 1 || not (slice_index text 0 == 48))
+has_plain_start text =
+    nat_lt 0 (length text) && (length text == 1 || not (slice_index text 0 == 48))
 
 -- one decimal digit or more, with no leading zeros
 unfoldable pub is_decimal : List ℕ → Bool
@@ -26,4 +27,5 @@ number_of text =
 
 -- a text spells a number exactly where it is what is written for that number
 abbrev pub AreSpelledOnce : Type 0
-AreSpelledOnce = (text : List ℕ) (n : ℕ) → (number_of text ≡ Some n) ↔ ((n < 2 ^ 64) × (text ≡ decimal n))
+AreSpelledOnce =
+    (text : List ℕ) (n : ℕ) → (number_of text ≡ Some n) ↔ ((n < 2 ^ 64) × (text ≡ decimal n))

@@ -11,8 +11,8 @@ abbrev pub first_bits : ℕ → ℕ → ℕ
 first_bits length address = address / 2 ^ (32 - length) * 2 ^ (32 - length)
 
 -- a prefix with this length, and the first bits of this address
-abbrev pub cut_to : ℕ → ℕ → PrefixParts
-cut_to length address = record { address = first_bits length address; length = length }
+abbrev pub with_first_bits : ℕ → ℕ → PrefixParts
+with_first_bits length address = record { address = first_bits length address; length = length }
 
 -- an address of 32 bits, and a length of at most 32, past which no bit is set
 pub record IsPrefix (prefix : PrefixParts) : Type 0 where

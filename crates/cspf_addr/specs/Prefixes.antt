@@ -3,21 +3,17 @@ use Rattle.std.specs.Prelude.{◌≡◌, ◌≢◌, ℕ, ◌-◌, ◌/◌, ◌^�
 use Rattle.std.specs.Fmt.{decimal}
 use Rattle.std.specs.Option.{ok_or}
 use Rattle.std.specs.Str.Parse.{digits_value}
+use Rattle.cspf_addr.specs.ResultSteps.{◌>>=◌}
 use Rattle.cspf_addr.specs.Numbers.{is_decimal}
-use Rattle.cspf_addr.specs.Spelling.{spelling, address_of, text_before, text_after}
-use Rattle.cspf_addr.specs.PrefixParts.{PrefixParts, IsPrefix, cut_to}
-use Rattle.cspf_addr.specs.declared.prefixes.PrefixError.{PrefixError}
-use Rattle.cspf_addr.specs.declared.prefixes.PrefixError.TheVariants as error
+use Rattle.cspf_addr.specs.AddressText.{address_text, address_of, text_before, text_after}
+use Rattle.cspf_addr.specs.PrefixParts.{PrefixParts, IsPrefix, with_first_bits}
+use Rattle.cspf_addr.specs.declared.prefix.PrefixError.{PrefixError}
+use Rattle.cspf_addr.specs.declared.prefix.PrefixError.TheVariants as error
 
 -- two addresses agree in the first bits of a prefix
-abbrev pub IsCovered : PrefixParts → ℕ → Type 0
-IsCovered prefix address = prefix.address / 2 ^ (32 - prefix.length) ≡ address / 2 ^ (32 - prefix.length)
-
--- the second step, where the first gave a value
-infixl 10 ◌>>=◌
-abbrev pub ◌>>=◌ : {A B : Type 0} → Result A PrefixError → (A → Result B PrefixError) → Result B PrefixError
-Ok x >>= second = second x
-Err e >>= second = Err e
+abbrev pub Covers : PrefixParts → ℕ → Type 0
+Covers prefix address =
+    prefix.address / 2 ^ (32 - prefix.length) ≡ address / 2 ^ (32 - prefix.length)
 
 -- the length that a text of digits spells, at most 32
 unfoldable pub length_of : List ℕ → Result ℕ PrefixError
@@ -31,25 +27,27 @@ unfoldable pub prefix_of : List ℕ → Result PrefixParts PrefixError
 prefix_of text = do
   address ← ok_or (address_of (text_before 47 text)) error.NotAPrefix
   length ← length_of (text_after 47 text)
-  Ok (cut_to length address)
+  Ok (with_first_bits length address)
 
 -- the text of a prefix
 unfoldable pub prefix_text : PrefixParts → List ℕ
-prefix_text prefix = spelling prefix.address ++ 47 ∷ decimal prefix.length
+prefix_text prefix = address_text prefix.address ++ 47 ∷ decimal prefix.length
 
 -- a text is an address, a slash and these digits, which are decimal with no leading zeros
 pub record IsPrefixText (text : List ℕ) (address : ℕ) (digits : List ℕ) : Type 0 where
   pub small : address < 2 ^ 32
   pub decimal : IsTrue (is_decimal digits)
-  pub whole : text ≡ spelling address ++ 47 ∷ digits
+  pub whole : text ≡ address_text address ++ 47 ∷ digits
 
 -- the first bits of the address that are asked for, where they are at most 32
 abbrev pub prefix_with : ℕ → ℕ → Result PrefixParts PrefixError
-prefix_with length address = if nat_le length 32 then Ok (cut_to length address) else Err error.TooLong
+prefix_with length address =
+    if nat_le length 32 then Ok (with_first_bits length address) else Err error.TooLong
 
 -- such a text is read as its address and the value of its digits, however many they are
 abbrev pub ArePrefixTextsRead : Type 0
-ArePrefixTextsRead = (text : List ℕ) (address : ℕ) (digits : List ℕ) → IsPrefixText text address digits
+ArePrefixTextsRead =
+    (text : List ℕ) (address : ℕ) (digits : List ℕ) → IsPrefixText text address digits
     → prefix_of text ≡ prefix_with (digits_value 10 digits) address
 
 -- and each other text is no prefix
@@ -59,4 +57,5 @@ AreOthersRefused = (text : List ℕ) → prefix_of text ≢ Err error.NotAPrefix
 
 -- a prefix is read back from its text
 abbrev pub ArePrefixesReadBack : Type 0
-ArePrefixesReadBack = (prefix : PrefixParts) → IsPrefix prefix → prefix_of (prefix_text prefix) ≡ Ok prefix
+ArePrefixesReadBack =
+    (prefix : PrefixParts) → IsPrefix prefix → prefix_of (prefix_text prefix) ≡ Ok prefix

@@ -1,8 +1,9 @@
 ghost use Rattle.std.specs.Prelude.{◌≡◌, ◌≤◌, length};
 ghost use Rattle.cspf_addr.specs.HopLists.{hops_of, hops_from, parts_of, AreHopListsReadBack};
+ghost use Rattle.cspf_addr.specs.HopListLaws.{AreHopListsRead, AreBadHopsNamed, AreTooManyRefused};
 
-use crate::hop_list::{Hops, MOST_HOPS};
-use crate::single_hop::read_hop;
+use crate::hop::read_hop;
+use crate::hops::{Hops, MOST_HOPS};
 use thiserror::Error;
 
 /// Why a text is no list of hops.
@@ -54,6 +55,15 @@ fn read_parts(text: &[u8]) -> Result<Hops, HopsError>
     }
     Ok(hops)
 }
+
+/// Law: a text is read as hops exactly where it is their texts, at most seven, with one space
+/// between each two. Of others with at most seven parts the first part that is no hop is named, and
+/// those with more are refused for that.
+pub fn hop_lists_are_read()
+    ensures read { AreHopListsRead }
+    ensures bad { AreBadHopsNamed }
+    ensures many { AreTooManyRefused }
+{}
 
 /// Law: a list of at most seven hops is read back from its text.
 pub fn hop_lists_are_read_back()

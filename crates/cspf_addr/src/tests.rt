@@ -18,6 +18,7 @@ fn addresses_of_four_bytes(rt: HostRuntime) -> Result<(), Fail> {
     assert_eq!(rt; router.text(rt.alloc())?.as_str(), "10.0.12.2");
     assert_eq!(rt; Addr::parse(b"255.255.255.255")?, Addr::new(u32::MAX));
     assert_eq!(rt; Addr::parse(b"10.0.12.256"), Err(AddrError::NotAnAddress));
+    assert!(rt; Addr::parse(b"9.255.255.255")? < Addr::parse(b"10.0.0.0")?);
     assert_eq!(rt; Addr::parse(b"10.0.12"), Err(AddrError::NotAnAddress));
     assert_eq!(rt; Addr::parse(b"10.0.12.2."), Err(AddrError::NotAnAddress));
     Ok(())
@@ -30,6 +31,8 @@ fn masks_of_eight_digits(rt: HostRuntime) -> Result<(), Fail> {
         Mask::parse(b"0xA")?.text(rt.alloc())?.as_str(),
         "0x0000000a"
     );
+    let none = Mask::new(0).text(rt.alloc())?;
+    assert_eq!(rt; none.as_str(), "0x00000000");
     assert_eq!(rt; Mask::parse(b"0xFFffFFff")?.bits(), u32::MAX);
     assert_eq!(rt; Mask::parse(b"0x123456789"), Err(MaskError::NotAMask));
     assert_eq!(rt; Mask::parse(b"0x"), Err(MaskError::NotAMask));
@@ -83,11 +86,17 @@ fn hops_with_a_space_between(rt: HostRuntime) -> Result<(), Fail> {
     );
     let two = parse_hops(b"10.0.0.0/8l 10.9.0.1/16s")?;
     assert_eq!(rt; two.len(), 2);
-    assert!(rt; two.as_slice()[0].loose);
-    assert!(rt; !two.as_slice()[1].loose);
-    assert_eq!(rt; two.as_slice()[1], hops.as_slice()[0]);
+    let loose = Hop {
+        prefix: Prefix::new(Addr::parse(b"10.0.0.0")?, 8)?,
+        loose: true,
+    };
+    assert_eq!(rt; two.get(0), Some(loose));
     assert_eq!(rt; two.get(1), hops.get(0));
     assert_eq!(rt; two.get(2), None);
+    assert_eq!(rt; loose.text(rt.alloc())?.as_str(), "10.0.0.0/8l");
+    let mut pushed = Hops::none();
+    pushed.push(loose);
+    assert_eq!(rt; pushed.as_slice(), &two.as_slice()[..1]);
     Ok(())
 }
 

@@ -32,25 +32,29 @@ both_second true b h = h
 both_second false b h = absurd h
 
 -- a lower key is another key
-below_apart : (k j : Key) (o : Ordering) → key_cmp k j ≡ o → T (is_lt o) → eq_by_cmp key_cmp j k ≡ false
+below_apart : (k j : Key) (o : Ordering) → key_cmp k j ≡ o → T (is_lt o)
+    → eq_by_cmp key_cmp j k ≡ false
 below_apart k j Less is h = ap is_eq (keys_total.antisymm j k ∙ ap ordering_reverse is)
 below_apart k j Equal is h = absurd h
 below_apart k j Greater is h = absurd h
 
 -- a key that is found behind an entry with a lower key isn't that key
-not_first : (k : Key) (es : List (Key × Link)) → T (below_all key_cmp k es) → (j : Key) (l : Link) → map.find key_cmp j es ≡ Some l → eq_by_cmp key_cmp j k ≡ false
+not_first : (k : Key) (es : List (Key × Link)) → T (below_all key_cmp k es) → (j : Key) (l : Link)
+    → map.find key_cmp j es ≡ Some l → eq_by_cmp key_cmp j k ≡ false
 not_first k [] below j l found = absurd (none_some found)
   where
     none_some : ◌≡◌ {A = Option Link} None (Some l) → ⊥
     none_some e = cc
 not_first k (e ∷ es) below j l found =
     elim (eq_by_cmp key_cmp j e.0) as (λ t. eq_by_cmp key_cmp j e.0 ≡ t → cond t (Some e.1) (map.find key_cmp j es) ≡ Some l → eq_by_cmp key_cmp j k ≡ false) [
-      | true ↦ λ tie _. ap is_eq (keys_total.congr j e.0 k ((Equal-is (key_cmp j e.0)).0 tie)) ∙ below_apart k e.0 (key_cmp k e.0) refl (both_first _ _ below)
+      | true ↦ λ tie _. ap is_eq (keys_total.congr j e.0 k ((Equal-is (key_cmp j e.0)).0 tie))
+          ∙ below_apart k e.0 (key_cmp k e.0) refl (both_first _ _ below)
       | false ↦ λ _ there. not_first k es (both_second _ _ below) j l there
     ] refl found
 
 -- each entry in order is found at its key
-found_among : (p : Link → Bool) (es : List (Key × Link)) → T (map.is_sorted key_cmp es) → list_any p (map (λ e. e.1) es) ≡ true → Found p es
+found_among : (p : Link → Bool) (es : List (Key × Link)) → T (map.is_sorted key_cmp es)
+    → list_any p (map (λ e. e.1) es) ≡ true → Found p es
 found_among p [] sorted any = absurd (cc)
 found_among p (e ∷ es) sorted any =
     elim (p e.1) as (λ b. p e.1 ≡ b → (b || list_any p (map (λ e. e.1) es)) ≡ true → Found p (e ∷ es)) [
@@ -60,7 +64,8 @@ found_among p (e ∷ es) sorted any =
     ] refl any
 
 -- a router that ties with an end of a link is that end
-end_at : (router : ℕ) (l : Link) → (eq_by_cmp nat_cmp router l.from || eq_by_cmp nat_cmp router l.to) ≡ true → EndsAt router l
+end_at : (router : ℕ) (l : Link)
+    → (eq_by_cmp nat_cmp router l.from || eq_by_cmp nat_cmp router l.to) ≡ true → EndsAt router l
 end_at router l =
     elim (eq_by_cmp nat_cmp router l.from) as (λ b. eq_by_cmp nat_cmp router l.from ≡ b → (b || eq_by_cmp nat_cmp router l.to) ≡ true → EndsAt router l) [
       | true ↦ λ tie _. inl (sym (same_number router l.from tie))

@@ -14,10 +14,11 @@ use Rattle.std.proofs.lemmas.List.Folds.{list_any-append, list_any-from_Any}
 use Rattle.cspf_db.specs.declared.link.Link.{Link}
 use Rattle.cspf_db.specs.declared.batch.Change.{Change}
 use Rattle.cspf_db.specs.declared.batch.Change.TheVariants.{Put, Remove}
-use Rattle.cspf_db.specs.Database.{Key, key_of, key_cmp, link_count, router_count, ends_of, EndsAt}
-use Rattle.cspf_db.specs.Changes.{changed_by}
-use Rattle.cspf_db.specs.Rows.{database_of, HaveOwnKeys}
-use Rattle.cspf_db.specs.Kept.{stays, rows_left, links_put, with_ends, AnyEndsAt, HasKnownEnds, puts_link}
+use Rattle.cspf_db.specs.Database.{Key, key_of, key_cmp, link_count, router_count, ends_of, EndsAt, HaveOwnKeys}
+use Rattle.cspf_db.specs.Changes.{after_changes}
+use Rattle.cspf_db.specs.Rows.{database_of}
+use Rattle.cspf_db.specs.RowsLeft.{is_untouched, rows_left, links_put, puts_link}
+use Rattle.cspf_db.specs.CountedEnds.{with_ends, AnyEndsAt, HasKnownEnds}
 use Rattle.cspf_db.specs.Refusals.{AreOnceEach}
 use Rattle.cspf_db.proofs.Keys.{keys_total}
 use Rattle.cspf_db.proofs.Listed.{link_at-database_of}
@@ -25,12 +26,14 @@ use Rattle.cspf_db.proofs.Changing.{find-behind}
 use Rattle.cspf_db.proofs.Leaving.{rows_after, database-rows_after, apart-rows_after}
 
 -- rows with keys of their own are as many as the links of their database
-pub link_count-database_of : (rows : List Link) → HaveOwnKeys rows → link_count (database_of rows) ≡ length rows
+pub link_count-database_of : (rows : List Link) → HaveOwnKeys rows
+    → link_count (database_of rows) ≡ length rows
 unfolding IsDistinct
 link_count-database_of [] apart = map.len-empty key_cmp Link
 link_count-database_of (l ∷ rows) apart =
     map.len-insert keys_total (database_of rows).links (key_of l) l
-    ∙ ap (λ o. cond (is_some o) (link_count (database_of rows)) (link_count (database_of rows) + 1)) (link_at-database_of rows (key_of l) ∙ find-behind l rows apart)
+    ∙ ap (λ o. cond (is_some o) (link_count (database_of rows)) (link_count (database_of rows) + 1))
+    (link_at-database_of rows (key_of l) ∙ find-behind l rows apart)
     ∙ ap (λ n. n + 1) (link_count-database_of rows apart.1) ∙ omega arith
 
 -- tests grouped the other way
@@ -45,12 +48,15 @@ or_swap true false c = refl
 or_swap false b c = refl
 
 -- an end of some links passes a test where one of the links has such an end
-pub any-ends_of : (p : ℕ → Bool) (links : List Link) → list_any p (ends_of links) ≡ list_any (λ l. p l.from || p l.to) links
+pub any-ends_of : (p : ℕ → Bool) (links : List Link)
+    → list_any p (ends_of links) ≡ list_any (λ l. p l.from || p l.to) links
 any-ends_of p [] = refl
-any-ends_of p (l ∷ links) = ap (λ b. p l.from || (p l.to || b)) (any-ends_of p links) ∙ or_assoc (p l.from) (p l.to) _
+any-ends_of p (l ∷ links) =
+    ap (λ b. p l.from || (p l.to || b)) (any-ends_of p links) ∙ or_assoc (p l.from) (p l.to) _
 
 -- an entry whose key is new is one more
-any-put : (p : Link → Bool) (k : Key) (v : Link) (es : List (Key × Link)) → map.find key_cmp k es ≡ None
+any-put : (p : Link → Bool) (k : Key) (v : Link) (es : List (Key × Link))
+    → map.find key_cmp k es ≡ None
     → list_any p (map (λ e. e.1) (put key_cmp k v es)) ≡ (p v || list_any p (map (λ e. e.1) es))
 any-put p k v [] none = refl
 any-put p k v (e ∷ es) none =
@@ -62,15 +68,18 @@ any-put p k v (e ∷ es) none =
     ] none
 
 -- the links of the database of rows are the rows
-any-values : (p : Link → Bool) (rows : List Link) → HaveOwnKeys rows → list_any p (map.values (database_of rows).links) ≡ list_any p rows
+any-values : (p : Link → Bool) (rows : List Link) → HaveOwnKeys rows
+    → list_any p (map.values (database_of rows).links) ≡ list_any p rows
 unfolding IsDistinct
 any-values p [] apart = ap (λ es. list_any p (map (λ e. e.1) es)) no_entries
   where
     no_entries : map.entries (map.empty {K = Key} {X = Link} {R = key_cmp}) ≡ []
     no_entries = nil_from_length _ (sym (map.len-entries _) ∙ map.len-empty key_cmp Link)
 any-values p (l ∷ rows) apart =
-    ap (λ es. list_any p (map (λ e. e.1) es)) (map.entries-insert keys_total (database_of rows).links (key_of l) l)
-    ∙ any-put p (key_of l) l (map.entries (database_of rows).links) (sym (map.get-entries (database_of rows).links (key_of l)) ∙ link_at-database_of rows (key_of l) ∙ find-behind l rows apart)
+    ap (λ es. list_any p (map (λ e. e.1) es))
+    (map.entries-insert keys_total (database_of rows).links (key_of l) l)
+    ∙ any-put p (key_of l) l (map.entries (database_of rows).links)
+    (sym (map.get-entries (database_of rows).links (key_of l)) ∙ link_at-database_of rows (key_of l) ∙ find-behind l rows apart)
     ∙ ap (λ b. p l || b) (any-values p rows apart.1)
 
 -- the set of the ends of links
@@ -78,10 +87,13 @@ ends_set : List Link → set.FinSet nat_cmp
 ends_set links = set.from_list (ends_of links)
 
 -- the routers of the database of rows are the ends of the rows
-pub router_count-database_of : (rows : List Link) → HaveOwnKeys rows → router_count (database_of rows) ≡ set.len (set.from_list {R = nat_cmp} (ends_of rows))
+pub router_count-database_of : (rows : List Link) → HaveOwnKeys rows
+    → router_count (database_of rows) ≡ set.len (set.from_list {R = nat_cmp} (ends_of rows))
 router_count-database_of rows apart =
     ap set.len (set.same_set nat_cmp_total set.nat_cmp-IsAntisymmetric _ _ (λ q.
-    set.contains-from_list nat_cmp_total _ q ∙ any-ends_of (eq_by_cmp nat_cmp q) _ ∙ any-values _ rows apart ∙ sym (any-ends_of (eq_by_cmp nat_cmp q) rows) ∙ sym (set.contains-from_list nat_cmp_total _ q)))
+    set.contains-from_list nat_cmp_total _ q ∙ any-ends_of (eq_by_cmp nat_cmp q) _
+    ∙ any-values _ rows apart ∙ sym (any-ends_of (eq_by_cmp nat_cmp q) rows)
+    ∙ sym (set.contains-from_list nat_cmp_total _ q)))
 
 -- a test that fails adds nothing
 or_false : (a : Bool) → a ≡ (a || false)
@@ -100,37 +112,45 @@ turn false false true rest = refl
 turn false false false rest = refl
 
 -- what a set with the ends of links contains
-contains-with_ends : (s : set.FinSet nat_cmp) (links : List Link) (q : ℕ) → set.contains (with_ends s links) q ≡ (set.contains s q || list_any (eq_by_cmp nat_cmp q) (ends_of links))
+contains-with_ends : (s : set.FinSet nat_cmp) (links : List Link) (q : ℕ)
+    → set.contains (with_ends s links) q ≡ (set.contains s q || list_any (eq_by_cmp nat_cmp q) (ends_of links))
 contains-with_ends s [] q = or_false _
 contains-with_ends s (l ∷ links) q =
     contains-with_ends (set.insert (set.insert s l.from) l.to) links q
-    ∙ ap (λ b. b || list_any (eq_by_cmp nat_cmp q) (ends_of links)) (set.contains-insert nat_cmp_total (set.insert s l.from) l.to q ∙ ap (λ b. eq_by_cmp nat_cmp q l.to || b) (set.contains-insert nat_cmp_total s l.from q))
+    ∙ ap (λ b. b || list_any (eq_by_cmp nat_cmp q) (ends_of links))
+    (set.contains-insert nat_cmp_total (set.insert s l.from) l.to q ∙ ap (λ b. eq_by_cmp nat_cmp q l.to || b) (set.contains-insert nat_cmp_total s l.from q))
     ∙ turn (eq_by_cmp nat_cmp q l.from) (eq_by_cmp nat_cmp q l.to) (set.contains s q) _
 
 -- the ends of links, added one by one
 with_ends-empty : (links : List Link) → with_ends set.empty links ≡ set.from_list (ends_of links)
 with_ends-empty links =
     set.same_set nat_cmp_total set.nat_cmp-IsAntisymmetric _ _ (λ q.
-    contains-with_ends set.empty links q ∙ ap (λ b. b || list_any (eq_by_cmp nat_cmp q) (ends_of links)) (set.contains-empty nat_cmp q) ∙ sym (set.contains-from_list nat_cmp_total _ q))
+    contains-with_ends set.empty links q
+    ∙ ap (λ b. b || list_any (eq_by_cmp nat_cmp q) (ends_of links)) (set.contains-empty nat_cmp q)
+    ∙ sym (set.contains-from_list nat_cmp_total _ q))
 
 -- the ends of some links, then of others
-with_ends-append : (s : set.FinSet nat_cmp) (xs ys : List Link) → with_ends (with_ends s xs) ys ≡ with_ends s (xs ++ ys)
+with_ends-append : (s : set.FinSet nat_cmp) (xs ys : List Link)
+    → with_ends (with_ends s xs) ys ≡ with_ends s (xs ++ ys)
 with_ends-append s [] ys = refl
 with_ends-append s (x ∷ xs) ys = with_ends-append (set.insert (set.insert s x.from) x.to) xs ys
 
 -- to add a router makes no set smaller
 pub len-insert-le : (s : set.FinSet nat_cmp) (k : ℕ) → set.len s ≤ set.len (set.insert s k)
-len-insert-le s k = let n = set.len-insert nat_cmp_total s k in rw n (no_less (set.contains s k) (set.len s))
+len-insert-le s k =
+    let n = set.len-insert nat_cmp_total s k in rw n (no_less (set.contains s k) (set.len s))
   where
     no_less : (b : Bool) (n : ℕ) → n ≤ cond b n (n + 1)
     no_less true n = omega arith
     no_less false n = omega arith
 
 -- to add ends makes no set smaller
-pub len-with_ends-le : (s : set.FinSet nat_cmp) (links : List Link) → set.len s ≤ set.len (with_ends s links)
+pub len-with_ends-le : (s : set.FinSet nat_cmp) (links : List Link)
+    → set.len s ≤ set.len (with_ends s links)
 len-with_ends-le s [] = omega arith
 len-with_ends-le s (l ∷ links) =
-    omega (arith, len-with_ends-le (set.insert (set.insert s l.from) l.to) links, len-insert-le (set.insert s l.from) l.to, len-insert-le s l.from)
+    omega
+    (arith, len-with_ends-le (set.insert (set.insert s l.from) l.to) links, len-insert-le (set.insert s l.from) l.to, len-insert-le s l.from)
 
 -- the second test is enough
 or_right : (a b : Bool) → b ≡ true → (a || b) ≡ true
@@ -138,19 +158,23 @@ or_right true b e = refl
 or_right false b e = e
 
 -- what is in a set and does not tie with what is taken out stays in it
-stays_inside : (tie found there : Bool) → (tie ≡ true → found ≡ false) → found ≡ true → there ≡ true → (not tie && there) ≡ true
+stays_inside : (tie found there : Bool) → (tie ≡ true → found ≡ false) → found ≡ true → there ≡ true
+    → (not tie && there) ≡ true
 stays_inside true found there apart is inside = absurd (cc (apart refl))
 stays_inside false found there apart is inside = inside
 
 -- a set with an item has one more than without it
-len-without : (t : set.FinSet nat_cmp) (x : ℕ) → set.contains t x ≡ true → set.len (set.remove t x) + 1 ≡ set.len t
+len-without : (t : set.FinSet nat_cmp) (x : ℕ) → set.contains t x ≡ true
+    → set.len (set.remove t x) + 1 ≡ set.len t
 len-without t x there =
     let shorter : set.len (set.remove t x) ≡ set.len t - 1 = set.len-remove nat_cmp_total t x ∙ ap (λ b. cond b (set.len t - 1) (set.len t)) there in
     let some : set.len t ≡ 0 → ⊥ = λ none. true≢false (sym there ∙ ap (λ s. set.contains s x) (set.empty_of_len t none) ∙ set.contains-empty nat_cmp x) in
     omega (arith, shorter, some)
 
 -- the set of a list within a set is no larger
-len-within : (xs : List ℕ) (t : set.FinSet nat_cmp) → ((q : ℕ) → list_any (eq_by_cmp nat_cmp q) xs ≡ true → set.contains t q ≡ true) → set.len (set.from_list {R = nat_cmp} xs) ≤ set.len t
+len-within : (xs : List ℕ) (t : set.FinSet nat_cmp)
+    → ((q : ℕ) → list_any (eq_by_cmp nat_cmp q) xs ≡ true → set.contains t q ≡ true)
+    → set.len (set.from_list {R = nat_cmp} xs) ≤ set.len t
 len-within [] t inside = rw (set.len-empty nat_cmp) (omega arith)
 len-within (x ∷ xs) t inside =
     rw (set.len-insert nat_cmp_total (set.from_list {R = nat_cmp} xs) x)
@@ -158,19 +182,24 @@ len-within (x ∷ xs) t inside =
       | true ↦ λ _. len-within xs t (λ q is. inside q (or_right (eq_by_cmp nat_cmp q x) _ is))
       | false ↦ λ new. omega (
         arith,
-        len-without t x (inside x (ap (λ b. b || list_any (eq_by_cmp nat_cmp x) xs) (ap is_eq (tied_itself nat_cmp_total x)))),
+        len-without t x
+            (inside x (ap (λ b. b || list_any (eq_by_cmp nat_cmp x) xs) (ap is_eq (tied_itself nat_cmp_total x)))),
         len-within xs (set.remove t x) (λ q is.
-            set.contains-remove nat_cmp_total t x q ∙ stays_inside (eq_by_cmp nat_cmp q x) (set.contains (set.from_list {R = nat_cmp} xs) q) (set.contains t q)
+            set.contains-remove nat_cmp_total t x q
+            ∙ stays_inside (eq_by_cmp nat_cmp q x) (set.contains (set.from_list {R = nat_cmp} xs) q)
+            (set.contains t q)
             (λ tie. sym (set.contains_tied nat_cmp_total (set.from_list {R = nat_cmp} xs) q x ((Equal-is (nat_cmp q x)).0 tie)) ∙ new)
-            (set.contains-from_list nat_cmp_total xs q ∙ is) (inside q (or_right (eq_by_cmp nat_cmp q x) _ is))),
+            (set.contains-from_list nat_cmp_total xs q ∙ is)
+            (inside q (or_right (eq_by_cmp nat_cmp q x) _ is))),
       )
     ] refl)
 
 -- a row that is left is a row
-any_left : (p : Link → Bool) (rows : List Link) (cs : List Change) → list_any p (rows_left rows cs) ≡ true → list_any p rows ≡ true
+any_left : (p : Link → Bool) (rows : List Link) (cs : List Change)
+    → list_any p (rows_left rows cs) ≡ true → list_any p rows ≡ true
 any_left p [] cs is = is
 any_left p (l ∷ rows) cs is =
-    elim (stays cs l) as (λ b. list_any p (cond b (l ∷ rows_left rows cs) (rows_left rows cs)) ≡ true → list_any p (l ∷ rows) ≡ true) [
+    elim (is_untouched cs l) as (λ b. list_any p (cond b (l ∷ rows_left rows cs) (rows_left rows cs)) ≡ true → list_any p (l ∷ rows) ≡ true) [
       | true ↦ λ some. or_either (p l) _ _ some (λ later. any_left p rows cs later)
       | false ↦ λ later. or_right (p l) _ (any_left p rows cs later)
     ] is
@@ -180,26 +209,37 @@ any_left p (l ∷ rows) cs is =
     or_either false b c e f = f e
 
 -- a router that one of the links ends at is among their ends
-known_end : (rows : List Link) (router q : ℕ) → AnyEndsAt rows router → eq_by_cmp nat_cmp q router ≡ true → list_any (λ l. eq_by_cmp nat_cmp q l.from || eq_by_cmp nat_cmp q l.to) rows ≡ true
+known_end : (rows : List Link) (router q : ℕ) → AnyEndsAt rows router
+    → eq_by_cmp nat_cmp q router ≡ true
+    → list_any (λ l. eq_by_cmp nat_cmp q l.from || eq_by_cmp nat_cmp q l.to) rows ≡ true
 known_end rows router q (at, within, ends) tie =
-    list_any-from_Any (λ l. eq_by_cmp nat_cmp q l.from || eq_by_cmp nat_cmp q l.to) rows (found rows at within ends)
+    list_any-from_Any (λ l. eq_by_cmp nat_cmp q l.from || eq_by_cmp nat_cmp q l.to) rows
+    (found rows at within ends)
   where
-    one_end : (l : Link) → EndsAt router l → (eq_by_cmp nat_cmp q l.from || eq_by_cmp nat_cmp q l.to) ≡ true
-    one_end l (inl from) = ap (λ b. b || eq_by_cmp nat_cmp q l.to) (ap (eq_by_cmp nat_cmp q) from ∙ tie)
+    one_end : (l : Link) → EndsAt router l
+        → (eq_by_cmp nat_cmp q l.from || eq_by_cmp nat_cmp q l.to) ≡ true
+    one_end l (inl from) =
+        ap (λ b. b || eq_by_cmp nat_cmp q l.to) (ap (eq_by_cmp nat_cmp q) from ∙ tie)
     one_end l (inr to) = or_right (eq_by_cmp nat_cmp q l.from) _ (ap (eq_by_cmp nat_cmp q) to ∙ tie)
 
-    found : (rows : List Link) (at : ℕ) → at < length rows → HoldsAt (EndsAt router) rows at → Any (λ l. (eq_by_cmp nat_cmp q l.from || eq_by_cmp nat_cmp q l.to) ≡ true) rows
+    found : (rows : List Link) (at : ℕ) → at < length rows → HoldsAt (EndsAt router) rows at
+        → Any (λ l. (eq_by_cmp nat_cmp q l.from || eq_by_cmp nat_cmp q l.to) ≡ true) rows
     found [] at within ends = absurd (omega arith)
-    found (l ∷ rows) at within ends = (at, slice_index_or (l ∷ rows) at l, within, get_or_default (l ∷ rows) at (slice_index_or (l ∷ rows) at l) l within, one_end (slice_index_or (l ∷ rows) at l) (ends l))
+    found (l ∷ rows) at within ends =
+        (at, slice_index_or (l ∷ rows) at l, within, get_or_default (l ∷ rows) at (slice_index_or (l ∷ rows) at l) l within, one_end (slice_index_or (l ∷ rows) at l) (ends l))
 
 -- the ends of a link that is put are known, where all are
-any_put : (rows : List Link) (q : ℕ) (cs : List Change) → AllByRecursion (HasKnownEnds rows) cs → list_any (λ l. eq_by_cmp nat_cmp q l.from || eq_by_cmp nat_cmp q l.to) (links_put cs) ≡ true
+any_put : (rows : List Link) (q : ℕ) (cs : List Change) → AllByRecursion (HasKnownEnds rows) cs
+    → list_any (λ l. eq_by_cmp nat_cmp q l.from || eq_by_cmp nat_cmp q l.to) (links_put cs) ≡ true
     → list_any (λ l. eq_by_cmp nat_cmp q l.from || eq_by_cmp nat_cmp q l.to) rows ≡ true
 any_put rows q [] all is = absurd (cc)
 any_put rows q (Remove from local ∷ cs) all is = any_put rows q cs all.1 is
-any_put rows q (Put l ∷ cs) all is = or_cases _ _ _ is (λ from. known_end rows l.from q all.0.0 from) (λ to. known_end rows l.to q all.0.1 to) (λ later. any_put rows q cs all.1 later)
+any_put rows q (Put l ∷ cs) all is =
+    or_cases _ _ _ is (λ from. known_end rows l.from q all.0.0 from)
+    (λ to. known_end rows l.to q all.0.1 to) (λ later. any_put rows q cs all.1 later)
   where
-    or_cases : {P : Type 0} (a b c : Bool) → ((a || b) || c) ≡ true → (a ≡ true → P) → (b ≡ true → P) → (c ≡ true → P) → P
+    or_cases : {P : Type 0} (a b c : Bool) → ((a || b) || c) ≡ true → (a ≡ true → P)
+        → (b ≡ true → P) → (c ≡ true → P) → P
     or_cases true b c e f g h = f refl
     or_cases false true c e f g h = g refl
     or_cases false false c e f g h = h e
@@ -218,34 +258,46 @@ length-links_put (Remove from local ∷ cs) = length-links_put cs
 -- how many routers there are after changes
 module _ (rows : List Link) (cs : List Change) (apart : HaveOwnKeys rows) (once : AreOnceEach cs) where
   -- as many as the ends of the rows that are left and of the links that are put
-  pub router_count-after : router_count (changed_by (database_of rows) cs) ≡ set.len (with_ends (with_ends set.empty (rows_left rows cs)) (links_put cs))
+  pub router_count-after : router_count (after_changes (database_of rows) cs) ≡ set.len (with_ends (with_ends set.empty (rows_left rows cs)) (links_put cs))
   router_count-after =
-      ap router_count (sym (database-rows_after rows cs once)) ∙ router_count-database_of (rows_after rows cs) (apart-rows_after rows cs apart once)
-      ∙ ap set.len (sym (with_ends-append set.empty (rows_left rows cs) (links_put cs) ∙ with_ends-empty (rows_after rows cs)))
+      ap router_count (sym (database-rows_after rows cs once))
+      ∙ router_count-database_of (rows_after rows cs) (apart-rows_after rows cs apart once)
+      ∙ ap set.len
+      (sym (with_ends-append set.empty (rows_left rows cs) (links_put cs) ∙ with_ends-empty (rows_after rows cs)))
 
   -- where both ends of each link that is put are known, there are no more than before
-  pub router_count-known : AllByRecursion (HasKnownEnds rows) cs → router_count (changed_by (database_of rows) cs) ≤ router_count (database_of rows)
+  pub router_count-known : AllByRecursion (HasKnownEnds rows) cs
+      → router_count (after_changes (database_of rows) cs) ≤ router_count (database_of rows)
   router_count-known known =
       rw (sym (ap router_count (database-rows_after rows cs once)), router_count-database_of (rows_after rows cs) (apart-rows_after rows cs apart once), router_count-database_of rows apart)
       (len-within (ends_of (rows_after rows cs)) _ (λ q is. set.contains-from_list nat_cmp_total (ends_of rows) q ∙ any-ends_of (eq_by_cmp nat_cmp q) rows
-      ∙ or_split _ _ (sym (list_any-append _ (rows_left rows cs) (links_put cs)) ∙ sym (any-ends_of (eq_by_cmp nat_cmp q) (rows_after rows cs)) ∙ is) (any_left _ rows cs) (any_put rows q cs known)))
+      ∙ or_split _ _
+      (sym (list_any-append _ (rows_left rows cs) (links_put cs)) ∙ sym (any-ends_of (eq_by_cmp nat_cmp q) (rows_after rows cs)) ∙ is) (any_left _ rows cs) (any_put rows q cs known)))
 
   -- how many links there are after changes
-  pub link_count-after : link_count (changed_by (database_of rows) cs) ≡ count_by (stays cs) rows + count_by puts_link cs
+  pub link_count-after : link_count (after_changes (database_of rows) cs) ≡ count_by (is_untouched cs) rows + count_by puts_link cs
   link_count-after =
-      ap link_count (sym (database-rows_after rows cs once)) ∙ link_count-database_of (rows_after rows cs) (apart-rows_after rows cs apart once) ∙ length-append (rows_left rows cs) (links_put cs)
-      ∙ omega (arith, length-filter (stays cs) rows, length-links_put cs, length-filter puts_link cs)
+      ap link_count (sym (database-rows_after rows cs once))
+      ∙ link_count-database_of (rows_after rows cs) (apart-rows_after rows cs apart once)
+      ∙ length-append (rows_left rows cs) (links_put cs)
+      ∙ omega
+      (arith, length-filter (is_untouched cs) rows, length-links_put cs, length-filter puts_link cs)
 
 -- what adding all ends tells of the number of routers
 module _ (rows : List Link) (cs : List Change) (apart : HaveOwnKeys rows) (once : AreOnceEach cs) where
   -- where the ends of the rows that are left are too many
-  pub many_left : 1024 < set.len (with_ends set.empty (rows_left rows cs)) → 1024 < router_count (changed_by (database_of rows) cs)
-  many_left many = omega (arith, many, len-with_ends-le (with_ends set.empty (rows_left rows cs)) (links_put cs), router_count-after rows cs apart once)
+  pub many_left : 1024 < set.len (with_ends set.empty (rows_left rows cs))
+      → 1024 < router_count (after_changes (database_of rows) cs)
+  many_left many =
+      omega
+      (arith, many, len-with_ends-le (with_ends set.empty (rows_left rows cs)) (links_put cs), router_count-after rows cs apart once)
 
   -- where both were added
-  pub tells_both : (b : Bool) (first second : set.FinSet nat_cmp) → first ≡ with_ends set.empty (rows_left rows cs)
-      → OnTrue b (second ≡ with_ends first (links_put cs)) → OnTrue b (set.len second ≤ 1024) → OnFalse b (1024 < set.len (with_ends first (links_put cs)))
-      → IsTrue (not b) ↔ (1024 < router_count (changed_by (database_of rows) cs))
+  pub tells_both : (b : Bool) (first second : set.FinSet nat_cmp)
+      → first ≡ with_ends set.empty (rows_left rows cs)
+      → OnTrue b (second ≡ with_ends first (links_put cs)) → OnTrue b (set.len second ≤ 1024)
+      → OnFalse b (1024 < set.len (with_ends first (links_put cs)))
+      → IsTrue (not b) ↔ (1024 < router_count (after_changes (database_of rows) cs))
   tells_both true first second left put few many =
       let counted = router_count-after rows cs apart once in
       ((λ e. absurd (cc)), λ above. absurd (omega (arith, above, few, counted, ap set.len put, ap (λ s. set.len (with_ends s (links_put cs))) left)))
@@ -254,5 +306,7 @@ module _ (rows : List Link) (cs : List Change) (apart : HaveOwnKeys rows) (once 
       ((λ _. omega (arith, many, counted, ap (λ s. set.len (with_ends s (links_put cs))) left)), λ _. refl)
 
   -- changes add one link each at most
-  pub link_count-after-le : link_count (changed_by (database_of rows) cs) ≤ length rows + length cs
-  link_count-after-le = omega (arith, link_count-after rows cs apart once, count_by-le-length (stays cs) rows, count_by-le-length puts_link cs)
+  pub link_count-after-le : link_count (after_changes (database_of rows) cs) ≤ length rows + length cs
+  link_count-after-le =
+      omega
+      (arith, link_count-after rows cs apart once, count_by-le-length (is_untouched cs) rows, count_by-le-length puts_link cs)

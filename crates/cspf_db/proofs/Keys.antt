@@ -9,7 +9,9 @@ use Rattle.cspf_db.specs.Database.{Key, key_cmp}
 
 -- the order of keys is total
 pub keys_total : IsTotalOrder key_cmp
-keys_total = then_total (on_total (λ (k : Key). k.0) nat_cmp_total) (on_total (λ (k : Key). k.1) nat_cmp_total)
+keys_total =
+    then_total (on_total (λ (k : Key). k.0) nat_cmp_total)
+    (on_total (λ (k : Key). k.1) nat_cmp_total)
 
 -- a key ties with itself
 pub key_itself : (k : Key) → eq_by_cmp key_cmp k k ≡ true
@@ -34,4 +36,5 @@ keys_same j k e = keys_antisymmetric j k ((Equal-is (key_cmp j k)).0 e)
 
 -- keys that are not one key do not tie
 pub keys_apart_from : (j k : Key) → j ≢ k → eq_by_cmp key_cmp j k ≡ false
-keys_apart_from j k apart = elim (eq_by_cmp key_cmp j k) as (λ b. eq_by_cmp key_cmp j k ≡ b → b ≡ false) [ true ↦ λ tie. absurd (apart (keys_same j k tie)) | false ↦ λ _. refl ] refl
+keys_apart_from j k apart =
+    elim (eq_by_cmp key_cmp j k) as (λ b. eq_by_cmp key_cmp j k ≡ b → b ≡ false) [ true ↦ λ tie. absurd (apart (keys_same j k tie)) | false ↦ λ _. refl ] refl

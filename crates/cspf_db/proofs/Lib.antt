@@ -10,8 +10,10 @@ pub mod Refusing
 pub mod Keeping
 pub mod Orders
 pub mod Deciding
+pub mod Lawful
 pub mod Counted
 pub mod Worked
 pub mod Owning
 pub mod WithoutHops
+pub mod Said
 pub mod ExampleRoutes

@@ -17,10 +17,14 @@ use Rattle.cspf_db.specs.Laws.{WalksAreTold, RoutesAreRanked, OneBestAnswer}
 
 -- the order of walks is total
 pub walks_total : IsTotalOrder walk_cmp
-walks_total = then_total (on_total cost_of nat_cmp_total) (then_total (on_total (λ (walk : List Link). length walk) nat_cmp_total) (on_total locals_of nat_list_cmp_total))
+walks_total =
+    then_total (on_total cost_of nat_cmp_total)
+    (then_total (on_total (λ (walk : List Link). length walk) nat_cmp_total) (on_total locals_of nat_list_cmp_total))
 
 -- joined links of a database with the same local addresses are the same
-one_walk : (d : Database) (q : Request) (router : ℕ) (v w : List Link) → AllByRecursion (IsAdmissible d q) v → AllByRecursion (IsAdmissible d q) w → AreJoined router v → AreJoined router w → locals_of v ≡ locals_of w → v ≡ w
+one_walk : (d : Database) (q : Request) (router : ℕ) (v w : List Link)
+    → AllByRecursion (IsAdmissible d q) v → AllByRecursion (IsAdmissible d q) w → AreJoined router v
+    → AreJoined router w → locals_of v ≡ locals_of w → v ≡ w
 one_walk d q router [] [] all also joined too same = refl
 one_walk d q router [] (m ∷ ms) all also joined too same = absurd (cc)
 one_walk d q router (l ∷ ls) [] all also joined too same = absurd (cc)
@@ -37,7 +41,8 @@ one_walk d q router (l ∷ ls) (m ∷ ms) all also joined too same =
 
 -- walks of one request with the same local addresses are one
 pub walks_told : WalksAreTold
-walks_told d q v w is also same = one_walk d q q.from v w is.links also.links is.joined also.joined same
+walks_told d q v w is also same =
+    one_walk d q q.from v w is.links also.links is.joined also.joined same
 
 -- where two tests tie the second one does
 last_tie : (a b : Ordering) → ordering_then a b ≡ Equal → b ≡ Equal
@@ -48,7 +53,8 @@ last_tie Greater b e = absurd (cc)
 -- only equal routes of one request tie
 pub routes_ranked : RoutesAreRanked
 routes_ranked d q v w is also tie =
-    walks_told d q v w is.is_walk also.is_walk (slice_cmp-IsAntisymmetric nat_cmp-IsAntisymmetric (locals_of v) (locals_of w) (last_tie _ _ (last_tie _ _ tie)))
+    walks_told d q v w is.is_walk also.is_walk
+    (slice_cmp-IsAntisymmetric nat_cmp-IsAntisymmetric (locals_of v) (locals_of w) (last_tie _ _ (last_tie _ _ tie)))
 
 -- what is before the other in neither order ties
 neither_first : (a b : Ordering) → a ≡ ordering_reverse b → a ≢ Less → b ≢ Less → a ≡ Equal
@@ -59,8 +65,11 @@ neither_first Greater Equal e first second = absurd (cc)
 neither_first Greater Greater e first second = absurd (cc)
 
 -- no two routes are both the best
-pub one_best : (d : Database) (q : Request) (v w : List Link) → IsBestRoute d q v → IsBestRoute d q w → v ≡ w
-one_best d q v w is also = routes_ranked d q v w is.is_route also.is_route (neither_first (walk_cmp v w) (walk_cmp w v) (walks_total.antisymm v w) (also.least v is.is_route) (is.least w also.is_route))
+pub one_best : (d : Database) (q : Request) (v w : List Link) → IsBestRoute d q v
+    → IsBestRoute d q w → v ≡ w
+one_best d q v w is also =
+    routes_ranked d q v w is.is_route also.is_route
+    (neither_first (walk_cmp v w) (walk_cmp w v) (walks_total.antisymm v w) (also.least v is.is_route) (is.least w also.is_route))
 
 -- a request has one best answer at most
 pub one_answer : OneBestAnswer

@@ -1,3 +1,4 @@
+-- Which links of a database a request may take.
 use Rattle.std.specs.Prelude.{◌≡◌, ◌≢◌, ◌≤◌, ◌⊎◌, bit_and, bit_xor, slice_index}
 use Rattle.cspf_db.specs.declared.link.Link.{Link}
 use Rattle.cspf_db.specs.declared.request.Request.{Request}
@@ -7,7 +8,8 @@ use Rattle.cspf_db.specs.Database.{Database, IsLinkOf}
 pub record HasAffinity (q : Request) (l : Link) : Type 0 where
   pub exclude_any : bit_and l.group q.exclude_any ≡ 0
   pub include_any : (q.include_any ≡ 0) ⊎ (bit_and l.group q.include_any ≢ 0)
-  pub include_all : (q.include_all ≡ 0) ⊎ (bit_xor (bit_and l.group q.include_all) q.include_all ≡ 0)
+  pub include_all :
+      (q.include_all ≡ 0) ⊎ (bit_xor (bit_and l.group q.include_all) q.include_all ≡ 0)
 
 -- it has the affinity, and the bandwidth is unreserved at the setup priority
 pub record IsAdmitted (q : Request) (l : Link) : Type 0 where

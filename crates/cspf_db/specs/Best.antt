@@ -1,3 +1,4 @@
+-- The best answer to a request.
 use Rattle.std.specs.Prelude.{◌≢◌, List}
 use Rattle.std.specs.declared.cmp.Ordering.TheVariants.{Less}
 use Rattle.cspf_db.specs.declared.link.Link.{Link}
@@ -23,8 +24,8 @@ pub record HasEnds (d : Database) (q : Request) : Type 0 where
   pub from : IsRouterOf d q.from
   pub to : IsRouterOf d q.to
 
--- The best answer: an unknown head-end comes first, then an unknown tail-end, then the route that is before
--- all others, and no route only where no walk is one.
+-- The best answer: an unknown head-end comes first, then an unknown tail-end, then the route that
+-- is before all others, and no route only where no walk is one.
 abbrev pub IsBestAnswer : Database → Request → Answer → Type 0
 IsBestAnswer d q unknown_from = ¬ IsRouterOf d q.from
 IsBestAnswer d q unknown_to = IsRouterOf d q.from × ¬ IsRouterOf d q.to

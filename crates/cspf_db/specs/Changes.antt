@@ -1,3 +1,4 @@
+-- What changes make of a database, which batches fit it, and which lists of batches are lawful.
 use Rattle.std.specs.Prelude.{◌≡◌, ◌≤◌, Option, Some, None, IsSome, List, [], ◌∷◌, All, length, map, reverse, find}
 use Rattle.std.specs.Ordering.{eq_by_cmp}
 use Rattle.std.specs.List.{flat_map, IsDistinct}
@@ -31,8 +32,8 @@ link_after (Some c) before = link_left c
 abbrev pub changes_of : List NumberedChanges → List Change
 changes_of batches = flat_map (λ b. b.changes) batches
 
--- A key is in the database of a list of batches exactly where the last change on it is a put, with the
--- link that it puts.
+-- A key is in the database of a list of batches exactly where the last change on it is a put, with
+-- the link that it puts.
 pub record IsDatabaseOf (d : Database) (batches : List NumberedChanges) : Type 0 where
   pub at : (k : Key) → link_at d k ≡ link_after (last_on k (changes_of batches)) None
 
@@ -41,37 +42,37 @@ abbrev pub no_links : Database
 no_links = record { links = empty }
 
 -- the database after one change
-abbrev pub changed : Database → Change → Database
-changed d (Put l) = record { links = insert d.links (key_of l) l }
-changed d (Remove from local) = record { links = remove d.links (from, local) }
+abbrev pub after_change : Database → Change → Database
+after_change d (Put l) = record { links = insert d.links (key_of l) l }
+after_change d (Remove from local) = record { links = remove d.links (from, local) }
 
 -- the database after some changes, in order
-abbrev pub changed_by : Database → List Change → Database
-changed_by d [] = d
-changed_by d (c ∷ cs) = changed_by (changed d c) cs
+abbrev pub after_changes : Database → List Change → Database
+after_changes d [] = d
+after_changes d (c ∷ cs) = after_changes (after_change d c) cs
 
 -- the database after a list of batches
 abbrev pub database_after : List NumberedChanges → Database
-database_after batches = changed_by no_links (changes_of batches)
+database_after batches = after_changes no_links (changes_of batches)
 
 -- a removal's key is in the database
 abbrev pub IsPresent : Database → Change → Type 0
 IsPresent d (Put l) = Unit {0}
 IsPresent d (Remove from local) = IsSome (link_at d (from, local))
 
--- A batch fits a database where it has at most 4,096 changes, no two of them on one key, and each removal's
--- key is there, and where at most 16,384 links and 1,024 routers are left.
+-- A batch fits a database where it has at most 4,096 changes, no two of them on one key, and each
+-- removal's key is there, and where at most 16,384 links and 1,024 routers are left.
 pub record Fits (d : Database) (batch : NumberedChanges) : Type 0 where
   pub short : length batch.changes ≤ 4096
   pub once : IsDistinct (eq_by_cmp key_cmp) (map key_changed batch.changes)
   pub present : All (IsPresent d) batch.changes
-  pub links : link_count (changed_by d batch.changes) ≤ 16384
-  pub routers : router_count (changed_by d batch.changes) ≤ 1024
+  pub links : link_count (after_changes d batch.changes) ≤ 16384
+  pub routers : router_count (after_changes d batch.changes) ≤ 1024
 
 -- each batch fits the database of those before it
 abbrev pub AreLawfulAfter : Database → List NumberedChanges → Type 0
 AreLawfulAfter d [] = Unit {0}
-AreLawfulAfter d (b ∷ bs) = Fits d b × AreLawfulAfter (changed_by d b.changes) bs
+AreLawfulAfter d (b ∷ bs) = Fits d b × AreLawfulAfter (after_changes d b.changes) bs
 
 -- each batch fits the database of those before it, from no links on
 abbrev pub AreLawful : List NumberedChanges → Type 0

@@ -1,12 +1,14 @@
-use Rattle.std.specs.Prelude.{◌≡◌, ℕ, ◌⊎◌, Option, Some, List, [], ◌∷◌, All, Contains}
-use Rattle.std.specs.Ordering.{nat_cmp, ordering_then}
+-- Traffic engineering databases: links by their keys, and the routers at their ends.
+use Rattle.std.specs.Prelude.{◌≡◌, ℕ, ◌⊎◌, Option, Some, List, [], ◌∷◌, All, Contains, map}
+use Rattle.std.specs.Ordering.{nat_cmp, eq_by_cmp, ordering_then}
 use Rattle.std.specs.declared.cmp.Ordering.{Ordering}
-use Rattle.std.specs.List.{flat_map}
+use Rattle.std.specs.List.{flat_map, IsDistinct}
 use Rattle.std.specs.FinMap as map
 use Rattle.std.specs.FinSet as set
 use Rattle.cspf_db.specs.declared.link.Link.{Link}
 
--- what tells the links of a database apart: the router that a link runs from, and its interface there
+-- what tells the links of a database apart: the router that a link runs from, and its interface
+-- there
 abbrev pub Key : Type 0
 Key = ℕ × ℕ
 
@@ -34,10 +36,18 @@ IsLinkOf d l = link_at d (key_of l) ≡ Some l
 abbrev pub link_count : Database → ℕ
 link_count d = map.len d.links
 
+-- each link of the database is at its own key
+abbrev pub AreAtTheirKeys : Database → Type 0
+AreAtTheirKeys d = (k : Key) (l : Link) → link_at d k ≡ Some l → key_of l ≡ k
+
 -- the rows are the links of the database, and no others
 pub record AreLinksOf (d : Database) (rows : List Link) : Type 0 where
   pub each : All (IsLinkOf d) rows
   pub whole : (l : Link) → IsLinkOf d l → Contains rows l
+
+-- no two links share a key
+abbrev pub HaveOwnKeys : List Link → Type 0
+HaveOwnKeys rows = IsDistinct (eq_by_cmp key_cmp) (map key_of rows)
 
 -- the link begins or ends at the router
 abbrev pub EndsAt : ℕ → Link → Type 0

@@ -2,14 +2,14 @@
 use Rattle.std.specs.Prelude.{◌≡◌, ◌≢◌, ℕ, ◌+◌, ◌*◌, Bool, true, false, List, [], ◌∷◌, replicate, refl}
 use Rattle.std.specs.declared.cmp.Ordering.TheVariants.{Less}
 use Rattle.std.proofs.lemmas.Bool.{eqb-false}
-use Rattle.cspf_addr.specs.declared.single_hop.Hop.{Hop}
+use Rattle.cspf_addr.specs.declared.hop.Hop.{Hop}
 use Rattle.cspf_db.specs.declared.link.Link.{Link}
 use Rattle.cspf_db.specs.declared.request.Request.{Request}
 use Rattle.cspf_db.specs.Database.{Database, AreLinksOf}
 use Rattle.cspf_db.specs.Admissible.{IsAdmissible}
 use Rattle.cspf_db.specs.Walks.{walk_cmp}
 use Rattle.cspf_db.specs.Routes.{IsRoute}
-use Rattle.cspf_db.specs.Fields.{RequestFields, Says}
+use Rattle.cspf_db.specs.Fields.{RequestFields, HasRequestFields}
 
 -- the address with these four bytes
 abbrev pub address : ℕ → ℕ → ℕ → ℕ → ℕ
@@ -38,8 +38,8 @@ link from local to remote metric bandwidth apart = record {
 }
 
 -- a request of 1.1.1.1 for a bandwidth of 1 at the highest priority, on links of any groups
-abbrev pub asked : ℕ → List Hop → RequestFields
-asked to hops = record {
+abbrev pub asked_fields : ℕ → List Hop → RequestFields
+asked_fields to hops = record {
   id = 1;
   from = router 1;
   to = to;
@@ -53,36 +53,51 @@ asked to hops = record {
 
 -- a hop to the routers of this prefix
 abbrev pub hop : ℕ → ℕ → Bool → Hop
-hop first length loose = record { prefix = record { address = first; length = length }; loose = loose }
+hop first length loose =
+    record { prefix = record { address = first; length = length }; loose = loose }
 
--- First network: from 1.1.1.1 the ways to 4.4.4.4 lead to 10.9.0.1 first, straight or by 3.3.3.3 or by 10.9.0.2.
--- from 1.1.1.1 to 3.3.3.3, of metric 1
+-- First network: from 1.1.1.1 the ways to 4.4.4.4 lead to 10.9.0.1 first, straight or by 3.3.3.3 or
+-- by 10.9.0.2. from 1.1.1.1 to 3.3.3.3, of metric 1
 abbrev pub from_1_to_3 : Link
-from_1_to_3 = link (router 1) (address 10 0 1 1) (router 3) (address 10 0 1 3) 1 1000 (eqb-false (router 1) (router 3) refl)
+from_1_to_3 =
+    link (router 1) (address 10 0 1 1) (router 3) (address 10 0 1 3) 1 1000
+    (eqb-false (router 1) (router 3) refl)
 
 -- from 1.1.1.1 to 10.9.0.1, of metric 10
 abbrev pub from_1_to_inner_1 : Link
-from_1_to_inner_1 = link (router 1) (address 10 0 2 1) (inner 1) (address 10 0 2 2) 10 1000 (eqb-false (router 1) (inner 1) refl)
+from_1_to_inner_1 =
+    link (router 1) (address 10 0 2 1) (inner 1) (address 10 0 2 2) 10 1000
+    (eqb-false (router 1) (inner 1) refl)
 
 -- from 1.1.1.1 to 10.9.0.2, of metric 2
 abbrev pub from_1_to_inner_2 : Link
-from_1_to_inner_2 = link (router 1) (address 10 0 3 1) (inner 2) (address 10 0 3 2) 2 1000 (eqb-false (router 1) (inner 2) refl)
+from_1_to_inner_2 =
+    link (router 1) (address 10 0 3 1) (inner 2) (address 10 0 3 2) 2 1000
+    (eqb-false (router 1) (inner 2) refl)
 
 -- from 3.3.3.3 to 10.9.0.1, of metric 1
 abbrev pub from_3_to_inner_1 : Link
-from_3_to_inner_1 = link (router 3) (address 10 0 4 3) (inner 1) (address 10 0 4 1) 1 1000 (eqb-false (router 3) (inner 1) refl)
+from_3_to_inner_1 =
+    link (router 3) (address 10 0 4 3) (inner 1) (address 10 0 4 1) 1 1000
+    (eqb-false (router 3) (inner 1) refl)
 
 -- from 10.9.0.1 to 4.4.4.4, of metric 1
 abbrev pub from_inner_1_to_4 : Link
-from_inner_1_to_4 = link (inner 1) (address 10 0 5 1) (router 4) (address 10 0 5 4) 1 1000 (eqb-false (inner 1) (router 4) refl)
+from_inner_1_to_4 =
+    link (inner 1) (address 10 0 5 1) (router 4) (address 10 0 5 4) 1 1000
+    (eqb-false (inner 1) (router 4) refl)
 
 -- from 10.9.0.2 to 10.9.0.1, of metric 3
 abbrev pub from_inner_2_to_inner_1 : Link
-from_inner_2_to_inner_1 = link (inner 2) (address 10 0 6 2) (inner 1) (address 10 0 6 1) 3 1000 (eqb-false (inner 2) (inner 1) refl)
+from_inner_2_to_inner_1 =
+    link (inner 2) (address 10 0 6 2) (inner 1) (address 10 0 6 1) 3 1000
+    (eqb-false (inner 2) (inner 1) refl)
 
 -- the links of the first network
 abbrev pub six_links : List Link
-six_links = from_1_to_3 ∷ from_1_to_inner_1 ∷ from_1_to_inner_2 ∷ from_3_to_inner_1 ∷ from_inner_1_to_4 ∷ from_inner_2_to_inner_1 ∷ []
+six_links =
+    from_1_to_3 ∷ from_1_to_inner_1 ∷ from_1_to_inner_2 ∷ from_3_to_inner_1
+    ∷ from_inner_1_to_4 ∷ from_inner_2_to_inner_1 ∷ []
 
 -- the way by 3.3.3.3
 abbrev pub way_outside : List Link
@@ -104,18 +119,24 @@ loose_inner_hop = hop (address 10 9 0 0) 16 true
 abbrev pub first_router_hop : Hop
 first_router_hop = hop (router 1) 32 false
 
--- Second network: from 1.1.1.1 a way leads by 2.2.2.2 to 3.3.3.3. A further link from 2.2.2.2 has no bandwidth left.
--- from 1.1.1.1 to 2.2.2.2
+-- Second network: from 1.1.1.1 a way leads by 2.2.2.2 to 3.3.3.3. A further link from 2.2.2.2 has
+-- no bandwidth left. from 1.1.1.1 to 2.2.2.2
 abbrev pub from_1_to_2 : Link
-from_1_to_2 = link (router 1) (address 10 0 12 1) (router 2) (address 10 0 12 2) 10 1000 (eqb-false (router 1) (router 2) refl)
+from_1_to_2 =
+    link (router 1) (address 10 0 12 1) (router 2) (address 10 0 12 2) 10 1000
+    (eqb-false (router 1) (router 2) refl)
 
 -- from 2.2.2.2 to 3.3.3.3
 abbrev pub from_2_to_3 : Link
-from_2_to_3 = link (router 2) (address 10 0 23 2) (router 3) (address 10 0 23 3) 10 1000 (eqb-false (router 2) (router 3) refl)
+from_2_to_3 =
+    link (router 2) (address 10 0 23 2) (router 3) (address 10 0 23 3) 10 1000
+    (eqb-false (router 2) (router 3) refl)
 
 -- from 2.2.2.2 by 172.16.0.2 to 4.4.4.4, with no bandwidth
 abbrev pub from_2_to_4 : Link
-from_2_to_4 = link (router 2) (address 172 16 0 2) (router 4) (address 172 16 0 4) 10 0 (eqb-false (router 2) (router 4) refl)
+from_2_to_4 =
+    link (router 2) (address 172 16 0 2) (router 4) (address 172 16 0 4) 10 0
+    (eqb-false (router 2) (router 4) refl)
 
 -- the links of the second network
 abbrev pub three_links : List Link
@@ -125,14 +146,17 @@ three_links = from_1_to_2 ∷ from_2_to_3 ∷ from_2_to_4 ∷ []
 abbrev pub interface_hop : Hop
 interface_hop = hop (address 172 16 0 0) 12 false
 
--- it holds of each database with just these links, and of each request of 1.1.1.1 with this tail-end and these hops
+-- it holds of each database with just these links, and of each request of 1.1.1.1 with this
+-- tail-end and these hops
 abbrev pub Holds : List Link → ℕ → List Hop → (Database → Request → Type 0) → Type 0
-Holds links to hops P = (d : Database) (q : Request) → AreLinksOf d links → Says q (asked to hops) → P d q
+Holds links to hops P =
+    (d : Database) (q : Request)
+    → AreLinksOf d links → HasRequestFields q (asked_fields to hops) → P d q
 
 -- there are such a database and, with any hops, such a request
 pub record AreFound (links : List Link) (to : ℕ) : Type 0 where
   pub database : (d : Database) × AreLinksOf d links
-  pub request : (hops : List Hop) → (q : Request) × Says q (asked to hops)
+  pub request : (hops : List Hop) → (q : Request) × HasRequestFields q (asked_fields to hops)
 
 -- a strict leg to 10.9.0.0/16 may stand at both of its routers
 abbrev pub MayStandAtOwners : Type 0
@@ -140,11 +164,13 @@ MayStandAtOwners = Holds six_links (router 4) (inner_hop ∷ []) (λ d q. IsRout
 
 -- it may not stand at 3.3.3.3
 abbrev pub MayNotStandElsewhere : Type 0
-MayNotStandElsewhere = Holds six_links (router 4) (inner_hop ∷ []) (λ d q. ¬ IsRoute d q way_outside)
+MayNotStandElsewhere =
+    Holds six_links (router 4) (inner_hop ∷ []) (λ d q. ¬ IsRoute d q way_outside)
 
 -- a loose leg to 10.9.0.0/16 may stand at 3.3.3.3
 abbrev pub MayStandAnywhere : Type 0
-MayStandAnywhere = Holds six_links (router 4) (loose_inner_hop ∷ []) (λ d q. IsRoute d q way_outside)
+MayStandAnywhere =
+    Holds six_links (router 4) (loose_inner_hop ∷ []) (λ d q. IsRoute d q way_outside)
 
 -- and the way by 3.3.3.3 is before the other
 abbrev pub IsOutsideBeforeInside : Type 0
@@ -152,9 +178,11 @@ IsOutsideBeforeInside = walk_cmp way_outside way_inside ≡ Less
 
 -- the leg to a hop that the head-end owns may be empty
 abbrev pub MayBeEmpty : Type 0
-MayBeEmpty = Holds six_links (router 4) (first_router_hop ∷ inner_hop ∷ []) (λ d q. IsRoute d q way_inside)
+MayBeEmpty =
+    Holds six_links (router 4) (first_router_hop ∷ inner_hop ∷ []) (λ d q. IsRoute d q way_inside)
 
 -- a hop may be met by the address of an interface on a link that isn't admissible
 abbrev pub MayBeMetByAnyLink : Type 0
 MayBeMetByAnyLink =
-    Holds three_links (router 3) (interface_hop ∷ []) (λ d q. IsRoute d q (from_1_to_2 ∷ from_2_to_3 ∷ []) × ¬ IsAdmissible d q from_2_to_4)
+    Holds three_links (router 3) (interface_hop ∷ [])
+    (λ d q. IsRoute d q (from_1_to_2 ∷ from_2_to_3 ∷ []) × ¬ IsAdmissible d q from_2_to_4)

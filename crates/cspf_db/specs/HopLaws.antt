@@ -13,4 +13,6 @@ pub record IsWalkToEnd (d : Database) (q : Request) (walk : List Link) : Type 0 
 
 -- without hops the routes are the walks to the tail-end
 abbrev pub AreRoutesWithoutHops : Type 0
-AreRoutesWithoutHops = (d : Database) (q : Request) (walk : List Link) → q.hops ≡ [] → IsRoute d q walk ↔ IsWalkToEnd d q walk
+AreRoutesWithoutHops =
+    (d : Database) (q : Request) (walk : List Link)
+    → q.hops ≡ [] → IsRoute d q walk ↔ IsWalkToEnd d q walk

@@ -13,6 +13,8 @@ pub mod Examples
 pub mod Best
 pub mod Fields
 pub mod Refusals
-pub mod Kept
+pub mod RepeatedKeys
+pub mod RowsLeft
+pub mod CountedEnds
 pub mod RouterSets
 pub mod Laws

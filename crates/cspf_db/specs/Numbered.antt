@@ -1,3 +1,4 @@
+-- Batches as plain data.
 use Rattle.std.specs.Prelude.{ℕ, List}
 use Rattle.cspf_db.specs.declared.batch.Change.{Change}
 

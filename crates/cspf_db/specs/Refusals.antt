@@ -1,3 +1,4 @@
+-- Why a batch doesn't fit a database.
 use Rattle.std.specs.Prelude.{◌≡◌, ℕ, zero, suc, ◌<◌, ◌≤◌, Option, Some, None, List, All, length, map}
 use Rattle.std.specs.Ordering.{eq_by_cmp}
 use Rattle.std.specs.List.{IsDistinct, slice_get}
@@ -7,7 +8,7 @@ use Rattle.cspf_db.specs.declared.refusal.Refusal.{Refusal}
 use Rattle.cspf_db.specs.declared.refusal.Refusal.TheVariants.{TooLong, Duplicate, Absent, Full, TooManyRouters}
 use Rattle.cspf_db.specs.Numbered.{NumberedChanges}
 use Rattle.cspf_db.specs.Database.{Database, key_cmp, link_at, link_count, router_count}
-use Rattle.cspf_db.specs.Changes.{key_changed, changed_by, IsPresent}
+use Rattle.cspf_db.specs.Changes.{key_changed, after_changes, IsPresent}
 
 -- the change at a place, where places count from 1
 abbrev pub change_at : List Change → ℕ → Option Change
@@ -61,8 +62,13 @@ pub record AreInOrder (d : Database) (changes : List Change) : Type 0 where
 -- Why a batch doesn't fit a database: the first of these that applies.
 abbrev pub IsRefusal : Database → NumberedChanges → Refusal → Type 0
 IsRefusal d batch TooLong = 4096 < length batch.changes
-IsRefusal d batch (Duplicate at) = IsShort batch.changes × IsLeastPlace (RepeatsAt batch.changes) at
-IsRefusal d batch (Absent at) = IsShort batch.changes × AreOnceEach batch.changes × IsLeastPlace (RemovesNothingAt d batch.changes) at
-IsRefusal d batch Full = AreInOrder d batch.changes × (16384 < link_count (changed_by d batch.changes))
+IsRefusal d batch (Duplicate at) =
+    IsShort batch.changes × IsLeastPlace (RepeatsAt batch.changes) at
+IsRefusal d batch (Absent at) =
+    IsShort batch.changes × AreOnceEach batch.changes
+    × IsLeastPlace (RemovesNothingAt d batch.changes) at
+IsRefusal d batch Full =
+    AreInOrder d batch.changes × (16384 < link_count (after_changes d batch.changes))
 IsRefusal d batch TooManyRouters =
-    AreInOrder d batch.changes × (link_count (changed_by d batch.changes) ≤ 16384) × (1024 < router_count (changed_by d batch.changes))
+    AreInOrder d batch.changes × (link_count (after_changes d batch.changes) ≤ 16384)
+    × (1024 < router_count (after_changes d batch.changes))

@@ -1,3 +1,4 @@
+-- Private: sets of routers that are kept in place.
 use Rattle.std.specs.Prelude.{◌≡◌, ◌≤◌, take, length}
 use Rattle.std.specs.Ordering.{nat_cmp, eq_by_cmp}
 use Rattle.std.specs.List.{IsDistinct}

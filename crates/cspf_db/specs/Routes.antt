@@ -1,3 +1,4 @@
+-- Routes: the walks that follow the hops of a request.
 use Rattle.std.specs.Prelude.{List}
 use Rattle.cspf_db.specs.declared.link.Link.{Link}
 use Rattle.cspf_db.specs.declared.request.Request.{Request}

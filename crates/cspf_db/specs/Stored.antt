@@ -1,3 +1,4 @@
+-- Private: how the logic holds a database, which `Model` asks for.
 use Rattle.std.specs.Prelude.{refl}
 use Rattle.std.specs.Coded.{Coded, code_by, coded×, coded_ℕ}
 use Rattle.std.specs.FinMap as map
@@ -8,4 +9,5 @@ use Rattle.cspf_db.specs.Database.{Database, key_cmp}
 -- a database is stored as its links
 abbrev pub database_code : Coded Database
 database_code =
-    code_by (map.FinMap key_cmp Link) (map.code (coded× coded_ℕ coded_ℕ) the_row.coded) (λ d. d.links) (λ m. record { links = m }) (λ _. refl)
+    code_by (map.FinMap key_cmp Link) (map.code (coded× coded_ℕ coded_ℕ) the_row.coded)
+    (λ d. d.links) (λ m. record { links = m }) (λ _. refl)

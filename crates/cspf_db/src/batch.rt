@@ -1,11 +1,12 @@
-ghost use Rattle.std.specs.Prelude.{◌≡◌};
+ghost use Rattle.std.specs.Prelude.{◌≡◌, IfOk};
 
 use crate::Link;
 use cspf_addr::Addr;
+use std::alloc::{AllocError, Global};
 use std::marker::Model;
 
 /// A change to the link of one key.
-#[derive(Clone, Copy, Debug)]
+#[derive(Clone, Copy, Debug, PartialEq, Eq)]
 pub enum Change {
     /// Puts the link, in place of the one with its key where there is one.
     Put(Link),
@@ -19,8 +20,6 @@ pub enum Change {
 }
 
 impl Change {
-    ghost use Rattle.std.specs.Ordering.{eq_by_cmp};
-    ghost use Rattle.cspf_db.specs.Database.{key_cmp};
     ghost use Rattle.cspf_db.specs.Changes.{key_changed};
 
     /// The key of the link that is changed: the router that it runs from, and the address of its
@@ -50,4 +49,16 @@ impl Model for Batch {
     ghost Value = { NumberedChanges };
 
     ghost view = { λ a. record { number = a.number; changes = a.changes.items } };
+}
+
+impl Batch {
+    /// A batch with the same number and the same changes.
+    pub fn copy(&self, alloc: Global) -> Result<Batch, AllocError>
+        ensures { IfOk result (λ copy. copy ≡ self.now) }
+    {
+        Ok(Batch {
+            number: self.number,
+            changes: Vec::from_slice(alloc, &self.changes)?,
+        })
+    }
 }

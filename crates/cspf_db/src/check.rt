@@ -1,16 +1,18 @@
-ghost use Rattle.std.specs.Prelude.{count_by, ◌≡◌, ◌≢◌, ℕ, ◌+◌, ◌<◌, ◌≤◌, ◌↔◌, true, false, All, length, map, IfSome, IfNone, IsTrue, OnOk, IfErr};
+ghost use Rattle.std.specs.Prelude.{count_by, ◌≡◌, ℕ, ◌+◌, ◌<◌, ◌≤◌, ◌↔◌, true, false, All, length, IfSome, IfNone, IsTrue, OnOk, IfErr};
 ghost use Rattle.std.specs.Bool.{OnTrue, OnFalse};
 ghost use Rattle.std.specs.List.{HoldsAt, AllWithin};
 ghost use Rattle.std.specs.FinSet as set;
 ghost use Rattle.std.specs.Ordering.{eq_by_cmp};
-ghost use Rattle.cspf_db.specs.Database.{EndsAt, key_of, key_cmp, link_count, router_count};
-ghost use Rattle.cspf_db.specs.Changes.{changed_by, key_changed, IsPresent, Fits};
-ghost use Rattle.cspf_db.specs.Rows.{database_of, HaveOwnKeys};
-ghost use Rattle.cspf_db.specs.Kept.{is_changed, IsNewAt, IsRepeatedAt, stays, rows_left, links_put, with_ends, puts_link, HasKnownEnds};
+ghost use Rattle.cspf_db.specs.Database.{key_cmp, link_count, router_count, HaveOwnKeys};
+ghost use Rattle.cspf_db.specs.Changes.{after_changes, key_changed, IsPresent, Fits};
+ghost use Rattle.cspf_db.specs.Rows.{database_of};
+ghost use Rattle.cspf_db.specs.RepeatedKeys.{is_changed, IsNewAt, IsRepeatedAt};
+ghost use Rattle.cspf_db.specs.RowsLeft.{is_untouched, rows_left, links_put, puts_link};
+ghost use Rattle.cspf_db.specs.CountedEnds.{with_ends, HasKnownEnds};
 ghost use Rattle.cspf_db.specs.Refusals.{RemovesNothing, AreOnceEach, IsRefusal};
 
 use crate::routers::Routers;
-use crate::rows::{any_ends_at, place_of};
+use crate::table_rows::{any_ends_at, index_of};
 use crate::{Batch, Change, Link, Refusal};
 use cspf_addr::Addr;
 
@@ -58,7 +60,7 @@ fn removes_nothing(rows: &[Link], change: &Change) -> bool
 {
     match change {
         Change::Put(_) => false,
-        Change::Remove { from, local } => place_of(rows, *from, *local).is_none(),
+        Change::Remove { from, local } => index_of(rows, *from, *local).is_none(),
     }
 }
 
@@ -76,7 +78,7 @@ fn first_absent(rows: &[Link], changes: &[Change]) -> Option<usize>
 
 /// Whether none of the changes is on the key of the row.
 fn is_untouched(row: &Link, changes: &[Change]) -> bool
-    ensures { result ≡ stays changes.now row.now }
+    ensures { result ≡ is_untouched changes.now row.now }
 {
     !any_on(changes, row.from, row.local)
 }
@@ -90,7 +92,7 @@ fn is_put(change: &Change) -> bool
 
 /// How many rows the changes leave alone.
 fn count_left(rows: &[Link], changes: &[Change]) -> usize
-    ensures { result ≡ count_by (stays changes.now) rows.now }
+    ensures { result ≡ count_by (is_untouched changes.now) rows.now }
 {
     rows.iter().filter(|row| is_untouched(row, changes)).count()
 }
@@ -102,14 +104,15 @@ fn count_put(changes: &[Change]) -> usize
     changes.iter().filter(|change| is_put(change)).count()
 }
 
-/// Whether there are more than 16,384 links after the changes. Each change adds one link at most, so
-/// most batches need no counting.
+/// Whether there are more than 16,384 links after the changes. Each change adds one link at most,
+/// so most batches need no counting.
 fn has_too_many_links(rows: &[Link], changes: &[Change]) -> bool
     requires apart { HaveOwnKeys rows.now }
     requires most { length rows.now ≤ 16384 }
     requires short { length changes.now ≤ 4096 }
     requires once { AreOnceEach changes.now }
-    ensures { IsTrue result ↔ 16384 < link_count (changed_by (database_of rows.now) changes.now) }
+    ensures { IsTrue result
+        ↔ 16384 < link_count (after_changes (database_of rows.now) changes.now) }
 {
     if rows.len() + changes.len() <= LINKS {
         return false;
@@ -117,13 +120,15 @@ fn has_too_many_links(rows: &[Link], changes: &[Change]) -> bool
     count_left(rows, changes) + count_put(changes) > LINKS
 }
 
-/// Adds the ends of the rows that the changes leave alone. It is false where there would be more than
-/// 1,024 routers.
+/// Adds the ends of the rows that the changes leave alone. It is false where there would be more
+/// than 1,024 routers.
 fn add_rows(routers: &mut Routers, rows: &[Link], changes: &[Change]) -> bool
     requires { set.len routers.old ≤ 1024 }
-    ensures added { OnTrue result (routers.new ≡ with_ends routers.old (rows_left rows.now changes.now)) }
+    ensures added { OnTrue result
+        (routers.new ≡ with_ends routers.old (rows_left rows.now changes.now)) }
     ensures few { OnTrue result (set.len routers.new ≤ 1024) }
-    ensures full { OnFalse result (1024 < set.len (with_ends routers.old (rows_left rows.now changes.now))) }
+    ensures full { OnFalse result
+        (1024 < set.len (with_ends routers.old (rows_left rows.now changes.now))) }
 {
     for row in rows {
         if is_untouched(row, changes) && !routers.add_ends(row) {
@@ -133,8 +138,8 @@ fn add_rows(routers: &mut Routers, rows: &[Link], changes: &[Change]) -> bool
     true
 }
 
-/// Adds the ends of the links that the changes put. It is false where there would be more than 1,024
-/// routers.
+/// Adds the ends of the links that the changes put. It is false where there would be more than
+/// 1,024 routers.
 fn add_puts(routers: &mut Routers, changes: &[Change]) -> bool
     requires { set.len routers.old ≤ 1024 }
     ensures added { OnTrue result (routers.new ≡ with_ends routers.old (links_put changes.now)) }
@@ -168,13 +173,14 @@ fn knows_ends_of(rows: &[Link], change: &Change) -> bool
     }
 }
 
-/// Whether there are more than 1,024 routers after the changes. Where they bring no new router, there
-/// is nothing to count.
+/// Whether there are more than 1,024 routers after the changes. Where they bring no new router,
+/// there is nothing to count.
 fn has_too_many_routers(rows: &[Link], changes: &[Change]) -> bool
     requires apart { HaveOwnKeys rows.now }
     requires few { router_count (database_of rows.now) ≤ 1024 }
     requires once { AreOnceEach changes.now }
-    ensures { IsTrue result ↔ 1024 < router_count (changed_by (database_of rows.now) changes.now) }
+    ensures { IsTrue result
+        ↔ 1024 < router_count (after_changes (database_of rows.now) changes.now) }
 {
     if knows_ends(rows, changes) {
         return false;

@@ -7,8 +7,8 @@ pub fn route_without_hops()
     ensures { AreRoutesWithoutHops }
 {}
 
-/// Routes of two small networks: a strict leg stands at routers of its hop's prefix alone, which may
-/// be several, and a loose one at any; a leg may be empty; a router has the addresses of its
+/// Routes of two small networks: a strict leg stands at routers of its hop's prefix alone, which
+/// may be several, and a loose one at any; a leg may be empty; a router has the addresses of its
 /// interfaces on links that aren't admissible, too.
 pub fn worked_routes()
     ensures six_links { AreFound six_links (router 4) }

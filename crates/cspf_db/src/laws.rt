@@ -1,14 +1,16 @@
-//! What follows from the definitions of `specs/` alone. Each call here does nothing: its contract is
-//! the law.
+//! What follows from the definitions of `specs/` alone. Each call here does nothing: its contract
+//! is the law.
 ghost use Rattle.std.specs.Cmp.{IsTotalOrder};
 ghost use Rattle.cspf_db.specs.Changes.{database_after};
 ghost use Rattle.cspf_db.specs.Walks.{walk_cmp};
 ghost use Rattle.cspf_db.specs.Numbered.{NumberedChanges};
 ghost use Rattle.std.specs.Prelude.{List};
-ghost use Rattle.cspf_db.specs.Laws.{WalksAreTold, RoutesAreRanked, OneBestAnswer, LastChangeDecides, OneDatabase, OneMoreBatch, AreAtTheirKeys, RoutersAreCounted, OneRefusal, AddressesCompareAsNumbers, FewerLinksComeFirst, LastPutStands, LastRemovalStands, ExactBandwidthIsEnough, LessBandwidthIsNot};
+ghost use Rattle.cspf_db.specs.Database.{AreAtTheirKeys};
+ghost use Rattle.cspf_db.specs.Fields.{AreFieldsOfLinks, AreFieldsOfRequests};
+ghost use Rattle.cspf_db.specs.Laws.{WalksAreTold, RoutesAreRanked, OneBestAnswer, LastChangeDecides, OneDatabase, OneMoreBatch, LawfulByOneMore, FirstBatchesAreLawful, RoutersAreCounted, NoRouterIsLeftOut, OneRefusal, AddressesCompareAsNumbers, FewerLinksComeFirst, LastPutStands, LastRemovalStands, ExactBandwidthIsEnough, LessBandwidthIsNot};
 
-/// Walks are in a total order. Their local addresses tell the walks of a request apart, so only equal
-/// routes of one request tie.
+/// Walks are in a total order. Their local addresses tell the walks of a request apart, so only
+/// equal routes of one request tie.
 pub fn order_of_walks()
     ensures total { IsTotalOrder walk_cmp }
     ensures told { WalksAreTold }
@@ -32,11 +34,28 @@ pub fn absorbing()
     ensures { OneMoreBatch }
 {}
 
-/// The routers that are counted are those of the database, where each link is at its own key, as it is
-/// after any list of batches.
+/// One more batch keeps a list of batches lawful where it fits the database of those before it, and
+/// only there. The first batches of a lawful list are lawful.
+pub fn lawful_batches()
+    ensures more { LawfulByOneMore }
+    ensures first { FirstBatchesAreLawful }
+{}
+
+/// The routers that are counted are those of the database, where each link is at its own key, as it
+/// is after any list of batches. So different routers of a database are at most as many as are
+/// counted.
 pub fn counted_routers()
     ensures counted { RoutersAreCounted }
-    ensures at_their_keys { (batches : List NumberedChanges) → AreAtTheirKeys (database_after batches) }
+    ensures distinct { NoRouterIsLeftOut }
+    ensures at_their_keys { (batches : List NumberedChanges)
+        → AreAtTheirKeys (database_after batches) }
+{}
+
+/// A link has the attributes that are read off it and no others, and a request says what is read off
+/// it and nothing else.
+pub fn fields_of_links_and_requests()
+    ensures links { AreFieldsOfLinks }
+    ensures requests { AreFieldsOfRequests }
 {}
 
 /// A batch is refused for one reason at most.

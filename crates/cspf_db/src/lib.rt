@@ -11,14 +11,14 @@ mod link;
 mod refusal;
 mod request;
 mod routers;
-mod rows;
 mod table;
+mod table_rows;
 
 pub use batch::{Batch, Change};
 pub use hop_laws::{route_without_hops, worked_routes};
 pub use laws::{
-    absorbing, counted_routers, last_change_decides, one_best_answer, one_refusal, order_of_walks,
-    worked_admission, worked_changes, worked_orders,
+    absorbing, counted_routers, fields_of_links_and_requests, last_change_decides, lawful_batches,
+    one_best_answer, one_refusal, order_of_walks, worked_admission, worked_changes, worked_orders,
 };
 pub use link::{Link, LinkError};
 pub use refusal::Refusal;

@@ -4,7 +4,7 @@ use cspf_addr::{Addr, Mask};
 use thiserror::Error;
 
 /// A one-way, numbered, point-to-point link with its traffic engineering attributes (RFC 3630 2.5).
-#[derive(Clone, Copy, Debug)]
+#[derive(Clone, Copy, Debug, PartialEq, Eq)]
 pub struct Link {
     /// The router that the link runs from.
     pub from: Addr,
@@ -34,7 +34,7 @@ pub enum LinkError {
 }
 
 impl Link {
-    ghost use Rattle.cspf_db.specs.Fields.{HasFields};
+    ghost use Rattle.cspf_db.specs.Fields.{HasLinkFields};
 
     /// The link with these attributes. It is refused where it would run from a router to itself.
     pub fn new(
@@ -46,7 +46,7 @@ impl Link {
         group: Mask,
         free: [u64; 8],
     ) -> Result<Link, LinkError>
-        ensures ok { IfOk result (λ link. HasFields link (record {
+        ensures ok { IfOk result (λ link. HasLinkFields link (record {
           from = from;
           local = local;
           to = to;

@@ -4,7 +4,7 @@ use cspf_addr::{Addr, Hops, Mask};
 use thiserror::Error;
 
 /// A request for an explicit route (RFC 2702 7).
-#[derive(Clone, Copy, Debug)]
+#[derive(Clone, Copy, Debug, PartialEq, Eq)]
 pub struct Request {
     /// The asker's name for the request, which the answer repeats.
     pub id: u64,
@@ -41,7 +41,7 @@ pub enum RequestError {
 }
 
 impl Request {
-    ghost use Rattle.cspf_db.specs.Fields.{Says, IsRequestFault};
+    ghost use Rattle.cspf_db.specs.Fields.{request_fields, HasRequestFields, IsRequestFault};
 
     /// The request that says this. A setup priority above 7 is refused first, then a request from a
     /// router to itself.
@@ -56,28 +56,10 @@ impl Request {
         include_all: Mask,
         hops: Hops,
     ) -> Result<Request, RequestError>
-        ensures ok { IfOk result (λ q. Says q (record {
-          id = id;
-          from = from;
-          to = to;
-          setup = setup;
-          bandwidth = bandwidth;
-          exclude_any = exclude_any;
-          include_any = include_any;
-          include_all = include_all;
-          hops = hops;
-        })) }
-        ensures err { IfErr result (λ fault. IsRequestFault (record {
-          id = id;
-          from = from;
-          to = to;
-          setup = setup;
-          bandwidth = bandwidth;
-          exclude_any = exclude_any;
-          include_any = include_any;
-          include_all = include_all;
-          hops = hops;
-        }) fault) }
+        ensures ok { IfOk result (λ q. HasRequestFields q (request_fields
+            id from to setup bandwidth exclude_any include_any include_all hops)) }
+        ensures err { IfErr result (IsRequestFault (request_fields
+            id from to setup bandwidth exclude_any include_any include_all hops)) }
     {
         if setup > 7 {
             return Err(RequestError::Priority);

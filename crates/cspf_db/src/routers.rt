@@ -33,7 +33,7 @@ impl Model for Routers {
 }
 
 impl Routers {
-    ghost use Rattle.cspf_db.specs.Kept.{with_ends};
+    ghost use Rattle.cspf_db.specs.CountedEnds.{with_ends};
 
     /// No routers.
     pub fn new() -> Self

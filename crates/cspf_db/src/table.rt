@@ -1,11 +1,10 @@
-ghost use Rattle.std.specs.Prelude.{◌≡◌, ℕ, ◌≤◌, ◌↔◌, List, length, nat_eq, IfOk, OnOk, IfErr, OnErr, IsTrue};
-ghost use Rattle.std.specs.List.{IsDistinct, AllByRecursion};
-ghost use Rattle.cspf_db.specs.Database.{AreLinksOf, IsRouterOf, link_at};
-ghost use Rattle.cspf_db.specs.Changes.{no_links, changed_by, Fits};
+ghost use Rattle.std.specs.Prelude.{◌≡◌, ◌≤◌, ◌↔◌, length, IfOk, OnOk, IfErr, OnErr, IsTrue};
+ghost use Rattle.cspf_db.specs.Database.{AreLinksOf, AreAtTheirKeys, IsRouterOf, link_at, router_count, HaveOwnKeys};
+ghost use Rattle.cspf_db.specs.Changes.{no_links, after_changes, Fits};
 ghost use Rattle.cspf_db.specs.Refusals.{IsRefusal};
 ghost use Rattle.cspf_db.specs.Targets.{Owns};
 
-use crate::rows::{any_begins_within, any_ends_at, apply, place_of};
+use crate::table_rows::{any_begins_within, any_ends_at, apply, index_of};
 use crate::{Batch, Link, Refusal, check};
 use cspf_addr::{Addr, Prefix};
 use std::alloc::{AllocError, Global};
@@ -15,8 +14,8 @@ use std::marker::Model;
 /// that a batch drops may come after those that it puts.
 const ROOM: usize = 20480;
 
-/// A traffic engineering database of at most 16,384 links and 1,024 routers. No call but `new` takes
-/// memory.
+/// A traffic engineering database of at most 16,384 links and 1,024 routers. No call but `new` can
+/// fail for memory.
 #[derive(Debug, Drop)]
 pub struct Table {
     rows: Vec<Link>,
@@ -47,11 +46,13 @@ impl Table {
         })
     }
 
-    /// The links, each once, in any order.
+    /// The links, each once, in any order. They have at most 1,024 routers at their ends.
     pub fn links(&self) -> &[Link]
         ensures listed { AreLinksOf self.now result.now }
         ensures most { length result.now ≤ 16384 }
-        ensures few { (routers : List ℕ) → IsDistinct nat_eq routers → AllByRecursion (IsRouterOf self.now) routers → length routers ≤ 1024 }
+        ensures once { HaveOwnKeys result.now }
+        ensures keyed { AreAtTheirKeys self.now }
+        ensures few { router_count self.now ≤ 1024 }
     {
         self.rows.as_slice()
     }
@@ -60,7 +61,7 @@ impl Table {
     pub fn find(&self, from: Addr, local: Addr) -> Option<Link>
         ensures { result ≡ link_at self.now (from, local) }
     {
-        let at = place_of(&self.rows, from, local)?;
+        let at = index_of(&self.rows, from, local)?;
         Some(self.rows[at])
     }
 
@@ -71,8 +72,8 @@ impl Table {
         any_ends_at(&self.rows, router)
     }
 
-    /// Whether a link begins or ends at the router and the prefix covers the router or the address of
-    /// its interface on a link from it, whatever that link's attributes (RFC 3209 4.3.3.2).
+    /// Whether a link begins or ends at the router and the prefix covers the router or the address
+    /// of its interface on a link from it, whatever that link's attributes (RFC 3209 4.3.3.2).
     pub fn owns(&self, router: Addr, prefix: Prefix) -> bool
         ensures { IsTrue result ↔ Owns self.now prefix router }
     {
@@ -92,7 +93,8 @@ impl Table {
 
     /// Makes all changes of a batch that fits. One that doesn't changes nothing.
     pub fn absorb(&mut self, batch: &Batch)
-        ensures fitting { Fits self.old batch.now → self.new ≡ changed_by self.old batch.now.changes }
+        ensures fitting { Fits self.old batch.now
+            → self.new ≡ after_changes self.old batch.now.changes }
         ensures unfit { (¬ Fits self.old batch.now) → self.new ≡ self.old }
     {
         if self.check(batch).is_err() {

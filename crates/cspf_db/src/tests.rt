@@ -7,13 +7,13 @@ const ONE: u32 = 16843009; // 1.1.1.1
 
 const TWO: u32 = 33686018; // 2.2.2.2
 
+// A link whose two interfaces have addresses that differ in their last bit.
 fn link(from: u32, local: u32, to: u32) -> Result<Link, LinkError> {
-    let remote = Addr::new(local);
     Link::new(
         Addr::new(from),
         Addr::new(local),
         Addr::new(to),
-        remote,
+        Addr::new(local ^ 1),
         10,
         Mask::new(1),
         [1000; 8],
@@ -61,11 +61,14 @@ fn full_table(alloc: Global) -> Result<Table, Fail> {
 #[test]
 fn links_and_requests(rt: HostRuntime) -> Result<(), Fail> {
     assert_eq!(rt; link(ONE, 5, ONE).err(), Some(LinkError::SelfLink));
-    let made = link(ONE, 5, TWO)?;
-    assert_eq!(rt; (made.from, made.to), (Addr::new(ONE), Addr::new(TWO)));
-    assert_eq!(rt; put(5)?.key(), (Addr::new(ONE), Addr::new(5)));
-    assert_eq!(rt; drop_of(6).key(), (Addr::new(ONE), Addr::new(6)));
     let (one, two, none) = (Addr::new(ONE), Addr::new(TWO), Mask::new(0));
+    let made = link(ONE, 5, TWO)?;
+    assert_eq!(rt; (made.from, made.local), (one, Addr::new(5)));
+    assert_eq!(rt; (made.to, made.remote), (two, Addr::new(4)));
+    assert_eq!(rt; (made.metric, made.group), (10, Mask::new(1)));
+    assert_eq!(rt; made.free, [1000; 8]);
+    assert_eq!(rt; put(5)?.key(), (one, Addr::new(5)));
+    assert_eq!(rt; drop_of(6).key(), (one, Addr::new(6)));
     let high = Request::new(7, one, one, 8, 1, none, none, none, Hops::none());
     assert_eq!(rt; high.err(), Some(RequestError::Priority));
     let same = Request::new(7, one, one, 7, 1, none, none, none, Hops::none());
@@ -75,9 +78,59 @@ fn links_and_requests(rt: HostRuntime) -> Result<(), Fail> {
         prefix: Prefix::new(two, 32)?,
         loose: true,
     });
-    let request = Request::new(7, one, two, 7, 1, none, none, none, hops)?;
-    assert_eq!(rt; request.setup, 7);
+    let (low, middle, high) = (Mask::new(1), Mask::new(2), Mask::new(4));
+    let request = Request::new(8, one, two, 7, 9, low, middle, high, hops)?;
+    assert_eq!(rt; (request.id, request.from, request.to), (8, one, two));
+    assert_eq!(rt; (request.setup, request.bandwidth), (7, 9));
+    assert_eq!(rt; (request.exclude_any, request.include_any), (low, middle));
+    assert_eq!(rt; request.include_all, high);
     assert_eq!(rt; request.hops, hops);
+    Ok(())
+}
+
+#[test]
+fn a_copied_batch(rt: HostRuntime) -> Result<(), Fail> {
+    let alloc = rt.alloc();
+    let mut batch = batch(alloc, &[put(5)?, drop_of(6)])?;
+    let copy = batch.copy(alloc)?;
+    let _ = batch.changes.pop();
+    assert_eq!(rt; copy.number, 1);
+    assert_eq!(rt; copy.changes.as_slice(), [put(5)?, drop_of(6)].as_slice());
+    Ok(())
+}
+
+#[test]
+fn a_replaced_link(rt: HostRuntime) -> Result<(), Fail> {
+    let alloc = rt.alloc();
+    let mut table = Table::new(alloc)?;
+    table.absorb(&batch(alloc, &[put(5)?, put(7)?])?);
+    let (one, five, three) = (Addr::new(ONE), Addr::new(5), Addr::new(50529027));
+    assert_eq!(rt; table.find(one, five), Some(link(ONE, 5, TWO)?));
+    let remote = Addr::new(9);
+    let new = Link::new(
+        one,
+        five,
+        three,
+        remote,
+        20,
+        Mask::new(2),
+        [0, 1, 2, 3, 4, 5, 6, 7],
+    )?;
+    table.absorb(&batch(alloc, &[Change::Put(new)])?);
+    assert_eq!(rt; table.links().len(), 2);
+    assert!(rt; table.links().contains(&new));
+    let found = table.find(one, five);
+    assert_eq!(rt; found, Some(new));
+    assert_eq!(rt;
+        found.map(|link| (link.to, link.remote)),
+        Some((three, remote))
+    );
+    assert_eq!(rt;
+        found.map(|link| (link.metric, link.group)),
+        Some((20, Mask::new(2)))
+    );
+    assert_eq!(rt; found.map(|link| link.free), Some([0, 1, 2, 3, 4, 5, 6, 7]));
+    assert_eq!(rt; table.find(one, Addr::new(7)), Some(link(ONE, 7, TWO)?));
     Ok(())
 }
 

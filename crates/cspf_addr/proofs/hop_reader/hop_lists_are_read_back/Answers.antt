@@ -1,4 +1,4 @@
-use Rattle.cspf_addr.proofs.HopListLemmas.{hops_of-hops_text}
+use Rattle.cspf_addr.proofs.HopPartLemmas.{hops_of-hops_text}
 use Rattle.cspf_addr.proofs.hop_reader.hop_lists_are_read_back.Goals as goal
 
 pub returns : goal.returns

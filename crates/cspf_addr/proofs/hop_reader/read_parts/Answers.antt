@@ -10,7 +10,8 @@ pub returns-in_default : goal.returns-in_default
 unfolding parts_of
 returns-in_default c =
     let turn = YieldsList-turn (YieldsList-from_slice_split _ (λ byte. eqb byte 32) c.args.text.now (cc) (cc) (cc) (λ x b q k. search (rules, tests))) c.loop-part.yielded _ c.loop-part.yielded_by _ _ c.in-Some.part c.in-Some.is c.next.ensures.steps in
-    rw (c.len.ensures.value ∙ c.loop-part.invariant.same) (read_refused (parts_of c.args.text.now) (length c.loop-part.yielded) c.in-Some.part.now c.loop-part.hops turn.0 turn.1 (sym c.in_default.is ∙ c.read_hop.ensures) c.loop-part.invariant.read)
+    rw (c.len.ensures.value ∙ c.loop-part.invariant.same)
+    (read_refused (parts_of c.args.text.now) (length c.loop-part.yielded) c.in-Some.part.now c.loop-part.hops turn.0 turn.1 (sym c.in_default.is ∙ c.read_hop.ensures) c.loop-part.invariant.read)
 
 pub push-requires : goal.push-requires
 unfolding parts_of
@@ -23,12 +24,16 @@ unfolding parts_of
 loop-part-preserved c =
     let turn = YieldsList-turn (YieldsList-from_slice_split _ (λ byte. eqb byte 32) c.args.text.now (cc) (cc) (cc) (λ x b q k. search (rules, tests))) c.loop-part.yielded _ c.loop-part.yielded_by _ _ c.in-Some.part c.in-Some.is c.next.ensures.steps in
     rw (c.push.ensures, length_push c.loop-part.yielded c.in-Some.part) record {
-      same = length_push c.loop-part.hops c.in-Some-read_hop.hop ∙ ap (λ n. n + 1) c.loop-part.invariant.same;
-      read = read_more (parts_of c.args.text.now) (length c.loop-part.yielded) c.in-Some.part.now c.loop-part.hops c.in-Some-read_hop.hop turn.0 turn.1 (sym c.in-Some-read_hop.is ∙ c.read_hop.ensures) c.loop-part.invariant.read;
+      same =
+          length_push c.loop-part.hops c.in-Some-read_hop.hop
+          ∙ ap (λ n. n + 1) c.loop-part.invariant.same;
+      read =
+          read_more (parts_of c.args.text.now) (length c.loop-part.yielded) c.in-Some.part.now c.loop-part.hops c.in-Some-read_hop.hop turn.0 turn.1 (sym c.in-Some-read_hop.is ∙ c.read_hop.ensures) c.loop-part.invariant.read;
     }
 
 pub returns : goal.returns
 unfolding parts_of
 returns c =
     let end = YieldsList-end (YieldsList-from_slice_split _ (λ byte. eqb byte 32) c.args.text.now (cc) (cc) (cc) (λ x b q k. search (rules, tests))) c.loop-part.yielded _ c.loop-part.yielded_by _ _ c.in-None.is c.next.ensures.steps in
-    read_all (parts_of c.args.text.now) (length c.loop-part.yielded) c.loop-part.hops end.1 c.loop-part.invariant.read
+    read_all (parts_of c.args.text.now) (length c.loop-part.yielded) c.loop-part.hops end.1
+    c.loop-part.invariant.read

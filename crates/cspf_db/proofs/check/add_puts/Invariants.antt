@@ -1,6 +1,7 @@
 use Rattle.std.proofs.Common.{◌≡◌, ◌≤◌, drop}
 use Rattle.std.specs.FinSet as set
-use Rattle.cspf_db.specs.Kept.{links_put, with_ends}
+use Rattle.cspf_db.specs.RowsLeft.{links_put}
+use Rattle.cspf_db.specs.CountedEnds.{with_ends}
 use Rattle.cspf_db.proofs.check.add_puts.Given as goal
 
 abbrev pub invariant-loop-change : goal.invariant-loop-change

@@ -1,6 +1,7 @@
 use Rattle.std.proofs.Common.{◌≡◌, ◌≤◌, drop}
 use Rattle.std.specs.FinSet as set
-use Rattle.cspf_db.specs.Kept.{rows_left, with_ends}
+use Rattle.cspf_db.specs.RowsLeft.{rows_left}
+use Rattle.cspf_db.specs.CountedEnds.{with_ends}
 use Rattle.cspf_db.proofs.check.add_rows.Given as goal
 
 abbrev pub invariant-loop-row : goal.invariant-loop-row

@@ -1,5 +1,5 @@
 use Rattle.std.proofs.Common.{ℕ, ◌<◌}
-use Rattle.cspf_db.specs.Kept.{IsNewAt}
+use Rattle.cspf_db.specs.RepeatedKeys.{IsNewAt}
 use Rattle.cspf_db.proofs.check.first_repeat.Given as goal
 
 abbrev pub invariant-loop-at : goal.invariant-loop-at

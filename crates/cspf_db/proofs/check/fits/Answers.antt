@@ -4,7 +4,9 @@ use Rattle.cspf_db.proofs.check.fits.Goals as goal
 
 pub returns-in-Some-clause-err : goal.returns-in-Some-clause-err
 returns-in-Some-clause-err c =
-    let first = c.in-Some.ensures in rw (← c.batch.view_is, ← c.as_slice-changes.ensures.value) (c.if-changes-gt-CHANGES.false, least_repeat _ c.in-Some.at first.bound first.some first.before)
+    let first = c.in-Some.ensures in
+    rw (← c.batch.view_is, ← c.as_slice-changes.ensures.value)
+    (c.if-changes-gt-CHANGES.false, least_repeat _ c.in-Some.at first.bound first.some first.before)
 
 pub returns-in-Some-first_absent-clause-err : goal.returns-in-Some-first_absent-clause-err
 returns-in-Some-first_absent-clause-err c =

@@ -2,7 +2,8 @@ use Rattle.std.proofs.Common.{refl, ap, ◌∙◌, arith}
 use Rattle.std.specs.FinSet as set
 use Rattle.std.specs.Ordering.{nat_cmp}
 use Rattle.std.proofs.lemmas.List.Elements.{recursion_from_All}
-use Rattle.cspf_db.specs.Kept.{HasKnownEnds, with_ends, rows_left}
+use Rattle.cspf_db.specs.RowsLeft.{rows_left}
+use Rattle.cspf_db.specs.CountedEnds.{HasKnownEnds, with_ends}
 use Rattle.cspf_db.proofs.Counting.{router_count-known, many_left, tells_both}
 use Rattle.cspf_db.proofs.check.has_too_many_routers.Goals as goal
 use Rattle.cspf_db.proofs.check.has_too_many_routers.Goals.{then-add_rows, else-add_rows}

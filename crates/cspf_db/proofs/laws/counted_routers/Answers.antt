@@ -1,6 +1,8 @@
 use Rattle.cspf_db.proofs.Deciding.{at_their_keys}
 use Rattle.cspf_db.proofs.Counted.{routers_counted}
+use Rattle.cspf_db.proofs.Few.{length-le-router_count}
 use Rattle.cspf_db.proofs.laws.counted_routers.Goals as goal
 
 pub returns : goal.returns
-returns c = record { counted = routers_counted; at_their_keys = at_their_keys }
+returns c =
+    record { counted = routers_counted; distinct = length-le-router_count; at_their_keys = at_their_keys }

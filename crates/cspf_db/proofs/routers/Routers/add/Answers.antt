@@ -5,11 +5,13 @@ use Rattle.cspf_db.proofs.routers.Routers.add.Goals as goal
 
 pub returns-then-contains-clause-added : goal.returns-then-contains-clause-added
 returns-then-contains-clause-added c =
-    rw (← c.self.view_is) (insert-there _ c.args.router (contains-found _ c.args.router ∙ sym c.contains.ensures.value ∙ c.if-contains.true))
+    rw (← c.self.view_is)
+    (insert-there _ c.args.router (contains-found _ c.args.router ∙ sym c.contains.ensures.value ∙ c.if-contains.true))
 
 pub returns-then-contains-clause-few : goal.returns-then-contains-clause-few
 returns-then-contains-clause-few c =
-    rw (← c.self.view_is, len-from_distinct _ c.self.invariant.once) (omega (arith, c.self.invariant.most, c.self.invariant.room, length-take-le c.self.inside.count c.self.inside.found))
+    rw (← c.self.view_is, len-from_distinct _ c.self.invariant.once)
+    (omega (arith, c.self.invariant.most, c.self.invariant.room, length-take-le c.self.inside.count c.self.inside.found))
 
 pub returns-then-self-eq-ROUTERS-clause-full : goal.returns-then-self-eq-ROUTERS-clause-full
 returns-then-self-eq-ROUTERS-clause-full c =
@@ -20,9 +22,11 @@ pub invariant_of-self : goal.invariant_of-self
 invariant_of-self c =
     let within : c.self.inside.count < length c.self.inside.found = omega (arith, c.self.invariant.room, c.self.invariant.most) in
     record {
-      room = length-set c.self.inside.found c.self.inside.count c.args.router ∙ c.self.invariant.room;
+      room =
+          length-set c.self.inside.found c.self.inside.count c.args.router ∙ c.self.invariant.room;
       most = omega (arith, c.self.invariant.most);
-      once = rw (take_more_set c.self.inside.found c.self.inside.count c.args.router within) (distinct-push _ c.args.router (sym c.contains.ensures.value ∙ c.if-contains.false) c.self.invariant.once);
+      once =
+          rw (take_more_set c.self.inside.found c.self.inside.count c.args.router within) (distinct-push _ c.args.router (sym c.contains.ensures.value ∙ c.if-contains.false) c.self.invariant.once);
     }
 
 pub returns-clause-added : goal.returns-clause-added

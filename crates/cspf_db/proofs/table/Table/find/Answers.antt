@@ -2,7 +2,8 @@ use Rattle.cspf_db.proofs.Found.{link_at-row, link_at-no_row}
 use Rattle.cspf_db.proofs.table.Table.find.Goals as goal
 
 pub returns-in_err-at : goal.returns-in_err-at
-returns-in_err-at c = rw (c.from_residual.ensures, ← c.self.view_is, link_at-no_row _ _ (rw c.deref.ensures.value at c.in_err-at.ensures.none))
+returns-in_err-at c =
+    rw (c.from_residual.ensures, ← c.self.view_is, link_at-no_row _ _ (rw c.deref.ensures.value at c.in_err-at.ensures.none))
 
 pub returns : goal.returns
 returns c =

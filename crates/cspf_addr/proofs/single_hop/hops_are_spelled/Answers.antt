@@ -1,5 +1,0 @@
-use Rattle.cspf_addr.proofs.HopLemmas.{hop_texts_read, hop_of-hop_text}
-use Rattle.cspf_addr.proofs.single_hop.hops_are_spelled.Goals as goal
-
-pub returns : goal.returns
-returns c = record { read = hop_texts_read; back = hop_of-hop_text }

@@ -1,0 +1,5 @@
+use Rattle.cspf_db.proofs.Said.{links_said, requests_said}
+use Rattle.cspf_db.proofs.laws.fields_of_links_and_requests.Goals as goal
+
+pub returns : goal.returns
+returns c = record { links = links_said; requests = requests_said }

@@ -1,0 +1,23 @@
+-- Private: how the ends of links are counted.
+use Rattle.std.specs.Prelude.{ℕ, List, [], ◌∷◌, length, ◌<◌}
+use Rattle.std.specs.Ordering.{nat_cmp}
+use Rattle.std.specs.List.{HoldsAt}
+use Rattle.std.specs.FinSet.{FinSet, insert}
+use Rattle.cspf_db.specs.declared.link.Link.{Link}
+use Rattle.cspf_db.specs.declared.batch.Change.{Change}
+use Rattle.cspf_db.specs.declared.batch.Change.TheVariants.{Put, Remove}
+use Rattle.cspf_db.specs.Database.{EndsAt}
+
+-- a set of routers, and both ends of the links
+abbrev pub with_ends : FinSet nat_cmp → List Link → FinSet nat_cmp
+with_ends routers [] = routers
+with_ends routers (l ∷ ls) = with_ends (insert (insert routers l.from) l.to) ls
+
+-- one of the links begins or ends at the router
+abbrev pub AnyEndsAt : List Link → ℕ → Type 0
+AnyEndsAt links router = (at : ℕ) × (at < length links) × HoldsAt (EndsAt router) links at
+
+-- both ends of the link that the change puts, if it does, are ends of the links
+abbrev pub HasKnownEnds : List Link → Change → Type 0
+HasKnownEnds links (Put l) = AnyEndsAt links l.from × AnyEndsAt links l.to
+HasKnownEnds links (Remove from local) = Unit {0}
