@@ -1,4 +1,6 @@
-use Rattle.std.proofs.Common.{◌≡◌, ℕ, ◌<◌, Some, None, option_map, List, [], ◌∷◌, length, refl, ap, arith}
+-- What the node at the tail-end tells of the route.
+use Rattle.std.proofs.Common.{◌≡◌, ℕ, ◌+◌, ◌*◌, ◌<◌, ◌≤◌, Option, Some, None, option_map, List, [], ◌∷◌, length, slice_index_or, refl, sym, ap, ◌∙◌, arith}
+use Rattle.std.proofs.lemmas.List.Quantifiers.{position-Some}
 use Rattle.cspf_db.specs.declared.link.Link.{Link}
 use Rattle.cspf_db.specs.declared.request.Request.{Request}
 use Rattle.cspf_db.specs.Database.{Database}
@@ -9,25 +11,32 @@ use Rattle.cspf_search.specs.Routes.{AreLinked}
 use Rattle.cspf_search.specs.declared.arena.Node.{Node}
 use Rattle.cspf_search.specs.States.{State, end_state}
 use Rattle.cspf_search.specs.Settled.{AreSettled}
-use Rattle.cspf_search.specs.Arena.{walk_at, walks, place_of, labels_of}
-use Rattle.cspf_search.proofs.Walked.{AreWalksToEnd}
+use Rattle.cspf_search.specs.Arena.{walk_at, walks, state_of, same_state, index_of, labels_of, AreNodes}
+use Rattle.cspf_search.proofs.Cuts.{reached_walk, route_reaches}
 use Rattle.cspf_search.proofs.Settles.{settled_best}
+use Rattle.cspf_search.proofs.Labelled.{same_state-true}
+use Rattle.cspf_search.proofs.Few.{nowhere}
 
--- what the node at the tail-end tells of the route
+-- the node at the tail-end in the last of the legs is that of the end state
+end_index : (q : Request) (nodes : List Node) (legs : ℕ) (o : Option ℕ) → legs ≡ length q.hops + 1 → o ≡ index_of nodes (record { leg = legs; router = q.to })
+    → index_of nodes (end_state q) ≡ o
+end_index q nodes legs o count is = ap (λ k. index_of nodes (record { leg = k; router = q.to })) (sym count) ∙ sym is
 
--- the walk of the node at the tail-end is the best route, whichever copies of the nodes are read
-pub best_at : (d : Database) (q : Request) → AreWalksToEnd d q → (nodes : List Node) → AreSettled d q (labels_of nodes) → (looked read : List Node) → looked ≡ nodes → read ≡ nodes
-    → (at : ℕ) → place_of looked (end_state q) ≡ Some at → IsBestRoute d q (walk_at (walks read) at)
-best_at d q plain nodes settled looked read same_looked same_read at e =
-    rw same_read (settled_best d q (labels_of nodes) settled plain (walk_at (walks nodes) at) (ap (option_map (λ i. walk_at (walks nodes) i)) (rw same_looked at e)))
+-- its walk is the best route
+pub best_at : (d : Database) (q : Request) (nodes : List Node) → AreSettled d q (labels_of nodes) → (legs : ℕ) → legs ≡ length q.hops + 1 → (o : Option ℕ) (at : ℕ)
+    → o ≡ index_of nodes (record { leg = legs; router = q.to }) → o ≡ Some at → IsBestRoute d q (walk_at (walks nodes) at)
+best_at d q nodes settled legs count o at is found =
+    settled_best d q (labels_of nodes) settled (walk_at (walks nodes) at) (ap (option_map (λ i. walk_at (walks nodes) i)) (end_index q nodes legs o count is ∙ found))
 
-pub no_label : (nodes : List Node) (s : State) → place_of nodes s ≡ None → labels_of nodes s ≡ None
-no_label nodes s e = ap (option_map (λ i. walk_at (walks nodes) i)) e
+-- where there is none the end state has no label
+pub no_label : (q : Request) (nodes : List Node) (legs : ℕ) → legs ≡ length q.hops + 1 → (o : Option ℕ) → o ≡ index_of nodes (record { leg = legs; router = q.to }) → o ≡ None
+    → labels_of nodes (end_state q) ≡ None
+no_label q nodes legs count o is none = ap (option_map (λ i. walk_at (walks nodes) i)) (end_index q nodes legs o count is ∙ none)
 
 -- a route has a link, since a request has two ends
-pub route_some : (d : Database) (q : Request) → AreWalksToEnd d q → (w : List Link) → IsRoute d q w → 0 < length w
-route_some d q plain [] route = absurd (q.two_ends ((plain []).0 route).arrives)
-route_some d q plain (l ∷ w) route = omega arith
+pub route_some : (d : Database) (q : Request) (w : List Link) → IsRoute d q w → 0 < length w
+route_some d q [] route = absurd (q.two_ends (reached_walk d q [] (end_state q) (route_reaches d q [] route)).1)
+route_some d q (l ∷ w) route = omega arith
 
 linked : (a : ℕ) (w : List Link) → AreJoined a w → AreLinked w
 linked a [] joined = tt
@@ -35,3 +44,12 @@ linked a (l ∷ w) joined = (refl, joined.1)
 
 pub route_linked : (d : Database) (q : Request) (w : List Link) → IsRoute d q w → AreLinked w
 route_linked d q w route = linked q.from w route.is_walk.joined
+
+-- the walk of the node at the tail-end has at most 1,023 links for each leg
+pub walk_most : (q : Request) (nodes : List Node) → AreNodes nodes → (legs : ℕ) → legs ≡ length q.hops + 1 → legs ≤ 8 → length nodes ≤ legs * 1024
+    → (o : Option ℕ) (at : ℕ) → o ≡ index_of nodes (record { leg = legs; router = q.to }) → o ≡ Some at → length (walk_at (walks nodes) at) ≤ 8184
+walk_most q nodes are legs count most few o at is found =
+    let here = position-Some (λ n. same_state (state_of n) (record { leg = legs; router = q.to })) nodes at nowhere (sym is ∙ found) in
+    let leg = ap (λ (s : State). s.leg) (same_state-true (state_of (slice_index_or nodes at nowhere)) (record { leg = legs; router = q.to }) here.1) in
+    let numbered = are.numbered at nowhere here.0 in
+    omega (arith, here.0, leg, numbered.links, numbered.few)

@@ -1,58 +1,98 @@
-use Rattle.std.proofs.Common.{◌≡◌, ℕ, zero, suc, ◌+◌, ◌^◌, ◌<◌, Some, None, IsSome, List, [], ◌∷◌, ◌++◌, length, slice_index_or, refl, sym, ap, subst, ◌∙◌, arith}
+-- What a link or a turn leads to from a node, and the way back along parents.
+use Rattle.std.proofs.Common.{◌≡◌, ℕ, zero, suc, ◌+◌, ◌^◌, ◌<◌, ◌≤◌, Some, None, IsSome, List, [], ◌∷◌, ◌++◌, length, slice_get, slice_index_or, refl, sym, ap, subst, ◌∙◌, arith}
 use Rattle.std.specs.Ordering.{nat_cmp, ordering_then, is_gt}
 use Rattle.std.specs.declared.cmp.Ordering.{Ordering}
 use Rattle.std.proofs.lemmas.Cmp.{tied_itself}
 use Rattle.std.proofs.lemmas.List.{length_push}
-use Rattle.std.proofs.lemmas.Option.{slice_get_read, same_Some}
+use Rattle.std.proofs.lemmas.Option.{get_or_from_slice_get, same_Some}
 use Rattle.cspf_db.specs.declared.link.Link.{Link}
 use Rattle.cspf_db.specs.declared.request.Request.{Request}
+use Rattle.cspf_db.specs.Database.{Database}
 use Rattle.cspf_db.specs.Admissible.{IsAdmitted}
+use Rattle.cspf_db.specs.Targets.{IsTarget, IsInside}
+use Rattle.cspf_db.specs.Walks.{cost_of}
 use Rattle.cspf_search.specs.declared.arena.Node.{Node}
 use Rattle.cspf_search.specs.States.{State}
 use Rattle.cspf_search.specs.Settled.{state_cmp, locals_cmp}
-use Rattle.cspf_search.specs.Arena.{went, walk_at, walks, walk_of, place_of, IsNumbered, AreNodes, IsNext}
-use Rattle.cspf_search.specs.Rounds.{CrossesBy, IsFirstOf}
+use Rattle.cspf_search.specs.Arena.{walk_with, walk_at, walks, walk_of, index_of, IsNumbered, HasLast, AreNodes, IsNext}
+use Rattle.cspf_search.specs.Rounds.{CrossesBy, Turns, IsFirstOf}
 use Rattle.cspf_search.proofs.Orders.{states_total, cost_of-push, locals_cmp-last, then_assoc}
-
--- a link from a node, and the way back along parents
 
 -- the node that a link leads to
 abbrev pub node_by : ℕ → Node → Link → Node
 node_by at from l = record { parent = at; by = Some l; leg = from.leg; router = l.to; cost = from.cost + l.metric; links = from.links + 1 }
 
-module _ (q : Request) (nodes : List Node) (are : AreNodes nodes) (at : ℕ) (within : at < length nodes) (from : Node) (is : from ≡ slice_index_or nodes at from)
-    (l : Link) (small : l.metric < 2 ^ 32) where
+-- the node that the turn to the next leg leads to
+abbrev pub node_turned : Node → Node
+node_turned from = record { parent = from.parent; by = from.by; leg = from.leg + 1; router = from.router; cost = from.cost; links = from.links }
+
+module _ (nodes : List Node) (are : AreNodes nodes) where
+  parent_at : (i : ℕ) (d : Node) → i < length nodes → (slice_index_or nodes i d).parent < length nodes
+  parent_at zero d h = rw (are.root d).parent are.some
+  parent_at (suc i) d h = omega (arith, are.back (suc i) d (omega arith) h)
+
+module _ (d : Database) (q : Request) (nodes : List Node) (are : AreNodes nodes) (at : ℕ) (within : at < length nodes) (from : Node)
+    (there : slice_get nodes at ≡ Some from) where
+  is : from ≡ slice_index_or nodes at from
+  is = sym (get_or_from_slice_get nodes at from from there)
+
   from_numbered : IsNumbered from (walk_at (walks nodes) at) at
   from_numbered = subst (λ n. IsNumbered n (walk_at (walks nodes) at) at) (sym is) (are.numbered at from within)
 
-  from_leg : from.leg ≡ 1
-  from_leg = ap (λ (n : Node). n.leg) is ∙ are.first_leg at from within
+  from_grown : walk_at (walks nodes) at ≡ walk_of nodes from
+  from_grown = are.grown at from within ∙ ap (walk_of nodes) (sym is)
 
-  by_next : IsNext nodes (node_by at from l)
-  by_next = record {
-    parent = within;
-    linked = refl;
+  module _ (l : Link) (small : l.metric < 2 ^ 32) where
+    by_next : IsNext nodes (node_by at from l)
+    by_next = record {
+      parent = within;
+      linked = λ _. refl;
+      numbered = record {
+        cost = ap (λ c. c + l.metric) from_numbered.cost ∙ sym (cost_of-push (walk_at (walks nodes) at) l);
+        links = ap (λ c. c + 1) from_numbered.links ∙ sym (length_push (walk_at (walks nodes) at) l);
+        few = omega (arith, from_numbered.few);
+        small = omega (arith, from_numbered.small);
+      };
+    }
+
+    -- an admitted link inside the leg to an open state crosses, and nothing else does by that link
+    pub by_first : l.from ≡ from.router → IsAdmitted q l → IsInside d q from.leg l.to → index_of nodes (record { leg = from.leg; router = l.to }) ≡ None
+        → IsFirstOf nodes (CrossesBy d q nodes at l) (node_by at from l)
+    by_first runs admitted inside left =
+        let me : ℕ × List Link = (from.leg, walk_at (walks nodes) at ++ (l ∷ [])) in
+        record {
+          next = by_next;
+          passes = record { node = from; there = there; runs = runs; admitted = admitted; inside = inside; walk = refl; state = refl; still_open = left };
+          first = λ w t x.
+              let same : from ≡ x.node = same_Some from x.node (sym there ∙ x.there) in
+              let whole : (t.leg, w) ≡ me = λ i. ((ap (λ (s : State). s.leg) x.state ∙ ap (λ (n : Node). n.leg) (sym same)) i, x.walk i) in
+              ap (λ y. is_gt (state_cmp me y)) whole ∙ ap is_gt (tied_itself states_total me);
+        }
+
+  turned_next : IsNext nodes (node_turned from)
+  turned_next = record {
+    parent = subst (λ (n : Node). n.parent < length nodes) (sym is) (parent_at nodes are at from within);
+    linked = subst HasLast (sym is) (are.linked at from within);
     numbered = record {
-      cost = ap (λ c. c + l.metric) from_numbered.cost ∙ sym (cost_of-push (walk_at (walks nodes) at) l);
-      links = ap (λ c. c + 1) from_numbered.links ∙ sym (length_push (walk_at (walks nodes) at) l);
+      cost = from_numbered.cost ∙ ap cost_of from_grown;
+      links = from_numbered.links ∙ ap (λ (w : List Link). length w) from_grown;
       few = omega (arith, from_numbered.few);
-      small = omega (arith, from_numbered.small);
+      small = from_numbered.small;
     };
-    first_leg = from_leg;
   }
 
-  -- where it is admitted and leads to an open state it crosses, and nothing else does by that link
-  pub by_first : l.from ≡ from.router → IsAdmitted q l → place_of nodes (record { leg = from.leg; router = l.to }) ≡ None
-      → IsFirstOf nodes (CrossesBy q nodes at l) (node_by at from l)
-  by_first runs admitted left =
-      let there = slice_get_read nodes (length nodes) at from refl within is in
-      let me : ℕ × List Link = (from.leg, walk_at (walks nodes) at ++ (l ∷ [])) in
+  -- the turn from a target of the leg to an open state crosses, and nothing else does by turning
+  pub turned_first : from.leg ≤ length q.hops → IsTarget d q from.leg from.router → index_of nodes (record { leg = from.leg + 1; router = from.router }) ≡ None
+      → IsFirstOf nodes (Turns d q nodes at) (node_turned from)
+  turned_first low target left =
+      let me : ℕ × List Link = (from.leg + 1, walk_of nodes from) in
       record {
-        next = by_next;
-        passes = record { node = from; there = there; runs = runs; admitted = admitted; walk = refl; state = refl; still_open = left };
+        next = turned_next;
+        passes = record { node = from; there = there; within = low; target = target; walk = sym from_grown; state = refl; still_open = left };
         first = λ w t x.
             let same : from ≡ x.node = same_Some from x.node (sym there ∙ x.there) in
-            let whole : (t.leg, w) ≡ me = λ i. ((ap (λ (s : State). s.leg) x.state ∙ ap (λ (n : Node). n.leg) (sym same)) i, x.walk i) in
+            let whole : (t.leg, w) ≡ me =
+            λ i. ((ap (λ (s : State). s.leg) x.state ∙ ap (λ (n : Node). n.leg + 1) (sym same)) i, (x.walk ∙ from_grown) i) in
             ap (λ y. is_gt (state_cmp me y)) whole ∙ ap is_gt (tied_itself states_total me);
       }
 
@@ -63,27 +103,24 @@ pub record IsBehind (nodes : List Node) (n : Node) (passed : ℕ) (count : ℕ) 
   pub linked : passed < count → IsSome n.by
 
 pub behind_next : (nodes : List Node) (n : Node) (count : ℕ) → IsNext nodes n → n.links ≡ count → IsBehind nodes n 0 count
-behind_next nodes n count next e = record { parent = next.parent; left = omega (arith, next.numbered.links); linked = λ _. next.linked }
+behind_next nodes n count next e = record { parent = next.parent; left = omega (arith, next.numbered.links); linked = λ h. next.linked (omega arith) }
 
 module _ (nodes : List Node) (are : AreNodes nodes) (n m : Node) (within : n.parent < length nodes) (is : m ≡ slice_index_or nodes n.parent m) (l : Link)
     (by : n.by ≡ Some l) where
   -- the walk of a node is its parent's, with its own link
   pub walk_back : walk_of nodes n ≡ walk_of nodes m ++ (l ∷ [])
   walk_back =
-      ap (went (walk_at (walks nodes) n.parent)) by ∙ ap (λ w. w ++ (l ∷ [])) (are.grown n.parent m within ∙ ap (walk_of nodes) (sym is))
+      ap (walk_with (walk_at (walks nodes) n.parent)) by ∙ ap (λ w. w ++ (l ∷ [])) (are.grown n.parent m within ∙ ap (walk_of nodes) (sym is))
 
-  pub parent_within : m.parent < length nodes
-  parent_within = rw is (parent_at n.parent m within)
-    where
-      parent_at : (i : ℕ) (d : Node) → i < length nodes → (slice_index_or nodes i d).parent < length nodes
-      parent_at zero d h = rw (are.root d).parent are.some
-      parent_at (suc i) d h = omega (arith, are.back (suc i) d (omega arith) h)
+  parent_within : m.parent < length nodes
+  parent_within = subst (λ (n : Node). n.parent < length nodes) (sym is) (parent_at nodes are n.parent m within)
 
-  linked_behind : (i : ℕ) → i ≡ n.parent → 0 < length (walk_of nodes m) → IsSome m.by
-  linked_behind zero e h =
-      let root : walk_of nodes m ≡ [] = ap (walk_of nodes) is ∙ sym (are.grown n.parent m within) ∙ ap (walk_at (walks nodes)) (sym e) ∙ are.begun in
-      absurd (omega (arith, ap (λ (w : List Link). length w) root))
-  linked_behind (suc i) e h = rw is (are.linked n.parent m (omega arith) within)
+  parent_linked : 0 < length (walk_of nodes m) → IsSome m.by
+  parent_linked h =
+      let grown : walk_at (walks nodes) n.parent ≡ walk_of nodes m = are.grown n.parent m within ∙ ap (walk_of nodes) (sym is) in
+      let links : m.links ≡ length (walk_of nodes m) =
+      ap (λ (n : Node). n.links) is ∙ (are.numbered n.parent m within).links ∙ ap (λ (w : List Link). length w) grown in
+      subst HasLast (sym is) (are.linked n.parent m within) (omega arith)
 
   pub behind_more : (passed count : ℕ) → IsBehind nodes n passed count → IsBehind nodes m (passed + 1) count
   behind_more passed count behind =
@@ -92,7 +129,7 @@ module _ (nodes : List Node) (are : AreNodes nodes) (n m : Node) (within : n.par
       record {
         parent = parent_within;
         left = left;
-        linked = λ h. linked_behind n.parent refl (omega arith);
+        linked = λ h. parent_linked (omega arith);
       }
 
 -- the last links of two walks are compared behind what comes before them

@@ -1,3 +1,4 @@
+-- Of two firsts the earlier is the first of both kinds.
 use Rattle.std.proofs.Common.{◌≡◌, ◌⊎◌, inl, inr, ℕ, true, false, cond, Option, Some, None, List, refl, ap}
 use Rattle.std.specs.Ordering.{is_gt, ordering_reverse}
 use Rattle.std.specs.declared.cmp.Ordering.TheVariants.{Less, Equal, Greater}
@@ -9,8 +10,6 @@ use Rattle.cspf_search.specs.Settled.{state_cmp}
 use Rattle.cspf_search.specs.Arena.{walk_of}
 use Rattle.cspf_search.specs.Rounds.{IsFirstOf, IsFirst, earlier_of}
 use Rattle.cspf_search.proofs.Orders.{states_total}
-
--- of two firsts the earlier is the first of both kinds
 
 turned : (a b : ℕ × List Link) → is_gt (state_cmp a b) ≡ true → is_gt (state_cmp b a) ≡ false
 turned a b h =

@@ -1,4 +1,5 @@
-use Rattle.std.proofs.Common.{◌≡◌, inl, inr, ℕ, zero, suc, ◌+◌, ◌<◌, Bool, true, false, not, Option, Some, None, IsSome, option_map, position, List, [], ◌∷◌, ◌++◌, length, slice_index_or, refl, sym, ap, ◌∙◌, arith}
+-- The walks and labels of nodes, and what one node more changes.
+use Rattle.std.proofs.Common.{◌≡◌, inl, inr, ℕ, zero, suc, ◌+◌, ◌<◌, Bool, true, false, not, Option, Some, None, option_map, position, List, [], ◌∷◌, ◌++◌, length, slice_index_or, refl, sym, ap, ◌∙◌, arith}
 use Rattle.std.specs.List.{position_or_len, AllPairs}
 use Rattle.std.proofs.lemmas.Bool.{cases_lt, lt-ltb, not-true, not_from_true, not_from_false, eqb-true, eq-eqb, and_parts, and_from}
 use Rattle.std.proofs.lemmas.List.{get_or_append_left, get_or_push, length_push}
@@ -7,20 +8,20 @@ use Rattle.std.proofs.lemmas.List.Quantifiers.{position-Some, all_pairs_push}
 use Rattle.cspf_db.specs.declared.link.Link.{Link}
 use Rattle.cspf_search.specs.declared.arena.Node.{Node}
 use Rattle.cspf_search.specs.States.{State}
-use Rattle.cspf_search.specs.Arena.{went, walk_at, walks_after, walks, walk_of, state_of, same_state, place_of, labels_of, IsNumbered, IsRoot, AreNodes, IsNext}
+use Rattle.cspf_search.specs.Arena.{walk_with, walk_at, walks_after, walks, walk_of, state_of, same_state, index_of, labels_of, IsNumbered, IsRoot, HasLast, AreNodes, IsNext}
 use Rattle.cspf_search.proofs.Settles.{Adds}
 
 -- the walks of nodes, and one node more
 
 walks_after-push : (done : List (List Link)) (nodes : List Node) (n : Node)
-    → walks_after done (nodes ++ (n ∷ [])) ≡ walks_after done nodes ++ (went (walk_at (walks_after done nodes) n.parent) n.by ∷ [])
+    → walks_after done (nodes ++ (n ∷ [])) ≡ walks_after done nodes ++ (walk_with (walk_at (walks_after done nodes) n.parent) n.by ∷ [])
 walks_after-push done [] n = refl
-walks_after-push done (m ∷ nodes) n = walks_after-push (done ++ (went (walk_at done m.parent) m.by ∷ [])) nodes n
+walks_after-push done (m ∷ nodes) n = walks_after-push (done ++ (walk_with (walk_at done m.parent) m.by ∷ [])) nodes n
 
 length-walks_after : (done : List (List Link)) (nodes : List Node) → length (walks_after done nodes) ≡ length done + length nodes
 length-walks_after done [] = omega arith
 length-walks_after done (m ∷ nodes) =
-    let w = went (walk_at done m.parent) m.by in
+    let w = walk_with (walk_at done m.parent) m.by in
     omega (arith, length-walks_after (done ++ (w ∷ [])) nodes, length_push done w)
 
 pub length-walks : (nodes : List Node) → length (walks nodes) ≡ length nodes
@@ -38,9 +39,9 @@ module _ (nodes : List Node) (n : Node) where
       ∙ get_or_push (walks nodes) (walk_of nodes n) [] (length nodes) (length-walks nodes)
 
   pub walk_of-old : (m : Node) → m.parent < length nodes → walk_of (nodes ++ (n ∷ [])) m ≡ walk_of nodes m
-  walk_of-old m h = ap (λ w. went w m.by) (walk_at-old m.parent h)
+  walk_of-old m h = ap (λ w. walk_with w m.by) (walk_at-old m.parent h)
 
--- places
+-- indexes
 
 position-None : {X : Type 0} (p : X → Bool) (xs : List X) (k : ℕ) (d : X) → position p xs ≡ None → k < length xs → p (slice_index_or xs k d) ≡ false
 position-None p xs k d e h =
@@ -70,7 +71,7 @@ same_state-itself s = and_from _ _ (eq-eqb s.leg s.leg refl) (eq-eqb s.router s.
 pub label_from : (nodes : List Node) (s : State) (w : List Link) (d : Node) → labels_of nodes s ≡ Some w
     → (i : ℕ) × (i < length nodes) × (state_of (slice_index_or nodes i d) ≡ s) × (walk_at (walks nodes) i ≡ w)
 label_from nodes s w d e =
-    elim (place_of nodes s) as (λ o. place_of nodes s ≡ o → option_map (λ i. walk_at (walks nodes) i) o ≡ Some w
+    elim (index_of nodes s) as (λ o. index_of nodes s ≡ o → option_map (λ i. walk_at (walks nodes) i) o ≡ Some w
     → (i : ℕ) × (i < length nodes) × (state_of (slice_index_or nodes i d) ≡ s) × (walk_at (walks nodes) i ≡ w)) [
       | Some i ↦ λ at is.
           let facts = position-Some (λ n. same_state (state_of n) s) nodes i d at in
@@ -78,22 +79,22 @@ label_from nodes s w d e =
       | None ↦ λ at is. absurd (cc)
     ] refl e
 
--- a node's place is that of its state
-pub place_at : (nodes : List Node) → AllPairs (λ m n. same_state (state_of m) (state_of n) ≡ false) nodes → (i : ℕ) (d : Node) → i < length nodes
-    → place_of nodes (state_of (slice_index_or nodes i d)) ≡ Some i
-place_at nodes apart i d h =
+-- a node's index is that of its state
+pub index_at : (nodes : List Node) → AllPairs (λ m n. same_state (state_of m) (state_of n) ≡ false) nodes → (i : ℕ) (d : Node) → i < length nodes
+    → index_of nodes (state_of (slice_index_or nodes i d)) ≡ Some i
+index_at nodes apart i d h =
     position-first (λ n. same_state (state_of n) (state_of (slice_index_or nodes i d))) nodes i d h
     (same_state-itself (state_of (slice_index_or nodes i d))) (λ k l. apart k i d l h)
 
 -- a node's walk is the label of its state
 pub label_at : (nodes : List Node) → AllPairs (λ m n. same_state (state_of m) (state_of n) ≡ false) nodes → (i : ℕ) (d : Node) → i < length nodes
     → labels_of nodes (state_of (slice_index_or nodes i d)) ≡ Some (walk_at (walks nodes) i)
-label_at nodes apart i d h = ap (option_map (λ i. walk_at (walks nodes) i)) (place_at nodes apart i d h)
+label_at nodes apart i d h = ap (option_map (λ i. walk_at (walks nodes) i)) (index_at nodes apart i d h)
 
--- a state with no label is open: there is no place
-pub open_place : (nodes : List Node) (s : State) → labels_of nodes s ≡ None → place_of nodes s ≡ None
-open_place nodes s e =
-    elim (place_of nodes s) as (λ o. option_map (λ i. walk_at (walks nodes) i) o ≡ None → o ≡ None) [
+-- a state with no label is open: there is no index
+pub open_index : (nodes : List Node) (s : State) → labels_of nodes s ≡ None → index_of nodes s ≡ None
+open_index nodes s e =
+    elim (index_of nodes s) as (λ o. option_map (λ i. walk_at (walks nodes) i) o ≡ None → o ≡ None) [
       | Some i ↦ λ is. absurd (cc)
       | None ↦ λ is. refl
     ] e
@@ -102,7 +103,7 @@ pub apart_push : (nodes : List Node) (n : Node) → AllPairs (λ m n. same_state
     → AllPairs (λ m n. same_state (state_of m) (state_of n) ≡ false) (nodes ++ (n ∷ []))
 apart_push nodes n apart left =
     all_pairs_push (λ m n. same_state (state_of m) (state_of n) ≡ false) nodes n apart
-    (λ k d h. position-None (λ m. same_state (state_of m) (state_of n)) nodes k d (open_place nodes (state_of n) left) h)
+    (λ k d h. position-None (λ m. same_state (state_of m) (state_of n)) nodes k d (open_index nodes (state_of n) left) h)
 
 -- one node more
 
@@ -114,9 +115,9 @@ module _ (nodes : List Node) (n : Node) (are : AreNodes nodes) (next : IsNext no
   at_new i d e = get_or_push nodes n d i (sym e)
 
   -- what holds of the old nodes and of the new one
-  by_place : (P : ℕ → Node → Type 0) → ((i : ℕ) (d : Node) → i < length nodes → P i (slice_index_or nodes i d)) → P (length nodes) n
+  by_index : (P : ℕ → Node → Type 0) → ((i : ℕ) (d : Node) → i < length nodes → P i (slice_index_or nodes i d)) → P (length nodes) n
       → (i : ℕ) (d : Node) → i < length (nodes ++ (n ∷ [])) → P i (slice_index_or (nodes ++ (n ∷ [])) i d)
-  by_place P old new i d h =
+  by_index P old new i d h =
       elim (cases_lt i (length nodes)) [
         | inl lt ↦ rw (at_old i d lt) (old i d lt)
         | inr ge ↦
@@ -128,10 +129,7 @@ module _ (nodes : List Node) (n : Node) (are : AreNodes nodes) (next : IsNext no
   parent_within zero d h = rw (are.root d).parent are.some
   parent_within (suc i) d h = omega (arith, are.back (suc i) d (omega arith) h)
 
-  pub legs_push : (i : ℕ) (d : Node) → i < length (nodes ++ (n ∷ [])) → (slice_index_or (nodes ++ (n ∷ [])) i d).leg ≡ 1
-  legs_push = by_place (λ i m. m.leg ≡ 1) are.first_leg next.first_leg
-
-  pub nodes_push : length nodes < 1024 → AreNodes (nodes ++ (n ∷ []))
+  pub nodes_push : length nodes < 8192 → AreNodes (nodes ++ (n ∷ []))
   nodes_push room =
       let more = length_push nodes n in
       record {
@@ -139,17 +137,16 @@ module _ (nodes : List Node) (n : Node) (are : AreNodes nodes) (next : IsNext no
         most = omega arith;
         root = λ d. rw (at_old 0 d are.some) (are.root d);
         begun = walk_at-old nodes n 0 are.some ∙ are.begun;
-        linked = λ i d low high. by_place (λ i m. 0 < i → IsSome m.by) (λ i d h l. are.linked i d l h) (λ l. next.linked) i d high low;
-        back = λ i d low high. by_place (λ i m. 0 < i → m.parent < i) (λ i d h l. are.back i d l h) (λ l. next.parent) i d high low;
+        linked = by_index (λ i m. HasLast m) are.linked next.linked;
+        back = λ i d low high. by_index (λ i m. 0 < i → m.parent < i) (λ i d h l. are.back i d l h) (λ l. next.parent) i d high low;
         grown =
-            by_place (λ i m. walk_at (walks (nodes ++ (n ∷ []))) i ≡ walk_of (nodes ++ (n ∷ [])) m)
+            by_index (λ i m. walk_at (walks (nodes ++ (n ∷ []))) i ≡ walk_of (nodes ++ (n ∷ [])) m)
             (λ i d h. walk_at-old nodes n i h ∙ are.grown i d h ∙ sym (walk_of-old nodes n (slice_index_or nodes i d) (parent_within i d h)))
             (walk_at-new nodes n ∙ sym (walk_of-old nodes n n next.parent));
         numbered =
-            by_place (λ i m. IsNumbered m (walk_at (walks (nodes ++ (n ∷ []))) i) i)
+            by_index (λ i m. IsNumbered m (walk_at (walks (nodes ++ (n ∷ []))) i) i)
             (λ i d h. rw (walk_at-old nodes n i h) (are.numbered i d h))
             (rw (walk_at-new nodes n) next.numbered);
-        first_leg = legs_push;
         apart = apart_push nodes n are.apart left;
       }
 
@@ -172,7 +169,7 @@ module _ (nodes : List Node) (n : Node) (are : AreNodes nodes) (next : IsNext no
         ];
   }
 
-started : (p : ℕ) (b : Option Link) → p ≡ 0 → b ≡ None → went [] b ≡ went (walk_at (went [] b ∷ []) p) b
+started : (p : ℕ) (b : Option Link) → p ≡ 0 → b ≡ None → walk_with [] b ≡ walk_with (walk_at (walk_with [] b ∷ []) p) b
 started p b first last = rw (first, last) refl
 
 -- the root alone
@@ -183,18 +180,17 @@ module _ (n : Node) (root : IsRoot n) where
 
   pub nodes_root : n.leg ≡ 1 → n.cost ≡ 0 → n.links ≡ 0 → AreNodes (n ∷ [])
   nodes_root leg cost links =
-      let none : went [] n.by ≡ [] = rw root.by refl in
+      let none : walk_with [] n.by ≡ [] = rw root.by refl in
       record {
         some = omega arith;
         most = omega arith;
         root = λ d. root;
         begun = none;
-        linked = λ i d low high. absurd (omega arith);
+        linked = only (λ i m. HasLast m) (λ some. absurd (omega arith));
         back = λ i d low high. absurd (omega arith);
         grown = only (λ i m. walk_at (walks (n ∷ [])) i ≡ walk_of (n ∷ []) m) (started n.parent n.by root.parent root.by);
         numbered =
             only (λ i m. IsNumbered m (walk_at (walks (n ∷ [])) i) i)
             (record { cost = rw none cost; links = rw none links; few = omega arith; small = omega arith });
-        first_leg = only (λ i m. m.leg ≡ 1) leg;
         apart = λ i j d low high. absurd (omega arith);
       }

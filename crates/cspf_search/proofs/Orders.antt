@@ -1,4 +1,5 @@
-use Rattle.std.proofs.Common.{◌≡◌, ℕ, ◌+◌, ◌<◌, ◌≤◌, false, List, [], ◌∷◌, ◌++◌, length, refl, sym, ap, ◌∙◌, arith}
+-- The orders of walks at their states.
+use Rattle.std.proofs.Common.{◌≡◌, ℕ, suc, ◌+◌, ◌<◌, ◌≤◌, false, List, [], ◌∷◌, ◌++◌, length, refl, sym, ap, ◌∙◌, arith}
 use Rattle.std.specs.Ordering.{nat_cmp, ordering_then, is_gt}
 use Rattle.std.specs.declared.cmp.Ordering.{Ordering}
 use Rattle.std.specs.declared.cmp.Ordering.TheVariants.{Less, Equal, Greater}
@@ -120,7 +121,14 @@ walk_cmp-push v w l =
 grows : (a n b k : ℕ) (o : Ordering) → a ≤ b → n < k → ordering_then (nat_cmp a b) (ordering_then (nat_cmp n k) o) ≡ Less
 grows a n b k o up more = grind (arith, nat_tests)
 
+below_next : (k : ℕ) → nat_cmp k (suc k) ≡ Less
+below_next k = grind (arith, nat_tests)
+
 -- a walk ranks before itself with one link more
 pub rank_cmp-push : (k : ℕ) (v : List Link) (l : Link) → rank_cmp (k, v) (k, v ++ (l ∷ [])) ≡ Less
 rank_cmp-push k v l =
     rw (cost_of-push v l, length_push v l) (grows (cost_of v) (length v) (cost_of v + l.metric) (length v + 1) (nat_cmp k k) (omega arith) (omega arith))
+
+-- a walk ranks before itself in the next leg
+pub rank_cmp-turn : (k : ℕ) (v : List Link) → rank_cmp (k, v) (suc k, v) ≡ Less
+rank_cmp-turn k v = rw (tied_itself nat_cmp_total (cost_of v), tied_itself nat_cmp_total (length v)) (below_next k)

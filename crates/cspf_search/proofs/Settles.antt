@@ -1,3 +1,4 @@
+-- What is settled by first crossings is least.
 use Rattle.std.proofs.Common.{◌≡◌, ◌⊎◌, inl, inr, ℕ, false, Some, None, List, [], ◌∷◌, ◌++◌, refl, ap, subst, ◌∙◌}
 use Rattle.std.specs.Ordering.{is_gt, ordering_reverse}
 use Rattle.std.specs.declared.cmp.Ordering.TheVariants.{Less, Equal, Greater}
@@ -7,12 +8,10 @@ use Rattle.cspf_db.specs.declared.request.Request.{Request}
 use Rattle.cspf_db.specs.Database.{Database}
 use Rattle.cspf_db.specs.Routes.{IsRoute}
 use Rattle.cspf_db.specs.Best.{IsBestRoute}
-use Rattle.cspf_search.specs.States.{State, IsStep, by_link, Reaches, starts, steps, end_state}
+use Rattle.cspf_search.specs.States.{State, IsStep, by_link, by_turn, Reaches, starts, steps, end_state}
 use Rattle.cspf_search.specs.Settled.{Labels, IsNoLater, rank_cmp, RanksNoLater, AreSettled, Crosses, IsFirstCrossing}
-use Rattle.cspf_search.proofs.Orders.{walks_total, ranks_total, walk_cmp-push, rank_cmp-push, walk_from_less, rank_from_walk}
-use Rattle.cspf_search.proofs.Walked.{AreWalksToEnd, route_reaches, reaches_route}
-
--- what is settled by first crossings is least
+use Rattle.cspf_search.proofs.Orders.{walks_total, ranks_total, walk_cmp-push, rank_cmp-push, rank_cmp-turn, walk_from_less, rank_from_walk}
+use Rattle.cspf_search.proofs.Cuts.{route_reaches, reaches_route}
 
 -- Labels keep what they have and get one walk more.
 pub record Adds (old : Labels) (t : State) (w : List Link) (new : Labels) : Type 0 where
@@ -34,12 +33,14 @@ before_less a b c h less =
 module _ (d : Database) (q : Request) where
   -- a step goes up in rank
   step_grows : (v x : List Link) (s t : State) → IsStep d q v s x t → rank_cmp (s.leg, v) (t.leg, x) ≡ Less
-  step_grows v x s t (by_link {leg = k} l a) = rank_cmp-push k v l
+  step_grows v x s t (by_link {leg = k} l a inside) = rank_cmp-push k v l
+  step_grows v x s t (by_turn {leg = k} within target) = rank_cmp-turn k v
 
   -- the same step from a walk that is no later ends in a walk that is no later
   step_no_later : (v x : List Link) (s t : State) → IsStep d q v s x t → (w : List Link) → IsNoLater w v
       → (y : List Link) × IsStep d q w s y t × IsNoLater y x
-  step_no_later v x s t (by_link {leg = k} l a) w h = (w ++ (l ∷ []), by_link l a, rw (walk_cmp-push w v l) h)
+  step_no_later v x s t (by_link {leg = k} l a inside) w h = (w ++ (l ∷ []), by_link l a inside, rw (walk_cmp-push w v l) h)
+  step_no_later v x s t (by_turn within target) w h = (w, by_turn within target, h)
 
   module _ (labels : Labels) (settled : AreSettled d q labels) where
     -- a step from a settled state to an open one, taken from the settled walk
@@ -59,7 +60,8 @@ module _ (d : Database) (q : Request) where
           | None ↦ λ e. let c = crossing_from v x s u r st before.0 before.1 e in absurd (stuck c.0 u c.1)
         ] refl
 
-    -- a first crossing ranks before each walk to an open state, and is no later than those to its own
+    -- a first crossing ranks before each walk to an open state, and is no later than those to its
+    -- own
     pub no_earlier : (w : List Link) (t : State) → IsFirstCrossing d q labels w t → (x : List Link) (u : State) → Reaches d q x u → labels u ≡ None
         → RanksNoLater t w u x × (u ≡ t → IsNoLater w x)
     no_earlier w t first x u starts left = cc (settled.start)
@@ -96,17 +98,17 @@ module _ (d : Database) (q : Request) where
     }
 
     -- the walk that is settled at the end state is the best route
-    pub settled_best : AreWalksToEnd d q → (w : List Link) → labels (end_state q) ≡ Some w → IsBestRoute d q w
-    settled_best plain w is = record {
-      is_route = reaches_route d q plain w (settled.reached (end_state q) w is);
+    pub settled_best : (w : List Link) → labels (end_state q) ≡ Some w → IsBestRoute d q w
+    settled_best w is = record {
+      is_route = reaches_route d q w (settled.reached (end_state q) w is);
       least = λ other route less.
-          let no_later = settled.least (end_state q) w other is (route_reaches d q plain other route) in
+          let no_later = settled.least (end_state q) w other is (route_reaches d q other route) in
           let turned = walks_total.antisymm w other in
           cc (ap ordering_reverse less);
     }
 
     -- where nothing crosses and the end state is open, there is no route
-    pub no_route : AreWalksToEnd d q → ((y : List Link) (u : State) → Crosses d q labels y u → ⊥) → labels (end_state q) ≡ None → (w : List Link) → IsRoute d q w → ⊥
-    no_route plain stuck left w route =
-        let found = all_settled stuck w (end_state q) (route_reaches d q plain w route) in
+    pub no_route : ((y : List Link) (u : State) → Crosses d q labels y u → ⊥) → labels (end_state q) ≡ None → (w : List Link) → IsRoute d q w → ⊥
+    no_route stuck left w route =
+        let found = all_settled stuck w (end_state q) (route_reaches d q w route) in
         cc (found.1)

@@ -1,5 +1,6 @@
+-- Private words of the search: the nodes that stand for settled walks.
 use Rattle.std.specs.Prelude.{◌≡◌, ℕ, ◌+◌, ◌*◌, ◌^◌, ◌<◌, ◌≤◌, Bool, false, ◌&&◌, nat_eq, Option, Some, None, IsSome, option_map, position, List, [], ◌∷◌, ◌++◌, length, slice_index_or}
-use Rattle.std.specs.List.{AllPairs}
+use Rattle.std.specs.List.{All, AllPairs}
 use Rattle.cspf_db.specs.declared.link.Link.{Link}
 use Rattle.cspf_db.specs.declared.request.Request.{Request}
 use Rattle.cspf_db.specs.Walks.{cost_of}
@@ -7,20 +8,19 @@ use Rattle.cspf_search.specs.declared.arena.Node.{Node}
 use Rattle.cspf_search.specs.States.{State}
 use Rattle.cspf_search.specs.Settled.{Labels}
 
--- Words of the search's own contracts, as `States.antt`: what a row of nodes stands for.
-
 -- a walk, with one link more where there is one
-abbrev pub went : List Link → Option Link → List Link
-went walk None = walk
-went walk (Some l) = walk ++ (l ∷ [])
+abbrev pub walk_with : List Link → Option Link → List Link
+walk_with walk None = walk
+walk_with walk (Some l) = walk ++ (l ∷ [])
 
+-- the walk at an index
 abbrev pub walk_at : List (List Link) → ℕ → List Link
 walk_at walks i = slice_index_or walks i []
 
 -- the walks of nodes, behind those of the nodes before them
 abbrev pub walks_after : List (List Link) → List Node → List (List Link)
 walks_after done [] = done
-walks_after done (n ∷ ns) = walks_after (done ++ (went (walk_at done n.parent) n.by ∷ [])) ns
+walks_after done (n ∷ ns) = walks_after (done ++ (walk_with (walk_at done n.parent) n.by ∷ [])) ns
 
 -- the walk of each node: that of its parent, with its own link
 abbrev pub walks : List Node → List (List Link)
@@ -28,54 +28,70 @@ walks nodes = walks_after [] nodes
 
 -- the walk of a node whose parent is among the nodes
 abbrev pub walk_of : List Node → Node → List Link
-walk_of nodes n = went (walk_at (walks nodes) n.parent) n.by
+walk_of nodes n = walk_with (walk_at (walks nodes) n.parent) n.by
 
+-- where the walk of a node stands
 abbrev pub state_of : Node → State
 state_of n = record { leg = n.leg; router = n.router }
 
+-- whether two states are one
 abbrev pub same_state : State → State → Bool
 same_state s t = nat_eq s.leg t.leg && nat_eq s.router t.router
 
--- the place of the first node at a state
-abbrev pub place_of : List Node → State → Option ℕ
-place_of nodes s = position (λ n. same_state (state_of n) s) nodes
+-- the index of the first node at a state
+abbrev pub index_of : List Node → State → Option ℕ
+index_of nodes s = position (λ n. same_state (state_of n) s) nodes
 
 -- each state's label is the walk of the first node there
 abbrev pub labels_of : List Node → Labels
-labels_of nodes s = option_map (λ i. walk_at (walks nodes) i) (place_of nodes s)
+labels_of nodes s = option_map (λ i. walk_at (walks nodes) i) (index_of nodes s)
 
--- what a node says of its walk, at its place
-pub record IsNumbered (n : Node) (walk : List Link) (place : ℕ) : Type 0 where
+-- What a node says of its walk, at its index. Each link and each turn to a leg took a node of its
+-- own, so the links and the legs are no more than the nodes up to this one.
+pub record IsNumbered (n : Node) (walk : List Link) (index : ℕ) : Type 0 where
   pub cost : n.cost ≡ cost_of walk
   pub links : n.links ≡ length walk
-  pub few : n.links + n.leg ≤ place + 1
+  pub few : n.links + n.leg ≤ index + 1
   pub small : n.cost ≤ n.links * 2 ^ 32
+
+-- a node has a last link where its walk has a link
+abbrev pub HasLast : Node → Type 0
+HasLast n = 0 < n.links → IsSome n.by
 
 -- where nodes grow from: it has no link, and is its own parent
 pub record IsRoot (n : Node) : Type 0 where
   pub parent : n.parent ≡ 0
   pub by : n.by ≡ None
 
--- Nodes that grow from a root: each but the root has a link and its parent before it, all are in the first leg,
--- no two at one router, and there are no more than a database has routers.
+-- Nodes that grow from a root: the parent of each but the root is before it, no two are at one
+-- state, and there are no more than the states of 1,024 routers in eight legs.
 pub record AreNodes (nodes : List Node) : Type 0 where
   pub some : 0 < length nodes
-  pub most : length nodes ≤ 1024
+  pub most : length nodes ≤ 8192
   pub root : (d : Node) → IsRoot (slice_index_or nodes 0 d)
   pub begun : walk_at (walks nodes) 0 ≡ []
-  pub linked : (i : ℕ) (d : Node) → 0 < i → i < length nodes → IsSome (slice_index_or nodes i d).by
+  pub linked : (i : ℕ) (d : Node) → i < length nodes → HasLast (slice_index_or nodes i d)
   pub back : (i : ℕ) (d : Node) → 0 < i → i < length nodes → (slice_index_or nodes i d).parent < i
-  pub grown : (i : ℕ) (d : Node) → i < length nodes → walk_at (walks nodes) i ≡ walk_of nodes (slice_index_or nodes i d)
-  pub numbered : (i : ℕ) (d : Node) → i < length nodes → IsNumbered (slice_index_or nodes i d) (walk_at (walks nodes) i) i
-  pub first_leg : (i : ℕ) (d : Node) → i < length nodes → (slice_index_or nodes i d).leg ≡ 1
+  pub grown : (i : ℕ) (d : Node) → i < length nodes
+      → walk_at (walks nodes) i ≡ walk_of nodes (slice_index_or nodes i d)
+  pub numbered : (i : ℕ) (d : Node) → i < length nodes
+      → IsNumbered (slice_index_or nodes i d) (walk_at (walks nodes) i) i
   pub apart : AllPairs (λ m n. same_state (state_of m) (state_of n) ≡ false) nodes
 
 -- a node that may be put behind the others
 pub record IsNext (nodes : List Node) (n : Node) : Type 0 where
   pub parent : n.parent < length nodes
-  pub linked : IsSome n.by
+  pub linked : HasLast n
   pub numbered : IsNumbered n (walk_of nodes n) (length nodes)
-  pub first_leg : n.leg ≡ 1
+
+-- the node stands in a leg of the request
+pub record IsInLeg (q : Request) (n : Node) : Type 0 where
+  pub low : 1 ≤ n.leg
+  pub high : n.leg ≤ length q.hops + 1
+
+-- the nodes stand in legs of the request
+abbrev pub AreInLegs : Request → List Node → Type 0
+AreInLegs q nodes = All (IsInLeg q) nodes
 
 -- the node that stands for the start
 abbrev pub root_of : Request → Node

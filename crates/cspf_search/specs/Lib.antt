@@ -4,4 +4,3 @@ pub mod States
 pub mod Settled
 pub mod Arena
 pub mod Rounds
-pub mod Script

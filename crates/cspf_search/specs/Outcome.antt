@@ -1,3 +1,4 @@
+-- What an outcome of `best` answers.
 use Rattle.cspf_db.specs.Best.{Answer, unknown_from, unknown_to, no_route, route}
 use Rattle.cspf_search.specs.declared.outcome.Outcome.{Outcome}
 use Rattle.cspf_search.specs.declared.outcome.Outcome.TheVariants.{Route, NoRoute, UnknownFrom, UnknownTo}

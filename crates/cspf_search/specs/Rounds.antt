@@ -1,38 +1,54 @@
-use Rattle.std.specs.Prelude.{◌≡◌, ℕ, ◌<◌, false, if◌then◌else◌, Option, Some, None, List, [], ◌∷◌, ◌++◌, Contains, slice_get}
+-- Private words of the search: what one round looks for.
+use Rattle.std.specs.Prelude.{◌≡◌, ℕ, ◌+◌, ◌<◌, ◌≤◌, ◌⊎◌, false, if◌then◌else◌, Option, Some, None, List, [], ◌∷◌, ◌++◌, Contains, length, slice_get}
 use Rattle.std.specs.Ordering.{is_gt}
 use Rattle.cspf_db.specs.declared.link.Link.{Link}
 use Rattle.cspf_db.specs.declared.request.Request.{Request}
+use Rattle.cspf_db.specs.Database.{Database}
 use Rattle.cspf_db.specs.Admissible.{IsAdmitted}
+use Rattle.cspf_db.specs.Targets.{IsTarget, IsInside}
 use Rattle.cspf_search.specs.declared.arena.Node.{Node}
 use Rattle.cspf_search.specs.States.{State}
 use Rattle.cspf_search.specs.Settled.{state_cmp}
-use Rattle.cspf_search.specs.Arena.{walk_at, walks, walk_of, state_of, place_of, IsNext}
+use Rattle.cspf_search.specs.Arena.{walk_at, walks, walk_of, state_of, index_of, IsNext}
 
--- Words of the search's own contracts, as `States.antt`: what one round looks for.
-
--- a link that is admitted leads on from the node at a place, to a state where no node stands
-pub record CrossesBy (q : Request) (nodes : List Node) (at : ℕ) (l : Link) (w : List Link) (t : State) : Type 0 where
+-- A link that is admitted leads on from the node at an index, to a router inside the node's leg
+-- where no node stands.
+pub record CrossesBy (d : Database) (q : Request) (nodes : List Node) (at : ℕ) (l : Link) (w : List Link) (t : State) : Type 0 where
   pub node : Node
   pub there : slice_get nodes at ≡ Some node
   pub runs : l.from ≡ node.router
   pub admitted : IsAdmitted q l
+  pub inside : IsInside d q node.leg l.to
   pub walk : w ≡ walk_at (walks nodes) at ++ (l ∷ [])
   pub state : t ≡ record { leg = node.leg; router = l.to }
-  pub still_open : place_of nodes t ≡ None
+  pub still_open : index_of nodes t ≡ None
 
--- one of these links does
-abbrev pub CrossesFrom : Request → List Node → List Link → ℕ → List Link → State → Type 0
-CrossesFrom q nodes links at w t = (l : Link) × Contains links l × CrossesBy q nodes at l w t
+-- The node at an index is at a target of its leg, and no node stands there in the next leg.
+pub record Turns (d : Database) (q : Request) (nodes : List Node) (at : ℕ) (w : List Link) (t : State) : Type 0 where
+  pub node : Node
+  pub there : slice_get nodes at ≡ Some node
+  pub within : node.leg ≤ length q.hops
+  pub target : IsTarget d q node.leg node.router
+  pub walk : w ≡ walk_at (walks nodes) at
+  pub state : t ≡ record { leg = node.leg + 1; router = node.router }
+  pub still_open : index_of nodes t ≡ None
 
--- one of these links does, from one of the first nodes
-abbrev pub CrossesBelow : Request → List Node → List Link → ℕ → List Link → State → Type 0
-CrossesBelow q nodes links count w t = (at : ℕ) × (at < count) × CrossesFrom q nodes links at w t
+-- the turn to the next leg or one of these links leads on from the node at an index
+abbrev pub CrossesFrom : Database → Request → List Node → List Link → ℕ → List Link → State → Type 0
+CrossesFrom d q nodes links at w t =
+    Turns d q nodes at w t ⊎ ((l : Link) × Contains links l × CrossesBy d q nodes at l w t)
+
+-- one of them does, from one of the first nodes
+abbrev pub CrossesBelow : Database → Request → List Node → List Link → ℕ → List Link → State → Type 0
+CrossesBelow d q nodes links count w t =
+    (at : ℕ) × (at < count) × CrossesFrom d q nodes links at w t
 
 -- The node has a walk of this kind, and no walk of this kind is before it.
 pub record IsFirstOf (nodes : List Node) (P : List Link → State → Type 0) (n : Node) : Type 0 where
   pub next : IsNext nodes n
   pub passes : P (walk_of nodes n) (state_of n)
-  pub first : (w : List Link) (t : State) → P w t → is_gt (state_cmp (n.leg, walk_of nodes n) (t.leg, w)) ≡ false
+  pub first : (w : List Link) (t : State) → P w t
+      → is_gt (state_cmp (n.leg, walk_of nodes n) (t.leg, w)) ≡ false
 
 -- the first of this kind, or none where there is none
 abbrev pub IsFirst : List Node → (List Link → State → Type 0) → Option Node → Type 0

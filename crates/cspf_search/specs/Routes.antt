@@ -1,3 +1,4 @@
+-- What a route keeps, and when it visits a router again.
 use Rattle.std.specs.Prelude.{◌≡◌, ℕ, ◌<◌, ◌≤◌, ◌^◌, List, [], ◌∷◌, length, nat_eq}
 use Rattle.std.specs.List.{IsDistinct}
 use Rattle.cspf_db.specs.declared.link.Link.{Link}

@@ -1,3 +1,4 @@
+-- Private words of the search: the order in which walks are settled, and what is settled.
 use Rattle.std.specs.Prelude.{◌≡◌, ℕ, Option, Some, None, List, [], false, length}
 use Rattle.std.specs.Ordering.{nat_cmp, ordering_then, is_gt}
 use Rattle.std.specs.declared.cmp.Ordering.{Ordering}
@@ -8,8 +9,6 @@ use Rattle.cspf_db.specs.Database.{Database}
 use Rattle.cspf_db.specs.Walks.{cost_of, locals_of, walk_cmp}
 use Rattle.cspf_search.specs.States.{State, IsStep, Reaches, start_of}
 
--- Words of the search's own contracts, as `States.antt`.
-
 -- the walk that is settled at each state, if there is one
 abbrev pub Labels : Type 0
 Labels = State → Option (List Link)
@@ -19,7 +18,9 @@ IsNoLater v w = is_gt (walk_cmp v w) ≡ false
 
 -- by cost, then by the number of links, then by leg
 abbrev pub rank_cmp : ℕ × List Link → ℕ × List Link → Ordering
-rank_cmp a b = ordering_then (nat_cmp (cost_of a.1) (cost_of b.1)) (ordering_then (nat_cmp (length a.1) (length b.1)) (nat_cmp a.0 b.0))
+rank_cmp a b =
+    ordering_then (nat_cmp (cost_of a.1) (cost_of b.1))
+    (ordering_then (nat_cmp (length a.1) (length b.1)) (nat_cmp a.0 b.0))
 
 abbrev pub RanksNoLater : State → List Link → State → List Link → Type 0
 RanksNoLater s v t w = is_gt (rank_cmp (s.leg, v) (t.leg, w)) ≡ false

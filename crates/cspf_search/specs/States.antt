@@ -1,29 +1,33 @@
-use Rattle.std.specs.Prelude.{ℕ, List, [], ◌∷◌, ◌++◌}
+-- Private words of the search: where a walk stands in the legs of a request, and what leads on.
+use Rattle.std.specs.Prelude.{ℕ, suc, ◌+◌, ◌≤◌, List, [], ◌∷◌, ◌++◌, length}
 use Rattle.cspf_db.specs.declared.link.Link.{Link}
 use Rattle.cspf_db.specs.declared.request.Request.{Request}
 use Rattle.cspf_db.specs.Database.{Database}
 use Rattle.cspf_db.specs.Admissible.{IsAdmissible}
-
--- Words of the search's own contracts. A reader of `best` need not believe them: its own contract has
--- the definitions of `cspf_db` alone.
+use Rattle.cspf_db.specs.Targets.{IsTarget, IsInside}
 
 -- where a walk stands: in a leg of the request, at a router
 pub record State : Type 0 where
   pub leg : ℕ
   pub router : ℕ
 
--- what leads on from a walk that stands at a state, to a walk and its state: an admissible link
+-- What leads on from a walk that stands at a state, to a walk and its state: an admissible link to
+-- a router inside the leg, or, at a target of the leg to a hop, the turn to the next leg alone.
 pub data IsStep (d : Database) (q : Request) : List Link → State → List Link → State → Type 0 where
-  by_link : {walk : List Link} {leg : ℕ} (l : Link) → IsAdmissible d q l
-      → IsStep d q walk (record { leg = leg; router = l.from }) (walk ++ (l ∷ [])) (record { leg = leg; router = l.to })
+  by_link : {walk : List Link} {leg : ℕ} (l : Link) → IsAdmissible d q l → IsInside d q leg l.to
+      → IsStep d q walk (record { leg = leg; router = l.from })
+      (walk ++ (l ∷ [])) (record { leg = leg; router = l.to })
+  by_turn : {walk : List Link} {leg router : ℕ} → leg ≤ length q.hops → IsTarget d q leg router
+      → IsStep d q walk (record { leg = leg; router = router })
+      walk (record { leg = suc leg; router = router })
 
 -- the head-end, in the first leg
 abbrev pub start_of : Request → State
 start_of q = record { leg = 1; router = q.from }
 
--- the tail-end, in the last leg
+-- the tail-end, in the leg behind the last hop
 abbrev pub end_state : Request → State
-end_state q = record { leg = 1; router = q.to }
+end_state q = record { leg = length q.hops + 1; router = q.to }
 
 -- a walk that steps lead along from the start, with the state where it stands
 pub data Reaches (d : Database) (q : Request) : List Link → State → Type 0 where

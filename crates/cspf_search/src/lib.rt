@@ -5,12 +5,10 @@ mod arena;
 mod outcome;
 mod rounds;
 mod route;
-mod script;
 mod search;
 
 pub use outcome::Outcome;
 pub use route::Route;
-pub use script::{FirstError, rows_have_one_reply, solve_first};
 pub use search::best;
 
 #[cfg(test)]

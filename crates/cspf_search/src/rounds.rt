@@ -1,42 +1,31 @@
-ghost use Rattle.std.specs.Prelude.{◌≡◌, ◌<◌, ◌↔◌, IsTrue, length};
+ghost use Rattle.std.specs.Prelude.{◌≡◌, ◌<◌, length, slice_get};
 ghost use Rattle.std.specs.Option.{ForSome};
-ghost use Rattle.cspf_db.specs.Admissible.{IsAdmitted};
 ghost use Rattle.cspf_search.specs.Settled.{state_cmp, locals_cmp};
-ghost use Rattle.cspf_search.specs.Arena.{AreNodes, IsNext, walk_of};
-ghost use Rattle.cspf_search.specs.Rounds.{CrossesBy, CrossesFrom, CrossesBelow, IsFirst, earlier_of};
+ghost use Rattle.cspf_search.specs.Arena.{AreNodes, AreInLegs, IsNext, walk_of};
+ghost use Rattle.cspf_search.specs.Rounds.{CrossesBy, Turns, CrossesFrom, CrossesBelow, IsFirst, earlier_of};
 
-use crate::arena::{Node, place};
-use cspf_db::{Link, Request};
+use crate::arena::{Node, index_of};
+use cspf_db::{Link, Request, Table};
+use cspf_graph::{accepts, inside, member};
 use std::cmp::Ordering;
 
-/// Whether the link passes the affinities of the request and has its bandwidth unreserved at its
-/// setup priority.
-fn admits(request: &Request, link: &Link) -> bool
-    ensures { IsTrue result ↔ IsAdmitted request.now link.now }
-{
-    let group = link.group.bits();
-    let any = request.include_any.bits();
-    let all = request.include_all.bits();
-    group & request.exclude_any.bits() == 0
-        && (any == 0 || group & any != 0)
-        && (all == 0 || (group & all) ^ all == 0)
-        && request.bandwidth <= link.free[usize::from(request.setup)]
-}
-
-/// The node that the link leads to from the node at a place, if it does and nothing is settled there.
-fn by_link(request: &Request, nodes: &[Node], at: usize, link: &Link) -> Option<Node>
+/// The node that a link from the router of the node at an index leads to, if the request may use
+/// the link and stand there in the node's leg, and nothing is settled there.
+fn by_link(table: &Table, request: &Request, nodes: &[Node], at: usize, link: &Link) -> Option<Node>
     requires arena { AreNodes nodes.now }
+    requires legs { AreInLegs request.now nodes.now }
     requires within { at < length nodes.now }
-    ensures { IsFirst nodes.now (CrossesBy request.now nodes.now at link.now) result }
+    requires runs { ForSome (slice_get nodes.now at) (λ node. link.now.from ≡ node.router) }
+    ensures { IsFirst nodes.now (CrossesBy table.now request.now nodes.now at link.now) result }
 {
     let from = nodes[at];
-    if link.from != from.router {
+    if !accepts(link, request) {
         return None;
     }
-    if !admits(request, link) {
+    if index_of(nodes, from.leg, link.to).is_some() {
         return None;
     }
-    if place(nodes, from.leg, link.to).is_some() {
+    if !inside(table, link.to, from.leg, request) {
         return None;
     }
     Some(Node {
@@ -46,6 +35,30 @@ fn by_link(request: &Request, nodes: &[Node], at: usize, link: &Link) -> Option<
         router: link.to,
         cost: from.cost + u64::from(link.metric),
         links: from.links + 1,
+    })
+}
+
+/// The node at an index in the next leg, if there is one, the node is at a target of its own leg,
+/// and nothing is settled there.
+fn by_turn(table: &Table, request: &Request, nodes: &[Node], at: usize) -> Option<Node>
+    requires arena { AreNodes nodes.now }
+    requires legs { AreInLegs request.now nodes.now }
+    requires within { at < length nodes.now }
+    ensures { IsFirst nodes.now (Turns table.now request.now nodes.now at) result }
+{
+    let from = nodes[at];
+    if from.leg > request.hops.len() {
+        return None;
+    }
+    if index_of(nodes, from.leg + 1, from.router).is_some() {
+        return None;
+    }
+    if !member(table, from.router, from.leg, request) {
+        return None;
+    }
+    Some(Node {
+        leg: from.leg + 1,
+        ..from
     })
 }
 
@@ -78,7 +91,8 @@ fn compare(nodes: &[Node], a: &Node, b: &Node) -> Ordering
     requires arena { AreNodes nodes.now }
     requires first { IsNext nodes.now a.now }
     requires second { IsNext nodes.now b.now }
-    ensures { result ≡ state_cmp (a.now.leg, walk_of nodes.now a.now) (b.now.leg, walk_of nodes.now b.now) }
+    ensures { result ≡ state_cmp (a.now.leg, walk_of nodes.now a.now)
+        (b.now.leg, walk_of nodes.now b.now) }
 {
     let rank = a
         .cost
@@ -110,31 +124,47 @@ fn earlier(nodes: &[Node], a: Option<Node>, b: Option<Node>) -> Option<Node>
     }
 }
 
-/// The first node that one of the links leads to from the node at a place.
-fn first_from(request: &Request, nodes: &[Node], links: &[Link], at: usize) -> Option<Node>
+/// The first node that the turn to the next leg or one of the links leads to from the node at an
+/// index.
+fn first_from(
+    table: &Table,
+    request: &Request,
+    nodes: &[Node],
+    links: &[Link],
+    at: usize,
+) -> Option<Node>
     requires arena { AreNodes nodes.now }
+    requires legs { AreInLegs request.now nodes.now }
     requires within { at < length nodes.now }
-    ensures { IsFirst nodes.now (CrossesFrom request.now nodes.now links.now at) result }
+    ensures { IsFirst nodes.now
+        (CrossesFrom table.now request.now nodes.now links.now at) result }
 {
     let router = nodes[at].router;
-    let mut best = None;
+    let mut best = by_turn(table, request, nodes, at);
     for link in links {
         if link.from == router {
-            let new = by_link(request, nodes, at, link);
+            let new = by_link(table, request, nodes, at, link);
             best = earlier(nodes, best, new);
         }
     }
     best
 }
 
-/// The first node that one of the links leads to from any node.
-pub(crate) fn first(request: &Request, nodes: &[Node], links: &[Link]) -> Option<Node>
-    requires { AreNodes nodes.now }
-    ensures { IsFirst nodes.now (CrossesBelow request.now nodes.now links.now (length nodes.now)) result }
+/// The first node that a turn or one of the links leads to from any node.
+pub(crate) fn first(
+    table: &Table,
+    request: &Request,
+    nodes: &[Node],
+    links: &[Link],
+) -> Option<Node>
+    requires arena { AreNodes nodes.now }
+    requires legs { AreInLegs request.now nodes.now }
+    ensures { IsFirst nodes.now
+        (CrossesBelow table.now request.now nodes.now links.now (length nodes.now)) result }
 {
     let mut best = None;
     for at in 0..nodes.len() {
-        let new = first_from(request, nodes, links, at);
+        let new = first_from(table, request, nodes, links, at);
         best = earlier(nodes, best, new);
     }
     best

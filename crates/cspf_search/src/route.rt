@@ -7,7 +7,8 @@ use cspf_addr::Addr;
 use cspf_db::Link;
 use std::marker::Model;
 
-/// An explicit route: 1 to 8,184 links, each from where the one before ended. Only the search makes one.
+/// An explicit route: 1 to 8,184 links, each from where the one before ended. Only the search makes
+/// one.
 #[derive(Debug, Drop)]
 pub struct Route {
     links: Vec<Link>,

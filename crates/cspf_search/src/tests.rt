@@ -1,144 +1,215 @@
-ghost use Rattle.std.specs.Prelude.{◌≡◌, [], IfOk};
-
 use super::*;
-use cspf_addr::{Addr, Hops, Mask};
+use cspf_addr::{Addr, Mask, parse_hops};
 use cspf_db::{Batch, Change, Link, Request, Table};
 use std::alloc::Global;
 use std::test::Fail;
 
-// A link by its ends, its local address and its metric. It is of the groups 0x6 and has 1,000 bytes
-// per second unreserved at all priorities but 7.
-type Row = (u32, u32, u32, u32);
+// Four routers: 1.1.1.1 to 4.4.4.4.
+const ONE: u32 = 0x0101_0101;
 
-fn link(row: Row) -> Result<Link, Fail> {
-    let (from, local, to, metric) = row;
-    let (from, local, to) = (Addr::new(from), Addr::new(local), Addr::new(to));
-    let free = [1000, 1000, 1000, 1000, 1000, 1000, 1000, 0];
-    Ok(Link::new(from, local, to, local, metric, Mask::new(0x6), free)?)
+const TWO: u32 = 0x0202_0202;
+
+const THREE: u32 = 0x0303_0303;
+
+const FOUR: u32 = 0x0404_0404;
+
+// A link by its ends, its local and its remote address, its metric and its unreserved bandwidth at
+// all priorities but 7, where it has none. It is of the groups 0x6.
+type Row = (u32, u32, u32, u32, u32, u64);
+
+fn link(row: &Row) -> Result<Link, Fail> {
+    let (from, local, to, remote, metric, free) = *row;
+    let (from, local) = (Addr::new(from), Addr::new(local));
+    let (to, remote) = (Addr::new(to), Addr::new(remote));
+    let free = [free, free, free, free, free, free, free, 0];
+    Ok(Link::new(from, local, to, remote, metric, Mask::new(0x6), free)?)
 }
 
 fn table(alloc: Global, rows: &[Row]) -> Result<Table, Fail> {
     let mut changes = Vec::new(alloc);
     for row in rows {
-        changes.push(Change::Put(link(*row)?))?;
+        changes.push(Change::Put(link(row)?))?;
     }
     let mut table = Table::new(alloc)?;
     table.absorb(&Batch { number: 1, changes });
     Ok(table)
 }
 
-// A request for 1,000 bytes per second at a setup priority, with the three affinities.
-fn request(ends: (u32, u32), setup: u8, masks: (u32, u32, u32)) -> Result<Request, Fail>
-    ensures { IfOk result (λ q. q.hops ≡ []) }
-{
+// A request for 1,000 bytes per second with a setup priority, the three affinities and hops.
+fn request(
+    ends: (u32, u32),
+    setup: u8,
+    masks: (u32, u32, u32),
+    hops: &[u8],
+) -> Result<Request, Fail> {
     let (from, to) = (Addr::new(ends.0), Addr::new(ends.1));
     let (exclude, any, all) = (Mask::new(masks.0), Mask::new(masks.1), Mask::new(masks.2));
-    Ok(Request::new(1, from, to, setup, 1000, exclude, any, all, Hops::none())?)
+    let hops = parse_hops(hops)?;
+    Ok(Request::new(1, from, to, setup, 1000, exclude, any, all, hops)?)
 }
 
-// The route's cost and the local addresses of its links, if there is one.
-fn routed(
-    alloc: Global,
-    rows: &[Row],
-    from: u32,
-    to: u32,
-) -> Result<Option<(u64, Vec<u32>)>, Fail> {
-    let table = table(alloc, rows)?;
-    let Outcome::Route(route) = best(alloc, &table, &request((from, to), 0, (0, 0, 0))?)? else {
-        return Ok(None);
+// What a request with hops and no more is answered.
+fn by_hops(alloc: Global, table: &Table, to: u32, hops: &[u8]) -> Result<Outcome, Fail> {
+    Ok(best(alloc, table, &request((ONE, to), 0, (0, 0, 0), hops)?)?)
+}
+
+// Whether it is the route of this cost along the links with these remote addresses.
+fn is_route(outcome: &Outcome, cost: u64, again: bool, remotes: &[u32]) -> bool {
+    let Outcome::Route(route) = outcome else {
+        return false;
     };
-    let mut locals = Vec::new(alloc);
-    for link in route.links() {
-        locals.push(link.local.number())?;
+    let mut same = route.links().len() == remotes.len();
+    for (link, remote) in route.links().iter().zip(remotes) {
+        same = same && link.remote.number() == *remote;
     }
-    Ok(Some((route.cost(), locals)))
-}
-
-// What a request for 1,000 bytes per second is answered, in one letter.
-fn answered(table: &Table, alloc: Global, request: &Request) -> Result<char, Fail>
-    requires { request.now.hops ≡ [] }
-{
-    Ok(match best(alloc, table, request)? {
-        Outcome::Route(_) => 'R',
-        Outcome::NoRoute => 'N',
-        Outcome::UnknownFrom => 'F',
-        Outcome::UnknownTo => 'T',
-    })
+    same && route.cost() == cost && route.again() == again
 }
 
 #[test]
 fn ties(rt: HostRuntime) -> Result<(), Fail> {
     let alloc = rt.alloc();
     // addresses compare as numbers
-    let parallel = [(1, 0x0a00_000a, 2, 5), (1, 0x0a00_0009, 2, 5)];
-    let (cost, locals) = routed(alloc, &parallel, 1, 2)?.expect(&rt, "a route");
-    assert_eq!(rt; cost, 5);
-    assert_eq!(rt; locals.as_slice(), [0x0a00_0009].as_slice());
+    let parallel = table(
+        alloc,
+        &[
+            (ONE, 0x0a00_000a, TWO, 0x0a00_010a, 5, 1000),
+            (ONE, 0x0a00_0009, TWO, 0x0a00_0109, 5, 1000),
+        ],
+    )?;
+    assert!(rt;
+        is_route(
+            &by_hops(alloc, &parallel, TWO, b"")?,
+            5,
+            false,
+            &[0x0a00_0109]
+        )
+    );
     // fewer links go before smaller addresses
-    let direct = [
-        (1, 0x0a00_0d01, 2, 10),
-        (2, 0x0a00_0d01, 3, 10),
-        (1, 0x0a00_6301, 3, 20),
-    ];
-    let (cost, locals) = routed(alloc, &direct, 1, 3)?.expect(&rt, "a route");
-    assert_eq!(rt; cost, 20);
-    assert_eq!(rt; locals.as_slice(), [0x0a00_6301].as_slice());
+    let direct = table(
+        alloc,
+        &[
+            (ONE, 0x0a00_6301, TWO, 0x0a00_6302, 20, 1000),
+            (ONE, 0x0a00_0d01, THREE, 0x0a00_0d03, 10, 1000),
+            (THREE, 0x0a00_1703, TWO, 0x0a00_1702, 10, 1000),
+        ],
+    )?;
+    assert!(rt;
+        is_route(
+            &by_hops(alloc, &direct, TWO, b"")?,
+            20,
+            false,
+            &[0x0a00_6302]
+        )
+    );
     // the first address decides, and not the last
-    let first = [
-        (1, 0x0a00_0301, 3, 1),
-        (3, 0x0a00_0001, 4, 1),
-        (1, 0x0a00_0201, 2, 1),
-        (2, 0x0a09_0909, 4, 1),
-    ];
-    let (cost, locals) = routed(alloc, &first, 1, 4)?.expect(&rt, "a route");
-    assert_eq!(rt; cost, 2);
-    assert_eq!(rt; locals.as_slice(), [0x0a00_0201, 0x0a09_0909].as_slice());
+    let first = table(
+        alloc,
+        &[
+            (ONE, 0x0a00_0301, THREE, 1, 1, 1000),
+            (THREE, 0x0a00_0001, FOUR, 2, 1, 1000),
+            (ONE, 0x0a00_0201, TWO, 3, 1, 1000),
+            (TWO, 0x0a09_0909, FOUR, 4, 1, 1000),
+        ],
+    )?;
+    assert!(rt; is_route(&by_hops(alloc, &first, FOUR, b"")?, 2, false, &[3, 4]));
     Ok(())
 }
 
 #[test]
 fn links_of_no_cost(rt: HostRuntime) -> Result<(), Fail> {
     let alloc = rt.alloc();
-    let table = table(alloc, &[(1, 11, 2, 0), (2, 21, 1, 0), (2, 22, 3, 0)])?;
-    let outcome = best(alloc, &table, &request((1, 3), 0, (0, 0, 0))?)?;
-    let Outcome::Route(route) = outcome else {
-        assert!(rt; false, "no route");
-        return Ok(());
-    };
-    assert_eq!(rt; route.cost(), 0);
-    assert_eq!(rt; route.links().len(), 2);
-    assert!(rt; !route.again());
+    let rows = [
+        (ONE, 0x0a00_0c01, TWO, 0x0a00_0c02, 0, 1000),
+        (TWO, 0x0a00_0c02, ONE, 0x0a00_0c01, 0, 1000),
+        (TWO, 0x0a00_1702, THREE, 0x0a00_1703, 0, 1000),
+    ];
+    let outcome = by_hops(alloc, &table(alloc, &rows)?, THREE, b"")?;
+    assert!(rt; is_route(&outcome, 0, false, &[0x0a00_0c02, 0x0a00_1703]));
     Ok(())
 }
 
 #[test]
-fn answers(rt: HostRuntime) -> Result<(), Fail> {
+fn requests_without_hops(rt: HostRuntime) -> Result<(), Fail> {
     let alloc = rt.alloc();
-    let table = table(alloc, &[(1, 11, 2, 7), (3, 31, 1, 7)])?;
+    let table = table(alloc, &[(ONE, 0x0a00_0c01, TWO, 0x0a00_0c02, 10, 1000)])?;
     let any = (0, 0, 0);
-    // ends, setup priority, affinities, answer
+    // setup priority, affinities, whether there is a route: nothing is unreserved at priority 7
     let cases = [
-        ((1, 2), 0, any, 'R'),
-        // nothing is unreserved at priority 7
-        ((1, 2), 7, any, 'N'),
-        // links are one-way
-        ((2, 1), 0, any, 'N'),
-        ((9, 2), 0, any, 'F'),
-        ((1, 9), 0, any, 'T'),
-        ((8, 9), 0, any, 'F'),
-        // the link is of the groups 0x6
-        ((1, 2), 0, (0x1, 0x2, 0x6), 'R'),
-        ((1, 2), 0, (0, 0, 0x7), 'N'),
-        ((1, 2), 0, (0x4, 0, 0), 'N'),
-        ((1, 2), 0, (0, 0x9, 0), 'N'),
+        (0, any, true),
+        (7, any, false),
+        (0, (0x1, 0x2, 0x6), true),
+        (0, (0x0, 0x0, 0x7), false),
+        (0, (0x4, 0x0, 0x0), false),
     ];
-    for (ends, setup, masks, want) in cases {
-        let asked = request(ends, setup, masks)?;
-        assert_eq!(rt;
-            answered(&table, alloc, &asked)?,
-            want,
-            "at {ends:?} {setup} {masks:?}"
+    for (setup, masks, found) in cases {
+        let outcome = best(alloc, &table, &request((ONE, TWO), setup, masks, b"")?)?;
+        assert!(rt;
+            found == is_route(&outcome, 10, false, &[0x0a00_0c02]),
+            "{setup} {masks:?}"
+        );
+        assert!(rt;
+            found != matches!(outcome, Outcome::NoRoute),
+            "{setup} {masks:?}"
         );
     }
+    // links are one-way
+    let back = best(alloc, &table, &request((TWO, ONE), 0, any, b"")?)?;
+    assert!(rt; matches!(back, Outcome::NoRoute));
+    // an unknown head-end comes before an unknown tail-end
+    let from = best(alloc, &table, &request((THREE, FOUR), 0, any, b"")?)?;
+    assert!(rt; matches!(from, Outcome::UnknownFrom));
+    let to = best(alloc, &table, &request((ONE, FOUR), 0, any, b"")?)?;
+    assert!(rt; matches!(to, Outcome::UnknownTo));
+    Ok(())
+}
+
+#[test]
+fn strict_and_loose_hops(rt: HostRuntime) -> Result<(), Fail> {
+    let alloc = rt.alloc();
+    let rows = [
+        (ONE, 0x0a00_0101, THREE, 0x0a00_0103, 1, 1000),
+        (ONE, 0x0a00_0201, 0x0a09_0001, 0x0a00_0202, 10, 1000),
+        (ONE, 0x0a00_0301, 0x0a09_0002, 0x0a00_0302, 2, 1000),
+        (THREE, 0x0a00_0403, 0x0a09_0001, 0x0a00_0401, 1, 1000),
+        (0x0a09_0001, 0x0a00_0501, FOUR, 0x0a00_0504, 1, 1000),
+        (0x0a09_0002, 0x0a00_0602, 0x0a09_0001, 0x0a00_0601, 3, 1000),
+    ];
+    let table = table(alloc, &rows)?;
+    // a strict leg may stand at both routers that the prefix covers, and at no third one
+    let strict = [0x0a00_0302, 0x0a00_0601, 0x0a00_0504];
+    let outcome = by_hops(alloc, &table, FOUR, b"10.9.0.0/16s")?;
+    assert!(rt; is_route(&outcome, 6, false, &strict));
+    let outcome = by_hops(alloc, &table, FOUR, b"10.9.0.0/16l")?;
+    assert!(rt; is_route(&outcome, 3, false, &[0x0a00_0103, 0x0a00_0401, 0x0a00_0504]));
+    // the first leg is empty
+    let outcome = by_hops(alloc, &table, FOUR, b"1.1.1.1/32s 10.9.0.0/16s")?;
+    assert!(rt; is_route(&outcome, 6, false, &strict));
+    Ok(())
+}
+
+#[test]
+fn routers_met_by_hops(rt: HostRuntime) -> Result<(), Fail> {
+    let alloc = rt.alloc();
+    let there_and_back = [
+        (ONE, 0x0a00_0c01, TWO, 0x0a00_0c02, 10, 1000),
+        (TWO, 0x0a00_1702, THREE, 0x0a00_1703, 10, 1000),
+        (THREE, 0x0a00_1703, TWO, 0x0a00_1702, 10, 1000),
+    ];
+    let table_of = table(alloc, &there_and_back)?;
+    // the route stands at the tail-end before the hop, and again behind it
+    let outcome = by_hops(alloc, &table_of, TWO, b"3.3.3.3/32l")?;
+    assert!(rt; is_route(&outcome, 30, true, &[0x0a00_0c02, 0x0a00_1703, 0x0a00_1702]));
+    // a router has the address of its interface on a link that the request can't use
+    let unusable = [
+        (ONE, 0x0a00_0c01, TWO, 0x0a00_0c02, 10, 1000),
+        (TWO, 0x0a00_1702, THREE, 0x0a00_1703, 10, 1000),
+        (TWO, 0xac10_0002, FOUR, 0xac10_0004, 10, 0),
+    ];
+    let outcome = by_hops(alloc, &table(alloc, &unusable)?, THREE, b"172.16.0.0/12s")?;
+    assert!(rt; is_route(&outcome, 20, false, &[0x0a00_0c02, 0x0a00_1703]));
+    // seven hops that each router meets change nothing
+    let seven = b"0.0.0.0/0l 0.0.0.0/0l 0.0.0.0/0l 0.0.0.0/0l 0.0.0.0/0l 0.0.0.0/0l 0.0.0.0/0l";
+    let outcome = by_hops(alloc, &table(alloc, &unusable[..1])?, TWO, seven)?;
+    assert!(rt; is_route(&outcome, 10, false, &[0x0a00_0c02]));
     Ok(())
 }

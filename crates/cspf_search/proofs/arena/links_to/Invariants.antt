@@ -2,11 +2,11 @@ use Rattle.std.proofs.Common.{◌≡◌, ◌<◌, ◌++◌, length, reverse}
 use Rattle.cspf_search.specs.Arena.{walk_at, walks}
 use Rattle.cspf_search.proofs.arena.links_to.Given as goal
 
-abbrev pub invariant-loop-place : goal.invariant-loop-place
-invariant-loop-place l = record {
-  within : l.place < length l.nodes;
-  whole : walk_at (walks l.nodes) l.place ++ reverse l.links.items ≡ walk_at (walks l.nodes) l.at;
+abbrev pub invariant-loop-index : goal.invariant-loop-index
+invariant-loop-index l = record {
+  within : l.index < length l.nodes;
+  whole : walk_at (walks l.nodes) l.index ++ reverse l.links.items ≡ walk_at (walks l.nodes) l.at;
 }
 
-abbrev pub decreases-loop-place : goal.decreases-loop-place
-decreases-loop-place l = l.place
+abbrev pub decreases-loop-index : goal.decreases-loop-index
+decreases-loop-index l = l.index

@@ -1,4 +1,4 @@
-use Rattle.std.proofs.Common.{◌-◌, length}
+use Rattle.std.proofs.Common.{◌*◌, ◌-◌, ◌≤◌, length}
 use Rattle.cspf_search.specs.Settled.{AreSettled}
 use Rattle.cspf_search.specs.Arena.{AreNodes, labels_of}
 use Rattle.cspf_search.proofs.search.settled.Given as goal
@@ -6,8 +6,9 @@ use Rattle.cspf_search.proofs.search.settled.Given as goal
 abbrev pub invariant-loop-node : goal.invariant-loop-node
 invariant-loop-node l = record {
   arena : AreNodes l.nodes.items;
+  few : length l.nodes.items ≤ l.legs * 1024;
   settled : AreSettled l.table l.request (labels_of l.nodes.items);
 }
 
 abbrev pub decreases-loop-node : goal.decreases-loop-node
-decreases-loop-node l = 1024 - length l.nodes.items
+decreases-loop-node l = l.legs * 1024 - length l.nodes.items

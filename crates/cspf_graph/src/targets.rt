@@ -1,0 +1,36 @@
+ghost use Rattle.std.specs.Prelude.{◌≤◌, ◌+◌, ◌↔◌, IsTrue, length};
+ghost use Rattle.cspf_db.specs.Targets.{IsTarget, IsInside};
+
+use cspf_addr::Addr;
+use cspf_db::{Request, Table};
+
+/// Whether the router is a target of the leg (RFC 3209 4.3.3.2). Leg 0 has the head-end alone, leg
+/// i the routers of the table with an address that the prefix of hop i covers, and the leg behind
+/// the last hop the tail-end alone.
+pub fn member(table: &Table, router: Addr, leg: usize, request: &Request) -> bool
+    requires { leg ≤ length request.now.hops + 1 }
+    ensures { IsTrue result ↔ IsTarget table.now request.now leg router }
+{
+    if leg == 0 {
+        return router == request.from;
+    }
+    match request.hops.get(leg - 1) {
+        Some(hop) => table.owns(router, hop.prefix),
+        None => router == request.to,
+    }
+}
+
+/// Whether a route may stand at the router in the leg, from 1 on. In a loose leg it may stand at
+/// any, in a strict one at the targets of the leg before and its own alone (RFC 3209 4.3.3.1). The
+/// leg behind the last hop is loose.
+pub fn inside(table: &Table, router: Addr, leg: usize, request: &Request) -> bool
+    requires from_one { 1 ≤ leg }
+    requires most { leg ≤ length request.now.hops + 1 }
+    ensures { IsTrue result ↔ IsInside table.now request.now leg router }
+{
+    let loose = match request.hops.get(leg - 1) {
+        Some(hop) => hop.loose,
+        None => true,
+    };
+    loose || member(table, router, leg - 1, request) || member(table, router, leg, request)
+}

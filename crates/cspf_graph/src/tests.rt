@@ -1,0 +1,90 @@
+ghost use Rattle.std.specs.Prelude.{◌≡◌, IfOk, length};
+
+use super::*;
+use cspf_addr::{Addr, Hop, Hops, Mask, Prefix};
+use cspf_db::{Batch, Change, Link, Request, Table};
+use std::alloc::Global;
+use std::test::Fail;
+
+// A link of the groups 0x6 with 1,000 bytes per second unreserved at all priorities but 7.
+fn link(from: u32, local: u32, to: u32) -> Result<Link, Fail> {
+    let (from, local, to, remote) = (
+        Addr::new(from),
+        Addr::new(local),
+        Addr::new(to),
+        Addr::new(7),
+    );
+    let free = [1000, 1000, 1000, 1000, 1000, 1000, 1000, 0];
+    Ok(Link::new(from, local, to, remote, 1, Mask::new(0x6), free)?)
+}
+
+// A request from router 1 to router 3 by the hop 11.0.0.0/8.
+fn request(setup: u8, masks: (u32, u32, u32), loose: bool) -> Result<Request, Fail>
+    ensures { IfOk result (λ q. length q.hops ≡ 1) }
+{
+    let prefix = Prefix::new(Addr::new(0x0b00_0000), 8)?;
+    let mut hops = Hops::none();
+    hops.push(Hop { prefix, loose });
+    let (from, to) = (Addr::new(1), Addr::new(3));
+    let (exclude, any, all) = (Mask::new(masks.0), Mask::new(masks.1), Mask::new(masks.2));
+    Ok(Request::new(5, from, to, setup, 1000, exclude, any, all, hops)?)
+}
+
+#[test]
+fn accepted_links(rt: HostRuntime) -> Result<(), Fail> {
+    let link = link(1, 2, 3)?;
+    // setup priority, affinities, whether the link is accepted
+    let cases = [
+        (0, (0, 0, 0), true),
+        (7, (0, 0, 0), false),
+        (6, (0x1, 0x2, 0x6), true),
+        (0, (0x4, 0, 0), false),
+        (0, (0, 0x9, 0), false),
+        (0, (0, 0, 0x7), false),
+    ];
+    for (setup, masks, want) in cases {
+        let asked = request(setup, masks, false)?;
+        assert_eq!(rt; accepts(&link, &asked), want, "at {setup} {masks:?}");
+    }
+    Ok(())
+}
+
+// Router 2 alone has an address that the hop covers, that of its interface on a link that the
+// request can't use.
+#[test]
+fn targets_of_legs(rt: HostRuntime) -> Result<(), Fail> {
+    let alloc = rt.alloc();
+    let mut table = Table::new(alloc)?;
+    let changes = [
+        Change::Put(link(1, 0x0a00_0001, 2)?),
+        Change::Put(link(2, 0x0b00_0002, 3)?),
+        Change::Put(link(3, 0x0a00_0003, 1)?),
+    ];
+    table.absorb(&Batch {
+        number: 1,
+        changes: Vec::from_slice(alloc, &changes)?,
+    });
+    let strict = request(7, (0, 0, 0), false)?;
+    let loose = request(7, (0, 0, 0), true)?;
+    // router, whether it is a target of the legs 0, 1 and 2, whether it is inside the strict leg 1
+    let cases = [
+        (1, [true, false, false], true),
+        (2, [false, true, false], true),
+        (3, [false, false, true], false),
+        (9, [false, false, false], false),
+    ];
+    for (number, targets, within) in cases {
+        let router = Addr::new(number);
+        for leg in 0..3 {
+            assert_eq!(rt;
+                member(&table, router, leg, &strict),
+                targets[leg],
+                "{number} {leg}"
+            );
+        }
+        assert_eq!(rt; inside(&table, router, 1, &strict), within, "{number}");
+        assert!(rt; inside(&table, router, 1, &loose));
+        assert!(rt; inside(&table, router, 2, &strict));
+    }
+    Ok(())
+}

@@ -1,0 +1,124 @@
+-- A walk is a route exactly where it reaches the end state.
+use Rattle.std.proofs.Common.{◌≡◌, inl, inr, ℕ, suc, ◌+◌, ◌≤◌, List, [], ◌∷◌, ◌++◌, length, refl, sym, ap, subst, arith, add-one, append_assoc, append-nil}
+use Rattle.std.specs.List.{AllByRecursion, flat_map}
+use Rattle.std.proofs.lemmas.Option.{slice_get_past}
+use Rattle.cspf_db.specs.declared.link.Link.{Link}
+use Rattle.cspf_db.specs.declared.request.Request.{Request}
+use Rattle.cspf_db.specs.Database.{Database}
+use Rattle.cspf_db.specs.Admissible.{IsAdmissible}
+use Rattle.cspf_db.specs.Walks.{AreJoined, IsWalk, end_of, routers_of}
+use Rattle.cspf_db.specs.Targets.{IsTarget, IsTargetOf, IsInside}
+use Rattle.cspf_db.specs.Legs.{AreLegs, IsCutInto}
+use Rattle.cspf_db.specs.Routes.{IsRoute}
+use Rattle.cspf_search.specs.States.{State, by_link, by_turn, Reaches, starts, steps, end_state}
+
+end_of-push : (a : ℕ) (w : List Link) (l : Link) → end_of a (w ++ (l ∷ [])) ≡ l.to
+end_of-push a [] l = refl
+end_of-push a (m ∷ w) l = end_of-push m.to w l
+
+AreJoined-push : (a : ℕ) (w : List Link) (l : Link) → AreJoined a w → l.from ≡ end_of a w → AreJoined a (w ++ (l ∷ []))
+AreJoined-push a [] l j e = (e, tt)
+AreJoined-push a (m ∷ w) l j e = (j.0, AreJoined-push m.to w l j.1 e)
+
+All-push : (P : Link → Type 0) (w : List Link) (l : Link) → AllByRecursion P w → P l → AllByRecursion P (w ++ (l ∷ []))
+All-push P [] l all here = (here, tt)
+All-push P (m ∷ w) l all here = (all.0, All-push P w l all.1 here)
+
+All-append_parts : (P : Link → Type 0) (v w : List Link) → AllByRecursion P (v ++ w) → AllByRecursion P v × AllByRecursion P w
+All-append_parts P [] w all = (tt, all)
+All-append_parts P (l ∷ v) w all = let parts = All-append_parts P v w all.1 in ((all.0, parts.0), parts.1)
+
+AreJoined-append_parts : (a : ℕ) (v w : List Link) → AreJoined a (v ++ w) → AreJoined a v × AreJoined (end_of a v) w
+AreJoined-append_parts a [] w joined = (tt, joined)
+AreJoined-append_parts a (l ∷ v) w joined = let parts = AreJoined-append_parts l.to v w joined.1 in ((joined.0, parts.0), parts.1)
+
+module _ (d : Database) (q : Request) where
+  pub reached_walk : (w : List Link) (s : State) → Reaches d q w s → IsWalk d q w × (end_of q.from w ≡ s.router)
+  reached_walk w s starts = (record { links = tt; joined = tt }, refl)
+  reached_walk w s (steps {v} r (by_link {leg = k} l a inside)) =
+      let before = reached_walk v (record { leg = k; router = l.from }) r in (
+        record {
+          links = All-push (IsAdmissible d q) v l before.0.links a;
+          joined = AreJoined-push q.from v l before.0.joined (sym before.1);
+        },
+        end_of-push q.from v l,
+      )
+  reached_walk w s (steps r (by_turn within target)) = reached_walk _ _ r
+
+  -- a reached state is in a leg of the request
+  pub reached_leg : (w : List Link) (s : State) → Reaches d q w s → (1 ≤ s.leg) × (s.leg ≤ length q.hops + 1)
+  reached_leg w s starts = (omega arith, omega arith)
+  reached_leg w s (steps r (by_link l a inside)) = reached_leg _ _ r
+  reached_leg w s (steps r (by_turn within target)) = (omega arith, omega arith)
+
+  -- the router of a reached state is inside its leg
+  reached_inside : (w : List Link) (s : State) → Reaches d q w s → IsInside d q s.leg s.router
+  reached_inside w s starts = inr (inl refl)
+  reached_inside w s (steps r (by_link l a inside)) = inside
+  reached_inside w s (steps r (by_turn within target)) = inr (inl target)
+
+  -- a walk that reaches a state is cut into legs together with any legs that are left from there
+  reached_cut : (w : List Link) (s : State) → Reaches d q w s → (leg : List Link) (rest : List (List Link)) → AreLegs d q s.leg s.router (leg ∷ rest)
+      → s.leg + length rest ≡ suc (length q.hops) → (legs : List (List Link)) × IsCutInto d q (w ++ (leg ++ flat_map (λ links. links) rest)) legs
+  reached_cut w s starts leg rest are count = (leg ∷ rest, record { number = omega arith; whole = refl; each = are })
+  reached_cut w s (steps r (by_link l a inside)) leg rest are count =
+      let longer = reached_cut _ _ r (l ∷ leg) rest (record { arrives = are.0.arrives; within = (reached_inside _ _ r, are.0.within) }, are.1) count in
+      (longer.0, rw append_assoc longer.1)
+  reached_cut w s (steps r (by_turn within target)) leg rest are count =
+      reached_cut _ _ r [] (leg ∷ rest) (record { arrives = target; within = (reached_inside _ _ r, tt) }, are) (omega arith)
+
+  -- links that follow inside a leg lead on in it
+  along : (k : ℕ) (a : ℕ) (links v : List Link) → Reaches d q v (record { leg = k; router = a }) → AllByRecursion (IsAdmissible d q) links → AreJoined a links
+      → AllByRecursion (IsInside d q k) (routers_of a links) → Reaches d q (v ++ links) (record { leg = k; router = end_of a links })
+  along k a [] v r all joined within = rw (append-nil v) r
+  along k a (l ∷ ls) v r all joined within =
+      let here : Reaches d q v (record { leg = k; router = l.from }) = rw joined.0 r in
+      rw (← append_assoc v (l ∷ []) ls) (along k l.to ls (v ++ (l ∷ [])) (steps here (by_link l all.0 within.1.0)) all.1 joined.1 within.1)
+
+  -- so do all legs that are left, up to a target of the last one
+  through : (k : ℕ) (a : ℕ) (first : List Link) (rest : List (List Link)) (v : List Link) → Reaches d q v (record { leg = k; router = a })
+      → k + length rest ≡ suc (length q.hops) → AreLegs d q k a (first ∷ rest)
+      → AllByRecursion (IsAdmissible d q) (first ++ flat_map (λ links. links) rest) → AreJoined a (first ++ flat_map (λ links. links) rest)
+      → (b : ℕ) × IsTarget d q (suc (length q.hops)) b × Reaches d q (v ++ (first ++ flat_map (λ links. links) rest)) (record { leg = suc (length q.hops); router = b })
+  through k a first [] v r count legs all joined =
+      let here =
+      along k a first v r (All-append_parts (IsAdmissible d q) first [] all).0 (AreJoined-append_parts a first [] joined).0 legs.0.within in
+      let last : k ≡ suc (length q.hops) = omega arith in (
+        end_of a first,
+        subst (λ i. IsTarget d q i (end_of a first)) last legs.0.arrives,
+        rw append-nil (subst (λ i. Reaches d q (v ++ first) (record { leg = i; router = end_of a first })) last here),
+      )
+  through k a first (second ∷ rest) v r count legs all joined =
+      let alls = All-append_parts (IsAdmissible d q) first (second ++ flat_map (λ links. links) rest) all in
+      let joins = AreJoined-append_parts a first (second ++ flat_map (λ links. links) rest) joined in
+      let here = along k a first v r alls.0 joins.0 legs.0.within in
+      let after =
+      through (suc k) (end_of a first) second rest (v ++ first) (steps here (by_turn (omega arith) legs.0.arrives)) (omega arith) legs.1 alls.1 joins.1 in
+      (after.0, after.1, rw append_assoc at after.2)
+
+  cut_reaches : (w : List Link) (legs : List (List Link)) → IsWalk d q w → IsCutInto d q w legs
+      → (b : ℕ) × IsTarget d q (suc (length q.hops)) b × Reaches d q w (record { leg = suc (length q.hops); router = b })
+  cut_reaches w [] walk cut = absurd (let number = cut.number in omega arith)
+  cut_reaches w (first ∷ rest) walk cut =
+      let whole = cut.whole in
+      let all =
+      through 1 q.from first rest [] starts (let number = cut.number in omega arith) cut.each (subst (AllByRecursion (IsAdmissible d q)) (sym whole) walk.links)
+      (subst (AreJoined q.from) (sym whole) walk.joined) in
+      (all.0, all.1, subst (λ x. Reaches d q x (record { leg = suc (length q.hops); router = all.0 })) whole all.2)
+
+  -- the leg behind the last hop has one target, the tail-end
+  last_target : (b : ℕ) → IsTarget d q (suc (length q.hops)) b ≡ (b ≡ q.to)
+  last_target b = ap (λ o. IsTargetOf d q.to o b) (slice_get_past q.hops (length q.hops) (omega arith))
+
+  pub route_reaches : (w : List Link) → IsRoute d q w → Reaches d q w (end_state q)
+  route_reaches w route =
+      let reached = cut_reaches w route.cut.0 route.is_walk route.cut.1 in
+      let end : reached.0 ≡ q.to = subst (λ (T : Type 0). T) (last_target reached.0) reached.1 in
+      rw add-one (subst (λ b. Reaches d q w (record { leg = suc (length q.hops); router = b })) end reached.2)
+
+  pub reaches_route : (w : List Link) → Reaches d q w (end_state q) → IsRoute d q w
+  reaches_route w reached =
+      let last : Reaches d q w (record { leg = suc (length q.hops); router = q.to }) = rw add-one at reached in
+      let there : IsTarget d q (suc (length q.hops)) q.to = subst (λ (T : Type 0). T) (sym (last_target q.to)) refl in
+      let cut = reached_cut w _ last [] [] (record { arrives = there; within = (reached_inside _ _ last, tt) }, tt) (omega arith) in
+      record { is_walk = (reached_walk _ _ last).0; cut = (cut.0, rw append-nil at cut.1) }

@@ -1,0 +1,76 @@
+-- Nodes at few routers in few legs are few.
+use Rattle.std.proofs.Common.{◌≡◌, inl, inr, ℕ, zero, suc, ◌*◌, ◌<◌, ◌≤◌, Bool, true, false, not, nat_eq, None, List, [], ◌∷◌, filter, length, map, slice_index_or, refl, sym, ◌∙◌, arith}
+use Rattle.std.specs.List.{All, AllByRecursion, AllPairs, IsDistinct}
+use Rattle.std.proofs.lemmas.Bool.{and_cases, eqb-true, eqb-false, not-true}
+use Rattle.std.proofs.lemmas.List.{get_or-map, length-map}
+use Rattle.std.proofs.lemmas.List.Elements.{All-filter, All-map, filter_passes, recursion_from_All}
+use Rattle.std.proofs.lemmas.List.Filters.{length-filter_both}
+use Rattle.std.proofs.lemmas.List.Kept.{AllPairs-filter}
+use Rattle.std.proofs.lemmas.Map.Keys.{IsDistinct-from_apart}
+use Rattle.cspf_db.specs.Database.{Database, IsRouterOf}
+use Rattle.cspf_search.specs.declared.arena.Node.{Node}
+use Rattle.cspf_search.specs.Arena.{state_of, same_state}
+
+-- a database of at most 1,024 routers
+abbrev pub HasFewRouters : Database → Type 0
+HasFewRouters d = (routers : List ℕ) → IsDistinct nat_eq routers → AllByRecursion (IsRouterOf d) routers → length routers ≤ 1024
+
+-- two nodes are not at one state
+abbrev pub AreTold : Node → Node → Type 0
+AreTold m n = same_state (state_of m) (state_of n) ≡ false
+
+-- no two nodes are at one state
+abbrev pub AreApart : List Node → Type 0
+AreApart nodes = AllPairs AreTold nodes
+
+-- the node is at a router of the database, in one of the first legs
+pub record IsWithin (d : Database) (legs : ℕ) (n : Node) : Type 0 where
+  pub router : IsRouterOf d n.router
+  pub low : 1 ≤ n.leg
+  pub high : n.leg ≤ legs
+
+-- a node for the indexes past the end of a list
+abbrev pub nowhere : Node
+nowhere = record { parent = 0; by = None; leg = 0; router = 0; cost = 0; links = 0 }
+
+-- in one leg there are no more nodes than routers
+module _ (d : Database) (few : HasFewRouters d) (leg : ℕ) (nodes : List Node) (apart : AreApart nodes) (routers : All (λ n. IsRouterOf d n.router) nodes)
+    (here : All (λ n. nat_eq n.leg leg ≡ true) nodes) where
+  routers_apart : (i j : ℕ) (e : Node) → i < j → j < length nodes → nat_eq (slice_index_or nodes i e).router (slice_index_or nodes j e).router ≡ false
+  routers_apart i j e low high =
+      let m : Node = slice_index_or nodes i e in
+      let n : Node = slice_index_or nodes j e in
+      elim (and_cases _ _ (apart i j e low high)) [
+        | inl legs ↦ absurd (eqb-false m.leg n.leg legs (eqb-true m.leg leg (here i e (omega arith)) ∙ sym (eqb-true n.leg leg (here j e high))))
+        | inr told ↦ told
+      ]
+
+  routers_distinct : IsDistinct nat_eq (map (λ (n : Node). n.router) nodes)
+  routers_distinct = IsDistinct-from_apart nat_eq (map (λ (n : Node). n.router) nodes) (λ i j e low high.
+      let near : i < length nodes = omega (arith, length-map nodes (λ (n : Node). n.router)) in
+      let far : j < length nodes = omega (arith, length-map nodes (λ (n : Node). n.router)) in
+      rw (get_or-map (λ (n : Node). n.router) nodes i nowhere e near, get_or-map (λ (n : Node). n.router) nodes j nowhere e far)
+      (routers_apart i j nowhere low far))
+
+  pub leg_few : length nodes ≤ 1024
+  leg_few =
+      let all = All-map (IsRouterOf d) (λ (n : Node). n.router) nodes routers in
+      omega (arith, few (map (λ (n : Node). n.router) nodes) routers_distinct (recursion_from_All (IsRouterOf d) _ all), length-map nodes (λ (n : Node). n.router))
+
+-- at routers of the database in the first legs there are at most 1,024 nodes for each leg
+pub nodes_few : (d : Database) → HasFewRouters d → (legs : ℕ) (nodes : List Node) → AreApart nodes → All (IsWithin d legs) nodes → length nodes ≤ legs * 1024
+nodes_few d few zero [] apart within = omega arith
+nodes_few d few zero (n ∷ ns) apart within = absurd (let first = within 0 n (omega arith) in omega (arith, first.low, first.high))
+nodes_few d few (suc k) nodes apart within =
+    let is_last : Node → Bool = λ n. nat_eq n.leg (suc k) in
+    let is_before : Node → Bool = λ n. not (nat_eq n.leg (suc k)) in
+    let last : length (filter is_last nodes) ≤ 1024 =
+    leg_few d few (suc k) (filter is_last nodes) (AllPairs-filter AreTold is_last nodes apart)
+    (All-filter is_last (λ n. IsRouterOf d n.router) nodes (λ i e h. (within i e h).router)) (filter_passes is_last nodes) in
+    let before : length (filter is_before nodes) ≤ k * 1024 =
+    nodes_few d few k (filter is_before nodes) (AllPairs-filter AreTold is_before nodes apart)
+    (λ i e h.
+    let old = All-filter is_before (IsWithin d (suc k)) nodes within i e h in
+    let other = eqb-false _ _ (not-true _ (filter_passes is_before nodes i e h)) in
+    record { router = old.router; low = old.low; high = omega (arith, old.high, other) }) in
+    omega (arith, last, before, length-filter_both is_last is_before (λ n. refl) nodes)
