@@ -1,0 +1,7 @@
+pub mod HopReading
+pub mod Writing
+pub mod Lines
+pub mod Subobjects
+pub mod Spelling
+pub mod RoutesRead
+pub mod Fronts

@@ -1,0 +1,52 @@
+-- The pieces of a line.
+use Rattle.std.proofs.Common.{◌≡◌, ℕ, ◌*◌, ◌^◌, ◌<◌, ◌≤◌, Bool, true, false, List, [], ◌∷◌, ◌++◌, codes, length, append_assoc, length-append, lit≤, arith}
+use Rattle.std.proofs.lemmas.Fmt.{length-decimal-le}
+use Rattle.std.specs.Fmt.{decimal}
+use Rattle.cspf_ero.specs.ReplyLine.{yes_or_no}
+
+regrouped : (a id b version c d cost e hops f again g : List ℕ)
+    → a ++ (id ++ (b ++ (version ++ (c ++ (d ++ (cost ++ (e ++ (hops ++ (f ++ (again ++ g))))))))))
+    ≡ a ++ id ++ b ++ version ++ c ++ (d ++ cost ++ e ++ hops ++ f ++ again ++ g)
+regrouped a id b version c d cost e hops f again g = simp append_assoc
+
+-- the front of a line, piece by piece, and by its words
+pub front_pieces : (id version cost hops again : List ℕ)
+    → codes "ask " ++ (id ++ (codes " v" ++ (version ++ (codes " route cost=" ++ (cost ++ (codes " hops=" ++ (hops ++ (codes " again=" ++ (again ++ codes " ero=")))))))))
+    ≡ codes "ask " ++ id ++ codes " v" ++ version ++ codes " " ++ (codes "route cost=" ++ cost ++ codes " hops=" ++ hops ++ codes " again=" ++ again ++ codes " ero=")
+front_pieces id version cost hops again =
+    regrouped (codes "ask ") id (codes " v") version (codes " ") (codes "route cost=") cost (codes " hops=") hops (codes " again=") again (codes " ero=")
+
+-- behind the front of a line stand the digits and a line feed
+pub line_pieces : (front words digits feed : List ℕ) → front ++ words ++ digits ++ feed ≡ front ++ (words ++ digits) ++ feed
+line_pieces front words digits feed = simp append_assoc
+
+-- how many digits an id, a version, a cost and a number of links have at most
+pub id_digits : (id : ℕ) → id < 2 ^ 64 → length (decimal id) ≤ 20
+id_digits id small = length-decimal-le 20 id (omega arith) (omega arith) small
+
+pub version_digits : (version : ℕ) → version < 2 ^ 32 → length (decimal version) ≤ 10
+version_digits version small = length-decimal-le 10 version (omega arith) (omega arith) (omega arith)
+
+pub cost_digits : (cost : ℕ) → cost < 2 ^ 45 → length (decimal cost) ≤ 14
+cost_digits cost small = length-decimal-le 14 cost (omega arith) (omega arith) (omega arith)
+
+pub hops_digits : (hops : ℕ) → hops ≤ 8184 → length (decimal hops) ≤ 4
+hops_digits hops small = length-decimal-le 4 hops (omega arith) (omega arith) (omega arith)
+
+pub again_letters : (again : Bool) → length (yes_or_no again) ≤ 3
+again_letters true = lit≤ tt
+again_letters false = lit≤ tt
+
+-- the front of a line has at most 87 bytes
+pub front_most : (id version cost hops again : List ℕ) → length id ≤ 20 → length version ≤ 10 → length cost ≤ 14 → length hops ≤ 4 → length again ≤ 3
+    → length (codes "ask " ++ (id ++ (codes " v" ++ (version ++ (codes " route cost=" ++ (cost ++ (codes " hops=" ++ (hops ++ (codes " again=" ++ (again ++ codes " ero=")))))))))) ≤ 87
+front_most id version cost hops again a b c d e = simp length-append (omega arith)
+
+-- a line with a few words has at most 50 bytes
+pub short_most : (id version words : List ℕ) → length id ≤ 20 → length version ≤ 10 → length words ≤ 12
+    → length (codes "ask " ++ (id ++ (codes " v" ++ (version ++ (codes " " ++ (words ++ codes "\n")))))) ≤ 50
+short_most id version words a b c = simp length-append (omega arith)
+
+-- a line that is closed by the digits of an object
+pub line_most : (front digits object : List ℕ) → length front ≤ 87 → length object ≤ 65476 → length digits ≡ 2 * length object → length (front ++ digits ++ 10 ∷ []) ≤ 131040
+line_most front digits object a b c = simp length-append (omega arith)

@@ -1,0 +1,11 @@
+use Rattle.std.proofs.Common.{◌≡◌, ◌+◌, ◌*◌, ◌-◌, length}
+use Rattle.cspf_ero.specs.Reading.{hops_at}
+use Rattle.cspf_ero.proofs.HopReading.{behind}
+use Rattle.cspf_ero.proofs.reader.read_hops.Given as goal
+
+abbrev pub decreases-loop-rest : goal.decreases-loop-rest
+decreases-loop-rest l = length l.rest
+
+-- the hops so far, and those of the rest, are all
+abbrev pub invariant-loop-rest : goal.invariant-loop-rest
+invariant-loop-rest l = behind l.hops (hops_at (7 - length l.hops) (4 + 8 * length l.hops) l.rest) ≡ hops_at 7 4 l.body

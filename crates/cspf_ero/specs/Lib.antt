@@ -1,0 +1,4 @@
+pub mod Objects
+pub mod Reading
+pub mod ReplyLine
+pub mod Laws

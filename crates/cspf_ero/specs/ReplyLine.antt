@@ -1,0 +1,36 @@
+-- The line that answers a request.
+use Rattle.std.specs.Prelude.{◌≡◌, ℕ, ◌↔◌, Bool, true, false, IsTrue, List, ◌++◌, length, codes}
+use Rattle.std.specs.Fmt.{decimal}
+use Rattle.hex.specs.Hex.{encode_lower}
+use Rattle.cspf_db.specs.declared.link.Link.{Link}
+use Rattle.cspf_db.specs.Best.{Answer, unknown_from, unknown_to, no_route, route}
+use Rattle.cspf_db.specs.Walks.{cost_of}
+use Rattle.cspf_search.specs.Routes.{VisitsTwice}
+use Rattle.cspf_ero.specs.Objects.{object_of}
+
+abbrev pub yes_or_no : Bool → List ℕ
+yes_or_no true = codes "yes"
+yes_or_no false = codes "no"
+
+-- a route's cost, its number of links, and whether it visits a router twice
+unfoldable pub measures_text : ℕ → ℕ → Bool → List ℕ
+measures_text cost hops again =
+    codes "route cost=" ++ decimal cost ++ codes " hops=" ++ decimal hops ++ codes " again=" ++ yes_or_no again ++ codes " ero="
+
+-- the words for a route, with its object in lower-case hexadecimal digits
+pub record IsRouteText (links : List Link) (text : List ℕ) : Type 0 where
+  pub again : Bool
+  pub twice : IsTrue again ↔ VisitsTwice links
+  pub words : text ≡ measures_text (cost_of links) (length links) again ++ encode_lower (object_of links)
+
+-- the words for an answer
+abbrev pub IsAnswerText : Answer → List ℕ → Type 0
+IsAnswerText unknown_from text = text ≡ codes "unknown-from"
+IsAnswerText unknown_to text = text ≡ codes "unknown-to"
+IsAnswerText no_route text = text ≡ codes "none"
+IsAnswerText (route links) text = IsRouteText links text
+
+-- the line that answers the request with an id at a version, its line feed included
+abbrev pub IsReply : ℕ → ℕ → Answer → List ℕ → Type 0
+IsReply id version answer line =
+    (text : List ℕ) × IsAnswerText answer text × (line ≡ codes "ask " ++ decimal id ++ codes " v" ++ decimal version ++ codes " " ++ text ++ codes "\n")

@@ -1,0 +1,42 @@
+use thiserror::Error;
+
+/// Why bytes are no EXPLICIT_ROUTE object that spells 1 to 7 hops. Offsets count from 0, the first
+/// byte of the object.
+#[derive(Clone, Copy, Debug, PartialEq, Eq, Error)]
+pub enum EroError {
+    /// Fewer than the 4 bytes of a header.
+    #[error("fewer than 4 bytes")]
+    Short,
+    /// The length field isn't the number of bytes, or isn't a multiple of 4.
+    #[error("a length field that isn't the number of bytes or isn't a multiple of 4")]
+    Length,
+    /// Another class than 20, or another C-Type than 1.
+    #[error("another class than 20 or another C-Type than 1")]
+    Class,
+    /// No subobject.
+    #[error("no subobject")]
+    Empty,
+    /// More than seven subobjects.
+    #[error("more than 7 subobjects")]
+    TooManyHops,
+    /// A subobject that isn't an IPv4 prefix.
+    #[error("a subobject of type {kind} at {at}")]
+    Unsupported {
+        /// The offset of its first byte.
+        at: usize,
+        /// Its type, below 128.
+        kind: u8,
+    },
+    /// An IPv4 prefix whose length isn't 8 bytes, or that is cut off.
+    #[error("a subobject that isn't 8 bytes long at {at}")]
+    Sublength {
+        /// The offset of its first byte.
+        at: usize,
+    },
+    /// A prefix length above 32.
+    #[error("a prefix length above 32 at {at}")]
+    PrefixLength {
+        /// The offset of the subobject's first byte.
+        at: usize,
+    },
+}

@@ -1,0 +1,13 @@
+ghost use Rattle.cspf_ero.specs.Laws.{AreObjectsRead, SpellsOneHopList, AreRoutesReadBack};
+
+/// Law: bytes are read as hops exactly where they are an object that spells them, and they spell
+/// one list of hops at most.
+pub fn objects_are_read()
+    ensures read { AreObjectsRead }
+    ensures one { SpellsOneHopList }
+{}
+
+/// Law: the object that is written for a route of 1 to 7 links is read as its hops.
+pub fn routes_are_read_back()
+    ensures { AreRoutesReadBack }
+{}

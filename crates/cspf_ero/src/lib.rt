@@ -1,0 +1,21 @@
+//! EXPLICIT_ROUTE objects as bytes, and the lines that answer requests.
+//!
+//! `specs/Objects.antt` defines which bytes spell which hops and what is written for a route,
+//! `specs/Reading.antt` what is read or the first refusal, and `specs/ReplyLine.antt` the lines.
+//! Reading takes no memory.
+#![tactic(auto)]
+
+mod ero_error;
+mod laws;
+mod reader;
+mod reply;
+mod writer;
+
+pub use ero_error::EroError;
+pub use laws::{objects_are_read, routes_are_read_back};
+pub use reader::{read_ero, read_ero_front};
+pub use reply::reply_line;
+pub use writer::write_ero;
+
+#[cfg(test)]
+mod tests;

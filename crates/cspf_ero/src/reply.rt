@@ -1,0 +1,88 @@
+ghost use Rattle.std.specs.Prelude.{◌≡◌, ◌++◌, ◌+◌, ◌*◌, ◌≤◌, ◌<◌, ◌^◌, ◌↔◌, Bool, IsTrue, IfOk, OnOk, length, codes};
+ghost use Rattle.std.specs.Fmt.{decimal};
+ghost use Rattle.std.specs.String.{string_bytes};
+ghost use Rattle.hex.specs.Hex.{encode_lower};
+ghost use Rattle.cspf_db.specs.Walks.{cost_of};
+ghost use Rattle.cspf_search.specs.Routes.{VisitsTwice};
+ghost use Rattle.cspf_search.specs.Outcome.{answer_of};
+ghost use Rattle.cspf_db.specs.Best.{route as of_route};
+ghost use Rattle.cspf_ero.specs.ReplyLine.{IsReply, measures_text, yes_or_no};
+
+use crate::writer::write_ero;
+use cspf_search::{Outcome, Route};
+use std::alloc::{AllocError, Global};
+
+/// The line that answers the request with this id at a version, its line feed included. The object
+/// of a route is written in lower-case hexadecimal digits. It has at most 131,040 bytes.
+pub fn reply_line(
+    alloc: Global,
+    id: u64,
+    version: u32,
+    outcome: &Outcome,
+) -> Result<Vec<u8>, AllocError>
+    ensures line { IfOk result (λ line. IsReply id version (answer_of outcome.now) line.items) }
+    ensures most { IfOk result (λ line. length line.items ≤ 131040) }
+{
+    match outcome {
+        Outcome::Route(route) => route_line(alloc, id, version, route),
+        Outcome::NoRoute => short_line(alloc, id, version, "none"),
+        Outcome::UnknownFrom => short_line(alloc, id, version, "unknown-from"),
+        Outcome::UnknownTo => short_line(alloc, id, version, "unknown-to"),
+    }
+}
+
+/// The line of an answer that is told in these words.
+fn short_line(alloc: Global, id: u64, version: u32, words: &str) -> Result<Vec<u8>, AllocError>
+    requires { length words.now ≤ 12 }
+    ensures line { IfOk result (λ line. line.items ≡
+        codes "ask " ++ decimal id ++ codes " v" ++ decimal version ++ codes " "
+        ++ words.now ++ codes "\n") }
+    ensures most { IfOk result (λ line. length line.items ≤ 50) }
+{
+    Ok(format!(in alloc; "ask {id} v{version} {words}\n")?.into_bytes())
+}
+
+/// The line of a route.
+fn route_line(alloc: Global, id: u64, version: u32, route: &Route) -> Result<Vec<u8>, AllocError>
+    ensures line { IfOk result (λ line. IsReply id version (of_route route.now) line.items) }
+    ensures most { IfOk result (λ line. length line.items ≤ 131040) }
+{
+    let object = write_ero(alloc, route)?;
+    let front = route_front(alloc, id, version, route)?;
+    let mut line = front.into_bytes();
+    write_digits(&mut line, object.as_slice())?;
+    line.push(b'\n')?;
+    Ok(line)
+}
+
+/// The line of a route up to its object.
+#[tactic(auto, unfolding(crate::specs::ReplyLine::measures_text))]
+fn route_front(alloc: Global, id: u64, version: u32, route: &Route) -> Result<String, AllocError>
+    ensures words { IfOk result (λ text. (again : Bool) × (IsTrue again ↔ VisitsTwice route.now)
+        × (string_bytes text ≡ codes "ask " ++ decimal id ++ codes " v" ++ decimal version ++ codes " "
+        ++ measures_text (cost_of route.now) (length route.now) again)) }
+    ensures most { IfOk result (λ text. length (string_bytes text) ≤ 87) }
+{
+    let (cost, hops) = (route.cost(), route.links().len());
+    let again = yes_or_no(route.again());
+    format!(in alloc; "ask {id} v{version} route cost={cost} hops={hops} again={again} ero=")
+}
+
+/// The word for a test.
+fn yes_or_no(test: bool) -> &'static str
+    ensures { result.now ≡ yes_or_no test }
+{
+    if test { "yes" } else { "no" }
+}
+
+/// Writes the two hexadecimal digits of each byte.
+fn write_digits(line: &mut Vec<u8>, bytes: &[u8]) -> Result<(), AllocError>
+    requires { length bytes.now ≤ 65476 }
+    ensures { OnOk result (line.new.items ≡ line.old.items ++ encode_lower bytes.now) }
+{
+    let start = line.len();
+    line.resize(start + 2 * bytes.len(), 0)?;
+    let written = hex::encode_to_slice(bytes, &mut line.as_mut_slice()[start..]);
+    prove!(written.is_ok());
+    Ok(())
+}
