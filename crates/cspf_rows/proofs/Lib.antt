@@ -1,4 +1,9 @@
+pub mod HopTexts
+pub mod ObjectDigits
 pub mod Made
 pub mod Spelled
 pub mod RowLaws
 pub mod ReadBack
+pub mod RowsRead
+pub mod HopsRefused
+pub mod Refusing

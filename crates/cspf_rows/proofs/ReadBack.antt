@@ -1,12 +1,13 @@
 -- The records that are written for rows are read back.
-use Rattle.std.proofs.Common.{◌≡◌, ℕ, zero, suc, ◌<◌, List, [], ◌∷◌, map, length, slice_index, unwrap_or, refl, lit<, arith}
+use Rattle.std.proofs.Common.{◌≡◌, ℕ, zero, suc, ◌<◌, List, [], ◌∷◌, map, length, slice_index, unwrap_or, inl, refl, lit<, arith}
 use Rattle.std.proofs.lemmas.List.{length-map}
 use Rattle.std.specs.Fmt.{decimal}
 use Rattle.csv.specs.Records.{field_at}
 use Rattle.cspf_addr.specs.HopLists.{AreHopListsReadBack}
-use Rattle.cspf_rows.specs.declared.rows.Row.TheVariants as row
+use Rattle.cspf_rows.specs.declared.row.Row.TheVariants as row
 use Rattle.cspf_rows.specs.Written.{put_fields, drop_fields, end_fields, ask_fields, ArePutsReadBack, AreDropsReadBack, AreEndsReadBack, AreAsksReadBack}
 use Rattle.cspf_rows.proofs.Spelled.{AreTextsRead}
+use Rattle.cspf_rows.proofs.HopTexts.{no_object}
 use Rattle.cspf_rows.proofs.RowLaws.{row_of-said}
 
 -- a field that is written for a number of a list
@@ -72,5 +73,5 @@ asks_read_back texts hop_lists request exclude_any include_any include_all range
       exclude_any = exclude_mask;
       include_any = any_mask;
       include_all = all_mask;
-      hops = hop_lists request.hops range.few range.hops;
+      hops = inl (record { other = no_object request.hops; read = hop_lists request.hops range.few range.hops });
     })

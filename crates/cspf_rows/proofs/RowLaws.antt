@@ -4,14 +4,15 @@ use Rattle.std.proofs.lemmas.Bool.{eqb-true}
 use Rattle.std.proofs.lemmas.Slice.Eq.{bytes_eq-Decides}
 use Rattle.std.specs.Prelude.{codes}
 use Rattle.std.specs.Str.{bytes_eq}
-use Rattle.cspf_db.specs.Fields.{LinkFields, RequestFields, HasFields, Says as SaysRequest}
+use Rattle.cspf_db.specs.Fields.{LinkFields, RequestFields, HasLinkFields, HasRequestFields}
 use Rattle.cspf_db.specs.declared.link.Link.{Link}
 use Rattle.cspf_db.specs.declared.request.Request.{Request}
-use Rattle.cspf_rows.specs.declared.rows.Row.{Row}
-use Rattle.cspf_rows.specs.declared.rows.Row.TheVariants as row
-use Rattle.cspf_rows.specs.declared.refusals.RowError.{RowError}
-use Rattle.cspf_rows.specs.FieldValues.{◌>>=◌, field, number_at, small_number_at, priority_at, address_at, mask_at, hops_at}
-use Rattle.cspf_rows.specs.Rows.{put_between, put, ask_between, ask, put_of, drop_of, end_of, ask_of, row_of}
+use Rattle.cspf_rows.specs.declared.row.Row.{Row}
+use Rattle.cspf_rows.specs.declared.row.Row.TheVariants as row
+use Rattle.cspf_rows.specs.declared.row_error.RowError.{RowError}
+use Rattle.cspf_addr.specs.ResultSteps.{◌>>=◌}
+use Rattle.cspf_rows.specs.FieldValues.{field, number_at, small_number_at, priority_at, address_at, mask_at, hops_at}
+use Rattle.cspf_rows.specs.Rows.{put_between, put, ask_between, ask, put_row_of, drop_row_of, end_row_of, ask_row_of, row_of}
 use Rattle.cspf_rows.specs.Says.{SaysPut, SaysRemove, SaysEnd, SaysAsk, Says, AreRowsRead, SaysOneRow}
 use Rattle.cspf_rows.proofs.Made.{put-link, ask-request}
 use Rattle.cspf_rows.proofs.Spelled.{AreTextsRead, first_step, number_at-spelled, spelled-number_at, small_number_at-spelled, spelled-small_number_at, priority_at-spelled, spelled-priority_at, address_at-spelled, spelled-address_at, mask_at-spelled, spelled-mask_at, hops_at-spelled, spelled-hops_at}
@@ -31,9 +32,9 @@ eight_items (a ∷ b ∷ c ∷ d ∷ e ∷ f ∷ g ∷ h ∷ []) n = refl
 eight_items (a ∷ b ∷ c ∷ d ∷ e ∷ f ∷ g ∷ h ∷ i ∷ rest) n = absurd (omega (arith, n))
 
 -- a record that says a put is read as it
-put_of-said : AreTextsRead → (fields : List (List ℕ)) (link : Link) → SaysPut fields link → put_of fields ≡ Ok (row.Put link)
-unfolding put_of
-put_of-said texts fields link s =
+put_row_of-said : AreTextsRead → (fields : List (List ℕ)) (link : Link) → SaysPut fields link → put_row_of fields ≡ Ok (row.Put link)
+unfolding put_row_of
+put_row_of-said texts fields link s =
     rw (
       address_at-spelled texts fields 2 link.from s.from,
       address_at-spelled texts fields 3 link.local s.local,
@@ -59,18 +60,18 @@ put_of-said texts fields link s =
       free = eight_items link.free link.eight;
     }))
 
-drop_of-said : AreTextsRead → (fields : List (List ℕ)) (from local : ℕ) → SaysRemove fields from local → drop_of fields ≡ Ok (row.Remove from local)
-unfolding drop_of
-drop_of-said texts fields from local s = rw (address_at-spelled texts fields 2 from s.from, address_at-spelled texts fields 3 local s.local) refl
+drop_row_of-said : AreTextsRead → (fields : List (List ℕ)) (from local : ℕ) → SaysRemove fields from local → drop_row_of fields ≡ Ok (row.Remove from local)
+unfolding drop_row_of
+drop_row_of-said texts fields from local s = rw (address_at-spelled texts fields 2 from s.from, address_at-spelled texts fields 3 local s.local) refl
 
-end_of-said : AreTextsRead → (fields : List (List ℕ)) (number count : ℕ) → SaysEnd fields number count → end_of fields ≡ Ok (row.End number count)
-unfolding end_of
-end_of-said texts fields number count s =
+end_row_of-said : AreTextsRead → (fields : List (List ℕ)) (number count : ℕ) → SaysEnd fields number count → end_row_of fields ≡ Ok (row.End number count)
+unfolding end_row_of
+end_row_of-said texts fields number count s =
     rw (small_number_at-spelled texts fields 2 number s.number, small_number_at-spelled texts fields 3 count s.has) refl
 
-ask_of-said : AreTextsRead → (fields : List (List ℕ)) (request : Request) → SaysAsk fields request → ask_of fields ≡ Ok (row.Ask request)
-unfolding ask_of
-ask_of-said texts fields request s =
+ask_row_of-said : AreTextsRead → (fields : List (List ℕ)) (request : Request) → SaysAsk fields request → ask_row_of fields ≡ Ok (row.Ask request)
+unfolding ask_row_of
+ask_row_of-said texts fields request s =
     rw (
       number_at-spelled texts fields 2 request.id s.id,
       address_at-spelled texts fields 3 request.from s.from,
@@ -80,7 +81,7 @@ ask_of-said texts fields request s =
       mask_at-spelled texts fields 7 request.exclude_any s.exclude_any,
       mask_at-spelled texts fields 8 request.include_any s.include_any,
       mask_at-spelled texts fields 9 request.include_all s.include_all,
-      hops_at-spelled fields 10 request.hops s.hops,
+      hops_at-spelled texts fields 10 request.hops s.hops,
     ) (ask-request request _ (record {
       id = refl;
       from = refl;
@@ -96,14 +97,14 @@ ask_of-said texts fields request s =
 -- a record that says a row is read as it
 pub row_of-said : AreTextsRead → (fields : List (List ℕ)) (r : Row) → Says fields r → row_of fields ≡ Ok r
 unfolding row_of
-row_of-said texts fields (row.Put link) s = rw (s.kind, s.count) (put_of-said texts fields link s)
-row_of-said texts fields (row.Remove from local) s = rw (s.kind, s.count) (drop_of-said texts fields from local s)
-row_of-said texts fields (row.End number count) s = rw (s.kind, s.count) (end_of-said texts fields number count s)
-row_of-said texts fields (row.Ask request) s = rw (s.kind, s.count) (ask_of-said texts fields request s)
+row_of-said texts fields (row.Put link) s = rw (s.kind, s.count) (put_row_of-said texts fields link s)
+row_of-said texts fields (row.Remove from local) s = rw (s.kind, s.count) (drop_row_of-said texts fields from local s)
+row_of-said texts fields (row.End number count) s = rw (s.kind, s.count) (end_row_of-said texts fields number count s)
+row_of-said texts fields (row.Ask request) s = rw (s.kind, s.count) (ask_row_of-said texts fields request s)
 
 -- the link that is made of attributes
 said-put : (link : LinkFields) (eight : length link.free ≡ 8) (ends : Dec (link.from ≡ link.to)) (r : Row) → put_between link eight ends ≡ Ok r
-    → (l : Link) × (row.Put l ≡ r) × HasFields l link
+    → (l : Link) × (row.Put l ≡ r) × HasLinkFields l link
 said-put link eight (yes same) r made = absurd (cc)
 said-put link eight (no apart) r made = (
   record {
@@ -123,7 +124,7 @@ said-put link eight (no apart) r made = (
 
 -- the request that is made of what it says
 said-ask : (request : RequestFields) (low : Dec (request.setup < 8)) (ends : Dec (request.from ≡ request.to)) (r : Row) → ask_between request low ends ≡ Ok r
-    → (q : Request) × (row.Ask q ≡ r) × SaysRequest q request
+    → (q : Request) × (row.Ask q ≡ r) × HasRequestFields q request
 said-ask request (no above) ends r made = absurd (cc)
 said-ask request (yes below) (yes same) r made = absurd (cc)
 said-ask request (yes below) (no apart) r made = (
@@ -145,7 +146,7 @@ said-ask request (yes below) (no apart) r made = (
 )
 
 -- the link of attributes that were read is said by the record
-said-link : AreTextsRead → (fields : List (List ℕ)) (l : Link) (link : LinkFields) → HasFields l link → length fields ≡ 15 → field fields 1 ≡ codes "put"
+said-link : AreTextsRead → (fields : List (List ℕ)) (l : Link) (link : LinkFields) → HasLinkFields l link → length fields ≡ 15 → field fields 1 ≡ codes "put"
     → address_at fields 2 ≡ Ok link.from
     → address_at fields 3 ≡ Ok link.local
     → address_at fields 4 ≡ Ok link.to
@@ -182,13 +183,12 @@ said-link texts fields l link has count kind from local to remote metric group u
 
 -- what follows from the first step of two that gave a value
 stepped : {A B : Type 0} {G : Type 0} (r : Result A RowError) (f : A → Result B RowError) (y : B) → (r >>= f) ≡ Ok y → ((x : A) → r ≡ Ok x → f x ≡ Ok y → G) → G
-stepped (Ok x) f y found next = next x refl found
-stepped (Err e) f y found next = absurd (cc)
+stepped r f y found next = let step = first_step r f y found in next step.0 step.1 step.2
 
 -- a record that is read as a put says it
-said-put_of : AreTextsRead → (fields : List (List ℕ)) (r : Row) → length fields ≡ 15 → field fields 1 ≡ codes "put" → put_of fields ≡ Ok r → Says fields r
-unfolding put_of put
-said-put_of texts fields r count kind read =
+said-put_row_of : AreTextsRead → (fields : List (List ℕ)) (r : Row) → length fields ≡ 15 → field fields 1 ≡ codes "put" → put_row_of fields ≡ Ok r → Says fields r
+unfolding put_row_of put
+said-put_row_of texts fields r count kind read =
     stepped (address_at fields 2) _ r read (λ from is_from after_from.
     stepped (address_at fields 3) _ r after_from (λ local is_local after_local.
     stepped (address_at fields 4) _ r after_local (λ to is_to after_to.
@@ -206,9 +206,9 @@ said-put_of texts fields r count kind read =
     let made = said-put _ _ _ r after_u7 in
     subst (Says fields) made.1 (said-link texts fields made.0 _ made.2 count kind is_from is_local is_to is_remote is_metric is_group is_u0 is_u1 is_u2 is_u3 is_u4 is_u5 is_u6 is_u7)))))))))))))))
 
-said-drop_of : AreTextsRead → (fields : List (List ℕ)) (r : Row) → length fields ≡ 3 → field fields 1 ≡ codes "drop" → drop_of fields ≡ Ok r → Says fields r
-unfolding drop_of
-said-drop_of texts fields r count kind read =
+said-drop_row_of : AreTextsRead → (fields : List (List ℕ)) (r : Row) → length fields ≡ 3 → field fields 1 ≡ codes "drop" → drop_row_of fields ≡ Ok r → Says fields r
+unfolding drop_row_of
+said-drop_row_of texts fields r count kind read =
     let from = first_step _ _ _ read in
     let local = first_step _ _ _ from.2 in
     let same : row.Remove from.0 local.0 ≡ r = cc (local.2) in
@@ -219,9 +219,9 @@ said-drop_of texts fields r count kind read =
       local = spelled-address_at texts fields 3 local.0 local.1;
     })
 
-said-end_of : AreTextsRead → (fields : List (List ℕ)) (r : Row) → length fields ≡ 3 → field fields 1 ≡ codes "end" → end_of fields ≡ Ok r → Says fields r
-unfolding end_of
-said-end_of texts fields r count kind read =
+said-end_row_of : AreTextsRead → (fields : List (List ℕ)) (r : Row) → length fields ≡ 3 → field fields 1 ≡ codes "end" → end_row_of fields ≡ Ok r → Says fields r
+unfolding end_row_of
+said-end_row_of texts fields r count kind read =
     let number = first_step _ _ _ read in
     let changes = first_step _ _ _ number.2 in
     let same : row.End number.0 changes.0 ≡ r = cc (changes.2) in
@@ -232,9 +232,9 @@ said-end_of texts fields r count kind read =
       has = spelled-small_number_at texts fields 3 changes.0 changes.1;
     })
 
-said-ask_of : AreTextsRead → (fields : List (List ℕ)) (r : Row) → length fields ≡ 10 → field fields 1 ≡ codes "ask" → ask_of fields ≡ Ok r → Says fields r
-unfolding ask_of ask
-said-ask_of texts fields r count kind read =
+said-ask_row_of : AreTextsRead → (fields : List (List ℕ)) (r : Row) → length fields ≡ 10 → field fields 1 ≡ codes "ask" → ask_row_of fields ≡ Ok r → Says fields r
+unfolding ask_row_of ask
+said-ask_row_of texts fields r count kind read =
     let id = first_step (number_at fields 2) _ r read in
     let from = first_step (address_at fields 3) _ r id.2 in
     let to = first_step (address_at fields 4) _ r from.2 in
@@ -257,7 +257,7 @@ said-ask_of texts fields r count kind read =
       exclude_any = spelled-mask_at texts fields 7 made.0.exclude_any (exclude_any.1 ∙ ap Ok (sym says.exclude_any));
       include_any = spelled-mask_at texts fields 8 made.0.include_any (include_any.1 ∙ ap Ok (sym says.include_any));
       include_all = spelled-mask_at texts fields 9 made.0.include_all (include_all.1 ∙ ap Ok (sym says.include_all));
-      hops = spelled-hops_at fields 10 made.0.hops (hops.1 ∙ ap Ok (sym says.hops));
+      hops = spelled-hops_at texts fields 10 made.0.hops (hops.1 ∙ ap Ok (sym says.hops));
     } in
     subst (Says fields) made.1 said
 
@@ -283,10 +283,10 @@ by_word text name x y r false is read here there = there read
 pub said-row_of : AreTextsRead → (fields : List (List ℕ)) (r : Row) → row_of fields ≡ Ok r → Says fields r
 unfolding row_of
 said-row_of texts fields r read =
-    by_word (field fields 1) (codes "put") _ _ r _ refl read (λ kind h. let n = counted fields 15 (put_of fields) _ r h in said-put_of texts fields r n.0 kind n.1)
-    (λ no_put. by_word (field fields 1) (codes "drop") _ _ r _ refl no_put (λ kind h. let n = counted fields 3 (drop_of fields) _ r h in said-drop_of texts fields r n.0 kind n.1)
-    (λ no_drop. by_word (field fields 1) (codes "end") _ _ r _ refl no_drop (λ kind h. let n = counted fields 3 (end_of fields) _ r h in said-end_of texts fields r n.0 kind n.1)
-    (λ no_end. by_word (field fields 1) (codes "ask") _ _ r _ refl no_end (λ kind h. let n = counted fields 10 (ask_of fields) _ r h in said-ask_of texts fields r n.0 kind n.1)
+    by_word (field fields 1) (codes "put") _ _ r _ refl read (λ kind h. let n = counted fields 15 (put_row_of fields) _ r h in said-put_row_of texts fields r n.0 kind n.1)
+    (λ no_put. by_word (field fields 1) (codes "drop") _ _ r _ refl no_put (λ kind h. let n = counted fields 3 (drop_row_of fields) _ r h in said-drop_row_of texts fields r n.0 kind n.1)
+    (λ no_drop. by_word (field fields 1) (codes "end") _ _ r _ refl no_drop (λ kind h. let n = counted fields 3 (end_row_of fields) _ r h in said-end_row_of texts fields r n.0 kind n.1)
+    (λ no_end. by_word (field fields 1) (codes "ask") _ _ r _ refl no_end (λ kind h. let n = counted fields 10 (ask_row_of fields) _ r h in said-ask_row_of texts fields r n.0 kind n.1)
     (λ none. absurd (cc)))))
 
 pub rows_read : AreTextsRead → AreRowsRead

@@ -1,23 +1,33 @@
 -- What the fields of a record spell is what is written in them.
-use Rattle.std.proofs.Common.{◌≡◌, ℕ, ◌^◌, Bool, true, false, cond, List, Option, Some, None, Result, Ok, Err, refl, arith}
-use Rattle.std.proofs.lemmas.Bool.{ltb-true, lt-ltb}
+use Rattle.std.proofs.Common.{◌≡◌, ℕ, ◌^◌, Bool, true, false, cond, eqb, inl, inr, List, ◌++◌, codes, drop, ap, Option, Some, None, Result, Ok, Err, refl, arith}
+use Rattle.std.proofs.lemmas.Bool.{ltb-true, lt-ltb, false_from_ne_true}
+use Rattle.std.proofs.lemmas.Bool.Decides.{Decides-eqb}
+use Rattle.std.proofs.lemmas.Slice.Eq.{starts_is}
+use Rattle.std.specs.List.{starts_with}
+use Rattle.hex.specs.Hex.{decode_of}
+use Rattle.hex.specs.declared.error.FromHexError.{FromHexError}
+use Rattle.hex.proofs.HexLemmas.{decode_of-ok}
 use Rattle.std.specs.Option.{ok_or}
 use Rattle.std.specs.Result.{result_map_both}
 use Rattle.cspf_addr.specs.Numbers.{AreSpelledOnce}
-use Rattle.cspf_addr.specs.Spelling.{AreAddressesSpelledOnce}
+use Rattle.cspf_addr.specs.AddressText.{AreAddressesSpelledOnce}
 use Rattle.cspf_addr.specs.MaskText.{SpellsMask, AreMasksRead}
 use Rattle.cspf_addr.specs.HopLists.{hops_of}
-use Rattle.cspf_addr.specs.declared.single_hop.Hop.{Hop}
-use Rattle.cspf_addr.specs.declared.hop_reader.HopsError.{HopsError}
-use Rattle.cspf_rows.specs.declared.refusals.RowError.{RowError}
-use Rattle.cspf_rows.specs.FieldValues.{◌>>=◌, field, number_at, small_number_at, priority_at, address_at, mask_at, hops_at}
-use Rattle.cspf_rows.specs.Says.{SpellsNumber, SpellsAddress}
+use Rattle.cspf_addr.specs.declared.hop.Hop.{Hop}
+use Rattle.cspf_ero.specs.Objects.{Spells}
+use Rattle.cspf_ero.specs.Laws.{AreObjectsRead}
+use Rattle.cspf_rows.specs.declared.row_error.HopsFault.TheVariants as fault
+use Rattle.cspf_rows.specs.declared.row_error.RowError.{RowError}
+use Rattle.cspf_addr.specs.ResultSteps.{◌>>=◌}
+use Rattle.cspf_rows.specs.FieldValues.{field, number_at, small_number_at, priority_at, address_at, mask_at, object_hops_of, hex_hops_of, either_hops_of, hops_at}
+use Rattle.cspf_rows.specs.Says.{SpellsNumber, SpellsAddress, SpellsHops}
 
 -- the laws of the texts that fields spell
 pub record AreTextsRead : Type 0 where
   pub numbers : AreSpelledOnce
   pub addresses : AreAddressesSpelledOnce
   pub masks : AreMasksRead
+  pub objects : AreObjectsRead
 
 -- the first step of two that gave a value
 pub first_step : {A B : Type 0} (r : Result A RowError) (f : A → Result B RowError) (y : B) → (r >>= f) ≡ Ok y → (x : A) × (r ≡ Ok x) × (f x ≡ Ok y)
@@ -89,15 +99,56 @@ module _ (texts : AreTextsRead) (fields : List (List ℕ)) (place : ℕ) where
   unfolding mask_at
   spelled-mask_at n read = (texts.masks (field fields place) n).0 (found _ _ n read)
 
--- what hops in the place of a refusal came from
-kept : (r : Result (List Hop) HopsError) (f : HopsError → RowError) (hops : List Hop) → result_map_both (λ (h : List Hop). h) f r ≡ Ok hops → r ≡ Ok hops
+-- what a value behind a change of its error came from
+kept : {A B : Type 0} (r : Result (List Hop) A) (f : A → B) (hops : List Hop) → result_map_both (λ (h : List Hop). h) f r ≡ Ok hops → r ≡ Ok hops
 kept (Ok h) f hops same = cc
 kept (Err e) f hops same = absurd (cc)
 
-pub hops_at-spelled : (fields : List (List ℕ)) (place : ℕ) (hops : List Hop) → hops_of (field fields place) ≡ Ok hops → hops_at fields place ≡ Ok hops
-unfolding hops_at
-hops_at-spelled fields place hops s = rw s refl
+-- whether a text begins with `ero:`, behind which an object stands
+pub begins : (text : List ℕ) (test : Bool) → test ≡ starts_with eqb text (codes "ero:")
+    → (test ≡ true → text ≡ codes "ero:" ++ drop 4 text) × ((rest : List ℕ) → text ≡ codes "ero:" ++ rest → test ≡ true)
+begins text test is = starts_is Decides-eqb text (codes "ero:") test is
 
-pub spelled-hops_at : (fields : List (List ℕ)) (place : ℕ) (hops : List Hop) → hops_at fields place ≡ Ok hops → hops_of (field fields place) ≡ Ok hops
+-- an object that is read
+hex_hops_of-spelled : AreObjectsRead → (digits : List ℕ) (bytes : List ℕ) (hops : List Hop) → decode_of digits ≡ Ok bytes → Spells bytes hops → hex_hops_of digits ≡ Ok hops
+unfolding hex_hops_of
+hex_hops_of-spelled objects digits bytes hops found spelled = rw (found, (objects bytes hops (decode_of-ok digits bytes found).3).1 spelled) refl
+
+spelled-hex_hops_of : AreObjectsRead → (digits : List ℕ) (hops : List Hop) → hex_hops_of digits ≡ Ok hops → (bytes : List ℕ) × (decode_of digits ≡ Ok bytes) × Spells bytes hops
+unfolding hex_hops_of
+spelled-hex_hops_of objects digits hops read = cases (decode_of digits) refl read
+  where
+    cases : (decoded : Result (List ℕ) FromHexError) → decode_of digits ≡ decoded → object_hops_of decoded ≡ Ok hops → (bytes : List ℕ) × (decode_of digits ≡ Ok bytes) × Spells bytes hops
+    cases (Ok bytes) found read = (bytes, found, (objects bytes hops (decode_of-ok digits bytes found).3).0 (kept _ _ hops read))
+    cases (Err e) found read = absurd (cc)
+
+-- a text that spells hops is read as those
+either-spelled : AreObjectsRead → (text : List ℕ) (hops : List Hop) → SpellsHops text hops → either_hops_of text ≡ Ok hops
+unfolding either_hops_of
+either-spelled objects text hops (inl list) = rw (no_object, list.read) refl
+  where
+    no_object : starts_with eqb text (codes "ero:") ≡ false
+    no_object = false_from_ne_true _ (λ test. list.other (drop 4 text) ((begins text _ refl).0 test))
+either-spelled objects text hops (inr object) =
+    let test = (begins text _ refl).1 object.digits object.whole in
+    let behind : drop 4 text ≡ object.digits = ap (drop 4) object.whole in
+    rw (test, behind, hex_hops_of-spelled objects object.digits object.bytes hops object.decoded object.spelled) refl
+
+spelled-either : AreObjectsRead → (text : List ℕ) (hops : List Hop) → either_hops_of text ≡ Ok hops → SpellsHops text hops
+unfolding either_hops_of
+spelled-either objects text hops read = cases (starts_with eqb text (codes "ero:")) refl read
+  where
+    cases : (test : Bool) → test ≡ starts_with eqb text (codes "ero:")
+        → cond test (hex_hops_of (drop 4 text)) (result_map_both (λ (h : List Hop). h) fault.Text (hops_of text)) ≡ Ok hops → SpellsHops text hops
+    cases true is read =
+        let (bytes, found, spelled) = spelled-hex_hops_of objects (drop 4 text) hops read in
+        inr (record { digits = drop 4 text; bytes = bytes; whole = (begins text true is).0 refl; decoded = found; spelled = spelled })
+    cases false is read = inl (record { other = λ rest whole. let bad = (begins text false is).1 rest whole in absurd (cc); read = kept _ _ hops read })
+
+pub hops_at-spelled : AreTextsRead → (fields : List (List ℕ)) (place : ℕ) (hops : List Hop) → SpellsHops (field fields place) hops → hops_at fields place ≡ Ok hops
 unfolding hops_at
-spelled-hops_at fields place hops read = kept _ _ hops read
+hops_at-spelled texts fields place hops s = rw (either-spelled texts.objects (field fields place) hops s) refl
+
+pub spelled-hops_at : AreTextsRead → (fields : List (List ℕ)) (place : ℕ) (hops : List Hop) → hops_at fields place ≡ Ok hops → SpellsHops (field fields place) hops
+unfolding hops_at
+spelled-hops_at texts fields place hops read = spelled-either texts.objects (field fields place) hops (kept _ _ hops read)

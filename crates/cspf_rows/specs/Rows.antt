@@ -3,11 +3,12 @@ use Rattle.std.specs.Prelude.{◌≡◌, ◌<◌, ℕ, suc, Bool, ◌==◌, if�
 use Rattle.std.specs.Str.{bytes_eq}
 use Rattle.std.proofs.Math.Decide.{ℕ_discrete, dec_le}
 use Rattle.cspf_db.specs.Fields.{LinkFields, RequestFields}
-use Rattle.cspf_rows.specs.declared.rows.Row.{Row}
-use Rattle.cspf_rows.specs.declared.rows.Row.TheVariants as row
-use Rattle.cspf_rows.specs.declared.refusals.RowError.{RowError}
-use Rattle.cspf_rows.specs.declared.refusals.RowError.TheVariants as error
-use Rattle.cspf_rows.specs.FieldValues.{◌>>=◌, field, number_at, small_number_at, priority_at, address_at, mask_at, hops_at}
+use Rattle.cspf_rows.specs.declared.row.Row.{Row}
+use Rattle.cspf_rows.specs.declared.row.Row.TheVariants as row
+use Rattle.cspf_rows.specs.declared.row_error.RowError.{RowError}
+use Rattle.cspf_rows.specs.declared.row_error.RowError.TheVariants as error
+use Rattle.cspf_addr.specs.ResultSteps.{◌>>=◌}
+use Rattle.cspf_rows.specs.FieldValues.{field, number_at, small_number_at, priority_at, address_at, mask_at, hops_at}
 
 -- a row that puts the link with these attributes, if its ends are two routers
 abbrev pub put_between : (link : LinkFields) → length link.free ≡ 8 → Dec (link.from ≡ link.to) → Result Row RowError
@@ -53,8 +54,8 @@ unfoldable pub ask : RequestFields → Result Row RowError
 ask request = ask_between request (dec_le (suc request.setup) 8) (ℕ_discrete request.from request.to)
 
 -- the row of 15 fields that puts a link
-unfoldable pub put_of : List (List ℕ) → Result Row RowError
-put_of fields = do
+unfoldable pub put_row_of : List (List ℕ) → Result Row RowError
+put_row_of fields = do
   from ← address_at fields 2
   local ← address_at fields 3
   to ← address_at fields 4
@@ -72,22 +73,22 @@ put_of fields = do
   put (record { from = from; local = local; to = to; remote = remote; metric = metric; group = group; free = u0 ∷ u1 ∷ u2 ∷ u3 ∷ u4 ∷ u5 ∷ u6 ∷ u7 ∷ [] }) refl
 
 -- the row of 3 fields that removes a link
-unfoldable pub drop_of : List (List ℕ) → Result Row RowError
-drop_of fields = do
+unfoldable pub drop_row_of : List (List ℕ) → Result Row RowError
+drop_row_of fields = do
   from ← address_at fields 2
   local ← address_at fields 3
   Ok (row.Remove from local)
 
 -- the row of 3 fields that ends a batch
-unfoldable pub end_of : List (List ℕ) → Result Row RowError
-end_of fields = do
+unfoldable pub end_row_of : List (List ℕ) → Result Row RowError
+end_row_of fields = do
   number ← small_number_at fields 2
   count ← small_number_at fields 3
   Ok (row.End number count)
 
 -- the row of 10 fields that asks for a route
-unfoldable pub ask_of : List (List ℕ) → Result Row RowError
-ask_of fields = do
+unfoldable pub ask_row_of : List (List ℕ) → Result Row RowError
+ask_row_of fields = do
   id ← number_at fields 2
   from ← address_at fields 3
   to ← address_at fields 4
@@ -111,9 +112,9 @@ is_kind fields word = bytes_eq (field fields 1) word
 unfoldable pub row_of : List (List ℕ) → Result Row RowError
 row_of fields =
     if is_kind fields (codes "put")
-    then of_count 15 put_of fields
+    then of_count 15 put_row_of fields
     else (if is_kind fields (codes "drop")
-    then of_count 3 drop_of fields
+    then of_count 3 drop_row_of fields
     else (if is_kind fields (codes "end")
-    then of_count 3 end_of fields
-    else (if is_kind fields (codes "ask") then of_count 10 ask_of fields else Err error.Kind)))
+    then of_count 3 end_row_of fields
+    else (if is_kind fields (codes "ask") then of_count 10 ask_row_of fields else Err error.Kind)))

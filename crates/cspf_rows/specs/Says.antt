@@ -1,13 +1,16 @@
 -- What a record says, field by field, as it is written.
-use Rattle.std.specs.Prelude.{◌≡◌, ℕ, ◌^◌, ◌<◌, ◌↔◌, List, length, slice_index, codes, Ok}
+use Rattle.std.specs.Prelude.{◌≡◌, ◌≢◌, ℕ, ◌^◌, ◌<◌, ◌↔◌, ◌⊎◌, List, ◌++◌, length, slice_index, codes, Ok}
 use Rattle.std.specs.Fmt.{decimal}
-use Rattle.cspf_addr.specs.Spelling.{spelling}
+use Rattle.cspf_addr.specs.AddressText.{address_text}
 use Rattle.cspf_addr.specs.MaskText.{SpellsMask}
 use Rattle.cspf_addr.specs.HopLists.{hops_of}
+use Rattle.cspf_addr.specs.declared.hop.Hop.{Hop}
 use Rattle.cspf_db.specs.declared.link.Link.{Link}
 use Rattle.cspf_db.specs.declared.request.Request.{Request}
-use Rattle.cspf_rows.specs.declared.rows.Row.{Row}
-use Rattle.cspf_rows.specs.declared.rows.Row.TheVariants as row
+use Rattle.hex.specs.Hex.{decode_of}
+use Rattle.cspf_ero.specs.Objects.{Spells}
+use Rattle.cspf_rows.specs.declared.row.Row.{Row}
+use Rattle.cspf_rows.specs.declared.row.Row.TheVariants as row
 use Rattle.cspf_rows.specs.FieldValues.{field}
 use Rattle.cspf_rows.specs.Rows.{row_of}
 
@@ -19,7 +22,24 @@ pub record SpellsNumber (bound : ℕ) (text : List ℕ) (n : ℕ) : Type 0 where
 -- a text is what is written for an address
 pub record SpellsAddress (text : List ℕ) (n : ℕ) : Type 0 where
   pub small : n < 2 ^ 32
-  pub written : text ≡ spelling n
+  pub written : text ≡ address_text n
+
+-- a text is a list of hops; none begins with `ero:`
+pub record SpellsHopList (text : List ℕ) (hops : List Hop) : Type 0 where
+  pub other : (rest : List ℕ) → text ≢ codes "ero:" ++ rest
+  pub read : hops_of text ≡ Ok hops
+
+-- a text is `ero:` and the hexadecimal digits, of either case, of an object that spells the hops
+pub record SpellsObject (text : List ℕ) (hops : List Hop) : Type 0 where
+  pub digits : List ℕ
+  pub bytes : List ℕ
+  pub whole : text ≡ codes "ero:" ++ digits
+  pub decoded : decode_of digits ≡ Ok bytes
+  pub spelled : Spells bytes hops
+
+-- hops are spelled as a list or as an object
+abbrev pub SpellsHops : List ℕ → List Hop → Type 0
+SpellsHops text hops = SpellsHopList text hops ⊎ SpellsObject text hops
 
 -- `put`, the router, the local address, the neighbor, the remote address, the metric, the group, and the
 -- unreserved bandwidths at the priorities 0 to 7
@@ -68,7 +88,7 @@ pub record SaysAsk (fields : List (List ℕ)) (request : Request) : Type 0 where
   pub exclude_any : SpellsMask (field fields 7) request.exclude_any
   pub include_any : SpellsMask (field fields 8) request.include_any
   pub include_all : SpellsMask (field fields 9) request.include_all
-  pub hops : hops_of (field fields 10) ≡ Ok request.hops
+  pub hops : SpellsHops (field fields 10) request.hops
 
 -- the record says this row
 abbrev pub Says : List (List ℕ) → Row → Type 0

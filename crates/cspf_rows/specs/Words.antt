@@ -2,15 +2,30 @@
 use Rattle.std.specs.Prelude.{ℕ, List, ◌++◌, codes}
 use Rattle.std.specs.Fmt.{decimal}
 use Rattle.cspf_addr.specs.declared.hop_reader.HopsError.TheVariants as hops
-use Rattle.cspf_rows.specs.declared.refusals.HopsFault.{HopsFault}
-use Rattle.cspf_rows.specs.declared.refusals.HopsFault.TheVariants as fault
-use Rattle.cspf_rows.specs.declared.refusals.RowError.{RowError}
-use Rattle.cspf_rows.specs.declared.refusals.RowError.TheVariants as error
+use Rattle.cspf_ero.specs.declared.ero_error.EroError.{EroError}
+use Rattle.cspf_ero.specs.declared.ero_error.EroError.TheVariants as ero
+use Rattle.cspf_rows.specs.declared.row_error.HopsFault.{HopsFault}
+use Rattle.cspf_rows.specs.declared.row_error.HopsFault.TheVariants as fault
+use Rattle.cspf_rows.specs.declared.row_error.RowError.{RowError}
+use Rattle.cspf_rows.specs.declared.row_error.RowError.TheVariants as error
 
--- which part of the field is no hop, or that there are too many
+-- the words for the bytes of an object
+abbrev pub ero_words : EroError → List ℕ
+ero_words ero.Short = codes "short"
+ero_words ero.Length = codes "length"
+ero_words ero.Class = codes "class"
+ero_words ero.Empty = codes "empty"
+ero_words ero.TooManyHops = codes "count"
+ero_words (ero.Unsupported at kind) = codes "unsupported"
+ero_words (ero.Sublength at) = codes "sublength"
+ero_words (ero.PrefixLength at) = codes "prefix-length"
+
+-- which part of the field is no hop, that there are too many, or why an object is refused
 abbrev pub hops_words : HopsFault → List ℕ
 hops_words (fault.Text (hops.BadHop at)) = decimal at
 hops_words (fault.Text hops.TooManyHops) = codes "count"
+hops_words fault.Hex = codes "hex"
+hops_words (fault.Ero why) = codes "ero " ++ ero_words why
 
 -- the words of a refusal
 abbrev pub words : RowError → List ℕ

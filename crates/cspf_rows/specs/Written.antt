@@ -2,13 +2,13 @@
 use Rattle.std.specs.Prelude.{◌≡◌, ℕ, ◌^◌, ◌<◌, ◌≤◌, List, [], ◌∷◌, map, length, slice_index, codes, Ok}
 use Rattle.std.specs.Fmt.{decimal}
 use Rattle.std.specs.List.{AllByRecursion}
-use Rattle.cspf_addr.specs.Spelling.{spelling}
+use Rattle.cspf_addr.specs.AddressText.{address_text}
 use Rattle.cspf_addr.specs.MaskText.{SpellsMask}
 use Rattle.cspf_addr.specs.PrefixParts.{IsPrefix}
 use Rattle.cspf_addr.specs.HopLists.{hops_text}
 use Rattle.cspf_db.specs.declared.link.Link.{Link}
 use Rattle.cspf_db.specs.declared.request.Request.{Request}
-use Rattle.cspf_rows.specs.declared.rows.Row.TheVariants as row
+use Rattle.cspf_rows.specs.declared.row.Row.TheVariants as row
 use Rattle.cspf_rows.specs.Rows.{row_of}
 
 -- the numbers of a link are those of its types
@@ -32,11 +32,11 @@ pub record IsRequestInRange (request : Request) : Type 0 where
 -- the record that is written for a link, its group by a text that spells it
 abbrev pub put_fields : Link → List ℕ → List (List ℕ)
 put_fields link group =
-    codes "put" ∷ spelling link.from ∷ spelling link.local ∷ spelling link.to ∷ spelling link.remote ∷ decimal link.metric ∷ group ∷ map decimal link.free
+    codes "put" ∷ address_text link.from ∷ address_text link.local ∷ address_text link.to ∷ address_text link.remote ∷ decimal link.metric ∷ group ∷ map decimal link.free
 
 -- the record that is written for the removal of a link
 abbrev pub drop_fields : ℕ → ℕ → List (List ℕ)
-drop_fields from local = codes "drop" ∷ spelling from ∷ spelling local ∷ []
+drop_fields from local = codes "drop" ∷ address_text from ∷ address_text local ∷ []
 
 -- the record that is written for the end of a batch
 abbrev pub end_fields : ℕ → ℕ → List (List ℕ)
@@ -45,7 +45,7 @@ end_fields number count = codes "end" ∷ decimal number ∷ decimal count ∷ [
 -- the record that is written for a request, its affinities by texts that spell them
 abbrev pub ask_fields : Request → List ℕ → List ℕ → List ℕ → List (List ℕ)
 ask_fields request exclude_any include_any include_all =
-    codes "ask" ∷ decimal request.id ∷ spelling request.from ∷ spelling request.to ∷ decimal request.setup ∷ decimal request.bandwidth
+    codes "ask" ∷ decimal request.id ∷ address_text request.from ∷ address_text request.to ∷ decimal request.setup ∷ decimal request.bandwidth
     ∷ exclude_any ∷ include_any ∷ include_all ∷ hops_text request.hops ∷ []
 
 abbrev pub ArePutsReadBack : Type 0

@@ -1,10 +1,12 @@
 ghost use Rattle.cspf_rows.specs.Says.{AreRowsRead, SaysOneRow};
+ghost use Rattle.cspf_rows.specs.RowRefusals.{AreRowsRefused, IsRefusedOnce};
 ghost use Rattle.cspf_rows.specs.Written.{ArePutsReadBack, AreDropsReadBack, AreEndsReadBack, AreAsksReadBack};
 
 use cspf_addr::{
     addresses_are_spelled_once, hop_lists_are_read_back, masks_are_spelled,
     numbers_are_spelled_once,
 };
+use cspf_ero::objects_are_read;
 
 /// Law: a record is read as a row exactly where it says that row, and it says one row at most.
 pub fn rows_are_read()
@@ -14,6 +16,7 @@ pub fn rows_are_read()
     numbers_are_spelled_once();
     addresses_are_spelled_once();
     masks_are_spelled();
+    objects_are_read();
 }
 
 /// Law: the record that is written for a row is read as that row.
@@ -26,5 +29,18 @@ pub fn rows_are_read_back()
     numbers_are_spelled_once();
     addresses_are_spelled_once();
     masks_are_spelled();
+    objects_are_read();
     hop_lists_are_read_back();
+}
+
+/// Law: a record is refused by the reader exactly for the first reason that applies, and for one at
+/// most.
+pub fn rows_are_refused()
+    ensures refused { AreRowsRefused }
+    ensures one { IsRefusedOnce }
+{
+    numbers_are_spelled_once();
+    addresses_are_spelled_once();
+    masks_are_spelled();
+    objects_are_read();
 }

@@ -5,7 +5,7 @@ use std::test::Fail;
 
 /// Rows and the words of their refusals, none where they are read. `F` stands for eight bandwidths
 /// of 1000, `S` for seven, `Z` for three masks of no group, and `H` for seven hops.
-const ROWS: [(&[u8], &[u8]); 60] = [
+const ROWS: [(&[u8], &[u8]); 59] = [
     (b"foo", b"kind"),
     (b"foo,1.1.1.1,10.0.0.1", b"kind"),
     (b"PUT", b"kind"),
@@ -101,13 +101,36 @@ const ROWS: [(&[u8], &[u8]); 60] = [
         b"ask,1,1.1.1.1,1.1.1.1,7,0,Z,10.9.0.0/16s 4.4.4.4/32",
         b"hops 2",
     ),
-    (b"ask,1,1.1.1.1,2.2.2.2,7,0,Z,ero:00080102030405", b"hops 1"),
     (b"ask,1,1.1.1.1,2.2.2.2,7,0,Z,H", b""),
     (b"ask,1,1.1.1.1,2.2.2.2,7,0,Z,H 0.0.0.0/0l", b"hops count"),
     (b"ask,1,1.1.1.1,2.2.2.2,0,0,Z,10.9.0.0/16s 4.4.4.4/32l", b""),
     (b"ask,1,1.1.1.1,2.2.2.2,07,0,Z,", b"number 5"),
     (b"ask,01,1.1.1.1,2.2.2.2,7,0,Z,", b"number 2"),
     (b"end,1,2", b""),
+];
+
+/// Hops fields that begin as objects do, and the words of their refusals, none where they are read.
+/// `U` stands for the digits of a subobject.
+const OBJECTS: [(&[u8], &[u8]); 19] = [
+    (b"ero", b"hops 1"),
+    (b"ERO:", b"hops 1"),
+    (b"ero:0", b"hops hex"),
+    (b"ero:000c14010108xa000c022000", b"hops hex"),
+    (b"ero:000c140101080a000c0220 0", b"hops hex"),
+    (b"ero:", b"hops ero short"),
+    (b"ero:000c14", b"hops ero short"),
+    (b"ero:00080102030405", b"hops ero length"),
+    (b"ero:000c150101080a000c022000", b"hops ero class"),
+    (b"ero:00041401", b"hops ero empty"),
+    (b"ero:00441401UUUUUUUU", b"hops ero count"),
+    (b"ero:00841401UUUUUUUUUUUUUUUU", b"hops ero count"),
+    (b"ero:00841401UUUUUUUUUUUUUUUU00", b"hops ero length"),
+    (b"ero:00841401UUUUUUUUUUUUUUUx0", b"hops hex"),
+    (b"ero:000c140182080a0a0a0a0801", b"hops ero unsupported"),
+    (b"ero:000c140101070a000c022000", b"hops ero sublength"),
+    (b"ero:000c140101080a000c022100", b"hops ero prefix-length"),
+    (b"ero:003c1401UUUUUUU", b""),
+    (b"ero:000C140101080A000C022000", b""),
 ];
 
 /// The text of the rows, a line each.
@@ -129,6 +152,7 @@ fn spelled(byte: &u8) -> &[u8] {
         b'S' => b"1000,1000,1000,1000,1000,1000,1000",
         b'Z' => b"0x0,0x0,0x0",
         b'H' => b"0.0.0.0/0l 0.0.0.0/0l 0.0.0.0/0l 0.0.0.0/0l 0.0.0.0/0l 0.0.0.0/0l 0.0.0.0/0l",
+        b'U' => b"01080a000c022000",
         _ => std::slice::from_ref(byte),
     }
 }
@@ -212,5 +236,33 @@ fn what_an_ask_says(rt: HostRuntime) -> Result<(), Fail> {
     assert_eq!(rt; request.include_any.bits(), 2);
     assert_eq!(rt; request.include_all.bits(), 4);
     assert_eq!(rt; request.hops.len(), 2);
+    Ok(())
+}
+
+#[test]
+fn objects_and_refusals(rt: HostRuntime) -> Result<(), Fail> {
+    for (hops, words) in OBJECTS {
+        let mut row = Vec::from_slice(rt.alloc(), b"ask,1,1.1.1.1,2.2.2.2,7,0,0x0,0x0,0x0,")?;
+        for byte in hops {
+            row.extend_from_slice(spelled(byte))?;
+        }
+        let found = match only_row(rt.alloc(), &row)? {
+            Ok(_) => String::new(rt.alloc()),
+            Err(error) => error.to_string(rt.alloc())?,
+        };
+        assert!(rt; found.as_bytes() == words, "{hops:?}: {found}");
+    }
+    Ok(())
+}
+
+#[test]
+fn hops_of_an_object(rt: HostRuntime) -> Result<(), Fail> {
+    let text =
+        b"ask,9,1.2.3.4,2.2.2.2,7,0,0x0,0x0,0x0,ero:0014140181080AFfffff08010108040404042000";
+    let Row::Ask(request) = only_row(rt.alloc(), text)?? else {
+        panic!(rt; "no ask");
+    };
+    let hops = cspf_addr::parse_hops(b"10.0.0.0/8l 4.4.4.4/32s")?;
+    assert!(rt; request.hops == hops);
     Ok(())
 }

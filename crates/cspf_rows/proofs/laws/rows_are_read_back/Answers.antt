@@ -8,6 +8,7 @@ returns c =
       numbers = c.numbers_are_spelled_once.ensures;
       addresses = c.addresses_are_spelled_once.ensures.read;
       masks = c.masks_are_spelled.ensures.read;
+      objects = c.objects_are_read.ensures.read;
     } in
     record {
       puts = puts_read_back texts;

@@ -1,0 +1,13 @@
+use Rattle.std.proofs.Common.{◌≤◌, ◌-◌, length, take}
+use Rattle.std.specs.Io.KnownBytes.{Appends}
+use Rattle.cspf_rows.proofs.output.put_all.Given as goal
+
+-- the bytes so far are written
+abbrev pub invariant-loop-sent : goal.invariant-loop-sent
+invariant-loop-sent g l = record {
+  within : l.sent ≤ length l.text;
+  written : Appends (g.W.Write.contents l.fn.to) (g.W.Write.contents l.to) (take l.sent l.text);
+}
+
+abbrev pub decreases-loop-sent : goal.decreases-loop-sent
+decreases-loop-sent g l = length l.text - l.sent

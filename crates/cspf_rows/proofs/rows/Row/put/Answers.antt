@@ -1,9 +1,0 @@
-use Rattle.std.proofs.Common.{arith, refl}
-use Rattle.std.proofs.lemmas.Grind.{common_steps}
-use Rattle.cspf_rows.specs.Rows.{put_of}
-use Rattle.cspf_rows.proofs.Made.{put-link}
-use Rattle.cspf_rows.proofs.rows.Row.put.Goals as goal
-
-pub returns-in-Ok : goal.returns-in-Ok
-unfolding put_of
-returns-in-Ok c = grind (arith, common_steps, put-link c.in-Ok.link _ refl c.in-Ok.ensures.ok)

@@ -1,0 +1,15 @@
+-- Which fault of a read is which.
+use Rattle.csv.specs.declared.error.ErrorKind.{ErrorKind}
+use Rattle.csv.specs.declared.error.ErrorKind.TheVariants as kind
+use Rattle.cspf_rows.specs.declared.record_error.RecordError.{RecordError}
+use Rattle.cspf_rows.specs.declared.record_error.RecordError.TheVariants as error
+
+-- Memory that was refused keeps its name. Any other fault is the reader's: of bytes that are read
+-- with no header and any number of fields nothing else can be wrong.
+abbrev pub fault_of : ErrorKind → RecordError
+fault_of kind.OutOfMemory = error.Memory
+fault_of (kind.Io why) = error.Device
+fault_of (kind.Utf8 pos why) = error.Device
+fault_of (kind.UnequalLengths pos expected len) = error.Device
+fault_of (kind.Serialize text) = error.Device
+fault_of (kind.Deserialize pos why) = error.Device

@@ -1,0 +1,37 @@
+-- How a stream of bytes is cut into records, and what a reader of them still has to give.
+use Rattle.std.specs.Prelude.{◌≡◌, ◌+◌, ℕ, Bool, true, false, List, [], ◌∷◌, length, Option, Some, None}
+use Rattle.std.specs.Option.{option_map}
+use Rattle.csv.specs.Reading.{default_config, records, strip_bom, records_from, source_of, reader_state, reader_trim, reader_config, is_flexible, has_failed, Ready}
+use Rattle.csv.specs.declared.parser.State.{State}
+use Rattle.csv.specs.declared.reader.Reader.{Reader}
+use Rattle.csv.specs.declared.reader.Trim.TheVariants as trim
+
+-- The rows of a stream are the records that `csv` finds in its bytes, with the settings of its
+-- default reader and no header: fields are cut at commas and may stand in double quotes, a row ends
+-- with its line, an empty line is no row, and a byte order mark at the very start is left out.
+unfoldable pub rows_of : List ℕ → List (List (List ℕ))
+rows_of bytes = records default_config (strip_bom bytes)
+
+-- the rows of the bytes from a state of the machine on
+unfoldable pub rest_of : State → List ℕ → List (List (List ℕ))
+rest_of s bytes = records_from default_config (length bytes + 1) s bytes
+
+-- the rows that a reader has left, where the reader underneath tells its bytes
+abbrev pub rows_left : {R : Type 0} → (R → Option (List ℕ)) → Reader R → Option (List (List (List ℕ)))
+rows_left rem r = option_map (λ bytes. rest_of (reader_state r) bytes) (source_of rem r)
+
+-- a reader with the default settings, of records with no header and of any number of fields, that
+-- hasn't failed
+pub record IsPlain {R : Type 0} (r : Reader R) : Type 0 where
+  pub trim : reader_trim r ≡ trim.None
+  pub ready : Ready r
+  pub config : reader_config r ≡ default_config
+  pub flexible : is_flexible r ≡ true
+  pub going : has_failed r ≡ false
+
+-- a read took the first of the rows, or there was none
+abbrev pub Takes : Option (List (List (List ℕ))) → Option (List (List (List ℕ))) → Bool → List (List ℕ) → Type 0
+Takes None after found fields = Unit {0}
+Takes (Some rows) after false fields = rows ≡ []
+Takes (Some rows) None true fields = ⊥
+Takes (Some rows) (Some rest) true fields = rows ≡ fields ∷ rest

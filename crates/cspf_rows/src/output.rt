@@ -1,0 +1,26 @@
+ghost use Rattle.std.specs.Prelude.{◌<◌, length, take, OnOk, IfErr};
+ghost use Rattle.std.specs.Io.KnownBytes.{Appends};
+
+use std::io::Write;
+
+/// Writes the whole text, unless a write fails in any way or takes no byte: the error is how many
+/// bytes of the text were taken before. Takes no memory, and doesn't flush.
+pub fn put_all<W: Write>(to: &mut W, text: &[u8]) -> Result<(), usize>
+    ensures all { OnOk result (Appends (W.contents to.old) (W.contents to.new) text.now) }
+    ensures front { IfErr result (λ n.
+        Appends (W.contents to.old) (W.contents to.new) (take n text.now)) }
+    ensures less { IfErr result (λ n. n < length text.now) }
+{
+    let mut sent = 0;
+    while sent < text.len() {
+        match to.write(&text[sent..]) {
+            Ok(0) => return Err(sent),
+            Ok(n) => sent += n,
+            Err(_) => return Err(sent),
+        }
+    }
+    Ok(())
+}
+
+#[cfg(test)]
+mod tests;

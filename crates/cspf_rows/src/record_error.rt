@@ -1,0 +1,28 @@
+use csv::ErrorKind;
+use thiserror::Error;
+
+/// Why a record can't be read.
+#[derive(Clone, Copy, Debug, PartialEq, Eq, Error)]
+pub enum RecordError {
+    /// Memory was refused.
+    #[error("out of memory")]
+    Memory,
+    /// A read failed.
+    #[error("a read failed")]
+    Device,
+}
+
+impl From<csv::Error> for RecordError {
+    ghost use Rattle.std.specs.Prelude.{◌≡◌};
+    ghost use Rattle.csv.specs.Reading.{error_kind};
+    ghost use Rattle.cspf_rows.specs.RecordFaults.{fault_of};
+
+    ghost from_gives = { λ error fault. fault ≡ fault_of (error_kind error) };
+
+    fn from(error: csv::Error) -> RecordError {
+        match error.into_kind() {
+            ErrorKind::OutOfMemory => RecordError::Memory,
+            _ => RecordError::Device,
+        }
+    }
+}

@@ -1,0 +1,138 @@
+ghost use Rattle.std.specs.Prelude.{◌≡◌};
+ghost use Rattle.csv.specs.Records.{fields_of};
+
+use crate::field::{address, expect_count, hops, mask, number, priority, small_number, text};
+use crate::row_error::RowError;
+use cspf_addr::Addr;
+use cspf_db::{Link, LinkError, Request, RequestError};
+use csv::ByteRecord;
+
+/// What a record says.
+#[derive(Clone, Copy, Debug)]
+pub enum Row {
+    /// One more change, which puts the link.
+    Put(Link),
+    /// One more change, which takes out the link with this key.
+    Remove {
+        /// The router that the link runs from.
+        from: Addr,
+        /// The address of its interface there.
+        local: Addr,
+    },
+    /// The changes since the last such row are a batch.
+    End {
+        /// The version that the batch makes.
+        number: u32,
+        /// How many changes the batch has.
+        count: u32,
+    },
+    /// A request.
+    Ask(Request),
+}
+
+impl Row {
+    ghost use Rattle.cspf_rows.specs.Rows.{row_of, put_row_of, drop_row_of, end_row_of, ask_row_of};
+
+    /// The row that the fields of a record say, or the first refusal: its kind, the number of its
+    /// fields, then the fields from the first to the last, and then two ends that are one router.
+    #[tactic(auto, unfolding(crate::specs::Rows::row_of))]
+    pub fn read(fields: &ByteRecord) -> Result<Row, RowError>
+        ensures { result ≡ row_of (fields_of fields.now) }
+    {
+        let kind = text(fields, 1);
+        if kind == b"put".as_slice() {
+            expect_count(fields, 15)?;
+            Row::put(fields)
+        } else if kind == b"drop".as_slice() {
+            expect_count(fields, 3)?;
+            Row::remove(fields)
+        } else if kind == b"end".as_slice() {
+            expect_count(fields, 3)?;
+            Row::end(fields)
+        } else if kind == b"ask".as_slice() {
+            expect_count(fields, 10)?;
+            Row::ask(fields)
+        } else {
+            Err(RowError::Kind)
+        }
+    }
+
+    /// The row of 15 fields that puts a link.
+    #[tactic(auto, using(crate::proofs::Made::made), unfolding(crate::specs::Rows::put_row_of))]
+    fn put(fields: &ByteRecord) -> Result<Row, RowError>
+        ensures { result ≡ put_row_of (fields_of fields.now) }
+    {
+        let from = address(fields, 2)?;
+        let local = address(fields, 3)?;
+        let to = address(fields, 4)?;
+        let remote = address(fields, 5)?;
+        let metric = small_number(fields, 6)?;
+        let group = mask(fields, 7)?;
+        let free = [
+            number(fields, 8)?,
+            number(fields, 9)?,
+            number(fields, 10)?,
+            number(fields, 11)?,
+            number(fields, 12)?,
+            number(fields, 13)?,
+            number(fields, 14)?,
+            number(fields, 15)?,
+        ];
+        match Link::new(from, local, to, remote, metric, group, free) {
+            Ok(link) => Ok(Row::Put(link)),
+            Err(LinkError::SelfLink) => Err(RowError::SelfLink),
+        }
+    }
+
+    /// The row of 3 fields that removes a link.
+    #[tactic(auto, unfolding(crate::specs::Rows::drop_row_of))]
+    fn remove(fields: &ByteRecord) -> Result<Row, RowError>
+        ensures { result ≡ drop_row_of (fields_of fields.now) }
+    {
+        let from = address(fields, 2)?;
+        let local = address(fields, 3)?;
+        Ok(Row::Remove { from, local })
+    }
+
+    /// The row of 3 fields that ends a batch.
+    #[tactic(auto, unfolding(crate::specs::Rows::end_row_of))]
+    fn end(fields: &ByteRecord) -> Result<Row, RowError>
+        ensures { result ≡ end_row_of (fields_of fields.now) }
+    {
+        let number = small_number(fields, 2)?;
+        let count = small_number(fields, 3)?;
+        Ok(Row::End { number, count })
+    }
+
+    /// The row of 10 fields that asks for a route.
+    #[tactic(auto, using(crate::proofs::Made::made), unfolding(crate::specs::Rows::ask_row_of))]
+    fn ask(fields: &ByteRecord) -> Result<Row, RowError>
+        ensures { result ≡ ask_row_of (fields_of fields.now) }
+    {
+        let id = number(fields, 2)?;
+        let from = address(fields, 3)?;
+        let to = address(fields, 4)?;
+        let setup = priority(fields, 5)?;
+        let bandwidth = number(fields, 6)?;
+        let exclude_any = mask(fields, 7)?;
+        let include_any = mask(fields, 8)?;
+        let include_all = mask(fields, 9)?;
+        let hops = hops(fields, 10)?;
+        let asked = Request::new(
+            id,
+            from,
+            to,
+            setup,
+            bandwidth,
+            exclude_any,
+            include_any,
+            include_all,
+            hops,
+        );
+        match asked {
+            Ok(request) => Ok(Row::Ask(request)),
+            Err(RequestError::Priority) => Err(RowError::Priority),
+            Err(RequestError::SameEnds) => Err(RowError::SameEnds),
+        }
+    }
+}

@@ -1,0 +1,97 @@
+ghost use Rattle.std.specs.Prelude.{◌≡◌};
+
+use cspf_addr::HopsError;
+use cspf_ero::EroError;
+use std::error::Error;
+use std::fmt;
+
+/// Why a record is no row. Fields count from 1, the word of the kind being field 1.
+#[derive(Clone, Copy, Debug, PartialEq, Eq)]
+pub enum RowError {
+    /// The first field isn't the word of a kind.
+    Kind,
+    /// Another number of fields than the kind has.
+    Fields,
+    /// A field that is no number of its range.
+    Number {
+        /// Which field it is.
+        field: usize,
+    },
+    /// A field that is no address.
+    Address {
+        /// Which field it is.
+        field: usize,
+    },
+    /// A field that is no mask.
+    Mask {
+        /// Which field it is.
+        field: usize,
+    },
+    /// A setup priority above 7.
+    Priority,
+    /// The hops.
+    Hops(HopsFault),
+    /// A link from a router to itself.
+    SelfLink,
+    /// A request from a router to itself.
+    SameEnds,
+}
+
+/// Why a field spells no hops, neither as a list of hops nor as an object.
+#[derive(Clone, Copy, Debug, PartialEq, Eq)]
+pub enum HopsFault {
+    /// The text spells no list of hops.
+    Text(HopsError),
+    /// What comes behind `ero:` isn't an even number of hexadecimal digits.
+    Hex,
+    /// The bytes behind `ero:` are no object that spells hops.
+    Ero(EroError),
+}
+
+impl fmt::Display for RowError {
+    ghost use Rattle.std.specs.Prelude.{Some};
+    ghost use Rattle.cspf_rows.specs.Words.{words};
+
+    ghost output = { λ error. Some (words error) };
+
+    fn fmt<W: fmt::Write>(&self, f: &mut fmt::Formatter<W>) -> fmt::Result {
+        match self {
+            RowError::Kind => f.write_str("kind"),
+            RowError::Fields => f.write_str("fields"),
+            RowError::Number { field } => write!(f, "number {field}"),
+            RowError::Address { field } => write!(f, "address {field}"),
+            RowError::Mask { field } => write!(f, "mask {field}"),
+            RowError::Priority => f.write_str("priority"),
+            RowError::Hops(fault) => write!(f, "hops {fault}"),
+            RowError::SelfLink => f.write_str("self-link"),
+            RowError::SameEnds => f.write_str("same-ends"),
+        }
+    }
+}
+
+impl Error for RowError {}
+
+impl fmt::Display for HopsFault {
+    ghost use Rattle.std.specs.Prelude.{Some};
+    ghost use Rattle.cspf_rows.specs.Words.{hops_words};
+
+    ghost output = { λ fault. Some (hops_words fault) };
+
+    fn fmt<W: fmt::Write>(&self, f: &mut fmt::Formatter<W>) -> fmt::Result {
+        match self {
+            HopsFault::Text(HopsError::BadHop { at }) => write!(f, "{at}"),
+            HopsFault::Text(HopsError::TooManyHops) => f.write_str("count"),
+            HopsFault::Hex => f.write_str("hex"),
+            HopsFault::Ero(EroError::Short) => f.write_str("ero short"),
+            HopsFault::Ero(EroError::Length) => f.write_str("ero length"),
+            HopsFault::Ero(EroError::Class) => f.write_str("ero class"),
+            HopsFault::Ero(EroError::Empty) => f.write_str("ero empty"),
+            HopsFault::Ero(EroError::TooManyHops) => f.write_str("ero count"),
+            HopsFault::Ero(EroError::Unsupported { .. }) => f.write_str("ero unsupported"),
+            HopsFault::Ero(EroError::Sublength { .. }) => f.write_str("ero sublength"),
+            HopsFault::Ero(EroError::PrefixLength { .. }) => f.write_str("ero prefix-length"),
+        }
+    }
+}
+
+impl Error for HopsFault {}
