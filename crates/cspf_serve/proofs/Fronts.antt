@@ -1,0 +1,77 @@
+-- Of the open changes the first 4,097 are kept, which is all of them where they are at most 4,096.
+use Rattle.std.proofs.Common.{◌≡◌, ℕ, zero, suc, ◌<◌, ◌≤◌, List, [], ◌∷◌, ◌++◌, take, length, refl, ap, ◌∙◌, sym, subst, arith}
+use Rattle.std.proofs.lemmas.List.{take_all}
+use Rattle.cspf_db.specs.declared.batch.Change.{Change}
+use Rattle.cspf_db.specs.declared.refusal.Refusal.{Refusal}
+use Rattle.cspf_db.specs.declared.refusal.Refusal.TheVariants as unfit
+use Rattle.cspf_db.specs.Numbered.{NumberedChanges}
+use Rattle.cspf_db.specs.Database.{Database}
+use Rattle.cspf_db.specs.Changes.{Fits}
+use Rattle.cspf_db.specs.Refusals.{IsRefusal}
+
+take-nil : {A : Type 0} (n : ℕ) → take {A = A} n [] ≡ []
+take-nil zero = refl
+take-nil (suc n) = refl
+
+-- a front that is shorter than it may be is the whole
+take_short : {A : Type 0} (n : ℕ) (xs : List A) → length (take n xs) < n → take n xs ≡ xs
+take_short zero xs short = absurd (omega arith)
+take_short (suc n) [] short = refl
+take_short (suc n) (x ∷ xs) short = ap (λ ys. x ∷ ys) (take_short n xs (omega arith))
+
+-- one more behind a front that isn't full
+take-append-short : {A : Type 0} (n : ℕ) (xs : List A) (x : A) → length (take n xs) < n → take n xs ++ x ∷ [] ≡ take n (xs ++ x ∷ [])
+take-append-short zero xs x short = absurd (omega arith)
+take-append-short (suc n) [] x short = ap (λ ys. x ∷ ys) (sym (take-nil n))
+take-append-short (suc n) (y ∷ xs) x short = ap (λ ys. y ∷ ys) (take-append-short n xs x (omega arith))
+
+-- one more behind a front that is full
+take-append-full : {A : Type 0} (n : ℕ) (xs ys : List A) → n ≤ length (take n xs) → take n xs ≡ take n (xs ++ ys)
+take-append-full zero xs ys full = refl
+take-append-full (suc n) [] ys full = absurd (omega arith)
+take-append-full (suc n) (x ∷ xs) ys full = ap (λ zs. x ∷ zs) (take-append-full n xs ys (omega arith))
+
+pub kept_all : (kept all : List Change) → kept ≡ take 4097 all → length kept ≤ 4096 → kept ≡ all
+kept_all kept all front short = front ∙ take_short 4097 all (omega (arith, ap length front))
+
+pub kept_more : (kept all : List Change) (c : Change) → kept ≡ take 4097 all → length kept < 4097 → kept ++ c ∷ [] ≡ take 4097 (all ++ c ∷ [])
+kept_more kept all c front short = ap (λ cs. cs ++ c ∷ []) front ∙ take-append-short 4097 all c (omega (arith, ap length front))
+
+pub kept_full : (kept all : List Change) (c : Change) → kept ≡ take 4097 all → 4097 ≤ length kept → kept ≡ take 4097 (all ++ c ∷ [])
+kept_full kept all c front full = front ∙ take-append-full 4097 all (c ∷ []) (omega (arith, ap length front))
+
+abbrev batch_of : ℕ → List Change → NumberedChanges
+batch_of number changes = record { number = number; changes = changes }
+
+-- what fits of the changes that are kept fits of all
+pub fits_whole : (d : Database) (number : ℕ) (kept all : List Change) → kept ≡ take 4097 all
+    → Fits d (record { number = number; changes = kept }) → Fits d (record { number = number; changes = all })
+fits_whole d number kept all front fits = subst (λ cs. Fits d (batch_of number cs)) (kept_all kept all front fits.short) fits
+
+-- a front is no longer than the whole
+length-take-most : {A : Type 0} (n : ℕ) (xs : List A) → length (take n xs) ≤ length xs
+length-take-most zero xs = omega arith
+length-take-most (suc n) [] = omega arith
+length-take-most (suc n) (x ∷ xs) = omega (arith, length-take-most n xs)
+
+-- all changes are kept where they are few
+pub fits_kept : (d : Database) (number : ℕ) (kept all : List Change) → kept ≡ take 4097 all
+    → Fits d (record { number = number; changes = all }) → Fits d (record { number = number; changes = kept })
+fits_kept d number kept all front fits =
+    subst (λ cs. Fits d (batch_of number cs)) (sym (front ∙ take_all 4097 all (omega (arith, fits.short)))) fits
+
+longer : (kept all : List Change) → kept ≡ take 4097 all → 4096 < length kept → 4096 < length all
+longer kept all front long = omega (arith, length-take-most 4097 all, ap length front)
+
+-- why the changes that are kept don't fit is why all don't
+pub refusal_whole : (d : Database) (number : ℕ) (kept all : List Change) (why : Refusal) → kept ≡ take 4097 all
+    → IsRefusal d (record { number = number; changes = kept }) why → IsRefusal d (record { number = number; changes = all }) why
+refusal_whole d number kept all unfit.TooLong front h = longer kept all front h
+refusal_whole d number kept all (unfit.Duplicate at) front h =
+    subst (λ cs. IsRefusal d (batch_of number cs) (unfit.Duplicate at)) (kept_all kept all front h.0) h
+refusal_whole d number kept all (unfit.Absent at) front h =
+    subst (λ cs. IsRefusal d (batch_of number cs) (unfit.Absent at)) (kept_all kept all front h.0) h
+refusal_whole d number kept all unfit.Full front h =
+    subst (λ cs. IsRefusal d (batch_of number cs) unfit.Full) (kept_all kept all front h.0.short) h
+refusal_whole d number kept all unfit.TooManyRouters front h =
+    subst (λ cs. IsRefusal d (batch_of number cs) unfit.TooManyRouters) (kept_all kept all front h.0.short) h

@@ -1,0 +1,8 @@
+use Rattle.std.proofs.lemmas.Result.{err_from_is_err_and}
+use Rattle.cspf_serve.proofs.RunLemmas.{halted_at_start}
+use Rattle.cspf_serve.proofs.solve.run_solve.Goals as goal
+
+pub returns-in_err-solver-clause-stopped : goal.returns-in_err-solver-clause-stopped
+returns-in_err-solver-clause-stopped g c =
+    let stopped = err_from_is_err_and c.from_residual.result c.from_residual.ensures.1 in
+    rw (stopped.1, stopped.2) (halted_at_start (g.R.Read.remaining c.args.reader) (g.W.Write.contents c.args.writer.now))
