@@ -4,6 +4,14 @@ pub mod Made
 pub mod Spelled
 pub mod RowLaws
 pub mod ReadBack
+pub mod Lines
 pub mod RowsRead
 pub mod HopsRefused
 pub mod Refusing
+pub mod PlainFields
+pub mod CutLines
+pub mod BatchRecords
+pub mod WholeBatches
+pub mod FrontLemmas
+pub mod ProgressLemmas
+pub mod RequestLemmas

@@ -3,6 +3,14 @@ pub mod FieldValues
 pub mod Rows
 pub mod Says
 pub mod Written
+pub mod BatchText
 pub mod Records
 pub mod RecordFaults
 pub mod RowRefusals
+pub mod Journal
+pub mod JournalLaws
+pub mod JournalFront
+pub mod ReadFaults
+pub mod Requests
+pub mod RequestReading
+pub mod Progress

@@ -6,23 +6,44 @@
 //!
 //! `specs/Records.antt` defines how a stream of bytes is cut into records. `put_all` is the way in
 //! which every text of this repository reaches its writer.
+//!
+//! `specs/BatchText.antt` defines the text of a batch, `specs/Journal.antt` which batches the records
+//! of a journal are, and `specs/Requests.antt` which requests the records of a stream ask for.
+//! `specs/JournalLaws.antt` has the laws of journals.
 #![tactic(auto)]
 
+mod batch;
 mod field;
+mod front;
+mod journal;
+mod journal_laws;
+mod journal_reader;
 mod laws;
 mod object;
 mod output;
+mod read_error;
 mod record_error;
 mod records;
+mod request_reader;
+mod requests_error;
 mod row;
 mod row_error;
 
+pub use batch::batch_text;
+pub use journal::{Journal, Rest};
+pub use journal_laws::{journals_are_one, journals_are_read_back};
+pub use journal_reader::read_journal;
 pub use laws::{rows_are_read, rows_are_read_back, rows_are_refused};
 pub use output::put_all;
+pub use read_error::ReadError;
 pub use record_error::RecordError;
 pub use records::{next_record, open_records};
+pub use request_reader::read_requests;
+pub use requests_error::RequestsError;
 pub use row::Row;
 pub use row_error::{HopsFault, RowError};
 
+#[cfg(test)]
+mod journal_tests;
 #[cfg(test)]
 mod tests;

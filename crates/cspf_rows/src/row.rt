@@ -8,7 +8,7 @@ use cspf_db::{Link, LinkError, Request, RequestError};
 use csv::ByteRecord;
 
 /// What a record says.
-#[derive(Clone, Copy, Debug)]
+#[derive(Clone, Copy, Debug, PartialEq, Eq)]
 pub enum Row {
     /// One more change, which puts the link.
     Put(Link),

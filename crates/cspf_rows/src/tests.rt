@@ -1,4 +1,5 @@
 use super::*;
+use cspf_addr::Addr;
 use csv::{ByteRecord, Reader, ReaderBuilder};
 use std::alloc::{AllocError, Global};
 use std::test::Fail;
@@ -208,16 +209,18 @@ fn what_a_put_says(rt: HostRuntime) -> Result<(), Fail> {
 
 #[test]
 fn what_a_drop_and_an_end_say(rt: HostRuntime) -> Result<(), Fail> {
-    let Row::Remove { from, local } = only_row(rt.alloc(), b"drop,1.2.3.4,10.0.12.1")?? else {
-        panic!(rt; "no drop");
+    let found = only_row(rt.alloc(), b"drop,1.2.3.4,10.0.12.1")??;
+    let row = Row::Remove {
+        from: Addr::new(0x0102_0304),
+        local: Addr::new(0x0a00_0c01),
     };
-    assert_eq!(rt; from.number(), 0x0102_0304);
-    assert_eq!(rt; local.number(), 0x0a00_0c01);
-    let Row::End { number, count } = only_row(rt.alloc(), b"end,7,4294967295")?? else {
-        panic!(rt; "no end");
+    assert_eq!(rt; found, row);
+    let found = only_row(rt.alloc(), b"end,7,4294967295")??;
+    let row = Row::End {
+        number: 7,
+        count: u32::MAX,
     };
-    assert_eq!(rt; number, 7);
-    assert_eq!(rt; count, u32::MAX);
+    assert_eq!(rt; found, row);
     Ok(())
 }
 

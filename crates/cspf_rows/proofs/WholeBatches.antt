@@ -1,0 +1,107 @@
+-- Whole batches at the front of rows.
+use Rattle.std.proofs.Common.{◌≡◌, ◌≢◌, ℕ, ◌+◌, ◌≤◌, List, [], ◌∷◌, ◌++◌, map, length, Result, Ok, refl, sym, ap, ◌∙◌, append_assoc, arith}
+use Rattle.std.proofs.lemmas.List.{map-append, length-append, length-map}
+use Rattle.cspf_db.specs.declared.batch.Change.{Change}
+use Rattle.cspf_db.specs.declared.batch.Change.TheVariants as change
+use Rattle.cspf_db.specs.Numbered.{NumberedChanges}
+use Rattle.cspf_rows.specs.declared.row.Row.{Row}
+use Rattle.cspf_rows.specs.declared.row.Row.TheVariants as row
+use Rattle.cspf_rows.specs.declared.row_error.RowError.{RowError}
+use Rattle.cspf_rows.specs.Journal.{change_row, batch_rows, journal_rows, AreNumberedFrom}
+use Rattle.cspf_rows.specs.JournalFront.{EndsFront, AreBehind}
+
+abbrev ReadRow : Type 0
+ReadRow = Result Row RowError
+
+-- rows that are all read
+abbrev pub read_rows : List Row → List (Result Row RowError)
+read_rows rows = map {B = Result Row RowError} Ok rows
+
+-- one batch of two that rows begin with is the other
+pub same_batch : (cs ds : List Change) (m k n l : ℕ) (xs ys : List (Result Row RowError))
+    → read_rows (map change_row cs ++ (row.End m k ∷ [])) ++ xs ≡ read_rows (map change_row ds ++ (row.End n l ∷ [])) ++ ys
+    → (cs ≡ ds) × (m ≡ n) × (xs ≡ ys)
+same_batch [] [] m k n l xs ys e = (refl, cc, cc)
+same_batch [] (change.Put b ∷ ds) m k n l xs ys e = absurd (cc)
+same_batch [] (change.Remove g h ∷ ds) m k n l xs ys e = absurd (cc)
+same_batch (change.Put a ∷ cs) [] m k n l xs ys e = absurd (cc)
+same_batch (change.Remove g h ∷ cs) [] m k n l xs ys e = absurd (cc)
+same_batch (change.Put a ∷ cs) (change.Put b ∷ ds) m k n l xs ys e =
+    let more = same_batch cs ds m k n l xs ys (cc) in
+    let head : a ≡ b = cc in
+    (rw (head, more.0) refl, more.1, more.2)
+same_batch (change.Put a ∷ cs) (change.Remove g h ∷ ds) m k n l xs ys e = absurd (cc)
+same_batch (change.Remove g h ∷ cs) (change.Put b ∷ ds) m k n l xs ys e = absurd (cc)
+same_batch (change.Remove f o ∷ cs) (change.Remove g h ∷ ds) m k n l xs ys e =
+    let more = same_batch cs ds m k n l xs ys (cc) in
+    let from : f ≡ g = cc in
+    let local : o ≡ h = cc in
+    (rw (from, local, more.0) refl, more.1, more.2)
+
+-- the rows of a batch, and then those of the next ones
+split_first : (b : NumberedChanges) (bs : List NumberedChanges) (xs : List ReadRow)
+    → read_rows (journal_rows (b ∷ bs)) ++ xs ≡ read_rows (batch_rows b) ++ (read_rows (journal_rows bs) ++ xs)
+split_first b bs xs = rw (map-append {B = ReadRow} Ok (batch_rows b) (journal_rows bs), append_assoc (read_rows (batch_rows b)) (read_rows (journal_rows bs)) xs) refl
+
+-- what two lists of batches have behind their first ones, and that these are one
+first_two : (b o : NumberedChanges) (bs os : List NumberedChanges) (xs ys : List ReadRow)
+    → read_rows (journal_rows (b ∷ bs)) ++ xs ≡ read_rows (journal_rows (o ∷ os)) ++ ys
+    → (b.changes ≡ o.changes) × (b.number ≡ o.number) × (read_rows (journal_rows bs) ++ xs ≡ read_rows (journal_rows os) ++ ys)
+first_two b o bs os xs ys e =
+    same_batch b.changes o.changes b.number (length b.changes) o.number (length o.changes) _ _ (sym (split_first b bs xs) ∙ e ∙ split_first o os ys)
+
+-- rows begin with no whole batch of this number
+abbrev pub HasNoBatch : ℕ → List (Result Row RowError) → Type 0
+HasNoBatch number xs = (batch : NumberedChanges) (rest : List (Result Row RowError)) → batch.number ≡ number → xs ≢ read_rows (batch_rows batch) ++ rest
+
+-- where batches are followed by no further one, no other batches leave fewer rows
+pub longest_front : (first : ℕ) (bs os : List NumberedChanges) (xs ys : List (Result Row RowError)) → AreNumberedFrom first bs → AreNumberedFrom first os
+    → read_rows (journal_rows bs) ++ xs ≡ read_rows (journal_rows os) ++ ys → HasNoBatch (first + length bs) xs → length xs ≤ length ys
+longest_front first [] [] xs ys numbers others e none = omega (arith, ap length e)
+longest_front first [] (o ∷ os) xs ys numbers others e none =
+    absurd (none o (read_rows (journal_rows os) ++ ys) (omega (arith, others.0)) (e ∙ split_first o os ys))
+longest_front first (b ∷ bs) [] xs ys numbers others e none = omega (arith, simp length-append at (ap length e))
+longest_front first (b ∷ bs) (o ∷ os) xs ys numbers others e none =
+    let count : first + length (b ∷ bs) ≡ (first + 1) + length bs = omega arith in
+    longest_front (first + 1) bs os xs ys numbers.1 others.1 (first_two b o bs os xs ys e).2 (rw count at none)
+
+equal_batches : (b o : NumberedChanges) → b.number ≡ o.number → b.changes ≡ o.changes → b ≡ o
+equal_batches b o number changes =
+    ap (λ n. let x : NumberedChanges = record { number = n; changes = b.changes } in x) number
+    ∙ ap (λ cs. let x : NumberedChanges = record { number = o.number; changes = cs } in x) changes
+
+-- two lists of batches that leave as many rows are one, and so is what they leave
+pub same_front : (bs os : List NumberedChanges) (xs ys : List (Result Row RowError))
+    → read_rows (journal_rows bs) ++ xs ≡ read_rows (journal_rows os) ++ ys → length xs ≡ length ys → bs ≡ os
+same_front [] [] xs ys e count = refl
+same_front [] (o ∷ os) xs ys e count = absurd (omega (arith, simp (length-append, length-map) at (ap length e)))
+same_front (b ∷ bs) [] xs ys e count = absurd (omega (arith, simp (length-append, length-map) at (ap length e)))
+same_front (b ∷ bs) (o ∷ os) xs ys e count =
+    let two = first_two b o bs os xs ys e in
+    rw (equal_batches b o two.1 two.0, same_front bs os xs ys two.2 count) refl
+
+-- open changes, and then rows that end the front, begin with no whole batch
+no_batch : (opens cs : List Change) (done n k number count : ℕ) (xs rest : List ReadRow)
+    → AreBehind n k xs → done + length opens ≡ k → done + length cs ≡ count → number ≡ n
+    → read_rows (map change_row opens) ++ xs ≡ read_rows (map change_row cs ++ (row.End number count ∷ [])) ++ rest → ⊥
+no_batch [] [] done n k number count [] rest behind opened counted same e = cc
+no_batch [] [] done n k number count (x ∷ xs) rest behind opened counted same e =
+    let head : x ≡ Ok (row.End number count) = cc in
+    let last : EndsFront n k (Ok (row.End number count)) = rw head at behind in
+    last (same, omega arith)
+no_batch [] (c ∷ cs) done n k number count [] rest behind opened counted same e = cc
+no_batch [] (change.Put a ∷ cs) done n k number count (x ∷ xs) rest behind opened counted same e =
+    let head : x ≡ Ok (row.Put a) = cc in
+    rw head at behind
+no_batch [] (change.Remove f o ∷ cs) done n k number count (x ∷ xs) rest behind opened counted same e =
+    let head : x ≡ Ok (row.Remove f o) = cc in
+    rw head at behind
+no_batch (change.Put a ∷ opens) [] done n k number count xs rest behind opened counted same e = cc
+no_batch (change.Remove f o ∷ opens) [] done n k number count xs rest behind opened counted same e = cc
+no_batch (a ∷ opens) (c ∷ cs) done n k number count xs rest behind opened counted same e =
+    no_batch opens cs (done + 1) n k number count xs rest behind (omega arith) (omega arith) same (cc)
+
+pub open_no_batch : (opens : List Change) (n : ℕ) (xs : List (Result Row RowError))
+    → AreBehind n (length opens) xs → HasNoBatch n (read_rows (map change_row opens) ++ xs)
+open_no_batch opens n xs behind batch rest number e =
+    no_batch opens batch.changes 0 n (length opens) batch.number (length batch.changes) xs rest behind (omega arith) (omega arith) number e

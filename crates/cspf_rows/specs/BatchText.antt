@@ -1,0 +1,37 @@
+-- The text of a batch, as a journal keeps it.
+use Rattle.std.specs.Prelude.{ℕ, List, [], ◌∷◌, ◌++◌, map, length}
+use Rattle.std.specs.Fmt.{decimal}
+use Rattle.std.specs.List.{flat_map, join_with_byte}
+use Rattle.cspf_addr.specs.AddressText.{address_text}
+use Rattle.cspf_addr.specs.MaskText.{mask_text}
+use Rattle.cspf_db.specs.declared.batch.Change.{Change}
+use Rattle.cspf_db.specs.declared.batch.Change.TheVariants as change
+use Rattle.cspf_db.specs.declared.link.Link.{Link}
+use Rattle.cspf_db.specs.Numbered.{NumberedChanges}
+use Rattle.cspf_rows.specs.Written.{put_fields, drop_fields, end_fields}
+
+-- the fields of a change, the group of a link with eight digits
+abbrev pub change_fields : Change → List (List ℕ)
+change_fields (change.Put link) = put_fields link (mask_text link.group)
+change_fields (change.Remove from local) = drop_fields from local
+
+-- fields as a line: a comma between each two, and a line feed behind the last
+unfoldable pub line_text : List (List ℕ) → List ℕ
+line_text fields = join_with_byte 44 fields ++ (10 ∷ [])
+
+-- the records of a batch: one for each change, in order, and then the end row
+abbrev pub batch_records : NumberedChanges → List (List (List ℕ))
+batch_records batch = map change_fields batch.changes ++ (end_fields batch.number (length batch.changes) ∷ [])
+
+-- the text of a batch: a line for each of its records
+abbrev pub batch_text : NumberedChanges → List ℕ
+batch_text batch = flat_map line_text (batch_records batch)
+
+-- private: fields with a comma before each
+abbrev pub fields_after : List (List ℕ) → List ℕ
+fields_after fields = flat_map (λ field. 44 ∷ field) fields
+
+-- private: the fields of a link that is put, between the word and the unreserved bandwidths
+abbrev pub attributes : Link → List (List ℕ)
+attributes link =
+    address_text link.from ∷ address_text link.local ∷ address_text link.to ∷ address_text link.remote ∷ decimal link.metric ∷ mask_text link.group ∷ []

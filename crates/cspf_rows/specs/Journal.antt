@@ -1,0 +1,51 @@
+-- Which batches the rows of a journal are, and whether rows are left behind them.
+use Rattle.std.specs.Prelude.{◌≡◌, ◌≢◌, ◌+◌, ◌≤◌, ℕ, List, [], ◌∷◌, ◌++◌, map, length, Ok}
+use Rattle.std.specs.List.{flat_map}
+use Rattle.cspf_db.specs.declared.batch.Change.{Change}
+use Rattle.cspf_db.specs.declared.batch.Change.TheVariants as change
+use Rattle.cspf_db.specs.Numbered.{NumberedChanges}
+use Rattle.cspf_rows.specs.declared.row.Row.{Row}
+use Rattle.cspf_rows.specs.declared.row.Row.TheVariants as row
+use Rattle.cspf_rows.specs.declared.journal.Rest.{Rest}
+use Rattle.cspf_rows.specs.declared.journal.Rest.TheVariants as rest
+use Rattle.cspf_rows.specs.Rows.{row_of}
+
+-- the row of a change
+abbrev pub change_row : Change → Row
+change_row (change.Put link) = row.Put link
+change_row (change.Remove from local) = row.Remove from local
+
+-- a whole batch: a row for each of its changes, in order, and an end row with their number
+abbrev pub batch_rows : NumberedChanges → List Row
+batch_rows batch = map change_row batch.changes ++ (row.End batch.number (length batch.changes) ∷ [])
+
+-- the rows of batches, one batch after the other
+abbrev pub journal_rows : List NumberedChanges → List Row
+journal_rows batches = flat_map batch_rows batches
+
+-- batches with consecutive numbers, the first of which is this one
+abbrev pub AreNumberedFrom : ℕ → List NumberedChanges → Type 0
+AreNumberedFrom first [] = Unit {0}
+AreNumberedFrom first (batch ∷ batches) = (batch.number ≡ first) × AreNumberedFrom (first + 1) batches
+
+-- Records begin with whole batches that have the numbers 1, 2, 3 and so on, and these are the
+-- records behind them. A record that is no row is in no batch, nor is one that asks.
+pub record BeginsWith (records : List (List (List ℕ))) (batches : List NumberedChanges) (left : List (List (List ℕ))) : Type 0 where
+  pub numbers : AreNumberedFrom 1 batches
+  pub front : List (List (List ℕ))
+  pub split : records ≡ front ++ left
+  pub rows : map row_of front ≡ map Ok (journal_rows batches)
+
+-- a journal is clean where no record is left behind its batches, else torn
+abbrev pub IsRest : List (List (List ℕ)) → Rest → Type 0
+IsRest left rest.Clean = left ≡ []
+IsRest left rest.Torn = left ≢ []
+
+-- The batches of a journal are the longest front of its records that is whole batches with the
+-- numbers 1, 2, 3 and so on: no other such front leaves fewer records. Whether a batch fits a
+-- database isn't asked.
+pub record IsJournal (records : List (List (List ℕ))) (batches : List NumberedChanges) (rest : Rest) : Type 0 where
+  pub left : List (List (List ℕ))
+  pub begins : BeginsWith records batches left
+  pub longest : (others : List NumberedChanges) (more : List (List (List ℕ))) → BeginsWith records others more → length left ≤ length more
+  pub is_rest : IsRest left rest

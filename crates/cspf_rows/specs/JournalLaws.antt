@@ -1,0 +1,45 @@
+-- Laws of journals: what is written for batches is read as these batches.
+use Rattle.std.specs.Prelude.{◌≡◌, ◌≤◌, ◌<◌, ◌^◌, ℕ, List, length}
+use Rattle.std.specs.List.{flat_map, AllByRecursion}
+use Rattle.cspf_db.specs.declared.batch.Change.{Change}
+use Rattle.cspf_db.specs.declared.batch.Change.TheVariants as change
+use Rattle.cspf_db.specs.Numbered.{NumberedChanges}
+use Rattle.cspf_rows.specs.declared.journal.Rest.{Rest}
+use Rattle.cspf_rows.specs.declared.journal.Rest.TheVariants as rest
+use Rattle.cspf_rows.specs.Written.{IsLinkInRange}
+use Rattle.cspf_rows.specs.Records.{rows_of}
+use Rattle.cspf_rows.specs.BatchText.{batch_text, batch_records}
+use Rattle.cspf_rows.specs.Journal.{journal_rows, AreNumberedFrom, IsJournal}
+
+-- the numbers of a change are those of its types
+abbrev pub IsChangeInRange : Change → Type 0
+IsChangeInRange (change.Put link) = IsLinkInRange link × (link.group < 2 ^ 32)
+IsChangeInRange (change.Remove from local) = (from < 2 ^ 32) × (local < 2 ^ 32)
+
+-- the numbers of each change are those of its types
+abbrev pub AreInRange : List NumberedChanges → Type 0
+AreInRange batches = AllByRecursion (λ batch. AllByRecursion IsChangeInRange batch.changes) batches
+
+-- the texts of batches, one behind the other
+abbrev pub journal_text : List NumberedChanges → List ℕ
+journal_text batches = flat_map batch_text batches
+
+-- Batches that are numbered from 1 on, of at most 1,000,000 rows in all.
+pub record AreWritable (batches : List NumberedChanges) : Type 0 where
+  pub in_range : AreInRange batches
+  pub numbers : AreNumberedFrom 1 batches
+  pub few : length (journal_rows batches) ≤ 1000000
+
+-- the text of batches is cut into their records
+abbrev pub AreTextsCut : Type 0
+AreTextsCut = (batches : List NumberedChanges) → AreWritable batches → rows_of (journal_text batches) ≡ flat_map batch_records batches
+
+-- the text of batches reads as these batches, and nothing is left behind them
+abbrev pub AreJournalsReadBack : Type 0
+AreJournalsReadBack = (batches : List NumberedChanges) → AreWritable batches → IsJournal (rows_of (journal_text batches)) batches rest.Clean
+
+-- records are one journal at most
+abbrev pub IsOneJournal : Type 0
+IsOneJournal =
+    (records : List (List (List ℕ))) (batches others : List NumberedChanges) (rest other : Rest)
+    → IsJournal records batches rest → IsJournal records others other → (batches ≡ others) × (rest ≡ other)

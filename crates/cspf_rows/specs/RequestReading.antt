@@ -1,0 +1,15 @@
+-- private: how one record refuses a stream of requests.
+use Rattle.std.specs.Prelude.{◌≡◌, ℕ, Result, Ok, Err}
+use Rattle.cspf_rows.specs.declared.row.Row.{Row}
+use Rattle.cspf_rows.specs.declared.row_error.RowError.{RowError}
+use Rattle.cspf_rows.specs.declared.requests_error.RequestsError.{RequestsError}
+use Rattle.cspf_rows.specs.declared.requests_error.RequestsError.TheVariants as fault
+use Rattle.cspf_rows.specs.Requests.{IsNoRequest}
+
+-- what is read at a place refuses the stream by this fault
+abbrev pub IsRefusedAt : ℕ → Result Row RowError → RequestsError → Type 0
+IsRefusedAt place read fault.Memory = ⊥
+IsRefusedAt place read fault.Device = ⊥
+IsRefusedAt place read fault.TooManyRows = ⊥
+IsRefusedAt place read (fault.Bad row error) = (row ≡ place) × (read ≡ Err error)
+IsRefusedAt place read (fault.NotAsk row) = (row ≡ place) × ((other : Row) × IsNoRequest other × (read ≡ Ok other))

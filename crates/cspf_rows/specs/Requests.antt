@@ -1,0 +1,51 @@
+-- What a stream of requests reads as, or the first row that keeps it from that.
+use Rattle.std.specs.Prelude.{◌≡◌, ◌+◌, ◌≤◌, ℕ, List, ◌∷◌, ◌++◌, map, length, Result, Ok, Err}
+use Rattle.cspf_db.specs.declared.request.Request.{Request}
+use Rattle.cspf_rows.specs.declared.row.Row.{Row}
+use Rattle.cspf_rows.specs.declared.row.Row.TheVariants as row
+use Rattle.cspf_rows.specs.declared.row_error.RowError.{RowError}
+use Rattle.cspf_rows.specs.declared.requests_error.RequestsError.{RequestsError}
+use Rattle.cspf_rows.specs.declared.requests_error.RequestsError.TheVariants as fault
+use Rattle.cspf_rows.specs.Rows.{row_of}
+
+-- each record asks for the request at its place
+abbrev pub AreRequests : List (List (List ℕ)) → List Request → Type 0
+AreRequests records requests = map row_of records ≡ map (λ request. Ok (row.Ask request)) requests
+
+-- a row that asks for nothing
+abbrev pub IsNoRequest : Row → Type 0
+IsNoRequest (row.Put link) = Unit {0}
+IsNoRequest (row.Remove from local) = Unit {0}
+IsNoRequest (row.End number count) = Unit {0}
+IsNoRequest (row.Ask request) = ⊥
+
+-- The record at this place, which counts from 1, is the first that asks for nothing, and is read as
+-- this.
+pub record IsFirstOther (records : List (List (List ℕ))) (place : ℕ) (read : Result Row RowError) : Type 0 where
+  pub before : List (List (List ℕ))
+  pub requests : List Request
+  pub record_there : List (List ℕ)
+  pub after : List (List (List ℕ))
+  pub split : records ≡ before ++ (record_there ∷ after)
+  pub are_requests : AreRequests before requests
+  pub is_there : place ≡ length before + 1
+  pub is_read : row_of record_there ≡ read
+  pub within : place ≤ 1000000
+
+-- There are more than 1,000,000 records, of which the first 1,000,000 ask.
+pub record AreTooMany (records : List (List (List ℕ))) : Type 0 where
+  pub before : List (List (List ℕ))
+  pub requests : List Request
+  pub first : List (List ℕ)
+  pub after : List (List (List ℕ))
+  pub split : records ≡ before ++ (first ∷ after)
+  pub are_requests : AreRequests before requests
+  pub counted : length before ≡ 1000000
+
+-- what each refusal says of the records
+abbrev pub IsRequestsFault : List (List (List ℕ)) → RequestsError → Type 0
+IsRequestsFault records fault.Memory = Unit {0}
+IsRequestsFault records fault.Device = Unit {0}
+IsRequestsFault records fault.TooManyRows = AreTooMany records
+IsRequestsFault records (fault.Bad place error) = IsFirstOther records place (Err error)
+IsRequestsFault records (fault.NotAsk place) = (other : Row) × IsNoRequest other × IsFirstOther records place (Ok other)

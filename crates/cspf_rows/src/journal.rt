@@ -1,0 +1,19 @@
+use cspf_db::Batch;
+
+/// What stands behind the batches of a journal.
+#[derive(Clone, Copy, Debug, PartialEq, Eq)]
+pub enum Rest {
+    /// No row.
+    Clean,
+    /// A row or more that are no whole batch with the next number.
+    Torn,
+}
+
+/// What a journal says: its batches, numbered 1, 2, 3 and so on, and what stands behind them.
+#[derive(Debug, Drop)]
+pub struct Journal {
+    /// The batches, in order.
+    pub batches: Vec<Batch>,
+    /// What stands behind them.
+    pub rest: Rest,
+}

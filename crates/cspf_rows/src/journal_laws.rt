@@ -1,0 +1,19 @@
+ghost use Rattle.cspf_rows.specs.JournalLaws.{AreTextsCut, AreJournalsReadBack, IsOneJournal};
+
+use crate::laws::rows_are_read_back;
+use cspf_addr::masks_are_spelled;
+
+/// Law: the texts of batches that are numbered from 1 on, of at most 1,000,000 rows in all, are cut
+/// into the records of these batches, and read as these batches with nothing left behind them.
+pub fn journals_are_read_back()
+    ensures cut { AreTextsCut }
+    ensures back { AreJournalsReadBack }
+{
+    rows_are_read_back();
+    masks_are_spelled();
+}
+
+/// Law: records are one list of batches at most, with one rest.
+pub fn journals_are_one()
+    ensures { IsOneJournal }
+{}

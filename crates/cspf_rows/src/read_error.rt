@@ -1,0 +1,42 @@
+use crate::record_error::RecordError;
+use std::alloc::AllocError;
+use thiserror::Error;
+
+/// Why a journal can't be read.
+#[derive(Clone, Copy, Debug, PartialEq, Eq, Error)]
+pub enum ReadError {
+    /// Memory was refused.
+    #[error("out of memory")]
+    Memory,
+    /// A read failed.
+    #[error("a read failed")]
+    Device,
+    /// There is a row past the 1,000,000th.
+    #[error("too many rows")]
+    TooManyRows,
+}
+
+impl From<RecordError> for ReadError {
+    ghost use Rattle.std.specs.Prelude.{◌≡◌};
+    ghost use Rattle.cspf_rows.specs.ReadFaults.{read_fault_of};
+
+    ghost from_gives = { λ error fault. fault ≡ read_fault_of error };
+
+    fn from(error: RecordError) -> ReadError {
+        match error {
+            RecordError::Memory => ReadError::Memory,
+            RecordError::Device => ReadError::Device,
+        }
+    }
+}
+
+impl From<AllocError> for ReadError {
+    ghost use Rattle.std.specs.Prelude.{◌≡◌};
+    ghost use Rattle.cspf_rows.specs.declared.read_error.ReadError.TheVariants.{Memory};
+
+    ghost from_gives = { λ _ fault. fault ≡ Memory };
+
+    fn from(_refused: AllocError) -> ReadError {
+        ReadError::Memory
+    }
+}

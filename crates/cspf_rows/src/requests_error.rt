@@ -1,0 +1,57 @@
+use crate::record_error::RecordError;
+use crate::row_error::RowError;
+use std::alloc::AllocError;
+use thiserror::Error;
+
+/// Why requests can't be read. Rows count from 1.
+#[derive(Clone, Copy, Debug, PartialEq, Eq, Error)]
+pub enum RequestsError {
+    /// Memory was refused.
+    #[error("out of memory")]
+    Memory,
+    /// A read failed.
+    #[error("a read failed")]
+    Device,
+    /// There is a row past the 1,000,000th.
+    #[error("too many rows")]
+    TooManyRows,
+    /// A record is no row.
+    #[error("row {row}: {error}")]
+    Bad {
+        /// Which row it is.
+        row: u32,
+        /// Why it is none.
+        error: RowError,
+    },
+    /// A row asks for nothing.
+    #[error("row {row} asks for nothing")]
+    NotAsk {
+        /// Which row it is.
+        row: u32,
+    },
+}
+
+impl From<RecordError> for RequestsError {
+    ghost use Rattle.std.specs.Prelude.{◌≡◌};
+    ghost use Rattle.cspf_rows.specs.ReadFaults.{requests_fault_of};
+
+    ghost from_gives = { λ error fault. fault ≡ requests_fault_of error };
+
+    fn from(error: RecordError) -> RequestsError {
+        match error {
+            RecordError::Memory => RequestsError::Memory,
+            RecordError::Device => RequestsError::Device,
+        }
+    }
+}
+
+impl From<AllocError> for RequestsError {
+    ghost use Rattle.std.specs.Prelude.{◌≡◌};
+    ghost use Rattle.cspf_rows.specs.declared.requests_error.RequestsError.TheVariants.{Memory};
+
+    ghost from_gives = { λ _ fault. fault ≡ Memory };
+
+    fn from(_refused: AllocError) -> RequestsError {
+        RequestsError::Memory
+    }
+}
