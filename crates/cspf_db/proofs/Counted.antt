@@ -64,7 +64,7 @@ found_among p (e ∷ es) sorted any =
     ] refl any
 
 -- a router that ties with an end of a link is that end
-end_at : (router : ℕ) (l : Link)
+pub end_at : (router : ℕ) (l : Link)
     → (eq_by_cmp nat_cmp router l.from || eq_by_cmp nat_cmp router l.to) ≡ true → EndsAt router l
 end_at router l =
     elim (eq_by_cmp nat_cmp router l.from) as (λ b. eq_by_cmp nat_cmp router l.from ≡ b → (b || eq_by_cmp nat_cmp router l.to) ≡ true → EndsAt router l) [

@@ -1,12 +1,11 @@
 use Rattle.std.specs.Bool.{OnTrue, OnFalse}
-use Rattle.std.proofs.lemmas.List.Sums.{length-filter, count_by-le-length}
 use mathlib.Core.Bool.{true≢false}
 use Rattle.std.proofs.lemmas.List.{nil_from_length, get_or_default}
-use Rattle.std.proofs.Common.{◌≡◌, ℕ, suc, ◌+◌, ◌-◌, ◌<◌, ◌≤◌, ◌||◌, Bool, true, false, cond, not, Some, None, is_some, List, [], ◌∷◌, ◌++◌, length, map, refl, sym, ap, ◌∙◌, arith, length-append, inl, inr, ◌&&◌, IsTrue, ◌↔◌}
+use Rattle.std.proofs.Common.{◌≡◌, ℕ, ◌+◌, ◌-◌, ◌*◌, ◌<◌, ◌≤◌, ◌||◌, Bool, true, false, cond, not, Some, None, is_some, List, [], ◌∷◌, ◌++◌, length, map, refl, sym, ap, ◌∙◌, arith, inl, inr, ◌&&◌, IsTrue, ◌↔◌}
 use Rattle.std.specs.Ordering.{nat_cmp, eq_by_cmp, is_eq}
 use Rattle.std.specs.declared.cmp.Ordering.TheVariants.{Less, Equal, Greater}
 use Rattle.std.specs.Cmp.{nat_cmp_total, tied_itself, Equal-is}
-use Rattle.std.specs.List.{IsDistinct, AllByRecursion, list_any, filter, HoldsAt, slice_index_or, Any, count_by}
+use Rattle.std.specs.List.{IsDistinct, AllByRecursion, list_any, HoldsAt, slice_index_or, Any}
 use Rattle.std.specs.FinMap as map
 use Rattle.std.specs.FinMap.Entries.{by_order, put}
 use Rattle.std.specs.FinSet as set
@@ -17,7 +16,7 @@ use Rattle.cspf_db.specs.declared.batch.Change.TheVariants.{Put, Remove}
 use Rattle.cspf_db.specs.Database.{Key, key_of, key_cmp, link_count, router_count, ends_of, EndsAt, HaveOwnKeys}
 use Rattle.cspf_db.specs.Changes.{after_changes}
 use Rattle.cspf_db.specs.Rows.{database_of}
-use Rattle.cspf_db.specs.RowsLeft.{is_untouched, rows_left, links_put, puts_link}
+use Rattle.cspf_db.specs.RowsLeft.{is_untouched, rows_left, links_put}
 use Rattle.cspf_db.specs.CountedEnds.{with_ends, AnyEndsAt, HasKnownEnds}
 use Rattle.cspf_db.specs.Refusals.{AreOnceEach}
 use Rattle.cspf_db.proofs.Keys.{keys_total}
@@ -209,7 +208,7 @@ any_left p (l ∷ rows) cs is =
     or_either false b c e f = f e
 
 -- a router that one of the links ends at is among their ends
-known_end : (rows : List Link) (router q : ℕ) → AnyEndsAt rows router
+pub known_end : (rows : List Link) (router q : ℕ) → AnyEndsAt rows router
     → eq_by_cmp nat_cmp q router ≡ true
     → list_any (λ l. eq_by_cmp nat_cmp q l.from || eq_by_cmp nat_cmp q l.to) rows ≡ true
 known_end rows router q (at, within, ends) tie =
@@ -249,12 +248,6 @@ or_split : {P : Type 0} (a b : Bool) → (a || b) ≡ true → (a ≡ true → P
 or_split true b e f g = f refl
 or_split false b e f g = g e
 
--- there is a link for each put
-length-links_put : (cs : List Change) → length (links_put cs) ≡ length (filter puts_link cs)
-length-links_put [] = refl
-length-links_put (Put l ∷ cs) = ap suc (length-links_put cs)
-length-links_put (Remove from local ∷ cs) = length-links_put cs
-
 -- how many routers there are after changes
 module _ (rows : List Link) (cs : List Change) (apart : HaveOwnKeys rows) (once : AreOnceEach cs) where
   -- as many as the ends of the rows that are left and of the links that are put
@@ -274,14 +267,43 @@ module _ (rows : List Link) (cs : List Change) (apart : HaveOwnKeys rows) (once 
       ∙ or_split _ _
       (sym (list_any-append _ (rows_left rows cs) (links_put cs)) ∙ sym (any-ends_of (eq_by_cmp nat_cmp q) (rows_after rows cs)) ∙ is) (any_left _ rows cs) (any_put rows q cs known)))
 
-  -- how many links there are after changes
-  pub link_count-after : link_count (after_changes (database_of rows) cs) ≡ count_by (is_untouched cs) rows + count_by puts_link cs
-  link_count-after =
-      ap link_count (sym (database-rows_after rows cs once))
-      ∙ link_count-database_of (rows_after rows cs) (apart-rows_after rows cs apart once)
-      ∙ length-append (rows_left rows cs) (links_put cs)
-      ∙ omega
-      (arith, length-filter (is_untouched cs) rows, length-links_put cs, length-filter puts_link cs)
+-- to add a router adds one at most
+len-insert-most : (s : set.FinSet nat_cmp) (k : ℕ) → set.len (set.insert s k) ≤ set.len s + 1
+len-insert-most s k =
+    let n = set.len-insert nat_cmp_total s k in rw n (one_more (set.contains s k) (set.len s))
+  where
+    one_more : (b : Bool) (n : ℕ) → cond b n (n + 1) ≤ n + 1
+    one_more true n = omega arith
+    one_more false n = omega arith
+
+-- to add the ends of links adds two for each at most
+len-with_ends-most : (s : set.FinSet nat_cmp) (links : List Link)
+    → set.len (with_ends s links) ≤ set.len s + 2 * length links
+len-with_ends-most s [] = omega arith
+len-with_ends-most s (l ∷ links) =
+    omega
+    (arith, len-with_ends-most (set.insert (set.insert s l.from) l.to) links, len-insert-most (set.insert s l.from) l.to, len-insert-most s l.from)
+
+-- changes put one link each at most
+length-links_put-le : (cs : List Change) → length (links_put cs) ≤ length cs
+length-links_put-le [] = omega arith
+length-links_put-le (Put l ∷ cs) = omega (arith, length-links_put-le cs)
+length-links_put-le (Remove from local ∷ cs) = omega (arith, length-links_put-le cs)
+
+-- the rows that are left have no more routers than all
+len-left-le : (rows : List Link) (cs : List Change) → HaveOwnKeys rows
+    → set.len (with_ends set.empty (rows_left rows cs)) ≤ router_count (database_of rows)
+len-left-le rows cs apart =
+    rw (with_ends-empty (rows_left rows cs), router_count-database_of rows apart)
+    (len-within (ends_of (rows_left rows cs)) (set.from_list (ends_of rows)) (λ q is. set.contains-from_list nat_cmp_total (ends_of rows) q ∙ any-ends_of (eq_by_cmp nat_cmp q) rows
+    ∙ any_left _ rows cs (sym (any-ends_of (eq_by_cmp nat_cmp q) (rows_left rows cs)) ∙ is)))
+
+-- changes bring two routers each at most
+pub router_count-most : (rows : List Link) (cs : List Change) → HaveOwnKeys rows → AreOnceEach cs
+    → router_count (after_changes (database_of rows) cs) ≤ router_count (database_of rows) + 2 * length cs
+router_count-most rows cs apart once =
+    omega
+    (arith, router_count-after rows cs apart once, len-with_ends-most (with_ends set.empty (rows_left rows cs)) (links_put cs), len-left-le rows cs apart, length-links_put-le cs)
 
 -- what adding all ends tells of the number of routers
 module _ (rows : List Link) (cs : List Change) (apart : HaveOwnKeys rows) (once : AreOnceEach cs) where
@@ -304,9 +326,3 @@ module _ (rows : List Link) (cs : List Change) (apart : HaveOwnKeys rows) (once 
   tells_both false first second left put few many =
       let counted = router_count-after rows cs apart once in
       ((λ _. omega (arith, many, counted, ap (λ s. set.len (with_ends s (links_put cs))) left)), λ _. refl)
-
-  -- changes add one link each at most
-  pub link_count-after-le : link_count (after_changes (database_of rows) cs) ≤ length rows + length cs
-  link_count-after-le =
-      omega
-      (arith, link_count-after rows cs apart once, count_by-le-length (is_untouched cs) rows, count_by-le-length puts_link cs)

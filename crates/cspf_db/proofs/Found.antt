@@ -60,3 +60,17 @@ tells_removal rows k None b e bound some none =
     ((λ _. link_at-no_row rows k none), λ off. absurd (cc))
 tells_removal rows k (Some at) b e bound some none =
     ((λ on. absurd (cc)), λ _. subst IsSome (sym (link_at-database_of rows k)) (some_there rows k at bound some))
+
+-- what tells whether a row has the key of a put
+pub tells_addition : (rows : List Link) (k : Key) (place : Option ℕ) (b : Bool)
+    → is_some place ≡ not b → IfSome place (λ at. at < length rows)
+    → IfSome place (HoldsAt (λ l. key_of l ≡ k) rows) → IfNone place (All (λ l. key_of l ≢ k) rows)
+    → b ≡ not (is_some (link_at (database_of rows) k))
+tells_addition rows k place b e bound some none =
+    let told = tells_removal rows k place b e bound some none in
+    new_from (link_at (database_of rows) k) b told.0 told.1
+  where
+    new_from : (o : Option Link) (b : Bool) → (b ≡ true → o ≡ None) → (b ≡ false → IsSome o)
+        → b ≡ not (is_some o)
+    new_from o true gone there = sym (ap (λ p. not (is_some p)) (gone refl))
+    new_from o false gone there = sym (ap not (there refl))

@@ -1,7 +1,11 @@
-use Rattle.std.proofs.Common.{◌≡◌, ◌||◌, Bool, true, false, cond, not, Option, Some, None, List, [], ◌∷◌, ◌++◌, map, refl, sym, ap, ◌∙◌}
+use Rattle.std.proofs.Common.{◌≡◌, zero, suc, ◌||◌, Bool, true, false, cond, not, Option, Some, None, List, [], ◌∷◌, ◌++◌, Contains, map, refl, sym, ap, ◌∙◌, arith}
 use Rattle.std.specs.Ordering.{eq_by_cmp}
 use Rattle.std.specs.List.{IsDistinct, AllByRecursion}
+use Rattle.std.specs.List.Sorted.{IsPermutation}
 use Rattle.std.specs.FinMap.{find, get-insert, get-remove}
+use Rattle.std.proofs.lemmas.Cmp.{eq_by_cmp_equiv}
+use Rattle.std.proofs.lemmas.Map.Keys.{IsDistinct-IsPermutation}
+use Rattle.std.proofs.lemmas.List.Sorted.{IsPermutation-sym, IsPermutation-map, Contains-permutation, list_any-IsPermutation}
 use Rattle.cspf_db.specs.declared.link.Link.{Link}
 use Rattle.cspf_db.specs.declared.batch.Change.{Change}
 use Rattle.cspf_db.specs.declared.batch.Change.TheVariants.{Put, Remove}
@@ -13,7 +17,7 @@ use Rattle.cspf_db.specs.RowsLeft.{is_untouched, rows_left, links_put}
 use Rattle.cspf_db.specs.Refusals.{AreOnceEach}
 use Rattle.cspf_db.proofs.Keys.{keys_total, keys_same}
 use Rattle.cspf_db.proofs.Listed.{link_at-database_of}
-use Rattle.cspf_db.proofs.Changing.{same_database}
+use Rattle.cspf_db.proofs.Changing.{same_database, same_options, found_too}
 
 -- what the entries of links have at a key
 at_key : List Link → Key → Option Link
@@ -214,3 +218,49 @@ apart-rows_after (l ∷ rows) cs apart once =
       | true ↦ λ on. apart-rows_after rows cs apart.1 once
       | false ↦ λ off. (all_both (λ y. eq_by_cmp key_cmp (key_of l) y ≡ false) (rows_left rows cs) (links_put cs) (apart_left (key_of l) rows cs apart.0) (apart_put (key_of l) cs off), apart-rows_after rows cs apart.1 once)
     ] refl
+
+-- what stands in a list stands in one that is longer by one
+behind : {X : Type 0} (x : X) (xs : List X) (y : X) → Contains xs y → Contains (x ∷ xs) y
+behind x xs y has = (suc has.0, omega (arith, has.1), has.2)
+
+-- a link that changes put is put by one of them
+put_from : (cs : List Change) (l : Link) → Contains (links_put cs) l → Contains cs (Put l)
+put_from [] l has = absurd (omega (arith, has.1))
+put_from (Put m ∷ cs) l (zero, h, is) = (0, omega arith, ap Put is)
+put_from (Put m ∷ cs) l (suc k, h, is) =
+    behind (Put m) cs (Put l) (put_from cs l (k, omega (arith, h), is))
+put_from (Remove from local ∷ cs) l has = behind (Remove from local) cs (Put l) (put_from cs l has)
+
+-- a link that one of the changes puts is among those that they put
+put_among : (cs : List Change) (l : Link) → Contains cs (Put l) → Contains (links_put cs) l
+put_among [] l has = absurd (omega (arith, has.1))
+put_among (Put m ∷ cs) l (zero, h, is) = (0, omega arith, same_link is)
+  where
+    same_link : Put m ≡ Put l → m ≡ l
+    same_link e = cc
+put_among (Put m ∷ cs) l (suc k, h, is) =
+    behind m (links_put cs) l (put_among cs l (k, omega (arith, h), is))
+put_among (Remove from local ∷ cs) l (zero, h, is) = absurd (cc)
+put_among (Remove from local ∷ cs) l (suc k, h, is) = put_among cs l (k, omega (arith, h), is)
+
+-- changes on keys of their own make the same in any order
+module _ (cs ys : List Change) (moved : IsPermutation cs ys) (once : AreOnceEach cs) where
+  -- in the other order too
+  still_once : AreOnceEach ys
+  still_once =
+      IsDistinct-IsPermutation (eq_by_cmp key_cmp) (eq_by_cmp_equiv keys_total).symm (map key_changed cs) (map key_changed ys) (IsPermutation-map key_changed cs ys moved) once
+
+  -- they put the same at each key
+  same_put : (k : Key) → at_key (links_put ys) k ≡ at_key (links_put cs) k
+  unfolding at_key
+  same_put k =
+      same_options _ _
+      (found_too (links_put ys) (links_put cs) k (puts_apart cs once) (λ l has. put_among cs l (Contains-permutation ys cs (Put l) (IsPermutation-sym cs ys moved) (put_from ys l has))))
+      (found_too (links_put cs) (links_put ys) k (puts_apart ys still_once) (λ l has. put_among ys l (Contains-permutation cs ys (Put l) moved (put_from cs l has))))
+
+  pub after_changes-permuted : (d : Database) → after_changes d ys ≡ after_changes d cs
+  after_changes-permuted d =
+      same_database _ _ (λ k. at_changed_by d ys k still_once
+      ∙ ap (λ b. cond b (at_key (links_put ys) k) (link_at d k)) (sym (list_any-IsPermutation (λ c. eq_by_cmp key_cmp k (key_changed c)) cs ys moved))
+      ∙ ap (λ o. cond (is_changed cs k) o (link_at d k)) (same_put k)
+      ∙ sym (at_changed_by d cs k once))

@@ -1,6 +1,6 @@
 use Rattle.cspf_db.specs.Laws.{OneRefusal}
 use mathlib.Core.Bool.{true≢false}
-use Rattle.std.proofs.Common.{◌≡◌, ℕ, zero, suc, ◌+◌, ◌<◌, ◌≤◌, ◌||◌, true, false, Option, Some, None, option_map, List, [], ◌∷◌, length, map, take, refl, sym, ap, subst, ◌∙◌, add-one, arith, length-take-le, is_some, IsTrue, Result, Ok, Err, IfErr, OnOk, OnErr, is_err}
+use Rattle.std.proofs.Common.{◌≡◌, ℕ, zero, suc, ◌+◌, ◌<◌, ◌≤◌, ◌||◌, true, false, Option, Some, None, option_map, List, [], ◌∷◌, length, map, take, refl, sym, ap, subst, ◌∙◌, add-one, arith, length-take-le, is_some, IfNone, IsTrue, Result, Ok, Err, IfErr, OnOk, OnErr, is_err}
 use Rattle.std.specs.Ordering.{eq_by_cmp}
 use Rattle.std.specs.List.{IsDistinct, AllWithin, HoldsAt, list_any, slice_get, slice_index_or}
 use Rattle.std.proofs.lemmas.Cmp.{eq_by_cmp_equiv}
@@ -104,6 +104,12 @@ once_from_new [] new = tt
 once_from_new (c ∷ cs) new =
     subst AreOnceEach (take_all (length (c ∷ cs)) (c ∷ cs) (omega arith))
     (once_below (c ∷ cs) c new (length (c ∷ cs)) (omega arith))
+
+-- the same of what a search for a repeat finds
+pub once_if_none : (cs : List Change) (r : Option ℕ)
+    → IfNone r ((k : ℕ) → k < length cs → IsNewAt cs k) → IfNone r (AreOnceEach cs)
+once_if_none cs None new = once_from_new cs new
+once_if_none cs (Some at) new = tt
 
 -- a removal of what isn't there has no key there
 absent_not_present : (d : Database) (c : Change) → RemovesNothing d c → ¬ IsPresent d c

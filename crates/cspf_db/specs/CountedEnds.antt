@@ -1,5 +1,5 @@
 -- Private: how the ends of links are counted.
-use Rattle.std.specs.Prelude.{ℕ, List, [], ◌∷◌, length, ◌<◌}
+use Rattle.std.specs.Prelude.{ℕ, List, [], ◌∷◌, length, ◌<◌, Contains}
 use Rattle.std.specs.Ordering.{nat_cmp}
 use Rattle.std.specs.List.{HoldsAt}
 use Rattle.std.specs.FinSet.{FinSet, insert}
@@ -21,3 +21,8 @@ AnyEndsAt links router = (at : ℕ) × (at < length links) × HoldsAt (EndsAt ro
 abbrev pub HasKnownEnds : List Link → Change → Type 0
 HasKnownEnds links (Put l) = AnyEndsAt links l.from × AnyEndsAt links l.to
 HasKnownEnds links (Remove from local) = Unit {0}
+
+-- both ends of the link that the change puts, if it does, are among the routers
+abbrev pub HasListedEnds : List ℕ → Change → Type 0
+HasListedEnds routers (Put l) = Contains routers l.from × Contains routers l.to
+HasListedEnds routers (Remove from local) = Unit {0}

@@ -1,5 +1,6 @@
 pub mod Numbered
 pub mod Database
+pub mod Index
 pub mod Stored
 pub mod Rows
 pub mod Changes

@@ -1,10 +1,13 @@
--- Private: the rows of a table, and the database that they make.
-use Rattle.std.specs.Prelude.{◌≤◌, List, length, map, Vec}
+-- Private: the rows of a table with their routers and ends, and the database that they make.
+use Rattle.std.specs.Prelude.{◌≡◌, ◌<◌, ◌≤◌, ℕ, IsTrue, List, All, Contains, length, map, slice_index, Vec}
 use Rattle.std.specs.Vec.{vec_capacity}
 use Rattle.std.specs.declared.alloc.Global.{Global}
-use Rattle.std.specs.FinMap.{from_entries}
+use Rattle.std.specs.Ordering.{nat_cmp}
+use Rattle.std.specs.FinMap.{from_entries, is_sorted}
 use Rattle.cspf_db.specs.declared.link.Link.{Link}
-use Rattle.cspf_db.specs.Database.{Database, Key, key_of, key_cmp, HaveOwnKeys, router_count}
+use Rattle.cspf_db.specs.declared.table.Table.TheInside.{Inside}
+use Rattle.cspf_db.specs.Database.{Database, Key, key_of, key_cmp, router_count}
+use Rattle.cspf_db.specs.Index.{with_nothing, router_list}
 
 -- a row with its key
 abbrev pub entry_of : Link → Key × Link
@@ -14,10 +17,44 @@ entry_of l = (key_of l, l)
 abbrev pub database_of : List Link → Database
 database_of rows = record { links = from_entries {R = key_cmp} (map entry_of rows) }
 
--- Each row has a key of its own, there are no more links and routers than a table may have, and
+-- each row's key is above those before it
+abbrev pub AreByKey : List Link → Type 0
+AreByKey rows = IsTrue (is_sorted key_cmp (map entry_of rows))
+
+-- each router is above those before it
+abbrev pub AreRising : List ℕ → Type 0
+AreRising routers = IsTrue (is_sorted nat_cmp (map with_nothing routers))
+
+-- The rows are in order of the key, there are no more links and routers than a table may have, and
 -- there is room for as many links, and a batch more.
 pub record AreRows (rows : Vec Link Global) : Type 0 where
-  pub apart : HaveOwnKeys rows.items
+  pub by_key : AreByKey rows.items
   pub most : length rows.items ≤ 16384
   pub routers : router_count (database_of rows.items) ≤ 1024
   pub room : 20480 ≤ vec_capacity rows
+
+-- the routers are those of the rows' database, and there is room for both ends of each row
+pub record AreRoutersOf (rows : List Link) (routers : Vec ℕ Global) : Type 0 where
+  pub all : routers.items ≡ router_list (database_of rows)
+  pub room : 32768 ≤ vec_capacity routers
+
+-- the indices at which the routers are that the rows run to
+pub record AreEndsOf (rows : List Link) (routers : List ℕ) (ends : List ℕ) : Type 0 where
+  pub within : All (λ end. end < length routers) ends
+  pub each : map (λ end. slice_index routers end) ends ≡ map (λ l. l.to) rows
+
+-- the routers have both ends of each row, those that it runs to at the given indices
+pub record AreBeside (links : List Link) (routers : List ℕ) (indices : List ℕ) : Type 0 where
+  pub froms : All (λ l. Contains routers l.from) links
+  pub ends : AreEndsOf links routers indices
+
+-- rows, with their routers and their ends
+pub record AreParts (links : Vec Link Global) (names : Vec ℕ Global) (indices : Vec ℕ Global) : Type 0 where
+  pub rows : AreRows links
+  pub routers : AreRoutersOf links.items names
+  pub ends : AreEndsOf links.items names.items indices.items
+  pub room : 20480 ≤ vec_capacity indices
+
+-- the parts of a table
+abbrev pub IsTable : Inside → Type 0
+IsTable a = AreParts a.rows a.routers a.ends

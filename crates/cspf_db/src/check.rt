@@ -1,18 +1,20 @@
-ghost use Rattle.std.specs.Prelude.{count_by, ◌≡◌, ℕ, ◌+◌, ◌<◌, ◌≤◌, ◌↔◌, true, false, All, length, IfSome, IfNone, IsTrue, OnOk, IfErr};
+ghost use Rattle.std.specs.Prelude.{count_by, ◌≡◌, ℕ, ◌+◌, ◌*◌, ◌<◌, ◌≤◌, ◌↔◌, true, false, All, length, map, IfSome, IfNone, IsTrue, OnOk, IfErr};
 ghost use Rattle.std.specs.Bool.{OnTrue, OnFalse};
-ghost use Rattle.std.specs.List.{HoldsAt, AllWithin};
+ghost use Rattle.std.specs.List.{HoldsAt, AllWithin, IsDistinct};
 ghost use Rattle.std.specs.FinSet as set;
-ghost use Rattle.std.specs.Ordering.{eq_by_cmp};
-ghost use Rattle.cspf_db.specs.Database.{key_cmp, link_count, router_count, HaveOwnKeys};
+ghost use Rattle.std.specs.Ordering.{eq_by_cmp, is_lt};
+ghost use Rattle.cspf_db.specs.Database.{key_cmp, link_count, router_count};
+ghost use Rattle.cspf_db.specs.Index.{router_list};
 ghost use Rattle.cspf_db.specs.Changes.{after_changes, key_changed, IsPresent, Fits};
-ghost use Rattle.cspf_db.specs.Rows.{database_of};
+ghost use Rattle.cspf_db.specs.Rows.{database_of, AreByKey, AreRising};
 ghost use Rattle.cspf_db.specs.RepeatedKeys.{is_changed, IsNewAt, IsRepeatedAt};
-ghost use Rattle.cspf_db.specs.RowsLeft.{is_untouched, rows_left, links_put, puts_link};
-ghost use Rattle.cspf_db.specs.CountedEnds.{with_ends, HasKnownEnds};
-ghost use Rattle.cspf_db.specs.Refusals.{RemovesNothing, AreOnceEach, IsRefusal};
+ghost use Rattle.cspf_db.specs.RowsLeft.{is_untouched, rows_left, links_put, adds_link, removes_link};
+ghost use Rattle.cspf_db.specs.CountedEnds.{with_ends, HasListedEnds};
+ghost use Rattle.cspf_db.specs.Refusals.{RemovesNothing, AreOnceEach, ArePresent, IsRefusal};
 
+use crate::router_list::is_among;
 use crate::routers::Routers;
-use crate::table_rows::{any_ends_at, index_of};
+use crate::table_rows::index_of;
 use crate::{Batch, Change, Link, Refusal};
 use cspf_addr::Addr;
 
@@ -21,6 +23,9 @@ const LINKS: usize = 16384;
 
 /// How many changes a batch may have.
 const CHANGES: usize = 4096;
+
+/// How many routers a database may have.
+const ROUTERS: usize = 1024;
 
 /// Whether the change is on this key.
 fn is_on(change: &Change, from: Addr, local: Addr) -> bool
@@ -53,8 +58,72 @@ fn first_repeat(changes: &[Change]) -> Option<usize>
     None
 }
 
+/// Lists the keys of the changes.
+fn list_keys(keys: &mut [(Addr, Addr)], changes: &[Change])
+    requires { length keys.old ≡ length changes.now }
+    ensures { keys.new ≡ map key_changed changes.now }
+{
+    for (at, change) in changes.iter().enumerate() {
+        keys[at] = change.key();
+    }
+}
+
+/// Whether the first key is below the second.
+fn is_below(low: (Addr, Addr), high: (Addr, Addr)) -> bool
+    ensures { result ≡ is_lt (key_cmp low high) }
+{
+    low.0.cmp(&high.0).then(low.1.cmp(&high.1)).is_lt()
+}
+
+/// Whether each key is above the one before it.
+fn rise(keys: &[(Addr, Addr)]) -> bool
+    ensures { result ≡ true → IsDistinct (eq_by_cmp key_cmp) keys.now }
+{
+    for at in 1..keys.len() {
+        if !is_below(keys[at - 1], keys[at]) {
+            return false;
+        }
+    }
+    true
+}
+
+/// Whether no two changes are on one key, where there is room to put their keys in order.
+fn are_apart_in(keys: &mut [(Addr, Addr)], changes: &[Change]) -> bool
+    requires { length keys.old ≡ length changes.now }
+    ensures { result ≡ true → AreOnceEach changes.now }
+{
+    list_keys(keys, changes);
+    keys.sort_unstable();
+    rise(keys)
+}
+
+/// Whether no two changes are on one key. Not all pairs are compared.
+fn are_apart(changes: &[Change]) -> bool
+    requires { length changes.now ≤ 4096 }
+    ensures { result ≡ true → AreOnceEach changes.now }
+{
+    let mut keys = [(Addr::new(0), Addr::new(0)); CHANGES];
+    are_apart_in(&mut keys[..changes.len()], changes)
+}
+
+/// The index of the first change on the key of an earlier one, searched only where there is one.
+fn repeat(changes: &[Change]) -> Option<usize>
+    requires { length changes.now ≤ 4096 }
+    ensures bound { IfSome result (λ at. at < length changes.now) }
+    ensures some { IfSome result (IsRepeatedAt changes.now) }
+    ensures before { IfSome result (λ at. (k : ℕ) → k < at → IsNewAt changes.now k) }
+    ensures none { IfNone result (AreOnceEach changes.now) }
+{
+    if are_apart(changes) {
+        None
+    } else {
+        first_repeat(changes)
+    }
+}
+
 /// Whether the change is a removal of a link that isn't there.
 fn removes_nothing(rows: &[Link], change: &Change) -> bool
+    requires { AreByKey rows.now }
     ensures yes { result ≡ true → RemovesNothing (database_of rows.now) change.now }
     ensures no { result ≡ false → IsPresent (database_of rows.now) change.now }
 {
@@ -66,6 +135,7 @@ fn removes_nothing(rows: &[Link], change: &Change) -> bool
 
 /// The index of the first removal of a link that isn't there.
 fn first_absent(rows: &[Link], changes: &[Change]) -> Option<usize>
+    requires { AreByKey rows.now }
     ensures bound { IfSome result (λ at. at < length changes.now) }
     ensures some { IfSome result (HoldsAt (RemovesNothing (database_of rows.now)) changes.now) }
     ensures before { IfSome result (AllWithin (IsPresent (database_of rows.now)) changes.now 0) }
@@ -83,41 +153,51 @@ fn is_untouched(row: &Link, changes: &[Change]) -> bool
     !any_on(changes, row.from, row.local)
 }
 
-/// Whether the change puts a link.
-fn is_put(change: &Change) -> bool
-    ensures { result ≡ puts_link change.now }
+/// Whether the change puts a link where there is none.
+fn adds(rows: &[Link], change: &Change) -> bool
+    requires { AreByKey rows.now }
+    ensures { result ≡ adds_link (database_of rows.now) change.now }
 {
-    matches!(change, Change::Put(_))
+    match change {
+        Change::Put(link) => index_of(rows, link.from, link.local).is_none(),
+        Change::Remove { .. } => false,
+    }
 }
 
-/// How many rows the changes leave alone.
-fn count_left(rows: &[Link], changes: &[Change]) -> usize
-    ensures { result ≡ count_by (is_untouched changes.now) rows.now }
+/// Whether the change takes out a link.
+fn is_removal(change: &Change) -> bool
+    ensures { result ≡ removes_link change.now }
 {
-    rows.iter().filter(|row| is_untouched(row, changes)).count()
+    matches!(change, Change::Remove { .. })
 }
 
-/// How many links the changes put.
-fn count_put(changes: &[Change]) -> usize
-    ensures { result ≡ count_by puts_link changes.now }
+/// How many changes put a link where there is none.
+pub fn count_added(rows: &[Link], changes: &[Change]) -> usize
+    requires { AreByKey rows.now }
+    ensures { result ≡ count_by (adds_link (database_of rows.now)) changes.now }
 {
-    changes.iter().filter(|change| is_put(change)).count()
+    changes.iter().filter(|change| adds(rows, change)).count()
 }
 
-/// Whether there are more than 16,384 links after the changes. Each change adds one link at most,
-/// so most batches need no counting.
+/// How many changes take out a link.
+pub fn count_removed(changes: &[Change]) -> usize
+    ensures { result ≡ count_by removes_link changes.now }
+{
+    changes.iter().filter(|change| is_removal(change)).count()
+}
+
+/// Whether there are more than 16,384 links after the changes.
 fn has_too_many_links(rows: &[Link], changes: &[Change]) -> bool
-    requires apart { HaveOwnKeys rows.now }
+    requires by_key { AreByKey rows.now }
     requires most { length rows.now ≤ 16384 }
     requires short { length changes.now ≤ 4096 }
     requires once { AreOnceEach changes.now }
+    requires present { ArePresent (database_of rows.now) changes.now }
     ensures { IsTrue result
         ↔ 16384 < link_count (after_changes (database_of rows.now) changes.now) }
 {
-    if rows.len() + changes.len() <= LINKS {
-        return false;
-    }
-    count_left(rows, changes) + count_put(changes) > LINKS
+    let after = rows.len() + count_added(rows, changes) - count_removed(changes);
+    after > LINKS
 }
 
 /// Adds the ends of the rows that the changes leave alone. It is false where there would be more
@@ -156,42 +236,59 @@ fn add_puts(routers: &mut Routers, changes: &[Change]) -> bool
     true
 }
 
-/// Whether both ends of each link that the changes put are routers of the rows.
-fn knows_ends(rows: &[Link], changes: &[Change]) -> bool
-    ensures { result ≡ true → All (HasKnownEnds rows.now) changes.now }
+/// Whether both ends of each link that the changes put are among the routers.
+pub fn knows_ends(routers: &[Addr], changes: &[Change]) -> bool
+    requires { AreRising routers.now }
+    ensures { result ≡ true → All (HasListedEnds routers.now) changes.now }
 {
-    changes.iter().all(|change| knows_ends_of(rows, change))
+    changes.iter().all(|change| knows_ends_of(routers, change))
 }
 
-/// Whether both ends of the link that the change puts, if it does, are routers of the rows.
-fn knows_ends_of(rows: &[Link], change: &Change) -> bool
-    ensures { result ≡ true → HasKnownEnds rows.now change.now }
+/// Whether both ends of the link that the change puts, if it does, are among the routers.
+fn knows_ends_of(routers: &[Addr], change: &Change) -> bool
+    requires { AreRising routers.now }
+    ensures { result ≡ true → HasListedEnds routers.now change.now }
 {
     match change {
-        Change::Put(link) => any_ends_at(rows, link.from) && any_ends_at(rows, link.to),
+        Change::Put(link) => is_among(routers, link.from) && is_among(routers, link.to),
         Change::Remove { .. } => true,
     }
 }
 
-/// Whether there are more than 1,024 routers after the changes. Where they bring no new router,
-/// there is nothing to count.
-fn has_too_many_routers(rows: &[Link], changes: &[Change]) -> bool
-    requires apart { HaveOwnKeys rows.now }
+/// Whether so few changes can't bring more than 1,024 routers: each brings two at most.
+fn are_within(routers: &[Addr], changes: &[Change]) -> bool
+    requires few { length routers.now ≤ 1024 }
+    requires short { length changes.now ≤ 4096 }
+    ensures { result ≡ true → length routers.now + 2 * length changes.now ≤ 1024 }
+{
+    routers.len() + 2 * changes.len() <= ROUTERS
+}
+
+/// Whether there are more than 1,024 routers after the changes. Where they bring no new router, or
+/// few enough, there is nothing to count.
+fn has_too_many_routers(rows: &[Link], routers: &[Addr], changes: &[Change]) -> bool
+    requires by_key { AreByKey rows.now }
+    requires all { routers.now ≡ router_list (database_of rows.now) }
     requires few { router_count (database_of rows.now) ≤ 1024 }
+    requires short { length changes.now ≤ 4096 }
     requires once { AreOnceEach changes.now }
     ensures { IsTrue result
         ↔ 1024 < router_count (after_changes (database_of rows.now) changes.now) }
 {
-    if knows_ends(rows, changes) {
+    if knows_ends(routers, changes) {
         return false;
     }
-    let mut routers = Routers::new();
-    !(add_rows(&mut routers, rows, changes) && add_puts(&mut routers, changes))
+    if are_within(routers, changes) {
+        return false;
+    }
+    let mut found = Routers::new();
+    !(add_rows(&mut found, rows, changes) && add_puts(&mut found, changes))
 }
 
 /// Whether the batch fits the rows, and else the first reason why it doesn't.
-pub fn fits(rows: &[Link], batch: &Batch) -> Result<(), Refusal>
-    requires apart { HaveOwnKeys rows.now }
+pub fn fits(rows: &[Link], routers: &[Addr], batch: &Batch) -> Result<(), Refusal>
+    requires by_key { AreByKey rows.now }
+    requires all { routers.now ≡ router_list (database_of rows.now) }
     requires most { length rows.now ≤ 16384 }
     requires few { router_count (database_of rows.now) ≤ 1024 }
     ensures ok { OnOk result (Fits (database_of rows.now) batch.now) }
@@ -201,7 +298,7 @@ pub fn fits(rows: &[Link], batch: &Batch) -> Result<(), Refusal>
     if changes.len() > CHANGES {
         return Err(Refusal::TooLong);
     }
-    if let Some(at) = first_repeat(changes) {
+    if let Some(at) = repeat(changes) {
         return Err(Refusal::Duplicate { at: at + 1 });
     }
     if let Some(at) = first_absent(rows, changes) {
@@ -210,7 +307,7 @@ pub fn fits(rows: &[Link], batch: &Batch) -> Result<(), Refusal>
     if has_too_many_links(rows, changes) {
         return Err(Refusal::Full);
     }
-    if has_too_many_routers(rows, changes) {
+    if has_too_many_routers(rows, routers, changes) {
         return Err(Refusal::TooManyRouters);
     }
     Ok(())

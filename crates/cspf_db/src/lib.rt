@@ -4,13 +4,17 @@
 #![tactic(auto)]
 
 mod batch;
+mod beside;
 mod check;
 mod hop_laws;
 mod laws;
 mod link;
+mod merging;
 mod refusal;
 mod request;
+mod router_list;
 mod routers;
+mod scratch;
 mod table;
 mod table_rows;
 
@@ -25,5 +29,7 @@ pub use refusal::Refusal;
 pub use request::{Request, RequestError};
 pub use table::Table;
 
+#[cfg(test)]
+mod table_tests;
 #[cfg(test)]
 mod tests;

@@ -1,10 +1,15 @@
-ghost use Rattle.std.specs.Prelude.{◌≡◌, ◌≤◌, ◌↔◌, length, IfOk, OnOk, IfErr, OnErr, IsTrue};
+ghost use Rattle.std.specs.Prelude.{◌≡◌, ◌<◌, ◌≤◌, ◌↔◌, ℕ, All, Contains, length, map, slice_index, IfOk, OnOk, IfErr, OnErr, IfSome, IfNone, IsTrue};
+ghost use Rattle.std.specs.List.Sorted.{IsStrictlyIncreasing};
 ghost use Rattle.cspf_db.specs.Database.{AreLinksOf, AreAtTheirKeys, IsRouterOf, link_at, router_count, HaveOwnKeys};
+ghost use Rattle.cspf_db.specs.Index.{links_of, router_list, links_from, links_from_index};
 ghost use Rattle.cspf_db.specs.Changes.{no_links, after_changes, Fits};
 ghost use Rattle.cspf_db.specs.Refusals.{IsRefusal};
 ghost use Rattle.cspf_db.specs.Targets.{Owns};
 
-use crate::table_rows::{any_begins_within, any_ends_at, apply, index_of};
+use crate::beside::change_table;
+use crate::router_list::search;
+use crate::scratch::Scratch;
+use crate::table_rows::{any_begins_within, index_of, rows_from, span};
 use crate::{Batch, Link, Refusal, check};
 use cspf_addr::{Addr, Prefix};
 use std::alloc::{AllocError, Global};
@@ -14,11 +19,17 @@ use std::marker::Model;
 /// that a batch drops may come after those that it puts.
 const ROOM: usize = 20480;
 
+/// How many ends so many links have.
+const ENDS: usize = 32768;
+
 /// A traffic engineering database of at most 16,384 links and 1,024 routers. No call but `new` can
 /// fail for memory.
 #[derive(Debug, Drop)]
 pub struct Table {
     rows: Vec<Link>,
+    routers: Vec<Addr>,
+    ends: Vec<u16>,
+    scratch: Scratch,
 }
 
 impl Model for Table {
@@ -29,11 +40,11 @@ impl Model for Table {
 
     ghost coded = { database_code };
 
-    ghost use Rattle.cspf_db.specs.Rows.{AreRows, database_of};
+    ghost use Rattle.cspf_db.specs.Rows.{IsTable, database_of};
 
     ghost view = { λ a. database_of a.rows.items };
 
-    ghost invariant = { λ a. AreRows a.rows };
+    ghost invariant = { IsTable };
 }
 
 impl Table {
@@ -43,18 +54,69 @@ impl Table {
     {
         Ok(Table {
             rows: Vec::with_capacity(alloc, ROOM)?,
+            routers: Vec::with_capacity(alloc, ENDS)?,
+            ends: Vec::with_capacity(alloc, ROOM)?,
+            scratch: Scratch::new(alloc)?,
         })
     }
 
-    /// The links, each once, in any order. They have at most 1,024 routers at their ends.
+    /// The links, each once, in order of the router that they run from and then of their address
+    /// there. They have at most 1,024 routers at their ends.
     pub fn links(&self) -> &[Link]
         ensures listed { AreLinksOf self.now result.now }
         ensures most { length result.now ≤ 16384 }
         ensures once { HaveOwnKeys result.now }
         ensures keyed { AreAtTheirKeys self.now }
         ensures few { router_count self.now ≤ 1024 }
+        ensures sorted { result.now ≡ links_of self.now }
     {
         self.rows.as_slice()
+    }
+
+    /// The routers, each once, rising.
+    pub fn routers(&self) -> &[Addr]
+        ensures all { result.now ≡ router_list self.now }
+        ensures known { (router : ℕ) → Contains result.now router ↔ IsRouterOf self.now router }
+        ensures rising { IsStrictlyIncreasing result.now }
+        ensures few { length result.now ≤ 1024 }
+    {
+        self.routers.as_slice()
+    }
+
+    /// The index of the router in `routers`, if it is one of them.
+    pub fn place_of(&self, router: Addr) -> Option<usize>
+        ensures bound { IfSome result (λ at. at < length (router_list self.now)) }
+        ensures some { IfSome result (λ at. slice_index (router_list self.now) at ≡ router) }
+        ensures none { IfNone result (¬ IsRouterOf self.now router) }
+    {
+        search(&self.routers, router).ok()
+    }
+
+    /// The links from the router, in order of their address there.
+    pub fn out(&self, router: Addr) -> &[Link]
+        ensures { result.now ≡ links_from self.now router }
+    {
+        rows_from(&self.rows, router)
+    }
+
+    /// The links from the router at an index of `routers`.
+    pub fn out_at(&self, at: usize) -> &[Link]
+        requires { at < length (router_list self.now) }
+        ensures { result.now ≡ links_from_index self.now at }
+    {
+        let (first, end) = span(&self.rows, self.routers[at]);
+        &self.rows[first..end]
+    }
+
+    /// Beside the links of `out_at`, the index in `routers` of the router that each runs to.
+    pub fn ends_at(&self, at: usize) -> &[u16]
+        requires { at < length (router_list self.now) }
+        ensures within { All (λ end. end < length (router_list self.now)) result.now }
+        ensures each { map (λ end. slice_index (router_list self.now) end) result.now
+            ≡ map (λ l. l.to) (links_from_index self.now at) }
+    {
+        let (first, end) = span(&self.rows, self.routers[at]);
+        &self.ends[first..end]
     }
 
     /// The link with this key, if there is one.
@@ -69,7 +131,7 @@ impl Table {
     pub fn has_router(&self, router: Addr) -> bool
         ensures { IsTrue result ↔ IsRouterOf self.now router }
     {
-        any_ends_at(&self.rows, router)
+        search(&self.routers, router).is_ok()
     }
 
     /// Whether a link begins or ends at the router and the prefix covers the router or the address
@@ -88,7 +150,7 @@ impl Table {
         ensures err { IfErr result (λ refusal. IsRefusal self.now batch.now refusal) }
         ensures unfit { OnErr result (¬ Fits self.now batch.now) }
     {
-        check::fits(&self.rows, batch)
+        check::fits(&self.rows, &self.routers, batch)
     }
 
     /// Makes all changes of a batch that fits. One that doesn't changes nothing.
@@ -100,6 +162,12 @@ impl Table {
         if self.check(batch).is_err() {
             return;
         }
-        apply(&mut self.rows, &batch.changes);
+        change_table(
+            &mut self.rows,
+            &mut self.routers,
+            &mut self.ends,
+            &mut self.scratch,
+            &batch.changes,
+        );
     }
 }

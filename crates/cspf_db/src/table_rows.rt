@@ -1,32 +1,81 @@
-ghost use Rattle.std.specs.Prelude.{◌≡◌, ◌≢◌, ℕ, ◌+◌, ◌<◌, ◌≤◌, true, false, All, length, vec_len, IfSome, IfNone};
+ghost use Rattle.std.specs.Prelude.{◌≡◌, ◌≢◌, ℕ, ◌+◌, ◌<◌, ◌≤◌, true, false, All, filter, length, nat_eq, slice_range, slice_set, vec_len, IfOk, IfErr, IfSome, IfNone};
 ghost use Rattle.std.specs.Vec.{vec_capacity};
-ghost use Rattle.std.specs.List.{HoldsAt};
-ghost use Rattle.cspf_db.specs.Database.{EndsAt, key_of, HaveOwnKeys};
+ghost use Rattle.std.specs.List.{HoldsAt, insert, remove as without};
+ghost use Rattle.std.specs.List.Sorted.{IsPartitionPoint};
+ghost use Rattle.cspf_db.specs.Database.{key_of, key_cmp};
+ghost use Rattle.cspf_db.specs.Index.{links_from};
 ghost use Rattle.cspf_db.specs.Changes.{after_change, after_changes};
-ghost use Rattle.cspf_db.specs.Rows.{database_of};
+ghost use Rattle.cspf_db.specs.Rows.{database_of, AreByKey};
 ghost use Rattle.cspf_db.specs.Targets.{BeginsWithin};
+ghost use Rattle.cspf_db.specs.CountedEnds.{AnyEndsAt};
 
 use crate::{Change, Link};
 use cspf_addr::{Addr, Prefix};
+use std::cmp::Ordering;
+
+/// How the key of the row compares with another.
+pub fn compare(row: &Link, from: Addr, local: Addr) -> Ordering
+    ensures { result ≡ key_cmp (key_of row.now) (from, local) }
+{
+    row.from.cmp(&from).then(row.local.cmp(&local))
+}
+
+/// The index of the row with this key, and else the index at which it would stand.
+pub fn search(rows: &[Link], from: Addr, local: Addr) -> Result<usize, usize>
+    requires { AreByKey rows.now }
+    ensures within { IfOk result (λ at. at < length rows.now) }
+    ensures found { IfOk result (HoldsAt (λ l. key_of l ≡ (from, local)) rows.now) }
+    ensures upto { IfErr result (λ at. at ≤ length rows.now) }
+    ensures gap { IfErr result (IsPartitionPoint
+        (λ l. key_cmp (key_of l) (from, local) ≡ Ordering.Less)
+        (λ l. key_cmp (key_of l) (from, local) ≡ Ordering.Greater)
+        rows.now) }
+{
+    rows.binary_search_by(
+        |row: &Link| -> Ordering
+            ensures { result ≡ key_cmp (key_of row.now) (from, local) }
+        { compare(row, from, local) },
+    )
+}
 
 /// The index of the row with this key, if there is one.
 pub fn index_of(rows: &[Link], from: Addr, local: Addr) -> Option<usize>
+    requires { AreByKey rows.now }
     ensures bound { IfSome result (λ at. at < length rows.now) }
     ensures some { IfSome result (λ at. HoldsAt (λ l. key_of l ≡ (from, local)) rows.now at) }
     ensures none { IfNone result (All (λ l. key_of l ≢ (from, local)) rows.now) }
 {
-    rows.iter()
-        .position(|link| link.from == from && link.local == local)
+    search(rows, from, local).ok()
 }
 
-/// Whether a row begins or ends at the router.
-pub fn any_ends_at(rows: &[Link], router: Addr) -> bool
-    ensures yes { result ≡ true
-        → (at : ℕ) × (at < length rows.now) × HoldsAt (EndsAt router) rows.now at }
-    ensures no { result ≡ false → All (λ l. ¬ EndsAt router l) rows.now }
+/// Where the rows from the router begin and end.
+pub fn span(rows: &[Link], router: Addr) -> (usize, usize)
+    requires { AreByKey rows.now }
+    ensures order { result.0 ≤ result.1 }
+    ensures bound { result.1 ≤ length rows.now }
+    ensures rows { slice_range rows.now result.0 result.1
+        ≡ filter (λ l. nat_eq l.from router) rows.now }
 {
-    rows.iter()
-        .any(|link| link.from == router || link.to == router)
+    let first = rows.partition_point(|row| row.from < router);
+    let end = rows.partition_point(|row| row.from <= router);
+    (first, end)
+}
+
+/// The rows from the router, in order.
+pub fn rows_from(rows: &[Link], router: Addr) -> &[Link]
+    requires { AreByKey rows.now }
+    ensures { result.now ≡ links_from (database_of rows.now) router }
+{
+    let (first, end) = span(rows, router);
+    &rows[first..end]
+}
+
+/// Whether a row begins at the router.
+pub fn begins(rows: &[Link], router: Addr) -> bool
+    ensures { result ≡ true → AnyEndsAt rows.now router }
+{
+    let first = rows.partition_point(|row| row.from < router);
+    first < rows.len() && rows[first].from == router
 }
 
 /// Whether a row begins at the router, by an interface with an address that the prefix covers.
@@ -39,62 +88,93 @@ pub fn any_begins_within(rows: &[Link], router: Addr, prefix: Prefix) -> bool
         .any(|link| link.from == router && prefix.covers(link.local))
 }
 
-/// Puts the link in place of the row with its key, or behind the rows, where there is room.
-fn put(rows: &mut Vec<Link>, link: Link)
-    requires apart { HaveOwnKeys rows.old.items }
+/// Puts the link in at an index. There is room, so this takes no memory and can't fail.
+fn insert_within(rows: &mut Vec<Link>, at: usize, link: Link)
+    requires bound { at ≤ vec_len rows.old }
+    requires room { vec_len rows.old < vec_capacity rows.old }
+    ensures items { rows.new.items ≡ insert rows.old.items at link }
+    ensures len { vec_len rows.new ≡ vec_len rows.old + 1 }
+    ensures capacity { vec_capacity rows.old ≤ vec_capacity rows.new }
+{
+    let _ = rows.insert(at, link);
+}
+
+/// Puts the link in place of the row with its key, or between the lower keys and the higher ones,
+/// and says at which index.
+pub fn put(rows: &mut Vec<Link>, link: Link) -> Result<usize, usize>
+    requires by_key { AreByKey rows.old.items }
     requires room { vec_len rows.old < vec_capacity rows.old }
     ensures changed { database_of rows.new.items
         ≡ after_change (database_of rows.old.items) (Change.Put link) }
-    ensures apart { HaveOwnKeys rows.new.items }
+    ensures by_key { AreByKey rows.new.items }
     ensures longer { vec_len rows.new ≤ vec_len rows.old + 1 }
     ensures capacity { vec_capacity rows.old ≤ vec_capacity rows.new }
+    ensures within { IfOk result (λ at. at < length rows.old.items) }
+    ensures over { IfOk result (λ at. rows.new.items ≡ slice_set rows.old.items at link) }
+    ensures upto { IfErr result (λ at. at ≤ length rows.old.items) }
+    ensures between { IfErr result (λ at. rows.new.items ≡ insert rows.old.items at link) }
 {
-    match index_of(rows, link.from, link.local) {
-        Some(at) => rows[at] = link,
-        None => rows.push_reserved(link),
+    match search(rows, link.from, link.local) {
+        Ok(at) => {
+            rows[at] = link;
+            Ok(at)
+        }
+        Err(at) => {
+            insert_within(rows, at, link);
+            Err(at)
+        }
     }
 }
 
-/// Takes out the row with this key, if there is one.
-fn remove(rows: &mut Vec<Link>, from: Addr, local: Addr)
-    requires { HaveOwnKeys rows.old.items }
+/// Takes out the row with this key, if there is one, and says at which index.
+pub fn remove(rows: &mut Vec<Link>, from: Addr, local: Addr) -> Option<usize>
+    requires { AreByKey rows.old.items }
     ensures changed { database_of rows.new.items
         ≡ after_change (database_of rows.old.items) (Change.Remove from local) }
-    ensures apart { HaveOwnKeys rows.new.items }
+    ensures by_key { AreByKey rows.new.items }
     ensures longer { vec_len rows.new ≤ vec_len rows.old }
     ensures capacity { vec_capacity rows.old ≤ vec_capacity rows.new }
+    ensures bound { IfSome result (λ at. at < length rows.old.items) }
+    ensures out { IfSome result (λ at. rows.new.items ≡ without rows.old.items at) }
+    ensures same { IfNone result (rows.new.items ≡ rows.old.items) }
 {
     if let Some(at) = index_of(rows, from, local) {
-        let _ = rows.swap_remove(at);
+        let _ = rows.remove(at);
+        return Some(at);
     }
+    None
 }
 
 /// Makes one change.
 fn apply_one(rows: &mut Vec<Link>, change: &Change)
-    requires apart { HaveOwnKeys rows.old.items }
+    requires by_key { AreByKey rows.old.items }
     requires room { vec_len rows.old < vec_capacity rows.old }
     ensures changed { database_of rows.new.items
         ≡ after_change (database_of rows.old.items) change.now }
-    ensures apart { HaveOwnKeys rows.new.items }
+    ensures by_key { AreByKey rows.new.items }
     ensures longer { vec_len rows.new ≤ vec_len rows.old + 1 }
     ensures capacity { vec_capacity rows.old ≤ vec_capacity rows.new }
 {
     match change {
-        Change::Put(link) => put(rows, *link),
-        Change::Remove { from, local } => remove(rows, *from, *local),
+        Change::Put(link) => {
+            let _ = put(rows, *link);
+        }
+        Change::Remove { from, local } => {
+            let _ = remove(rows, *from, *local);
+        }
     }
 }
 
 /// Makes the changes in order. The links that they take out may come after those that they put, so
 /// there is room for a batch more than a table may have.
 pub fn apply(rows: &mut Vec<Link>, changes: &[Change])
-    requires apart { HaveOwnKeys rows.old.items }
+    requires by_key { AreByKey rows.old.items }
     requires most { vec_len rows.old ≤ 16384 }
     requires short { length changes.now ≤ 4096 }
     requires room { 20480 ≤ vec_capacity rows.old }
     ensures changed { database_of rows.new.items
         ≡ after_changes (database_of rows.old.items) changes.now }
-    ensures apart { HaveOwnKeys rows.new.items }
+    ensures by_key { AreByKey rows.new.items }
     ensures capacity { vec_capacity rows.old ≤ vec_capacity rows.new }
 {
     for change in changes {

@@ -1,12 +1,17 @@
 use Rattle.std.proofs.Common.{rules, arith}
-use Rattle.cspf_db.proofs.Counting.{link_count-after, link_count-after-le}
+use Rattle.std.proofs.lemmas.List.Elements.{recursion_from_All}
+use Rattle.cspf_db.specs.Changes.{IsPresent}
+use Rattle.cspf_db.specs.Rows.{database_of}
+use Rattle.cspf_db.proofs.Added.{sum_after, difference_after}
 use Rattle.cspf_db.proofs.check.has_too_many_links.Goals as goal
 
-pub returns-then-rows-changes-le-LINKS : goal.returns-then-rows-changes-le-LINKS
-returns-then-rows-changes-le-LINKS c =
-    let most = link_count-after-le c.args.rows.now c.args.changes.now c.requires.apart c.requires.once in
-    ((λ e. absurd (cc)), λ full. absurd (omega (arith, most, full, c.if-rows-changes-le-LINKS.true)))
+pub overflow_sub-after : goal.overflow_sub-after
+overflow_sub-after c =
+    let present = recursion_from_All (IsPresent (database_of c.args.rows.now)) c.args.changes.now c.requires.present in
+    omega
+    (arith, sum_after c.args.rows.now c.args.changes.now c.requires.by_key c.requires.once present, c.count_added.ensures, c.count_removed.ensures)
 
 pub returns : goal.returns
 returns c =
-    rw (link_count-after c.args.rows.now c.args.changes.now c.requires.apart c.requires.once, c.count_left.ensures, c.count_put.ensures) (search rules)
+    let present = recursion_from_All (IsPresent (database_of c.args.rows.now)) c.args.changes.now c.requires.present in
+    rw (difference_after c.args.rows.now c.args.changes.now c.requires.by_key c.requires.once present, c.count_added.ensures, c.count_removed.ensures) (search rules)

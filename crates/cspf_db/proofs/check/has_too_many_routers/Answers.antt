@@ -1,16 +1,19 @@
-use Rattle.std.proofs.Common.{refl, ap, ◌∙◌, arith}
+use Rattle.std.proofs.Common.{length, refl, ap, ◌∙◌, arith}
 use Rattle.std.specs.FinSet as set
 use Rattle.std.specs.Ordering.{nat_cmp}
 use Rattle.std.proofs.lemmas.List.Elements.{recursion_from_All}
+use Rattle.cspf_db.specs.Rows.{database_of}
 use Rattle.cspf_db.specs.RowsLeft.{rows_left}
-use Rattle.cspf_db.specs.CountedEnds.{HasKnownEnds, with_ends}
-use Rattle.cspf_db.proofs.Counting.{router_count-known, many_left, tells_both}
+use Rattle.cspf_db.specs.CountedEnds.{HasListedEnds, with_ends}
+use Rattle.cspf_db.proofs.Ordered.{own_keys}
+use Rattle.cspf_db.proofs.RouterLists.{ends_known, rising-router_list, length-router_list}
+use Rattle.cspf_db.proofs.Counting.{router_count-known, router_count-most, many_left, tells_both}
 use Rattle.cspf_db.proofs.check.has_too_many_routers.Goals as goal
 use Rattle.cspf_db.proofs.check.has_too_many_routers.Goals.{then-add_rows, else-add_rows}
 
 pub returns-then-knows_ends : goal.returns-then-knows_ends
 returns-then-knows_ends c =
-    let known = router_count-known c.args.rows.now c.args.changes.now c.requires.apart c.requires.once (recursion_from_All (HasKnownEnds c.args.rows.now) c.args.changes.now (c.if-knows_ends.ensures refl)) in
+    let known = router_count-known c.args.rows.now c.args.changes.now (own_keys _ c.requires.by_key) c.requires.once (ends_known c.args.rows.now c.args.routers.now c.requires.by_key c.requires.all c.args.changes.now (recursion_from_All (HasListedEnds c.args.routers.now) c.args.changes.now (c.if-knows_ends.ensures refl))) in
     ((λ e. absurd (cc)), λ many. absurd (omega (arith, known, many, c.requires.few)))
 
 pub returns : goal.returns
@@ -18,11 +21,24 @@ returns c =
     let rows = c.args.rows.now in
     let changes = c.args.changes.now in
     elim c.if-add_rows.branch [
-      | then-add_rows w ↦ rw w.result-is (tells_both rows changes c.requires.apart c.requires.once w.add_puts.result c.add_rows.new.routers w.add_puts.new.routers
-          (w.if-add_rows.ensures.added ∙ ap (λ s. with_ends s (rows_left rows changes)) c.new-routers.ensures) w.add_puts.ensures.added w.add_puts.ensures.few w.add_puts.ensures.full)
+      | then-add_rows w ↦ rw w.result-is (tells_both rows changes (own_keys _ c.requires.by_key) c.requires.once w.add_puts.result c.add_rows.new.routers w.add_puts.new.routers
+          (w.if-add_rows.ensures.added ∙ ap (λ s. with_ends s (rows_left rows changes)) c.new-found.ensures) w.add_puts.ensures.added w.add_puts.ensures.few w.add_puts.ensures.full)
       | else-add_rows w ↦ rw (w.result-is, w.if-add_rows.false)
-          ((λ _. many_left rows changes c.requires.apart c.requires.once (rw c.new-routers.ensures at w.if-add_rows.ensures.full)), λ _. refl)
+          ((λ _. many_left rows changes (own_keys _ c.requires.by_key) c.requires.once (rw c.new-found.ensures at w.if-add_rows.ensures.full)), λ _. refl)
     ]
 
 pub add_rows-requires : goal.add_rows-requires
-add_rows-requires c = rw (c.new-routers.ensures, set.len-empty nat_cmp) (omega arith)
+add_rows-requires c = rw (c.new-found.ensures, set.len-empty nat_cmp) (omega arith)
+
+pub knows_ends-requires : goal.knows_ends-requires
+knows_ends-requires c = rw c.requires.all (rising-router_list _)
+
+pub returns-then-are_within : goal.returns-then-are_within
+returns-then-are_within c =
+    let most = router_count-most c.args.rows.now c.args.changes.now (own_keys _ c.requires.by_key) c.requires.once in
+    let within = c.if-are_within.ensures refl in
+    let listed = ap length c.requires.all ∙ length-router_list (database_of c.args.rows.now) in
+    ((λ e. absurd (cc)), λ many. absurd (omega (arith, most, many, within, listed)))
+
+pub are_within-requires-clause-few : goal.are_within-requires-clause-few
+are_within-requires-clause-few c = rw (c.requires.all, length-router_list (database_of c.args.rows.now)) c.requires.few

@@ -1,24 +1,20 @@
-use Rattle.cspf_db.proofs.Changing.{apart-set, database-set, apart-push, database-push}
+use Rattle.cspf_db.proofs.Ordered.{entries-hit, entries-gap, by_key-entries, database_of-entries}
 use Rattle.cspf_db.proofs.table_rows.put.Goals as goal
 
-pub returns-in-Some-clause-changed : goal.returns-in-Some-clause-changed
-returns-in-Some-clause-changed c =
-    let at = rw c.deref.ensures.value at c.in-Some.ensures in
-    database-set _ c.in-Some.at c.index_mut.result.now c.args.link c.requires.apart at.bound
-    c.index_mut.ensures.value (rw c.index_mut.ensures.value (at.some _))
+pub returns-in-Ok-clause-changed : goal.returns-in-Ok-clause-changed
+returns-in-Ok-clause-changed c =
+    let at = rw c.deref.ensures.value at c.in-Ok.ensures in database_of-entries _ _ (entries-hit _ c.in-Ok.at c.args.link c.requires.by_key at.within at.found)
 
-pub returns-in-Some-clause-apart : goal.returns-in-Some-clause-apart
-returns-in-Some-clause-apart c =
-    let at = rw c.deref.ensures.value at c.in-Some.ensures in
-    apart-set _ c.in-Some.at c.index_mut.result.now c.args.link c.requires.apart at.bound
-    c.index_mut.ensures.value (rw c.index_mut.ensures.value (at.some _))
+pub returns-in-Ok-clause-by_key : goal.returns-in-Ok-clause-by_key
+returns-in-Ok-clause-by_key c =
+    let at = rw c.deref.ensures.value at c.in-Ok.ensures in by_key-entries _ _ (entries-hit _ c.in-Ok.at c.args.link c.requires.by_key at.within at.found)
 
-pub returns-in-None-clause-changed : goal.returns-in-None-clause-changed
-returns-in-None-clause-changed c =
-    rw c.push_reserved.ensures.items
-    (database-push _ c.args.link (rw c.deref.ensures.value at c.in-None.ensures.none))
+pub returns-in-Err-clause-changed : goal.returns-in-Err-clause-changed
+returns-in-Err-clause-changed c =
+    let at = rw c.deref.ensures.value at c.in-Err.ensures in
+    rw c.insert_within.ensures.items (database_of-entries _ _ (entries-gap _ c.in-Err.at c.args.link c.requires.by_key at.upto at.gap))
 
-pub returns-in-None-clause-apart : goal.returns-in-None-clause-apart
-returns-in-None-clause-apart c =
-    rw c.push_reserved.ensures.items
-    (apart-push _ c.args.link c.requires.apart (rw c.deref.ensures.value at c.in-None.ensures.none))
+pub returns-in-Err-clause-by_key : goal.returns-in-Err-clause-by_key
+returns-in-Err-clause-by_key c =
+    let at = rw c.deref.ensures.value at c.in-Err.ensures in
+    rw c.insert_within.ensures.items (by_key-entries _ _ (entries-gap _ c.in-Err.at c.args.link c.requires.by_key at.upto at.gap))

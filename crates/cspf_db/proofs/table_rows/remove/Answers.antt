@@ -1,20 +1,15 @@
 use Rattle.cspf_db.proofs.Found.{link_at-no_row}
-use Rattle.cspf_db.proofs.Changing.{apart-swap_remove, database-swap_remove, after_change-absent}
+use Rattle.cspf_db.proofs.Changing.{database-without, after_change-absent}
+use Rattle.cspf_db.proofs.Ordered.{own_keys, by_key-without}
 use Rattle.cspf_db.proofs.table_rows.remove.Goals as goal
 
 pub returns-in-Some-clause-changed : goal.returns-in-Some-clause-changed
 returns-in-Some-clause-changed c =
     let at = rw c.deref.ensures.value at c.in-Some.ensures in
-    rw c.swap_remove.ensures.items
-    (database-swap_remove _ c.in-Some.at c.swap_remove.result (c.args.from, c.args.local) c.requires at.bound c.swap_remove.ensures.value (rw c.swap_remove.ensures.value (at.some _)))
+    rw c.remove.ensures.items (database-without _ c.in-Some.at c.remove.result (c.args.from, c.args.local) (own_keys _ c.requires) at.bound c.remove.ensures.value (rw c.remove.ensures.value (at.some _)))
 
-pub returns-in-Some-clause-apart : goal.returns-in-Some-clause-apart
-returns-in-Some-clause-apart c =
-    let at = rw c.deref.ensures.value at c.in-Some.ensures in
-    rw c.swap_remove.ensures.items
-    (apart-swap_remove _ c.in-Some.at c.swap_remove.result (c.args.from, c.args.local) c.requires at.bound c.swap_remove.ensures.value (rw c.swap_remove.ensures.value (at.some _)))
+pub returns-in-Some-clause-by_key : goal.returns-in-Some-clause-by_key
+returns-in-Some-clause-by_key c = rw c.remove.ensures.items (by_key-without _ c.in-Some.at c.requires)
 
-pub returns-in_default-clause-changed : goal.returns-in_default-clause-changed
-returns-in_default-clause-changed c =
-    after_change-absent _ c.args.from c.args.local
-    (link_at-no_row _ _ (rw c.deref.ensures.value at c.in_default.ensures.none))
+pub returns-clause-changed : goal.returns-clause-changed
+returns-clause-changed c = after_change-absent _ c.args.from c.args.local (link_at-no_row _ _ (rw c.deref.ensures.value at c.in_default.ensures.none))

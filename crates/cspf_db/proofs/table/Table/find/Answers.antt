@@ -1,4 +1,5 @@
 use Rattle.cspf_db.proofs.Found.{link_at-row, link_at-no_row}
+use Rattle.cspf_db.proofs.Ordered.{own_keys}
 use Rattle.cspf_db.proofs.table.Table.find.Goals as goal
 
 pub returns-in_err-at : goal.returns-in_err-at
@@ -8,4 +9,4 @@ returns-in_err-at c =
 pub returns : goal.returns
 returns c =
     let at = rw c.deref.ensures.value at c.in_ok-at.ensures in
-    rw (← c.self.view_is, link_at-row _ c.self.invariant.apart _ c.in_ok-at.at c.index.result.now at.bound (at.some _), ← c.index.ensures)
+    rw (← c.self.view_is, link_at-row _ (own_keys _ c.self.invariant.rows.by_key) _ c.in_ok-at.at c.index.result.now at.bound (at.some _), ← c.index.ensures)

@@ -1,10 +1,17 @@
-use Rattle.std.proofs.Common.{arith}
+use Rattle.std.proofs.Common.{refl, arith}
+use Rattle.std.proofs.lemmas.List.Elements.{All-nil}
 use Rattle.cspf_db.proofs.Few.{router_count-no_links}
-use Rattle.std.specs.List.{IsDistinct}
+use Rattle.cspf_db.proofs.RouterLists.{router_list-nil}
 use Rattle.cspf_db.proofs.table.Table.new.Goals as goal
 
 pub invariant_of-result : goal.invariant_of-result
-unfolding IsDistinct
 invariant_of-result c =
-    let v = c.in_ok-with_capacity.ensures in
-    record { apart = rw v.items tt; most = rw v.items (omega arith); routers = rw v.items (omega (arith, router_count-no_links)); room = omega (arith, v.exact) }
+    let r = c.in_ok-with_capacity.ensures in
+    let s = c.in_ok-with_capacity-2.ensures in
+    let e = c.in_ok-with_capacity-3.ensures in
+    record {
+      rows = record { by_key = rw r.items refl; most = rw r.items (omega arith); routers = rw r.items (omega (arith, router_count-no_links)); room = omega (arith, r.exact) };
+      routers = record { all = rw (s.items, r.items) router_list-nil; room = omega (arith, s.exact) };
+      ends = record { within = rw e.items (All-nil _); each = rw (e.items, r.items) refl };
+      room = omega (arith, e.exact);
+    }

@@ -1,0 +1,229 @@
+use Rattle.std.proofs.Common.{◌≡◌, ℕ, suc, ◌+◌, ◌<◌, ◌≤◌, ◌↔◌, Bool, true, false, cond, T, IsTrue, Option, List, [], ◌∷◌, ◌++◌, inr, ◌-◌, Contains, length, map, take, drop, get_or, slice_index, slice_set, Result, Ok, Err, IfOk, IfErr, IfNone, is_some, is_ok, nat_lt, nat_eq, nat_eq, refl, sym, ap, subst, ◌∙◌, arith}
+use Rattle.std.specs.Ordering.{nat_cmp, eq_by_cmp}
+use Rattle.std.specs.declared.cmp.Ordering.TheVariants.{Less, Equal, Greater}
+use Rattle.std.specs.Cmp.{nat_cmp_total, ranked, Equal-is, eq_by_cmp_equiv, tied_itself}
+use Rattle.std.specs.List.{HoldsAt, list_any, between, filter, insert, AllByRecursion}
+use Rattle.std.specs.List.Sorted.{IsPartitionPoint, IsBinarySearchResult, IsStrictlyIncreasing}
+use Rattle.std.specs.Result.{result_ok}
+use Rattle.std.specs.FinMap as finite
+use Rattle.std.specs.FinMap.{is_sorted, put, entries, entries-insert, entries_sorted, nat_cmp-IsAntisymmetric}
+use Rattle.std.specs.FinMap.Entries.{is_sorted-put, is_some-find}
+use Rattle.std.specs.FinSet as set
+use Rattle.std.proofs.lemmas.List.{get_or_default, set-get_or, length-map, map_push, map_more, take_all, take-map, drop-map, drop_all, nil_from_length, get_or_read_under}
+use Rattle.std.proofs.lemmas.List.Elements.{All-push, Contains-get_or}
+use Rattle.std.proofs.lemmas.Map.Views.{list_any-from_Contains, Contains-from_any}
+use Rattle.std.proofs.Math.Seq.{drop-cons}
+use Rattle.std.proofs.lemmas.Bool.Decides.{nat_tests}
+use Rattle.cspf_db.specs.declared.link.Link.{Link}
+use Rattle.cspf_db.specs.declared.batch.Change.{Change}
+use Rattle.cspf_db.specs.declared.batch.Change.TheVariants.{Put, Remove}
+use Rattle.cspf_db.specs.CountedEnds.{AnyEndsAt, HasKnownEnds, HasListedEnds}
+use Rattle.cspf_db.specs.Database.{Database, IsLinkOf, IsRouterOf, EndsAt, AreAtTheirKeys, ends_of, all_routers, router_count}
+use Rattle.cspf_db.specs.Index.{with_nothing, numbers_in, links_of, router_list, links_from_index}
+use Rattle.cspf_db.specs.Rows.{database_of, AreRising, AreByKey, AreEndsOf}
+use Rattle.cspf_db.proofs.InOrder.{test_from_true, true_from_test, put-gap, put-hit, rises, searchable, gap_from}
+use Rattle.cspf_db.proofs.Ordered.{links_of-database_of, own_keys}
+use Rattle.cspf_db.proofs.Listed.{rows_listed, rows_keyed}
+use Rattle.cspf_db.proofs.Counted.{routers_counted}
+
+-- where a search for a router finds none
+pub router_gap : (routers : List ℕ) (router : ℕ) (r : Result ℕ ℕ) → AreRising routers → IsBinarySearchResult (λ y. nat_cmp y router) routers r
+    → IfErr r (IsPartitionPoint (λ y. nat_cmp y router ≡ Less) (λ y. nat_cmp y router ≡ Greater) routers)
+router_gap routers router r rising found = gap_from (λ y. nat_cmp y router) routers r found (searchable nat_cmp_total with_nothing routers router (test_from_true _ rising))
+
+-- a router that is there already
+pub put-there : (routers : List ℕ) (router at : ℕ) → AreRising routers → at < length routers → HoldsAt (λ y. y ≡ router) routers at
+    → map with_nothing routers ≡ put nat_cmp router tt (map with_nothing routers)
+put-there routers router at rising h has =
+    ap (map with_nothing) (sym (ap (slice_set routers at) (sym (has 0)) ∙ set-get_or routers at 0)) ∙ sym (put-hit nat_cmp_total with_nothing routers at router 0 (test_from_true _ rising) h (has 0))
+
+-- a new router
+pub put-new : (routers : List ℕ) (router at : ℕ) → at ≤ length routers → IsPartitionPoint (λ y. nat_cmp y router ≡ Less) (λ y. nat_cmp y router ≡ Greater) routers at
+    → map with_nothing (insert routers at router) ≡ put nat_cmp router tt (map with_nothing routers)
+put-new routers router at h gap = sym (put-gap nat_cmp_total with_nothing routers at router h gap.0 gap.1)
+
+-- routers with one more still rise
+pub rising-put : (routers more : List ℕ) (router : ℕ) → AreRising routers → map with_nothing more ≡ put nat_cmp router tt (map with_nothing routers) → AreRising more
+rising-put routers more router rising e = true_from_test _ (subst (λ es. T (is_sorted nat_cmp es)) (sym e) (is_sorted-put nat_cmp nat_cmp_total router tt (map with_nothing routers) (test_from_true _ rising)))
+
+-- the numbers of entries with nothing beside them
+numbers_alone : (ns : List ℕ) → map (λ (e : ℕ × Unit {0}). e.0) (map with_nothing ns) ≡ ns
+numbers_alone [] = refl
+numbers_alone (n ∷ ns) = ap (λ ms. n ∷ ms) (numbers_alone ns)
+
+-- the entries of numbers with nothing beside them
+entries_alone : (es : List (ℕ × Unit {0})) → map with_nothing (map (λ e. e.0) es) ≡ es
+entries_alone [] = refl
+entries_alone (e ∷ es) = ap (λ fs. e ∷ fs) (entries_alone es)
+
+-- one step of a list of routers: a row's ends are added to those of the rows behind it
+pub ends_more : (rows : List Link) (at : ℕ) (l : Link) (routers more : List ℕ) → at < length rows → l ≡ get_or rows at l
+    → map with_nothing routers ≡ entries (numbers_in (ends_of (drop (at + 1) rows)))
+    → map with_nothing more ≡ put nat_cmp l.from tt (put nat_cmp l.to tt (map with_nothing routers))
+    → map with_nothing more ≡ entries (numbers_in (ends_of (drop at rows)))
+ends_more rows at l routers more h read is added =
+    added
+    ∙ ap (λ es. put nat_cmp l.from tt (put nat_cmp l.to tt es)) is
+    ∙ ap (put nat_cmp l.from tt) (sym (entries-insert nat_cmp_total (numbers_in (ends_of (drop (at + 1) rows))) l.to tt))
+    ∙ sym (entries-insert nat_cmp_total (finite.insert (numbers_in (ends_of (drop (at + 1) rows))) l.to tt) l.from tt)
+    ∙ sym (ap (λ ls. entries (numbers_in (ends_of ls))) (drop-cons rows at l h ∙ (λ i. sym read i ∷ drop (sym add_suc i) rows)))
+  where
+    add_suc : at + 1 ≡ suc at
+    add_suc = omega arith
+
+-- routers that are the entries of all ends are the list of routers
+pub router_list-entries : (rows : List Link) (routers : List ℕ) → AreByKey rows → map with_nothing routers ≡ entries (numbers_in (ends_of rows)) → routers ≡ router_list (database_of rows)
+unfolding router_list
+router_list-entries rows routers by_key is =
+    sym (numbers_alone routers) ∙ ap (map (λ (e : ℕ × Unit {0}). e.0)) is ∙ ap (λ ls. finite.keys (numbers_in (ends_of ls))) (sym (links_of-database_of rows by_key))
+
+-- the list of routers rises
+pub rising-router_list : (d : Database) → AreRising (router_list d)
+unfolding router_list
+rising-router_list d = true_from_test _ (subst (λ es. T (is_sorted nat_cmp es)) (sym (entries_alone (entries (numbers_in (ends_of (links_of d)))))) (entries_sorted (numbers_in (ends_of (links_of d)))))
+
+-- what rises by the order of numbers
+pub increasing : (ns : List ℕ) → AreRising ns → IsStrictlyIncreasing ns
+increasing ns rising k h = ranked (get_or ns k 0) (get_or ns (k + 1) 0) Less (sym (rises nat_cmp_total with_nothing ns (test_from_true _ rising) k (k + 1) 0 (omega arith) h))
+
+-- a number is in a list's map where it is in its set
+pub contains_key-numbers_in : (ns : List ℕ) (n : ℕ) → finite.contains_key (numbers_in ns) n ≡ set.contains (set.from_list {R = nat_cmp} ns) n
+contains_key-numbers_in ns n =
+    ap is_some (finite.get-from_entries nat_cmp_total (map with_nothing ns) n) ∙ is_some-find nat_cmp n (map with_nothing ns)
+    ∙ ap (list_any (eq_by_cmp nat_cmp n)) (numbers_alone ns) ∙ sym (set.contains-from_list nat_cmp_total ns n)
+
+-- and they are as many
+len-numbers_in : (ns : List ℕ) → finite.len (numbers_in ns) ≡ set.len (set.from_list {R = nat_cmp} ns)
+len-numbers_in [] = finite.len-empty nat_cmp (Unit {0}) ∙ sym (set.len-empty nat_cmp)
+len-numbers_in (n ∷ ns) =
+    finite.len-insert nat_cmp_total (numbers_in ns) n tt
+    ∙ (λ i. cond (contains_key-numbers_in ns n i) (len-numbers_in ns i) (len-numbers_in ns i + 1))
+    ∙ sym (set.len-insert nat_cmp_total (set.from_list ns) n)
+
+-- the list of routers is as long as the database has routers
+pub length-router_list : (d : Database) → length (router_list d) ≡ router_count d
+unfolding router_list
+length-router_list d =
+    length-map (entries (numbers_in (ends_of (links_of d)))) (λ e. e.0) ∙ sym (finite.len-entries (numbers_in (ends_of (links_of d)))) ∙ len-numbers_in (ends_of (links_of d))
+
+-- a router is in the list where it is counted
+any-router_list : (d : Database) (router : ℕ) → list_any (eq_by_cmp nat_cmp router) (router_list d) ≡ set.contains (all_routers d) router
+unfolding router_list
+any-router_list d router = sym (finite.contains_key-keys (numbers_in (ends_of (links_of d))) router) ∙ contains_key-numbers_in (ends_of (links_of d)) router
+
+-- a router is in the list where it is one of the database
+pub Contains-router_list : (d : Database) → AreAtTheirKeys d → (router : ℕ) → Contains (router_list d) router ↔ IsRouterOf d router
+Contains-router_list d keyed router = (
+  λ among. (routers_counted d keyed router).0 (sym (any-router_list d router) ∙ list_any-from_Contains (eq_by_cmp_equiv nat_cmp_total) router (router_list d) among),
+  λ is. Contains-from_any (λ x y e. nat_cmp-IsAntisymmetric x y ((Equal-is (nat_cmp x y)).0 e)) router (router_list d) (any-router_list d router ∙ (routers_counted d keyed router).1 is),
+)
+
+-- a router that would stand in a gap isn't there
+pub apart_from_gap : (routers : List ℕ) (router at : ℕ) → IsPartitionPoint (λ y. nat_cmp y router ≡ Less) (λ y. nat_cmp y router ≡ Greater) routers at → Contains routers router → ⊥
+apart_from_gap routers router at gap (k, h, is) =
+    let tie : nat_cmp (get_or routers k router) router ≡ Equal = ap (λ y. nat_cmp y router) is ∙ tied_itself nat_cmp_total router in
+    elim (nat_lt k at) as (λ b. nat_lt k at ≡ b → ⊥) [
+      | true ↦ λ e. let low : nat_cmp (get_or routers k router) router ≡ Less = gap.0 k router (omega arith) (grind (arith, nat_tests)) in cc
+      | false ↦ λ e. let high : nat_cmp (get_or routers k router) router ≡ Greater = gap.1 k router (grind (arith, nat_tests)) h in cc
+    ] refl
+
+-- what a search that finds nothing says of the routers of a database
+pub none_from_search : (d : Database) (router : ℕ) (r : Result ℕ ℕ) (place : Option ℕ) → AreAtTheirKeys d → place ≡ result_ok r
+    → IfErr r (IsPartitionPoint (λ y. nat_cmp y router ≡ Less) (λ y. nat_cmp y router ≡ Greater) (router_list d)) → IfNone place (¬ IsRouterOf d router)
+none_from_search d router (Ok at) place keyed e gap = rw e tt
+none_from_search d router (Err at) place keyed e gap = rw e (λ is. apart_from_gap (router_list d) router at gap ((Contains-router_list d keyed router).1 is))
+
+-- a router that a row runs to is in the list
+pub to_among : (rows : List Link) (at : ℕ) (l : Link) → AreByKey rows → at < length rows → l ≡ get_or rows at l → Contains (router_list (database_of rows)) l.to
+to_among rows at l by_key h read =
+    (Contains-router_list (database_of rows) (rows_keyed rows) l.to).1 (l, subst (IsLinkOf (database_of rows)) (sym read) ((rows_listed rows (own_keys rows by_key)).each at l h), inr refl)
+
+-- one step of a list of ends
+pub ends_push : (rows : List Link) (routers ends : List ℕ) (at end : ℕ) (l : Link) → AreEndsOf (take at rows) routers ends → at < length rows → l ≡ get_or rows at l
+    → end < length routers → slice_index routers end ≡ l.to → AreEndsOf (take (at + 1) rows) routers (ends ++ end ∷ [])
+ends_push rows routers ends at end l so_far h read within found = record {
+  within = All-push (λ e. e < length routers) ends end so_far.within within;
+  each = map_push (λ e. slice_index routers e) ends end ∙ (λ i. so_far.each i ++ (found ∙ ap (λ (m : Link). m.to) read) i ∷ []) ∙ sym (map_more (λ (m : Link). m.to) rows at l h);
+}
+
+-- the ends of all rows
+pub ends_all : (rows : List Link) (routers ends : List ℕ) (at : ℕ) → AreEndsOf (take at rows) routers ends → length rows ≤ at → AreEndsOf rows routers ends
+ends_all rows routers ends at so_far h = subst (λ ls. AreEndsOf ls routers ends) (take_all at rows h) so_far
+
+-- no rows have no routers
+pub router_list-nil : [] ≡ router_list (database_of [])
+router_list-nil = router_list-entries [] [] refl (sym (nil_from_length _ (sym (finite.len-entries _) ∙ finite.len-empty nat_cmp (Unit {0}))))
+
+-- the ends beside a part of the rows
+pub ends_between : (rows : List Link) (routers ends : List ℕ) (first end : ℕ) (part : List Link) → AreEndsOf rows routers ends → between first end rows ≡ part
+    → map (λ e. slice_index routers e) (between first end ends) ≡ map (λ (l : Link). l.to) part
+ends_between rows routers ends first end part so is =
+    map_between (λ e. slice_index routers e) ends first end ∙ ap (between first end) so.each ∙ sym (map_between (λ (l : Link). l.to) rows first end) ∙ ap (map (λ (l : Link). l.to)) is
+  where
+    map_between : {A B : Type 0} (f : A → B) (xs : List A) (i j : ℕ) → map f (between i j xs) ≡ between i j (map f xs)
+    map_between f xs i j = sym (take-map f (j - i) (drop i xs)) ∙ ap (take (j - i)) (sym (drop-map f i xs))
+
+-- the rows from a router of the list are the links from it
+pub part_at : (d : Database) (rows : List Link) (routers : List ℕ) (at router : ℕ) (part : List Link) → database_of rows ≡ d → AreByKey rows → routers ≡ router_list (database_of rows)
+    → at < length (router_list d) → router ≡ get_or routers at router → part ≡ filter (λ l. nat_eq l.from router) rows → part ≡ links_from_index d at
+part_at d rows routers at router part e by_key all h read is =
+    let listed : routers ≡ router_list d = all ∙ ap router_list e in
+    let within : at < length routers = subst (λ rs. at < length rs) (sym listed) h in
+    is
+    ∙ ap (filter (λ (l : Link). nat_eq l.from router)) (sym (links_of-database_of rows by_key) ∙ ap links_of e)
+    ∙ ap (λ r. filter (λ (l : Link). nat_eq l.from r) (links_of d)) (get_or_read_under routers at (length routers) router 0 read within refl ∙ ap (λ rs. slice_index rs at) listed)
+
+-- the ends beside them
+pub ends_at_part : (d : Database) (rows : List Link) (routers ends : List ℕ) (first end at : ℕ) → database_of rows ≡ d → routers ≡ router_list (database_of rows) → AreEndsOf rows routers ends
+    → between first end rows ≡ links_from_index d at → map (λ n. slice_index (router_list d) n) (between first end ends) ≡ map (λ (l : Link). l.to) (links_from_index d at)
+ends_at_part d rows routers ends first end at e all so is =
+    subst (λ rs. map (λ n. slice_index rs n) (between first end ends) ≡ map (λ (l : Link). l.to) (links_from_index d at)) (all ∙ ap router_list e) (ends_between rows routers ends first end (links_from_index d at) so is)
+
+-- whether a search for a router finds it tells whether it is one of the database
+pub tells_router : (d : Database) (router : ℕ) (r : Result ℕ ℕ) (b : Bool) → AreAtTheirKeys d → b ≡ is_ok r → IfOk r (λ at. at < length (router_list d)) → IfOk r (HoldsAt (λ y. y ≡ router) (router_list d))
+    → IfErr r (IsPartitionPoint (λ y. nat_cmp y router ≡ Less) (λ y. nat_cmp y router ≡ Greater) (router_list d)) → IsTrue b ↔ IsRouterOf d router
+tells_router d router (Err at) b keyed e within found gap = (λ on. absurd (cc), λ is. absurd (apart_from_gap (router_list d) router at gap ((Contains-router_list d keyed router).1 is)))
+tells_router d router (Ok at) b keyed e within found gap =
+    (λ _. (Contains-router_list d keyed router).0 (subst (Contains (router_list d)) (found 0) (Contains-get_or (router_list d) at 0 within)), λ _. e)
+
+-- no numbers make an empty map
+entries-no_numbers : entries (numbers_in []) ≡ []
+entries-no_numbers = nil_from_length _ (sym (finite.len-entries _) ∙ finite.len-empty nat_cmp (Unit {0}))
+
+-- a list of routers begins with none
+pub ends_none : (rows : List Link) (at : ℕ) (routers : List ℕ) → length rows ≤ at → routers ≡ [] → map with_nothing routers ≡ entries (numbers_in (ends_of (drop at rows)))
+ends_none rows at routers h e = ap (map with_nothing) e ∙ sym entries-no_numbers ∙ ap (λ (ls : List Link). entries (numbers_in (ends_of ls))) (sym (drop_all at rows h))
+
+-- one step of a list of routers, from behind
+pub ends_less : (rows : List Link) (at : ℕ) (l : Link) (routers more : List ℕ) → 0 < at → at ≤ length rows → l ≡ get_or rows (at - 1) l
+    → map with_nothing routers ≡ entries (numbers_in (ends_of (drop at rows)))
+    → map with_nothing more ≡ put nat_cmp l.from tt (put nat_cmp l.to tt (map with_nothing routers))
+    → map with_nothing more ≡ entries (numbers_in (ends_of (drop (at - 1) rows)))
+ends_less rows at l routers more some h read is added =
+    let back : at ≡ at - 1 + 1 = omega arith in
+    ends_more rows (at - 1) l routers more (omega arith) read (is ∙ ap (λ n. entries (numbers_in (ends_of (drop n rows)))) back) added
+
+-- a list of routers is whole where no row is left
+pub ends_whole : (rows : List Link) (at : ℕ) (routers : List ℕ) → AreByKey rows → at ≤ 0 → map with_nothing routers ≡ entries (numbers_in (ends_of (drop at rows))) → routers ≡ router_list (database_of rows)
+ends_whole rows at routers by_key h is =
+    let none : at ≡ 0 = omega arith in router_list-entries rows routers by_key (is ∙ ap (λ n. entries (numbers_in (ends_of (drop n rows)))) none)
+
+-- a router that a search finds is in the list
+pub among_from_search : (routers : List ℕ) (router : ℕ) (r : Result ℕ ℕ) (b : Bool) → b ≡ is_ok r → IfOk r (λ at. at < length routers) → IfOk r (HoldsAt (λ y. y ≡ router) routers) → b ≡ true
+    → Contains routers router
+among_from_search routers router (Ok at) b e within found on = subst (Contains routers) (found 0) (Contains-get_or routers at 0 within)
+among_from_search routers router (Err at) b e within found on = absurd (cc)
+
+-- a router of the list is an end of a row
+pub listed_end : (rows : List Link) (routers : List ℕ) (router : ℕ) → AreByKey rows → routers ≡ router_list (database_of rows) → Contains routers router → AnyEndsAt rows router
+listed_end rows routers router by_key all among =
+    let is = (Contains-router_list (database_of rows) (rows_keyed rows) router).0 (subst (λ rs. Contains rs router) all among) in
+    let has = (rows_listed rows (own_keys rows by_key)).whole is.0 is.1 in
+    (has.0, has.1, λ d. subst (EndsAt router) (sym (get_or_default rows has.0 d is.0 has.1 ∙ has.2)) is.2)
+
+-- where the ends of what changes put are in the list, they are ends of rows
+pub ends_known : (rows : List Link) (routers : List ℕ) → AreByKey rows → routers ≡ router_list (database_of rows) → (cs : List Change) → AllByRecursion (HasListedEnds routers) cs → AllByRecursion (HasKnownEnds rows) cs
+ends_known rows routers by_key all [] known = tt
+ends_known rows routers by_key all (Put l ∷ cs) known =
+    ((listed_end rows routers l.from by_key all known.0.0, listed_end rows routers l.to by_key all known.0.1), ends_known rows routers by_key all cs known.1)
+ends_known rows routers by_key all (Remove from local ∷ cs) known = (tt, ends_known rows routers by_key all cs known.1)

@@ -1,0 +1,30 @@
+-- The links and the routers of a database in order, and the links from a router.
+use Rattle.std.specs.Prelude.{ℕ, List, map, filter, nat_eq, slice_index}
+use Rattle.std.specs.Ordering.{nat_cmp}
+use Rattle.std.specs.FinMap as finite
+use Rattle.cspf_db.specs.declared.link.Link.{Link}
+use Rattle.cspf_db.specs.Database.{Database, ends_of}
+
+-- the links of a database, in order of the key
+abbrev pub links_of : Database → List Link
+links_of d = finite.values d.links
+
+-- a number, and nothing beside it
+abbrev pub with_nothing : ℕ → ℕ × Unit {0}
+with_nothing n = (n, tt)
+
+-- the numbers of a list, each once
+abbrev pub numbers_in : List ℕ → finite.FinMap nat_cmp (Unit {0})
+numbers_in ns = finite.from_entries {R = nat_cmp} (map with_nothing ns)
+
+-- the routers of a database, rising: the ends of its links, each once
+unfoldable pub router_list : Database → List ℕ
+router_list d = finite.keys (numbers_in (ends_of (links_of d)))
+
+-- the links from a router, in order of the local address
+abbrev pub links_from : Database → ℕ → List Link
+links_from d router = filter (λ l. nat_eq l.from router) (links_of d)
+
+-- the links from the router at an index of the list of routers
+abbrev pub links_from_index : Database → ℕ → List Link
+links_from_index d at = links_from d (slice_index (router_list d) at)
