@@ -14,8 +14,8 @@ use Rattle.cspf_search.specs.Settled.{AreSettled}
 use Rattle.cspf_search.specs.Arena.{walk_at, walks, state_of, same_state, index_of, labels_of, AreNodes}
 use Rattle.cspf_search.proofs.Cuts.{reached_walk, route_reaches}
 use Rattle.cspf_search.proofs.Settles.{settled_best}
+use Rattle.cspf_search.specs.Frontier.{nowhere}
 use Rattle.cspf_search.proofs.Labelled.{same_state-true}
-use Rattle.cspf_search.proofs.Few.{nowhere}
 
 -- the node at the tail-end in the last of the legs is that of the end state
 end_index : (q : Request) (nodes : List Node) (legs : ℕ) (o : Option ℕ) → legs ≡ length q.hops + 1 → o ≡ index_of nodes (record { leg = legs; router = q.to })

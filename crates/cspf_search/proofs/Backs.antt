@@ -15,16 +15,9 @@ use Rattle.cspf_search.specs.declared.arena.Node.{Node}
 use Rattle.cspf_search.specs.States.{State}
 use Rattle.cspf_search.specs.Settled.{state_cmp, locals_cmp}
 use Rattle.cspf_search.specs.Arena.{walk_with, walk_at, walks, walk_of, index_of, IsNumbered, HasLast, AreNodes, IsNext}
+use Rattle.cspf_search.specs.Frontier.{node_by}
 use Rattle.cspf_search.specs.Rounds.{CrossesBy, Turns, IsFirstOf}
 use Rattle.cspf_search.proofs.Orders.{states_total, cost_of-push, locals_cmp-last, then_assoc}
-
--- the node that a link leads to
-abbrev pub node_by : ℕ → Node → Link → Node
-node_by at from l = record { parent = at; by = Some l; leg = from.leg; router = l.to; cost = from.cost + l.metric; links = from.links + 1 }
-
--- the node that the turn to the next leg leads to
-abbrev pub node_turned : Node → Node
-node_turned from = record { parent = from.parent; by = from.by; leg = from.leg + 1; router = from.router; cost = from.cost; links = from.links }
 
 module _ (nodes : List Node) (are : AreNodes nodes) where
   parent_at : (i : ℕ) (d : Node) → i < length nodes → (slice_index_or nodes i d).parent < length nodes
@@ -43,7 +36,7 @@ module _ (d : Database) (q : Request) (nodes : List Node) (are : AreNodes nodes)
   from_grown = are.grown at from within ∙ ap (walk_of nodes) (sym is)
 
   module _ (l : Link) (small : l.metric < 2 ^ 32) where
-    by_next : IsNext nodes (node_by at from l)
+    pub by_next : IsNext nodes (node_by at from (Some l))
     by_next = record {
       parent = within;
       linked = λ _. refl;
@@ -57,7 +50,7 @@ module _ (d : Database) (q : Request) (nodes : List Node) (are : AreNodes nodes)
 
     -- an admitted link inside the leg to an open state crosses, and nothing else does by that link
     pub by_first : l.from ≡ from.router → IsAdmitted q l → IsInside d q from.leg l.to → index_of nodes (record { leg = from.leg; router = l.to }) ≡ None
-        → IsFirstOf nodes (CrossesBy d q nodes at l) (node_by at from l)
+        → IsFirstOf nodes (CrossesBy d q nodes at l) (node_by at from (Some l))
     by_first runs admitted inside left =
         let me : ℕ × List Link = (from.leg, walk_at (walks nodes) at ++ (l ∷ [])) in
         record {
@@ -69,7 +62,7 @@ module _ (d : Database) (q : Request) (nodes : List Node) (are : AreNodes nodes)
               ap (λ y. is_gt (state_cmp me y)) whole ∙ ap is_gt (tied_itself states_total me);
         }
 
-  turned_next : IsNext nodes (node_turned from)
+  pub turned_next : IsNext nodes (node_by at from None)
   turned_next = record {
     parent = subst (λ (n : Node). n.parent < length nodes) (sym is) (parent_at nodes are at from within);
     linked = subst HasLast (sym is) (are.linked at from within);
@@ -83,7 +76,7 @@ module _ (d : Database) (q : Request) (nodes : List Node) (are : AreNodes nodes)
 
   -- the turn from a target of the leg to an open state crosses, and nothing else does by turning
   pub turned_first : from.leg ≤ length q.hops → IsTarget d q from.leg from.router → index_of nodes (record { leg = from.leg + 1; router = from.router }) ≡ None
-      → IsFirstOf nodes (Turns d q nodes at) (node_turned from)
+      → IsFirstOf nodes (Turns d q nodes at) (node_by at from None)
   turned_first low target left =
       let me : ℕ × List Link = (from.leg + 1, walk_of nodes from) in
       record {

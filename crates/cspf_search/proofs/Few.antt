@@ -1,5 +1,5 @@
 -- Nodes at few routers in few legs are few.
-use Rattle.std.proofs.Common.{◌≡◌, inl, inr, ℕ, zero, suc, ◌*◌, ◌<◌, ◌≤◌, Bool, true, false, not, nat_eq, None, List, [], ◌∷◌, filter, length, map, slice_index_or, refl, sym, ◌∙◌, arith}
+use Rattle.std.proofs.Common.{◌≡◌, inl, inr, ℕ, zero, suc, ◌*◌, ◌<◌, ◌≤◌, Bool, true, false, not, nat_eq, List, [], ◌∷◌, filter, length, map, slice_index_or, refl, sym, ◌∙◌, arith}
 use Rattle.std.specs.List.{All, AllByRecursion, AllPairs, IsDistinct}
 use Rattle.std.proofs.lemmas.Bool.{and_cases, eqb-true, eqb-false, not-true}
 use Rattle.std.proofs.lemmas.List.{get_or-map, length-map}
@@ -10,6 +10,7 @@ use Rattle.std.proofs.lemmas.Map.Keys.{IsDistinct-from_apart}
 use Rattle.cspf_db.specs.Database.{Database, IsRouterOf}
 use Rattle.cspf_search.specs.declared.arena.Node.{Node}
 use Rattle.cspf_search.specs.Arena.{state_of, same_state}
+use Rattle.cspf_search.specs.Frontier.{nowhere}
 
 -- a database of at most 1,024 routers
 abbrev pub HasFewRouters : Database → Type 0
@@ -28,10 +29,6 @@ pub record IsWithin (d : Database) (legs : ℕ) (n : Node) : Type 0 where
   pub router : IsRouterOf d n.router
   pub low : 1 ≤ n.leg
   pub high : n.leg ≤ legs
-
--- a node for the indexes past the end of a list
-abbrev pub nowhere : Node
-nowhere = record { parent = 0; by = None; leg = 0; router = 0; cost = 0; links = 0 }
 
 -- in one leg there are no more nodes than routers
 module _ (d : Database) (few : HasFewRouters d) (leg : ℕ) (nodes : List Node) (apart : AreApart nodes) (routers : All (λ n. IsRouterOf d n.router) nodes)

@@ -14,16 +14,17 @@ use Rattle.cspf_db.specs.Targets.{IsTarget, IsInside}
 use Rattle.cspf_search.specs.declared.arena.Node.{Node}
 use Rattle.cspf_search.specs.States.{State, IsStep, by_link, by_turn, Reaches, starts, steps, start_of}
 use Rattle.cspf_search.specs.Settled.{IsNoLater, AreSettled, Crosses, IsFirstCrossing, locals_cmp}
-use Rattle.cspf_search.specs.Arena.{walk_at, walks, walk_of, state_of, labels_of, AreNodes, AreInLegs, root_of}
+use Rattle.cspf_search.specs.Arena.{walk_at, walks, walk_of, state_of, labels_of, AreNodes, AreInLegs, IsNext, root_of}
 use Rattle.cspf_search.specs.Rounds.{CrossesBy, Turns, CrossesBelow, IsFirstOf, IsFirst}
 use Rattle.cspf_search.proofs.Orders.{walk_from_state, rank_from_state}
 use Rattle.cspf_search.proofs.Cuts.{reached_leg}
 use Rattle.cspf_search.proofs.Settles.{settled_push}
+use Rattle.cspf_search.specs.Frontier.{nowhere}
 use Rattle.cspf_search.proofs.Labelled.{label_from, label_at, open_index, apart_push, nodes_push, nodes_root, labels_push}
-use Rattle.cspf_search.proofs.Few.{HasFewRouters, AreApart, nodes_few, nowhere}
+use Rattle.cspf_search.proofs.Few.{HasFewRouters, AreApart, nodes_few}
 
 -- a reached state is at a router of the database
-reached_router : (d : Database) (q : Request) → IsRouterOf d q.from → (w : List Link) (s : State) → Reaches d q w s → IsRouterOf d s.router
+pub reached_router : (d : Database) (q : Request) → IsRouterOf d q.from → (w : List Link) (s : State) → Reaches d q w s → IsRouterOf d s.router
 reached_router d q from w s starts = from
 reached_router d q from w s (steps r (by_link l a inside)) = (l, a.link, inr refl)
 reached_router d q from w s (steps r (by_turn within target)) = reached_router d q from _ _ r
@@ -69,7 +70,7 @@ module _ (d : Database) (q : Request) (links : List Link) (listed : AreLinksOf d
         still_open = ap (option_map (λ i. walk_at (walks nodes) i)) turn.still_open;
       }
 
-  crosses_from : (w : List Link) (t : State) → CrossesBelow d q nodes links (length nodes) w t → Crosses d q (labels_of nodes) w t
+  pub crosses_from : (w : List Link) (t : State) → CrossesBelow d q nodes links (length nodes) w t → Crosses d q (labels_of nodes) w t
   crosses_from w t x =
       elim x.2 [
         | inl turn ↦ by_turn_crosses x.0 x.1 w t turn
@@ -117,7 +118,7 @@ module _ (d : Database) (q : Request) (links : List Link) (listed : AreLinksOf d
       )
 
   -- what crosses is what a turn or a link leads to from a node
-  crosses_to : (w : List Link) (t : State) → Crosses d q (labels_of nodes) w t → CrossesBelow d q nodes links (length nodes) w t
+  pub crosses_to : (w : List Link) (t : State) → Crosses d q (labels_of nodes) w t → CrossesBelow d q nodes links (length nodes) w t
   crosses_to w t x = step_from x.front w x.state t x.step x.settled x.still_open
 
   -- where nothing leads on, nothing crosses
@@ -145,17 +146,23 @@ module _ (d : Database) (q : Request) (nodes : List Node) (apart : AreApart node
       let leg = nodes_in_legs i e h in
       record { router = reached_router d q from _ _ (node_reached i e h); low = leg.low; high = leg.high })
 
--- to put the first node that a turn or a link leads to behind the others keeps them settled
+-- to put a first crossing behind the others keeps them settled
+pub settled_by : (d : Database) (q : Request) → IsRouterOf d q.from → HasFewRouters d → length q.hops + 1 ≤ 8 → (nodes : List Node) → AreNodes nodes
+    → AreSettled d q (labels_of nodes) → (n : Node) → IsNext nodes n → IsFirstCrossing d q (labels_of nodes) (walk_of nodes n) (state_of n)
+    → AreNodes (nodes ++ (n ∷ [])) × AreSettled d q (labels_of (nodes ++ (n ∷ []))) × (length nodes + 1 ≤ (length q.hops + 1) * 1024)
+settled_by d q from few legs nodes are settled n next crossing =
+    let left = crossing.crosses.still_open in
+    let after = settled_push d q (labels_of nodes) settled (walk_of nodes n) (state_of n) crossing (labels_of (nodes ++ (n ∷ []))) (labels_push nodes n are next left) in
+    let most = legs_few d q (nodes ++ (n ∷ [])) (apart_push nodes n are.apart left) after from few in
+    let room : length nodes + 1 ≤ (length q.hops + 1) * 1024 = omega (arith, most, length_push nodes n) in
+    (nodes_push nodes n are next left (omega arith), after, room)
+
+-- so does the first node that a turn or a link leads to
 pub settled_more : (d : Database) (q : Request) (links : List Link) → AreLinksOf d links → IsRouterOf d q.from → HasFewRouters d → length q.hops + 1 ≤ 8
     → (nodes : List Node) → AreNodes nodes → AreSettled d q (labels_of nodes) → (n : Node) → IsFirstOf nodes (CrossesBelow d q nodes links (length nodes)) n
     → AreNodes (nodes ++ (n ∷ [])) × AreSettled d q (labels_of (nodes ++ (n ∷ []))) × (length nodes + 1 ≤ (length q.hops + 1) * 1024)
 settled_more d q links listed from few legs nodes are settled n first =
-    let crossing = first_crossing d q links listed nodes are.apart n first in
-    let left = crossing.crosses.still_open in
-    let after = settled_push d q (labels_of nodes) settled (walk_of nodes n) (state_of n) crossing (labels_of (nodes ++ (n ∷ []))) (labels_push nodes n are first.next left) in
-    let most = legs_few d q (nodes ++ (n ∷ [])) (apart_push nodes n are.apart left) after from few in
-    let room : length nodes + 1 ≤ (length q.hops + 1) * 1024 = omega (arith, most, length_push nodes n) in
-    (nodes_push nodes n are first.next left (omega arith), after, room)
+    settled_by d q from few legs nodes are settled n first.next (first_crossing d q links listed nodes are.apart n first)
 
 only_root : (q : Request) (i : ℕ) (s : State) (w : List Link) → i < 1 → state_of (slice_index_or (root_of q ∷ []) i nowhere) ≡ s → walk_at (walks (root_of q ∷ [])) i ≡ w
     → (s ≡ start_of q) × (w ≡ [])

@@ -5,6 +5,14 @@ pub mod Labelled
 pub mod Firsts
 pub mod Backs
 pub mod Scans
+pub mod Ranks
+pub mod Offered
+pub mod Pushed
+pub mod Heaps
+pub mod Popped
+pub mod Reached
+pub mod Expanded
+pub mod Taken
 pub mod Few
 pub mod Grown
 pub mod Answered

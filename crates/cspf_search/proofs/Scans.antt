@@ -25,14 +25,14 @@ module _ (d : Database) (q : Request) (nodes : List Node) (links : List Link) (a
   one_more : take (i + 1) links ≡ take i links ++ (l ∷ [])
   one_more = take_more links i l within ∙ ap (λ (x : Link). take i links ++ (x ∷ [])) (sym is)
 
-  kept_link : (w : List Link) (t : State) → CrossesFrom d q nodes (take i links) at w t → CrossesFrom d q nodes (take (i + 1) links) at w t
+  pub kept_link : (w : List Link) (t : State) → CrossesFrom d q nodes (take i links) at w t → CrossesFrom d q nodes (take (i + 1) links) at w t
   kept_link w t (inl turn) = inl turn
   kept_link w t (inr x) = inr (x.0, rw one_more (Contains-append_left (take i links) (l ∷ []) x.0 x.1), x.2)
 
-  new_link : (w : List Link) (t : State) → CrossesBy d q nodes at l w t → CrossesFrom d q nodes (take (i + 1) links) at w t
+  pub new_link : (w : List Link) (t : State) → CrossesBy d q nodes at l w t → CrossesFrom d q nodes (take (i + 1) links) at w t
   new_link w t x = inr (l, rw one_more (Contains-push (take i links) l), x)
 
-  either_link : (w : List Link) (t : State) → CrossesFrom d q nodes (take (i + 1) links) at w t → CrossesFrom d q nodes (take i links) at w t ⊎ CrossesBy d q nodes at l w t
+  pub either_link : (w : List Link) (t : State) → CrossesFrom d q nodes (take (i + 1) links) at w t → CrossesFrom d q nodes (take i links) at w t ⊎ CrossesBy d q nodes at l w t
   either_link w t (inl turn) = inl (inl turn)
   either_link w t (inr x) =
       elim (Contains-push_cases (take i links) l x.0 (subst (λ ls. Contains ls x.0) one_more x.1)) [

@@ -4,3 +4,4 @@ pub mod States
 pub mod Settled
 pub mod Arena
 pub mod Rounds
+pub mod Frontier

@@ -1,15 +1,19 @@
-//! The least route of a request in a table's database. `best` meets `IsBestAnswer` of `cspf_db`.
+//! The least route of a request in a table's database. `best`, which searches from a heap, and
+//! `best_by_rounds`, which searches round by round, meet `IsBestAnswer` of `cspf_db`.
 #![tactic(auto)]
 
 mod arena;
+mod frontier;
+mod labels;
 mod outcome;
 mod rounds;
 mod route;
 mod search;
+mod stands;
 
 pub use outcome::Outcome;
 pub use route::Route;
-pub use search::best;
+pub use search::{best, best_by_rounds};
 
 #[cfg(test)]
 mod tests;

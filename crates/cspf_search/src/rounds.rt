@@ -63,7 +63,7 @@ fn by_turn(table: &Table, request: &Request, nodes: &[Node], at: usize) -> Optio
 }
 
 /// How the local addresses of two walks of as many links compare, from the first link on.
-fn locals(nodes: &[Node], a: &Node, b: &Node) -> Ordering
+pub(crate) fn locals(nodes: &[Node], a: &Node, b: &Node) -> Ordering
     requires arena { AreNodes nodes.now }
     requires first { IsNext nodes.now a.now }
     requires second { IsNext nodes.now b.now }

@@ -1,19 +1,26 @@
-ghost use Rattle.std.specs.Prelude.{◌≡◌, ◌+◌, ◌*◌, ◌<◌, ◌≤◌, None, List, ◌∷◌, [], IfOk, IfSome, IfNone, length};
+ghost use Rattle.std.specs.Prelude.{◌≡◌, ◌+◌, ◌*◌, ◌<◌, ◌≤◌, ℕ, None, List, ◌∷◌, [], IfOk, IfSome, IfNone, length, nat_eq};
+ghost use Rattle.std.specs.List.{AllByRecursion, IsDistinct};
 ghost use Rattle.cspf_db.specs.declared.link.Link.{Link as Linked};
-ghost use Rattle.cspf_db.specs.Best.{IsBestAnswer};
-ghost use Rattle.cspf_db.specs.Database.{IsRouterOf};
+ghost use Rattle.cspf_db.specs.Best.{HasEnds, IsBestAnswer};
+ghost use Rattle.cspf_db.specs.Database.{AreLinksOf, IsRouterOf};
 ghost use Rattle.cspf_search.specs.Outcome.{answer_of};
 ghost use Rattle.cspf_search.specs.States.{State, end_state};
 ghost use Rattle.cspf_search.specs.Settled.{AreSettled, Crosses};
 ghost use Rattle.cspf_search.specs.Arena.{AreNodes, AreInLegs, labels_of, root_of, walk_at, walks};
+ghost use Rattle.cspf_db.specs.Index.{links_of};
+ghost use Rattle.cspf_search.specs.Frontier.{AreListed, IsEnd};
 ghost use Rattle.cspf_search.specs.Routes.{AreLinked};
 ghost use Rattle.cspf_search.specs.Rounds.{CrossesBelow, IsFirst, IsFirstOf};
 
 use crate::arena::{Node, index_of, links_to};
+use crate::frontier::expand;
+use crate::labels::{OPEN, SETTLED, least, node_of};
 use crate::rounds::first;
+use crate::stands::stands;
 use crate::{Outcome, Route};
 use cspf_db::{Link, Request, Table, counted_routers};
 use std::alloc::{AllocError, Global};
+use std::collections::BinaryHeap;
 
 /// The head-end alone in the first leg, which nothing leads to.
 fn rooted(alloc: Global, request: &Request) -> Result<Vec<Node>, AllocError>
@@ -96,10 +103,136 @@ fn route_to(alloc: Global, nodes: &[Node], at: usize) -> Result<Route, AllocErro
     Ok(Route::new(links, nodes[at].cost))
 }
 
+/// What the table's lists of routers and links are to its database.
+fn listed(table: &Table)
+    ensures listed { AreListed table.now }
+    ensures links { AreLinksOf table.now (links_of table.now) }
+    ensures known { (router place : ℕ) → IsEnd table.now router place
+        → IsRouterOf table.now router }
+    ensures few { (routers : List ℕ) → IsDistinct nat_eq routers
+        → AllByRecursion (IsRouterOf table.now) routers → length routers ≤ 1024 }
+{
+    counted_routers();
+    let _links = table.links();
+    let _routers = table.routers();
+}
+
+/// The nodes that are settled when the tail-end is in the last of the legs, or when nothing leads
+/// on, from a heap. The head-end and the tail-end are told by their index in the list of routers.
+fn reached(
+    alloc: Global,
+    table: &Table,
+    request: &Request,
+    legs: usize,
+    from: usize,
+    to: usize,
+) -> Result<Vec<Node>, AllocError>
+    requires from { IsEnd table.now request.now.from from }
+    requires to { IsEnd table.now request.now.to to }
+    requires count { legs ≡ length request.now.hops + 1 }
+    requires most { legs ≤ 8 }
+    ensures arena { IfOk result (λ nodes. AreNodes nodes.items) }
+    ensures few { IfOk result (λ nodes. length nodes.items ≤ legs * 1024) }
+    ensures settled { IfOk result (λ nodes.
+        AreSettled table.now request.now (labels_of nodes.items)) }
+    ensures whole { IfOk result (λ nodes. labels_of nodes.items (end_state request.now) ≡ None
+        → (w : List Linked) (t : State)
+        → ¬ Crosses table.now request.now (labels_of nodes.items) w t) }
+{
+    listed(table);
+    let goal = (legs - 1) * 1024 + to;
+    let stands = stands(alloc, table, request, legs)?;
+    let mut nodes = rooted(alloc, request)?;
+    let mut labels = Vec::from_elem(alloc, OPEN, legs * 1024)?;
+    labels[from] = SETTLED;
+    let mut heap = BinaryHeap::new(alloc);
+    expand(
+        table,
+        request,
+        &stands,
+        &nodes,
+        &mut labels,
+        &mut heap,
+        goal,
+        0,
+        from,
+    )?;
+    while let Some(at) = least(table, request, &labels, &mut heap) {
+        let node = node_of(table, &nodes, &labels[at]);
+        let index = nodes.len();
+        nodes.extend_from_slice(&[node])?;
+        if at == goal {
+            return Ok(nodes);
+        }
+        labels[at] = SETTLED;
+        expand(
+            table,
+            request,
+            &stands,
+            &nodes,
+            &mut labels,
+            &mut heap,
+            goal,
+            index,
+            at,
+        )?;
+    }
+    Ok(nodes)
+}
+
+/// The outcome that the settled nodes give.
+fn answer(
+    alloc: Global,
+    table: &Table,
+    request: &Request,
+    legs: usize,
+    nodes: &[Node],
+) -> Result<Outcome, AllocError>
+    requires ends { HasEnds table.now request.now }
+    requires count { legs ≡ length request.now.hops + 1 }
+    requires most { legs ≤ 8 }
+    requires arena { AreNodes nodes.now }
+    requires few { length nodes.now ≤ legs * 1024 }
+    requires settled { AreSettled table.now request.now (labels_of nodes.now) }
+    requires whole { labels_of nodes.now (end_state request.now) ≡ None
+        → (w : List Linked) (t : State)
+        → ¬ Crosses table.now request.now (labels_of nodes.now) w t }
+    ensures { IfOk result (λ outcome.
+        IsBestAnswer table.now request.now (answer_of outcome)) }
+{
+    let Some(at) = index_of(nodes, legs, request.to) else {
+        return Ok(Outcome::NoRoute);
+    };
+    Ok(Outcome::Route(route_to(alloc, nodes, at)?))
+}
+
 /// The best answer to a request in the table's database (RFC 2702 7): that its head-end or its
 /// tail-end is unknown, the route that is before all others, or that no walk of admissible links
-/// can be cut into legs by the hops of the request (RFC 3209 4.3.3).
+/// can be cut into legs by the hops of the request (RFC 3209 4.3.3). The search settles routers in
+/// legs from a heap.
 pub fn best(alloc: Global, table: &Table, request: &Request) -> Result<Outcome, AllocError>
+    ensures { IfOk result (λ outcome.
+        IsBestAnswer table.now request.now (answer_of outcome)) }
+{
+    listed(table);
+    let Some(from) = table.place_of(request.from) else {
+        return Ok(Outcome::UnknownFrom);
+    };
+    let Some(to) = table.place_of(request.to) else {
+        return Ok(Outcome::UnknownTo);
+    };
+    let legs = request.hops.len() + 1;
+    let nodes = reached(alloc, table, request, legs, from, to)?;
+    answer(alloc, table, request, legs, &nodes)
+}
+
+/// The same answer as `best` gives, by a slower and plainer search: round by round it settles the
+/// first of all routers in legs that a settled one leads to.
+pub fn best_by_rounds(
+    alloc: Global,
+    table: &Table,
+    request: &Request,
+) -> Result<Outcome, AllocError>
     ensures { IfOk result (λ outcome.
         IsBestAnswer table.now request.now (answer_of outcome)) }
 {
@@ -111,8 +244,5 @@ pub fn best(alloc: Global, table: &Table, request: &Request) -> Result<Outcome, 
     }
     let legs = request.hops.len() + 1;
     let nodes = settled(alloc, table, request, legs)?;
-    let Some(at) = index_of(&nodes, legs, request.to) else {
-        return Ok(Outcome::NoRoute);
-    };
-    Ok(Outcome::Route(route_to(alloc, &nodes, at)?))
+    answer(alloc, table, request, legs, &nodes)
 }

@@ -48,9 +48,36 @@ fn request(
     Ok(Request::new(1, from, to, setup, 1000, exclude, any, all, hops)?)
 }
 
+// What a request is answered, by both searches.
+fn answered(alloc: Global, table: &Table, request: &Request) -> Result<Outcome, Fail> {
+    let outcome = best(alloc, table, request)?;
+    let other = best_by_rounds(alloc, table, request)?;
+    if !is_same(&outcome, &other) {
+        return Err(Fail::new(format_args!("{outcome:?} and {other:?}")));
+    }
+    Ok(outcome)
+}
+
+// Whether two outcomes are one.
+fn is_same(a: &Outcome, b: &Outcome) -> bool {
+    match (a, b) {
+        (Outcome::Route(x), Outcome::Route(y)) => {
+            let mut same = x.links().len() == y.links().len();
+            for (l, m) in x.links().iter().zip(y.links()) {
+                same = same && l.from == m.from && l.local == m.local;
+            }
+            same && x.cost() == y.cost() && x.again() == y.again()
+        }
+        (Outcome::NoRoute, Outcome::NoRoute) => true,
+        (Outcome::UnknownFrom, Outcome::UnknownFrom) => true,
+        (Outcome::UnknownTo, Outcome::UnknownTo) => true,
+        _ => false,
+    }
+}
+
 // What a request with hops and no more is answered.
 fn by_hops(alloc: Global, table: &Table, to: u32, hops: &[u8]) -> Result<Outcome, Fail> {
-    Ok(best(alloc, table, &request((ONE, to), 0, (0, 0, 0), hops)?)?)
+    answered(alloc, table, &request((ONE, to), 0, (0, 0, 0), hops)?)
 }
 
 // Whether it is the route of this cost along the links with these remote addresses.
@@ -142,7 +169,7 @@ fn requests_without_hops(rt: HostRuntime) -> Result<(), Fail> {
         (0, (0x4, 0x0, 0x0), false),
     ];
     for (setup, masks, found) in cases {
-        let outcome = best(alloc, &table, &request((ONE, TWO), setup, masks, b"")?)?;
+        let outcome = answered(alloc, &table, &request((ONE, TWO), setup, masks, b"")?)?;
         assert!(rt;
             found == is_route(&outcome, 10, false, &[0x0a00_0c02]),
             "{setup} {masks:?}"
@@ -153,12 +180,12 @@ fn requests_without_hops(rt: HostRuntime) -> Result<(), Fail> {
         );
     }
     // links are one-way
-    let back = best(alloc, &table, &request((TWO, ONE), 0, any, b"")?)?;
+    let back = answered(alloc, &table, &request((TWO, ONE), 0, any, b"")?)?;
     assert!(rt; matches!(back, Outcome::NoRoute));
     // an unknown head-end comes before an unknown tail-end
-    let from = best(alloc, &table, &request((THREE, FOUR), 0, any, b"")?)?;
+    let from = answered(alloc, &table, &request((THREE, FOUR), 0, any, b"")?)?;
     assert!(rt; matches!(from, Outcome::UnknownFrom));
-    let to = best(alloc, &table, &request((ONE, FOUR), 0, any, b"")?)?;
+    let to = answered(alloc, &table, &request((ONE, FOUR), 0, any, b"")?)?;
     assert!(rt; matches!(to, Outcome::UnknownTo));
     Ok(())
 }
@@ -211,5 +238,63 @@ fn routers_met_by_hops(rt: HostRuntime) -> Result<(), Fail> {
     let seven = b"0.0.0.0/0l 0.0.0.0/0l 0.0.0.0/0l 0.0.0.0/0l 0.0.0.0/0l 0.0.0.0/0l 0.0.0.0/0l";
     let outcome = by_hops(alloc, &table(alloc, &unusable[..1])?, TWO, seven)?;
     assert!(rt; is_route(&outcome, 10, false, &[0x0a00_0c02]));
+    Ok(())
+}
+
+// The next of a row of numbers that look drawn.
+fn draw(seed: &mut u32) -> u32 {
+    let mut x = *seed;
+    x ^= (x & 0x7_ffff) << 13;
+    x ^= x >> 17;
+    x ^= (x & 0x7ff_ffff) << 5;
+    *seed = x;
+    x
+}
+
+// A network of 12 routers with 40 links of metrics 0 to 3, some of which have no unreserved
+// bandwidth.
+fn drawn(alloc: Global, seed: &mut u32) -> Result<Table, Fail> {
+    let mut rows = Vec::new(alloc);
+    for local in 0..40 {
+        let from = draw(seed) % 12;
+        let to = (from + 1 + draw(seed) % 11) % 12;
+        let local = (draw(seed) % 4) * 256 + local;
+        let metric = draw(seed) % 4;
+        let free = if draw(seed) % 8 == 0 { 0 } else { 1000 };
+        rows.push((router(from), local, router(to), 1, metric, free))?;
+    }
+    table(alloc, &rows)
+}
+
+// Routers 0 to 3 have addresses in 10.0.0.0/30, routers 4 to 11 in 10.0.0.0/28.
+fn router(number: u32) -> u32 {
+    0x0a00_0000 + number % 12
+}
+
+#[test]
+fn drawn_networks(rt: HostRuntime) -> Result<(), Fail> {
+    let alloc = rt.alloc();
+    let mut seed = 2463534242;
+    let hops: [&[u8]; 6] = [
+        b"",
+        b"10.0.0.0/30l",
+        b"10.0.0.0/30s",
+        b"10.0.0.4/30s 10.0.0.0/29s",
+        b"10.0.0.0/28s 10.0.0.8/30l 10.0.0.0/30s",
+        b"0.0.1.0/24l 10.0.0.1/32l 10.0.0.0/28s",
+    ];
+    let mut routes = 0u32;
+    for _network in 0..12 {
+        let table = drawn(alloc, &mut seed)?;
+        for text in hops {
+            let from = draw(&mut seed) % 12;
+            let to = from + 1 + draw(&mut seed) % 11;
+            let request = request((router(from), router(to)), 0, (0, 0, 0), text)?;
+            if let Outcome::Route(_) = answered(alloc, &table, &request)? {
+                routes = routes.saturating_add(1);
+            }
+        }
+    }
+    assert!(rt; routes > 30, "{routes}");
     Ok(())
 }

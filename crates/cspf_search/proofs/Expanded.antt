@@ -1,0 +1,213 @@
+-- What the turn and the links from one node offer.
+use Rattle.std.proofs.Common.{◌≡◌, ◌⊎◌, inl, inr, ℕ, ◌+◌, ◌-◌, ◌/◌, ◌%◌, ◌<◌, ◌≤◌, Bool, true, false, not, nat_eq, Some, None, List, [], ◌∷◌, ◌++◌, filter, length, take, slice_get, slice_index, slice_index_or, refl, sym, ap, subst, ◌∙◌, arith}
+use Rattle.std.specs.List.{All, Contains}
+use Rattle.std.proofs.lemmas.Bool.{cases_lt, eqb-true, eq-eqb}
+use Rattle.std.proofs.lemmas.List.{take_all}
+use Rattle.std.proofs.lemmas.List.Elements.{All-nil, All-cons, All-weaker, All-filter, All-contains, All-contains_itself, Contains-append_right, filter_passes}
+use Rattle.std.proofs.lemmas.List.Filters.{length-filter_both}
+use Rattle.std.proofs.lemmas.Option.{slice_get-get_or, slice_get_within, get_or_from_slice_get, same_Some}
+use Rattle.cspf_db.specs.declared.link.Link.{Link}
+use Rattle.cspf_db.specs.declared.request.Request.{Request}
+use Rattle.cspf_db.specs.Database.{Database}
+use Rattle.cspf_db.specs.Admissible.{IsAdmitted}
+use Rattle.cspf_db.specs.Targets.{IsTarget, IsInside}
+use Rattle.cspf_db.specs.Index.{links_of, links_from_index, router_list}
+use Rattle.cspf_search.specs.declared.arena.Node.{Node}
+use Rattle.cspf_search.specs.States.{State}
+use Rattle.cspf_search.specs.Arena.{walk_at, walks, index_of}
+use Rattle.cspf_search.specs.Rounds.{CrossesBy, Turns, CrossesFrom, CrossesBelow}
+use Rattle.cspf_search.specs.Frontier.{state_at, IsStateIndex, nowhere, IsNodeAt, IsEnd, CrossesUpTo}
+use Rattle.cspf_search.proofs.Scans.{kept_link, new_link, either_link}
+
+-- what is kept of a list
+
+pub filter_short : (p : Link → Bool) (ls : List Link) → length (filter p ls) ≤ length ls
+filter_short p ls = omega (arith, length-filter_both p (λ l. not (p l)) (λ l. refl) ls)
+
+kept_head : (p : Link → Bool) (k : Link) (ls : List Link) → p k ≡ true → Contains (filter p (k ∷ ls)) k
+kept_head p k ls e = rw e (0, omega arith, refl)
+
+kept_tail : (p : Link → Bool) (k : Link) (ls : List Link) (l : Link) → Contains (filter p ls) l → Contains (filter p (k ∷ ls)) l
+kept_tail p k ls l h =
+    elim (p k) as (λ b. p k ≡ b → Contains (filter p (k ∷ ls)) l) [
+      | true ↦ λ e. rw e (Contains-append_right (k ∷ []) (filter p ls) l h)
+      | false ↦ λ e. rw e h
+    ] refl
+
+filtered : (p : Link → Bool) (ls : List Link) → All (λ l. p l ≡ true → Contains (filter p ls) l) ls
+filtered p [] = All-nil (λ l. p l ≡ true → Contains (filter p []) l)
+filtered p (k ∷ ls) =
+    All-cons (λ l. p l ≡ true → Contains (filter p (k ∷ ls)) l) k ls (kept_head p k ls)
+    (All-weaker (λ l. p l ≡ true → Contains (filter p ls) l) (λ l. p l ≡ true → Contains (filter p (k ∷ ls)) l) (λ l h e. kept_tail p k ls l (h e)) ls (filtered p ls))
+
+module _ (d : Database) (place : ℕ) where
+  kept_of : (l : Link) → Contains (links_from_index d place) l → Contains (links_of d) l
+  kept_of l h =
+      All-contains (Contains (links_of d)) (links_from_index d place) l
+      (All-filter (λ k. nat_eq k.from (slice_index (router_list d) place)) (Contains (links_of d)) (links_of d) (All-contains_itself (links_of d))) h
+
+  kept_from : (l : Link) → Contains (links_of d) l → l.from ≡ slice_index (router_list d) place → Contains (links_from_index d place) l
+  kept_from l h from =
+      All-contains (λ l. nat_eq l.from (slice_index (router_list d) place) ≡ true → Contains (links_from_index d place) l) (links_of d) l
+      (filtered (λ k. nat_eq k.from (slice_index (router_list d) place)) (links_of d)) h (eq-eqb l.from (slice_index (router_list d) place) from)
+
+  runs_from : (row : ℕ) (l : Link) → slice_get (links_from_index d place) row ≡ Some l → l.from ≡ slice_index (router_list d) place
+  runs_from row l e =
+      let within = slice_get_within (links_from_index d place) row l e in
+      let passes = filter_passes (λ k. nat_eq k.from (slice_index (router_list d) place)) (links_of d) row l within in
+      let is = get_or_from_slice_get (links_from_index d place) row l l e in
+      eqb-true l.from (slice_index (router_list d) place) (rw is at passes)
+
+module _ (d : Database) (q : Request) (nodes : List Node) (at state : ℕ) (is : IsNodeAt d q nodes at state) where
+  abbrev from : Node
+  from = slice_index_or nodes at nowhere
+
+  pub there : slice_get nodes at ≡ Some (slice_index_or nodes at nowhere)
+  there = slice_get-get_or nodes at nowhere is.within
+
+  pub leg : (slice_index_or nodes at nowhere).leg ≡ state / 1024 + 1
+  leg = ap (λ (s : State). s.leg) is.there
+
+  router : (slice_index_or nodes at nowhere).router ≡ slice_index (router_list d) (state % 1024)
+  router = ap (λ (s : State). s.router) is.there
+
+  -- the turn
+
+  pub turn_index : state / 1024 < length q.hops → IsStateIndex d q (state + 1024)
+  turn_index h =
+      let place : (state + 1024) % 1024 ≡ state % 1024 = omega arith in
+      record { low = omega arith; place = rw place is.index.place }
+
+  pub turn_state : record { leg = (slice_index_or nodes at nowhere).leg + 1; router = (slice_index_or nodes at nowhere).router } ≡ state_at d (state + 1024)
+  turn_state =
+      let place : (state + 1024) % 1024 ≡ state % 1024 = omega arith in
+      let next : (slice_index_or nodes at nowhere).leg + 1 ≡ (state + 1024) / 1024 + 1 = omega (arith, leg) in
+      let same : (slice_index_or nodes at nowhere).router ≡ slice_index (router_list d) ((state + 1024) % 1024) = router ∙ sym (ap (slice_index (router_list d)) place) in
+      λ k. record { leg = next k; router = same k }
+
+  pub turn_only : (w : List Link) (t : State) → Turns d q nodes at w t → (t ≡ state_at d (state + 1024)) × (w ≡ walk_at (walks nodes) at)
+  turn_only w t x =
+      let same : x.node ≡ slice_index_or nodes at nowhere = same_Some x.node (slice_index_or nodes at nowhere) (sym x.there ∙ there) in
+      (x.state ∙ ap (λ (n : Node). record { leg = n.leg + 1; router = n.router }) same ∙ turn_state, x.walk)
+
+  pub turn_passes : state / 1024 < length q.hops → IsTarget d q (state / 1024 + 1) (slice_index (router_list d) (state % 1024))
+      → index_of nodes (state_at d (state + 1024)) ≡ None → Turns d q nodes at (walk_at (walks nodes) at) (state_at d (state + 1024))
+  turn_passes h target left = record {
+    node = slice_index_or nodes at nowhere;
+    there = there;
+    within = omega (arith, leg);
+    target = rw (leg, router) target;
+    walk = refl;
+    state = sym turn_state;
+    still_open = left;
+  }
+
+  pub turn_within : (w : List Link) (t : State) → Turns d q nodes at w t
+      → (state / 1024 < length q.hops) × IsTarget d q (state / 1024 + 1) (slice_index (router_list d) (state % 1024))
+  turn_within w t x =
+      let same : x.node ≡ slice_index_or nodes at nowhere = same_Some x.node (slice_index_or nodes at nowhere) (sym x.there ∙ there) in
+      let legs = ap (λ (n : Node). n.leg) same in
+      let routers = ap (λ (n : Node). n.router) same in
+      (omega (arith, leg, legs, x.within), rw (legs ∙ leg, routers ∙ router) at x.target)
+
+  no_row : (row : ℕ) (w : List Link) (t : State) → ((l : Link) × Contains (take 0 (links_from_index d (state % 1024))) l × CrossesBy d q nodes at l w t) → ⊥
+  no_row row w t x = let low = x.1.1 in omega arith
+
+  pub turn_left : (w : List Link) (t : State) → CrossesBelow d q nodes (links_of d) at w t → CrossesUpTo d q nodes at (state % 1024) 0 w t
+  turn_left w t x = inl x
+
+  pub turn_right : (w : List Link) (t : State) → Turns d q nodes at w t → CrossesUpTo d q nodes at (state % 1024) 0 w t
+  turn_right w t x = inr (inl x)
+
+  pub turn_cases : (w : List Link) (t : State) → CrossesUpTo d q nodes at (state % 1024) 0 w t → CrossesBelow d q nodes (links_of d) at w t ⊎ Turns d q nodes at w t
+  turn_cases w t (inl x) = inl x
+  turn_cases w t (inr (inl x)) = inr x
+  turn_cases w t (inr (inr x)) = absurd (no_row 0 w t x)
+
+  -- a link
+
+  module _ (row : ℕ) (l : Link) (listed : slice_get (links_from_index d (state % 1024)) row ≡ Some l) (end : ℕ) (ends : IsEnd d l.to end) (few : length (router_list d) ≤ 1024) where
+    pub link_index : IsStateIndex d q (state - state % 1024 + end)
+    link_index =
+        let place : (state - state % 1024 + end) % 1024 ≡ end = omega (arith, ends.within) in
+        record { low = omega (arith, ends.within, is.index.low); place = rw place ends.within }
+
+    pub link_state : record { leg = (slice_index_or nodes at nowhere).leg; router = l.to } ≡ state_at d (state - state % 1024 + end)
+    link_state =
+        let place : (state - state % 1024 + end) % 1024 ≡ end = omega (arith, ends.within) in
+        let same : (slice_index_or nodes at nowhere).leg ≡ (state - state % 1024 + end) / 1024 + 1 = omega (arith, leg, ends.within) in
+        let to : l.to ≡ slice_index (router_list d) ((state - state % 1024 + end) % 1024) = sym ends.is ∙ sym (ap (slice_index (router_list d)) place) in
+        λ k. record { leg = same k; router = to k }
+
+    pub link_only : (w : List Link) (t : State) → CrossesBy d q nodes at l w t
+        → (t ≡ state_at d (state - state % 1024 + end)) × (w ≡ walk_at (walks nodes) at ++ (l ∷ []))
+    link_only w t x =
+        let same : x.node ≡ slice_index_or nodes at nowhere = same_Some x.node (slice_index_or nodes at nowhere) (sym x.there ∙ there) in
+        (x.state ∙ ap (λ (n : Node). record { leg = n.leg; router = l.to }) same ∙ link_state, x.walk)
+
+    pub link_passes : IsAdmitted q l → IsInside d q (state / 1024 + 1) l.to → index_of nodes (state_at d (state - state % 1024 + end)) ≡ None
+        → CrossesBy d q nodes at l (walk_at (walks nodes) at ++ (l ∷ [])) (state_at d (state - state % 1024 + end))
+    link_passes admitted inside left = record {
+      node = slice_index_or nodes at nowhere;
+      there = there;
+      runs = runs_from d (state % 1024) row l listed ∙ sym router;
+      admitted = admitted;
+      inside = rw leg inside;
+      walk = refl;
+      state = sym link_state;
+      still_open = left;
+    }
+
+    pub link_within : (w : List Link) (t : State) → CrossesBy d q nodes at l w t → IsAdmitted q l × IsInside d q (state / 1024 + 1) l.to
+    link_within w t x =
+        let same : x.node ≡ slice_index_or nodes at nowhere = same_Some x.node (slice_index_or nodes at nowhere) (sym x.there ∙ there) in
+        let legs = ap (λ (n : Node). n.leg) same in
+        (x.admitted, rw (legs ∙ leg) at x.inside)
+
+    row_within : row < length (links_from_index d (state % 1024))
+    row_within = slice_get_within (links_from_index d (state % 1024)) row l listed
+
+    row_is : l ≡ slice_index_or (links_from_index d (state % 1024)) row l
+    row_is = sym (get_or_from_slice_get (links_from_index d (state % 1024)) row l l listed)
+
+    pub link_left : (w : List Link) (t : State) → CrossesUpTo d q nodes at (state % 1024) row w t → CrossesUpTo d q nodes at (state % 1024) (row + 1) w t
+    link_left w t (inl x) = inl x
+    link_left w t (inr x) = inr (kept_link d q nodes (links_from_index d (state % 1024)) at row row_within l row_is w t x)
+
+    pub link_right : (w : List Link) (t : State) → CrossesBy d q nodes at l w t → CrossesUpTo d q nodes at (state % 1024) (row + 1) w t
+    link_right w t x = inr (new_link d q nodes (links_from_index d (state % 1024)) at row row_within l row_is w t x)
+
+    pub link_cases : (w : List Link) (t : State) → CrossesUpTo d q nodes at (state % 1024) (row + 1) w t
+        → CrossesUpTo d q nodes at (state % 1024) row w t ⊎ CrossesBy d q nodes at l w t
+    link_cases w t (inl x) = inl (inl x)
+    link_cases w t (inr x) =
+        elim (either_link d q nodes (links_from_index d (state % 1024)) at row row_within l row_is w t x) [ inl old ↦ inl (inr old) | inr new ↦ inr new ]
+
+  -- all links
+
+  pub all_below : (w : List Link) (t : State) → CrossesUpTo d q nodes at (state % 1024) (length (links_from_index d (state % 1024))) w t
+      → CrossesBelow d q nodes (links_of d) (at + 1) w t
+  all_below w t (inl x) = (x.0, omega (arith, x.1), x.2)
+  all_below w t (inr (inl turn)) = (at, omega arith, inl turn)
+  all_below w t (inr (inr x)) =
+      let all = take_all (length (links_from_index d (state % 1024))) (links_from_index d (state % 1024)) (omega arith) in
+      (at, omega arith, inr (x.0, kept_of d (state % 1024) x.0 (rw all at x.1), x.2))
+
+  from_here : (w : List Link) (t : State) → CrossesFrom d q nodes (links_of d) at w t
+      → CrossesFrom d q nodes (take (length (links_from_index d (state % 1024))) (links_from_index d (state % 1024))) at w t
+  from_here w t (inl turn) = inl turn
+  from_here w t (inr x) =
+      let all = take_all (length (links_from_index d (state % 1024))) (links_from_index d (state % 1024)) (omega arith) in
+      let same : x.2.node ≡ slice_index_or nodes at nowhere = same_Some x.2.node (slice_index_or nodes at nowhere) (sym x.2.there ∙ there) in
+      let runs : x.0.from ≡ slice_index (router_list d) (state % 1024) = x.2.runs ∙ ap (λ (n : Node). n.router) same ∙ router in
+      inr (x.0, rw all (kept_from d (state % 1024) x.0 x.1 runs), x.2)
+
+  pub below_all : (w : List Link) (t : State) → CrossesBelow d q nodes (links_of d) (at + 1) w t
+      → CrossesUpTo d q nodes at (state % 1024) (length (links_from_index d (state % 1024))) w t
+  below_all w t x =
+      elim (cases_lt x.0 at) [
+        | inl lt ↦ inl (x.0, lt, x.2)
+        | inr ge ↦
+            let e : x.0 ≡ at = omega (arith, x.1) in
+            inr (from_here w t (subst (λ k. CrossesFrom d q nodes (links_of d) k w t) e x.2))
+      ]

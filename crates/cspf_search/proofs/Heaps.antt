@@ -1,0 +1,90 @@
+-- What comes out of a heap of keys.
+use Rattle.std.proofs.Common.{◌≡◌, ◌≢◌, ◌⊎◌, inl, inr, ℕ, zero, suc, ◌<◌, ◌≤◌, false, List, [], ◌∷◌, length, slice_index_or, refl, sym, ap, subst, arith}
+use Rattle.std.specs.List.{All, Contains}
+use Rattle.std.specs.List.Sorted.{IsPermutation}
+use Rattle.std.specs.BinaryHeap.{IsHeap, IsUpperBound, PopsGreatest, lt_by_cmp}
+use Rattle.std.specs.Ordering.{nat_cmp, ordering_then, is_lt}
+use Rattle.std.specs.declared.cmp.Ordering.{Ordering}
+use Rattle.std.proofs.lemmas.Bool.{cases_lt}
+use Rattle.std.proofs.lemmas.Bool.Decides.{nat_tests}
+use Rattle.std.proofs.lemmas.List.{get_or_default}
+use Rattle.std.proofs.lemmas.List.Elements.{All-contains, All-from_recursion, All-tail, Contains-append_cases}
+use Rattle.std.proofs.lemmas.List.Sorted.{All-permutation, Contains-permutation, IsPermutation-sym}
+use Rattle.cspf_db.specs.declared.request.Request.{Request}
+use Rattle.cspf_db.specs.Database.{Database}
+use Rattle.cspf_search.specs.declared.labels.Label.{Label}
+use Rattle.cspf_search.specs.Frontier.{Key, key_cmp, no_label, label_at, IsKey, IsLive, IsUpTo, IsLeast}
+
+no_less_rank : (k rank : ℕ) (o : Ordering) → is_lt (ordering_then (nat_cmp k rank) o) ≡ false → rank ≤ k
+no_less_rank k rank o h = grind (arith, nat_tests)
+
+no_less_index : (k rank j i : ℕ) → k ≡ rank → is_lt (ordering_then (nat_cmp k rank) (nat_cmp j i)) ≡ false → i ≤ j
+no_less_index k rank j i e h = grind (arith, nat_tests)
+
+no_less : (k rank j i : ℕ) → is_lt (ordering_then (nat_cmp k rank) (nat_cmp j i)) ≡ false → (rank < k) ⊎ ((rank ≡ k) × (i ≤ j))
+no_less k rank j i h =
+    let low = no_less_rank k rank (nat_cmp j i) h in
+    elim (cases_lt rank k) [
+      | inl lt ↦ inl lt
+      | inr ge ↦ let e : k ≡ rank = omega arith in inr (omega arith, no_less_index k rank j i e h)
+    ]
+
+-- no key of those that a greatest one bounds is less than it in rank and index
+pub keys_up_to : (x : Key) (xs : List Key) → IsUpperBound key_cmp x xs → (y : Key) → Contains xs y → IsUpTo x.0.0 x.0.1 y
+keys_up_to x xs upper y at =
+    no_less y.0.0 x.0.0 y.0.1 x.0.1 (All-contains (λ z. lt_by_cmp key_cmp x z ≡ false) xs y (All-from_recursion (λ z. lt_by_cmp key_cmp x z ≡ false) xs upper) at)
+
+only : (x y : Key) → Contains (x ∷ []) y → x ≡ y
+only x y (zero, h, e) = e
+only x y (suc k, h, e) = absurd (omega arith)
+
+-- each key is the one that came out, or is left
+pub others_left : (x : Key) (old new : List Key) → IsPermutation old (x ∷ new) → (y : Key) → Contains old y → (x ≡ y) ⊎ Contains new y
+others_left x old new moved y at =
+    elim (Contains-append_cases (x ∷ []) new y (Contains-permutation old (x ∷ new) y moved at)) [
+      | inl here ↦ inl (only x y here)
+      | inr there ↦ inr there
+    ]
+
+-- the one that came out was there
+pub was_there : (x : Key) (old new : List Key) → IsPermutation old (x ∷ new) → Contains old x
+was_there x old new moved = Contains-permutation (x ∷ new) old x (IsPermutation-sym old (x ∷ new) moved) (0, omega arith, refl)
+
+-- the rank that was read of labels
+pub rank_read : (labels : List Label) (i : ℕ) (e : Label) → i < length labels → (slice_index_or labels i e).rank ≡ (label_at labels i).rank
+rank_read labels i e h = ap (λ (l : Label). l.rank) (get_or_default labels i e no_label h)
+
+-- a key that came out of what is left of the keys, and what the live ones are
+module _ (d : Database) (q : Request) (labels : List Label) (old heap new : List Key) (x : Key)
+    (live : (key : Key) → Contains old key → IsLive labels key → Contains heap key) (keyed : All (IsKey d q) heap) (moved : IsPermutation heap (x ∷ new)) where
+  pub keyed_left : All (IsKey d q) new
+  keyed_left = All-tail (IsKey d q) x new (All-permutation (IsKey d q) heap (x ∷ new) moved keyed)
+
+  pub popped_key : IsKey d q x
+  popped_key = All-contains (IsKey d q) heap x keyed (was_there x heap new moved)
+
+  -- where it isn't live, the live ones are left
+  pub live_left : ((label_at labels x.0.1).rank ≢ x.0.0) → (key : Key) → Contains old key → IsLive labels key → Contains new key
+  live_left stale key at is =
+      elim (others_left x heap new moved key (live key at is)) [
+        | inl same ↦ absurd (stale (subst (IsLive labels) (sym same) is))
+        | inr left ↦ left
+      ]
+
+  -- where it is live, it is the least of the live ones
+  pub popped_least : IsHeap key_cmp heap → PopsGreatest key_cmp heap x new → (label_at labels x.0.1).rank ≡ x.0.0 → IsLeast d q labels old x.0.1 new
+  popped_least ordered pops is =
+      let out = pops ordered in
+      record {
+        index = popped_key.index;
+        some = rw is popped_key.some;
+        most = rw is popped_key.most;
+        ordered = out.0;
+        keyed = keyed_left;
+        first = λ key at here. rw is (keys_up_to x heap out.1 key (live key at here));
+        others = λ key at here.
+            elim (others_left x heap new moved key (live key at here)) [
+              | inl same ↦ inl (ap (λ (k : Key). k.0.1) (sym same))
+              | inr left ↦ inr left
+            ];
+      }

@@ -1,0 +1,201 @@
+-- The node of the least key is a first crossing, and where no key is left nothing crosses.
+use Rattle.std.proofs.Common.{◌≡◌, ◌≢◌, inl, inr, ℕ, ◌+◌, ◌-◌, ◌*◌, ◌/◌, ◌%◌, ◌<◌, true, false, Some, None, List, [], ◌∷◌, length, set, replicate, slice_index, refl, sym, ap, subst, ◌∙◌, arith, length-set}
+use Rattle.std.specs.List.{Contains}
+use Rattle.std.specs.BinaryHeap.{IsHeap}
+use Rattle.std.specs.Ordering.{is_gt}
+use Rattle.std.proofs.lemmas.Cmp.{upto}
+use Rattle.std.proofs.lemmas.List.{get_or-set_same, get_or-set_other, get_or-replicate, length-replicate}
+use Rattle.std.proofs.lemmas.List.Elements.{All-nil}
+use Rattle.std.proofs.lemmas.List.Quantifiers.{position-Some}
+use Rattle.cspf_db.specs.declared.link.Link.{Link}
+use Rattle.cspf_db.specs.declared.request.Request.{Request}
+use Rattle.cspf_db.specs.Database.{Database, AreLinksOf, IsRouterOf}
+use Rattle.cspf_db.specs.Index.{links_of, router_list}
+use Rattle.cspf_search.specs.declared.arena.Node.{Node}
+use Rattle.cspf_search.specs.declared.labels.Label.{Label}
+use Rattle.cspf_search.specs.States.{State, steps, start_of, end_state}
+use Rattle.cspf_search.specs.Settled.{rank_cmp, RanksNoLater, AreSettled, Crosses, IsFirstCrossing}
+use Rattle.cspf_search.specs.Arena.{walk_of, state_of, same_state, index_of, labels_of, AreNodes, root_of}
+use Rattle.cspf_search.specs.Rounds.{CrossesBelow}
+use Rattle.cspf_search.specs.Frontier.{state_at, IsStateIndex, AreListed, IsEnd, nowhere, node_of, walk_rank, no_rank, IsBeyond, IsReached, IsLabel, is_settled, is_reached, is_unreached, Key, key_cmp, key_at, label_at, IsKey, IsLive, AreLabels, IsLeast}
+use Rattle.cspf_search.proofs.Orders.{ranks_total, rank_from_walk}
+use Rattle.cspf_search.proofs.Cuts.{reached_leg}
+use Rattle.cspf_search.proofs.Labelled.{same_state-true, open_index, index_at}
+use Rattle.cspf_search.proofs.Grown.{reached_router, crosses_from, crosses_to, root_nodes}
+use Rattle.cspf_search.proofs.Ranks.{same_or_not, before_by_rank, rank_before, rank_tied, rank_is, walk_short, rank_small, crossing_short, state_apart, index_for}
+
+-- the label of an open state isn't 0
+pub open_rank : (d : Database) (nodes : List Node) (P : List Link → State → Type 0) (cap : ℕ) (t : State) (label : Label) → IsLabel d nodes P cap t label
+    → index_of nodes t ≡ None → 0 < label.rank
+open_rank d nodes P cap t label (is_settled k none e) left = absurd (cc)
+open_rank d nodes P cap t label (is_reached o r) left = omega (arith, r.rank)
+open_rank d nodes P cap t label (is_unreached o none first) left = omega (arith, none)
+
+-- the label of a state that waits stands for a node
+pub reached_of : (d : Database) (nodes : List Node) (P : List Link → State → Type 0) (cap : ℕ) (t : State) (label : Label) → IsLabel d nodes P cap t label
+    → 0 < label.rank → label.rank < no_rank → IsReached d nodes P cap t label
+reached_of d nodes P cap t label (is_settled k none e) some most = absurd (omega (arith, none))
+reached_of d nodes P cap t label (is_reached o r) some most = r
+reached_of d nodes P cap t label (is_unreached o none first) some most = absurd (omega (arith, none))
+
+module _ (d : Database) (q : Request) (of : AreLinksOf d (links_of d)) (listed : AreListed d) (from : IsRouterOf d q.from) (nodes : List Node) (are : AreNodes nodes)
+    (settled : AreSettled d q (labels_of nodes)) (goal : ℕ) (there : IsStateIndex d q goal) (labels : List Label) (keys : List Key)
+    (before : AreLabels d q nodes (CrossesBelow d q nodes (links_of d) (length nodes)) goal labels keys) (left : index_of nodes (state_at d goal) ≡ None) where
+  abbrev cap : ℕ
+  cap = (label_at labels goal).rank
+
+  -- what crosses does so to a state of an index
+  crossing_index : (w : List Link) (u : State) → Crosses d q (labels_of nodes) w u → (j : ℕ) × IsStateIndex d q j × (u ≡ state_at d j)
+  crossing_index w u c =
+      let r = steps (settled.reached c.state c.front c.settled) c.step in
+      let leg = reached_leg d q w u r in
+      index_for d q listed u (reached_router d q from w u r) leg.0 leg.1
+
+  short : (w : List Link) (u : State) → Crosses d q (labels_of nodes) w u → length w < 16384
+  short w u c = let x = crosses_to d q (links_of d) of nodes are.apart w u c in crossing_short d q nodes are (links_of d) x.0 x.1 w u x.2
+
+  capped : 0 < cap
+  capped = open_rank d nodes (CrossesBelow d q nodes (links_of d) (length nodes)) cap (state_at d goal) (label_at labels goal) (before.each goal there) left
+
+  module _ (i : ℕ) (rest : List Key) (least : IsLeast d q labels keys i rest) where
+    abbrev n : Node
+    n = node_of d nodes (label_at labels i)
+
+    here : IsReached d nodes (CrossesBelow d q nodes (links_of d) (length nodes)) cap (state_at d i) (label_at labels i)
+    here = reached_of d nodes (CrossesBelow d q nodes (links_of d) (length nodes)) cap (state_at d i) (label_at labels i) (before.each i least.index) least.some least.most
+
+    rank : (label_at labels i).rank ≡ walk_rank (walk_of nodes n)
+    rank = here.rank ∙ rank_is nodes are n here.next
+
+    -- what is behind the cap is behind the least key
+    behind : (w : List Link) → IsBeyond cap w → walk_rank (walk_of nodes n) < walk_rank w
+    behind w beyond =
+        elim (least.first (key_at cap goal) (before.waiting goal there capped beyond.known) refl) [
+          | inl lt ↦ omega (arith, beyond.behind, rank)
+          | inr tie ↦ omega (arith, beyond.behind, rank, tie.0)
+        ]
+
+    first_rank : (j : ℕ) → IsStateIndex d q j → (x : List Link) → length x < 16384 → CrossesBelow d q nodes (links_of d) (length nodes) x (state_at d j)
+        → index_of nodes (state_at d j) ≡ None → (label : Label) → label ≡ label_at labels j
+        → IsLabel d nodes (CrossesBelow d q nodes (links_of d) (length nodes)) cap (state_at d j) label
+        → is_gt (rank_cmp ((state_at d i).leg, walk_of nodes n) ((state_at d j).leg, x)) ≡ false
+    first_rank j jx x high p clear label is (is_settled k none e) = absurd (cc)
+    first_rank j jx x high p clear label is (is_reached o r) =
+        let m = node_of d nodes label in
+        let rank_of_m : label.rank ≡ walk_rank (walk_of nodes m) = r.rank ∙ rank_is nodes are m r.next in
+        let same = ap (λ (l : Label). l.rank) is in
+        let key = before.waiting j jx (omega (arith, r.rank, same)) (omega (arith, r.rank, rank_small nodes are m r.next, same)) in
+        elim (r.first x p) [
+          | inl late ↦
+              upto ranks_total ((state_at d i).leg, walk_of nodes n) ((state_at d j).leg, walk_of nodes m) ((state_at d j).leg, x)
+              (elim (least.first (key_at (label_at labels j).rank j) key refl) [
+                | inl lt ↦ rank_before (state_at d i).leg (state_at d j).leg (walk_of nodes n) (walk_of nodes m) (walk_short nodes are m r.next) (omega (arith, lt, rank, rank_of_m, same))
+                | inr tie ↦
+                    rank_tied (state_at d i).leg (state_at d j).leg (walk_of nodes n) (walk_of nodes m) (walk_short nodes are n here.next) (walk_short nodes are m r.next)
+                    (omega (arith, tie.0, rank, rank_of_m, same)) (omega (arith, tie.1))
+              ])
+              (rank_from_walk (state_at d j).leg (walk_of nodes m) x late)
+          | inr beyond ↦ rank_before (state_at d i).leg (state_at d j).leg (walk_of nodes n) x high (behind x beyond)
+        ]
+    first_rank j jx x high p clear label is (is_unreached o none f) = rank_before (state_at d i).leg (state_at d j).leg (walk_of nodes n) x high (behind x (f x p))
+
+    first_at : IsFirstCrossing d q (labels_of nodes) (walk_of nodes n) (state_at d i)
+    first_at = record {
+      crosses = crosses_from d q (links_of d) of nodes are.apart (walk_of nodes n) (state_at d i) here.passes;
+      first_here = λ x c.
+          elim (here.first x (crosses_to d q (links_of d) of nodes are.apart x (state_at d i) c)) [
+            | inl late ↦ late
+            | inr beyond ↦ before_by_rank (walk_of nodes n) x (behind x beyond) (short x (state_at d i) c)
+          ];
+      first = λ x u c.
+          let at = crossing_index x u c in
+          let p = subst (CrossesBelow d q nodes (links_of d) (length nodes) x) at.2 (crosses_to d q (links_of d) of nodes are.apart x u c) in
+          let clear = ap (index_of nodes) (sym at.2) ∙ open_index nodes u c.still_open in
+          subst (λ s. RanksNoLater (state_at d i) (walk_of nodes n) s x) (sym at.2)
+          (first_rank at.0 at.1 x (short x u c) p clear (label_at labels at.0) refl (before.each at.0 at.1));
+    }
+
+    pub first_popped : IsFirstCrossing d q (labels_of nodes) (walk_of nodes n) (state_of n)
+    first_popped = subst (IsFirstCrossing d q (labels_of nodes) (walk_of nodes n)) (sym here.state) first_at
+
+    pub popped : IsReached d nodes (CrossesBelow d q nodes (links_of d) (length nodes)) cap (state_at d i) (label_at labels i)
+    popped = here
+
+  module _ (none : (key : Key) → Contains keys key → IsLive labels key → ⊥) where
+    uncrossed : (j : ℕ) → IsStateIndex d q j → (x : List Link) → CrossesBelow d q nodes (links_of d) (length nodes) x (state_at d j) → index_of nodes (state_at d j) ≡ None
+        → (label : Label) → label ≡ label_at labels j → IsLabel d nodes (CrossesBelow d q nodes (links_of d) (length nodes)) cap (state_at d j) label → ⊥
+    uncrossed j jx x p clear label is (is_settled k zeros e) = cc
+    uncrossed j jx x p clear label is (is_reached o r) =
+        let same = ap (λ (l : Label). l.rank) is in
+        let small = rank_small nodes are (node_of d nodes label) r.next in
+        none (key_at (label_at labels j).rank j) (before.waiting j jx (omega (arith, r.rank, same)) (omega (arith, r.rank, small, same))) refl
+    uncrossed j jx x p clear label is (is_unreached o far f) = none (key_at cap goal) (before.waiting goal there capped (f x p).known) refl
+
+    pub nothing_left : (w : List Link) (u : State) → Crosses d q (labels_of nodes) w u → ⊥
+    nothing_left w u c =
+        let at = crossing_index w u c in
+        let p = subst (CrossesBelow d q nodes (links_of d) (length nodes) w) at.2 (crosses_to d q (links_of d) of nodes are.apart w u c) in
+        let clear = ap (index_of nodes) (sym at.2) ∙ open_index nodes u c.still_open in
+        uncrossed at.0 at.1 w p clear (label_at labels at.0) refl (before.each at.0 at.1)
+
+-- the first labels
+
+module _ (d : Database) (q : Request) (listed : AreListed d) (place : ℕ) (at : IsEnd d q.from place) where
+  start_index : IsStateIndex d q place
+  start_index = record { low = omega (arith, at.within, listed.few); place = let e : place % 1024 ≡ place = omega (arith, at.within, listed.few) in rw e at.within }
+
+  start_state : start_of q ≡ state_at d place
+  start_state =
+      let leg : 1 ≡ place / 1024 + 1 = omega (arith, at.within, listed.few) in
+      let same : place % 1024 ≡ place = omega (arith, at.within, listed.few) in
+      let router : q.from ≡ slice_index (router_list d) (place % 1024) = sym (ap (slice_index (router_list d)) same ∙ at.is) in
+      λ k. record { leg = leg k; router = router k }
+
+  pub root_only : (j : ℕ) → IsStateIndex d q j → j ≢ place → index_of (root_of q ∷ []) (state_at d j) ≡ None
+  root_only j jx ne =
+      elim (index_of (root_of q ∷ []) (state_at d j)) as (λ o. index_of (root_of q ∷ []) (state_at d j) ≡ o → o ≡ None) [
+        | Some i ↦ λ e.
+            let found = position-Some (λ m. same_state (state_of m) (state_at d j)) (root_of q ∷ []) i nowhere e in
+            let first : i ≡ 0 = omega (arith, found.0) in
+            let is : same_state (state_of (root_of q)) (state_at d j) ≡ true = rw first at found.1 in
+            absurd (ne (sym (state_apart d q listed place j start_index jx (sym start_state ∙ same_state-true (state_of (root_of q)) (state_at d j) is))))
+        | None ↦ λ e. refl
+      ] refl
+
+  pub first_labels : (goal : ℕ) (blank label : Label) → blank.rank ≡ no_rank → label.rank ≡ 0 → (keys : List Key) → keys ≡ [] → IsHeap key_cmp keys → (count : ℕ)
+      → count ≡ (length q.hops + 1) * 1024
+      → AreLabels d q (root_of q ∷ []) (CrossesBelow d q (root_of q ∷ []) (links_of d) 0) goal (set (replicate count blank) place label) keys
+  first_labels goal blank label none zero keys empty heap count many =
+      let labels = replicate count blank in
+      let within : place < length (replicate count blank) = omega (arith, at.within, listed.few, length-replicate count blank) in
+      let here : label_at (set (replicate count blank) place label) place ≡ label = get_or-set_same (replicate count blank) place label _ within in
+      let there : (j : ℕ) → IsStateIndex d q j → j ≢ place → label_at (set (replicate count blank) place label) j ≡ blank =
+      λ j jx ne. get_or-set_other (replicate count blank) place j label _ ne ∙ get_or-replicate count j blank _ (omega (arith, many, jx.low)) in
+      record {
+        many = length-set (replicate count blank) place label ∙ length-replicate count blank ∙ many;
+        each = λ j jx.
+            elim (same_or_not j place) [
+              | inl same ↦ rw (same, here) (is_settled 0 zero (ap (index_of (root_of q ∷ [])) (sym start_state) ∙ index_at (root_of q ∷ []) (root_nodes q).apart 0 nowhere (omega arith)))
+              | inr ne ↦ rw (there j jx ne) (is_unreached (root_only j jx ne) none (λ w p. absurd (omega (arith, p.1))))
+            ];
+        ordered = heap;
+        keyed = rw empty (All-nil (IsKey d q));
+        waiting = λ j jx some most.
+            elim (same_or_not j place) [
+              | inl same ↦ absurd (let e : (label_at (set (replicate count blank) place label) j).rank ≡ 0 = rw (same, here) zero in omega arith)
+              | inr ne ↦ absurd (let e = ap (λ (l : Label). l.rank) (there j jx ne) in omega (arith, e, none))
+            ];
+      }
+
+-- the goal is the state of the tail-end in the leg behind the last hop
+pub goal_index : (d : Database) (q : Request) → AreListed d → (to legs : ℕ) → legs ≡ length q.hops + 1 → IsEnd d q.to to → IsStateIndex d q ((legs - 1) * 1024 + to)
+goal_index d q listed to legs count end =
+    let place : ((legs - 1) * 1024 + to) % 1024 ≡ to = omega (arith, end.within, listed.few) in
+    record { low = omega (arith, end.within, listed.few); place = rw place end.within }
+
+pub goal_state : (d : Database) (q : Request) → AreListed d → (to legs : ℕ) → legs ≡ length q.hops + 1 → IsEnd d q.to to → state_at d ((legs - 1) * 1024 + to) ≡ end_state q
+goal_state d q listed to legs count end =
+    let place : ((legs - 1) * 1024 + to) % 1024 ≡ to = omega (arith, end.within, listed.few) in
+    let leg : ((legs - 1) * 1024 + to) / 1024 + 1 ≡ length q.hops + 1 = omega (arith, end.within, listed.few) in
+    let router : slice_index (router_list d) (((legs - 1) * 1024 + to) % 1024) ≡ q.to = ap (slice_index (router_list d)) place ∙ end.is in
+    λ k. record { leg = leg k; router = router k }

@@ -1,0 +1,203 @@
+-- What one node more changes of what leads on, and of labels.
+use Rattle.std.proofs.Common.{◌≡◌, ◌≢◌, inl, inr, ℕ, ◌<◌, Some, None, List, [], ◌∷◌, ◌++◌, length, set, slice_get, slice_index_or, refl, sym, ap, subst, ◌∙◌, arith, length-set}
+use Rattle.std.proofs.lemmas.Bool.{cases_lt}
+use Rattle.std.proofs.lemmas.List.{get_or_append_left, get_or_push, length_push, get_or-set_same, get_or-set_other}
+use Rattle.std.proofs.lemmas.List.Quantifiers.{position-Some}
+use Rattle.std.proofs.lemmas.Option.{slice_get-get_or}
+use Rattle.cspf_db.specs.declared.link.Link.{Link}
+use Rattle.cspf_db.specs.declared.request.Request.{Request}
+use Rattle.cspf_db.specs.Database.{Database}
+use Rattle.cspf_db.specs.Walks.{cost_of}
+use Rattle.cspf_db.specs.Index.{links_of}
+use Rattle.cspf_search.specs.declared.arena.Node.{Node}
+use Rattle.cspf_search.specs.declared.labels.Label.{Label}
+use Rattle.cspf_search.specs.States.{State}
+use Rattle.cspf_search.specs.Settled.{IsNoLater}
+use Rattle.cspf_search.specs.Arena.{walk_of, state_of, same_state, index_of, IsNext}
+use Rattle.cspf_search.specs.Rounds.{CrossesFrom, CrossesBelow}
+use Rattle.cspf_search.specs.Frontier.{state_at, AreListed, nowhere, node_of, rank_of, IsLabel, is_settled, is_reached, is_unreached, Key, key_at, label_at, AreLabels, IsLeast}
+use Rattle.cspf_search.proofs.Labelled.{walk_at-old, walk_of-old, same_state-true, index_at}
+use Rattle.cspf_search.proofs.Few.{AreApart}
+use Rattle.cspf_search.proofs.Ranks.{same_or_not, state_apart}
+
+module _ (nodes : List Node) (n : Node) (before : AreApart nodes) (apart : AreApart (nodes ++ (n ∷ []))) where
+  get_old : (i : ℕ) → i < length nodes → slice_get (nodes ++ (n ∷ [])) i ≡ slice_get nodes i
+  get_old i h =
+      slice_get-get_or (nodes ++ (n ∷ [])) i nowhere (omega (arith, length_push nodes n)) ∙ ap Some (get_or_append_left nodes (n ∷ []) nowhere i h)
+      ∙ sym (slice_get-get_or nodes i nowhere h)
+
+  -- the index of a state stays
+  pub index_old : (t : State) (i : ℕ) → index_of nodes t ≡ Some i → index_of (nodes ++ (n ∷ [])) t ≡ Some i
+  index_old t i e =
+      let found = position-Some (λ m. same_state (state_of m) t) nodes i nowhere e in
+      let old = get_or_append_left nodes (n ∷ []) nowhere i found.0 in
+      let same : state_of (slice_index_or (nodes ++ (n ∷ [])) i nowhere) ≡ t = ap state_of old ∙ same_state-true (state_of (slice_index_or nodes i nowhere)) t found.1 in
+      ap (index_of (nodes ++ (n ∷ []))) (sym same) ∙ index_at (nodes ++ (n ∷ [])) apart i nowhere (omega (arith, found.0, length_push nodes n))
+
+  pub index_new : index_of (nodes ++ (n ∷ [])) (state_of n) ≡ Some (length nodes)
+  index_new =
+      let same : state_of (slice_index_or (nodes ++ (n ∷ [])) (length nodes) nowhere) ≡ state_of n = ap state_of (get_or_push nodes n nowhere (length nodes) refl) in
+      ap (index_of (nodes ++ (n ∷ []))) (sym same) ∙ index_at (nodes ++ (n ∷ [])) apart (length nodes) nowhere (omega (arith, length_push nodes n))
+
+  open_old : (t : State) → index_of (nodes ++ (n ∷ [])) t ≡ None → index_of nodes t ≡ None
+  open_old t left =
+      elim (index_of nodes t) as (λ o. index_of nodes t ≡ o → o ≡ None) [
+        | Some i ↦ λ e. let new = index_old t i e in absurd (cc)
+        | None ↦ λ e. refl
+      ] refl
+
+  pub open_new : (t : State) → t ≢ state_of n → index_of nodes t ≡ None → index_of (nodes ++ (n ∷ [])) t ≡ None
+  open_new t ne left =
+      elim (index_of (nodes ++ (n ∷ [])) t) as (λ o. index_of (nodes ++ (n ∷ [])) t ≡ o → o ≡ None) [
+        | Some i ↦ λ e.
+            let found = position-Some (λ m. same_state (state_of m) t) (nodes ++ (n ∷ [])) i nowhere e in
+            let at = same_state-true (state_of (slice_index_or (nodes ++ (n ∷ [])) i nowhere)) t found.1 in
+            elim (cases_lt i (length nodes)) [
+              | inl lt ↦
+                  let there : state_of (slice_index_or nodes i nowhere) ≡ t = ap state_of (sym (get_or_append_left nodes (n ∷ []) nowhere i lt)) ∙ at in
+                  let old = ap (index_of nodes) (sym there) ∙ index_at nodes before i nowhere lt in
+                  absurd (cc)
+              | inr ge ↦
+                  let last : i ≡ length nodes = omega (arith, found.0, length_push nodes n) in
+                  absurd (ne (sym at ∙ ap state_of (get_or_push nodes n nowhere i (sym last))))
+            ]
+        | None ↦ λ e. refl
+      ] refl
+
+  module _ (d : Database) (q : Request) (links : List Link) where
+    from_old : (at : ℕ) → at < length nodes → (w : List Link) (t : State) → CrossesFrom d q (nodes ++ (n ∷ [])) links at w t → CrossesFrom d q nodes links at w t
+    from_old at h w t (inl turn) = inl (record {
+      node = turn.node;
+      there = sym (get_old at h) ∙ turn.there;
+      within = turn.within;
+      target = turn.target;
+      walk = turn.walk ∙ walk_at-old nodes n at h;
+      state = turn.state;
+      still_open = open_old t turn.still_open;
+    })
+    from_old at h w t (inr by) = inr (
+      by.0,
+      by.1,
+      record {
+        node = by.2.node;
+        there = sym (get_old at h) ∙ by.2.there;
+        runs = by.2.runs;
+        admitted = by.2.admitted;
+        inside = by.2.inside;
+        walk = by.2.walk ∙ ap (λ v. v ++ (by.0 ∷ [])) (walk_at-old nodes n at h);
+        state = by.2.state;
+        still_open = open_old t by.2.still_open;
+      },
+    )
+
+    from_new : (at : ℕ) → at < length nodes → (w : List Link) (t : State) → t ≢ state_of n → CrossesFrom d q nodes links at w t → CrossesFrom d q (nodes ++ (n ∷ [])) links at w t
+    from_new at h w t ne (inl turn) = inl (record {
+      node = turn.node;
+      there = get_old at h ∙ turn.there;
+      within = turn.within;
+      target = turn.target;
+      walk = turn.walk ∙ sym (walk_at-old nodes n at h);
+      state = turn.state;
+      still_open = open_new t ne turn.still_open;
+    })
+    from_new at h w t ne (inr by) = inr (
+      by.0,
+      by.1,
+      record {
+        node = by.2.node;
+        there = get_old at h ∙ by.2.there;
+        runs = by.2.runs;
+        admitted = by.2.admitted;
+        inside = by.2.inside;
+        walk = by.2.walk ∙ ap (λ v. v ++ (by.0 ∷ [])) (sym (walk_at-old nodes n at h));
+        state = by.2.state;
+        still_open = open_new t ne by.2.still_open;
+      },
+    )
+
+    below_old : (w : List Link) (t : State) → CrossesBelow d q (nodes ++ (n ∷ [])) links (length nodes) w t → CrossesBelow d q nodes links (length nodes) w t
+    below_old w t x = (x.0, x.1, from_old x.0 x.1 w t x.2)
+
+    below_new : (w : List Link) (t : State) → t ≢ state_of n → CrossesBelow d q nodes links (length nodes) w t → CrossesBelow d q (nodes ++ (n ∷ [])) links (length nodes) w t
+    below_new w t ne x = (x.0, x.1, from_new x.0 x.1 w t ne x.2)
+
+    -- what leads on into a state where a node stands
+    below_settled : (i : ℕ) (w : List Link) (t : State) → index_of (nodes ++ (n ∷ [])) t ≡ Some i → CrossesBelow d q (nodes ++ (n ∷ [])) links (length nodes) w t → ⊥
+    below_settled i w t e x = elim x.2 [ inl turn ↦ let left = turn.still_open in cc | inr by ↦ let left = by.2.still_open in cc ]
+
+  node_old : (d : Database) (label : Label) → label.parent < length nodes → node_of d (nodes ++ (n ∷ [])) label ≡ node_of d nodes label
+  node_old d label h = rw (get_or_append_left nodes (n ∷ []) nowhere label.parent h) refl
+
+  next_old : (m : Node) → IsNext nodes m → IsNext (nodes ++ (n ∷ [])) m
+  next_old m next =
+      let same = walk_of-old nodes n m next.parent in
+      record {
+        parent = omega (arith, next.parent, length_push nodes n);
+        linked = next.linked;
+        numbered = record {
+          cost = next.numbered.cost ∙ ap cost_of (sym same);
+          links = next.numbered.links ∙ ap (λ (w : List Link). length w) (sym same);
+          few = omega (arith, next.numbered.few, length_push nodes n);
+          small = next.numbered.small;
+        };
+      }
+
+  module _ (d : Database) (q : Request) where
+    -- the label of another state stays
+    label_old : (cap : ℕ) (t : State) → t ≢ state_of n → (label : Label) → IsLabel d nodes (CrossesBelow d q nodes (links_of d) (length nodes)) cap t label
+        → IsLabel d (nodes ++ (n ∷ [])) (CrossesBelow d q (nodes ++ (n ∷ [])) (links_of d) (length nodes)) cap t label
+    label_old cap t ne label (is_settled k none e) = is_settled k none (index_old t k e)
+    label_old cap t ne label (is_reached left r) =
+        let same = node_old d label r.parent in
+        let walk : walk_of (nodes ++ (n ∷ [])) (node_of d (nodes ++ (n ∷ [])) label) ≡ walk_of nodes (node_of d nodes label) =
+        ap (walk_of (nodes ++ (n ∷ []))) same ∙ walk_of-old nodes n (node_of d nodes label) r.next.parent in
+        is_reached (open_new t ne left) (record {
+          place = r.place;
+          parent = omega (arith, r.parent, length_push nodes n);
+          rank = r.rank ∙ ap rank_of (sym same);
+          state = ap state_of same ∙ r.state;
+          next = subst (IsNext (nodes ++ (n ∷ []))) (sym same) (next_old (node_of d nodes label) r.next);
+          passes =
+              subst (λ v. CrossesBelow d q (nodes ++ (n ∷ [])) (links_of d) (length nodes) v t) (sym walk)
+              (below_new d q (links_of d) (walk_of nodes (node_of d nodes label)) t ne r.passes);
+          first = λ w p.
+              elim (r.first w (below_old d q (links_of d) w t p)) [
+                | inl late ↦ inl (subst (λ v. IsNoLater v w) (sym walk) late)
+                | inr beyond ↦ inr beyond
+              ];
+        })
+    label_old cap t ne label (is_unreached left none first) = is_unreached (open_new t ne left) none (λ w p. first w (below_old d q (links_of d) w t p))
+
+    -- to settle the least key's state leaves the labels of the others
+    pub labels_settle : AreListed d → (goal : ℕ) (labels : List Label) (keys : List Key)
+        → AreLabels d q nodes (CrossesBelow d q nodes (links_of d) (length nodes)) goal labels keys → (i : ℕ) (left : List Key) → IsLeast d q labels keys i left
+        → state_of n ≡ state_at d i → goal ≢ i → (label : Label) → label.rank ≡ 0
+        → AreLabels d q (nodes ++ (n ∷ [])) (CrossesBelow d q (nodes ++ (n ∷ [])) (links_of d) (length nodes)) goal (set labels i label) left
+    labels_settle listed goal labels keys are i left least state off label none =
+        let within : i < length labels = omega (arith, are.many, least.index.low) in
+        let here : label_at (set labels i label) i ≡ label = get_or-set_same labels i label _ within in
+        let there : (j : ℕ) → j ≢ i → label_at (set labels i label) j ≡ label_at labels j = λ j ne. get_or-set_other labels i j label _ ne in
+        record {
+          many = length-set labels i label ∙ are.many;
+          each = λ j jx.
+              elim (same_or_not j i) [
+                | inl same ↦ rw (same, here) (is_settled (length nodes) none (ap (index_of (nodes ++ (n ∷ []))) (sym state) ∙ index_new))
+                | inr ne ↦
+                    rw (there j ne, there goal off)
+                    (label_old (label_at labels goal).rank (state_at d j) (λ e. ne (state_apart d q listed j i jx least.index (e ∙ state))) (label_at labels j) (are.each j jx))
+              ];
+          ordered = least.ordered;
+          keyed = least.keyed;
+          waiting = λ j jx some most.
+              elim (same_or_not j i) [
+                | inl same ↦ absurd (let e : (label_at (set labels i label) j).rank ≡ 0 = rw (same, here) none in omega arith)
+                | inr ne ↦
+                    let e = there j ne in
+                    let rank = ap (λ (l : Label). l.rank) e in
+                    let was = are.waiting j jx (omega (arith, rank)) (omega (arith, rank)) in
+                    elim (least.others (key_at (label_at labels j).rank j) was refl) [
+                      | inl same ↦ absurd (ne same)
+                      | inr stays ↦ rw e stays
+                    ]
+              ];
+        }

@@ -1,0 +1,154 @@
+-- Ranks as numbers, and the indexes of states.
+use Rattle.std.proofs.Common.{◌≡◌, ◌≢◌, ◌⊎◌, inl, inr, ℕ, zero, suc, ◌+◌, ◌-◌, ◌*◌, ◌/◌, ◌%◌, ◌^◌, ◌<◌, ◌≤◌, true, false, List, length, slice_index, slice_index_or, sym, ap, ◌∙◌, arith, add-one}
+use Rattle.std.specs.Ordering.{nat_cmp, ordering_then, ordering_reverse, is_gt}
+use Rattle.std.specs.declared.cmp.Ordering.{Ordering}
+use Rattle.std.specs.declared.cmp.Ordering.TheVariants.{Less, Equal, Greater}
+use Rattle.std.specs.Cmp.{nat_cmp_total}
+use Rattle.std.specs.List.Sorted.{IsStrictlyIncreasing}
+use Rattle.std.proofs.lemmas.Cmp.{tied_itself, nat_list_cmp_total}
+use Rattle.std.proofs.lemmas.Bool.{cases_lt}
+use Rattle.std.proofs.lemmas.Bool.Decides.{nat_tests}
+use Rattle.std.proofs.lemmas.List.{length_push}
+use Rattle.std.proofs.lemmas.List.Elements.{at_from_Contains}
+use Rattle.cspf_db.specs.declared.link.Link.{Link}
+use Rattle.cspf_db.specs.declared.request.Request.{Request}
+use Rattle.cspf_db.specs.Database.{Database, IsRouterOf}
+use Rattle.cspf_db.specs.Walks.{cost_of, locals_of}
+use Rattle.cspf_db.specs.Index.{router_list}
+use Rattle.cspf_search.specs.declared.arena.Node.{Node}
+use Rattle.cspf_search.specs.States.{State}
+use Rattle.cspf_search.specs.Settled.{IsNoLater, rank_cmp, locals_cmp}
+use Rattle.cspf_search.specs.Arena.{walk_at, walks, walk_of, AreNodes, IsNext}
+use Rattle.cspf_search.specs.Rounds.{CrossesFrom}
+use Rattle.cspf_search.specs.Frontier.{state_at, IsStateIndex, AreListed, nowhere, rank_of, walk_rank, no_rank, IsBeyond}
+
+pub same_or_not : (i j : ℕ) → (i ≡ j) ⊎ (i ≢ j)
+same_or_not i j =
+    elim (cases_lt i j) [
+      | inl lt ↦ inr (λ e. omega arith)
+      | inr ge ↦ elim (cases_lt j i) [ inl lt ↦ inr (λ e. omega arith) | inr le ↦ inl (omega arith) ]
+    ]
+
+-- numbers of less than 16,384 links
+
+pub rank_parts : (a b m n : ℕ) → a * 16384 + m + 1 ≡ b * 16384 + n + 1 → m < 16384 → n < 16384 → (a ≡ b) × (m ≡ n)
+rank_parts a b m n e low high = (omega arith, omega arith)
+
+less_cost : (a b : ℕ) (o : Ordering) → a < b → is_gt (ordering_then (nat_cmp a b) o) ≡ false
+less_cost a b o h = grind (arith, nat_tests)
+
+less_links : (a b m n : ℕ) (o : Ordering) → a ≡ b → m < n → is_gt (ordering_then (nat_cmp a b) (ordering_then (nat_cmp m n) o)) ≡ false
+less_links a b m n o e h = grind (arith, nat_tests)
+
+less_rank : (a b m n : ℕ) (o : Ordering) → a * 16384 + m + 1 < b * 16384 + n + 1 → n < 16384
+    → is_gt (ordering_then (nat_cmp a b) (ordering_then (nat_cmp m n) o)) ≡ false
+less_rank a b m n o less high =
+    elim (cases_lt a b) [
+      | inl lt ↦ less_cost a b (ordering_then (nat_cmp m n) o) lt
+      | inr ge ↦ less_links a b m n o (omega arith) (omega arith)
+    ]
+
+tied_rank : (a b m n : ℕ) (o : Ordering) → a ≡ b → m ≡ n → is_gt o ≡ false → is_gt (ordering_then (nat_cmp a b) (ordering_then (nat_cmp m n) o)) ≡ false
+tied_rank a b m n o e f h = rw (e, f, tied_itself nat_cmp_total b, tied_itself nat_cmp_total n) h
+
+no_less : (j k : ℕ) → j ≤ k → is_gt (nat_cmp j k) ≡ false
+no_less j k h = grind (arith, nat_tests)
+
+-- a walk that ranks before another is before it
+pub before_by_rank : (v w : List Link) → walk_rank v < walk_rank w → length w < 16384 → IsNoLater v w
+before_by_rank v w less high = less_rank (cost_of v) (cost_of w) (length v) (length w) (locals_cmp v w) less high
+
+pub before_by_locals : (v w : List Link) → walk_rank v ≡ walk_rank w → length v < 16384 → length w < 16384 → is_gt (locals_cmp v w) ≡ false → IsNoLater v w
+before_by_locals v w tie low high first =
+    let parts = rank_parts (cost_of v) (cost_of w) (length v) (length w) tie low high in
+    tied_rank (cost_of v) (cost_of w) (length v) (length w) (locals_cmp v w) parts.0 parts.1 first
+
+turned : (o p : Ordering) → p ≡ ordering_reverse o → is_gt o ≡ true → is_gt p ≡ false
+turned Less p e g = absurd (cc)
+turned Equal p e g = absurd (cc)
+turned Greater p e g = ap is_gt e
+
+pub locals_turned : (v w : List Link) → is_gt (locals_cmp v w) ≡ true → is_gt (locals_cmp w v) ≡ false
+locals_turned v w h = turned (locals_cmp v w) (locals_cmp w v) (nat_list_cmp_total.antisymm (locals_of w) (locals_of v)) h
+
+pub rank_before : (j k : ℕ) (v w : List Link) → length w < 16384 → walk_rank v < walk_rank w → is_gt (rank_cmp (j, v) (k, w)) ≡ false
+rank_before j k v w high less = less_rank (cost_of v) (cost_of w) (length v) (length w) (nat_cmp j k) less high
+
+pub rank_tied : (j k : ℕ) (v w : List Link) → length v < 16384 → length w < 16384 → walk_rank v ≡ walk_rank w → j ≤ k → is_gt (rank_cmp (j, v) (k, w)) ≡ false
+rank_tied j k v w low high tie legs =
+    let parts = rank_parts (cost_of v) (cost_of w) (length v) (length w) tie low high in
+    tied_rank (cost_of v) (cost_of w) (length v) (length w) (nat_cmp j k) parts.0 parts.1 (no_less j k legs)
+
+-- nodes
+
+module _ (nodes : List Node) (are : AreNodes nodes) (n : Node) (next : IsNext nodes n) where
+  pub rank_is : rank_of n ≡ walk_rank (walk_of nodes n)
+  rank_is = omega (arith, next.numbered.cost, next.numbered.links)
+
+  pub walk_short : length (walk_of nodes n) < 16384
+  walk_short = omega (arith, next.numbered.links, next.numbered.few, are.most)
+
+  pub links_short : n.links < 16384
+  links_short = omega (arith, next.numbered.few, are.most)
+
+  pub rank_small : rank_of n < no_rank
+  rank_small = omega (arith, next.numbered.small, next.numbered.few, are.most)
+
+-- the rank of a node leaves room for a link
+pub rank_at : (nodes : List Node) → AreNodes nodes → (at : ℕ) → at < length nodes → rank_of (slice_index_or nodes at nowhere) < 2 ^ 60
+rank_at nodes are at within =
+    let numbered = are.numbered at nowhere within in
+    omega (arith, numbered.small, numbered.few, are.most)
+
+-- a walk that leads on from nodes is short
+pub crossing_short : (d : Database) (q : Request) (nodes : List Node) → AreNodes nodes → (links : List Link) (at : ℕ) → at < length nodes → (w : List Link) (t : State)
+    → CrossesFrom d q nodes links at w t → length w < 16384
+crossing_short d q nodes are links at within w t (inl turn) =
+    let numbered = are.numbered at nowhere within in
+    omega (arith, ap (λ (w : List Link). length w) turn.walk, numbered.links, numbered.few, are.most)
+crossing_short d q nodes are links at within w t (inr by) =
+    let numbered = are.numbered at nowhere within in
+    let x = by.2 in
+    omega (arith, ap (λ (w : List Link). length w) x.walk, length_push (walk_at (walks nodes) at) by.0, numbered.links, numbered.few, are.most)
+
+pub beyond_lower : (cap lower : ℕ) (w : List Link) → lower ≤ cap → IsBeyond cap w → IsBeyond lower w
+beyond_lower cap lower w h beyond = record { known = omega (arith, beyond.known); behind = omega (arith, beyond.behind) }
+
+-- indexes of states
+
+rises : (xs : List ℕ) → IsStrictlyIncreasing xs → (i j : ℕ) → i < j → j < length xs → slice_index xs i < slice_index xs j
+rises xs up i zero lt h = absurd (omega arith)
+rises xs up i (suc j) lt h =
+    let next : slice_index xs j < slice_index xs (suc j) = rw add-one at (up j (omega arith)) in
+    elim (cases_lt i j) [
+      | inl less ↦ omega (arith, rises xs up i j less (omega arith), next)
+      | inr ge ↦ let e : i ≡ j = omega arith in rw e next
+    ]
+
+same_index : (xs : List ℕ) → IsStrictlyIncreasing xs → (i j : ℕ) → i < length xs → j < length xs → slice_index xs i ≡ slice_index xs j → i ≡ j
+same_index xs up i j low high e =
+    elim (cases_lt i j) [
+      | inl lt ↦ absurd (omega (arith, rises xs up i j lt high))
+      | inr ge ↦ elim (cases_lt j i) [ inl lt ↦ absurd (omega (arith, rises xs up j i lt low)) | inr le ↦ omega arith ]
+    ]
+
+module _ (d : Database) (q : Request) (listed : AreListed d) where
+  -- no two indexes are of one state
+  pub state_apart : (i j : ℕ) → IsStateIndex d q i → IsStateIndex d q j → state_at d i ≡ state_at d j → i ≡ j
+  state_apart i j ix jx e =
+      let place = same_index (router_list d) listed.rising (i % 1024) (j % 1024) ix.place jx.place (ap (λ (s : State). s.router) e) in
+      let leg = ap (λ (s : State). s.leg) e in
+      omega (arith, place, leg)
+
+  -- a router of the database in a leg of the request has an index
+  pub index_for : (u : State) → IsRouterOf d u.router → 1 ≤ u.leg → u.leg ≤ length q.hops + 1 → (i : ℕ) × IsStateIndex d q i × (u ≡ state_at d i)
+  index_for u known low high =
+      let at = at_from_Contains (router_list d) u.router ((listed.known u.router).1 known) in
+      let i : ℕ = (u.leg - 1) * 1024 + at.0 in
+      let leg : u.leg ≡ i / 1024 + 1 = omega (arith, at.1, listed.few) in
+      let place : i % 1024 ≡ at.0 = omega (arith, at.1, listed.few) in
+      let router : u.router ≡ slice_index (router_list d) (i % 1024) = sym (ap (slice_index (router_list d)) place ∙ at.2 0) in (
+        i,
+        record { low = omega (arith, at.1, listed.few); place = rw place at.1 },
+        (λ k. record { leg = leg k; router = router k }),
+      )

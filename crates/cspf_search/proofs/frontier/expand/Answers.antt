@@ -1,0 +1,33 @@
+use Rattle.std.proofs.Common.{◌≡◌, ◌+◌, ◌%◌, List, length, ap, heap_items, arith}
+use Rattle.cspf_db.specs.declared.link.Link.{Link}
+use Rattle.cspf_db.specs.Index.{links_of, links_from_index}
+use Rattle.cspf_search.specs.Rounds.{CrossesBelow}
+use Rattle.cspf_search.specs.Frontier.{CrossesUpTo}
+use Rattle.cspf_search.proofs.Expanded.{all_below, below_all}
+use Rattle.cspf_search.proofs.Offered.{labels_same}
+use Rattle.cspf_search.proofs.Taken.{end_of_row, few_rows}
+use Rattle.cspf_search.proofs.frontier.expand.Goals as goal
+
+pub offer_link-requires-clause-end : goal.offer_link-requires-clause-end
+offer_link-requires-clause-end c =
+    let links = c.out_at-links.result.now in
+    let each = rw (← c.out_at-links.ensures) at c.ends_at-ends.ensures.each in
+    end_of_row c.args.table.now c.ends_at-ends.result.now links c.ends_at-ends.ensures.within each c.loop-row.row c.index-links-row.result c.from.result c.loop-row-test.true
+    c.index-links-row.is c.from.ensures
+
+pub returns-clause-after : goal.returns-clause-after
+returns-clause-after c =
+    let d = c.args.table.now in
+    let q = c.args.request.now in
+    let nodes = c.args.nodes.now in
+    let all : c.loop-row.row ≡ length (links_from_index d (c.args.state % 1024)) = omega (arith, ap (λ (ls : List Link). length ls) c.out_at-links.ensures) in
+    labels_same d q nodes (CrossesUpTo d q nodes c.args.at (c.args.state % 1024) (length (links_from_index d (c.args.state % 1024)))) (CrossesBelow d q nodes (links_of d) (c.args.at + 1))
+    (all_below d q nodes c.args.at c.args.state c.requires.from) (below_all d q nodes c.args.at c.args.state c.requires.from) c.args.goal c.loop-row.labels
+    (heap_items c.loop-row.heap) (rw all at c.loop-row.invariant.labels)
+
+pub returns-clause-few : goal.returns-clause-few
+returns-clause-few c =
+    let d = c.args.table.now in
+    let few =
+    few_rows d c.args.request.now c.args.nodes.now c.requires.arena c.requires.listed c.args.at c.args.state c.requires.from c.args.goal c.args.labels.now (heap_items c.args.heap.now) in
+    omega (arith, few, c.loop-row.invariant.few, ap (λ (ls : List Link). length ls) c.out_at-links.ensures)

@@ -1,0 +1,224 @@
+-- Private words of the search from a heap: the labels of states, and the keys that wait.
+use Rattle.std.specs.Prelude.{◌≡◌, ℕ, true, false, set, ◌+◌, ◌*◌, ◌/◌, ◌%◌, ◌<◌, ◌≤◌, ◌⊎◌, ◌↔◌, IsTrue, Option, Some, None, List, ◌∷◌, All, Contains, length, take, slice_get, slice_index, slice_index_or}
+use Rattle.std.specs.Ordering.{nat_cmp, ordering_then, is_gt}
+use Rattle.std.specs.declared.cmp.Ordering.{Ordering}
+use Rattle.std.specs.declared.cmp.Reverse.{Reverse}
+use Rattle.std.specs.BinaryHeap.{IsHeap}
+use Rattle.std.specs.List.Sorted.{IsPermutation, IsStrictlyIncreasing}
+use Rattle.cspf_db.specs.declared.link.Link.{Link}
+use Rattle.cspf_db.specs.declared.request.Request.{Request}
+use Rattle.cspf_db.specs.Database.{Database, IsRouterOf}
+use Rattle.cspf_db.specs.Targets.{IsTarget, IsInside}
+use Rattle.cspf_db.specs.Walks.{cost_of}
+use Rattle.cspf_db.specs.Index.{router_list, links_of, links_from_index}
+use Rattle.cspf_search.specs.declared.arena.Node.{Node}
+use Rattle.cspf_search.specs.declared.labels.Label.{Label}
+use Rattle.cspf_search.specs.declared.stands.Stand.{Stand}
+use Rattle.cspf_search.specs.States.{State}
+use Rattle.cspf_search.specs.Settled.{IsNoLater, locals_cmp}
+use Rattle.cspf_search.specs.Arena.{walk_of, state_of, index_of, IsNext}
+use Rattle.cspf_search.specs.Rounds.{CrossesFrom, CrossesBelow}
+
+-- the state at an index: 1,024 indexes for each leg, and among them the router at its index in
+-- the list of routers
+abbrev pub state_at : Database → ℕ → State
+state_at d i = record { leg = i / 1024 + 1; router = slice_index (router_list d) (i % 1024) }
+
+-- The list of routers is that of the database, and rises.
+pub record AreListed (d : Database) : Type 0 where
+  pub known : (router : ℕ) → Contains (router_list d) router ↔ IsRouterOf d router
+  pub rising : IsStrictlyIncreasing (router_list d)
+  pub few : length (router_list d) ≤ 1024
+  pub room : length (links_of d) ≤ 16384
+
+-- the index is that of a router in a leg of the request
+pub record IsStateIndex (d : Database) (q : Request) (i : ℕ) : Type 0 where
+  pub low : i < (length q.hops + 1) * 1024
+  pub place : i % 1024 < length (router_list d)
+
+-- whether a route may stand at a state, and whether it may turn to the next leg there
+pub record IsStand (d : Database) (q : Request) (t : State) (stand : Stand) : Type 0 where
+  pub inside : IsTrue stand.inside ↔ IsInside d q t.leg t.router
+  pub target : IsTrue stand.target ↔ IsTarget d q t.leg t.router
+
+-- so it is for each router in each leg
+pub record AreStands (d : Database) (q : Request) (stands : List Stand) : Type 0 where
+  pub many : length stands ≡ (length q.hops + 1) * 1024
+  pub each : (i : ℕ) (e : Stand) → IsStateIndex d q i
+      → IsStand d q (state_at d i) (slice_index_or stands i e)
+
+-- a node for the indexes past the end of a list
+abbrev pub nowhere : Node
+nowhere = record { parent = 0; by = None; leg = 0; router = 0; cost = 0; links = 0 }
+
+-- the node that a link leads to from a node, or the turn to the next leg where there is no link
+abbrev pub node_by : ℕ → Node → Option Link → Node
+node_by at from (Some l) = record {
+  parent = at;
+  by = Some l;
+  leg = from.leg;
+  router = l.to;
+  cost = from.cost + l.metric;
+  links = from.links + 1;
+}
+node_by at from None = record {
+  parent = from.parent;
+  by = from.by;
+  leg = from.leg + 1;
+  router = from.router;
+  cost = from.cost;
+  links = from.links;
+}
+
+-- the node that a label stands for
+abbrev pub node_of : Database → List Node → Label → Node
+node_of d nodes label =
+    node_by label.parent (slice_index_or nodes label.parent nowhere)
+    (slice_get (links_from_index d label.place) label.row)
+
+-- by cost, and then by the number of links, as one number above 0
+abbrev pub rank_of : Node → ℕ
+rank_of n = n.cost * 16384 + n.links + 1
+
+abbrev pub walk_rank : List Link → ℕ
+walk_rank w = cost_of w * 16384 + length w + 1
+
+-- the rank of a state that nothing led to yet
+abbrev pub no_rank : ℕ
+no_rank = 18446744073709551615
+
+-- the walk ranks behind one that the tail-end has
+pub record IsBeyond (cap : ℕ) (w : List Link) : Type 0 where
+  pub known : cap < no_rank
+  pub behind : cap < walk_rank w
+
+-- The label of an open state stands for a node that leads there, and none that does is before it,
+-- but for walks behind the cap.
+pub record IsReached (d : Database) (nodes : List Node) (P : List Link → State → Type 0)
+    (cap : ℕ) (t : State) (label : Label) : Type 0 where
+  pub place : label.place < length (router_list d)
+  pub parent : label.parent < length nodes
+  pub rank : label.rank ≡ rank_of (node_of d nodes label)
+  pub state : state_of (node_of d nodes label) ≡ t
+  pub next : IsNext nodes (node_of d nodes label)
+  pub passes : P (walk_of nodes (node_of d nodes label)) t
+  pub first : (w : List Link) → P w t
+      → IsNoLater (walk_of nodes (node_of d nodes label)) w ⊎ IsBeyond cap w
+
+-- what the label of a state tells
+pub data IsLabel (d : Database) (nodes : List Node) (P : List Link → State → Type 0)
+    (cap : ℕ) (t : State) (label : Label) : Type 0 where
+  is_settled : (i : ℕ) → label.rank ≡ 0 → index_of nodes t ≡ Some i
+      → IsLabel d nodes P cap t label
+  is_reached : index_of nodes t ≡ None → IsReached d nodes P cap t label
+      → IsLabel d nodes P cap t label
+  is_unreached : index_of nodes t ≡ None → label.rank ≡ no_rank
+      → ((w : List Link) → P w t → IsBeyond cap w) → IsLabel d nodes P cap t label
+
+-- a rank, and the index of a state: a heap gives the least first
+abbrev pub Key : Type 0
+Key = Reverse (ℕ × ℕ)
+
+abbrev pub key_cmp : Key → Key → Ordering
+key_cmp x y = ordering_then (nat_cmp y.0.0 x.0.0) (nat_cmp y.0.1 x.0.1)
+
+abbrev pub key_at : ℕ → ℕ → Key
+key_at rank i = record { 0 = (rank, i) }
+
+-- the label for the indexes past the end of a list
+abbrev pub no_label : Label
+no_label = record { rank = 18446744073709551615; parent = 0; place = 0; row = 0 }
+
+abbrev pub label_at : List Label → ℕ → Label
+label_at labels i = slice_index_or labels i no_label
+
+-- what a key of a state asks
+pub record IsKey (d : Database) (q : Request) (key : Key) : Type 0 where
+  pub some : 0 < key.0.0
+  pub most : key.0.0 < no_rank
+  pub index : IsStateIndex d q key.0.1
+
+-- a key that the heap gives is still its state's
+abbrev pub IsLive : List Label → Key → Type 0
+IsLive labels key = (label_at labels key.0.1).rank ≡ key.0.0
+
+-- Labels of all states for what crosses, and a key for each state that is reached.
+pub record AreLabels (d : Database) (q : Request) (nodes : List Node)
+    (P : List Link → State → Type 0) (goal : ℕ) (labels : List Label) (keys : List Key)
+    : Type 0 where
+  pub many : length labels ≡ (length q.hops + 1) * 1024
+  pub each : (i : ℕ) → IsStateIndex d q i
+      → IsLabel d nodes P (label_at labels goal).rank (state_at d i) (label_at labels i)
+  pub ordered : IsHeap key_cmp keys
+  pub keyed : All (IsKey d q) keys
+  pub waiting : (i : ℕ) → IsStateIndex d q i → 0 < (label_at labels i).rank
+      → (label_at labels i).rank < no_rank → Contains keys (key_at (label_at labels i).rank i)
+
+-- the walks that lead on from the first nodes, and from the next one the turn and the first links
+abbrev pub CrossesUpTo : Database → Request → List Node → ℕ → ℕ → ℕ → List Link → State
+    → Type 0
+CrossesUpTo d q nodes at place row w t =
+    CrossesBelow d q nodes (links_of d) at w t
+    ⊎ CrossesFrom d q nodes (take row (links_from_index d place)) at w t
+
+-- the node at an index is where a state is
+pub record IsNodeAt (d : Database) (q : Request) (nodes : List Node) (at state : ℕ) : Type 0 where
+  pub within : at < length nodes
+  pub index : IsStateIndex d q state
+  pub there : state_of (slice_index_or nodes at nowhere) ≡ state_at d state
+
+-- the router at an index of the list of routers is where a link ends
+pub record IsEnd (d : Database) (router : ℕ) (place : ℕ) : Type 0 where
+  pub within : place < length (router_list d)
+  pub is : slice_index (router_list d) place ≡ router
+
+-- a label may be offered
+pub record IsOffer (d : Database) (nodes : List Node) (label : Label) : Type 0 where
+  pub place : label.place < length (router_list d)
+  pub parent : label.parent < length nodes
+  pub next : IsNext nodes (node_of d nodes label)
+
+-- two labels of one rank have as many links
+pub record AreTied (d : Database) (nodes : List Node) (old label : Label) : Type 0 where
+  pub other : IsOffer d nodes old
+  pub links : (node_of d nodes old).links ≡ (node_of d nodes label).links
+
+-- one key more
+pub record Gains (key : Key) (old new : List Key) : Type 0 where
+  pub kept : IsHeap key_cmp old → IsHeap key_cmp new
+  pub moved : IsPermutation (key ∷ old) new
+
+-- a key is no less than a rank and the index of a state
+abbrev pub IsUpTo : ℕ → ℕ → Key → Type 0
+IsUpTo rank i key = (rank < key.0.0) ⊎ ((rank ≡ key.0.0) × (i ≤ key.0.1))
+
+-- The least key of a state that is still open: what comes out of a heap up to it has no use.
+pub record IsLeast (d : Database) (q : Request) (labels : List Label) (old : List Key) (i : ℕ)
+    (new : List Key) : Type 0 where
+  pub index : IsStateIndex d q i
+  pub some : 0 < (label_at labels i).rank
+  pub most : (label_at labels i).rank < no_rank
+  pub ordered : IsHeap key_cmp new
+  pub keyed : All (IsKey d q) new
+  pub first : (key : Key) → Contains old key → IsLive labels key
+      → IsUpTo (label_at labels i).rank i key
+  pub others : (key : Key) → Contains old key → IsLive labels key
+      → (key.0.1 ≡ i) ⊎ Contains new key
+
+-- the label that a state has stays, since that which is offered ties in rank and is not before it
+pub record StaysAt (d : Database) (nodes : List Node) (i : ℕ) (label : Label)
+    (old new : List Label) (old_keys new_keys : List Key) : Type 0 where
+  pub tie : label.rank ≡ (label_at old i).rank
+  pub first : is_gt (locals_cmp (walk_of nodes (node_of d nodes (label_at old i)))
+      (walk_of nodes (node_of d nodes label))) ≡ false
+  pub labels : new ≡ old
+  pub keys : new_keys ≡ old_keys
+
+-- it gets the label that is offered
+pub record GoesTo (d : Database) (nodes : List Node) (i : ℕ) (label : Label)
+    (old new : List Label) (old_keys new_keys : List Key) : Type 0 where
+  pub first : label.rank ≡ (label_at old i).rank
+      → is_gt (locals_cmp (walk_of nodes (node_of d nodes (label_at old i)))
+      (walk_of nodes (node_of d nodes label))) ≡ true
+  pub labels : new ≡ set old i label
+  pub keys : Gains (key_at label.rank i) old_keys new_keys

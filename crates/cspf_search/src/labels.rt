@@ -1,0 +1,114 @@
+ghost use Rattle.std.specs.Prelude.{◌≡◌, ◌+◌, ◌*◌, ◌<◌, ◌≤◌, All, Contains, length, set, IfSome, IfNone, OnOk};
+ghost use Rattle.std.specs.BinaryHeap.{IsHeap, heap_items, heap_len};
+ghost use Rattle.cspf_db.specs.Index.{router_list};
+ghost use Rattle.cspf_search.specs.Arena.{AreNodes};
+ghost use Rattle.cspf_search.specs.Frontier.{node_of, key_at, key_cmp, Gains, IsKey, IsLeast, IsLive, Key};
+
+use crate::arena::Node;
+use cspf_db::{Request, Table};
+use std::alloc::{AllocError, Global};
+use std::cmp::Reverse;
+use std::collections::BinaryHeap;
+
+/// What leads to a state, of all that the search has seen.
+#[derive(Clone, Copy, Debug)]
+pub(crate) struct Label {
+    /// The cost and the number of links as one number above 0. A settled state has 0.
+    pub(crate) rank: u64,
+    /// The index of the node that it leads on from.
+    pub(crate) parent: u16,
+    /// Where that node's router is in the list of routers.
+    pub(crate) place: u16,
+    /// Which of the links from there it is. Past them it is the turn to the next leg.
+    pub(crate) row: u16,
+}
+
+/// The label of a state that nothing led to yet.
+pub(crate) const OPEN: Label = Label {
+    rank: u64::MAX,
+    parent: 0,
+    place: 0,
+    row: 0,
+};
+
+/// The label of a settled state.
+pub(crate) const SETTLED: Label = Label {
+    rank: 0,
+    parent: 0,
+    place: 0,
+    row: 0,
+};
+
+/// The rank and the index of a state that waits.
+pub(crate) type Waiting = Reverse<(u64, u64)>;
+
+/// The node that a label stands for.
+pub(crate) fn node_of(table: &Table, nodes: &[Node], label: &Label) -> Node
+    requires arena { AreNodes nodes.now }
+    requires parent { label.now.parent < length nodes.now }
+    requires place { label.now.place < length (router_list table.now) }
+    ensures { result ≡ node_of table.now nodes.now label.now }
+{
+    let at = usize::from(label.parent);
+    let from = &nodes[at];
+    match table
+        .out_at(usize::from(label.place))
+        .get(usize::from(label.row))
+    {
+        Some(link) => Node {
+            parent: at,
+            by: Some(*link),
+            leg: from.leg,
+            router: link.to,
+            cost: from.cost + u64::from(link.metric),
+            links: from.links + 1,
+        },
+        None => Node {
+            leg: from.leg + 1,
+            ..*from
+        },
+    }
+}
+
+/// Gives the state at an index this label, and has it wait.
+pub(crate) fn put(
+    labels: &mut [Label],
+    heap: &mut BinaryHeap<Waiting, Global>,
+    at: usize,
+    label: Label,
+) -> Result<(), AllocError>
+    requires within { at < length labels.old }
+    ensures labels { OnOk result (labels.new ≡ set labels.old at label) }
+    ensures keys { OnOk result
+        (Gains (key_at label.rank at) (heap_items heap.old) (heap_items heap.new)) }
+    ensures one { OnOk result (heap_len heap.new ≡ heap_len heap.old + 1) }
+{
+    labels[at] = label;
+    heap.push(Reverse((label.rank, at as u64)))?;
+    Ok(())
+}
+
+/// The index of the state that waits with the least key, if one waits that isn't settled.
+pub(crate) fn least(
+    table: &Table,
+    request: &Request,
+    labels: &[Label],
+    heap: &mut BinaryHeap<Waiting, Global>,
+) -> Option<usize>
+    requires many { length labels.now ≡ (length request.now.hops + 1) * 1024 }
+    requires ordered { IsHeap key_cmp (heap_items heap.old) }
+    requires keyed { All (IsKey table.now request.now) (heap_items heap.old) }
+    ensures some { IfSome result (λ at. IsLeast table.now request.now labels.now
+        (heap_items heap.old) at (heap_items heap.new)) }
+    ensures fewer { IfSome result (λ _. heap_len heap.new < heap_len heap.old) }
+    ensures none { IfNone result ((key : Key) → Contains (heap_items heap.old) key
+        → ¬ IsLive labels.now key) }
+{
+    while let Some(Reverse((rank, at))) = heap.pop() {
+        let at = at as usize;
+        if labels[at].rank == rank {
+            return Some(at);
+        }
+    }
+    None
+}
