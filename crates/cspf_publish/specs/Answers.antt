@@ -1,0 +1,15 @@
+-- What an asker is answered.
+use Rattle.std.specs.Prelude.{◌≡◌, List, length}
+use Rattle.cspf_db.specs.declared.request.Request.{Request}
+use Rattle.cspf_db.specs.Numbered.{NumberedChanges}
+use Rattle.cspf_db.specs.Changes.{database_after}
+use Rattle.cspf_db.specs.Best.{IsBestAnswer}
+use Rattle.cspf_search.specs.Outcome.{answer_of}
+use Rattle.cspf_publish.specs.declared.answer.Answer.{Answer}
+
+-- The answer repeats the request's id, its version is the number of these batches, and its outcome is
+-- the best answer in their database.
+pub record IsAnswerAfter (batches : List NumberedChanges) (q : Request) (a : Answer) : Type 0 where
+  pub id : a.id ≡ q.id
+  pub version : a.version ≡ length batches
+  pub best : IsBestAnswer (database_after batches) q (answer_of a.outcome)

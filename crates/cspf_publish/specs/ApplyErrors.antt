@@ -1,0 +1,36 @@
+-- When a batch is refused, the first that applies, and what stands then.
+use Rattle.std.specs.Prelude.{◌≡◌, ◌≢◌, ℕ, ◌+◌, ◌<◌, ◌≤◌, List, [], length, take, Option}
+use Rattle.std.specs.Io.KnownBytes.{Appends}
+use Rattle.cspf_db.specs.Numbered.{NumberedChanges}
+use Rattle.cspf_db.specs.Changes.{database_after}
+use Rattle.cspf_db.specs.Refusals.{IsRefusal}
+use Rattle.cspf_publish.specs.Histories.{MayFollow}
+use Rattle.cspf_publish.specs.PublisherStates.{PublisherState, IsStopped}
+use Rattle.cspf_rows.specs.BatchText.{batch_text}
+use Rattle.cspf_publish.specs.declared.errors.ApplyError.{ApplyError}
+use Rattle.cspf_publish.specs.declared.errors.ApplyError.TheVariants.{Stopped, Exhausted, WrongNumber, Refused, Memory, Journal}
+
+-- no fault of the journal came before, and the batch may come next
+pub record IsNextBatch {W : Type 0} (p : PublisherState W) (b : NumberedChanges) : Type 0 where
+  pub going : p.pending ≡ []
+  pub follows : MayFollow p.batches b
+
+-- not stopped, and fewer than 1,000,000 batches are published
+pub record HasRoom {W : Type 0} (p : PublisherState W) : Type 0 where
+  pub going : p.pending ≡ []
+  pub room : length p.batches < 1000000
+
+-- Why the batch isn't published, and what stands then: the first of these that applies. Only a fault of
+-- the journal changes anything: the first bytes of the batch's text are written, and the publisher is
+-- stopped for good.
+abbrev pub IsApplyError : {W : Type 0} → (W → Option (List ℕ)) → PublisherState W → PublisherState W → NumberedChanges → ApplyError → Type 0
+IsApplyError contents p p' b Stopped = IsStopped p × (p' ≡ p)
+IsApplyError contents p p' b Exhausted = (p.pending ≡ []) × (1000000 ≤ length p.batches) × (p' ≡ p)
+IsApplyError contents p p' b (WrongNumber expected) =
+    HasRoom p × (b.number ≢ length p.batches + 1) × (expected ≡ length p.batches + 1) × (p' ≡ p)
+IsApplyError contents p p' b (Refused refusal) =
+    HasRoom p × (b.number ≡ length p.batches + 1) × IsRefusal (database_after p.batches) b refusal × (p' ≡ p)
+IsApplyError contents p p' b Memory = IsNextBatch p b × (p' ≡ p)
+IsApplyError contents p p' b (Journal written) =
+    IsNextBatch p b × IsStopped p' × (written < length (batch_text b))
+    × Appends (contents p.journal) (contents p'.journal) (take written (batch_text b))

@@ -1,0 +1,26 @@
+-- Lists of batches that one publisher may have published.
+use Rattle.std.specs.Prelude.{◌≡◌, ℕ, suc, ◌+◌, ◌<◌, ◌≤◌, List, [], ◌∷◌, ◌++◌, length}
+use Rattle.cspf_db.specs.Numbered.{NumberedChanges}
+use Rattle.cspf_db.specs.Changes.{database_after, Fits, AreLawful}
+
+-- The batch may come next: it fits the database of those before it, its number is the next one, and
+-- fewer than 1,000,000 were published.
+pub record MayFollow (batches : List NumberedChanges) (b : NumberedChanges) : Type 0 where
+  pub fits : Fits (database_after batches) b
+  pub number : b.number ≡ length batches + 1
+  pub room : length batches < 1000000
+
+-- the batches have this number and those after it, in order
+abbrev pub AreNumberedFrom : ℕ → List NumberedChanges → Type 0
+AreNumberedFrom n [] = Unit {0}
+AreNumberedFrom n (b ∷ bs) = (b.number ≡ n) × AreNumberedFrom (suc n) bs
+
+-- Batches 1, 2, 3 and so on, at most 1,000,000, each of which fits the database of those before it.
+pub record IsHistory (batches : List NumberedChanges) : Type 0 where
+  pub lawful : AreLawful batches
+  pub numbers : AreNumberedFrom 1 batches
+  pub most : length batches ≤ 1000000
+
+-- the first of all batches
+abbrev pub BeginsWith : List NumberedChanges → List NumberedChanges → Type 0
+BeginsWith all first = (rest : List NumberedChanges) × (all ≡ first ++ rest)

@@ -1,0 +1,10 @@
+pub mod Histories
+pub mod KnownBatches
+pub mod HistoryRule
+pub mod Absorbed
+pub mod ReplicaStates
+pub mod ReplicaRule
+pub mod Pending
+pub mod PublisherStates
+pub mod ApplyErrors
+pub mod Answers

@@ -1,0 +1,13 @@
+-- What a replica of the table is to a clause: private.
+use Rattle.cspf_db.specs.Numbered.{NumberedChanges}
+use Rattle.cspf_db.specs.Database.{Database}
+use Rattle.cspf_publish.specs.KnownBatches.{KnownBatches}
+use Rattle.cspf_publish.specs.Absorbed.{database_with}
+
+pub record ReplicaState : Type 0 where
+  pub database : Database
+  pub known : KnownBatches
+
+-- the replica with one more batch, which ends these batches
+abbrev pub state_with : ReplicaState → NumberedChanges → KnownBatches → ReplicaState
+state_with s b known = record { database = database_with s.database b; known = known }

@@ -1,0 +1,132 @@
+ghost use Rattle.std.specs.Prelude.{◌≡◌, ◌⊎◌, Some, length, IfOk, IfSome, IfErr};
+ghost use Rattle.left_right.specs.Sides.{view};
+ghost use Rattle.cspf_db.specs.Best.{IsBestAnswer};
+ghost use Rattle.cspf_db.specs.Changes.{database_after};
+ghost use Rattle.cspf_search.specs.Outcome.{answer_of};
+ghost use Rattle.cspf_publish.specs.Answers.{IsAnswerAfter};
+ghost use Rattle.cspf_publish.specs.Histories.{BeginsWith, IsHistory};
+ghost use Rattle.cspf_publish.specs.ReplicaRule.{KnowsSource, SuitsSource};
+
+use crate::known::Known;
+use crate::replica::Replica;
+use crate::replica_rule::{Entry, ReplicaRule};
+use crate::seat_view::SeatView;
+use crate::{Answer, AskError, Told};
+use core::mem::replace_with;
+use cspf_db::Request;
+use cspf_search::{Outcome, best};
+use left_right::reader::Reader;
+use std::alloc::{AllocError, Global};
+use std::marker::Model;
+
+/// A reader of the published replica.
+pub(crate) type ReplicaReader = Reader<Replica, SeatView, ReplicaRule>;
+
+/// Asks, and knows the batches up to the last version that it saw or learnt of. One thread uses it
+/// at a time, and it may be moved to another thread. No call of it waits.
+#[derive(Drop)]
+pub struct Asker {
+    reader: ReplicaReader,
+    known: Known,
+}
+
+impl Model for Asker {
+    ghost use Rattle.left_right.specs.Sides.{view as seen_by};
+    ghost use Rattle.cspf_publish.specs.KnownBatches.{KnownBatches};
+    ghost use Rattle.cspf_publish.specs.ReplicaRule.{KnowsSource};
+
+    ghost Value = { KnownBatches };
+
+    ghost view = { λ a. a.known };
+
+    ghost invariant = { λ a. KnowsSource (seen_by a.reader.place) a.known.source };
+}
+
+// One entry: the batches of the replica that was entered, and what is found in its table.
+fn entered(
+    reader: ReplicaReader,
+    ask: (Global, Request),
+) -> (ReplicaReader, Option<(Known, Result<Outcome, AllocError>)>)
+    ensures same { view result.0.place ≡ view reader.place }
+    ensures source { IfSome result.1 (λ r. SuitsSource (view reader.place) r.0.source) }
+    ensures best { IfSome result.1 (λ r. IfOk r.1 (λ outcome.
+        IsBestAnswer (database_after r.0.batches) ask.1 (answer_of outcome))) }
+{
+    let (alloc, request) = ask;
+    match reader.enter_as::<Entry>() {
+        Err(reader) => (reader, None),
+        Ok(reading) => {
+            let replica = reading.get();
+            let known = replica.known.copy();
+            let outcome = best(alloc, &replica.table, &request);
+            (reading.leave(), Some((known, outcome)))
+        }
+    }
+}
+
+impl Asker {
+    pub(crate) fn new(reader: ReplicaReader, known: Known) -> Asker
+        requires { KnowsSource (view reader.place) known.source }
+        ensures { result ≡ known }
+    {
+        Asker { reader, known }
+    }
+
+    /// The best answer in the database of the last published version. After it the batches of that
+    /// version are known. On `NoEntry` nothing changed, and on `Memory` nothing but what is known.
+    // A replica that is older than what is known is refused as `NoEntry` too, which no run shows.
+    pub fn ask(&mut self, alloc: Global, request: &Request) -> Result<Answer, AskError>
+        ensures source { self.new.source ≡ self.old.source }
+        ensures later { BeginsWith self.new.batches self.old.batches }
+        ensures answer { IfOk result (λ answer. IsAnswerAfter self.new.batches request.now answer) }
+        ensures no_entry { IfErr result (λ error. error ≡ AskError.NoEntry → self.new ≡ self.old) }
+    {
+        let entry = replace_with(&mut self.reader, (alloc, *request), entered);
+        let Some((known, outcome)) = entry else {
+            return Err(AskError::NoEntry);
+        };
+        if !self.known.raise(&known) {
+            return Err(AskError::NoEntry);
+        }
+        match outcome {
+            Ok(outcome) => Ok(Answer {
+                id: request.id,
+                version: self.known.version(),
+                outcome,
+            }),
+            Err(_) => Err(AskError::Memory),
+        }
+    }
+
+    /// Takes over the told batches where they are more than those that are known.
+    pub fn learn(&mut self, told: Told)
+        requires { told.source ≡ self.old.source }
+        ensures source { self.new.source ≡ self.old.source }
+        ensures later { BeginsWith self.new.batches self.old.batches }
+        ensures told { BeginsWith self.new.batches told.batches }
+        ensures one { (self.new ≡ self.old) ⊎ (self.new ≡ told) }
+    {
+        let _raised = self.known.raise(told.known());
+    }
+
+    /// The version up to which the batches are known.
+    pub fn seen(&self) -> u32
+        ensures version { result ≡ length self.now.batches }
+        ensures history { IsHistory self.now.batches }
+    {
+        self.known.version()
+    }
+
+    /// Learns what was told, and answers the version up to which the batches are then known.
+    pub fn meet(&mut self, told: Told) -> u32
+        requires { told.source ≡ self.old.source }
+        ensures source { self.new.source ≡ self.old.source }
+        ensures later { BeginsWith self.new.batches self.old.batches }
+        ensures told { BeginsWith self.new.batches told.batches }
+        ensures one { (self.new ≡ self.old) ⊎ (self.new ≡ told) }
+        ensures version { result ≡ length self.new.batches }
+    {
+        self.learn(told);
+        self.seen()
+    }
+}

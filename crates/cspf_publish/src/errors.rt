@@ -1,0 +1,56 @@
+use cspf_db::Refusal;
+use thiserror::Error;
+
+/// Why no publisher is opened.
+#[derive(Clone, Copy, Debug, PartialEq, Eq, Error)]
+pub enum OpenError {
+    /// The number of askers isn't 1 to 64.
+    #[error("the number of askers is not 1 to 64")]
+    Askers,
+    /// Out of memory.
+    #[error("out of memory")]
+    Memory,
+    /// There was no place for a reader.
+    #[error("no place for a reader")]
+    Places,
+}
+
+/// Why a batch isn't published. Only `Journal` changes anything.
+#[derive(Clone, Copy, Debug, PartialEq, Eq, Error)]
+pub enum ApplyError {
+    /// A fault of the journal came before.
+    #[error("stopped by a fault of the journal")]
+    Stopped,
+    /// 1,000,000 batches are published.
+    #[error("1000000 batches are published")]
+    Exhausted,
+    /// The batch's number isn't the version plus 1.
+    #[error("expected batch {expected}")]
+    WrongNumber {
+        /// The version plus 1.
+        expected: u32,
+    },
+    /// The batch doesn't fit the published database.
+    #[error("{0}")]
+    Refused(Refusal),
+    /// Out of memory. The same batch may be accepted later.
+    #[error("out of memory")]
+    Memory,
+    /// The journal's writer failed, and the publisher is stopped for good.
+    #[error("the journal failed after {written} bytes of the batch")]
+    Journal {
+        /// How many bytes of the batch's text were written.
+        written: usize,
+    },
+}
+
+/// Why a request isn't answered.
+#[derive(Clone, Copy, Debug, PartialEq, Eq, Error)]
+pub enum AskError {
+    /// The published replica couldn't be entered. Nothing changed.
+    #[error("no entry")]
+    NoEntry,
+    /// Out of memory. More batches may be known than before.
+    #[error("out of memory")]
+    Memory,
+}

@@ -1,0 +1,29 @@
+//! Published copies of the database: one publisher applies batches, and askers in threads of their
+//! own are answered from the last published version without waiting.
+//!
+//! A batch takes effect at one step, the swap of two replicas of the table. An ask takes effect at
+//! one step, the entering of a replica. `specs/Histories.antt` says which lists of batches may be
+//! published, `specs/KnownBatches.antt` what a publisher, an asker or a told token knows of one,
+//! and `specs/ReplicaRule.antt` the rule that holds between any two steps.
+#![tactic(auto)]
+
+mod answer;
+mod asker;
+mod errors;
+mod history;
+mod known;
+mod publisher;
+mod replica;
+mod replica_rule;
+mod replicas;
+mod seat_view;
+mod told;
+
+pub use answer::Answer;
+pub use asker::Asker;
+pub use errors::{ApplyError, AskError, OpenError};
+pub use publisher::{Publisher, open};
+pub use told::Told;
+
+#[cfg(test)]
+mod tests;

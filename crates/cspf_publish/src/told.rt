@@ -1,0 +1,41 @@
+ghost use Rattle.std.specs.Prelude.{◌≡◌, length};
+ghost use Rattle.cspf_publish.specs.Histories.{IsHistory};
+
+use crate::known::Known;
+use std::marker::Model;
+
+/// What a publisher told: the batches that it had published.
+#[derive(Drop)]
+pub struct Told {
+    known: Known,
+}
+
+impl Model for Told {
+    ghost use Rattle.cspf_publish.specs.KnownBatches.{KnownBatches};
+
+    ghost Value = { KnownBatches };
+
+    ghost view = { λ t. t.known };
+}
+
+impl Told {
+    pub(crate) fn new(known: Known) -> Told
+        ensures { result ≡ known }
+    {
+        Told { known }
+    }
+
+    pub(crate) fn known(&self) -> &Known
+        ensures { result.now ≡ self.now }
+    {
+        &self.known
+    }
+
+    /// The told version: how many batches it has.
+    pub fn version(&self) -> u32
+        ensures version { result ≡ length self.now.batches }
+        ensures history { IsHistory self.now.batches }
+    {
+        self.known.version()
+    }
+}
