@@ -5,3 +5,15 @@ pub mod Uniqueness
 pub mod Counted
 pub mod RunLemmas
 pub mod StopLemmas
+pub mod BatchLines
+pub mod ScriptOfBatches
+pub mod Asked
+pub mod Shares
+pub mod Filling
+pub mod Running
+pub mod Joining
+pub mod Applying
+pub mod Telling
+pub mod AnswerLines
+pub mod PublishedLines
+pub mod LiveLines

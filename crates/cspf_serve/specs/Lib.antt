@@ -6,3 +6,14 @@ pub mod Stops
 pub mod Laws
 pub mod Kept
 pub mod Status
+pub mod BatchRun
+pub mod BatchLaws
+pub mod BatchStops
+pub mod Served
+pub mod Working
+pub mod Collected
+pub mod Applied
+pub mod AnswerLines
+pub mod LiveWords
+pub mod LiveRun
+pub mod LiveStops

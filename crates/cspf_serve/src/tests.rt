@@ -1,3 +1,6 @@
+mod batches;
+mod live_rows;
+
 use crate::{BatchRefusal, SolveError, Summary, run_solve};
 use cspf_db::Refusal;
 use std::alloc::{AllocError, Global};

@@ -1,14 +1,24 @@
 //! `routed solve` answers the rows of standard input on standard output, each line when it is
-//! known. The status is 0, or 2 where anything was refused; 1 where the command line was refused; 3
-//! where memory was refused or a device failed.
+//! known. `routed batch` applies the batches of a journal, and answers a file of requests.
+//! `routed live` applies batches to a new journal while it answers a file of requests. The status
+//! is 0, or 2 where anything was refused; 1 where the command line was refused; 3 where memory was
+//! refused or a device failed.
 #![tactic(auto)]
 
+ghost use Rattle.std.specs.Prelude.{◌<◌, ◌≤◌};
+
+mod command_line;
+
+use clap::ArgMatches;
 use clap::error::ErrorKind;
-use clap::{ArgMatches, Command, Error};
-use cspf_serve::{SolveError, run_solve};
-use std::alloc::{AllocError, Global};
-use std::io::{Read, Write};
+use command_line::{ACCEPT_TORN, BATCH, JOURNAL, LIVE, REQUESTS, UPDATES, parse, workers_of};
+use cspf_serve::{NoGate, RunError, SolveError, run_batch, run_live_rows, run_solve};
+use std::alloc::AllocError;
+use std::fs::{File, OpenOptions};
+use std::io::{BufWriter, Read, Write};
 use std::process::ExitCode;
+use std::sync::Wait;
+use std::thread::Threads;
 use std::{env, io};
 
 /// The command line was refused.
@@ -16,43 +26,6 @@ const REFUSED: u8 = 1;
 
 /// Memory was refused, or a device failed.
 const STOPPED: u8 = 3;
-
-/// What `routed --version` says behind the name.
-const VERSION: &str = "0.1.0";
-
-/// What help says of the program.
-const ABOUT: &str = "A route server over a traffic engineering database";
-
-/// What help says of `solve`.
-const SOLVE: &str = "Answers the rows of standard input on standard output";
-
-/// What help says below the options.
-const HELP: &str = "\
-Rows of standard input, fields separated by commas:
-  put,router,local,neighbor,remote,metric,group,u0,u1,u2,u3,u4,u5,u6,u7
-      puts a link; u0 to u7 are its unreserved bandwidth at the priorities 0 to 7
-  drop,router,local
-      takes a link out
-  end,number,count
-      makes the changes since the last end row, as many as count, in one: version number
-  ask,id,from,to,setup,bandwidth,exclude_any,include_any,include_all,hops
-      asks for the least admissible route; hops may be empty
-
-Lines of standard output, each when it is known:
-  version V                  a batch is accepted
-  ask ID vV route ..         a request is answered at version V; also none, unknown-from, unknown-to
-  row N refused: ..          and batch N refused: .., unended K, too many rows
-
-Status: 0 where all was accepted, 1 where the command line was refused, 2 where a row or a batch was
-refused or there were more than 1,000,000 rows, 3 where memory was refused or a device failed.
-
-Example: the rows
-  put,1.1.1.1,10.0.12.1,2.2.2.2,10.0.12.2,10,0x1,5,5,5,5,5,5,5,5
-  end,1,1
-  ask,7,1.1.1.1,2.2.2.2,0,5,0x0,0x0,0x0,
-are answered by
-  version 1
-  ask 7 v1 route cost=10 hops=1 again=no ero=000c140101080a000c022000";
 
 /// Memory was refused, or a device failed.
 struct Stopped;
@@ -75,16 +48,10 @@ impl From<SolveError> for Stopped {
     }
 }
 
-/// The command that the words of the command line name.
-fn parse<'a>(alloc: Global, words: &'a [String]) -> Result<ArgMatches<'a>, Error> {
-    let solve = Command::new(alloc, "solve").about(SOLVE).after_help(HELP);
-    let routed = Command::new(alloc, "routed")
-        .about(ABOUT)
-        .version(VERSION)
-        .after_help(HELP)
-        .subcommand_required(true)
-        .subcommand(solve)?;
-    routed.try_get_matches_from(words)
+impl From<RunError> for Stopped {
+    fn from(_fault: RunError) -> Stopped {
+        Stopped
+    }
 }
 
 /// Answers the rows that the reader gives on standard output. What was written before a fault stays
@@ -96,10 +63,125 @@ fn solve<R: Read + Drop>(rt: &HostRuntime, reader: R) -> Result<u8, Stopped> {
     Ok(summary.status())
 }
 
+/// Applies the batches of a journal and answers requests on standard output. The files are opened
+/// before a row is read.
+fn batch<T: Threads + Wait + Sync>(
+    rt: &HostRuntime,
+    handle: &T,
+    journal: &str,
+    requests: &str,
+    workers: usize,
+    accept_torn: bool,
+) -> Result<u8, Stopped>
+    requires { (0 < workers) × (workers ≤ 64) }
+{
+    let alloc = rt.alloc();
+    let mut out = BufWriter::new(alloc, io::writer(rt))?;
+    let journal = File::open(rt, journal)?;
+    let requests = File::open(rt, requests)?;
+    let ran = run_batch(
+        handle,
+        alloc,
+        journal,
+        requests,
+        &mut out,
+        workers,
+        accept_torn,
+        &NoGate,
+    );
+    out.flush()?;
+    Ok(ran?)
+}
+
+/// Applies updates to a new journal and answers requests on standard output. The files are opened
+/// before a row is read, the journal last. A journal that is there already is left as it is.
+fn live<T: Threads + Wait + Sync>(
+    rt: &HostRuntime,
+    handle: &T,
+    updates: &str,
+    requests: &str,
+    journal: &str,
+    workers: usize,
+) -> Result<u8, Stopped>
+    requires { (0 < workers) × (workers ≤ 64) }
+{
+    let alloc = rt.alloc();
+    let mut out = BufWriter::new(alloc, io::writer(rt))?;
+    let updates = File::open(rt, updates)?;
+    let requests = File::open(rt, requests)?;
+    let journal = OpenOptions::new()
+        .write(true)
+        .create_new(true)
+        .open(rt, journal)?;
+    let (ran, mut journal) = run_live_rows(
+        handle, alloc, updates, requests, journal, &mut out, workers, &NoGate,
+    );
+    let kept = journal.flush();
+    out.flush()?;
+    kept?;
+    Ok(ran?)
+}
+
+/// Does what the words of `batch` ask for.
+fn obey_batch<T: Threads + Wait + Sync>(
+    rt: &HostRuntime,
+    handle: &T,
+    words: &ArgMatches<'_>,
+) -> Result<u8, Stopped> {
+    let (journal, requests) = (words.get_str(JOURNAL), words.get_str(REQUESTS));
+    let (Some(journal), Some(requests), Some(workers)) = (journal, requests, workers_of(words))
+    else {
+        // Never: the files have to be given, and the workers are by default 1.
+        return Ok(REFUSED);
+    };
+    batch(
+        rt,
+        handle,
+        journal,
+        requests,
+        workers,
+        words.get_flag(ACCEPT_TORN),
+    )
+}
+
+/// Does what the words of `live` ask for.
+fn obey_live<T: Threads + Wait + Sync>(
+    rt: &HostRuntime,
+    handle: &T,
+    words: &ArgMatches<'_>,
+) -> Result<u8, Stopped> {
+    let (updates, requests) = (words.get_str(UPDATES), words.get_str(REQUESTS));
+    let (journal, workers) = (words.get_str(JOURNAL), workers_of(words));
+    let (Some(updates), Some(requests), Some(journal), Some(workers)) = (
+        updates, requests, journal, workers,
+    ) else {
+        // Never: the files have to be given, and the workers are by default 1.
+        return Ok(REFUSED);
+    };
+    live(rt, handle, updates, requests, journal, workers)
+}
+
+/// Does what a command line that was accepted asks for.
+fn obey<T: Threads + Wait + Sync>(
+    rt: &HostRuntime,
+    handle: &T,
+    matches: &ArgMatches<'_>,
+) -> Result<u8, Stopped> {
+    match matches.subcommand() {
+        Some((BATCH, words)) => obey_batch(rt, handle, words),
+        Some((LIVE, words)) => obey_live(rt, handle, words),
+        _ => solve(rt, rt.reader()),
+    }
+}
+
 /// Does what the words of the command line ask for.
-fn run(rt: &HostRuntime, words: &[String]) -> Result<u8, Stopped> {
+fn run<T: Threads + Wait + Sync>(
+    rt: &HostRuntime,
+    handle: &T,
+    words: &[String],
+) -> Result<u8, Stopped> {
     match parse(rt.alloc(), words) {
-        Ok(_solve) => solve(rt, rt.reader()),
+        Ok(matches) => obey(rt, handle, &matches),
         Err(fault) => {
             if fault.kind() == ErrorKind::OutOfMemory {
                 return Err(Stopped);
@@ -111,11 +193,11 @@ fn run(rt: &HostRuntime, words: &[String]) -> Result<u8, Stopped> {
 }
 
 /// Reads the command line and does what it asks for.
-fn start(rt: &HostRuntime) -> Result<u8, Stopped> {
+fn start<T: Threads + Wait + Sync>(rt: &HostRuntime, handle: &T) -> Result<u8, Stopped> {
     match env::args(rt) {
         Ok(args) => {
             let words: Vec<String> = args.collect(rt.alloc())?;
-            run(rt, words.as_slice())
+            run(rt, handle, words.as_slice())
         }
         Err(fault) => {
             if fault.kind() == io::ErrorKind::OutOfMemory {
@@ -128,7 +210,7 @@ fn start(rt: &HostRuntime) -> Result<u8, Stopped> {
 }
 
 fn main(rt: HostRuntime) -> ExitCode {
-    match start(&rt) {
+    match start(&rt, &rt) {
         Ok(status) => ExitCode::from(status),
         Err(Stopped) => {
             let _ = eprintln!(rt; "routed: stopped");

@@ -1,0 +1,30 @@
+use Rattle.std.proofs.Common.{rules, ◌≡◌, List, All, length, refl, sym, ap, ◌∙◌, subst}
+use Rattle.logbook.specs.Pages.{Book}
+use Rattle.cspf_db.specs.Numbered.{NumberedChanges}
+use Rattle.cspf_db.specs.Changes.{database_after}
+use Rattle.cspf_publish.specs.declared.answer.Answer.{Answer}
+use Rattle.cspf_publish.specs.Histories.{BeginsWith}
+use Rattle.cspf_publish.specs.KnownBatches.{KnownBatches}
+use Rattle.cspf_serve.specs.AnswerLines.{AreAnswersAfter}
+use Rattle.cspf_serve.proofs.AnswerLines.{replies_written}
+use Rattle.cspf_serve.proofs.BatchLines.{accepted_written}
+use Rattle.cspf_serve.proofs.batch_run.answer_lent.Goals as goal
+
+pub tell_each-requires : goal.tell_each-requires
+tell_each-requires g c =
+    subst (λ (s : Book). All (λ (a : KnownBatches). a.source ≡ s) c.args.askers.items) (sym c.publish_all.ensures.source) c.requires.source
+
+pub returns-clause-ok : goal.returns-clause-ok
+returns-clause-ok g c =
+    let bs = c.args.batches.now in
+    let published : c.publish_all.new.publisher.batches ≡ bs = c.in_ok-publish_all.ensures.published in
+    let version : c.version.result ≡ length bs = search rules in
+    let told : All (λ (a : KnownBatches). BeginsWith a.batches bs) c.tell_each.new.askers.items =
+    subst (λ (l : List NumberedChanges). All (λ (a : KnownBatches). BeginsWith a.batches l) c.tell_each.new.askers.items) published c.tell_each.ensures.told in
+    let items : c.as_slice.result.now ≡ c.in_ok-list.list.items = search rules in
+    let answered : AreAnswersAfter bs c.args.requests.now c.as_slice.result.now =
+    subst (λ (l : List Answer). AreAnswersAfter bs c.args.requests.now l) (sym items) (c.in_ok-list.ensures bs version told) in
+    accepted_written bs c.args.requests.now (database_after bs)
+    (g.W.Write.contents c.args.writer.now) (g.W.Write.contents c.publish_all.new.writer) (g.W.Write.contents c.write_replies.new.writer)
+    c.in_ok-publish_all.ensures.lawful refl c.in_ok-publish_all.ensures.text
+    (replies_written bs c.args.requests.now c.as_slice.result.now (g.W.Write.contents c.publish_all.new.writer) (g.W.Write.contents c.write_replies.new.writer) answered c.in_ok-write_replies.ensures)

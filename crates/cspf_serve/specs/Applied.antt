@@ -1,0 +1,40 @@
+-- What batches leave that are applied in order, up to the first that is refused.
+use Rattle.std.specs.Prelude.{◌≡◌, ℕ, ◌<◌, ◌≤◌, List, [], ◌++◌, length, take, Option, Some, None, slice_get, flat_map}
+use Rattle.std.specs.Io.KnownBytes.{Appends}
+use Rattle.cspf_db.specs.Numbered.{NumberedChanges}
+use Rattle.cspf_rows.specs.BatchText.{batch_text}
+use Rattle.cspf_publish.specs.ApplyErrors.{IsApplyError}
+use Rattle.cspf_publish.specs.PublisherStates.{PublisherState}
+use Rattle.cspf_publish.specs.declared.errors.ApplyError.{ApplyError}
+
+-- All of these batches were published, in order, and the journal grew by their texts. With no batch nothing changed,
+-- and after some no fault of the journal came.
+pub record AreApplied {W : Type 0} (contents : W → Option (List ℕ)) (before after : PublisherState W) (batches : List NumberedChanges) : Type 0 where
+  pub source : after.source ≡ before.source
+  pub published : after.batches ≡ before.batches ++ batches
+  pub recorded : Appends (contents before.journal) (contents after.journal) (flat_map batch_text batches)
+  pub none : length batches ≡ 0 → after ≡ before
+  pub going : 0 < length batches → after.pending ≡ []
+
+-- why no more than so many batches were applied: there are no more, or the next one was refused
+abbrev pub IsEndOfApplying : {W : Type 0} → (W → Option (List ℕ)) → PublisherState W → PublisherState W → List NumberedChanges → ℕ → Option ApplyError → Type 0
+IsEndOfApplying contents before after batches applied None = (applied ≡ length batches) × (after ≡ before)
+IsEndOfApplying contents before after batches applied (Some e) =
+    (next : NumberedChanges) × (slice_get batches applied ≡ Some next) × IsApplyError contents before after next e
+
+-- The first of these batches were published, so many of them, and then the next one was refused, unless there was none.
+pub record IsAppliedUpTo {W : Type 0} (contents : W → Option (List ℕ)) (before after : PublisherState W) (batches : List NumberedChanges) (applied : ℕ) (fault : Option ApplyError) : Type 0 where
+  pub inside : applied ≤ length batches
+  pub source : after.source ≡ before.source
+  pub published : after.batches ≡ before.batches ++ take applied batches
+  -- what stood before the refusal
+  pub between : PublisherState W
+  pub first : AreApplied contents before between (take applied batches)
+  pub stop : IsEndOfApplying contents between after batches applied fault
+
+-- some first of these batches were published, and no others
+pub record IsAppliedInPart {W : Type 0} (before after : PublisherState W) (batches : List NumberedChanges) : Type 0 where
+  pub applied : ℕ
+  pub inside : applied ≤ length batches
+  pub source : after.source ≡ before.source
+  pub published : after.batches ≡ before.batches ++ take applied batches

@@ -1,0 +1,22 @@
+-- What holds of every run over a journal and a stream of requests.
+use Rattle.std.specs.Prelude.{◌≤◌, ℕ, Bool, List, ◌++◌, length}
+use Rattle.cspf_db.specs.Numbered.{NumberedChanges}
+use Rattle.cspf_rows.specs.declared.journal.Rest.TheVariants as rest
+use Rattle.cspf_rows.specs.Journal.{IsJournal}
+use Rattle.cspf_serve.specs.declared.summary.Summary.{Summary}
+use Rattle.cspf_serve.specs.Script.{IsRun}
+use Rattle.cspf_serve.specs.BatchRun.{Records, IsBatchRun}
+
+-- nothing is left behind the batches of a journal
+abbrev pub IsCleanJournal : Records → Type 0
+IsCleanJournal records = (batches : List NumberedChanges) × IsJournal records batches rest.Clean
+
+-- Where nothing is left behind the batches of a journal and nothing is refused, the lines are those
+-- of a script: of the journal's rows and then the requests', where these are at most 1,000,000
+-- together.
+abbrev pub AreLinesOfAScript : Type 0
+AreLinesOfAScript =
+    (accept_torn : Bool) (journal requests : Records) (lines : List ℕ)
+    → IsCleanJournal journal → length (journal ++ requests) ≤ 1000000
+    → IsBatchRun accept_torn journal requests lines 0
+    → (summary : Summary) × IsRun (journal ++ requests) lines summary

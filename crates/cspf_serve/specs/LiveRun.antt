@@ -1,0 +1,85 @@
+-- What updates and requests are answered that are applied and answered at once.
+use Rattle.std.specs.Prelude.{◌≡◌, ℕ, ◌<◌, ◌≤◌, ◌⊎◌, false, List, [], ◌∷◌, ◌++◌, length, take, Some, slice_get}
+use Rattle.std.specs.List.{flat_map}
+use Rattle.cspf_db.specs.declared.request.Request.{Request}
+use Rattle.cspf_db.specs.Numbered.{NumberedChanges}
+use Rattle.cspf_db.specs.Changes.{database_after, Fits}
+use Rattle.cspf_db.specs.Refusals.{IsRefusal}
+use Rattle.cspf_publish.specs.Histories.{IsHistory}
+use Rattle.cspf_publish.specs.declared.errors.ApplyError.{ApplyError}
+use Rattle.cspf_publish.specs.declared.errors.ApplyError.TheVariants as error
+use Rattle.cspf_rows.specs.BatchText.{batch_text}
+use Rattle.cspf_serve.specs.BatchRun.{Records, IsReplyTo, AreBatchesOf, IsJournalRefused, AreRequestsOf, AreRequestsRefused}
+use Rattle.cspf_serve.specs.LiveWords.{applied_line, unpublished_line}
+
+-- a request is answered by this line, at a version that was published: in the database of so many
+-- first batches
+abbrev pub IsReplyWithin : List NumberedChanges → Request → List ℕ → Type 0
+IsReplyWithin published q line =
+    (version : ℕ) × (version ≤ length published)
+    × IsReplyTo (database_after (take version published)) version q line
+
+-- the lines of requests, in their order, each at a version of its own
+abbrev pub AreRepliesWithin : List NumberedChanges → List Request → List ℕ → Type 0
+AreRepliesWithin published [] lines = lines ≡ []
+AreRepliesWithin published (q ∷ qs) lines =
+    (line : List ℕ) × (more : List ℕ) × IsReplyWithin published q line × (lines ≡ line ++ more)
+    × AreRepliesWithin published qs more
+
+-- Why the batch behind those that are published isn't published. Numbers that were read from a
+-- journal are the right ones, and they are few enough.
+abbrev pub IsWhyNot : List NumberedChanges → NumberedChanges → ApplyError → Type 0
+IsWhyNot published b error.Stopped = ⊥
+IsWhyNot published b error.Exhausted = ⊥
+IsWhyNot published b (error.WrongNumber expected) = ⊥
+IsWhyNot published b (error.Refused why) = IsRefusal (database_after published) b why
+IsWhyNot published b error.Memory = Fits (database_after published) b
+IsWhyNot published b (error.Journal written) =
+    Fits (database_after published) b × (written < length (batch_text b))
+
+-- what the journal holds of a batch that isn't published: what was written before its fault
+abbrev pub begun_text : NumberedChanges → ApplyError → List ℕ
+begun_text b (error.Journal written) = take written (batch_text b)
+begun_text b why = []
+
+-- The lines behind the replies, what the journal holds behind the published batches, and the
+-- status: all batches are published, or else the first of the others is refused.
+abbrev pub IsEndOfLiveRun : List NumberedChanges → ℕ → List ℕ → List ℕ → ℕ → Type 0
+IsEndOfLiveRun batches applied line text status =
+    ((applied ≡ length batches) × (line ≡ []) × (text ≡ []) × (status ≡ 0))
+    ⊎ ((next : NumberedChanges) × (why : ApplyError) × (slice_get batches applied ≡ Some next)
+    × IsWhyNot (take applied batches) next why × (line ≡ unpublished_line next.number why)
+    × (text ≡ begun_text next why) × (status ≡ 2))
+
+-- The first batches are published, so many of them. The requests are answered at versions of these,
+-- then comes how many they are, and then why the next one isn't published, unless there is none.
+-- The journal holds the texts of those that are published, and after a fault of its own the
+-- beginning of one more.
+pub record AreAnsweredLive (batches : List NumberedChanges) (requests : List Request)
+    (lines text : List ℕ) (status : ℕ) : Type 0 where
+  pub applied : ℕ
+  pub inside : applied ≤ length batches
+  pub history : IsHistory (take applied batches)
+  pub replies : List ℕ
+  pub answered : AreRepliesWithin (take applied batches) requests replies
+  pub last : List ℕ
+  pub begun : List ℕ
+  pub end : IsEndOfLiveRun batches applied last begun status
+  pub written : lines ≡ replies ++ applied_line applied ++ last
+  pub recorded : text ≡ flat_map batch_text (take applied batches) ++ begun
+
+-- The records of updates or those of requests are refused by this line, the updates first.
+abbrev pub AreInputsRefused : Records → Records → List ℕ → Type 0
+AreInputsRefused updates requests line =
+    IsJournalRefused false updates line
+    ⊎ ((batches : List NumberedChanges) × AreBatchesOf false updates batches
+    × AreRequestsRefused requests line)
+
+-- What the records of updates and of requests are answered, what the journal then holds more, and
+-- the status.
+abbrev pub IsLiveRun : Records → Records → List ℕ → List ℕ → ℕ → Type 0
+IsLiveRun updates requests lines text status =
+    (AreInputsRefused updates requests lines × (text ≡ []) × (status ≡ 2))
+    ⊎ ((batches : List NumberedChanges) × (asked : List Request)
+    × AreBatchesOf false updates batches × AreRequestsOf requests asked
+    × AreAnsweredLive batches asked lines text status)

@@ -1,0 +1,27 @@
+-- Private: the lines of a live run, by what was answered and applied.
+use Rattle.std.specs.Prelude.{◌≡◌, ℕ, List, [], ◌++◌, Option, Some, None, slice_get}
+use Rattle.std.specs.Io.KnownBytes.{Appends}
+use Rattle.cspf_db.specs.Numbered.{NumberedChanges}
+use Rattle.cspf_publish.specs.declared.answer.Answer.{Answer}
+use Rattle.cspf_publish.specs.declared.errors.ApplyError.{ApplyError}
+use Rattle.cspf_serve.specs.declared.batch_stop.Stop.{Stop}
+use Rattle.cspf_serve.specs.declared.batch_stop.Stop.TheVariants as stop
+use Rattle.cspf_serve.specs.AnswerLines.{AreAnswerLines}
+use Rattle.cspf_serve.specs.LiveWords.{applied_line, unpublished_line}
+
+-- the line was written by which something is refused
+abbrev pub IsRefusalWritten : Stop → Option (List ℕ) → Option (List ℕ) → Type 0
+IsRefusalWritten (stop.Refused line) old new = Appends old new line.items
+IsRefusalWritten (stop.Failed error) old new = ⊥
+
+-- the line of the batch that was refused, if any, and the status
+abbrev pub IsFaultShown : Option NumberedChanges → Option ApplyError → List ℕ → ℕ → Type 0
+IsFaultShown next None line status = (line ≡ []) × (status ≡ 0)
+IsFaultShown None (Some why) line status = (line ≡ []) × (status ≡ 0)
+IsFaultShown (Some next) (Some why) line status = (line ≡ unpublished_line next.number why) × (status ≡ 2)
+
+-- the lines of answers, how many batches were applied, and why the next one wasn't
+abbrev pub AreLiveLines : List Answer → List NumberedChanges → ℕ → Option ApplyError → ℕ → List ℕ → Type 0
+AreLiveLines answers batches applied fault status lines =
+    (replies : List ℕ) × (last : List ℕ) × AreAnswerLines answers replies
+    × IsFaultShown (slice_get batches applied) fault last status × (lines ≡ replies ++ applied_line applied ++ last)

@@ -1,0 +1,12 @@
+use cspf_publish::{Answer, Asker};
+
+/// What workers answered.
+#[derive(Drop)]
+pub struct Answers {
+    /// The answers, in the order of the requests.
+    pub list: Vec<Answer>,
+    /// For each worker the indexes of the requests that it answered, in the order of its asks.
+    pub drawn: Vec<Vec<usize>>,
+    /// The askers, in their order.
+    pub askers: Vec<Asker>,
+}

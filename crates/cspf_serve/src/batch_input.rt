@@ -1,0 +1,112 @@
+ghost use Rattle.std.specs.Prelude.{◌≡◌, ◌≤◌, true, false, length, IfOk, IfErr, IfSome};
+ghost use Rattle.cspf_rows.specs.Records.{rows_of};
+ghost use Rattle.cspf_rows.specs.declared.journal.Rest.TheVariants.{Torn as IsTorn};
+ghost use Rattle.cspf_serve.specs.BatchRun.{torn_line, AreBatchesOf, IsJournalRefused, AreRequestsOf, AreRequestsRefused, IsFaultLine};
+ghost use Rattle.cspf_serve.specs.BatchStops.{IfRefused};
+ghost use Rattle.cspf_serve.specs.LiveRun.{AreInputsRefused};
+
+use crate::batch_lines::{refused_request_line, torn_line};
+use crate::batch_stop::Stop;
+use crate::lines::too_many_line;
+use crate::run_error::RunError;
+use cspf_db::{Batch, Request};
+use cspf_rows::{Journal, ReadError, RequestsError, Rest, RowError, read_journal, read_requests};
+use std::alloc::{AllocError, Global};
+use std::io::Read;
+
+/// The batches of a journal. Rows behind them are left out where that is asked for, and else
+/// refused.
+pub(crate) fn batches_of<R: Read + Drop>(
+    alloc: Global,
+    journal: R,
+    accept_torn: bool,
+) -> Result<Vec<Batch>, Stop>
+    ensures ok { IfOk result (λ batches. IfSome (R.remaining journal) (λ bytes.
+        AreBatchesOf accept_torn (rows_of bytes) batches.items)) }
+    ensures most { IfOk result (λ batches. length batches.items ≤ 1000000) }
+    ensures err { IfErr result (λ stop. IfRefused stop (λ line.
+        IfSome (R.remaining journal) (λ bytes.
+        IsJournalRefused accept_torn (rows_of bytes) line))) }
+{
+    match read_journal(alloc, journal) {
+        Ok(journal) => whole_batches(alloc, journal, accept_torn),
+        Err(ReadError::TooManyRows) => Err(Stop::Refused(too_many_line(alloc)?)),
+        Err(ReadError::Memory) => Err(Stop::Failed(RunError::Memory)),
+        Err(ReadError::Device) => Err(Stop::Failed(RunError::Device)),
+    }
+}
+
+/// The batches of a journal that was read, unless rows behind them are refused.
+fn whole_batches(alloc: Global, journal: Journal, accept_torn: bool) -> Result<Vec<Batch>, Stop>
+    ensures ok { IfOk result (λ batches. (batches.items ≡ journal.batches.items)
+        × (journal.rest ≡ IsTorn → accept_torn ≡ true)) }
+    ensures err { IfErr result (λ stop. IfRefused stop (λ line. (journal.rest ≡ IsTorn)
+        × (accept_torn ≡ false) × (line ≡ torn_line (length journal.batches.items)))) }
+{
+    match journal.rest {
+        Rest::Torn if !accept_torn => {
+            Err(Stop::Refused(torn_line(alloc, journal.batches.len())?))
+        }
+        _ => Ok(journal.batches),
+    }
+}
+
+/// The requests of a stream.
+pub(crate) fn requests_of<R: Read + Drop>(alloc: Global, requests: R) -> Result<Vec<Request>, Stop>
+    ensures ok { IfOk result (λ asked. IfSome (R.remaining requests) (λ bytes.
+        AreRequestsOf (rows_of bytes) asked.items)) }
+    ensures most { IfOk result (λ asked. length asked.items ≤ 1000000) }
+    ensures err { IfErr result (λ stop. IfRefused stop (λ line.
+        IfSome (R.remaining requests) (λ bytes. AreRequestsRefused (rows_of bytes) line))) }
+{
+    match read_requests(alloc, requests) {
+        Ok(requests) => Ok(requests),
+        Err(error) => Err(stop_of(alloc, error)?),
+    }
+}
+
+/// How a run ends whose requests can't be read.
+fn stop_of(alloc: Global, error: RequestsError) -> Result<Stop, AllocError>
+    ensures { IfOk result (λ stop. IfRefused stop (IsFaultLine error)) }
+{
+    match error {
+        RequestsError::Memory => Ok(Stop::Failed(RunError::Memory)),
+        RequestsError::Device => Ok(Stop::Failed(RunError::Device)),
+        RequestsError::TooManyRows => Ok(Stop::Refused(too_many_line(alloc)?)),
+        RequestsError::Bad { row, error } => {
+            Ok(Stop::Refused(refused_request_line(alloc, row, error)?))
+        }
+        RequestsError::NotAsk { row } => {
+            let kind = RowError::Kind;
+            Ok(Stop::Refused(refused_request_line(alloc, row, kind)?))
+        }
+    }
+}
+
+/// What the two streams of a live run say.
+#[derive(Drop)]
+pub(crate) struct Inputs {
+    pub(crate) batches: Vec<Batch>,
+    pub(crate) requests: Vec<Request>,
+}
+
+/// The batches of updates, behind which no row may be left, and the requests of a stream.
+pub(crate) fn inputs_of<R: Read + Drop, Q: Read + Drop>(
+    alloc: Global,
+    updates: R,
+    requests: Q,
+) -> Result<Inputs, Stop>
+    ensures batches { IfOk result (λ read. IfSome (R.remaining updates) (λ bytes.
+        AreBatchesOf false (rows_of bytes) read.batches.items)) }
+    ensures requests { IfOk result (λ read. IfSome (Q.remaining requests) (λ bytes.
+        AreRequestsOf (rows_of bytes) read.requests.items)) }
+    ensures few { IfOk result (λ read. length read.batches.items ≤ 1000000) }
+    ensures most { IfOk result (λ read. length read.requests.items ≤ 1000000) }
+    ensures err { IfErr result (λ stop. IfRefused stop (λ line.
+        IfSome (R.remaining updates) (λ kept. IfSome (Q.remaining requests) (λ asked.
+        AreInputsRefused (rows_of kept) (rows_of asked) line)))) }
+{
+    let batches = batches_of(alloc, updates, false)?;
+    let requests = requests_of(alloc, requests)?;
+    Ok(Inputs { batches, requests })
+}

@@ -1,0 +1,191 @@
+ghost use Rattle.std.specs.Prelude.{◌≡◌, ℕ, ◌<◌, ◌≤◌, ◌++◌, List, [], length, All, Ok, IfOk, IfErr, IfSome, OnOk, vec_len};
+ghost use Rattle.std.specs.Io.KnownBytes.{Appends};
+ghost use Rattle.cspf_rows.specs.Journal.{AreNumberedFrom};
+ghost use Rattle.cspf_rows.specs.Records.{rows_of};
+ghost use Rattle.cspf_serve.specs.declared.summary.Summary.{Summary as Counts};
+ghost use Rattle.cspf_serve.specs.Script.{IsRun};
+ghost use Rattle.cspf_serve.specs.BatchRun.{AreAccepted, IsOneUnfit, AreAnsweredTogether, IsBatchRun};
+ghost use Rattle.cspf_serve.specs.BatchLaws.{IsCleanJournal};
+ghost use Rattle.cspf_serve.specs.BatchStops.{IfRefused, Writes, WritesAllBut};
+
+use crate::Gate;
+use crate::askers::tell_each;
+use crate::batch_apply::publish_all;
+use crate::batch_input::{batches_of, requests_of};
+use crate::batch_laws::lines_of_a_script;
+use crate::batch_put::put;
+use crate::batch_replies::{answers_at, write_replies};
+use crate::batch_stop::Stop;
+use crate::run_error::RunError;
+use cspf_db::{Batch, Request};
+use cspf_publish::{Asker, Publisher, open};
+use std::alloc::Global;
+use std::io;
+use std::io::{Read, Write};
+use std::sync::Wait;
+use std::thread::Threads;
+
+/// Publishes the batches of a journal, one after the other, and then answers the requests of a
+/// stream at the last version by this many workers: `IsBatchRun`. Both streams are read before the
+/// first batch is published. The status is 2 where anything was refused, and else 0. After an error
+/// nothing is said of what the writer holds. The writer isn't flushed.
+pub fn run_batch<
+    R: Read + Drop,
+    Q: Read + Drop,
+    W: Write,
+    G: Gate + Sync,
+    T: Threads + Wait + Sync,
+>(
+    rt: &T,
+    alloc: Global,
+    journal: R,
+    requests: Q,
+    writer: &mut W,
+    workers: usize,
+    accept_torn: bool,
+    gate: &G,
+) -> Result<u8, RunError>
+    requires workers { (0 < workers) × (workers ≤ 64) }
+    ensures whole { IfOk result (λ status. IfSome (R.remaining journal) (λ kept.
+        IfSome (Q.remaining requests) (λ asked. (lines : List ℕ)
+        × IsBatchRun accept_torn (rows_of kept) (rows_of asked) lines status
+        × Appends (W.contents writer.old) (W.contents writer.new) lines))) }
+    // The lines are those of one script of both streams.
+    ensures script { result ≡ Ok 0 → IfSome (R.remaining journal) (λ kept.
+        IfSome (Q.remaining requests) (λ asked. IsCleanJournal (rows_of kept)
+        → length (rows_of kept ++ rows_of asked) ≤ 1000000 → (lines : List ℕ) × (counts : Counts)
+        × IsRun (rows_of kept ++ rows_of asked) lines counts
+        × Appends (W.contents writer.old) (W.contents writer.new) lines)) }
+{
+    // Law: where nothing is refused the lines are those of a script.
+    lines_of_a_script();
+    match run(
+        rt,
+        alloc,
+        journal,
+        requests,
+        writer,
+        workers,
+        accept_torn,
+        gate,
+    ) {
+        Ok(()) => Ok(0),
+        Err(Stop::Refused(line)) => {
+            put(&line, writer)?;
+            Ok(2)
+        }
+        Err(Stop::Failed(error)) => Err(error),
+    }
+}
+
+/// Reads a journal, and answers a stream of requests by its batches.
+fn run<R: Read + Drop, Q: Read + Drop, W: Write, G: Gate + Sync, T: Threads + Wait + Sync>(
+    rt: &T,
+    alloc: Global,
+    journal: R,
+    requests: Q,
+    writer: &mut W,
+    workers: usize,
+    accept_torn: bool,
+    gate: &G,
+) -> Result<(), Stop>
+    requires workers { (0 < workers) × (workers ≤ 64) }
+    ensures ok { OnOk result (IfSome (R.remaining journal) (λ kept.
+        IfSome (Q.remaining requests) (λ asked.
+        Writes (W.contents writer.old) (W.contents writer.new) (λ lines.
+        IsBatchRun accept_torn (rows_of kept) (rows_of asked) lines 0)))) }
+    ensures err { IfErr result (λ stop. IfRefused stop (λ line.
+        IfSome (R.remaining journal) (λ kept. IfSome (Q.remaining requests) (λ asked.
+        WritesAllBut line (W.contents writer.old) (W.contents writer.new) (λ lines.
+        IsBatchRun accept_torn (rows_of kept) (rows_of asked) lines 2))))) }
+{
+    let batches = batches_of(alloc, journal, accept_torn)?;
+    answer(rt, alloc, &batches, requests, writer, workers, gate)
+}
+
+/// Reads requests, and answers them by batches.
+fn answer<Q: Read + Drop, W: Write, G: Gate + Sync, T: Threads + Wait + Sync>(
+    rt: &T,
+    alloc: Global,
+    batches: &[Batch],
+    requests: Q,
+    writer: &mut W,
+    workers: usize,
+    gate: &G,
+) -> Result<(), Stop>
+    requires batches { length batches.now ≤ 1000000 }
+    requires workers { (0 < workers) × (workers ≤ 64) }
+    ensures ok { OnOk result (IfSome (Q.remaining requests) (λ asked.
+        Writes (W.contents writer.old) (W.contents writer.new) (λ lines.
+        AreAnsweredTogether batches.now (rows_of asked) lines 0))) }
+    ensures err { AreNumberedFrom 1 batches.now → IfErr result (λ stop. IfRefused stop (λ line.
+        IfSome (Q.remaining requests) (λ asked.
+        WritesAllBut line (W.contents writer.old) (W.contents writer.new) (λ lines.
+        AreAnsweredTogether batches.now (rows_of asked) lines 2)))) }
+{
+    let requests = requests_of(alloc, requests)?;
+    publish_and_answer(rt, alloc, batches, &requests, writer, workers, gate)
+}
+
+/// Publishes batches over a journal that keeps nothing, and then answers requests at the last
+/// version.
+#[tactic(auto, using(crate::proofs::AnswerLines::sources_of))]
+fn publish_and_answer<W: Write, G: Gate + Sync, T: Threads + Wait + Sync>(
+    rt: &T,
+    alloc: Global,
+    batches: &[Batch],
+    requests: &[Request],
+    writer: &mut W,
+    workers: usize,
+    gate: &G,
+) -> Result<(), Stop>
+    requires batches { length batches.now ≤ 1000000 }
+    requires requests { length requests.now ≤ 1000000 }
+    requires workers { (0 < workers) × (workers ≤ 64) }
+    ensures ok { OnOk result (Writes (W.contents writer.old) (W.contents writer.new)
+        (AreAccepted batches.now requests.now)) }
+    ensures err { AreNumberedFrom 1 batches.now → IfErr result (λ stop. IfRefused stop (λ line.
+        WritesAllBut line (W.contents writer.old) (W.contents writer.new)
+        (IsOneUnfit batches.now))) }
+{
+    match open(rt, alloc, io::sink(), workers) {
+        Ok((publisher, askers)) => {
+            let mut publisher = publisher;
+            let lent = &mut publisher;
+            let done = answer_lent(rt, alloc, lent, askers, batches, requests, writer, gate);
+            publisher.close(rt);
+            done
+        }
+        Err((error, _journal)) => Err(Stop::Failed(RunError::from(error))),
+    }
+}
+
+/// Publishes batches and answers requests while a publisher is lent.
+fn answer_lent<J: Write, W: Write, G: Gate + Sync, T: Threads + Wait + Sync>(
+    rt: &T,
+    alloc: Global,
+    publisher: &mut Publisher<J>,
+    askers: Vec<Asker>,
+    batches: &[Batch],
+    requests: &[Request],
+    writer: &mut W,
+    gate: &G,
+) -> Result<(), Stop>
+    requires fresh { (publisher.old.batches ≡ []) × (publisher.old.pending ≡ []) }
+    requires askers { (0 < vec_len askers) × (vec_len askers ≤ 64) }
+    requires source { All (λ a. a.source ≡ publisher.old.source) askers.items }
+    requires batches { length batches.now ≤ 1000000 }
+    requires requests { length requests.now ≤ 1000000 }
+    ensures ok { OnOk result (Writes (W.contents writer.old) (W.contents writer.new)
+        (AreAccepted batches.now requests.now)) }
+    ensures err { AreNumberedFrom 1 batches.now → IfErr result (λ stop. IfRefused stop (λ line.
+        WritesAllBut line (W.contents writer.old) (W.contents writer.new)
+        (IsOneUnfit batches.now))) }
+{
+    publish_all(rt, alloc, batches, publisher, writer)?;
+    let mut askers = askers;
+    tell_each(publisher, &mut askers);
+    let list = answers_at(rt, alloc, askers, requests, publisher.version(), gate)?;
+    write_replies(alloc, list.as_slice(), writer)?;
+    Ok(())
+}

@@ -1,0 +1,49 @@
+use crate::ServeError;
+use cspf_publish::OpenError;
+use std::alloc::AllocError;
+use thiserror::Error;
+
+/// Why a run over a journal or updates and requests stops.
+#[derive(Clone, Copy, Debug, PartialEq, Eq, Error)]
+pub enum RunError {
+    /// Memory was refused.
+    #[error("out of memory")]
+    Memory,
+    /// A read failed, or a write failed or took no bytes.
+    #[error("a read or a write failed")]
+    Device,
+    /// There was no place for a worker's reader.
+    #[error("no place for a reader")]
+    Places,
+    /// The requests aren't answered.
+    #[error("{0}")]
+    Serve(ServeError),
+}
+
+impl From<AllocError> for RunError {
+    ghost use Rattle.std.specs.Prelude.{◌≡◌};
+    ghost use Rattle.cspf_serve.specs.declared.run_error.RunError.TheVariants.{Memory};
+
+    ghost from_gives = { λ _ error. error ≡ Memory };
+
+    fn from(_refused: AllocError) -> RunError {
+        RunError::Memory
+    }
+}
+
+impl From<OpenError> for RunError {
+    ghost use Rattle.std.specs.Prelude.{◌≡◌};
+    ghost use Rattle.cspf_publish.specs.declared.errors.OpenError.TheVariants as open_error;
+    ghost use Rattle.cspf_serve.specs.declared.run_error.RunError.TheVariants.{Memory, Places};
+
+    ghost from_gives = { λ refused error. (refused ≡ open_error.Memory → error ≡ Memory)
+        × (refused ≡ open_error.Places → error ≡ Places) };
+
+    fn from(refused: OpenError) -> RunError {
+        match refused {
+            OpenError::Memory => RunError::Memory,
+            // A run has 1 to 64 workers, which are as many as may ask.
+            OpenError::Askers | OpenError::Places => RunError::Places,
+        }
+    }
+}

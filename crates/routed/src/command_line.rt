@@ -1,0 +1,191 @@
+//! The words of the command line, and what help says of them.
+ghost use Rattle.std.specs.Prelude.{◌<◌, ◌≤◌, IfSome};
+
+use clap::{Arg, ArgAction, ArgMatches, Command, Error, value_parser};
+use std::alloc::{AllocError, Global};
+
+/// The command that answers the rows of standard input.
+pub const SOLVE: &str = "solve";
+
+/// The command that answers a file of requests by a file of batches.
+pub const BATCH: &str = "batch";
+
+/// The command that applies a file of batches while it answers a file of requests.
+pub const LIVE: &str = "live";
+
+/// The option that names the file of batches, which `live` makes.
+pub const JOURNAL: &str = "journal";
+
+/// The option that names the file of batches that `live` applies.
+pub const UPDATES: &str = "updates";
+
+/// The option that names the file of requests.
+pub const REQUESTS: &str = "requests";
+
+/// The flag by which rows behind the batches are left out.
+pub const ACCEPT_TORN: &str = "accept-torn";
+
+/// The option that says how many workers answer.
+pub const WORKERS: &str = "workers";
+
+/// What `routed --version` says behind the name.
+const VERSION: &str = "0.1.0";
+
+/// What help says of the program.
+const ABOUT: &str = "A route server over a traffic engineering database";
+
+/// What help says of `solve`.
+const ABOUT_SOLVE: &str = "Answers the rows of standard input on standard output";
+
+/// What help says of `batch`.
+const ABOUT_BATCH: &str =
+    "Applies the batches of a journal, and answers requests on standard output";
+
+/// What help says of `live`.
+const ABOUT_LIVE: &str =
+    "Applies batches to a new journal while requests are answered on standard output";
+
+/// What help says below the options.
+const HELP: &str = "\
+Rows of standard input, fields separated by commas:
+  put,router,local,neighbor,remote,metric,group,u0,u1,u2,u3,u4,u5,u6,u7
+      puts a link; u0 to u7 are its unreserved bandwidth at the priorities 0 to 7
+  drop,router,local
+      takes a link out
+  end,number,count
+      makes the changes since the last end row, as many as count, in one: version number
+  ask,id,from,to,setup,bandwidth,exclude_any,include_any,include_all,hops
+      asks for the least admissible route; hops may be empty
+
+Lines of standard output, each when it is known:
+  version V                  a batch is accepted
+  ask ID vV route ..         a request is answered at version V; also none, unknown-from, unknown-to
+  row N refused: ..          and batch N refused: .., unended K, too many rows
+
+Status: 0 where all was accepted, 1 where the command line was refused, 2 where a row or a batch was
+refused or there were more than 1,000,000 rows, 3 where memory was refused or a device failed.
+
+Example: the rows
+  put,1.1.1.1,10.0.12.1,2.2.2.2,10.0.12.2,10,0x1,5,5,5,5,5,5,5,5
+  end,1,1
+  ask,7,1.1.1.1,2.2.2.2,0,5,0x0,0x0,0x0,
+are answered by
+  version 1
+  ask 7 v1 route cost=10 hops=1 again=no ero=000c140101080a000c022000";
+
+/// What help says below the options of `batch`.
+const BATCH_HELP: &str = "\
+The journal is a file of put, drop and end rows: batches with the numbers 1, 2, 3 and so on. The
+requests are a file of ask rows, which are answered at the last version. Both are read before the
+first batch is applied.
+
+Lines of standard output:
+  version V                  a batch is accepted
+  ask ID vV route ..         a request is answered at version V; also none, unknown-from, unknown-to
+  journal torn after N       rows are left behind N batches, and --accept-torn wasn't given
+  request row N refused: ..  a row of the requests can't be read, or asks for nothing
+  batch N refused: ..        a batch doesn't fit, and nothing is answered
+  too many rows              a file has more than 1,000,000 rows
+
+Status: 0 where all was accepted, 1 where the command line was refused, 2 where the journal, a row
+or a batch was refused, 3 where memory was refused or a file or another device failed.";
+
+/// What help says below the options of `live`.
+const LIVE_HELP: &str = "\
+The updates are a file of put, drop and end rows, and the requests a file of ask rows, both as in
+batch. Both are read before the first batch is applied. Each batch is written whole to the new
+journal before it is published. Meanwhile the workers answer the requests, each at the version that
+is the last one then.
+
+Lines of standard output:
+  ask ID vV route ..         a request is answered at version V; also none, unknown-from, unknown-to
+  applied K                  behind the replies: how many batches were applied
+  batch N refused: ..        the first batch that wasn't applied, if any; also memory, and journal W
+                             where the journal failed behind W bytes of the batch
+  journal torn after N       rows are left behind N batches of the updates
+  request row N refused: ..  a row of the requests can't be read, or asks for nothing
+  too many rows              a file has more than 1,000,000 rows
+
+Status: 0 where all was accepted, 1 where the command line was refused, 2 where the updates, a row
+or a batch was refused, 3 where memory was refused, a file or another device failed, or the journal
+is there already.";
+
+/// The command that the words of the command line name.
+pub fn parse<'a>(alloc: Global, words: &'a [String]) -> Result<ArgMatches<'a>, Error> {
+    let solve = Command::new(alloc, SOLVE)
+        .about(ABOUT_SOLVE)
+        .after_help(HELP);
+    let routed = Command::new(alloc, "routed")
+        .about(ABOUT)
+        .version(VERSION)
+        .after_help(HELP)
+        .subcommand_required(true)
+        .subcommand(solve)?
+        .subcommand(batch(alloc)?)?
+        .subcommand(live(alloc)?)?;
+    routed.try_get_matches_from(words)
+}
+
+/// The command `batch` with its options.
+fn batch<'a>(alloc: Global) -> Result<Command<'a>, AllocError> {
+    let journal = file(alloc, JOURNAL, "The file of batches");
+    let requests = file(alloc, REQUESTS, "The file of requests");
+    let accept_torn = Arg::new(alloc, ACCEPT_TORN)
+        .long(ACCEPT_TORN)
+        .action(ArgAction::SetTrue)
+        .help("Leave out the rows behind the batches");
+    Command::new(alloc, BATCH)
+        .about(ABOUT_BATCH)
+        .after_help(BATCH_HELP)
+        .arg(journal)?
+        .arg(requests)?
+        .arg(workers(alloc))?
+        .arg(accept_torn)
+}
+
+/// The command `live` with its options.
+fn live<'a>(alloc: Global) -> Result<Command<'a>, AllocError> {
+    let updates = file(alloc, UPDATES, "The file of batches to apply");
+    let requests = file(alloc, REQUESTS, "The file of requests");
+    let journal = file(alloc, JOURNAL, "The file of batches to make");
+    Command::new(alloc, LIVE)
+        .about(ABOUT_LIVE)
+        .after_help(LIVE_HELP)
+        .arg(updates)?
+        .arg(requests)?
+        .arg(journal)?
+        .arg(workers(alloc))
+}
+
+/// The option that says how many workers answer.
+fn workers<'a>(alloc: Global) -> Arg<'a> {
+    Arg::new(alloc, WORKERS)
+        .long(WORKERS)
+        .value_name("N")
+        .value_parser(value_parser!(u8).range(1..=64))
+        .default_value("1")
+        .action(ArgAction::Set)
+        .help("How many workers answer, 1 to 64")
+}
+
+/// How many workers the words ask for.
+pub fn workers_of(words: &ArgMatches<'_>) -> Option<usize>
+    ensures { IfSome result (λ workers. (0 < workers) × (workers ≤ 64)) }
+{
+    let workers = words.get_one::<u8>(WORKERS)?;
+    if workers == 0 || workers > 64 {
+        // Never: the option is read within these bounds.
+        return None;
+    }
+    Some(workers as usize)
+}
+
+/// An option that has to name a file.
+fn file<'a>(alloc: Global, name: &'a str, help: &'a str) -> Arg<'a> {
+    Arg::new(alloc, name)
+        .long(name)
+        .value_name("FILE")
+        .required(true)
+        .action(ArgAction::Set)
+        .help(help)
+}
