@@ -1,0 +1,92 @@
+//! Times a publisher and its askers: `publish_bench JOURNAL REQUESTS LOAD`.
+//!
+//! The first LOAD batches of the journal make the network. Each further one is timed by itself:
+//! `apply CHANGES MICROSECONDS`. Then the requests are answered from a plain table on one thread,
+//! `plain ANSWERS MICROSECONDS`, and by 1, 2 and 4 askers at once, each of which asks all of them
+//! while the further batches are published: `askers COUNT ANSWERS PUBLISHED MICROSECONDS`. The
+//! journal of the publisher keeps nothing. `bench/run` makes the files and reads the lines.
+#![tactic(auto)]
+
+mod published;
+
+use cspf_db::{Batch, Request, Table};
+use cspf_rows::{read_journal, read_requests};
+use cspf_search::best;
+use published::{time_askers, time_batches};
+use std::fs::File;
+use std::io::ErrorKind;
+use std::rt::Clock;
+use std::sync::Wait;
+use std::thread::Threads;
+use std::time::Instant;
+use std::{env, io};
+
+/// The numbers of askers that are timed.
+const ASKERS: [usize; 3] = [1, 2, 4];
+
+/// An error of this program's own.
+fn refused() -> io::Error {
+    io::Error::from(ErrorKind::InvalidInput)
+}
+
+/// Answers each request from a plain table, and tells how long it took.
+fn time_plain<R: AllocGlobal + Clock + Print>(
+    rt: &R,
+    load: &[Batch],
+    requests: &[Request],
+) -> io::Result<()> {
+    let mut table = Table::new(rt.alloc())?;
+    for batch in load {
+        table.absorb(batch);
+    }
+    let mut answers = 0usize;
+    let start = Instant::now(rt)?;
+    for request in requests {
+        if best(rt.alloc(), &table, request).is_ok() {
+            answers = answers.saturating_add(1);
+        }
+    }
+    let took = start.elapsed(rt)?.as_micros();
+    println!(rt; "plain {answers} {took}")
+}
+
+/// Times the publisher and the askers of these batches and requests.
+fn time_all<R: AllocGlobal + Clock + Print + Threads + Wait + Sync>(
+    rt: &R,
+    batches: &[Batch],
+    requests: &[Request],
+    load: usize,
+) -> io::Result<()> {
+    let (Some(first), Some(more)) = (batches.get(..load), batches.get(load..)) else {
+        return Err(refused());
+    };
+    time_batches(rt, first, more)?;
+    time_plain(rt, first, requests)?;
+    for count in ASKERS {
+        time_askers(rt, first, more, requests, count)?;
+    }
+    Ok(())
+}
+
+/// The batches of a journal, the requests of a file, and how many batches make the network.
+fn read(rt: &HostRuntime) -> io::Result<(Vec<Batch>, Vec<Request>, usize)> {
+    let words: Vec<String> = env::args(rt)?.collect(rt.alloc())?;
+    let [_, journal, requests, load] = words.as_slice() else {
+        return Err(refused());
+    };
+    let Ok(load) = load.as_str().parse::<usize>() else {
+        return Err(refused());
+    };
+    let Ok(journal) = read_journal(rt.alloc(), File::open(rt, journal.as_str())?) else {
+        return Err(refused());
+    };
+    let Ok(requests) = read_requests(rt.alloc(), File::open(rt, requests.as_str())?) else {
+        return Err(refused());
+    };
+    Ok((journal.batches, requests, load))
+}
+
+fn main(rt: HostRuntime) -> io::Result<()> {
+    let (batches, requests, load) = read(&rt)?;
+    time_all(&rt, batches.as_slice(), requests.as_slice(), load)
+}
