@@ -47,6 +47,16 @@ pub record AreStands (d : Database) (q : Request) (stands : List Stand) : Type 0
   pub each : (i : ℕ) (e : Stand) → IsStateIndex d q i
       → IsStand d q (state_at d i) (slice_index_or stands i e)
 
+-- a stand for the indexes past the end of a list
+abbrev pub nothing : Stand
+nothing = record { inside = false; target = false }
+
+-- so it is for each router in the legs, as far as an index
+abbrev pub AreStandsBelow : Database → Request → ℕ → List Stand → Type 0
+AreStandsBelow d q below stands =
+    (i : ℕ) (e : Stand) → i < below → i % 1024 < length (router_list d)
+    → IsStand d q (state_at d i) (slice_index_or stands i e)
+
 -- a node for the indexes past the end of a list
 abbrev pub nowhere : Node
 nowhere = record { parent = 0; by = None; leg = 0; router = 0; cost = 0; links = 0 }

@@ -1,10 +1,11 @@
-ghost use Rattle.std.specs.Prelude.{◌≡◌, ◌+◌, ◌*◌, ◌%◌, ◌<◌, ◌≤◌, IfOk, length};
+ghost use Rattle.std.specs.Prelude.{◌≡◌, ◌+◌, ◌-◌, ◌*◌, ◌%◌, ◌<◌, ◌≤◌, ◌↔◌, IsTrue, IfOk, length, slice_get, slice_index_or};
 ghost use Rattle.cspf_db.specs.Index.{router_list};
-ghost use Rattle.cspf_search.specs.Frontier.{IsStand, AreStands, state_at};
+ghost use Rattle.cspf_db.specs.Targets.{IsLoose};
+ghost use Rattle.cspf_search.specs.Frontier.{IsStand, AreStands, AreStandsBelow, nothing, state_at};
 
 use cspf_addr::Addr;
 use cspf_db::{Request, Table};
-use cspf_graph::{inside, member};
+use cspf_graph::member;
 use std::alloc::{AllocError, Global};
 
 /// What a route may do at a router in a leg.
@@ -16,26 +17,60 @@ pub(crate) struct Stand {
     pub(crate) target: bool,
 }
 
-/// What a route may do at the state at an index, where it is that of a router.
-fn make_stand(table: &Table, request: &Request, routers: &[Addr], at: usize) -> Stand
+/// Whether the leg is loose: one to a hop where the hop is, and the leg behind the last hop.
+fn is_loose(request: &Request, leg: usize) -> bool
+    requires { 1 ≤ leg }
+    ensures { IsTrue result ↔ IsLoose (slice_get request.now.hops (leg - 1)) }
+{
+    match request.hops.get(leg - 1) {
+        Some(hop) => hop.loose,
+        None => true,
+    }
+}
+
+/// Whether the router of the state at an index is a target of the leg before its own.
+fn is_target_before(request: &Request, stands: &[Stand], at: usize, router: Addr) -> bool
+    requires { at ≤ length stands.now }
+    ensures head { at < 1024 → (IsTrue result ↔ router ≡ request.now.from) }
+    ensures later { 1024 ≤ at
+        → result ≡ (slice_index_or stands.now (at - 1024) nothing).target }
+{
+    if at < 1024 {
+        router == request.from
+    } else {
+        stands[at - 1024].target
+    }
+}
+
+/// What a route may do at the state at an index, where it is that of a router, and it is known of
+/// the states before.
+fn make_stand(
+    table: &Table,
+    request: &Request,
+    routers: &[Addr],
+    stands: &[Stand],
+    at: usize,
+) -> Stand
     requires within { at < (length request.now.hops + 1) * 1024 }
     requires listed { routers.now ≡ router_list table.now }
+    requires known { at ≤ length stands.now }
+    requires before { AreStandsBelow table.now request.now at stands.now }
     ensures { at % 1024 < length (router_list table.now)
         → IsStand table.now request.now (state_at table.now at) result }
 {
     let leg = at / 1024 + 1;
     let place = at % 1024;
-    if place < routers.len() {
-        let router = routers[place];
-        Stand {
-            inside: inside(table, router, leg, request),
-            target: member(table, router, leg, request),
-        }
-    } else {
-        Stand {
+    if place >= routers.len() {
+        return Stand {
             inside: false,
             target: false,
-        }
+        };
+    }
+    let router = routers[place];
+    let target = member(table, router, leg, request);
+    Stand {
+        inside: is_loose(request, leg) || is_target_before(request, stands, at, router) || target,
+        target,
     }
 }
 
@@ -54,7 +89,8 @@ pub(crate) fn stands(
     let count = legs * 1024;
     let mut stands = Vec::with_capacity(alloc, count)?;
     for at in 0..count {
-        stands.push(make_stand(table, request, routers, at))?;
+        let stand = make_stand(table, request, routers, &stands, at);
+        stands.push(stand)?;
     }
     Ok(stands)
 }
