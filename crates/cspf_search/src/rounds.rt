@@ -72,15 +72,15 @@ pub(crate) fn locals(nodes: &[Node], a: &Node, b: &Node) -> Ordering
 {
     let count = a.links;
     let mut found = Ordering::Equal;
-    let mut x = *a;
-    let mut y = *b;
+    let mut x = a;
+    let mut y = b;
     for _step in 0..count {
-        let (Some(l), Some(m)) = (x.by, y.by) else {
+        let (Some(l), Some(m)) = (&x.by, &y.by) else {
             unreachable!();
         };
         found = l.local.cmp(&m.local).then(found);
-        x = nodes[x.parent];
-        y = nodes[y.parent];
+        x = &nodes[x.parent];
+        y = &nodes[y.parent];
     }
     found
 }

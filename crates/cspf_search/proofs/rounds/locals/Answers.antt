@@ -7,12 +7,12 @@ loop-step-preserved c =
     let nodes = c.args.nodes.now in
     let before = c.loop-step.invariant in
     let arms = c.in-Some-Some in
-    let x = walk_back nodes c.requires.arena c.loop-step.x c.index-nodes-x.result before.first.parent c.index-nodes-x.is arms.l arms.is-0 in
-    let y = walk_back nodes c.requires.arena c.loop-step.y c.index-nodes-y.result before.second.parent c.index-nodes-y.is arms.m arms.is-1 in
+    let x = walk_back nodes c.requires.arena c.loop-step.x.now c.index-nodes-x.result before.first.parent c.index-nodes-x.is arms.l arms.is-0 in
+    let y = walk_back nodes c.requires.arena c.loop-step.y.now c.index-nodes-y.result before.second.parent c.index-nodes-y.is arms.m arms.is-1 in
     let first =
-    behind_more nodes c.requires.arena c.loop-step.x c.index-nodes-x.result before.first.parent c.index-nodes-x.is arms.l arms.is-0 c.loop-step._step c.args.a.now.links before.first in
+    behind_more nodes c.requires.arena c.loop-step.x.now c.index-nodes-x.result before.first.parent c.index-nodes-x.is arms.l arms.is-0 c.loop-step._step c.args.a.now.links before.first in
     let second =
-    behind_more nodes c.requires.arena c.loop-step.y c.index-nodes-y.result before.second.parent c.index-nodes-y.is arms.m arms.is-1 c.loop-step._step c.args.a.now.links before.second in
+    behind_more nodes c.requires.arena c.loop-step.y.now c.index-nodes-y.result before.second.parent c.index-nodes-y.is arms.m arms.is-1 c.loop-step._step c.args.a.now.links before.second in
     record {
       first = first;
       second = second;
