@@ -1,22 +1,45 @@
-use Rattle.std.proofs.Common.{◌≡◌, ℕ, ◌<◌, ◌↔◌, Bool, true, false, IsTrue, List, [], ◌∷◌, All, length, slice_index_or, refl, sym, subst, inl, inr, arith}
-use Rattle.std.specs.List.{HoldsAt}
+use Rattle.std.proofs.Common.{◌≡◌, ℕ, zero, suc, ◌<◌, ◌↔◌, Bool, true, false, cond, IsTrue, List, [], ◌∷◌, All, Contains, length, nat_eq, slice_index_or, refl, sym, ap, subst, ◌∙◌, inl, inr, arith}
+use Rattle.std.specs.List.{HoldsAt, filter}
+use Rattle.std.proofs.lemmas.Bool.Decides.{nat_tests}
+use Rattle.std.proofs.lemmas.List.Elements.{All-filter, All-contains, All-contains_itself, filter_passes}
 use Rattle.cspf_addr.specs.PrefixParts.{PrefixParts}
 use Rattle.cspf_addr.specs.Prefixes.{Covers}
 use Rattle.cspf_db.specs.declared.link.Link.{Link}
 use Rattle.cspf_db.specs.Database.{Database, AreLinksOf, IsLinkOf, IsRouterOf}
 use Rattle.cspf_db.specs.Targets.{BeginsWithin, Owns}
 
--- what tells whether one of the rows is such a link tells it of the database
-pub tells_link : (P : Link → Type 0) (d : Database) (rows : List Link) (b : Bool)
+-- a row that passes is kept
+kept : (p : Link → Bool) (rows : List Link) (l : Link) → Contains rows l → p l ≡ true → Contains (filter p rows) l
+kept p [] l has on = absurd (omega (arith, has.1))
+kept p (m ∷ rows) l (zero, h, is) on = subst (λ b. Contains (cond b (m ∷ filter p rows) (filter p rows)) l) (sym (ap p is ∙ on)) (0, omega arith, is)
+kept p (m ∷ rows) l (suc k, h, is) on =
+    let rest = kept p rows l (k, omega (arith, h), is) on in
+    elim (p m) as (λ b. Contains (cond b (m ∷ filter p rows) (filter p rows)) l) [ true ↦ (suc rest.0, omega (arith, rest.1), rest.2) | false ↦ rest ]
+
+same_number : (m n : ℕ) → nat_eq m n ≡ true → m ≡ n
+same_number m n tie = grind (arith, nat_tests)
+
+ties : (m n : ℕ) → m ≡ n → nat_eq m n ≡ true
+ties m n is = grind (arith, nat_tests)
+
+-- what tells whether one of the links from a router is within a prefix tells it of the database
+pub tells_link : (prefix : PrefixParts) (router : ℕ) (d : Database) (rows : List Link) (b : Bool)
     → AreLinksOf d rows
-    → (b ≡ true → (at : ℕ) × (at < length rows) × HoldsAt P rows at)
-    → (b ≡ false → All (λ l. ¬ P l) rows) → IsTrue b ↔ ((l : Link) × IsLinkOf d l × P l)
-tells_link P d [] true listed hit miss = absurd (omega (arith, (hit refl).1))
-tells_link P d (m ∷ rows) true listed hit miss =
+    → (b ≡ true → (at : ℕ) × (at < length (filter (λ l. nat_eq l.from router) rows)) × HoldsAt (λ l. Covers prefix l.local) (filter (λ l. nat_eq l.from router) rows) at)
+    → (b ≡ false → All (λ l. ¬ Covers prefix l.local) (filter (λ l. nat_eq l.from router) rows))
+    → IsTrue b ↔ ((l : Link) × IsLinkOf d l × BeginsWithin prefix router l)
+tells_link prefix router d [] true listed hit miss = absurd (omega (arith, (hit refl).1))
+tells_link prefix router d (m ∷ rows) true listed hit miss =
+    let p : Link → Bool = λ l. nat_eq l.from router in
     let h = hit refl in
-    (λ _. (slice_index_or (m ∷ rows) h.0 m, listed.each h.0 m h.1, h.2 m), λ _. refl)
-tells_link P d rows false listed hit miss =
-    ((λ e. absurd (cc)), λ (l, is, holds). let at = listed.whole l is in absurd (miss refl at.0 l at.1 (subst P (sym at.2) holds)))
+    let l : Link = slice_index_or (filter p (m ∷ rows)) h.0 m in
+    let has : Contains (m ∷ rows) l = All-filter p (Contains (m ∷ rows)) (m ∷ rows) (All-contains_itself (m ∷ rows)) h.0 m h.1 in
+    let begins : BeginsWithin prefix router l = record { from = same_number l.from router (filter_passes p (m ∷ rows) h.0 m h.1); local = h.2 m } in
+    (λ _. (l, All-contains (IsLinkOf d) (m ∷ rows) l listed.each has, begins), λ _. refl)
+tells_link prefix router d rows false listed hit miss = (
+  λ e. absurd (cc),
+  λ (l, is, begins). absurd (All-contains (λ m. ¬ Covers prefix m.local) (filter (λ m. nat_eq m.from router) rows) l (miss refl) (kept (λ m. nat_eq m.from router) rows l (listed.whole l is) (ties l.from router begins.from)) begins.local),
+)
 
 -- a router of the database that the prefix covers owns it
 pub owned_itself : (d : Database) (prefix : PrefixParts) (router : ℕ) (b : Bool) → b ≡ true

@@ -9,7 +9,7 @@ ghost use Rattle.cspf_db.specs.Targets.{Owns};
 use crate::beside::change_table;
 use crate::router_list::search;
 use crate::scratch::Scratch;
-use crate::table_rows::{any_begins_within, index_of, rows_from, span};
+use crate::table_rows::{any_within, index_of, rows_from, span};
 use crate::{Batch, Link, Refusal, check};
 use cspf_addr::{Addr, Prefix};
 use std::alloc::{AllocError, Global};
@@ -140,7 +140,7 @@ impl Table {
         ensures { IsTrue result ↔ Owns self.now prefix router }
     {
         self.has_router(router)
-            && (prefix.covers(router) || any_begins_within(&self.rows, router, prefix))
+            && (prefix.covers(router) || any_within(rows_from(&self.rows, router), prefix))
     }
 
     /// Whether the batch fits, and else the first reason why it doesn't. The batch's number isn't

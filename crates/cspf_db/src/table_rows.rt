@@ -2,11 +2,11 @@ ghost use Rattle.std.specs.Prelude.{◌≡◌, ◌≢◌, ℕ, ◌+◌, ◌<◌,
 ghost use Rattle.std.specs.Vec.{vec_capacity};
 ghost use Rattle.std.specs.List.{HoldsAt, insert, remove as without};
 ghost use Rattle.std.specs.List.Sorted.{IsPartitionPoint};
+ghost use Rattle.cspf_addr.specs.Prefixes.{Covers};
 ghost use Rattle.cspf_db.specs.Database.{key_of, key_cmp};
 ghost use Rattle.cspf_db.specs.Index.{links_from};
 ghost use Rattle.cspf_db.specs.Changes.{after_change, after_changes};
 ghost use Rattle.cspf_db.specs.Rows.{database_of, AreByKey};
-ghost use Rattle.cspf_db.specs.Targets.{BeginsWithin};
 ghost use Rattle.cspf_db.specs.CountedEnds.{AnyEndsAt};
 
 use crate::{Change, Link};
@@ -78,14 +78,13 @@ pub fn begins(rows: &[Link], router: Addr) -> bool
     first < rows.len() && rows[first].from == router
 }
 
-/// Whether a row begins at the router, by an interface with an address that the prefix covers.
-pub fn any_begins_within(rows: &[Link], router: Addr, prefix: Prefix) -> bool
+/// Whether one of the rows has the address of its interface within the prefix.
+pub fn any_within(rows: &[Link], prefix: Prefix) -> bool
     ensures yes { result ≡ true
-        → (at : ℕ) × (at < length rows.now) × HoldsAt (BeginsWithin prefix router) rows.now at }
-    ensures no { result ≡ false → All (λ l. ¬ BeginsWithin prefix router l) rows.now }
+        → (at : ℕ) × (at < length rows.now) × HoldsAt (λ l. Covers prefix l.local) rows.now at }
+    ensures no { result ≡ false → All (λ l. ¬ Covers prefix l.local) rows.now }
 {
-    rows.iter()
-        .any(|link| link.from == router && prefix.covers(link.local))
+    rows.iter().any(|link| prefix.covers(link.local))
 }
 
 /// Puts the link in at an index. There is room, so this takes no memory and can't fail.
