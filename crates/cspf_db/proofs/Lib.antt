@@ -26,3 +26,5 @@ pub mod Added
 pub mod EndsBeside
 pub mod Exact
 pub mod Merged
+pub mod Moved
+pub mod Staying

@@ -8,13 +8,13 @@ use Rattle.cspf_db.specs.declared.link.Link.{Link}
 use Rattle.cspf_db.specs.Database.{Database, AreLinksOf, IsLinkOf, IsRouterOf}
 use Rattle.cspf_db.specs.Targets.{BeginsWithin, Owns}
 
--- a row that passes is kept
-kept : (p : Link → Bool) (rows : List Link) (l : Link) → Contains rows l → p l ≡ true → Contains (filter p rows) l
-kept p [] l has on = absurd (omega (arith, has.1))
-kept p (m ∷ rows) l (zero, h, is) on = subst (λ b. Contains (cond b (m ∷ filter p rows) (filter p rows)) l) (sym (ap p is ∙ on)) (0, omega arith, is)
-kept p (m ∷ rows) l (suc k, h, is) on =
-    let rest = kept p rows l (k, omega (arith, h), is) on in
-    elim (p m) as (λ b. Contains (cond b (m ∷ filter p rows) (filter p rows)) l) [ true ↦ (suc rest.0, omega (arith, rest.1), rest.2) | false ↦ rest ]
+-- what passes is kept
+pub Contains-filter : {A : Type 0} (p : A → Bool) (xs : List A) (x : A) → Contains xs x → p x ≡ true → Contains (filter p xs) x
+Contains-filter p [] x has on = absurd (omega (arith, has.1))
+Contains-filter p (y ∷ xs) x (zero, h, is) on = subst (λ b. Contains (cond b (y ∷ filter p xs) (filter p xs)) x) (sym (ap p is ∙ on)) (0, omega arith, is)
+Contains-filter p (y ∷ xs) x (suc k, h, is) on =
+    let rest = Contains-filter p xs x (k, omega (arith, h), is) on in
+    elim (p y) as (λ b. Contains (cond b (y ∷ filter p xs) (filter p xs)) x) [ true ↦ (suc rest.0, omega (arith, rest.1), rest.2) | false ↦ rest ]
 
 same_number : (m n : ℕ) → nat_eq m n ≡ true → m ≡ n
 same_number m n tie = grind (arith, nat_tests)
@@ -38,7 +38,7 @@ tells_link prefix router d (m ∷ rows) true listed hit miss =
     (λ _. (l, All-contains (IsLinkOf d) (m ∷ rows) l listed.each has, begins), λ _. refl)
 tells_link prefix router d rows false listed hit miss = (
   λ e. absurd (cc),
-  λ (l, is, begins). absurd (All-contains (λ m. ¬ Covers prefix m.local) (filter (λ m. nat_eq m.from router) rows) l (miss refl) (kept (λ m. nat_eq m.from router) rows l (listed.whole l is) (ties l.from router begins.from)) begins.local),
+  λ (l, is, begins). absurd (All-contains (λ m. ¬ Covers prefix m.local) (filter (λ m. nat_eq m.from router) rows) l (miss refl) (Contains-filter (λ m. nat_eq m.from router) rows l (listed.whole l is) (ties l.from router begins.from)) begins.local),
 )
 
 -- a router of the database that the prefix covers owns it

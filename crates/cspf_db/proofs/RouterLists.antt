@@ -1,4 +1,4 @@
-use Rattle.std.proofs.Common.{◌≡◌, ℕ, suc, ◌+◌, ◌<◌, ◌≤◌, ◌↔◌, Bool, true, false, cond, T, IsTrue, Option, List, [], ◌∷◌, ◌++◌, inr, ◌-◌, Contains, length, map, take, drop, get_or, slice_index, slice_set, Result, Ok, Err, IfOk, IfErr, IfNone, is_some, is_ok, nat_lt, nat_eq, nat_eq, refl, sym, ap, subst, ◌∙◌, arith}
+use Rattle.std.proofs.Common.{◌≡◌, ℕ, ◌+◌, ◌<◌, ◌≤◌, ◌↔◌, Bool, true, false, cond, T, IsTrue, Option, List, [], ◌∷◌, ◌-◌, Contains, length, map, take, drop, get_or, slice_index, Result, Ok, Err, IfOk, IfErr, IfNone, is_some, is_ok, nat_lt, nat_eq, nat_eq, refl, sym, ap, subst, ◌∙◌, arith}
 use Rattle.std.specs.Ordering.{nat_cmp, eq_by_cmp}
 use Rattle.std.specs.declared.cmp.Ordering.TheVariants.{Less, Equal, Greater}
 use Rattle.std.specs.Cmp.{nat_cmp_total, ranked, Equal-is, eq_by_cmp_equiv, tied_itself}
@@ -6,22 +6,21 @@ use Rattle.std.specs.List.{HoldsAt, list_any, between, filter, insert, AllByRecu
 use Rattle.std.specs.List.Sorted.{IsPartitionPoint, IsBinarySearchResult, IsStrictlyIncreasing}
 use Rattle.std.specs.Result.{result_ok}
 use Rattle.std.specs.FinMap as finite
-use Rattle.std.specs.FinMap.{is_sorted, put, entries, entries-insert, entries_sorted, nat_cmp-IsAntisymmetric}
+use Rattle.std.specs.FinMap.{is_sorted, put, entries, entries_sorted, nat_cmp-IsAntisymmetric}
 use Rattle.std.specs.FinMap.Entries.{is_sorted-put, is_some-find}
 use Rattle.std.specs.FinSet as set
-use Rattle.std.proofs.lemmas.List.{get_or_default, set-get_or, length-map, map_push, map_more, take_all, take-map, drop-map, drop_all, nil_from_length, get_or_read_under}
-use Rattle.std.proofs.lemmas.List.Elements.{All-push, Contains-get_or}
+use Rattle.std.proofs.lemmas.List.{get_or_default, length-map, take-map, drop-map, nil_from_length, get_or_read_under}
+use Rattle.std.proofs.lemmas.List.Elements.{Contains-get_or}
 use Rattle.std.proofs.lemmas.Map.Views.{list_any-from_Contains, Contains-from_any}
-use Rattle.std.proofs.Math.Seq.{drop-cons}
 use Rattle.std.proofs.lemmas.Bool.Decides.{nat_tests}
 use Rattle.cspf_db.specs.declared.link.Link.{Link}
 use Rattle.cspf_db.specs.declared.batch.Change.{Change}
 use Rattle.cspf_db.specs.declared.batch.Change.TheVariants.{Put, Remove}
 use Rattle.cspf_db.specs.CountedEnds.{AnyEndsAt, HasKnownEnds, HasListedEnds}
-use Rattle.cspf_db.specs.Database.{Database, IsLinkOf, IsRouterOf, EndsAt, AreAtTheirKeys, ends_of, all_routers, router_count}
+use Rattle.cspf_db.specs.Database.{Database, IsRouterOf, EndsAt, AreAtTheirKeys, ends_of, all_routers, router_count}
 use Rattle.cspf_db.specs.Index.{with_nothing, numbers_in, links_of, router_list, links_from_index}
 use Rattle.cspf_db.specs.Rows.{database_of, AreRising, AreByKey, AreEndsOf}
-use Rattle.cspf_db.proofs.InOrder.{test_from_true, true_from_test, put-gap, put-hit, rises, searchable, gap_from}
+use Rattle.cspf_db.proofs.InOrder.{test_from_true, true_from_test, put-gap, rises, searchable, gap_from}
 use Rattle.cspf_db.proofs.Ordered.{links_of-database_of, own_keys}
 use Rattle.cspf_db.proofs.Listed.{rows_listed, rows_keyed}
 use Rattle.cspf_db.proofs.Counted.{routers_counted}
@@ -30,12 +29,6 @@ use Rattle.cspf_db.proofs.Counted.{routers_counted}
 pub router_gap : (routers : List ℕ) (router : ℕ) (r : Result ℕ ℕ) → AreRising routers → IsBinarySearchResult (λ y. nat_cmp y router) routers r
     → IfErr r (IsPartitionPoint (λ y. nat_cmp y router ≡ Less) (λ y. nat_cmp y router ≡ Greater) routers)
 router_gap routers router r rising found = gap_from (λ y. nat_cmp y router) routers r found (searchable nat_cmp_total with_nothing routers router (test_from_true _ rising))
-
--- a router that is there already
-pub put-there : (routers : List ℕ) (router at : ℕ) → AreRising routers → at < length routers → HoldsAt (λ y. y ≡ router) routers at
-    → map with_nothing routers ≡ put nat_cmp router tt (map with_nothing routers)
-put-there routers router at rising h has =
-    ap (map with_nothing) (sym (ap (slice_set routers at) (sym (has 0)) ∙ set-get_or routers at 0)) ∙ sym (put-hit nat_cmp_total with_nothing routers at router 0 (test_from_true _ rising) h (has 0))
 
 -- a new router
 pub put-new : (routers : List ℕ) (router at : ℕ) → at ≤ length routers → IsPartitionPoint (λ y. nat_cmp y router ≡ Less) (λ y. nat_cmp y router ≡ Greater) routers at
@@ -55,21 +48,6 @@ numbers_alone (n ∷ ns) = ap (λ ms. n ∷ ms) (numbers_alone ns)
 entries_alone : (es : List (ℕ × Unit {0})) → map with_nothing (map (λ e. e.0) es) ≡ es
 entries_alone [] = refl
 entries_alone (e ∷ es) = ap (λ fs. e ∷ fs) (entries_alone es)
-
--- one step of a list of routers: a row's ends are added to those of the rows behind it
-pub ends_more : (rows : List Link) (at : ℕ) (l : Link) (routers more : List ℕ) → at < length rows → l ≡ get_or rows at l
-    → map with_nothing routers ≡ entries (numbers_in (ends_of (drop (at + 1) rows)))
-    → map with_nothing more ≡ put nat_cmp l.from tt (put nat_cmp l.to tt (map with_nothing routers))
-    → map with_nothing more ≡ entries (numbers_in (ends_of (drop at rows)))
-ends_more rows at l routers more h read is added =
-    added
-    ∙ ap (λ es. put nat_cmp l.from tt (put nat_cmp l.to tt es)) is
-    ∙ ap (put nat_cmp l.from tt) (sym (entries-insert nat_cmp_total (numbers_in (ends_of (drop (at + 1) rows))) l.to tt))
-    ∙ sym (entries-insert nat_cmp_total (finite.insert (numbers_in (ends_of (drop (at + 1) rows))) l.to tt) l.from tt)
-    ∙ sym (ap (λ ls. entries (numbers_in (ends_of ls))) (drop-cons rows at l h ∙ (λ i. sym read i ∷ drop (sym add_suc i) rows)))
-  where
-    add_suc : at + 1 ≡ suc at
-    add_suc = omega arith
 
 -- routers that are the entries of all ends are the list of routers
 pub router_list-entries : (rows : List Link) (routers : List ℕ) → AreByKey rows → map with_nothing routers ≡ entries (numbers_in (ends_of rows)) → routers ≡ router_list (database_of rows)
@@ -133,23 +111,6 @@ pub none_from_search : (d : Database) (router : ℕ) (r : Result ℕ ℕ) (place
 none_from_search d router (Ok at) place keyed e gap = rw e tt
 none_from_search d router (Err at) place keyed e gap = rw e (λ is. apart_from_gap (router_list d) router at gap ((Contains-router_list d keyed router).1 is))
 
--- a router that a row runs to is in the list
-pub to_among : (rows : List Link) (at : ℕ) (l : Link) → AreByKey rows → at < length rows → l ≡ get_or rows at l → Contains (router_list (database_of rows)) l.to
-to_among rows at l by_key h read =
-    (Contains-router_list (database_of rows) (rows_keyed rows) l.to).1 (l, subst (IsLinkOf (database_of rows)) (sym read) ((rows_listed rows (own_keys rows by_key)).each at l h), inr refl)
-
--- one step of a list of ends
-pub ends_push : (rows : List Link) (routers ends : List ℕ) (at end : ℕ) (l : Link) → AreEndsOf (take at rows) routers ends → at < length rows → l ≡ get_or rows at l
-    → end < length routers → slice_index routers end ≡ l.to → AreEndsOf (take (at + 1) rows) routers (ends ++ end ∷ [])
-ends_push rows routers ends at end l so_far h read within found = record {
-  within = All-push (λ e. e < length routers) ends end so_far.within within;
-  each = map_push (λ e. slice_index routers e) ends end ∙ (λ i. so_far.each i ++ (found ∙ ap (λ (m : Link). m.to) read) i ∷ []) ∙ sym (map_more (λ (m : Link). m.to) rows at l h);
-}
-
--- the ends of all rows
-pub ends_all : (rows : List Link) (routers ends : List ℕ) (at : ℕ) → AreEndsOf (take at rows) routers ends → length rows ≤ at → AreEndsOf rows routers ends
-ends_all rows routers ends at so_far h = subst (λ ls. AreEndsOf ls routers ends) (take_all at rows h) so_far
-
 -- no rows have no routers
 pub router_list-nil : [] ≡ router_list (database_of [])
 router_list-nil = router_list-entries [] [] refl (sym (nil_from_length _ (sym (finite.len-entries _) ∙ finite.len-empty nat_cmp (Unit {0}))))
@@ -185,28 +146,6 @@ pub tells_router : (d : Database) (router : ℕ) (r : Result ℕ ℕ) (b : Bool)
 tells_router d router (Err at) b keyed e within found gap = (λ on. absurd (cc), λ is. absurd (apart_from_gap (router_list d) router at gap ((Contains-router_list d keyed router).1 is)))
 tells_router d router (Ok at) b keyed e within found gap =
     (λ _. (Contains-router_list d keyed router).0 (subst (Contains (router_list d)) (found 0) (Contains-get_or (router_list d) at 0 within)), λ _. e)
-
--- no numbers make an empty map
-entries-no_numbers : entries (numbers_in []) ≡ []
-entries-no_numbers = nil_from_length _ (sym (finite.len-entries _) ∙ finite.len-empty nat_cmp (Unit {0}))
-
--- a list of routers begins with none
-pub ends_none : (rows : List Link) (at : ℕ) (routers : List ℕ) → length rows ≤ at → routers ≡ [] → map with_nothing routers ≡ entries (numbers_in (ends_of (drop at rows)))
-ends_none rows at routers h e = ap (map with_nothing) e ∙ sym entries-no_numbers ∙ ap (λ (ls : List Link). entries (numbers_in (ends_of ls))) (sym (drop_all at rows h))
-
--- one step of a list of routers, from behind
-pub ends_less : (rows : List Link) (at : ℕ) (l : Link) (routers more : List ℕ) → 0 < at → at ≤ length rows → l ≡ get_or rows (at - 1) l
-    → map with_nothing routers ≡ entries (numbers_in (ends_of (drop at rows)))
-    → map with_nothing more ≡ put nat_cmp l.from tt (put nat_cmp l.to tt (map with_nothing routers))
-    → map with_nothing more ≡ entries (numbers_in (ends_of (drop (at - 1) rows)))
-ends_less rows at l routers more some h read is added =
-    let back : at ≡ at - 1 + 1 = omega arith in
-    ends_more rows (at - 1) l routers more (omega arith) read (is ∙ ap (λ n. entries (numbers_in (ends_of (drop n rows)))) back) added
-
--- a list of routers is whole where no row is left
-pub ends_whole : (rows : List Link) (at : ℕ) (routers : List ℕ) → AreByKey rows → at ≤ 0 → map with_nothing routers ≡ entries (numbers_in (ends_of (drop at rows))) → routers ≡ router_list (database_of rows)
-ends_whole rows at routers by_key h is =
-    let none : at ≡ 0 = omega arith in router_list-entries rows routers by_key (is ∙ ap (λ n. entries (numbers_in (ends_of (drop n rows)))) none)
 
 -- a router that a search finds is in the list
 pub among_from_search : (routers : List ℕ) (router : ℕ) (r : Result ℕ ℕ) (b : Bool) → b ≡ is_ok r → IfOk r (λ at. at < length routers) → IfOk r (HoldsAt (λ y. y ≡ router) routers) → b ≡ true

@@ -1,7 +1,7 @@
 -- Private: how the ends of links are counted.
-use Rattle.std.specs.Prelude.{ℕ, List, [], ◌∷◌, length, ◌<◌, Contains}
+use Rattle.std.specs.Prelude.{ℕ, Bool, ◌||◌, nat_eq, List, [], ◌∷◌, length, ◌<◌, Contains}
 use Rattle.std.specs.Ordering.{nat_cmp}
-use Rattle.std.specs.List.{HoldsAt}
+use Rattle.std.specs.List.{HoldsAt, list_any}
 use Rattle.std.specs.FinSet.{FinSet, insert}
 use Rattle.cspf_db.specs.declared.link.Link.{Link}
 use Rattle.cspf_db.specs.declared.batch.Change.{Change}
@@ -16,6 +16,18 @@ with_ends routers (l ∷ ls) = with_ends (insert (insert routers l.from) l.to) l
 -- one of the links begins or ends at the router
 abbrev pub AnyEndsAt : List Link → ℕ → Type 0
 AnyEndsAt links router = (at : ℕ) × (at < length links) × HoldsAt (EndsAt router) links at
+
+-- one of the links begins at the router
+abbrev pub any_from : List Link → ℕ → Bool
+any_from links router = list_any (λ l. nat_eq l.from router) links
+
+-- one of the links runs to the router
+abbrev pub any_to : List Link → ℕ → Bool
+any_to links router = list_any (λ l. nat_eq l.to router) links
+
+-- one of the links begins or ends at the router
+abbrev pub is_end_of : List Link → ℕ → Bool
+is_end_of links router = any_to links router || any_from links router
 
 -- both ends of the link that the change puts, if it does, are ends of the links
 abbrev pub HasKnownEnds : List Link → Change → Type 0

@@ -33,15 +33,27 @@ pub record AreRows (rows : Vec Link Global) : Type 0 where
   pub routers : router_count (database_of rows.items) ≤ 1024
   pub room : 20480 ≤ vec_capacity rows
 
--- the routers are those of the rows' database, and there is room for both ends of each row
+-- the routers are those of the rows' database, and there is room for both ends of each link that a
+-- batch puts
 pub record AreRoutersOf (rows : List Link) (routers : Vec ℕ Global) : Type 0 where
   pub all : routers.items ≡ router_list (database_of rows)
-  pub room : 32768 ≤ vec_capacity routers
+  pub room : 9216 ≤ vec_capacity routers
 
 -- the indices at which the routers are that the rows run to
 pub record AreEndsOf (rows : List Link) (routers : List ℕ) (ends : List ℕ) : Type 0 where
   pub within : All (λ end. end < length routers) ends
   pub each : map (λ end. slice_index routers end) ends ≡ map (λ l. l.to) rows
+
+-- the router is at the place in the list
+pub record IsPlaceOf (routers : List ℕ) (router place : ℕ) : Type 0 where
+  pub within : place < length routers
+  pub found : slice_index routers place ≡ router
+
+-- where each of the routers is in another list, if it is there
+abbrev pub ArePlacesIn : List ℕ → List ℕ → List ℕ → Type 0
+ArePlacesIn others routers places =
+    (at : ℕ) → at < length routers → Contains others (slice_index routers at)
+    → IsPlaceOf others (slice_index routers at) (slice_index places at)
 
 -- the routers have both ends of each row, those that it runs to at the given indices
 pub record AreBeside (links : List Link) (routers : List ℕ) (indices : List ℕ) : Type 0 where

@@ -1,22 +1,21 @@
 //! Changes of rows, with the ends beside them mended as each row changes.
-ghost use Rattle.std.specs.Prelude.{◌≡◌, ℕ, ◌+◌, ◌<◌, ◌≤◌, true, All, length, slice_set, vec_len, IfOk, IfErr, IfSome, IfNone};
+ghost use Rattle.std.specs.Prelude.{count_by, ◌≡◌, ℕ, ◌+◌, ◌<◌, ◌≤◌, true, All, length, slice_set, vec_len, IfOk, IfErr, IfSome, IfNone};
 ghost use Rattle.std.specs.Vec.{vec_capacity};
 ghost use Rattle.std.specs.List.{insert, remove as without};
 ghost use Rattle.cspf_db.specs.Changes.{after_change, after_changes};
-ghost use Rattle.cspf_db.specs.CountedEnds.{AnyEndsAt, HasListedEnds};
+ghost use Rattle.cspf_db.specs.CountedEnds.{HasListedEnds};
 ghost use Rattle.cspf_db.specs.Database.{link_count, router_count};
 ghost use Rattle.cspf_db.specs.Refusals.{AreOnceEach};
+ghost use Rattle.cspf_db.specs.RowsLeft.{adds_link, removes_link};
 ghost use Rattle.cspf_db.specs.Rows.{database_of, AreRising, AreByKey, AreBeside, AreParts};
 
-use crate::check::{count_added, count_removed, knows_ends};
-use crate::router_list::{index_among, list_anew};
+use crate::check::{count_added, count_removed};
+use crate::places::list_ends;
+use crate::router_list::index_among;
 use crate::scratch::Scratch;
-use crate::table_rows::{begins, put, remove};
+use crate::table_rows::{put, remove};
 use crate::{Change, Link};
 use cspf_addr::Addr;
-
-/// How many routers a database may have.
-const ROUTERS: usize = 1024;
 
 /// Puts the end beside the row that was put over another, or between others. There is room, so
 /// this takes no memory and can't fail.
@@ -54,7 +53,7 @@ fn change_one(rows: &mut Vec<Link>, ends: &mut Vec<u16>, routers: &[Addr], chang
     requires room { vec_len rows.old < vec_capacity rows.old }
     requires room_for_ends { vec_len rows.old < vec_capacity ends.old }
     requires rising { AreRising routers.now }
-    requires few { length routers.now ≤ 1024 }
+    requires few { length routers.now ≤ 9216 }
     requires known { HasListedEnds routers.now change.now }
     requires beside { AreBeside rows.old.items routers.now ends.old.items }
     ensures changed { database_of rows.new.items
@@ -86,7 +85,7 @@ pub fn change_rows(rows: &mut Vec<Link>, ends: &mut Vec<u16>, routers: &[Addr], 
     requires room { 20480 ≤ vec_capacity rows.old }
     requires room_for_ends { 20480 ≤ vec_capacity ends.old }
     requires rising { AreRising routers.now }
-    requires few { length routers.now ≤ 1024 }
+    requires few { length routers.now ≤ 9216 }
     requires known { All (HasListedEnds routers.now) changes.now }
     requires beside { AreBeside rows.old.items routers.now ends.old.items }
     ensures changed { database_of rows.new.items
@@ -101,83 +100,55 @@ pub fn change_rows(rows: &mut Vec<Link>, ends: &mut Vec<u16>, routers: &[Addr], 
     }
 }
 
-/// Notes for each router a row that runs to it.
-fn note_rows(noted: &mut [u16], ends: &[u16])
-    requires short { length ends.now ≤ 20480 }
-    requires within { All (λ end. end < length noted.old) ends.now }
-{
-    for (row, end) in ends.iter().enumerate() {
-        noted[*end as usize] = row as u16;
-    }
-}
-
-/// Whether the row at the index runs to the router.
-fn runs_to(rows: &[Link], at: usize, router: Addr) -> bool
-    ensures { result ≡ true → AnyEndsAt rows.now router }
-{
-    at < rows.len() && rows[at].to == router
-}
-
-/// Whether a row ends at the router, or begins there. The index is where to look first.
-fn is_end(rows: &[Link], at: usize, router: Addr) -> bool
-    ensures { result ≡ true → AnyEndsAt rows.now router }
-{
-    runs_to(rows, at, router) || begins(rows, router)
-}
-
-/// Whether each router is an end of a row still.
-pub fn all_stay(routers: &[Addr], ends: &[u16], rows: &[Link]) -> bool
-    requires short { length ends.now ≤ 20480 }
-    requires within { All (λ end. end < length routers.now) ends.now }
-    requires few { length routers.now ≤ 1024 }
-    ensures { result ≡ true → All (AnyEndsAt rows.now) routers.now }
-{
-    let mut noted = [0; ROUTERS];
-    note_rows(&mut noted, ends);
-    for (at, router) in routers.iter().enumerate() {
-        if !is_end(rows, noted[at] as usize, *router) {
-            return false;
-        }
-    }
-    true
-}
-
 /// How many rows may be put between others or taken out one by one, as each moves those behind it.
 const FEW: usize = 16;
 
-/// Whether the changes put links between known routers alone, move few rows and take few out.
-fn are_easy(rows: &[Link], routers: &[Addr], changes: &[Change]) -> bool
+/// Whether the changes put few rows between others and take few out.
+fn move_few(rows: &[Link], changes: &[Change]) -> bool
     requires by_key { AreByKey rows.now }
-    requires rising { AreRising routers.now }
     requires short { length changes.now ≤ 4096 }
-    ensures { result ≡ true → All (HasListedEnds routers.now) changes.now }
+    ensures { result ≡ true
+        → count_by (adds_link (database_of rows.now)) changes.now + count_by removes_link changes.now ≤ 16 }
 {
-    knows_ends(routers, changes) && count_added(rows, changes) + count_removed(changes) <= FEW
+    count_added(rows, changes) + count_removed(changes) <= FEW
 }
 
-/// Makes the changes, and lists the routers and the ends anew.
-fn change_anew(
+/// Makes changes on keys of their own, with the ends beside the rows. They put links between listed
+/// routers alone.
+fn change_with_ends(
     rows: &mut Vec<Link>,
-    routers: &mut Vec<Addr>,
     ends: &mut Vec<u16>,
     scratch: &mut Scratch,
+    routers: &[Addr],
     changes: &[Change],
 )
-    requires parts { AreParts rows.old routers.old ends.old }
+    requires by_key { AreByKey rows.old.items }
+    requires most { vec_len rows.old ≤ 16384 }
     requires short { length changes.now ≤ 4096 }
     requires once { AreOnceEach changes.now }
     requires links { link_count (after_changes (database_of rows.old.items) changes.now) ≤ 16384 }
-    requires few { router_count (after_changes (database_of rows.old.items) changes.now) ≤ 1024 }
+    requires room { 20480 ≤ vec_capacity rows.old }
+    requires room_for_ends { 20480 ≤ vec_capacity ends.old }
+    requires rising { AreRising routers.now }
+    requires few { length routers.now ≤ 9216 }
+    requires known { All (HasListedEnds routers.now) changes.now }
+    requires beside { AreBeside rows.old.items routers.now ends.old.items }
     ensures changed { database_of rows.new.items
         ≡ after_changes (database_of rows.old.items) changes.now }
-    ensures parts { AreParts rows.new routers.new ends.new }
+    ensures by_key { AreByKey rows.new.items }
+    ensures room { 20480 ≤ vec_capacity rows.new }
+    ensures room_for_ends { 20480 ≤ vec_capacity ends.new }
+    ensures beside { AreBeside rows.new.items routers.now ends.new.items }
 {
+    if move_few(rows, changes) {
+        change_rows(rows, ends, routers, changes);
+        return;
+    }
     scratch.change(rows, changes);
-    list_anew(routers, ends, rows);
+    list_ends(ends, routers, rows);
 }
 
-/// Makes the changes of a batch that fits. Where they move few rows and no router comes or goes,
-/// the list of routers stays.
+/// Makes the changes of a batch that fits.
 pub fn change_table(
     rows: &mut Vec<Link>,
     routers: &mut Vec<Addr>,
@@ -194,13 +165,7 @@ pub fn change_table(
         ≡ after_changes (database_of rows.old.items) changes.now }
     ensures parts { AreParts rows.new routers.new ends.new }
 {
-    if !are_easy(rows, routers, changes) {
-        change_anew(rows, routers, ends, scratch, changes);
-        return;
-    }
-    change_rows(rows, ends, routers, changes);
-    if all_stay(routers, ends, rows) {
-        return;
-    }
-    list_anew(routers, ends, rows);
+    scratch.add_routers(routers, ends, changes);
+    change_with_ends(rows, ends, scratch, routers, changes);
+    scratch.drop_routers(routers, ends, rows);
 }

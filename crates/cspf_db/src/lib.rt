@@ -10,6 +10,7 @@ mod hop_laws;
 mod laws;
 mod link;
 mod merging;
+mod places;
 mod refusal;
 mod request;
 mod router_list;

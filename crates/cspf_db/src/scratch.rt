@@ -1,9 +1,13 @@
-ghost use Rattle.std.specs.Prelude.{◌≡◌, ◌≤◌, length, vec_len};
+ghost use Rattle.std.specs.Prelude.{◌≡◌, ◌<◌, ◌≤◌, All, Contains, length, map, slice_index, vec_len};
 ghost use Rattle.std.specs.Vec.{vec_capacity};
 
+use crate::check::knows_ends;
 use crate::merging::{merge, sort_changes};
+use crate::places::{keep_ends, list_places, move_ends};
+use crate::router_list::add_ends;
 use crate::table_rows::apply;
 use crate::{Change, Link};
+use cspf_addr::Addr;
 use std::alloc::{AllocError, Global};
 use std::mem::swap;
 
@@ -13,18 +17,38 @@ const ROWS: usize = 20480;
 /// How many changes there is room for.
 const CHANGES: usize = 4096;
 
-/// Room for the rows after changes, and for the changes in order of the key.
+/// How many routers there is room for: those of a full table, and both ends of each link that a
+/// batch puts.
+const ROUTERS: usize = 9216;
+
+/// Room for the rows and the routers after changes, for the changes in order of the key, and for
+/// the places of routers.
 #[derive(Debug, Drop)]
 pub struct Scratch {
     merged: Vec<Link>,
     sorted: Vec<Change>,
+    listed: Vec<Addr>,
+    places: Vec<u16>,
     ghost room: { 20480 ≤ vec_capacity merged },
     ghost room_for_changes: { 4096 ≤ vec_capacity sorted },
+    ghost room_for_routers: { 9216 ≤ vec_capacity listed },
+    ghost room_for_places: { 9216 ≤ vec_capacity places },
+}
+
+/// Copies the routers. There is room, so this takes no memory and can't fail.
+fn copy_routers(listed: &mut Vec<Addr>, routers: &[Addr])
+    requires { length routers.now ≤ vec_capacity listed.old }
+    ensures items { listed.new.items ≡ routers.now }
+    ensures capacity { vec_capacity listed.old ≤ vec_capacity listed.new }
+{
+    listed.clear();
+    let _ = listed.extend_from_slice(routers);
 }
 
 impl Scratch {
     ghost use Rattle.cspf_db.specs.Changes.{after_changes};
-    ghost use Rattle.cspf_db.specs.Rows.{database_of, AreByKey};
+    ghost use Rattle.cspf_db.specs.CountedEnds.{HasListedEnds};
+    ghost use Rattle.cspf_db.specs.Rows.{database_of, AreRising, AreByKey, AreBeside, AreEndsOf, AreRoutersOf};
     ghost use Rattle.cspf_db.specs.Refusals.{AreOnceEach};
 
     /// Room for the rows of a full table and a batch.
@@ -32,6 +56,8 @@ impl Scratch {
         Ok(Scratch {
             merged: Vec::with_capacity(alloc, ROWS)?,
             sorted: Vec::with_capacity(alloc, CHANGES)?,
+            listed: Vec::with_capacity(alloc, ROUTERS)?,
+            places: Vec::with_capacity(alloc, ROUTERS)?,
         })
     }
 
@@ -54,5 +80,51 @@ impl Scratch {
             return;
         }
         swap(rows, &mut self.merged);
+    }
+    /// Lists the ends of the links that the changes put, those that aren't listed. The column of
+    /// ends says of the rows what it said.
+    pub fn add_routers(&mut self, routers: &mut Vec<Addr>, ends: &mut Vec<u16>, changes: &[Change])
+        requires rising { AreRising routers.old.items }
+        requires few { vec_len routers.old ≤ 1024 }
+        requires short { length changes.now ≤ 4096 }
+        requires room { 9216 ≤ vec_capacity routers.old }
+        requires within { All (λ end. end < length routers.old.items) ends.old.items }
+        ensures listed { All (HasListedEnds routers.new.items) changes.now }
+        ensures kept { All (Contains routers.new.items) routers.old.items }
+        ensures rising { AreRising routers.new.items }
+        ensures few { vec_len routers.new ≤ 9216 }
+        ensures room { 9216 ≤ vec_capacity routers.new }
+        ensures within { All (λ end. end < length routers.new.items) ends.new.items }
+        ensures same { map (λ end. slice_index routers.new.items end) ends.new.items
+            ≡ map (λ end. slice_index routers.old.items end) ends.old.items }
+        ensures capacity_of_ends { vec_capacity ends.old ≤ vec_capacity ends.new }
+    {
+        if knows_ends(routers, changes) {
+            return;
+        }
+        copy_routers(&mut self.listed, routers);
+        add_ends(&mut self.listed, changes);
+        list_places(&mut self.places, routers, &self.listed);
+        move_ends(ends, &self.places);
+        swap(routers, &mut self.listed);
+    }
+
+    /// Drops the routers that are no end of a row. The column of ends follows.
+    pub fn drop_routers(&mut self, routers: &mut Vec<Addr>, ends: &mut Vec<u16>, rows: &[Link])
+        requires by_key { AreByKey rows.now }
+        requires rising { AreRising routers.old.items }
+        requires few { vec_len routers.old ≤ 9216 }
+        requires room { 9216 ≤ vec_capacity routers.old }
+        requires beside { AreBeside rows.now routers.old.items ends.old.items }
+        ensures routers { AreRoutersOf rows.now routers.new }
+        ensures ends { AreEndsOf rows.now routers.new.items ends.new.items }
+        ensures capacity_of_ends { vec_capacity ends.old ≤ vec_capacity ends.new }
+    {
+        keep_ends(&mut self.listed, &mut self.places, routers, ends, rows);
+        if self.listed.len() == routers.len() {
+            return;
+        }
+        move_ends(ends, &self.places);
+        swap(routers, &mut self.listed);
     }
 }

@@ -19,8 +19,8 @@ use std::marker::Model;
 /// that a batch drops may come after those that it puts.
 const ROOM: usize = 20480;
 
-/// How many ends so many links have.
-const ENDS: usize = 32768;
+/// The routers that a table has room for: its own, and both ends of each link that a batch puts.
+const ROUTERS: usize = 9216;
 
 /// A traffic engineering database of at most 16,384 links and 1,024 routers. No call but `new` can
 /// fail for memory.
@@ -54,7 +54,7 @@ impl Table {
     {
         Ok(Table {
             rows: Vec::with_capacity(alloc, ROOM)?,
-            routers: Vec::with_capacity(alloc, ENDS)?,
+            routers: Vec::with_capacity(alloc, ROUTERS)?,
             ends: Vec::with_capacity(alloc, ROOM)?,
             scratch: Scratch::new(alloc)?,
         })

@@ -7,7 +7,7 @@ ghost use Rattle.cspf_db.specs.Database.{key_of, key_cmp};
 ghost use Rattle.cspf_db.specs.Index.{links_from};
 ghost use Rattle.cspf_db.specs.Changes.{after_change, after_changes};
 ghost use Rattle.cspf_db.specs.Rows.{database_of, AreByKey};
-ghost use Rattle.cspf_db.specs.CountedEnds.{AnyEndsAt};
+ghost use Rattle.cspf_db.specs.CountedEnds.{any_from};
 
 use crate::{Change, Link};
 use cspf_addr::{Addr, Prefix};
@@ -72,10 +72,11 @@ pub fn rows_from(rows: &[Link], router: Addr) -> &[Link]
 
 /// Whether a row begins at the router.
 pub fn begins(rows: &[Link], router: Addr) -> bool
-    ensures { result ≡ true → AnyEndsAt rows.now router }
+    requires { AreByKey rows.now }
+    ensures { result ≡ any_from rows.now router }
 {
-    let first = rows.partition_point(|row| row.from < router);
-    first < rows.len() && rows[first].from == router
+    let (first, end) = span(rows, router);
+    first < end
 }
 
 /// Whether one of the rows has the address of its interface within the prefix.

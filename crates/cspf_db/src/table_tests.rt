@@ -117,3 +117,97 @@ fn routers_that_come_and_go(rt: HostRuntime) -> Result<(), Fail> {
     assert_eq!(rt; table.place_of(Addr::new(1)), None);
     Ok(())
 }
+
+// A link between these routers.
+fn between(from: u32, to: u32) -> Result<Link, LinkError> {
+    Link::new(
+        Addr::new(from),
+        Addr::new(to),
+        Addr::new(to),
+        Addr::new(from),
+        10,
+        Mask::new(1),
+        [1000; 8],
+    )
+}
+
+// Puts or removes the links between these pairs of routers in one batch.
+fn change_pairs(
+    alloc: Global,
+    table: &mut Table,
+    pairs: &[(u32, u32)],
+    put: bool,
+) -> Result<(), Fail> {
+    let mut changes = Vec::new(alloc);
+    for (from, to) in pairs {
+        let link = between(*from, *to)?;
+        let (from, local) = (link.from, link.local);
+        changes.push(if put {
+            Change::Put(link)
+        } else {
+            Change::Remove { from, local }
+        })?;
+    }
+    table.absorb(&Batch { number: 1, changes });
+    Ok(())
+}
+
+// The routers are these, and each link has the index of the router that it runs to.
+fn assert_listed(rt: &impl Abort, table: &Table, names: &[u32]) -> Result<(), Fail> {
+    assert_eq!(rt; table.routers().len(), names.len());
+    for (at, name) in names.iter().enumerate() {
+        assert_eq!(rt; table.place_of(Addr::new(*name)), Some(at));
+        let (out, ends) = (table.out_at(at), table.ends_at(at));
+        assert_eq!(rt; out.len(), ends.len());
+        for (link, end) in out.iter().zip(ends) {
+            let to = names.get(*end as usize).ok_or("no such router")?;
+            assert_eq!(rt; (link.from.number(), link.to.number()), (*name, *to));
+        }
+    }
+    Ok(())
+}
+
+#[test]
+fn routers_between_others(rt: HostRuntime) -> Result<(), Fail> {
+    let alloc = rt.alloc();
+    let mut table = Table::new(alloc)?;
+    change_pairs(alloc, &mut table, &[(10, 30), (30, 20), (20, 10)], true)?;
+    assert_listed(&rt, &table, &[10, 20, 30])?;
+    change_pairs(alloc, &mut table, &[(30, 5), (15, 40), (10, 25)], true)?;
+    assert_listed(&rt, &table, &[5, 10, 15, 20, 25, 30, 40])?;
+    change_pairs(alloc, &mut table, &[(30, 5)], false)?;
+    assert_listed(&rt, &table, &[10, 15, 20, 25, 30, 40])?;
+    change_pairs(alloc, &mut table, &[(15, 40), (10, 25)], false)?;
+    assert_listed(&rt, &table, &[10, 20, 30])?;
+    let many = [
+        (1, 2),
+        (2, 3),
+        (3, 4),
+        (4, 5),
+        (5, 6),
+        (6, 7),
+        (7, 8),
+        (8, 9),
+        (11, 12),
+        (12, 13),
+        (13, 14),
+        (14, 21),
+        (21, 22),
+        (22, 31),
+        (31, 32),
+        (32, 33),
+        (33, 34),
+        (34, 1),
+    ];
+    change_pairs(alloc, &mut table, &many, true)?;
+    assert_listed(
+        &rt,
+        &table,
+        &[
+            1, 2, 3, 4, 5, 6, 7, 8, 9, 10, 11, 12, 13, 14, 20, 21, 22, 30, 31, 32, 33, 34,
+        ],
+    )?;
+    change_pairs(alloc, &mut table, &many, false)?;
+    assert_listed(&rt, &table, &[10, 20, 30])?;
+    Ok(())
+}

@@ -1,7 +1,7 @@
 use Rattle.std.proofs.Common.{◌≡◌, ◌≤◌, vec_len, take}
 use Rattle.std.specs.Vec.{vec_capacity}
 use Rattle.cspf_db.specs.Rows.{AreEndsOf}
-use Rattle.cspf_db.proofs.router_list.list_ends.Given as goal
+use Rattle.cspf_db.proofs.places.list_ends.Given as goal
 
 abbrev pub invariant-loop-row : goal.invariant-loop-row
 invariant-loop-row l = record {
