@@ -21,7 +21,7 @@ turned a b h =
 
 module _ (nodes : List Node) (P Q R : List Link → State → Type 0) (from_left : (w : List Link) (t : State) → P w t → R w t)
     (from_right : (w : List Link) (t : State) → Q w t → R w t) (cases : (w : List Link) (t : State) → R w t → P w t ⊎ Q w t) where
-  left_first : (a : Node) → IsFirstOf nodes P a → ((w : List Link) (t : State) → Q w t → is_gt (state_cmp (a.leg, walk_of nodes a) (t.leg, w)) ≡ false) → IsFirstOf nodes R a
+  pub left_first : (a : Node) → IsFirstOf nodes P a → ((w : List Link) (t : State) → Q w t → is_gt (state_cmp (a.leg, walk_of nodes a) (t.leg, w)) ≡ false) → IsFirstOf nodes R a
   left_first a is rest = record {
     next = is.next;
     passes = from_left _ _ is.passes;

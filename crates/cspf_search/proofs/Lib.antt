@@ -14,6 +14,8 @@ pub mod Reached
 pub mod Expanded
 pub mod Taken
 pub mod Few
+pub mod Looked
+pub mod Marked
 pub mod Grown
 pub mod Answered
 pub mod Twice

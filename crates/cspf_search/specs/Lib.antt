@@ -5,3 +5,4 @@ pub mod Settled
 pub mod Arena
 pub mod Rounds
 pub mod Frontier
+pub mod Stops

@@ -10,6 +10,7 @@ mod rounds;
 mod route;
 mod search;
 mod stands;
+mod stops;
 
 pub use outcome::Outcome;
 pub use route::Route;

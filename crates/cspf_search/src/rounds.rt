@@ -1,66 +1,18 @@
-ghost use Rattle.std.specs.Prelude.{◌≡◌, ◌<◌, length, slice_get};
-ghost use Rattle.std.specs.Option.{ForSome};
+ghost use Rattle.std.specs.Prelude.{◌≡◌, ◌+◌, ◌-◌, ◌%◌, ◌<◌, Some, None, IsTrue, length, slice_get, slice_index_or};
+ghost use Rattle.std.specs.Option.{ForSome, IsSomeAnd};
+ghost use Rattle.cspf_db.specs.Index.{links_of, links_from_index};
 ghost use Rattle.cspf_search.specs.Settled.{state_cmp, locals_cmp};
-ghost use Rattle.cspf_search.specs.Arena.{AreNodes, AreInLegs, IsNext, walk_of};
-ghost use Rattle.cspf_search.specs.Rounds.{CrossesBy, Turns, CrossesFrom, CrossesBelow, IsFirst, earlier_of};
+ghost use Rattle.cspf_search.specs.Arena.{AreNodes, AreInLegs, IsNext, state_of, index_of, walk_of};
+ghost use Rattle.cspf_search.specs.Rounds.{CrossesBelow, IsFirst, RanksBefore, earlier_of};
+ghost use Rattle.cspf_search.specs.Frontier.{AreListed, AreStands, CrossesUpTo, IsEnd, IsNodeAt, nowhere, state_at};
+ghost use Rattle.cspf_search.specs.Stops.{AreMarks, AreStops, IsStop};
 
-use crate::arena::{Node, index_of};
+use crate::arena::Node;
+use crate::stands::Stand;
+use crate::stops::Stop;
 use cspf_db::{Link, Request, Table};
-use cspf_graph::{accepts, inside, member};
+use cspf_graph::accepts;
 use std::cmp::Ordering;
-
-/// The node that a link from the router of the node at an index leads to, if the request may use
-/// the link and stand there in the node's leg, and nothing is settled there.
-fn by_link(table: &Table, request: &Request, nodes: &[Node], at: usize, link: &Link) -> Option<Node>
-    requires arena { AreNodes nodes.now }
-    requires legs { AreInLegs request.now nodes.now }
-    requires within { at < length nodes.now }
-    requires runs { ForSome (slice_get nodes.now at) (λ node. link.now.from ≡ node.router) }
-    ensures { IsFirst nodes.now (CrossesBy table.now request.now nodes.now at link.now) result }
-{
-    let from = nodes[at];
-    if !accepts(link, request) {
-        return None;
-    }
-    if index_of(nodes, from.leg, link.to).is_some() {
-        return None;
-    }
-    if !inside(table, link.to, from.leg, request) {
-        return None;
-    }
-    Some(Node {
-        parent: at,
-        by: Some(*link),
-        leg: from.leg,
-        router: link.to,
-        cost: from.cost + u64::from(link.metric),
-        links: from.links + 1,
-    })
-}
-
-/// The node at an index in the next leg, if there is one, the node is at a target of its own leg,
-/// and nothing is settled there.
-fn by_turn(table: &Table, request: &Request, nodes: &[Node], at: usize) -> Option<Node>
-    requires arena { AreNodes nodes.now }
-    requires legs { AreInLegs request.now nodes.now }
-    requires within { at < length nodes.now }
-    ensures { IsFirst nodes.now (Turns table.now request.now nodes.now at) result }
-{
-    let from = nodes[at];
-    if from.leg > request.hops.len() {
-        return None;
-    }
-    if index_of(nodes, from.leg + 1, from.router).is_some() {
-        return None;
-    }
-    if !member(table, from.router, from.leg, request) {
-        return None;
-    }
-    Some(Node {
-        leg: from.leg + 1,
-        ..from
-    })
-}
 
 /// How the local addresses of two walks of as many links compare, from the first link on.
 pub(crate) fn locals(nodes: &[Node], a: &Node, b: &Node) -> Ordering
@@ -104,68 +56,209 @@ fn compare(nodes: &[Node], a: &Node, b: &Node) -> Ordering
     locals(nodes, a, b)
 }
 
-/// The first of two nodes, where there are two.
-fn earlier(nodes: &[Node], a: Option<Node>, b: Option<Node>) -> Option<Node>
-    requires arena { AreNodes nodes.now }
-    requires first { ForSome a (IsNext nodes.now) }
-    requires second { ForSome b (IsNext nodes.now) }
-    ensures { result ≡ earlier_of nodes.now a b }
+/// Whether the best node comes by its rank before any of this cost with so many links.
+fn is_late(best: &Option<Node>, cost: u64, links: usize) -> bool
+    ensures { IsTrue result → IsSomeAnd best.now (λ kept. RanksBefore kept cost links) }
 {
-    let Some(x) = a else {
-        return b;
-    };
-    let Some(y) = b else {
-        return Some(x);
-    };
-    if compare(nodes, &x, &y).is_gt() {
-        Some(y)
-    } else {
-        Some(x)
+    match best {
+        Some(kept) => kept.cost < cost || (kept.cost == cost && kept.links < links),
+        None => false,
     }
 }
 
-/// The first node that the turn to the next leg or one of the links leads to from the node at an
-/// index.
-fn first_from(
-    table: &Table,
-    request: &Request,
-    nodes: &[Node],
-    links: &[Link],
-    at: usize,
-) -> Option<Node>
+/// Keeps a node in place of the best one, if it comes before that.
+fn keep(nodes: &[Node], best: &mut Option<Node>, node: Node)
     requires arena { AreNodes nodes.now }
-    requires legs { AreInLegs request.now nodes.now }
-    requires within { at < length nodes.now }
-    ensures { IsFirst nodes.now
-        (CrossesFrom table.now request.now nodes.now links.now at) result }
+    requires first { ForSome best.old (IsNext nodes.now) }
+    requires second { IsNext nodes.now node }
+    ensures { best.new ≡ earlier_of nodes.now best.old (Some node) }
 {
-    let router = nodes[at].router;
-    let mut best = by_turn(table, request, nodes, at);
-    for link in links {
-        if link.from == router {
-            let new = by_link(table, request, nodes, at, link);
-            best = earlier(nodes, best, new);
+    if let Some(kept) = best {
+        if !compare(nodes, kept, &node).is_gt() {
+            return;
         }
     }
-    best
+    *best = Some(node);
 }
 
-/// The first node that a turn or one of the links leads to from any node.
+/// Keeps what the turn to the next leg leads to from the node at an index, if there is a next leg,
+/// nothing is settled there, the node is at a target of its own leg, and it comes before the best.
+fn look_at_turn(
+    table: &Table,
+    request: &Request,
+    stands: &[Stand],
+    marks: &[bool],
+    nodes: &[Node],
+    at: usize,
+    state: usize,
+    best: &mut Option<Node>,
+)
+    requires arena { AreNodes nodes.now }
+    requires listed { AreListed table.now }
+    requires stands { AreStands table.now request.now stands.now }
+    requires marks { AreMarks table.now request.now nodes.now marks.now }
+    requires from { IsNodeAt table.now request.now nodes.now at state }
+    requires before { IsFirst nodes.now
+        (CrossesBelow table.now request.now nodes.now (links_of table.now) at) best.old }
+    ensures after { IsFirst nodes.now
+        (CrossesUpTo table.now request.now nodes.now at (state % 1024) 0) best.new }
+{
+    if state / 1024 >= request.hops.len() {
+        return;
+    }
+    if marks[state + 1024] {
+        return;
+    }
+    let stand = stands[state];
+    if !stand.target {
+        return;
+    }
+    let from = nodes[at];
+    let node = Node {
+        leg: from.leg + 1,
+        ..from
+    };
+    keep(nodes, best, node);
+}
+
+/// Keeps what the link in a row leads to from the node at an index, if the request may use the link
+/// and stand where it ends, and it comes before the best. Nothing is settled there.
+fn look_at_link(
+    table: &Table,
+    request: &Request,
+    stands: &[Stand],
+    nodes: &[Node],
+    at: usize,
+    state: usize,
+    row: usize,
+    link: Link,
+    end: usize,
+    best: &mut Option<Node>,
+)
+    requires arena { AreNodes nodes.now }
+    requires listed { AreListed table.now }
+    requires stands { AreStands table.now request.now stands.now }
+    requires from { IsNodeAt table.now request.now nodes.now at state }
+    requires row { slice_get (links_from_index table.now (state % 1024)) row ≡ Some link }
+    requires end { IsEnd table.now link.to end }
+    requires left { index_of nodes.now (state_at table.now (state - state % 1024 + end)) ≡ None }
+    requires before { IsFirst nodes.now
+        (CrossesUpTo table.now request.now nodes.now at (state % 1024) row) best.old }
+    ensures after { IsFirst nodes.now
+        (CrossesUpTo table.now request.now nodes.now at (state % 1024) (row + 1)) best.new }
+{
+    let from = nodes[at];
+    let cost = from.cost + u64::from(link.metric);
+    let count = from.links + 1;
+    if is_late(best, cost, count) {
+        return;
+    }
+    let stand = stands[state - state % 1024 + end];
+    if !stand.inside {
+        return;
+    }
+    if !accepts(&link, request) {
+        return;
+    }
+    let node = Node {
+        parent: at,
+        by: Some(link),
+        leg: from.leg,
+        router: link.to,
+        cost,
+        links: count,
+    };
+    keep(nodes, best, node);
+}
+
+/// Keeps what the link in a row leads to from the node at an index, if nothing is settled there, the
+/// request may use the link and stand there, and it comes before the best.
+fn look_at_row(
+    table: &Table,
+    request: &Request,
+    stands: &[Stand],
+    marks: &[bool],
+    nodes: &[Node],
+    at: usize,
+    stop: Stop<'_>,
+    row: usize,
+    best: &mut Option<Node>,
+)
+    requires arena { AreNodes nodes.now }
+    requires listed { AreListed table.now }
+    requires stands { AreStands table.now request.now stands.now }
+    requires marks { AreMarks table.now request.now nodes.now marks.now }
+    requires from { IsNodeAt table.now request.now nodes.now at stop.state }
+    requires stop { IsStop table.now (state_of (slice_index_or nodes.now at nowhere)) stop }
+    requires row { row < length (links_from_index table.now (stop.state % 1024)) }
+    requires before { IsFirst nodes.now
+        (CrossesUpTo table.now request.now nodes.now at (stop.state % 1024) row) best.old }
+    ensures after { IsFirst nodes.now
+        (CrossesUpTo table.now request.now nodes.now at (stop.entry.state % 1024) (row + 1))
+        best.new }
+{
+    let end = usize::from(stop.ends[row]);
+    if marks[stop.state - stop.state % 1024 + end] {
+        return;
+    }
+    let link = stop.links[row];
+    look_at_link(
+        table, request, stands, nodes, at, stop.state, row, link, end, best,
+    );
+}
+
+/// Keeps the first node that the turn or a link leads to from the node at an index, if it comes
+/// before the best.
+fn look_from(
+    table: &Table,
+    request: &Request,
+    stands: &[Stand],
+    marks: &[bool],
+    nodes: &[Node],
+    at: usize,
+    stop: Stop<'_>,
+    best: &mut Option<Node>,
+)
+    requires arena { AreNodes nodes.now }
+    requires listed { AreListed table.now }
+    requires stands { AreStands table.now request.now stands.now }
+    requires marks { AreMarks table.now request.now nodes.now marks.now }
+    requires from { IsNodeAt table.now request.now nodes.now at stop.state }
+    requires stop { IsStop table.now (state_of (slice_index_or nodes.now at nowhere)) stop }
+    requires before { IsFirst nodes.now
+        (CrossesBelow table.now request.now nodes.now (links_of table.now) at) best.old }
+    ensures after { IsFirst nodes.now
+        (CrossesBelow table.now request.now nodes.now (links_of table.now) (at + 1)) best.new }
+{
+    look_at_turn(table, request, stands, marks, nodes, at, stop.state, best);
+    for row in 0..stop.links.len() {
+        look_at_row(table, request, stands, marks, nodes, at, stop, row, best);
+    }
+}
+
+/// The first node that a turn or a link leads to from any node.
 pub(crate) fn first(
     table: &Table,
     request: &Request,
+    stands: &[Stand],
+    marks: &[bool],
     nodes: &[Node],
-    links: &[Link],
+    stops: &[Stop<'_>],
 ) -> Option<Node>
     requires arena { AreNodes nodes.now }
     requires legs { AreInLegs request.now nodes.now }
+    requires listed { AreListed table.now }
+    requires stands { AreStands table.now request.now stands.now }
+    requires marks { AreMarks table.now request.now nodes.now marks.now }
+    requires stops { AreStops table.now nodes.now stops.now }
     ensures { IsFirst nodes.now
-        (CrossesBelow table.now request.now nodes.now links.now (length nodes.now)) result }
+        (CrossesBelow table.now request.now nodes.now (links_of table.now) (length nodes.now))
+        result }
 {
     let mut best = None;
     for at in 0..nodes.len() {
-        let new = first_from(table, request, nodes, links, at);
-        best = earlier(nodes, best, new);
+        let stop = stops[at];
+        look_from(table, request, stands, marks, nodes, at, stop, &mut best);
     }
     best
 }

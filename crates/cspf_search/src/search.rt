@@ -8,7 +8,8 @@ ghost use Rattle.cspf_search.specs.States.{State, end_state};
 ghost use Rattle.cspf_search.specs.Settled.{AreSettled, Crosses};
 ghost use Rattle.cspf_search.specs.Arena.{AreNodes, AreInLegs, labels_of, root_of, walk_at, walks};
 ghost use Rattle.cspf_db.specs.Index.{links_of};
-ghost use Rattle.cspf_search.specs.Frontier.{AreListed, IsEnd};
+ghost use Rattle.cspf_search.specs.Frontier.{AreListed, AreStands, IsEnd};
+ghost use Rattle.cspf_search.specs.Stops.{AreMarks, AreStops};
 ghost use Rattle.cspf_search.specs.Routes.{AreLinked};
 ghost use Rattle.cspf_search.specs.Rounds.{CrossesBelow, IsFirst, IsFirstOf};
 
@@ -16,9 +17,10 @@ use crate::arena::{Node, index_of, links_to};
 use crate::frontier::expand;
 use crate::labels::{OPEN, SETTLED, least, node_of};
 use crate::rounds::first;
-use crate::stands::stands;
+use crate::stands::{Stand, stands};
+use crate::stops::{Stop, stop_of};
 use crate::{Outcome, Route};
-use cspf_db::{Link, Request, Table, counted_routers};
+use cspf_db::{Request, Table, counted_routers};
 use std::alloc::{AllocError, Global};
 use std::collections::BinaryHeap;
 
@@ -43,22 +45,29 @@ fn next(
     table: &Table,
     request: &Request,
     legs: usize,
+    stands: &[Stand],
+    marks: &[bool],
     nodes: &[Node],
-    links: &[Link],
+    stops: &[Stop<'_>],
 ) -> Option<Node>
     requires arena { AreNodes nodes.now }
     requires legs { AreInLegs request.now nodes.now }
+    requires listed { AreListed table.now }
+    requires stands { AreStands table.now request.now stands.now }
+    requires marks { AreMarks table.now request.now nodes.now marks.now }
+    requires stops { AreStops table.now nodes.now stops.now }
     requires count { legs ≡ length request.now.hops + 1 }
     ensures some { IfSome result (IsFirstOf nodes.now
-        (CrossesBelow table.now request.now nodes.now links.now (length nodes.now))) }
+        (CrossesBelow table.now request.now nodes.now (links_of table.now) (length nodes.now))) }
     ensures none { IfNone result (labels_of nodes.now (end_state request.now) ≡ None
         → IsFirst nodes.now
-        (CrossesBelow table.now request.now nodes.now links.now (length nodes.now)) None) }
+        (CrossesBelow table.now request.now nodes.now (links_of table.now) (length nodes.now))
+        None) }
 {
     if index_of(nodes, legs, request.to).is_some() {
         return None;
     }
-    first(table, request, nodes, links)
+    first(table, request, stands, marks, nodes, stops)
 }
 
 /// The nodes that are settled when the tail-end is in the last of the legs, or when nothing leads
@@ -80,12 +89,18 @@ fn settled(
         → (w : List Linked) (t : State)
         → ¬ Crosses table.now request.now (labels_of nodes.items) w t) }
 {
-    // A law: the routers of the nodes are at most as many as the table has.
-    counted_routers();
-    let links = table.links();
+    listed(table);
+    let stands = stands(alloc, table, request, legs)?;
     let mut nodes = rooted(alloc, request)?;
-    while let Some(node) = next(table, request, legs, &nodes, links) {
+    let root = stop_of(table, &nodes[0]);
+    let mut stops = Vec::from_slice(alloc, &[root])?;
+    let mut marks = Vec::from_elem(alloc, false, legs * 1024)?;
+    marks[root.state] = true;
+    while let Some(node) = next(table, request, legs, &stands, &marks, &nodes, &stops) {
+        let stop = stop_of(table, &node);
         nodes.extend_from_slice(&[node])?;
+        stops.extend_from_slice(&[stop])?;
+        marks[stop.state] = true;
     }
     Ok(nodes)
 }

@@ -1,0 +1,103 @@
+-- What one node more changes of the stops and the marks.
+use Rattle.std.proofs.Common.{◌≡◌, inl, inr, ℕ, ◌+◌, ◌*◌, ◌<◌, ◌≤◌, Bool, true, false, is_some, Some, None, List, [], ◌∷◌, ◌++◌, length, set, replicate, slice_index_or, refl, sym, ap, ◌∙◌, arith, length-set}
+use Rattle.std.proofs.lemmas.Bool.{cases_lt}
+use Rattle.std.proofs.lemmas.List.{get_or_append_left, get_or_push, length_push, get_or-set_same, get_or-set_other, get_or-replicate, length-replicate}
+use Rattle.cspf_db.specs.declared.request.Request.{Request}
+use Rattle.cspf_db.specs.Database.{Database, AreLinksOf, IsRouterOf}
+use Rattle.cspf_db.specs.Index.{links_of}
+use Rattle.cspf_search.specs.declared.arena.Node.{Node}
+use Rattle.cspf_search.specs.declared.stops.Stop.{Stop}
+use Rattle.cspf_search.specs.States.{State, Reaches}
+use Rattle.cspf_search.specs.Settled.{AreSettled}
+use Rattle.cspf_search.specs.Arena.{walk_at, walks, state_of, index_of, labels_of, AreNodes, IsInLeg}
+use Rattle.cspf_search.specs.Rounds.{CrossesBelow, IsFirstOf}
+use Rattle.cspf_search.specs.Frontier.{state_at, IsStateIndex, AreListed, nowhere}
+use Rattle.cspf_search.specs.Stops.{IsStop, AreStops, AreMarks}
+use Rattle.cspf_search.proofs.Labelled.{label_at}
+use Rattle.cspf_search.proofs.Few.{HasFewRouters, AreApart}
+use Rattle.cspf_search.proofs.Grown.{reached_router, nodes_in_legs, settled_more}
+use Rattle.cspf_search.proofs.Pushed.{index_old, index_new, open_new}
+use Rattle.cspf_search.proofs.Ranks.{same_or_not, state_apart}
+
+-- at first nothing is settled
+
+pub no_stops : (d : Database) → AreStops d [] []
+no_stops d = record { many = refl; each = λ i e h. absurd (omega arith) }
+
+pub no_marks : (d : Database) (q : Request) (count : ℕ) → count ≡ (length q.hops + 1) * 1024 → AreMarks d q [] (replicate count false)
+no_marks d q count many = record {
+  many = length-replicate count false ∙ many;
+  each = λ i e index. get_or-replicate count i false e (omega (arith, many, index.low));
+}
+
+-- the index of a stop is one of the request
+pub stop_index : (d : Database) (q : Request) (n : Node) (stop : Stop) → IsInLeg q n → IsStop d (state_of n) stop → IsStateIndex d q stop.state
+stop_index d q n stop leg is =
+    let same = ap (λ (s : State). s.leg) is.state in
+    record { low = omega (arith, same, leg.high); place = is.place }
+
+pub stops_push : (d : Database) (nodes : List Node) (stops : List Stop) → AreStops d nodes stops → (n : Node) (stop : Stop) → IsStop d (state_of n) stop
+    → AreStops d (nodes ++ (n ∷ [])) (stops ++ (stop ∷ []))
+stops_push d nodes stops are n stop is = record {
+  many = omega (arith, length_push nodes n, length_push stops stop, are.many);
+  each = λ i e h.
+      elim (cases_lt i (length nodes)) [
+        | inl lt ↦
+            rw (get_or_append_left nodes (n ∷ []) nowhere i lt, get_or_append_left stops (stop ∷ []) e i (omega (arith, lt, are.many))) (are.each i e lt)
+        | inr ge ↦
+            let last : i ≡ length nodes = omega (arith, h, length_push nodes n) in
+            rw (get_or_push nodes n nowhere i (sym last), get_or_push stops stop e i (omega (arith, last, are.many))) is
+      ];
+}
+
+module _ (d : Database) (q : Request) (listed : AreListed d) (nodes : List Node) (n : Node) (before : AreApart nodes) (apart : AreApart (nodes ++ (n ∷ []))) where
+  still : (t : State) → (t ≡ state_of n → ⊥) → is_some (index_of nodes t) ≡ is_some (index_of (nodes ++ (n ∷ [])) t)
+  still t ne =
+      elim (index_of nodes t) as (λ o. index_of nodes t ≡ o → is_some o ≡ is_some (index_of (nodes ++ (n ∷ [])) t)) [
+        | Some i ↦ λ e. sym (ap is_some (index_old nodes n before apart t i e))
+        | None ↦ λ e. sym (ap is_some (open_new nodes n before apart t ne e))
+      ] refl
+
+  pub marks_push : (marks : List Bool) → AreMarks d q nodes marks → (stop : Stop) → IsStop d (state_of n) stop → IsInLeg q n
+      → AreMarks d q (nodes ++ (n ∷ [])) (set marks stop.state true)
+  marks_push marks are stop is leg =
+      let index = stop_index d q n stop leg is in
+      let within : stop.state < length marks = omega (arith, are.many, index.low) in
+      record {
+        many = length-set marks stop.state true ∙ are.many;
+        each = λ i e ix.
+            elim (same_or_not i stop.state) [
+              | inl same ↦
+                  let here : slice_index_or (set marks stop.state true) i e ≡ true = rw same (get_or-set_same marks stop.state true e within) in
+                  here
+                  ∙ sym (ap is_some
+                  (ap (λ k. index_of (nodes ++ (n ∷ [])) (state_at d k)) same ∙ ap (index_of (nodes ++ (n ∷ []))) (sym is.state) ∙ index_new nodes n before apart))
+              | inr ne ↦
+                  get_or-set_other marks stop.state i true e ne ∙ are.each i e ix
+                  ∙ still (state_at d i) (λ same. ne (state_apart d q listed i stop.state ix index (same ∙ is.state)))
+            ];
+      }
+
+-- where the first node that leads on stands
+module _ (d : Database) (q : Request) (links : AreLinksOf d (links_of d)) (from : IsRouterOf d q.from) (few : HasFewRouters d) (most : length q.hops + 1 ≤ 8)
+    (nodes : List Node) (are : AreNodes nodes) (settled : AreSettled d q (labels_of nodes)) (n : Node)
+    (first : IsFirstOf nodes (CrossesBelow d q nodes (links_of d) (length nodes)) n) where
+  pub after : AreNodes (nodes ++ (n ∷ [])) × AreSettled d q (labels_of (nodes ++ (n ∷ []))) × (length nodes + 1 ≤ (length q.hops + 1) * 1024)
+  after = settled_more d q (links_of d) links from few most nodes are settled n first
+
+  within : length nodes < length (nodes ++ (n ∷ []))
+  within = omega (arith, length_push nodes n)
+
+  last : slice_index_or (nodes ++ (n ∷ [])) (length nodes) n ≡ n
+  last = get_or_push nodes n n (length nodes) refl
+
+  reached : Reaches d q (walk_at (walks (nodes ++ (n ∷ []))) (length nodes)) (state_of n)
+  reached =
+      after.1.reached (state_of n) _
+      (ap (labels_of (nodes ++ (n ∷ []))) (sym (ap state_of last)) ∙ label_at (nodes ++ (n ∷ [])) after.0.apart (length nodes) n within)
+
+  pub new_router : IsRouterOf d n.router
+  new_router = reached_router d q from _ (state_of n) reached
+
+  pub new_leg : IsInLeg q n
+  new_leg = rw last at (nodes_in_legs d q (nodes ++ (n ∷ [])) after.0.apart after.1 (length nodes) n within)
