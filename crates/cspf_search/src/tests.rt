@@ -271,30 +271,43 @@ fn router(number: u32) -> u32 {
     0x0a00_0000 + number % 12
 }
 
-#[test]
-fn drawn_networks(rt: HostRuntime) -> Result<(), Fail> {
-    let alloc = rt.alloc();
-    let mut seed = 2463534242;
-    let hops: [&[u8]; 6] = [
-        b"",
-        b"10.0.0.0/30l",
-        b"10.0.0.0/30s",
-        b"10.0.0.4/30s 10.0.0.0/29s",
-        b"10.0.0.0/28s 10.0.0.8/30l 10.0.0.0/30s",
-        b"0.0.1.0/24l 10.0.0.1/32l 10.0.0.0/28s",
-    ];
+const HOPS: [&[u8]; 6] = [
+    b"",
+    b"10.0.0.0/30l",
+    b"10.0.0.0/30s",
+    b"10.0.0.4/30s 10.0.0.0/29s",
+    b"10.0.0.0/28s 10.0.0.8/30l 10.0.0.0/30s",
+    b"0.0.1.0/24l 10.0.0.1/32l 10.0.0.0/28s",
+];
+
+// A request between two routers, with these hops.
+fn drawn_request(seed: &mut u32, hops: &[u8]) -> Result<Request, Fail> {
+    let from = draw(seed) % 12;
+    let to = from + 1 + draw(seed) % 11;
+    request((router(from), router(to)), 0, (0, 0, 0), hops)
+}
+
+// How many of 16 requests in a network have a route.
+fn drawn_routes(alloc: Global, seed: &mut u32) -> Result<u32, Fail> {
+    let table = drawn(alloc, seed)?;
     let mut routes = 0u32;
-    for _network in 0..12 {
-        let table = drawn(alloc, &mut seed)?;
-        for text in hops {
-            let from = draw(&mut seed) % 12;
-            let to = from + 1 + draw(&mut seed) % 11;
-            let request = request((router(from), router(to)), 0, (0, 0, 0), text)?;
-            if let Outcome::Route(_) = answered(alloc, &table, &request)? {
-                routes = routes.saturating_add(1);
-            }
+    for i in 0..16 {
+        let request = drawn_request(seed, HOPS[i % 6])?;
+        if let Outcome::Route(_) = answered(alloc, &table, &request)? {
+            routes = routes.saturating_add(1);
         }
     }
-    assert!(rt; routes > 30, "{routes}");
+    Ok(routes)
+}
+
+// Both searches answer 2,000 requests.
+#[test]
+fn drawn_networks(rt: HostRuntime) -> Result<(), Fail> {
+    let mut seed = 2463534242;
+    let mut routes = 0u32;
+    for _network in 0..125 {
+        routes = routes.saturating_add(drawn_routes(rt.alloc(), &mut seed)?);
+    }
+    assert!(rt; routes > 1000, "{routes}");
     Ok(())
 }
