@@ -129,7 +129,9 @@ module _ (d : Database) (q : Request) (links : List Link) (listed : AreLinksOf d
   first_crossing n is = record {
     crosses = crosses_from (walk_of nodes n) (state_of n) is.passes;
     first_here = λ x c. walk_from_state n.leg (walk_of nodes n) x (is.first x (state_of n) (crosses_to x (state_of n) c));
-    first = λ x u c. rank_from_state n.leg u.leg (walk_of nodes n) x (is.first x u (crosses_to x u c));
+    potential = λ _. 0;
+    consistent = λ l a. omega arith;
+    first = λ x u c. rank_from_state (state_of n) u (walk_of nodes n) x (is.first x u (crosses_to x u c));
   }
 
 module _ (d : Database) (q : Request) (nodes : List Node) (apart : AreApart nodes) (settled : AreSettled d q (labels_of nodes)) where

@@ -1,5 +1,5 @@
 -- What comes out of a heap of keys.
-use Rattle.std.proofs.Common.{◌≡◌, ◌≢◌, ◌⊎◌, inl, inr, ℕ, zero, suc, ◌<◌, ◌≤◌, false, List, [], ◌∷◌, length, slice_index_or, refl, sym, ap, subst, arith}
+use Rattle.std.proofs.Common.{◌≡◌, ◌≢◌, ◌⊎◌, inl, inr, ℕ, zero, suc, ◌+◌, ◌<◌, ◌≤◌, false, List, [], ◌∷◌, length, slice_index_or, refl, sym, ap, subst, arith}
 use Rattle.std.specs.List.{All, Contains}
 use Rattle.std.specs.List.Sorted.{IsPermutation}
 use Rattle.std.specs.BinaryHeap.{IsHeap, IsUpperBound, PopsGreatest, lt_by_cmp}
@@ -12,8 +12,9 @@ use Rattle.std.proofs.lemmas.List.Elements.{All-contains, All-from_recursion, Al
 use Rattle.std.proofs.lemmas.List.Sorted.{All-permutation, Contains-permutation, IsPermutation-sym}
 use Rattle.cspf_db.specs.declared.request.Request.{Request}
 use Rattle.cspf_db.specs.Database.{Database}
+use Rattle.cspf_search.specs.declared.bound.Goal.{Goal}
 use Rattle.cspf_search.specs.declared.labels.Label.{Label}
-use Rattle.cspf_search.specs.Frontier.{Key, key_cmp, no_label, label_at, IsKey, IsLive, IsUpTo, IsLeast}
+use Rattle.cspf_search.specs.Frontier.{Key, key_cmp, no_label, label_at, lift, IsKey, IsLive, IsUpTo, IsLeast}
 
 no_less_rank : (k rank : ℕ) (o : Ordering) → is_lt (ordering_then (nat_cmp k rank) o) ≡ false → rank ≤ k
 no_less_rank k rank o h = grind (arith, nat_tests)
@@ -55,30 +56,30 @@ pub rank_read : (labels : List Label) (i : ℕ) (e : Label) → i < length label
 rank_read labels i e h = ap (λ (l : Label). l.rank) (get_or_default labels i e no_label h)
 
 -- a key that came out of what is left of the keys, and what the live ones are
-module _ (d : Database) (q : Request) (labels : List Label) (old heap new : List Key) (x : Key)
-    (live : (key : Key) → Contains old key → IsLive labels key → Contains heap key) (keyed : All (IsKey d q) heap) (moved : IsPermutation heap (x ∷ new)) where
-  pub keyed_left : All (IsKey d q) new
-  keyed_left = All-tail (IsKey d q) x new (All-permutation (IsKey d q) heap (x ∷ new) moved keyed)
+module _ (d : Database) (q : Request) (goal : Goal) (labels : List Label) (old heap new : List Key) (x : Key)
+    (live : (key : Key) → Contains old key → IsLive goal labels key → Contains heap key) (keyed : All (IsKey d q goal) heap) (moved : IsPermutation heap (x ∷ new)) where
+  pub keyed_left : All (IsKey d q goal) new
+  keyed_left = All-tail (IsKey d q goal) x new (All-permutation (IsKey d q goal) heap (x ∷ new) moved keyed)
 
-  pub popped_key : IsKey d q x
-  popped_key = All-contains (IsKey d q) heap x keyed (was_there x heap new moved)
+  pub popped_key : IsKey d q goal x
+  popped_key = All-contains (IsKey d q goal) heap x keyed (was_there x heap new moved)
 
   -- where it isn't live, the live ones are left
-  pub live_left : ((label_at labels x.0.1).rank ≢ x.0.0) → (key : Key) → Contains old key → IsLive labels key → Contains new key
+  pub live_left : ((label_at labels x.0.1).rank + lift goal x.0.1 ≢ x.0.0) → (key : Key) → Contains old key → IsLive goal labels key → Contains new key
   live_left stale key at is =
       elim (others_left x heap new moved key (live key at is)) [
-        | inl same ↦ absurd (stale (subst (IsLive labels) (sym same) is))
+        | inl same ↦ absurd (stale (subst (IsLive goal labels) (sym same) is))
         | inr left ↦ left
       ]
 
   -- where it is live, it is the least of the live ones
-  pub popped_least : IsHeap key_cmp heap → PopsGreatest key_cmp heap x new → (label_at labels x.0.1).rank ≡ x.0.0 → IsLeast d q labels old x.0.1 new
+  pub popped_least : IsHeap key_cmp heap → PopsGreatest key_cmp heap x new → (label_at labels x.0.1).rank + lift goal x.0.1 ≡ x.0.0 → IsLeast d q goal labels old x.0.1 new
   popped_least ordered pops is =
       let out = pops ordered in
       record {
         index = popped_key.index;
-        some = rw is popped_key.some;
-        most = rw is popped_key.most;
+        some = omega (arith, is, popped_key.some);
+        most = omega (arith, is, popped_key.most);
         ordered = out.0;
         keyed = keyed_left;
         first = λ key at here. rw is (keys_up_to x heap out.1 key (live key at here));

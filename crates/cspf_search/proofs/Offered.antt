@@ -1,5 +1,5 @@
 -- What is offered to one state keeps the labels of all.
-use Rattle.std.proofs.Common.{◌≡◌, ◌≢◌, ◌⊎◌, inl, inr, ℕ, ◌<◌, ◌≤◌, List, [], ◌∷◌, None, length, set, refl, sym, ap, subst, ◌∙◌, arith, length-set}
+use Rattle.std.proofs.Common.{◌≡◌, ◌≢◌, ◌⊎◌, inl, inr, ℕ, ◌+◌, ◌^◌, ◌<◌, ◌≤◌, List, [], ◌∷◌, None, length, set, refl, sym, ap, subst, ◌∙◌, arith, length-set}
 use Rattle.std.specs.List.{Contains}
 use Rattle.std.specs.Ordering.{is_gt}
 use Rattle.std.proofs.lemmas.Cmp.{upto, tied_itself}
@@ -10,46 +10,47 @@ use Rattle.cspf_db.specs.declared.link.Link.{Link}
 use Rattle.cspf_db.specs.declared.request.Request.{Request}
 use Rattle.cspf_db.specs.Database.{Database}
 use Rattle.cspf_search.specs.declared.arena.Node.{Node}
+use Rattle.cspf_search.specs.declared.bound.Goal.{Goal}
 use Rattle.cspf_search.specs.declared.labels.Label.{Label}
 use Rattle.cspf_search.specs.States.{State}
 use Rattle.cspf_search.specs.Settled.{IsNoLater}
 use Rattle.cspf_search.specs.Arena.{walk_of, state_of, index_of, AreNodes, IsNext}
-use Rattle.cspf_search.specs.Frontier.{state_at, IsStateIndex, AreListed, node_of, rank_of, walk_rank, no_rank, IsBeyond, IsReached, IsLabel, is_settled, is_reached, is_unreached, Key, key_at, label_at, IsKey, AreLabels, IsOffer, AreTied, Gains, StaysAt, GoesTo}
+use Rattle.cspf_search.specs.Frontier.{state_at, IsStateIndex, AreListed, node_of, rank_of, walk_rank, no_rank, lift, IsBeyond, IsReached, IsLabel, is_settled, is_reached, is_unreached, Key, key_at, label_at, IsKey, AreLabels, IsOffer, AreTied, Gains, StaysAt, GoesTo}
 use Rattle.cspf_search.proofs.Orders.{walks_total}
-use Rattle.cspf_search.proofs.Ranks.{same_or_not, before_by_rank, before_by_locals, locals_turned, rank_parts, rank_is, walk_short, links_short, rank_small, beyond_lower, state_apart}
+use Rattle.cspf_search.proofs.Ranks.{same_or_not, before_by_rank, before_by_locals, locals_turned, rank_parts, rank_is, walk_short, links_short, rank_small, lift_small, beyond_lower, state_apart}
 
-lowered : {A : Type 0} (cap lower : ℕ) (w : List Link) → lower ≤ cap → A ⊎ IsBeyond cap w → A ⊎ IsBeyond lower w
-lowered cap lower w h (inl a) = inl a
-lowered cap lower w h (inr b) = inr (beyond_lower cap lower w h b)
+lowered : {A : Type 0} (cap lower ahead : ℕ) (w : List Link) → lower ≤ cap → A ⊎ IsBeyond cap ahead w → A ⊎ IsBeyond lower ahead w
+lowered cap lower ahead w h (inl a) = inl a
+lowered cap lower ahead w h (inr b) = inr (beyond_lower cap lower ahead w h b)
 
 no_later_itself : (w : List Link) → IsNoLater w w
 no_later_itself w = ap is_gt (tied_itself walks_total w)
 
 -- a walk that a label doesn't have to be before: it is behind the cap, or no earlier than the label's
-abbrev pub IsLost : Database → List Node → (List Link → State → Type 0) → ℕ → State → Label → List Link → Type 0
-IsLost d nodes P cap t label x =
-    IsBeyond cap x ⊎ ((label.rank ≢ no_rank) × (IsReached d nodes P cap t label → IsNoLater (walk_of nodes (node_of d nodes label)) x))
+abbrev pub IsLost : Database → List Node → (List Link → State → Type 0) → ℕ → ℕ → State → Label → List Link → Type 0
+IsLost d nodes P cap ahead t label x =
+    IsBeyond cap ahead x ⊎ ((label.rank ≢ no_rank) × (IsReached d nodes P cap ahead t label → IsNoLater (walk_of nodes (node_of d nodes label)) x))
 
 -- a label that stands for a walk of its own, which is no later than the one that the state had
-pub record IsBetter (d : Database) (nodes : List Node) (P : List Link → State → Type 0) (cap : ℕ) (t : State) (old label : Label) (x : List Link) : Type 0 where
+pub record IsBetter (d : Database) (nodes : List Node) (P : List Link → State → Type 0) (cap ahead : ℕ) (t : State) (old label : Label) (x : List Link) : Type 0 where
   pub offer : IsOffer d nodes label
   pub rank : label.rank ≡ rank_of (node_of d nodes label)
   pub state : state_of (node_of d nodes label) ≡ t
   pub walk : walk_of nodes (node_of d nodes label) ≡ x
   pub no_more : label.rank ≤ old.rank
-  pub first : IsReached d nodes P cap t old → IsNoLater x (walk_of nodes (node_of d nodes old))
+  pub first : IsReached d nodes P cap ahead t old → IsNoLater x (walk_of nodes (node_of d nodes old))
 
 module _ (d : Database) (q : Request) (nodes : List Node) (are : AreNodes nodes) (listed : AreListed d) (P Q R : List Link → State → Type 0)
     (from_left : (w : List Link) (t : State) → P w t → R w t) (from_right : (w : List Link) (t : State) → Q w t → R w t)
-    (cases : (w : List Link) (t : State) → R w t → P w t ⊎ Q w t) (goal : ℕ) (labels : List Label) (keys : List Key)
+    (cases : (w : List Link) (t : State) → R w t → P w t ⊎ Q w t) (goal : Goal) (labels : List Label) (keys : List Key)
     (before : AreLabels d q nodes P goal labels keys) (i : ℕ) (index : IsStateIndex d q i) (x : List Link)
     (only : (w : List Link) (t : State) → Q w t → (t ≡ state_at d i) × (w ≡ x)) where
   abbrev cap : ℕ
-  cap = (label_at labels goal).rank
+  cap = (label_at labels goal.at).rank
 
   -- another state's label stays
-  other : (j : ℕ) → IsStateIndex d q j → j ≢ i → (lower : ℕ) → lower ≤ cap → (label : Label) → IsLabel d nodes P cap (state_at d j) label
-      → IsLabel d nodes R lower (state_at d j) label
+  other : (j : ℕ) → IsStateIndex d q j → j ≢ i → (lower : ℕ) → lower ≤ cap → (label : Label) → IsLabel d nodes P cap (lift goal j) (state_at d j) label
+      → IsLabel d nodes R lower (lift goal j) (state_at d j) label
   other j jx ne lower h label (is_settled k none e) = is_settled k none e
   other j jx ne lower h label (is_reached left r) = is_reached left (record {
     place = r.place;
@@ -60,18 +61,18 @@ module _ (d : Database) (q : Request) (nodes : List Node) (are : AreNodes nodes)
     passes = from_left _ _ r.passes;
     first = λ w p.
         elim (cases w (state_at d j) p) [
-          | inl old ↦ lowered cap lower w h (r.first w old)
+          | inl old ↦ lowered cap lower (lift goal j) w h (r.first w old)
           | inr new ↦ absurd (ne (state_apart d q listed j i jx index (only w (state_at d j) new).0))
         ];
   })
   other j jx ne lower h label (is_unreached left none first) = is_unreached left none (λ w p.
       elim (cases w (state_at d j) p) [
-        | inl old ↦ beyond_lower cap lower w h (first w old)
+        | inl old ↦ beyond_lower cap lower (lift goal j) w h (first w old)
         | inr new ↦ absurd (ne (state_apart d q listed j i jx index (only w (state_at d j) new).0))
       ])
 
-  stays : (label : Label) → IsLabel d nodes P cap (state_at d i) label → (Q x (state_at d i) → IsLost d nodes P cap (state_at d i) label x)
-      → IsLabel d nodes R cap (state_at d i) label
+  stays : (label : Label) → IsLabel d nodes P cap (lift goal i) (state_at d i) label → (Q x (state_at d i) → IsLost d nodes P cap (lift goal i) (state_at d i) label x)
+      → IsLabel d nodes R cap (lift goal i) (state_at d i) label
   stays label (is_settled k none e) lost = is_settled k none e
   stays label (is_reached left r) lost = is_reached left (record {
     place = r.place;
@@ -86,7 +87,7 @@ module _ (d : Database) (q : Request) (nodes : List Node) (are : AreNodes nodes)
           | inr new ↦
               let same = (only w (state_at d i) new).1 in
               elim (lost (subst (λ v. Q v (state_at d i)) same new)) [
-                | inl beyond ↦ inr (subst (IsBeyond cap) (sym same) beyond)
+                | inl beyond ↦ inr (subst (IsBeyond cap (lift goal i)) (sym same) beyond)
                 | inr late ↦ inl (subst (IsNoLater (walk_of nodes (node_of d nodes label))) (sym same) (late.1 r))
               ]
         ];
@@ -97,14 +98,15 @@ module _ (d : Database) (q : Request) (nodes : List Node) (are : AreNodes nodes)
         | inr new ↦
             let same = (only w (state_at d i) new).1 in
             elim (lost (subst (λ v. Q v (state_at d i)) same new)) [
-              | inl beyond ↦ subst (IsBeyond cap) (sym same) beyond
+              | inl beyond ↦ subst (IsBeyond cap (lift goal i)) (sym same) beyond
               | inr late ↦ absurd (late.0 none)
             ]
       ])
 
   -- what is lost changes no label
-  pub labels_stay : (Q x (state_at d i) → IsLost d nodes P cap (state_at d i) (label_at labels i) x) → AreLabels d q nodes R goal labels keys
+  pub labels_stay : (Q x (state_at d i) → IsLost d nodes P cap (lift goal i) (state_at d i) (label_at labels i) x) → AreLabels d q nodes R goal labels keys
   labels_stay lost = record {
+    small = before.small;
     many = before.many;
     each = λ j jx.
         elim (same_or_not j i) [
@@ -116,8 +118,8 @@ module _ (d : Database) (q : Request) (nodes : List Node) (are : AreNodes nodes)
     waiting = before.waiting;
   }
 
-  gets : (old label : Label) (lower : ℕ) → lower ≤ cap → IsLabel d nodes P cap (state_at d i) old → IsBetter d nodes P cap (state_at d i) old label x → Q x (state_at d i)
-      → IsLabel d nodes R lower (state_at d i) label
+  gets : (old label : Label) (lower : ℕ) → lower ≤ cap → IsLabel d nodes P cap (lift goal i) (state_at d i) old → IsBetter d nodes P cap (lift goal i) (state_at d i) old label x → Q x (state_at d i)
+      → IsLabel d nodes R lower (lift goal i) (state_at d i) label
   gets old label lower h (is_settled k none e) better passes = absurd (omega (arith, better.rank, better.no_more))
   gets old label lower h (is_reached left r) better passes =
       is_reached left (record {
@@ -132,7 +134,7 @@ module _ (d : Database) (q : Request) (nodes : List Node) (are : AreNodes nodes)
               | inl was ↦
                   elim (r.first w was) [
                     | inl late ↦ inl (rw better.walk (upto walks_total x (walk_of nodes (node_of d nodes old)) w (better.first r) late))
-                    | inr beyond ↦ inr (beyond_lower cap lower w h beyond)
+                    | inr beyond ↦ inr (beyond_lower cap lower (lift goal i) w h beyond)
                   ]
               | inr new ↦ inl (rw (better.walk, (only w (state_at d i) new).1) (no_later_itself x))
             ];
@@ -147,55 +149,60 @@ module _ (d : Database) (q : Request) (nodes : List Node) (are : AreNodes nodes)
         passes = from_right _ _ (subst (λ v. Q v (state_at d i)) (sym better.walk) passes);
         first = λ w p.
             elim (cases w (state_at d i) p) [
-              | inl was ↦ inr (beyond_lower cap lower w h (first w was))
+              | inl was ↦ inr (beyond_lower cap lower (lift goal i) w h (first w was))
               | inr new ↦ inl (rw (better.walk, (only w (state_at d i) new).1) (no_later_itself x))
             ];
       })
 
   -- what is better becomes the label
-  pub labels_change : (label : Label) (new_keys : List Key) → IsBetter d nodes P cap (state_at d i) (label_at labels i) label x → Q x (state_at d i)
-      → Gains (key_at label.rank i) keys new_keys → AreLabels d q nodes R goal (set labels i label) new_keys
-  labels_change label new_keys better passes gains =
+  pub labels_change : (label : Label) (key : ℕ) (new_keys : List Key) → key ≡ label.rank + lift goal i → IsBetter d nodes P cap (lift goal i) (state_at d i) (label_at labels i) label x → Q x (state_at d i)
+      → Gains (key_at key i) keys new_keys → AreLabels d q nodes R goal (set labels i label) new_keys
+  labels_change label key new_keys is_key better passes gains =
       let within : i < length labels = omega (arith, before.many, index.low) in
       let here : label_at (set labels i label) i ≡ label = get_or-set_same labels i label _ within in
       let there : (j : ℕ) → j ≢ i → label_at (set labels i label) j ≡ label_at labels j = λ j ne. get_or-set_other labels i j label _ ne in
-      let lower : (label_at (set labels i label) goal).rank ≤ cap =
-      elim (same_or_not goal i) [
+      let lower : (label_at (set labels i label) goal.at).rank ≤ cap =
+      elim (same_or_not goal.at i) [
         | inl same ↦ rw (same, here) better.no_more
-        | inr ne ↦ let e = ap (λ (l : Label). l.rank) (there goal ne) in omega (arith, e)
+        | inr ne ↦ let e = ap (λ (l : Label). l.rank) (there goal.at ne) in omega (arith, e)
       ] in
-      let moved : (key : Key) → Contains keys key → Contains new_keys key =
-      λ key h. Contains-permutation (key_at label.rank i ∷ keys) new_keys key gains.moved (Contains-append_right (key_at label.rank i ∷ []) keys key h) in
+      let moved : (k : Key) → Contains keys k → Contains new_keys k =
+      λ k h. Contains-permutation (key_at key i ∷ keys) new_keys k gains.moved (Contains-append_right (key_at key i ∷ []) keys k h) in
       record {
+        small = before.small;
         many = length-set labels i label ∙ before.many;
         each = λ j jx.
             elim (same_or_not j i) [
               | inl same ↦
                   rw (same, here)
-                  (gets (label_at labels i) label (label_at (set labels i label) goal).rank lower (before.each i index) better passes)
-              | inr ne ↦ rw (there j ne) (other j jx ne (label_at (set labels i label) goal).rank lower (label_at labels j) (before.each j jx))
+                  (gets (label_at labels i) label (label_at (set labels i label) goal.at).rank lower (before.each i index) better passes)
+              | inr ne ↦ rw (there j ne) (other j jx ne (label_at (set labels i label) goal.at).rank lower (label_at labels j) (before.each j jx))
             ];
         ordered = gains.kept before.ordered;
         keyed =
-            All-permutation (IsKey d q) (key_at label.rank i ∷ keys) new_keys gains.moved
-            (All-cons (IsKey d q) (key_at label.rank i) keys
-            (record { some = omega (arith, better.rank); most = omega (arith, better.rank, rank_small nodes are (node_of d nodes label) better.offer.next); index = index })
+            All-permutation (IsKey d q goal) (key_at key i ∷ keys) new_keys gains.moved
+            (All-cons (IsKey d q goal) (key_at key i) keys
+            (record {
+              some = omega (arith, is_key, better.rank);
+              most = omega (arith, is_key, better.rank, rank_small nodes are (node_of d nodes label) better.offer.next, lift_small goal i before.small);
+              index = index;
+            })
             before.keyed);
         waiting = λ j jx some most.
             elim (same_or_not j i) [
-              | inl same ↦ rw (same, here) (Contains-permutation (key_at label.rank i ∷ keys) new_keys (key_at label.rank i) gains.moved (0, omega arith, refl))
+              | inl same ↦ rw (same, here, ← is_key) (Contains-permutation (key_at key i ∷ keys) new_keys (key_at key i) gains.moved (0, omega arith, refl))
               | inr ne ↦
                   let e = there j ne in
                   let rank = ap (λ (l : Label). l.rank) e in
-                  rw e (moved (key_at (label_at labels j).rank j) (before.waiting j jx (omega (arith, rank)) (omega (arith, rank))))
+                  rw e (moved (key_at ((label_at labels j).rank + lift goal j) j) (before.waiting j jx (omega (arith, rank)) (omega (arith, rank))))
             ];
       }
 
   -- what an offer leaves
-  pub labels_offered : (label : Label) (new : List Label) (new_keys : List Key) → IsOffer d nodes label → label.rank ≡ rank_of (node_of d nodes label)
+  pub labels_offered : (label : Label) (key : ℕ) (new : List Label) (new_keys : List Key) → key ≡ label.rank + lift goal i → IsOffer d nodes label → label.rank ≡ rank_of (node_of d nodes label)
       → state_of (node_of d nodes label) ≡ state_at d i → walk_of nodes (node_of d nodes label) ≡ x → label.rank ≤ (label_at labels i).rank → Q x (state_at d i)
-      → StaysAt d nodes i label labels new keys new_keys ⊎ GoesTo d nodes i label labels new keys new_keys → AreLabels d q nodes R goal new new_keys
-  labels_offered label new new_keys offer rank state walk le passes (inl stay) =
+      → StaysAt d nodes i label labels new keys new_keys ⊎ GoesTo d nodes i label key labels new keys new_keys → AreLabels d q nodes R goal new new_keys
+  labels_offered label key new new_keys is_key offer rank state walk le passes (inl stay) =
       rw (stay.labels, stay.keys) (labels_stay (λ _. inr (
         λ e. let small = rank_small nodes are (node_of d nodes label) offer.next in absurd (omega (arith, stay.tie, rank)),
         λ r.
@@ -205,8 +212,8 @@ module _ (d : Database) (q : Request) (nodes : List Node) (are : AreNodes nodes)
             (omega (arith, rank_is nodes are old r.next, rank_is nodes are (node_of d nodes label) offer.next, r.rank, rank, stay.tie))
             (walk_short nodes are old r.next) (walk_short nodes are (node_of d nodes label) offer.next) stay.first),
       )))
-  labels_offered label new new_keys offer rank state walk le passes (inr go) =
-      rw go.labels (labels_change label new_keys (record {
+  labels_offered label key new new_keys is_key offer rank state walk le passes (inr go) =
+      rw go.labels (labels_change label key new_keys is_key (record {
         offer = offer;
         rank = rank;
         state = state;
@@ -231,37 +238,37 @@ module _ (d : Database) (q : Request) (nodes : List Node) (are : AreNodes nodes)
       }) passes go.keys)
 
 -- a walk that ranks behind the label, or behind the cap, is lost
-pub lost_by_rank : (d : Database) (nodes : List Node) → AreNodes nodes → (P : List Link → State → Type 0) (cap : ℕ) (t : State) (label : Label) (n : Node)
-    → IsNext nodes n → (label.rank < rank_of n) ⊎ (cap < rank_of n) → IsLost d nodes P cap t label (walk_of nodes n)
-lost_by_rank d nodes are P cap t label n next (inl late) = inr (
+pub lost_by_rank : (d : Database) (nodes : List Node) → AreNodes nodes → (P : List Link → State → Type 0) (cap ahead : ℕ) (t : State) (label : Label) (n : Node)
+    → IsNext nodes n → ahead < 2 ^ 46 → (label.rank < rank_of n) ⊎ (cap < rank_of n + ahead) → IsLost d nodes P cap ahead t label (walk_of nodes n)
+lost_by_rank d nodes are P cap ahead t label n next low (inl late) = inr (
   λ e. let small = rank_small nodes are n next in absurd (omega (arith, e)),
   λ r.
       before_by_rank (walk_of nodes (node_of d nodes label)) (walk_of nodes n)
       (omega (arith, late, r.rank, rank_is nodes are n next, rank_is nodes are (node_of d nodes label) r.next)) (walk_short nodes are n next),
 )
-lost_by_rank d nodes are P cap t label n next (inr late) = inl (record {
-  known = omega (arith, late, rank_small nodes are n next);
+lost_by_rank d nodes are P cap ahead t label n next low (inr late) = inl (record {
+  known = omega (arith, late, low, rank_small nodes are n next);
   behind = omega (arith, late, rank_is nodes are n next);
 })
 
 -- the label of a state that an offer ties with stands for a node of as many links
-pub tied_label : (d : Database) (nodes : List Node) → AreNodes nodes → (P : List Link → State → Type 0) (cap : ℕ) (t : State) (old label : Label) → IsLabel d nodes P cap t old
+pub tied_label : (d : Database) (nodes : List Node) → AreNodes nodes → (P : List Link → State → Type 0) (cap ahead : ℕ) (t : State) (old label : Label) → IsLabel d nodes P cap ahead t old
     → IsOffer d nodes label → label.rank ≡ rank_of (node_of d nodes label) → label.rank ≡ old.rank → AreTied d nodes old label
-tied_label d nodes are P cap t old label (is_settled k none e) offer rank tie = absurd (omega (arith, rank, tie, none))
-tied_label d nodes are P cap t old label (is_reached left r) offer rank tie = record {
+tied_label d nodes are P cap ahead t old label (is_settled k none e) offer rank tie = absurd (omega (arith, rank, tie, none))
+tied_label d nodes are P cap ahead t old label (is_reached left r) offer rank tie = record {
   other = record { place = r.place; parent = r.parent; next = r.next };
   links =
       (rank_parts (node_of d nodes old).cost (node_of d nodes label).cost (node_of d nodes old).links (node_of d nodes label).links
       (sym r.rank ∙ sym tie ∙ rank) (links_short nodes are (node_of d nodes old) r.next) (links_short nodes are (node_of d nodes label) offer.next)).1;
 }
-tied_label d nodes are P cap t old label (is_unreached left none first) offer rank tie =
+tied_label d nodes are P cap ahead t old label (is_unreached left none first) offer rank tie =
     let small = rank_small nodes are (node_of d nodes label) offer.next in
     absurd (omega (arith, rank, tie, none, small))
 
 label_same : (d : Database) (nodes : List Node) (P R : List Link → State → Type 0) → ((w : List Link) (t : State) → P w t → R w t)
-    → ((w : List Link) (t : State) → R w t → P w t) → (cap : ℕ) (t : State) (label : Label) → IsLabel d nodes P cap t label → IsLabel d nodes R cap t label
-label_same d nodes P R up down bound t label (is_settled k none e) = is_settled k none e
-label_same d nodes P R up down bound t label (is_reached left r) = is_reached left (record {
+    → ((w : List Link) (t : State) → R w t → P w t) → (cap ahead : ℕ) (t : State) (label : Label) → IsLabel d nodes P cap ahead t label → IsLabel d nodes R cap ahead t label
+label_same d nodes P R up down most ahead t label (is_settled k none e) = is_settled k none e
+label_same d nodes P R up down most ahead t label (is_reached left r) = is_reached left (record {
   place = r.place;
   parent = r.parent;
   rank = r.rank;
@@ -270,26 +277,27 @@ label_same d nodes P R up down bound t label (is_reached left r) = is_reached le
   passes = up _ _ r.passes;
   first = λ w p. r.first w (down w t p);
 })
-label_same d nodes P R up down bound t label (is_unreached left none first) = is_unreached left none (λ w p. first w (down w t p))
+label_same d nodes P R up down most ahead t label (is_unreached left none first) = is_unreached left none (λ w p. first w (down w t p))
 
 -- labels for one kind are labels for a kind that has the same walks
 pub labels_same : (d : Database) (q : Request) (nodes : List Node) (P R : List Link → State → Type 0) → ((w : List Link) (t : State) → P w t → R w t)
-    → ((w : List Link) (t : State) → R w t → P w t) → (goal : ℕ) (labels : List Label) (keys : List Key) → AreLabels d q nodes P goal labels keys
+    → ((w : List Link) (t : State) → R w t → P w t) → (goal : Goal) (labels : List Label) (keys : List Key) → AreLabels d q nodes P goal labels keys
     → AreLabels d q nodes R goal labels keys
 labels_same d q nodes P R up down goal labels keys before =
-    let same : (t : State) (label : Label) → IsLabel d nodes P (label_at labels goal).rank t label → IsLabel d nodes R (label_at labels goal).rank t label =
-    λ t label is. label_same d nodes P R up down (label_at labels goal).rank t label is in
+    let same : (i : ℕ) (t : State) (label : Label) → IsLabel d nodes P (label_at labels goal.at).rank (lift goal i) t label → IsLabel d nodes R (label_at labels goal.at).rank (lift goal i) t label =
+    λ i t label is. label_same d nodes P R up down (label_at labels goal.at).rank (lift goal i) t label is in
     record {
+      small = before.small;
       many = before.many;
-      each = λ j jx. same (state_at d j) (label_at labels j) (before.each j jx);
+      each = λ j jx. same j (state_at d j) (label_at labels j) (before.each j jx);
       ordered = before.ordered;
       keyed = before.keyed;
       waiting = before.waiting;
     }
 
 -- a state whose label isn't 0 is open
-pub left_open : (d : Database) (nodes : List Node) (P : List Link → State → Type 0) (cap : ℕ) (t : State) (label : Label) → IsLabel d nodes P cap t label → 0 < label.rank
+pub left_open : (d : Database) (nodes : List Node) (P : List Link → State → Type 0) (cap ahead : ℕ) (t : State) (label : Label) → IsLabel d nodes P cap ahead t label → 0 < label.rank
     → index_of nodes t ≡ None
-left_open d nodes P cap t label (is_settled k none e) some = absurd (omega (arith, none))
-left_open d nodes P cap t label (is_reached left r) some = left
-left_open d nodes P cap t label (is_unreached left none first) some = left
+left_open d nodes P cap ahead t label (is_settled k none e) some = absurd (omega (arith, none))
+left_open d nodes P cap ahead t label (is_reached left r) some = left
+left_open d nodes P cap ahead t label (is_unreached left none first) some = left

@@ -11,17 +11,23 @@ use Rattle.std.proofs.lemmas.List.{map_push, length_push, length-map}
 use Rattle.std.proofs.lemmas.List.Sums.{sum_by_push}
 use Rattle.cspf_db.specs.declared.link.Link.{Link}
 use Rattle.cspf_db.specs.Walks.{cost_of, locals_of, walk_cmp}
-use Rattle.cspf_search.specs.Settled.{IsNoLater, rank_cmp, locals_cmp, state_cmp}
+use Rattle.cspf_search.specs.States.{State}
+use Rattle.cspf_search.specs.Settled.{IsNoLater, rank_cmp, potential_cmp, RanksNoLater, locals_cmp, state_cmp}
 
 -- the orders are total
 
 pub walks_total : IsTotalOrder walk_cmp
 walks_total = then_total (on_total cost_of nat_cmp_total) (then_total (on_total (λ (w : List Link). length w) nat_cmp_total) (on_total locals_of nat_list_cmp_total))
 
-pub ranks_total : IsTotalOrder rank_cmp
+ranks_total : IsTotalOrder rank_cmp
 ranks_total =
     then_total (on_total (λ (a : ℕ × List Link). cost_of a.1) nat_cmp_total)
     (then_total (on_total (λ (a : ℕ × List Link). length a.1) nat_cmp_total) (on_total (λ (a : ℕ × List Link). a.0) nat_cmp_total))
+
+pub potentials_total : (potential : ℕ → ℕ) → IsTotalOrder (potential_cmp potential)
+potentials_total potential =
+    then_total (on_total (λ (a : State × List Link). potential a.0.router + cost_of a.1) nat_cmp_total)
+    (then_total (on_total (λ (a : State × List Link). length a.1) nat_cmp_total) (on_total (λ (a : State × List Link). a.0.leg) nat_cmp_total))
 
 pub states_total : IsTotalOrder state_cmp
 states_total = then_total ranks_total (on_total (λ (a : ℕ × List Link). locals_of a.1) nat_list_cmp_total)
@@ -70,19 +76,26 @@ rank_then Less b d = refl
 rank_then Equal b d = ap (λ o. ordering_then o d) (then-equal b)
 rank_then Greater b d = refl
 
-pub walk_from_less : (k : ℕ) (w x : List Link) → rank_cmp (k, w) (k, x) ≡ Less → IsNoLater w x
-walk_from_less k w x h = less_first (nat_cmp (cost_of w) (cost_of x)) (nat_cmp (length w) (length x)) (locals_cmp w x) (rw (tied_itself nat_cmp_total k) at h)
+nat_cmp-potential : (p a b : ℕ) → nat_cmp (p + a) (p + b) ≡ nat_cmp a b
+nat_cmp-potential p a b = grind (arith, nat_tests)
 
-pub rank_from_walk : (k : ℕ) (w x : List Link) → IsNoLater w x → is_gt (rank_cmp (k, w) (k, x)) ≡ false
-rank_from_walk k w x h = rw (tied_itself nat_cmp_total k) (first_ranks (nat_cmp (cost_of w) (cost_of x)) (nat_cmp (length w) (length x)) (locals_cmp w x) h)
+pub walk_from_less : (potential : ℕ → ℕ) (t : State) (w x : List Link) → potential_cmp potential (t, w) (t, x) ≡ Less → IsNoLater w x
+walk_from_less potential t w x h =
+    less_first (nat_cmp (cost_of w) (cost_of x)) (nat_cmp (length w) (length x)) (locals_cmp w x)
+    (rw (tied_itself nat_cmp_total t.leg, nat_cmp-potential (potential t.router) (cost_of w) (cost_of x)) at h)
+
+pub rank_from_walk : (potential : ℕ → ℕ) (t : State) (w x : List Link) → IsNoLater w x → RanksNoLater potential t w t x
+rank_from_walk potential t w x h =
+    rw (tied_itself nat_cmp_total t.leg, nat_cmp-potential (potential t.router) (cost_of w) (cost_of x))
+    (first_ranks (nat_cmp (cost_of w) (cost_of x)) (nat_cmp (length w) (length x)) (locals_cmp w x) h)
 
 pub walk_from_state : (k : ℕ) (w x : List Link) → is_gt (state_cmp (k, w) (k, x)) ≡ false → IsNoLater w x
 walk_from_state k w x h =
     let e = rank_then (nat_cmp (cost_of w) (cost_of x)) (nat_cmp (length w) (length x)) (locals_cmp w x) in
     rw (← e) (rw (tied_itself nat_cmp_total k) at h)
 
-pub rank_from_state : (j k : ℕ) (w x : List Link) → is_gt (state_cmp (j, w) (k, x)) ≡ false → is_gt (rank_cmp (j, w) (k, x)) ≡ false
-rank_from_state j k w x h = front_no_later (rank_cmp (j, w) (k, x)) (locals_cmp w x) h
+pub rank_from_state : (s t : State) (w x : List Link) → is_gt (state_cmp (s.leg, w) (t.leg, x)) ≡ false → RanksNoLater (λ _. 0) s w t x
+rank_from_state s t w x h = rw (nat_cmp-potential 0 (cost_of w) (cost_of x)) (front_no_later (rank_cmp (s.leg, w) (t.leg, x)) (locals_cmp w x) h)
 
 -- one more link
 
@@ -125,10 +138,13 @@ below_next : (k : ℕ) → nat_cmp k (suc k) ≡ Less
 below_next k = grind (arith, nat_tests)
 
 -- a walk ranks before itself with one link more
-pub rank_cmp-push : (k : ℕ) (v : List Link) (l : Link) → rank_cmp (k, v) (k, v ++ (l ∷ [])) ≡ Less
-rank_cmp-push k v l =
-    rw (cost_of-push v l, length_push v l) (grows (cost_of v) (length v) (cost_of v + l.metric) (length v + 1) (nat_cmp k k) (omega arith) (omega arith))
+pub potential_cmp-push : (potential : ℕ → ℕ) (k : ℕ) (v : List Link) (l : Link) → potential l.from ≤ potential l.to + l.metric
+    → potential_cmp potential (record { leg = k; router = l.from }, v) (record { leg = k; router = l.to }, v ++ (l ∷ [])) ≡ Less
+potential_cmp-push potential k v l up =
+    rw (cost_of-push v l, length_push v l)
+    (grows (potential l.from + cost_of v) (length v) (potential l.to + (cost_of v + l.metric)) (length v + 1) (nat_cmp k k) (omega (arith, up)) (omega arith))
 
 -- a walk ranks before itself in the next leg
-pub rank_cmp-turn : (k : ℕ) (v : List Link) → rank_cmp (k, v) (suc k, v) ≡ Less
-rank_cmp-turn k v = rw (tied_itself nat_cmp_total (cost_of v), tied_itself nat_cmp_total (length v)) (below_next k)
+pub potential_cmp-turn : (potential : ℕ → ℕ) (k router : ℕ) (v : List Link)
+    → potential_cmp potential (record { leg = k; router = router }, v) (record { leg = suc k; router = router }, v) ≡ Less
+potential_cmp-turn potential k router v = rw (tied_itself nat_cmp_total (potential router + cost_of v), tied_itself nat_cmp_total (length v)) (below_next k)

@@ -1,5 +1,5 @@
 -- What one node more changes of what leads on, and of labels.
-use Rattle.std.proofs.Common.{◌≡◌, ◌≢◌, inl, inr, ℕ, ◌<◌, Some, None, List, [], ◌∷◌, ◌++◌, length, set, slice_get, slice_index_or, refl, sym, ap, subst, ◌∙◌, arith, length-set}
+use Rattle.std.proofs.Common.{◌≡◌, ◌≢◌, inl, inr, ℕ, ◌+◌, ◌<◌, Some, None, List, [], ◌∷◌, ◌++◌, length, set, slice_get, slice_index_or, refl, sym, ap, subst, ◌∙◌, arith, length-set}
 use Rattle.std.proofs.lemmas.Bool.{cases_lt}
 use Rattle.std.proofs.lemmas.List.{get_or_append_left, get_or_push, length_push, get_or-set_same, get_or-set_other}
 use Rattle.std.proofs.lemmas.List.Quantifiers.{position-Some}
@@ -10,12 +10,13 @@ use Rattle.cspf_db.specs.Database.{Database}
 use Rattle.cspf_db.specs.Walks.{cost_of}
 use Rattle.cspf_db.specs.Index.{links_of}
 use Rattle.cspf_search.specs.declared.arena.Node.{Node}
+use Rattle.cspf_search.specs.declared.bound.Goal.{Goal}
 use Rattle.cspf_search.specs.declared.labels.Label.{Label}
 use Rattle.cspf_search.specs.States.{State}
 use Rattle.cspf_search.specs.Settled.{IsNoLater}
 use Rattle.cspf_search.specs.Arena.{walk_of, state_of, same_state, index_of, IsNext}
 use Rattle.cspf_search.specs.Rounds.{CrossesFrom, CrossesBelow}
-use Rattle.cspf_search.specs.Frontier.{state_at, AreListed, nowhere, node_of, rank_of, IsLabel, is_settled, is_reached, is_unreached, Key, key_at, label_at, AreLabels, IsLeast}
+use Rattle.cspf_search.specs.Frontier.{state_at, AreListed, nowhere, node_of, rank_of, IsLabel, is_settled, is_reached, is_unreached, Key, key_at, label_at, lift, AreLabels, IsLeast}
 use Rattle.cspf_search.proofs.Labelled.{walk_at-old, walk_of-old, same_state-true, index_at}
 use Rattle.cspf_search.proofs.Few.{AreApart}
 use Rattle.cspf_search.proofs.Ranks.{same_or_not, state_apart}
@@ -144,10 +145,10 @@ module _ (nodes : List Node) (n : Node) (before : AreApart nodes) (apart : AreAp
 
   module _ (d : Database) (q : Request) where
     -- the label of another state stays
-    label_old : (cap : ℕ) (t : State) → t ≢ state_of n → (label : Label) → IsLabel d nodes (CrossesBelow d q nodes (links_of d) (length nodes)) cap t label
-        → IsLabel d (nodes ++ (n ∷ [])) (CrossesBelow d q (nodes ++ (n ∷ [])) (links_of d) (length nodes)) cap t label
-    label_old cap t ne label (is_settled k none e) = is_settled k none (index_old t k e)
-    label_old cap t ne label (is_reached left r) =
+    label_old : (cap ahead : ℕ) (t : State) → t ≢ state_of n → (label : Label) → IsLabel d nodes (CrossesBelow d q nodes (links_of d) (length nodes)) cap ahead t label
+        → IsLabel d (nodes ++ (n ∷ [])) (CrossesBelow d q (nodes ++ (n ∷ [])) (links_of d) (length nodes)) cap ahead t label
+    label_old cap ahead t ne label (is_settled k none e) = is_settled k none (index_old t k e)
+    label_old cap ahead t ne label (is_reached left r) =
         let same = node_old d label r.parent in
         let walk : walk_of (nodes ++ (n ∷ [])) (node_of d (nodes ++ (n ∷ [])) label) ≡ walk_of nodes (node_of d nodes label) =
         ap (walk_of (nodes ++ (n ∷ []))) same ∙ walk_of-old nodes n (node_of d nodes label) r.next.parent in
@@ -166,25 +167,26 @@ module _ (nodes : List Node) (n : Node) (before : AreApart nodes) (apart : AreAp
                 | inr beyond ↦ inr beyond
               ];
         })
-    label_old cap t ne label (is_unreached left none first) = is_unreached (open_new t ne left) none (λ w p. first w (below_old d q (links_of d) w t p))
+    label_old cap ahead t ne label (is_unreached left none first) = is_unreached (open_new t ne left) none (λ w p. first w (below_old d q (links_of d) w t p))
 
     -- to settle the least key's state leaves the labels of the others
-    pub labels_settle : AreListed d → (goal : ℕ) (labels : List Label) (keys : List Key)
-        → AreLabels d q nodes (CrossesBelow d q nodes (links_of d) (length nodes)) goal labels keys → (i : ℕ) (left : List Key) → IsLeast d q labels keys i left
-        → state_of n ≡ state_at d i → goal ≢ i → (label : Label) → label.rank ≡ 0
+    pub labels_settle : AreListed d → (goal : Goal) (labels : List Label) (keys : List Key)
+        → AreLabels d q nodes (CrossesBelow d q nodes (links_of d) (length nodes)) goal labels keys → (i : ℕ) (left : List Key) → IsLeast d q goal labels keys i left
+        → state_of n ≡ state_at d i → goal.at ≢ i → (label : Label) → label.rank ≡ 0
         → AreLabels d q (nodes ++ (n ∷ [])) (CrossesBelow d q (nodes ++ (n ∷ [])) (links_of d) (length nodes)) goal (set labels i label) left
     labels_settle listed goal labels keys are i left least state off label none =
         let within : i < length labels = omega (arith, are.many, least.index.low) in
         let here : label_at (set labels i label) i ≡ label = get_or-set_same labels i label _ within in
         let there : (j : ℕ) → j ≢ i → label_at (set labels i label) j ≡ label_at labels j = λ j ne. get_or-set_other labels i j label _ ne in
         record {
+          small = are.small;
           many = length-set labels i label ∙ are.many;
           each = λ j jx.
               elim (same_or_not j i) [
                 | inl same ↦ rw (same, here) (is_settled (length nodes) none (ap (index_of (nodes ++ (n ∷ []))) (sym state) ∙ index_new))
                 | inr ne ↦
-                    rw (there j ne, there goal off)
-                    (label_old (label_at labels goal).rank (state_at d j) (λ e. ne (state_apart d q listed j i jx least.index (e ∙ state))) (label_at labels j) (are.each j jx))
+                    rw (there j ne, there goal.at off)
+                    (label_old (label_at labels goal.at).rank (lift goal j) (state_at d j) (λ e. ne (state_apart d q listed j i jx least.index (e ∙ state))) (label_at labels j) (are.each j jx))
               ];
           ordered = least.ordered;
           keyed = least.keyed;
@@ -195,7 +197,7 @@ module _ (nodes : List Node) (n : Node) (before : AreApart nodes) (apart : AreAp
                     let e = there j ne in
                     let rank = ap (λ (l : Label). l.rank) e in
                     let was = are.waiting j jx (omega (arith, rank)) (omega (arith, rank)) in
-                    elim (least.others (key_at (label_at labels j).rank j) was refl) [
+                    elim (least.others (key_at ((label_at labels j).rank + lift goal j) j) was refl) [
                       | inl same ↦ absurd (ne same)
                       | inr stays ↦ rw e stays
                     ]

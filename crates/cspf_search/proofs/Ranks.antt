@@ -1,26 +1,28 @@
 -- Ranks as numbers, and the indexes of states.
-use Rattle.std.proofs.Common.{◌≡◌, ◌≢◌, ◌⊎◌, inl, inr, ℕ, zero, suc, ◌+◌, ◌-◌, ◌*◌, ◌/◌, ◌%◌, ◌^◌, ◌<◌, ◌≤◌, true, false, List, length, slice_index, slice_index_or, sym, ap, ◌∙◌, arith, add-one}
+use Rattle.std.proofs.Common.{◌≡◌, ◌≢◌, ◌⊎◌, inl, inr, ℕ, zero, suc, ◌+◌, ◌-◌, ◌*◌, ◌/◌, ◌%◌, ◌^◌, ◌<◌, ◌≤◌, Bool, true, false, if◌then◌else◌, nat_eq, List, length, slice_index, slice_index_or, refl, sym, ap, ◌∙◌, arith, add-one}
 use Rattle.std.specs.Ordering.{nat_cmp, ordering_then, ordering_reverse, is_gt}
 use Rattle.std.specs.declared.cmp.Ordering.{Ordering}
 use Rattle.std.specs.declared.cmp.Ordering.TheVariants.{Less, Equal, Greater}
 use Rattle.std.specs.Cmp.{nat_cmp_total}
 use Rattle.std.specs.List.Sorted.{IsStrictlyIncreasing}
 use Rattle.std.proofs.lemmas.Cmp.{tied_itself, nat_list_cmp_total}
-use Rattle.std.proofs.lemmas.Bool.{cases_lt}
+use Rattle.std.proofs.lemmas.Bool.{cases_lt, eq-eqb, ne_eqb}
 use Rattle.std.proofs.lemmas.Bool.Decides.{nat_tests}
 use Rattle.std.proofs.lemmas.List.{length_push}
 use Rattle.std.proofs.lemmas.List.Elements.{at_from_Contains}
 use Rattle.cspf_db.specs.declared.link.Link.{Link}
 use Rattle.cspf_db.specs.declared.request.Request.{Request}
 use Rattle.cspf_db.specs.Database.{Database, IsRouterOf}
+use Rattle.cspf_db.specs.Admissible.{IsAdmissible}
 use Rattle.cspf_db.specs.Walks.{cost_of, locals_of}
 use Rattle.cspf_db.specs.Index.{router_list}
 use Rattle.cspf_search.specs.declared.arena.Node.{Node}
+use Rattle.cspf_search.specs.declared.bound.Goal.{Goal}
 use Rattle.cspf_search.specs.States.{State}
-use Rattle.cspf_search.specs.Settled.{IsNoLater, rank_cmp, locals_cmp}
+use Rattle.cspf_search.specs.Settled.{IsNoLater, RanksNoLater, IsConsistent, locals_cmp}
 use Rattle.cspf_search.specs.Arena.{walk_at, walks, walk_of, AreNodes, IsNext}
 use Rattle.cspf_search.specs.Rounds.{CrossesFrom}
-use Rattle.cspf_search.specs.Frontier.{state_at, IsStateIndex, AreListed, nowhere, rank_of, walk_rank, no_rank, IsBeyond}
+use Rattle.cspf_search.specs.Frontier.{state_at, IsStateIndex, AreListed, nowhere, rank_of, walk_rank, no_rank, lift, IsBeyond}
 
 pub same_or_not : (i j : ℕ) → (i ≡ j) ⊎ (i ≢ j)
 same_or_not i j =
@@ -71,13 +73,15 @@ turned Greater p e g = ap is_gt e
 pub locals_turned : (v w : List Link) → is_gt (locals_cmp v w) ≡ true → is_gt (locals_cmp w v) ≡ false
 locals_turned v w h = turned (locals_cmp v w) (locals_cmp w v) (nat_list_cmp_total.antisymm (locals_of w) (locals_of v)) h
 
-pub rank_before : (j k : ℕ) (v w : List Link) → length w < 16384 → walk_rank v < walk_rank w → is_gt (rank_cmp (j, v) (k, w)) ≡ false
-rank_before j k v w high less = less_rank (cost_of v) (cost_of w) (length v) (length w) (nat_cmp j k) less high
+module _ (potential : ℕ → ℕ) (s t : State) (v w : List Link) (high : length w < 16384) where
+  pub rank_before : walk_rank v + potential s.router * 16384 < walk_rank w + potential t.router * 16384 → RanksNoLater potential s v t w
+  rank_before less =
+      less_rank (potential s.router + cost_of v) (potential t.router + cost_of w) (length v) (length w) (nat_cmp s.leg t.leg) (omega (arith, less)) high
 
-pub rank_tied : (j k : ℕ) (v w : List Link) → length v < 16384 → length w < 16384 → walk_rank v ≡ walk_rank w → j ≤ k → is_gt (rank_cmp (j, v) (k, w)) ≡ false
-rank_tied j k v w low high tie legs =
-    let parts = rank_parts (cost_of v) (cost_of w) (length v) (length w) tie low high in
-    tied_rank (cost_of v) (cost_of w) (length v) (length w) (nat_cmp j k) parts.0 parts.1 (no_less j k legs)
+  pub rank_tied : length v < 16384 → walk_rank v + potential s.router * 16384 ≡ walk_rank w + potential t.router * 16384 → s.leg ≤ t.leg → RanksNoLater potential s v t w
+  rank_tied low tie legs =
+      let parts = rank_parts (potential s.router + cost_of v) (potential t.router + cost_of w) (length v) (length w) (omega (arith, tie)) low high in
+      tied_rank (potential s.router + cost_of v) (potential t.router + cost_of w) (length v) (length w) (nat_cmp s.leg t.leg) parts.0 parts.1 (no_less s.leg t.leg legs)
 
 -- nodes
 
@@ -91,7 +95,7 @@ module _ (nodes : List Node) (are : AreNodes nodes) (n : Node) (next : IsNext no
   pub links_short : n.links < 16384
   links_short = omega (arith, next.numbered.few, are.most)
 
-  pub rank_small : rank_of n < no_rank
+  pub rank_small : rank_of n + 2 ^ 46 < no_rank
   rank_small = omega (arith, next.numbered.small, next.numbered.few, are.most)
 
 -- the rank of a node leaves room for a link
@@ -111,8 +115,17 @@ crossing_short d q nodes are links at within w t (inr by) =
     let x = by.2 in
     omega (arith, ap (λ (w : List Link). length w) x.walk, length_push (walk_at (walks nodes) at) by.0, numbered.links, numbered.few, are.most)
 
-pub beyond_lower : (cap lower : ℕ) (w : List Link) → lower ≤ cap → IsBeyond cap w → IsBeyond lower w
-beyond_lower cap lower w h beyond = record { known = omega (arith, beyond.known); behind = omega (arith, beyond.behind) }
+pub beyond_lower : (cap lower ahead : ℕ) (w : List Link) → lower ≤ cap → IsBeyond cap ahead w → IsBeyond lower ahead w
+beyond_lower cap lower ahead w h beyond = record { known = omega (arith, beyond.known); behind = omega (arith, beyond.behind) }
+
+-- what a key is above its rank
+
+lift_by : (goal : Goal) (i : ℕ) → goal.bound < 2 ^ 32 → (b : Bool) → (if b then 0 else goal.bound * 16384) < 2 ^ 46
+lift_by goal i small true = omega arith
+lift_by goal i small false = omega (arith, small)
+
+pub lift_small : (goal : Goal) (i : ℕ) → goal.bound < 2 ^ 32 → lift goal i < 2 ^ 46
+lift_small goal i small = lift_by goal i small (nat_eq (i % 1024) (goal.at % 1024))
 
 -- indexes of states
 
@@ -152,3 +165,36 @@ module _ (d : Database) (q : Request) (listed : AreListed d) where
         record { low = omega (arith, at.1, listed.few); place = rw place at.1 },
         (λ k. record { leg = leg k; router = router k }),
       )
+
+-- The potential of a router: 0 at the goal's, and elsewhere the bound of the last link.
+abbrev pub potential_of : Database → Goal → ℕ → ℕ
+potential_of d goal router = if nat_eq router (slice_index (router_list d) (goal.at % 1024)) then 0 else goal.bound
+
+potential_by : (goal : Goal) (b : Bool) → (if b then 0 else goal.bound) ≤ goal.bound
+potential_by goal true = omega arith
+potential_by goal false = omega arith
+
+module _ (d : Database) (q : Request) (listed : AreListed d) (goal : Goal) where
+  potential_low : (router : ℕ) → potential_of d goal router ≤ goal.bound
+  potential_low router = potential_by goal (nat_eq router (slice_index (router_list d) (goal.at % 1024)))
+
+  -- the lift of a state is the potential of its router
+  pub lift_is : IsStateIndex d q goal.at → (i : ℕ) → IsStateIndex d q i → lift goal i ≡ potential_of d goal (slice_index (router_list d) (i % 1024)) * 16384
+  lift_is there i here =
+      let x = slice_index (router_list d) (goal.at % 1024) in
+      let r = slice_index (router_list d) (i % 1024) in
+      elim (same_or_not (i % 1024) (goal.at % 1024)) [
+        | inl same ↦ rw (eq-eqb (i % 1024) (goal.at % 1024) same, eq-eqb r x (ap (slice_index (router_list d)) same)) refl
+        | inr ne ↦
+            rw (ne_eqb (i % 1024) (goal.at % 1024) ne, ne_eqb r x (λ e. ne (same_index (router_list d) listed.rising (i % 1024) (goal.at % 1024) here.place there.place e))) refl
+      ]
+
+  -- it is consistent where the bound is one
+  pub potential_consistent : ((l : Link) → IsAdmissible d q l → l.to ≡ slice_index (router_list d) (goal.at % 1024) → goal.bound ≤ l.metric)
+      → IsConsistent d q (potential_of d goal)
+  potential_consistent bounds l a =
+      let x = slice_index (router_list d) (goal.at % 1024) in
+      elim (same_or_not l.to x) [
+        | inl same ↦ let low = potential_low l.from in omega (arith, low, bounds l a same)
+        | inr ne ↦ let e : potential_of d goal l.to ≡ goal.bound = rw (ne_eqb l.to x ne) refl in omega (arith, e, potential_low l.from)
+      ]

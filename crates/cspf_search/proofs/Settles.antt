@@ -9,8 +9,8 @@ use Rattle.cspf_db.specs.Database.{Database}
 use Rattle.cspf_db.specs.Routes.{IsRoute}
 use Rattle.cspf_db.specs.Best.{IsBestRoute}
 use Rattle.cspf_search.specs.States.{State, IsStep, by_link, by_turn, Reaches, starts, steps, end_state}
-use Rattle.cspf_search.specs.Settled.{Labels, IsNoLater, rank_cmp, RanksNoLater, AreSettled, Crosses, IsFirstCrossing}
-use Rattle.cspf_search.proofs.Orders.{walks_total, ranks_total, walk_cmp-push, rank_cmp-push, rank_cmp-turn, walk_from_less, rank_from_walk}
+use Rattle.cspf_search.specs.Settled.{Labels, IsNoLater, potential_cmp, RanksNoLater, IsConsistent, AreSettled, Crosses, IsFirstCrossing}
+use Rattle.cspf_search.proofs.Orders.{walks_total, potentials_total, walk_cmp-push, potential_cmp-push, potential_cmp-turn, walk_from_less, rank_from_walk}
 use Rattle.cspf_search.proofs.Cuts.{route_reaches, reaches_route}
 
 -- Labels keep what they have and get one walk more.
@@ -22,19 +22,20 @@ no_later_trans : (u v w : List Link) → IsNoLater u v → IsNoLater v w → IsN
 no_later_trans u v w = upto walks_total u v w
 
 -- a later label than a lesser one is strictly later
-before_less : (a b c : ℕ × List Link) → is_gt (rank_cmp a b) ≡ false → rank_cmp b c ≡ Less → rank_cmp a c ≡ Less
-before_less a b c h less =
-    elim (rank_cmp a b) as (λ o. rank_cmp a b ≡ o → is_gt o ≡ false → rank_cmp a c ≡ Less) [
-      | Less ↦ λ e _. ranks_total.trans a b c e less
-      | Equal ↦ λ e _. ranks_total.congr a b c e ∙ less
+before_less : (potential : ℕ → ℕ) (a b c : State × List Link) → is_gt (potential_cmp potential a b) ≡ false → potential_cmp potential b c ≡ Less
+    → potential_cmp potential a c ≡ Less
+before_less potential a b c h less =
+    elim (potential_cmp potential a b) as (λ o. potential_cmp potential a b ≡ o → is_gt o ≡ false → potential_cmp potential a c ≡ Less) [
+      | Less ↦ λ e _. (potentials_total potential).trans a b c e less
+      | Equal ↦ λ e _. (potentials_total potential).congr a b c e ∙ less
       | Greater ↦ λ e g. cc
     ] refl h
 
 module _ (d : Database) (q : Request) where
   -- a step goes up in rank
-  step_grows : (v x : List Link) (s t : State) → IsStep d q v s x t → rank_cmp (s.leg, v) (t.leg, x) ≡ Less
-  step_grows v x s t (by_link {leg = k} l a inside) = rank_cmp-push k v l
-  step_grows v x s t (by_turn {leg = k} within target) = rank_cmp-turn k v
+  step_grows : (potential : ℕ → ℕ) → IsConsistent d q potential → (v x : List Link) (s t : State) → IsStep d q v s x t → potential_cmp potential (s, v) (t, x) ≡ Less
+  step_grows potential up v x s t (by_link {leg = k} l a inside) = potential_cmp-push potential k v l (up l a)
+  step_grows potential up v x s t (by_turn {leg = k} {router = r} within target) = potential_cmp-turn potential k r v
 
   -- the same step from a walk that is no later ends in a walk that is no later
   step_no_later : (v x : List Link) (s t : State) → IsStep d q v s x t → (w : List Link) → IsNoLater w v
@@ -62,20 +63,20 @@ module _ (d : Database) (q : Request) where
 
     -- a first crossing ranks before each walk to an open state, and is no later than those to its
     -- own
-    pub no_earlier : (w : List Link) (t : State) → IsFirstCrossing d q labels w t → (x : List Link) (u : State) → Reaches d q x u → labels u ≡ None
-        → RanksNoLater t w u x × (u ≡ t → IsNoLater w x)
+    pub no_earlier : (w : List Link) (t : State) (first : IsFirstCrossing d q labels w t) (x : List Link) (u : State) → Reaches d q x u → labels u ≡ None
+        → RanksNoLater first.potential t w u x × (u ≡ t → IsNoLater w x)
     no_earlier w t first x u starts left = cc (settled.start)
     no_earlier w t first x u (steps {v} {s = s} r st) left =
-        elim (labels s) as (λ o. labels s ≡ o → RanksNoLater t w u x × (u ≡ t → IsNoLater w x)) [
+        elim (labels s) as (λ o. labels s ≡ o → RanksNoLater first.potential t w u x × (u ≡ t → IsNoLater w x)) [
           | Some f ↦ λ here.
               let c = crossing_from v x s u r st f here left in (
-                upto ranks_total (t.leg, w) (u.leg, c.0) (u.leg, x) (first.first c.0 u c.1) (rank_from_walk u.leg c.0 x c.2),
+                upto (potentials_total first.potential) (t, w) (u, c.0) (u, x) (first.first c.0 u c.1) (rank_from_walk first.potential u c.0 x c.2),
                 λ same. no_later_trans w c.0 x (first.first_here c.0 (subst (λ y. Crosses d q labels c.0 y) same c.1)) c.2,
               )
           | None ↦ λ open_there.
               let before = no_earlier w t first v s r open_there in
-              let less = before_less (t.leg, w) (s.leg, v) (u.leg, x) before.0 (step_grows v x s u st) in
-              (rw less refl, λ same. walk_from_less t.leg w x (rw (ap (λ (y : State). y.leg) same) at less))
+              let less = before_less first.potential (t, w) (s, v) (u, x) before.0 (step_grows first.potential first.consistent v x s u st) in
+              (rw less refl, λ same. walk_from_less first.potential t w x (rw same at less))
         ] refl
 
     -- to settle a first crossing keeps all that is settled least

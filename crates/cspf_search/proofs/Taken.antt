@@ -10,12 +10,14 @@ use Rattle.cspf_db.specs.Admissible.{IsAdmitted}
 use Rattle.cspf_db.specs.Targets.{IsTarget, IsInside}
 use Rattle.cspf_db.specs.Index.{links_of, links_from_index, router_list}
 use Rattle.cspf_search.specs.declared.arena.Node.{Node}
+use Rattle.cspf_search.specs.declared.bound.Goal.{Goal}
 use Rattle.cspf_search.specs.declared.labels.Label.{Label}
 use Rattle.cspf_search.specs.declared.stands.Stand.{Stand}
 use Rattle.cspf_search.specs.States.{State}
 use Rattle.cspf_search.specs.Arena.{walk_at, walks, walk_of, state_of, AreNodes, IsNext}
 use Rattle.cspf_search.specs.Rounds.{CrossesBy, Turns, CrossesBelow}
-use Rattle.cspf_search.specs.Frontier.{state_at, AreListed, nowhere, node_by, node_of, rank_of, IsNodeAt, IsEnd, IsOffer, AreTied, StaysAt, GoesTo, Key, label_at, AreLabels, IsStand, CrossesUpTo}
+use Rattle.cspf_search.specs.Frontier.{state_at, AreListed, nowhere, node_by, node_of, rank_of, IsNodeAt, IsEnd, IsOffer, AreTied, StaysAt, GoesTo, Key, label_at, lift, AreLabels, IsStand, CrossesUpTo}
+use Rattle.cspf_search.proofs.Ranks.{lift_small}
 use Rattle.cspf_search.proofs.Backs.{turned_next, by_next}
 use Rattle.cspf_search.proofs.Offered.{labels_stay, labels_offered, labels_same, lost_by_rank, tied_label, left_open, IsLost}
 use Rattle.cspf_search.proofs.Expanded.{filter_short, there, leg, turn_index, turn_state, turn_only, turn_passes, turn_within, turn_left, turn_right, turn_cases, link_index, link_state, link_only, link_passes, link_within, link_left, link_right, link_cases}
@@ -34,7 +36,7 @@ end_of_row d ends links within each row l end h is at =
       is = ap (λ e. slice_index (router_list d) e) at ∙ sym left ∙ ap (λ ns. slice_index_or ns row 0) each ∙ right ∙ ap (λ (l : Link). l.to) (sym is);
     }
 
-module _ (d : Database) (q : Request) (nodes : List Node) (are : AreNodes nodes) (listed : AreListed d) (at state : ℕ) (is : IsNodeAt d q nodes at state) (goal : ℕ)
+module _ (d : Database) (q : Request) (nodes : List Node) (are : AreNodes nodes) (listed : AreListed d) (at state : ℕ) (is : IsNodeAt d q nodes at state) (goal : Goal)
     (labels : List Label) (keys : List Key) where
   pub few_rows : length (links_from_index d (state % 1024)) ≤ 16384
   few_rows = omega (arith, listed.room, filter_short (λ l. nat_eq l.from (slice_index (router_list d) (state % 1024))) (links_of d))
@@ -52,16 +54,16 @@ module _ (d : Database) (q : Request) (nodes : List Node) (are : AreNodes nodes)
     turned = turned_next d q nodes are at is.within (slice_index_or nodes at nowhere) (there d q nodes at state is)
 
     pub turn_late : state / 1024 < length q.hops
-        → ((label_at labels (state + 1024)).rank < rank_of (slice_index_or nodes at nowhere)) ⊎ ((label_at labels goal).rank < rank_of (slice_index_or nodes at nowhere))
+        → ((label_at labels (state + 1024)).rank < rank_of (slice_index_or nodes at nowhere)) ⊎ ((label_at labels goal.at).rank < rank_of (slice_index_or nodes at nowhere) + lift goal (state + 1024))
         → AreLabels d q nodes (CrossesUpTo d q nodes at (state % 1024) 0) goal labels keys
     turn_late h late =
         labels_stay d q nodes are listed (CrossesBelow d q nodes (links_of d) at) (Turns d q nodes at) (CrossesUpTo d q nodes at (state % 1024) 0)
         (turn_left d q nodes at state is) (turn_right d q nodes at state is) (turn_cases d q nodes at state is) goal labels keys before (state + 1024)
         (turn_index d q nodes at state is h) (walk_at (walks nodes) at) (turn_only d q nodes at state is)
-        (λ _. subst (IsLost d nodes (CrossesBelow d q nodes (links_of d) at) (label_at labels goal).rank (state_at d (state + 1024)) (label_at labels (state + 1024)))
+        (λ _. subst (IsLost d nodes (CrossesBelow d q nodes (links_of d) at) (label_at labels goal.at).rank (lift goal (state + 1024)) (state_at d (state + 1024)) (label_at labels (state + 1024)))
         (sym (are.grown at nowhere is.within))
-        (lost_by_rank d nodes are (CrossesBelow d q nodes (links_of d) at) (label_at labels goal).rank (state_at d (state + 1024)) (label_at labels (state + 1024))
-        (node_by at (slice_index_or nodes at nowhere) None) turned late))
+        (lost_by_rank d nodes are (CrossesBelow d q nodes (links_of d) at) (label_at labels goal.at).rank (lift goal (state + 1024)) (state_at d (state + 1024)) (label_at labels (state + 1024))
+        (node_by at (slice_index_or nodes at nowhere) None) turned (lift_small goal (state + 1024) before.small) late))
 
     module _ (label : Label) (parent : label.parent ≡ at) (place : label.place ≡ state % 1024) (row : label.row ≡ 65535)
         (rank : label.rank ≡ rank_of (slice_index_or nodes at nowhere)) where
@@ -81,21 +83,21 @@ module _ (d : Database) (q : Request) (nodes : List Node) (are : AreNodes nodes)
 
       pub turn_tied : state / 1024 < length q.hops → label.rank ≡ (label_at labels (state + 1024)).rank → AreTied d nodes (label_at labels (state + 1024)) label
       turn_tied h tie =
-          tied_label d nodes are (CrossesBelow d q nodes (links_of d) at) (label_at labels goal).rank (state_at d (state + 1024)) (label_at labels (state + 1024)) label
+          tied_label d nodes are (CrossesBelow d q nodes (links_of d) at) (label_at labels goal.at).rank (lift goal (state + 1024)) (state_at d (state + 1024)) (label_at labels (state + 1024)) label
           (before.each (state + 1024) (turn_index d q nodes at state is h)) turn_offer turn_rank tie
 
       pub turn_taken : state / 1024 < length q.hops → IsTarget d q (state / 1024 + 1) (slice_index (router_list d) (state % 1024))
-          → label.rank ≤ (label_at labels (state + 1024)).rank → (new : List Label) (new_keys : List Key)
-          → StaysAt d nodes (state + 1024) label labels new keys new_keys ⊎ GoesTo d nodes (state + 1024) label labels new keys new_keys
+          → label.rank ≤ (label_at labels (state + 1024)).rank → (key : ℕ) (new : List Label) (new_keys : List Key) → key ≡ label.rank + lift goal (state + 1024)
+          → StaysAt d nodes (state + 1024) label labels new keys new_keys ⊎ GoesTo d nodes (state + 1024) label key labels new keys new_keys
           → AreLabels d q nodes (CrossesUpTo d q nodes at (state % 1024) 0) goal new new_keys
-      turn_taken h target le new new_keys choice =
+      turn_taken h target le key new new_keys is_key choice =
           let index = turn_index d q nodes at state is h in
           let left =
-          left_open d nodes (CrossesBelow d q nodes (links_of d) at) (label_at labels goal).rank (state_at d (state + 1024)) (label_at labels (state + 1024)) (before.each (state + 1024) index)
+          left_open d nodes (CrossesBelow d q nodes (links_of d) at) (label_at labels goal.at).rank (lift goal (state + 1024)) (state_at d (state + 1024)) (label_at labels (state + 1024)) (before.each (state + 1024) index)
           (omega (arith, le, rank)) in
           labels_offered d q nodes are listed (CrossesBelow d q nodes (links_of d) at) (Turns d q nodes at) (CrossesUpTo d q nodes at (state % 1024) 0)
           (turn_left d q nodes at state is) (turn_right d q nodes at state is) (turn_cases d q nodes at state is) goal labels keys before (state + 1024) index
-          (walk_at (walks nodes) at) (turn_only d q nodes at state is) label new new_keys turn_offer turn_rank (ap state_of turn_node ∙ turn_state d q nodes at state is)
+          (walk_at (walks nodes) at) (turn_only d q nodes at state is) label key new new_keys is_key turn_offer turn_rank (ap state_of turn_node ∙ turn_state d q nodes at state is)
           (ap (walk_of nodes) turn_node ∙ sym (are.grown at nowhere is.within)) le (turn_passes d q nodes at state is h target left) choice
 
   module _ (row : ℕ) (l : Link) (small : l.metric < 2 ^ 32) (here : slice_get (links_from_index d (state % 1024)) row ≡ Some l) (end : ℕ) (ends : IsEnd d l.to end)
@@ -124,19 +126,19 @@ module _ (d : Database) (q : Request) (nodes : List Node) (are : AreNodes nodes)
         goal labels keys before
 
     pub link_late : ((label_at labels (state - state % 1024 + end)).rank < rank_of (slice_index_or nodes at nowhere) + l.metric * 16384 + 1)
-        ⊎ ((label_at labels goal).rank < rank_of (slice_index_or nodes at nowhere) + l.metric * 16384 + 1)
+        ⊎ ((label_at labels goal.at).rank < rank_of (slice_index_or nodes at nowhere) + l.metric * 16384 + 1 + lift goal (state - state % 1024 + end))
         → AreLabels d q nodes (CrossesUpTo d q nodes at (state % 1024) (row + 1)) goal labels keys
     link_late late =
         let n : Node = node_by at (slice_index_or nodes at nowhere) (Some l) in
         let rank : rank_of n ≡ rank_of (slice_index_or nodes at nowhere) + l.metric * 16384 + 1 = omega arith in
-        let behind : ((label_at labels (state - state % 1024 + end)).rank < rank_of n) ⊎ ((label_at labels goal).rank < rank_of n) =
+        let behind : ((label_at labels (state - state % 1024 + end)).rank < rank_of n) ⊎ ((label_at labels goal.at).rank < rank_of n + lift goal (state - state % 1024 + end)) =
         elim late [ inl a ↦ inl (omega (arith, a, rank)) | inr b ↦ inr (omega (arith, b, rank)) ] in
         labels_stay d q nodes are listed (CrossesUpTo d q nodes at (state % 1024) row) (CrossesBy d q nodes at l) (CrossesUpTo d q nodes at (state % 1024) (row + 1))
         (link_left d q nodes at state is row l here end ends listed.few) (link_right d q nodes at state is row l here end ends listed.few)
         (link_cases d q nodes at state is row l here end ends listed.few) goal labels keys before (state - state % 1024 + end)
         (link_index d q nodes at state is row l here end ends listed.few) (walk_at (walks nodes) at ++ (l ∷ [])) (link_only d q nodes at state is row l here end ends listed.few)
-        (λ _. lost_by_rank d nodes are (CrossesUpTo d q nodes at (state % 1024) row) (label_at labels goal).rank (state_at d (state - state % 1024 + end))
-        (label_at labels (state - state % 1024 + end)) n along behind)
+        (λ _. lost_by_rank d nodes are (CrossesUpTo d q nodes at (state % 1024) row) (label_at labels goal.at).rank (lift goal (state - state % 1024 + end)) (state_at d (state - state % 1024 + end))
+        (label_at labels (state - state % 1024 + end)) n along (lift_small goal (state - state % 1024 + end) before.small) behind)
 
     module _ (label : Label) (parent : label.parent ≡ at) (place : label.place ≡ state % 1024) (at_row : label.row ≡ row)
         (rank : label.rank ≡ rank_of (slice_index_or nodes at nowhere) + l.metric * 16384 + 1) where
@@ -158,22 +160,22 @@ module _ (d : Database) (q : Request) (nodes : List Node) (are : AreNodes nodes)
 
       pub link_tied : label.rank ≡ (label_at labels (state - state % 1024 + end)).rank → AreTied d nodes (label_at labels (state - state % 1024 + end)) label
       link_tied tie =
-          tied_label d nodes are (CrossesUpTo d q nodes at (state % 1024) row) (label_at labels goal).rank (state_at d (state - state % 1024 + end))
+          tied_label d nodes are (CrossesUpTo d q nodes at (state % 1024) row) (label_at labels goal.at).rank (lift goal (state - state % 1024 + end)) (state_at d (state - state % 1024 + end))
           (label_at labels (state - state % 1024 + end)) label
           (before.each (state - state % 1024 + end) (link_index d q nodes at state is row l here end ends listed.few)) link_offer link_rank tie
 
       pub link_taken : IsAdmitted q l → IsInside d q (state / 1024 + 1) l.to → label.rank ≤ (label_at labels (state - state % 1024 + end)).rank
-          → (new : List Label) (new_keys : List Key)
-          → StaysAt d nodes (state - state % 1024 + end) label labels new keys new_keys ⊎ GoesTo d nodes (state - state % 1024 + end) label labels new keys new_keys
+          → (key : ℕ) (new : List Label) (new_keys : List Key) → key ≡ label.rank + lift goal (state - state % 1024 + end)
+          → StaysAt d nodes (state - state % 1024 + end) label labels new keys new_keys ⊎ GoesTo d nodes (state - state % 1024 + end) label key labels new keys new_keys
           → AreLabels d q nodes (CrossesUpTo d q nodes at (state % 1024) (row + 1)) goal new new_keys
-      link_taken admitted inside le new new_keys choice =
+      link_taken admitted inside le key new new_keys is_key choice =
           let index = link_index d q nodes at state is row l here end ends listed.few in
           let left =
-          left_open d nodes (CrossesUpTo d q nodes at (state % 1024) row) (label_at labels goal).rank (state_at d (state - state % 1024 + end))
+          left_open d nodes (CrossesUpTo d q nodes at (state % 1024) row) (label_at labels goal.at).rank (lift goal (state - state % 1024 + end)) (state_at d (state - state % 1024 + end))
           (label_at labels (state - state % 1024 + end)) (before.each (state - state % 1024 + end) index) (omega (arith, le, rank)) in
           labels_offered d q nodes are listed (CrossesUpTo d q nodes at (state % 1024) row) (CrossesBy d q nodes at l) (CrossesUpTo d q nodes at (state % 1024) (row + 1))
           (link_left d q nodes at state is row l here end ends listed.few) (link_right d q nodes at state is row l here end ends listed.few)
           (link_cases d q nodes at state is row l here end ends listed.few) goal labels keys before (state - state % 1024 + end) index
-          (walk_at (walks nodes) at ++ (l ∷ [])) (link_only d q nodes at state is row l here end ends listed.few) label new new_keys link_offer link_rank
+          (walk_at (walks nodes) at ++ (l ∷ [])) (link_only d q nodes at state is row l here end ends listed.few) label key new new_keys is_key link_offer link_rank
           (ap state_of link_node ∙ link_state d q nodes at state is row l here end ends listed.few) (ap (walk_of nodes) link_node) le
           (link_passes d q nodes at state is row l here end ends listed.few admitted inside left) choice

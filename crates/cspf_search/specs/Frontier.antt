@@ -1,5 +1,5 @@
 -- Private words of the search from a heap: the labels of states, and the keys that wait.
-use Rattle.std.specs.Prelude.{◌≡◌, ℕ, true, false, set, ◌+◌, ◌*◌, ◌/◌, ◌%◌, ◌<◌, ◌≤◌, ◌⊎◌, ◌↔◌, IsTrue, Option, Some, None, List, ◌∷◌, All, Contains, length, take, slice_get, slice_index, slice_index_or}
+use Rattle.std.specs.Prelude.{◌≡◌, ℕ, true, false, if◌then◌else◌, nat_eq, set, ◌+◌, ◌*◌, ◌/◌, ◌%◌, ◌^◌, ◌<◌, ◌≤◌, ◌⊎◌, ◌↔◌, IsTrue, Option, Some, None, List, ◌∷◌, All, Contains, length, take, slice_get, slice_index, slice_index_or}
 use Rattle.std.specs.Ordering.{nat_cmp, ordering_then, is_gt}
 use Rattle.std.specs.declared.cmp.Ordering.{Ordering}
 use Rattle.std.specs.declared.cmp.Reverse.{Reverse}
@@ -12,6 +12,7 @@ use Rattle.cspf_db.specs.Targets.{IsTarget, IsInside}
 use Rattle.cspf_db.specs.Walks.{cost_of}
 use Rattle.cspf_db.specs.Index.{router_list, links_of, links_from_index}
 use Rattle.cspf_search.specs.declared.arena.Node.{Node}
+use Rattle.cspf_search.specs.declared.bound.Goal.{Goal}
 use Rattle.cspf_search.specs.declared.labels.Label.{Label}
 use Rattle.cspf_search.specs.declared.stands.Stand.{Stand}
 use Rattle.cspf_search.specs.States.{State}
@@ -97,15 +98,20 @@ walk_rank w = cost_of w * 16384 + length w + 1
 abbrev pub no_rank : ℕ
 no_rank = 18446744073709551615
 
--- the walk ranks behind one that the tail-end has
-pub record IsBeyond (cap : ℕ) (w : List Link) : Type 0 where
+-- what the key of a state is above its rank: at other routers than the goal's the bound of the last
+-- link
+abbrev pub lift : Goal → ℕ → ℕ
+lift goal i = if nat_eq (i % 1024) (goal.at % 1024) then 0 else goal.bound * 16384
+
+-- the walk ranks behind one that the tail-end has, with what is ahead of it at least
+pub record IsBeyond (cap ahead : ℕ) (w : List Link) : Type 0 where
   pub known : cap < no_rank
-  pub behind : cap < walk_rank w
+  pub behind : cap < walk_rank w + ahead
 
 -- The label of an open state stands for a node that leads there, and none that does is before it,
 -- but for walks behind the cap.
 pub record IsReached (d : Database) (nodes : List Node) (P : List Link → State → Type 0)
-    (cap : ℕ) (t : State) (label : Label) : Type 0 where
+    (cap ahead : ℕ) (t : State) (label : Label) : Type 0 where
   pub place : label.place < length (router_list d)
   pub parent : label.parent < length nodes
   pub rank : label.rank ≡ rank_of (node_of d nodes label)
@@ -113,19 +119,19 @@ pub record IsReached (d : Database) (nodes : List Node) (P : List Link → State
   pub next : IsNext nodes (node_of d nodes label)
   pub passes : P (walk_of nodes (node_of d nodes label)) t
   pub first : (w : List Link) → P w t
-      → IsNoLater (walk_of nodes (node_of d nodes label)) w ⊎ IsBeyond cap w
+      → IsNoLater (walk_of nodes (node_of d nodes label)) w ⊎ IsBeyond cap ahead w
 
 -- what the label of a state tells
 pub data IsLabel (d : Database) (nodes : List Node) (P : List Link → State → Type 0)
-    (cap : ℕ) (t : State) (label : Label) : Type 0 where
+    (cap ahead : ℕ) (t : State) (label : Label) : Type 0 where
   is_settled : (i : ℕ) → label.rank ≡ 0 → index_of nodes t ≡ Some i
-      → IsLabel d nodes P cap t label
-  is_reached : index_of nodes t ≡ None → IsReached d nodes P cap t label
-      → IsLabel d nodes P cap t label
+      → IsLabel d nodes P cap ahead t label
+  is_reached : index_of nodes t ≡ None → IsReached d nodes P cap ahead t label
+      → IsLabel d nodes P cap ahead t label
   is_unreached : index_of nodes t ≡ None → label.rank ≡ no_rank
-      → ((w : List Link) → P w t → IsBeyond cap w) → IsLabel d nodes P cap t label
+      → ((w : List Link) → P w t → IsBeyond cap ahead w) → IsLabel d nodes P cap ahead t label
 
--- a rank, and the index of a state: a heap gives the least first
+-- a rank with its lift, and the index of a state: a heap gives the least first
 abbrev pub Key : Type 0
 Key = Reverse (ℕ × ℕ)
 
@@ -133,7 +139,7 @@ abbrev pub key_cmp : Key → Key → Ordering
 key_cmp x y = ordering_then (nat_cmp y.0.0 x.0.0) (nat_cmp y.0.1 x.0.1)
 
 abbrev pub key_at : ℕ → ℕ → Key
-key_at rank i = record { 0 = (rank, i) }
+key_at key i = record { 0 = (key, i) }
 
 -- the label for the indexes past the end of a list
 abbrev pub no_label : Label
@@ -143,26 +149,29 @@ abbrev pub label_at : List Label → ℕ → Label
 label_at labels i = slice_index_or labels i no_label
 
 -- what a key of a state asks
-pub record IsKey (d : Database) (q : Request) (key : Key) : Type 0 where
-  pub some : 0 < key.0.0
+pub record IsKey (d : Database) (q : Request) (goal : Goal) (key : Key) : Type 0 where
+  pub some : lift goal key.0.1 < key.0.0
   pub most : key.0.0 < no_rank
   pub index : IsStateIndex d q key.0.1
 
 -- a key that the heap gives is still its state's
-abbrev pub IsLive : List Label → Key → Type 0
-IsLive labels key = (label_at labels key.0.1).rank ≡ key.0.0
+abbrev pub IsLive : Goal → List Label → Key → Type 0
+IsLive goal labels key = (label_at labels key.0.1).rank + lift goal key.0.1 ≡ key.0.0
 
 -- Labels of all states for what crosses, and a key for each state that is reached.
 pub record AreLabels (d : Database) (q : Request) (nodes : List Node)
-    (P : List Link → State → Type 0) (goal : ℕ) (labels : List Label) (keys : List Key)
+    (P : List Link → State → Type 0) (goal : Goal) (labels : List Label) (keys : List Key)
     : Type 0 where
+  pub small : goal.bound < 2 ^ 32
   pub many : length labels ≡ (length q.hops + 1) * 1024
   pub each : (i : ℕ) → IsStateIndex d q i
-      → IsLabel d nodes P (label_at labels goal).rank (state_at d i) (label_at labels i)
+      → IsLabel d nodes P (label_at labels goal.at).rank (lift goal i) (state_at d i)
+      (label_at labels i)
   pub ordered : IsHeap key_cmp keys
-  pub keyed : All (IsKey d q) keys
+  pub keyed : All (IsKey d q goal) keys
   pub waiting : (i : ℕ) → IsStateIndex d q i → 0 < (label_at labels i).rank
-      → (label_at labels i).rank < no_rank → Contains keys (key_at (label_at labels i).rank i)
+      → (label_at labels i).rank < no_rank
+      → Contains keys (key_at ((label_at labels i).rank + lift goal i) i)
 
 -- the walks that lead on from the first nodes, and from the next one the turn and the first links
 abbrev pub CrossesUpTo : Database → Request → List Node → ℕ → ℕ → ℕ → List Link → State
@@ -198,21 +207,21 @@ pub record Gains (key : Key) (old new : List Key) : Type 0 where
   pub kept : IsHeap key_cmp old → IsHeap key_cmp new
   pub moved : IsPermutation (key ∷ old) new
 
--- a key is no less than a rank and the index of a state
+-- a key is no less than a rank with its lift and the index of a state
 abbrev pub IsUpTo : ℕ → ℕ → Key → Type 0
 IsUpTo rank i key = (rank < key.0.0) ⊎ ((rank ≡ key.0.0) × (i ≤ key.0.1))
 
 -- The least key of a state that is still open: what comes out of a heap up to it has no use.
-pub record IsLeast (d : Database) (q : Request) (labels : List Label) (old : List Key) (i : ℕ)
-    (new : List Key) : Type 0 where
+pub record IsLeast (d : Database) (q : Request) (goal : Goal) (labels : List Label)
+    (old : List Key) (i : ℕ) (new : List Key) : Type 0 where
   pub index : IsStateIndex d q i
   pub some : 0 < (label_at labels i).rank
   pub most : (label_at labels i).rank < no_rank
   pub ordered : IsHeap key_cmp new
-  pub keyed : All (IsKey d q) new
-  pub first : (key : Key) → Contains old key → IsLive labels key
-      → IsUpTo (label_at labels i).rank i key
-  pub others : (key : Key) → Contains old key → IsLive labels key
+  pub keyed : All (IsKey d q goal) new
+  pub first : (key : Key) → Contains old key → IsLive goal labels key
+      → IsUpTo ((label_at labels i).rank + lift goal i) i key
+  pub others : (key : Key) → Contains old key → IsLive goal labels key
       → (key.0.1 ≡ i) ⊎ Contains new key
 
 -- the label that a state has stays, since that which is offered ties in rank and is not before it
@@ -225,10 +234,10 @@ pub record StaysAt (d : Database) (nodes : List Node) (i : ℕ) (label : Label)
   pub keys : new_keys ≡ old_keys
 
 -- it gets the label that is offered
-pub record GoesTo (d : Database) (nodes : List Node) (i : ℕ) (label : Label)
+pub record GoesTo (d : Database) (nodes : List Node) (i : ℕ) (label : Label) (key : ℕ)
     (old new : List Label) (old_keys new_keys : List Key) : Type 0 where
   pub first : label.rank ≡ (label_at old i).rank
       → is_gt (locals_cmp (walk_of nodes (node_of d nodes (label_at old i)))
       (walk_of nodes (node_of d nodes label))) ≡ true
   pub labels : new ≡ set old i label
-  pub keys : Gains (key_at label.rank i) old_keys new_keys
+  pub keys : Gains (key_at key i) old_keys new_keys

@@ -1,11 +1,12 @@
 -- Private words of the search: the order in which walks are settled, and what is settled.
-use Rattle.std.specs.Prelude.{◌≡◌, ℕ, Option, Some, None, List, [], false, length}
+use Rattle.std.specs.Prelude.{◌≡◌, ℕ, ◌+◌, ◌≤◌, Option, Some, None, List, [], false, length}
 use Rattle.std.specs.Ordering.{nat_cmp, ordering_then, is_gt}
 use Rattle.std.specs.declared.cmp.Ordering.{Ordering}
 use Rattle.std.specs.Cmp.Lexicographic.{slice_cmp}
 use Rattle.cspf_db.specs.declared.link.Link.{Link}
 use Rattle.cspf_db.specs.declared.request.Request.{Request}
 use Rattle.cspf_db.specs.Database.{Database}
+use Rattle.cspf_db.specs.Admissible.{IsAdmissible}
 use Rattle.cspf_db.specs.Walks.{cost_of, locals_of, walk_cmp}
 use Rattle.cspf_search.specs.States.{State, IsStep, Reaches, start_of}
 
@@ -22,8 +23,19 @@ rank_cmp a b =
     ordering_then (nat_cmp (cost_of a.1) (cost_of b.1))
     (ordering_then (nat_cmp (length a.1) (length b.1)) (nat_cmp a.0 b.0))
 
-abbrev pub RanksNoLater : State → List Link → State → List Link → Type 0
-RanksNoLater s v t w = is_gt (rank_cmp (s.leg, v) (t.leg, w)) ≡ false
+-- by cost and the potential of the router, then by the number of links, then by leg
+abbrev pub potential_cmp : (ℕ → ℕ) → State × List Link → State × List Link → Ordering
+potential_cmp potential a b =
+    ordering_then (nat_cmp (potential a.0.router + cost_of a.1) (potential b.0.router + cost_of b.1))
+    (ordering_then (nat_cmp (length a.1) (length b.1)) (nat_cmp a.0.leg b.0.leg))
+
+abbrev pub RanksNoLater : (ℕ → ℕ) → State → List Link → State → List Link → Type 0
+RanksNoLater potential s v t w = is_gt (potential_cmp potential (s, v) (t, w)) ≡ false
+
+-- no link that is admissible lowers the potential by more than its metric
+abbrev pub IsConsistent : Database → Request → (ℕ → ℕ) → Type 0
+IsConsistent d q potential =
+    (l : Link) → IsAdmissible d q l → potential l.from ≤ potential l.to + l.metric
 
 abbrev pub locals_cmp : List Link → List Link → Ordering
 locals_cmp v w = slice_cmp nat_cmp (locals_of v) (locals_of w)
@@ -46,8 +58,12 @@ pub record Crosses (d : Database) (q : Request) (labels : Labels) (w : List Link
   pub step : IsStep d q front state w t
   pub still_open : labels t ≡ None
 
--- no other that crosses into its state is before it, and none at all ranks before it
+-- no other that crosses into its state is before it, and none at all ranks before it under a
+-- potential of routers
 pub record IsFirstCrossing (d : Database) (q : Request) (labels : Labels) (w : List Link) (t : State) : Type 0 where
   pub crosses : Crosses d q labels w t
   pub first_here : (x : List Link) → Crosses d q labels x t → IsNoLater w x
-  pub first : (x : List Link) (u : State) → Crosses d q labels x u → RanksNoLater t w u x
+  pub potential : ℕ → ℕ
+  pub consistent : IsConsistent d q potential
+  pub first : (x : List Link) (u : State) → Crosses d q labels x u
+      → RanksNoLater potential t w u x

@@ -6,6 +6,7 @@ ghost use Rattle.cspf_search.specs.Rounds.{CrossesBelow};
 ghost use Rattle.cspf_search.specs.Frontier.{AreLabels, AreListed, AreStands, AreTied, CrossesUpTo, GoesTo, IsEnd, IsNodeAt, IsOffer, IsStateIndex, StaysAt, label_at, nowhere, rank_of};
 
 use crate::arena::Node;
+use crate::bound::{Goal, lift};
 use crate::labels::{Label, Waiting, node_of, put};
 use crate::rounds::locals;
 use crate::stands::Stand;
@@ -17,7 +18,8 @@ use std::collections::BinaryHeap;
 /// The row of a label that a turn to the next leg leads to.
 const TURN: u16 = u16::MAX;
 
-/// Gives the state at an index this label, if no label there ties with it and is before it.
+/// Gives the state at an index this label and has it wait with this key, if no label there ties
+/// with it and is before it.
 fn offer(
     table: &Table,
     nodes: &[Node],
@@ -25,6 +27,7 @@ fn offer(
     heap: &mut BinaryHeap<Waiting, Global>,
     index: usize,
     label: Label,
+    key: u64,
 ) -> Result<(), AllocError>
     requires arena { AreNodes nodes.now }
     requires within { index < length labels.old }
@@ -34,7 +37,7 @@ fn offer(
     ensures first { OnOk result (
         StaysAt table.now nodes.now index label
         labels.old labels.new (heap_items heap.old) (heap_items heap.new)
-        ⊎ GoesTo table.now nodes.now index label
+        ⊎ GoesTo table.now nodes.now index label key
         labels.old labels.new (heap_items heap.old) (heap_items heap.new)) }
     ensures few { OnOk result (heap_len heap.new ≤ heap_len heap.old + 1) }
 {
@@ -45,7 +48,7 @@ fn offer(
             return Ok(());
         }
     }
-    put(labels, heap, index, label)
+    put(labels, heap, index, label, key)
 }
 
 /// Offers what the turn to the next leg leads to from the node at an index.
@@ -56,7 +59,7 @@ fn offer_turn(
     nodes: &[Node],
     labels: &mut [Label],
     heap: &mut BinaryHeap<Waiting, Global>,
-    goal: usize,
+    goal: Goal,
     at: usize,
     state: usize,
     rank: u64,
@@ -64,7 +67,7 @@ fn offer_turn(
     requires arena { AreNodes nodes.now }
     requires listed { AreListed table.now }
     requires stands { AreStands table.now request.now stands.now }
-    requires goal { IsStateIndex table.now request.now goal }
+    requires goal { IsStateIndex table.now request.now goal.at }
     requires from { IsNodeAt table.now request.now nodes.now at state }
     requires rank { rank ≡ rank_of (slice_index_or nodes.now at nowhere) }
     requires before { AreLabels table.now request.now nodes.now
@@ -87,8 +90,9 @@ fn offer_turn(
     if rank > kept.rank {
         return Ok(());
     }
-    let last = labels[goal];
-    if rank > last.rank {
+    let key = rank + lift(goal, index);
+    let last = labels[goal.at];
+    if last.rank < key {
         return Ok(());
     }
     let label = Label {
@@ -97,7 +101,7 @@ fn offer_turn(
         place: (state % 1024) as u16,
         row: TURN,
     };
-    offer(table, nodes, labels, heap, index, label)
+    offer(table, nodes, labels, heap, index, label, key)
 }
 
 /// Offers what a link leads to from the node at an index.
@@ -108,7 +112,7 @@ fn offer_link(
     nodes: &[Node],
     labels: &mut [Label],
     heap: &mut BinaryHeap<Waiting, Global>,
-    goal: usize,
+    goal: Goal,
     at: usize,
     state: usize,
     rank: u64,
@@ -119,7 +123,7 @@ fn offer_link(
     requires arena { AreNodes nodes.now }
     requires listed { AreListed table.now }
     requires stands { AreStands table.now request.now stands.now }
-    requires goal { IsStateIndex table.now request.now goal }
+    requires goal { IsStateIndex table.now request.now goal.at }
     requires from { IsNodeAt table.now request.now nodes.now at state }
     requires rank { rank ≡ rank_of (slice_index_or nodes.now at nowhere) }
     requires row { slice_get (links_from_index table.now (state % 1024)) row ≡ Some link }
@@ -139,8 +143,9 @@ fn offer_link(
     if new > kept.rank {
         return Ok(());
     }
-    let last = labels[goal];
-    if new > last.rank {
+    let key = new + lift(goal, index);
+    let last = labels[goal.at];
+    if key > last.rank {
         return Ok(());
     }
     let stand = stands[index];
@@ -156,7 +161,7 @@ fn offer_link(
         place: place as u16,
         row: row as u16,
     };
-    offer(table, nodes, labels, heap, index, label)
+    offer(table, nodes, labels, heap, index, label, key)
 }
 
 /// Offers all that leads on from the node at an index.
@@ -167,14 +172,14 @@ pub(crate) fn expand(
     nodes: &[Node],
     labels: &mut [Label],
     heap: &mut BinaryHeap<Waiting, Global>,
-    goal: usize,
+    goal: Goal,
     at: usize,
     state: usize,
 ) -> Result<(), AllocError>
     requires arena { AreNodes nodes.now }
     requires listed { AreListed table.now }
     requires stands { AreStands table.now request.now stands.now }
-    requires goal { IsStateIndex table.now request.now goal }
+    requires goal { IsStateIndex table.now request.now goal.at }
     requires from { IsNodeAt table.now request.now nodes.now at state }
     requires before { AreLabels table.now request.now nodes.now
         (CrossesBelow table.now request.now nodes.now (links_of table.now) at)

@@ -5,6 +5,7 @@ ghost use Rattle.cspf_search.specs.Arena.{AreNodes};
 ghost use Rattle.cspf_search.specs.Frontier.{node_of, key_at, key_cmp, Gains, IsKey, IsLeast, IsLive, Key};
 
 use crate::arena::Node;
+use crate::bound::{Goal, lift};
 use cspf_db::{Request, Table};
 use std::alloc::{AllocError, Global};
 use std::cmp::Reverse;
@@ -39,7 +40,7 @@ pub(crate) const SETTLED: Label = Label {
     row: 0,
 };
 
-/// The rank and the index of a state that waits.
+/// The key of a state that waits, which is its rank with its lift, and the index of the state.
 pub(crate) type Waiting = Reverse<(u64, u64)>;
 
 /// The node that a label stands for.
@@ -70,21 +71,22 @@ pub(crate) fn node_of(table: &Table, nodes: &[Node], label: &Label) -> Node
     }
 }
 
-/// Gives the state at an index this label, and has it wait.
+/// Gives the state at an index this label, and has it wait with this key.
 pub(crate) fn put(
     labels: &mut [Label],
     heap: &mut BinaryHeap<Waiting, Global>,
     at: usize,
     label: Label,
+    key: u64,
 ) -> Result<(), AllocError>
     requires within { at < length labels.old }
     ensures labels { OnOk result (labels.new ≡ set labels.old at label) }
     ensures keys { OnOk result
-        (Gains (key_at label.rank at) (heap_items heap.old) (heap_items heap.new)) }
+        (Gains (key_at key at) (heap_items heap.old) (heap_items heap.new)) }
     ensures one { OnOk result (heap_len heap.new ≡ heap_len heap.old + 1) }
 {
     labels[at] = label;
-    heap.push(Reverse((label.rank, at as u64)))?;
+    heap.push(Reverse((key, at as u64)))?;
     Ok(())
 }
 
@@ -92,20 +94,22 @@ pub(crate) fn put(
 pub(crate) fn least(
     table: &Table,
     request: &Request,
+    goal: Goal,
     labels: &[Label],
     heap: &mut BinaryHeap<Waiting, Global>,
 ) -> Option<usize>
     requires many { length labels.now ≡ (length request.now.hops + 1) * 1024 }
     requires ordered { IsHeap key_cmp (heap_items heap.old) }
-    requires keyed { All (IsKey table.now request.now) (heap_items heap.old) }
-    ensures some { IfSome result (λ at. IsLeast table.now request.now labels.now
+    requires keyed { All (IsKey table.now request.now goal) (heap_items heap.old) }
+    ensures some { IfSome result (λ at. IsLeast table.now request.now goal labels.now
         (heap_items heap.old) at (heap_items heap.new)) }
     ensures fewer { IfSome result (λ _. heap_len heap.new < heap_len heap.old) }
     ensures none { IfNone result ((key : Key) → Contains (heap_items heap.old) key
-        → ¬ IsLive labels.now key) }
+        → ¬ IsLive goal labels.now key) }
 {
-    while let Some(Reverse((rank, at))) = heap.pop() {
+    while let Some(Reverse((key, at))) = heap.pop() {
         let at = at as usize;
+        let rank = key - lift(goal, at);
         if labels[at].rank == rank {
             return Some(at);
         }

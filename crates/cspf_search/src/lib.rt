@@ -3,6 +3,7 @@
 #![tactic(auto)]
 
 mod arena;
+mod bound;
 mod frontier;
 mod labels;
 mod outcome;

@@ -14,6 +14,7 @@ ghost use Rattle.cspf_search.specs.Routes.{AreLinked};
 ghost use Rattle.cspf_search.specs.Rounds.{CrossesBelow, IsFirst, IsFirstOf};
 
 use crate::arena::{Node, index_of, links_to};
+use crate::bound::{Goal, last_metric};
 use crate::frontier::expand;
 use crate::labels::{OPEN, SETTLED, least, node_of};
 use crate::rounds::first;
@@ -155,7 +156,10 @@ fn reached(
         → ¬ Crosses table.now request.now (labels_of nodes.items) w t) }
 {
     listed(table);
-    let goal = (legs - 1) * 1024 + to;
+    let goal = Goal {
+        at: (legs - 1) * 1024 + to,
+        bound: last_metric(table, request),
+    };
     let stands = stands(alloc, table, request, legs)?;
     let mut nodes = rooted(alloc, request)?;
     let mut labels = Vec::from_elem(alloc, OPEN, legs * 1024)?;
@@ -172,11 +176,11 @@ fn reached(
         0,
         from,
     )?;
-    while let Some(at) = least(table, request, &labels, &mut heap) {
+    while let Some(at) = least(table, request, goal, &labels, &mut heap) {
         let node = node_of(table, &nodes, &labels[at]);
         let index = nodes.len();
         nodes.extend_from_slice(&[node])?;
-        if at == goal {
+        if at == goal.at {
             return Ok(nodes);
         }
         labels[at] = SETTLED;

@@ -1,4 +1,4 @@
-use Rattle.std.proofs.Common.{◌≡◌, ◌+◌, ◌-◌, ◌*◌, ◌%◌, ◌^◌, ◌<◌, ◌≤◌, inl, inr, false, slice_index_or, refl, sym, ◌∙◌, heap_items, arith}
+use Rattle.std.proofs.Common.{◌≡◌, ◌+◌, ◌-◌, ◌*◌, ◌%◌, ◌^◌, ◌<◌, ◌≤◌, inl, inr, false, slice_index_or, refl, sym, ap, ◌∙◌, heap_items, arith}
 use Rattle.std.proofs.lemmas.Bool.{false≢true, not-true, not-false}
 use Rattle.std.proofs.lemmas.Option.{slice_get_within}
 use Rattle.std.proofs.lemmas.Result.{on_ok_weaker}
@@ -42,17 +42,17 @@ returns-then-new-kept-clause-after c =
     small c.requires.row c.args.end c.requires.end c.requires.before
     (inl (omega (arith, read, c.if-new-kept.true, c.requires.rank, c.from.ensures)))
 
-pub returns-then-new-last-clause-after : goal.returns-then-new-last-clause-after
-returns-then-new-last-clause-after c =
+pub returns-then-key-last-clause-after : goal.returns-then-key-last-clause-after
+returns-then-key-last-clause-after c =
     let d = c.args.table.now in
     let q = c.args.request.now in
     let nodes = c.args.nodes.now in
     let small : c.args.link.metric < 2 ^ 32 = omega arith in
     let blank : Label = record { rank = 0; parent = 0; place = 0; row = 0 } in
-    let read = rank_read c.args.labels.now c.args.goal blank (omega (arith, c.requires.goal.low, c.requires.before.many)) in
+    let read = rank_read c.args.labels.now c.args.goal.at blank (omega (arith, c.requires.goal.low, c.requires.before.many)) in
     link_late d q nodes c.requires.arena c.requires.listed c.args.at c.args.state c.requires.from c.args.goal c.args.labels.now (heap_items c.args.heap.now) c.args.row c.args.link
     small c.requires.row c.args.end c.requires.end c.requires.before
-    (inr (omega (arith, read, c.if-new-last.true, c.requires.rank, c.from.ensures)))
+    (inr (omega (arith, read, c.if-key-last.true, c.requires.rank, c.from.ensures, c.lift.ensures.value)))
 
 pub returns-then-not-stand-clause-after : goal.returns-then-not-stand-clause-after
 returns-then-not-stand-clause-after c =
@@ -122,5 +122,6 @@ returns-clause-after c =
     on_ok_weaker c.offer.result
     (link_taken d q nodes c.requires.arena c.requires.listed c.args.at c.args.state c.requires.from c.args.goal c.args.labels.now (heap_items c.args.heap.now) c.args.row c.args.link
     small c.requires.row c.args.end c.requires.end c.requires.before label refl refl refl rank
-    (c.if-not-accepts.ensures.0 refl) (told.0 (not-false _ c.if-not-stand.false)) le c.offer.new.labels (heap_items c.offer.new.heap))
+    (c.if-not-accepts.ensures.0 refl) (told.0 (not-false _ c.if-not-stand.false)) le (c.args.rank + c.from.result * 16384 + 1 + c.lift.result) c.offer.new.labels
+    (heap_items c.offer.new.heap) (ap (λ n. c.args.rank + c.from.result * 16384 + 1 + n) c.lift.ensures.value))
     c.offer.ensures.first

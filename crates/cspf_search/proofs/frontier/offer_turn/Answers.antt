@@ -1,4 +1,4 @@
-use Rattle.std.proofs.Common.{◌+◌, ◌/◌, ◌%◌, ◌<◌, ◌≤◌, inl, inr, false, length, refl, sym, ◌∙◌, heap_items, arith}
+use Rattle.std.proofs.Common.{◌+◌, ◌/◌, ◌%◌, ◌<◌, ◌≤◌, inl, inr, false, length, refl, sym, ap, ◌∙◌, heap_items, arith}
 use Rattle.std.proofs.lemmas.Bool.{false≢true, not-true, not-false}
 use Rattle.std.proofs.lemmas.Result.{on_ok_weaker}
 use Rattle.cspf_search.specs.declared.labels.Label.{Label}
@@ -30,13 +30,13 @@ returns-then-rank-kept-clause-after c =
     turn_late c.args.table.now c.args.request.now c.args.nodes.now c.requires.arena c.requires.listed c.args.at c.args.state c.requires.from c.args.goal c.args.labels.now
     (heap_items c.args.heap.now) c.requires.before h (inl (omega (arith, read, c.if-rank-kept.true, c.requires.rank)))
 
-pub returns-then-rank-last-clause-after : goal.returns-then-rank-last-clause-after
-returns-then-rank-last-clause-after c =
+pub returns-then-last-key-clause-after : goal.returns-then-last-key-clause-after
+returns-then-last-key-clause-after c =
     let h : c.args.state / 1024 < length c.args.request.now.hops = omega (arith, c.len.ensures.value) in
     let blank : Label = record { rank = 0; parent = 0; place = 0; row = 0 } in
-    let read = rank_read c.args.labels.now c.args.goal blank (omega (arith, c.requires.goal.low, c.requires.before.many)) in
+    let read = rank_read c.args.labels.now c.args.goal.at blank (omega (arith, c.requires.goal.low, c.requires.before.many)) in
     turn_late c.args.table.now c.args.request.now c.args.nodes.now c.requires.arena c.requires.listed c.args.at c.args.state c.requires.from c.args.goal c.args.labels.now
-    (heap_items c.args.heap.now) c.requires.before h (inr (omega (arith, read, c.if-rank-last.true, c.requires.rank)))
+    (heap_items c.args.heap.now) c.requires.before h (inr (omega (arith, read, c.if-last-key.true, c.requires.rank, c.lift.ensures.value)))
 
 pub offer-requires-clause-offered : goal.offer-requires-clause-offered
 offer-requires-clause-offered c =
@@ -63,5 +63,6 @@ returns-clause-after c =
     let le : c.args.rank ≤ (label_at c.args.labels.now (c.args.state + 1024)).rank = omega (arith, read, c.if-rank-kept.false) in
     on_ok_weaker c.offer.result
     (turn_taken c.args.table.now c.args.request.now c.args.nodes.now c.requires.arena c.requires.listed c.args.at c.args.state c.requires.from c.args.goal c.args.labels.now
-    (heap_items c.args.heap.now) c.requires.before label refl refl refl c.requires.rank h (told.target.0 (not-false _ c.if-not-stand.false)) le c.offer.new.labels (heap_items c.offer.new.heap))
+    (heap_items c.args.heap.now) c.requires.before label refl refl refl c.requires.rank h (told.target.0 (not-false _ c.if-not-stand.false)) le (c.args.rank + c.lift.result) c.offer.new.labels
+    (heap_items c.offer.new.heap) (ap (λ n. c.args.rank + n) c.lift.ensures.value))
     c.offer.ensures.first

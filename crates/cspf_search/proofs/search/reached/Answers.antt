@@ -1,10 +1,10 @@
-use Rattle.std.proofs.Common.{◌≡◌, ◌+◌, ◌*◌, ◌-◌, length, replicate, refl, ap, ◌∙◌, heap_items, arith}
+use Rattle.std.proofs.Common.{◌≡◌, ◌*◌, length, replicate, refl, ap, ◌∙◌, heap_items, arith}
 use Rattle.std.proofs.lemmas.List.{get_or_read, length_push}
 use Rattle.cspf_search.specs.declared.labels.Label.{Label}
 use Rattle.cspf_search.specs.Frontier.{no_label, node_of}
 use Rattle.cspf_search.proofs.Grown.{root_nodes, root_settled}
 use Rattle.cspf_search.proofs.Popped.{first_labels}
-use Rattle.cspf_search.proofs.Reached.{IsAsked, IsUnderWay, first_left, ended, stepped, stepped_few, node_there, at_goal, settle, still_left, put_back}
+use Rattle.cspf_search.proofs.Reached.{IsAsked, IsUnderWay, goal_of, first_left, ended, stepped, stepped_few, node_there, at_goal, settle, still_left, put_back}
 use Rattle.cspf_search.proofs.search.reached.Goals as goal
 
 pub expand-requires-clause-before : goal.expand-requires-clause-before
@@ -14,7 +14,7 @@ expand-requires-clause-before c =
     let labels : c.in_ok-labels.labels.items ≡ replicate (c.args.legs * 1024) (record { rank = 18446744073709551615; parent = 0; place = 0; row = 0 }) =
     c.in_ok-labels.ensures.items_if_clones_equal (λ y e. e) in
     rw (c.deref-2.ensures.value, c.in_ok-nodes.ensures, c.deref_mut.ensures.value, labels)
-    (first_labels c.args.table.now c.args.request.now c.listed.ensures.listed c.args.from c.requires.from ((c.args.legs - 1) * 1024 + c.args.to) blank zero refl refl
+    (first_labels c.args.table.now c.args.request.now c.listed.ensures.listed c.args.from c.requires.from (goal_of c.args.legs c.args.to c.last_metric.result) (omega arith) blank zero refl refl
     (heap_items c.new-heap.result) c.new-heap.ensures.items c.new-heap.ensures.heap_order (c.args.legs * 1024) (ap (λ n. n * 1024) c.requires.count))
 
 pub loop-at-init : goal.loop-at-init
@@ -22,7 +22,7 @@ loop-at-init c =
     let d = c.args.table.now in
     let q = c.args.request.now in
     let legs = c.args.legs in
-    let asked : IsAsked d q c.args.legs c.args.from c.args.to = record {
+    let asked : IsAsked d q c.args.legs c.args.from c.args.to c.last_metric.result = record {
       links = c.listed.ensures.links;
       listed = c.listed.ensures.listed;
       few = c.listed.ensures.few;
@@ -30,6 +30,7 @@ loop-at-init c =
       most = c.requires.most;
       start = c.requires.from;
       end = c.requires.to;
+      bounds = c.last_metric.ensures;
     } in
     let after = rw (c.deref-2.ensures.value, c.in_ok-nodes.ensures) at c.in_ok-expand.ensures.after in
     let put =
@@ -39,7 +40,7 @@ loop-at-init c =
       arena = root_nodes q;
       few = omega (arith, c.requires.count);
       settled = root_settled d q;
-      left = first_left d q legs c.args.from c.args.to asked;
+      left = first_left d q legs c.args.from c.args.to c.last_metric.result asked;
       labels = rw put after;
     })
 
@@ -48,7 +49,7 @@ returns-then-at-goal-clause-arena c =
     let d = c.args.table.now in
     let q = c.args.request.now in
     let legs = c.args.legs in
-    let asked : IsAsked d q c.args.legs c.args.from c.args.to = record {
+    let asked : IsAsked d q c.args.legs c.args.from c.args.to c.last_metric.result = record {
       links = c.listed.ensures.links;
       listed = c.listed.ensures.listed;
       few = c.listed.ensures.few;
@@ -56,11 +57,12 @@ returns-then-at-goal-clause-arena c =
       most = c.requires.most;
       start = c.requires.from;
       end = c.requires.to;
+      bounds = c.last_metric.ensures;
     } in
     let nodes = c.loop-at.nodes.items in
     let labels = c.loop-at.labels.items in
     let keys = heap_items c.loop-at.heap in
-    let before : IsUnderWay d q c.args.legs c.args.to c.loop-at.nodes.items c.loop-at.labels.items (heap_items c.loop-at.heap) = record {
+    let before : IsUnderWay d q c.args.legs c.args.to c.last_metric.result c.loop-at.nodes.items c.loop-at.labels.items (heap_items c.loop-at.heap) = record {
       arena = c.loop-at.invariant.arena;
       settled = c.loop-at.invariant.settled;
       left = c.loop-at.invariant.left;
@@ -72,14 +74,14 @@ returns-then-at-goal-clause-arena c =
     let node = c.node_of-node.result in
     let label = get_or_read labels _ _ (omega (arith, least.index.low, c.loop-at.invariant.labels.many)) c.index.ensures no_label in
     let is = (rw c.deref-in-Some.ensures.value at c.node_of-node.ensures) ∙ ap (node_of d nodes) label in
-    rw c.in_ok-extend_from_slice.ensures.items (stepped d q legs c.args.from c.args.to asked nodes labels keys before at rest least node is).0
+    rw c.in_ok-extend_from_slice.ensures.items (stepped d q legs c.args.from c.args.to c.last_metric.result asked nodes labels keys before at rest least node is).0
 
 pub returns-then-at-goal-clause-few : goal.returns-then-at-goal-clause-few
 returns-then-at-goal-clause-few c =
     let d = c.args.table.now in
     let q = c.args.request.now in
     let legs = c.args.legs in
-    let asked : IsAsked d q c.args.legs c.args.from c.args.to = record {
+    let asked : IsAsked d q c.args.legs c.args.from c.args.to c.last_metric.result = record {
       links = c.listed.ensures.links;
       listed = c.listed.ensures.listed;
       few = c.listed.ensures.few;
@@ -87,11 +89,12 @@ returns-then-at-goal-clause-few c =
       most = c.requires.most;
       start = c.requires.from;
       end = c.requires.to;
+      bounds = c.last_metric.ensures;
     } in
     let nodes = c.loop-at.nodes.items in
     let labels = c.loop-at.labels.items in
     let keys = heap_items c.loop-at.heap in
-    let before : IsUnderWay d q c.args.legs c.args.to c.loop-at.nodes.items c.loop-at.labels.items (heap_items c.loop-at.heap) = record {
+    let before : IsUnderWay d q c.args.legs c.args.to c.last_metric.result c.loop-at.nodes.items c.loop-at.labels.items (heap_items c.loop-at.heap) = record {
       arena = c.loop-at.invariant.arena;
       settled = c.loop-at.invariant.settled;
       left = c.loop-at.invariant.left;
@@ -103,14 +106,14 @@ returns-then-at-goal-clause-few c =
     let node = c.node_of-node.result in
     let label = get_or_read labels _ _ (omega (arith, least.index.low, c.loop-at.invariant.labels.many)) c.index.ensures no_label in
     let is = (rw c.deref-in-Some.ensures.value at c.node_of-node.ensures) ∙ ap (node_of d nodes) label in
-    rw c.in_ok-extend_from_slice.ensures.items (stepped_few d q legs c.args.from c.args.to asked nodes labels keys before at rest least node is)
+    rw c.in_ok-extend_from_slice.ensures.items (stepped_few d q legs c.args.from c.args.to c.last_metric.result asked nodes labels keys before at rest least node is)
 
 pub returns-then-at-goal-clause-settled : goal.returns-then-at-goal-clause-settled
 returns-then-at-goal-clause-settled c =
     let d = c.args.table.now in
     let q = c.args.request.now in
     let legs = c.args.legs in
-    let asked : IsAsked d q c.args.legs c.args.from c.args.to = record {
+    let asked : IsAsked d q c.args.legs c.args.from c.args.to c.last_metric.result = record {
       links = c.listed.ensures.links;
       listed = c.listed.ensures.listed;
       few = c.listed.ensures.few;
@@ -118,11 +121,12 @@ returns-then-at-goal-clause-settled c =
       most = c.requires.most;
       start = c.requires.from;
       end = c.requires.to;
+      bounds = c.last_metric.ensures;
     } in
     let nodes = c.loop-at.nodes.items in
     let labels = c.loop-at.labels.items in
     let keys = heap_items c.loop-at.heap in
-    let before : IsUnderWay d q c.args.legs c.args.to c.loop-at.nodes.items c.loop-at.labels.items (heap_items c.loop-at.heap) = record {
+    let before : IsUnderWay d q c.args.legs c.args.to c.last_metric.result c.loop-at.nodes.items c.loop-at.labels.items (heap_items c.loop-at.heap) = record {
       arena = c.loop-at.invariant.arena;
       settled = c.loop-at.invariant.settled;
       left = c.loop-at.invariant.left;
@@ -134,14 +138,14 @@ returns-then-at-goal-clause-settled c =
     let node = c.node_of-node.result in
     let label = get_or_read labels _ _ (omega (arith, least.index.low, c.loop-at.invariant.labels.many)) c.index.ensures no_label in
     let is = (rw c.deref-in-Some.ensures.value at c.node_of-node.ensures) ∙ ap (node_of d nodes) label in
-    rw c.in_ok-extend_from_slice.ensures.items (stepped d q legs c.args.from c.args.to asked nodes labels keys before at rest least node is).1
+    rw c.in_ok-extend_from_slice.ensures.items (stepped d q legs c.args.from c.args.to c.last_metric.result asked nodes labels keys before at rest least node is).1
 
 pub returns-then-at-goal-clause-whole : goal.returns-then-at-goal-clause-whole
 returns-then-at-goal-clause-whole c =
     let d = c.args.table.now in
     let q = c.args.request.now in
     let legs = c.args.legs in
-    let asked : IsAsked d q c.args.legs c.args.from c.args.to = record {
+    let asked : IsAsked d q c.args.legs c.args.from c.args.to c.last_metric.result = record {
       links = c.listed.ensures.links;
       listed = c.listed.ensures.listed;
       few = c.listed.ensures.few;
@@ -149,11 +153,12 @@ returns-then-at-goal-clause-whole c =
       most = c.requires.most;
       start = c.requires.from;
       end = c.requires.to;
+      bounds = c.last_metric.ensures;
     } in
     let nodes = c.loop-at.nodes.items in
     let labels = c.loop-at.labels.items in
     let keys = heap_items c.loop-at.heap in
-    let before : IsUnderWay d q c.args.legs c.args.to c.loop-at.nodes.items c.loop-at.labels.items (heap_items c.loop-at.heap) = record {
+    let before : IsUnderWay d q c.args.legs c.args.to c.last_metric.result c.loop-at.nodes.items c.loop-at.labels.items (heap_items c.loop-at.heap) = record {
       arena = c.loop-at.invariant.arena;
       settled = c.loop-at.invariant.settled;
       left = c.loop-at.invariant.left;
@@ -165,14 +170,14 @@ returns-then-at-goal-clause-whole c =
     let node = c.node_of-node.result in
     let label = get_or_read labels _ _ (omega (arith, least.index.low, c.loop-at.invariant.labels.many)) c.index.ensures no_label in
     let is = (rw c.deref-in-Some.ensures.value at c.node_of-node.ensures) ∙ ap (node_of d nodes) label in
-    λ none w t x. absurd (at_goal d q legs c.args.from c.args.to asked nodes labels keys before at rest least node is c.if-at-goal.true (rw c.in_ok-extend_from_slice.ensures.items at none))
+    λ none w t x. absurd (at_goal d q legs c.args.from c.args.to c.last_metric.result asked nodes labels keys before at rest least node is c.if-at-goal.true (rw c.in_ok-extend_from_slice.ensures.items at none))
 
 pub expand-requires-in-Some-clause-arena : goal.expand-requires-in-Some-clause-arena
 expand-requires-in-Some-clause-arena c =
     let d = c.args.table.now in
     let q = c.args.request.now in
     let legs = c.args.legs in
-    let asked : IsAsked d q c.args.legs c.args.from c.args.to = record {
+    let asked : IsAsked d q c.args.legs c.args.from c.args.to c.last_metric.result = record {
       links = c.listed.ensures.links;
       listed = c.listed.ensures.listed;
       few = c.listed.ensures.few;
@@ -180,11 +185,12 @@ expand-requires-in-Some-clause-arena c =
       most = c.requires.most;
       start = c.requires.from;
       end = c.requires.to;
+      bounds = c.last_metric.ensures;
     } in
     let nodes = c.loop-at.nodes.items in
     let labels = c.loop-at.labels.items in
     let keys = heap_items c.loop-at.heap in
-    let before : IsUnderWay d q c.args.legs c.args.to c.loop-at.nodes.items c.loop-at.labels.items (heap_items c.loop-at.heap) = record {
+    let before : IsUnderWay d q c.args.legs c.args.to c.last_metric.result c.loop-at.nodes.items c.loop-at.labels.items (heap_items c.loop-at.heap) = record {
       arena = c.loop-at.invariant.arena;
       settled = c.loop-at.invariant.settled;
       left = c.loop-at.invariant.left;
@@ -196,14 +202,14 @@ expand-requires-in-Some-clause-arena c =
     let node = c.node_of-node.result in
     let label = get_or_read labels _ _ (omega (arith, least.index.low, c.loop-at.invariant.labels.many)) c.index.ensures no_label in
     let is = (rw c.deref-in-Some.ensures.value at c.node_of-node.ensures) ∙ ap (node_of d nodes) label in
-    rw (c.deref-in-Some-3.ensures.value, c.in_ok-extend_from_slice.ensures.items) (stepped d q legs c.args.from c.args.to asked nodes labels keys before at rest least node is).0
+    rw (c.deref-in-Some-3.ensures.value, c.in_ok-extend_from_slice.ensures.items) (stepped d q legs c.args.from c.args.to c.last_metric.result asked nodes labels keys before at rest least node is).0
 
 pub expand-requires-in-Some-clause-from : goal.expand-requires-in-Some-clause-from
 expand-requires-in-Some-clause-from c =
     let d = c.args.table.now in
     let q = c.args.request.now in
     let legs = c.args.legs in
-    let asked : IsAsked d q c.args.legs c.args.from c.args.to = record {
+    let asked : IsAsked d q c.args.legs c.args.from c.args.to c.last_metric.result = record {
       links = c.listed.ensures.links;
       listed = c.listed.ensures.listed;
       few = c.listed.ensures.few;
@@ -211,11 +217,12 @@ expand-requires-in-Some-clause-from c =
       most = c.requires.most;
       start = c.requires.from;
       end = c.requires.to;
+      bounds = c.last_metric.ensures;
     } in
     let nodes = c.loop-at.nodes.items in
     let labels = c.loop-at.labels.items in
     let keys = heap_items c.loop-at.heap in
-    let before : IsUnderWay d q c.args.legs c.args.to c.loop-at.nodes.items c.loop-at.labels.items (heap_items c.loop-at.heap) = record {
+    let before : IsUnderWay d q c.args.legs c.args.to c.last_metric.result c.loop-at.nodes.items c.loop-at.labels.items (heap_items c.loop-at.heap) = record {
       arena = c.loop-at.invariant.arena;
       settled = c.loop-at.invariant.settled;
       left = c.loop-at.invariant.left;
@@ -228,14 +235,14 @@ expand-requires-in-Some-clause-from c =
     let label = get_or_read labels _ _ (omega (arith, least.index.low, c.loop-at.invariant.labels.many)) c.index.ensures no_label in
     let is = (rw c.deref-in-Some.ensures.value at c.node_of-node.ensures) ∙ ap (node_of d nodes) label in
     let long : c.len-index.result ≡ length c.loop-at.nodes.items = omega (arith, c.len-index.ensures, c.loop-at.nodes.ok.0) in
-    rw (c.deref-in-Some-3.ensures.value, c.in_ok-extend_from_slice.ensures.items, long) (node_there d q legs c.args.from c.args.to asked nodes labels keys before at rest least node is)
+    rw (c.deref-in-Some-3.ensures.value, c.in_ok-extend_from_slice.ensures.items, long) (node_there d q legs c.args.from c.args.to c.last_metric.result asked nodes labels keys before at rest least node is)
 
 pub expand-requires-in-Some-clause-before : goal.expand-requires-in-Some-clause-before
 expand-requires-in-Some-clause-before c =
     let d = c.args.table.now in
     let q = c.args.request.now in
     let legs = c.args.legs in
-    let asked : IsAsked d q c.args.legs c.args.from c.args.to = record {
+    let asked : IsAsked d q c.args.legs c.args.from c.args.to c.last_metric.result = record {
       links = c.listed.ensures.links;
       listed = c.listed.ensures.listed;
       few = c.listed.ensures.few;
@@ -243,11 +250,12 @@ expand-requires-in-Some-clause-before c =
       most = c.requires.most;
       start = c.requires.from;
       end = c.requires.to;
+      bounds = c.last_metric.ensures;
     } in
     let nodes = c.loop-at.nodes.items in
     let labels = c.loop-at.labels.items in
     let keys = heap_items c.loop-at.heap in
-    let before : IsUnderWay d q c.args.legs c.args.to c.loop-at.nodes.items c.loop-at.labels.items (heap_items c.loop-at.heap) = record {
+    let before : IsUnderWay d q c.args.legs c.args.to c.last_metric.result c.loop-at.nodes.items c.loop-at.labels.items (heap_items c.loop-at.heap) = record {
       arena = c.loop-at.invariant.arena;
       settled = c.loop-at.invariant.settled;
       left = c.loop-at.invariant.left;
@@ -261,14 +269,14 @@ expand-requires-in-Some-clause-before c =
     let is = (rw c.deref-in-Some.ensures.value at c.node_of-node.ensures) ∙ ap (node_of d nodes) label in
     let long : c.len-index.result ≡ length c.loop-at.nodes.items = omega (arith, c.len-index.ensures, c.loop-at.nodes.ok.0) in
     rw (c.deref-in-Some-3.ensures.value, c.in_ok-extend_from_slice.ensures.items, long, c.deref_mut-in-Some.ensures.value)
-    (settle d q legs c.args.from c.args.to asked nodes labels keys before at rest least node is c.if-at-goal.false (record { rank = 0; parent = 0; place = 0; row = 0 }) refl)
+    (settle d q legs c.args.from c.args.to c.last_metric.result asked nodes labels keys before at rest least node is c.if-at-goal.false (record { rank = 0; parent = 0; place = 0; row = 0 }) refl)
 
 pub loop-at-smaller : goal.loop-at-smaller
 loop-at-smaller c =
     let d = c.args.table.now in
     let q = c.args.request.now in
     let legs = c.args.legs in
-    let asked : IsAsked d q c.args.legs c.args.from c.args.to = record {
+    let asked : IsAsked d q c.args.legs c.args.from c.args.to c.last_metric.result = record {
       links = c.listed.ensures.links;
       listed = c.listed.ensures.listed;
       few = c.listed.ensures.few;
@@ -276,11 +284,12 @@ loop-at-smaller c =
       most = c.requires.most;
       start = c.requires.from;
       end = c.requires.to;
+      bounds = c.last_metric.ensures;
     } in
     let nodes = c.loop-at.nodes.items in
     let labels = c.loop-at.labels.items in
     let keys = heap_items c.loop-at.heap in
-    let before : IsUnderWay d q c.args.legs c.args.to c.loop-at.nodes.items c.loop-at.labels.items (heap_items c.loop-at.heap) = record {
+    let before : IsUnderWay d q c.args.legs c.args.to c.last_metric.result c.loop-at.nodes.items c.loop-at.labels.items (heap_items c.loop-at.heap) = record {
       arena = c.loop-at.invariant.arena;
       settled = c.loop-at.invariant.settled;
       left = c.loop-at.invariant.left;
@@ -292,7 +301,7 @@ loop-at-smaller c =
     let node = c.node_of-node.result in
     let label = get_or_read labels _ _ (omega (arith, least.index.low, c.loop-at.invariant.labels.many)) c.index.ensures no_label in
     let is = (rw c.deref-in-Some.ensures.value at c.node_of-node.ensures) ∙ ap (node_of d nodes) label in
-    let new = stepped d q legs c.args.from c.args.to asked nodes labels keys before at rest least node is in
+    let new = stepped d q legs c.args.from c.args.to c.last_metric.result asked nodes labels keys before at rest least node is in
     rw c.in_ok-extend_from_slice.ensures.items (omega (arith, new.2, length_push nodes node, c.requires.count, c.in_ok-expand-2.ensures.few, c.in-Some.ensures.fewer))
 
 pub loop-at-preserved : goal.loop-at-preserved
@@ -300,7 +309,7 @@ loop-at-preserved c =
     let d = c.args.table.now in
     let q = c.args.request.now in
     let legs = c.args.legs in
-    let asked : IsAsked d q c.args.legs c.args.from c.args.to = record {
+    let asked : IsAsked d q c.args.legs c.args.from c.args.to c.last_metric.result = record {
       links = c.listed.ensures.links;
       listed = c.listed.ensures.listed;
       few = c.listed.ensures.few;
@@ -308,11 +317,12 @@ loop-at-preserved c =
       most = c.requires.most;
       start = c.requires.from;
       end = c.requires.to;
+      bounds = c.last_metric.ensures;
     } in
     let nodes = c.loop-at.nodes.items in
     let labels = c.loop-at.labels.items in
     let keys = heap_items c.loop-at.heap in
-    let before : IsUnderWay d q c.args.legs c.args.to c.loop-at.nodes.items c.loop-at.labels.items (heap_items c.loop-at.heap) = record {
+    let before : IsUnderWay d q c.args.legs c.args.to c.last_metric.result c.loop-at.nodes.items c.loop-at.labels.items (heap_items c.loop-at.heap) = record {
       arena = c.loop-at.invariant.arena;
       settled = c.loop-at.invariant.settled;
       left = c.loop-at.invariant.left;
@@ -325,16 +335,16 @@ loop-at-preserved c =
     let label = get_or_read labels _ _ (omega (arith, least.index.low, c.loop-at.invariant.labels.many)) c.index.ensures no_label in
     let is = (rw c.deref-in-Some.ensures.value at c.node_of-node.ensures) ∙ ap (node_of d nodes) label in
     let long : c.len-index.result ≡ length c.loop-at.nodes.items = omega (arith, c.len-index.ensures, c.loop-at.nodes.ok.0) in
-    let new = stepped d q legs c.args.from c.args.to asked nodes labels keys before at rest least node is in
+    let new = stepped d q legs c.args.from c.args.to c.last_metric.result asked nodes labels keys before at rest least node is in
     let after = rw (c.deref-in-Some-3.ensures.value, c.in_ok-extend_from_slice.ensures.items, long) at c.in_ok-expand-2.ensures.after in
     let put =
     put_back c.loop-at.labels.len c.expand-in-Some.new.labels c.deref_mut-in-Some.result.now c.loop-at.labels.items c.in-Some.at (record { rank = 0; parent = 0; place = 0; row = 0 }) c.expand-in-Some.auto.labels
     c.deref_mut-in-Some.ensures.value c.loop-at.labels.ok.0 in
     rw c.in_ok-extend_from_slice.ensures.items (record {
       arena = new.0;
-      few = stepped_few d q legs c.args.from c.args.to asked nodes labels keys before at rest least node is;
+      few = stepped_few d q legs c.args.from c.args.to c.last_metric.result asked nodes labels keys before at rest least node is;
       settled = new.1;
-      left = still_left d q legs c.args.from c.args.to asked nodes labels keys before at rest least node is c.if-at-goal.false;
+      left = still_left d q legs c.args.from c.args.to c.last_metric.result asked nodes labels keys before at rest least node is c.if-at-goal.false;
       labels = rw (put, length_push nodes node) after;
     })
 
@@ -343,7 +353,7 @@ returns-clause-whole c =
     let d = c.args.table.now in
     let q = c.args.request.now in
     let legs = c.args.legs in
-    let asked : IsAsked d q c.args.legs c.args.from c.args.to = record {
+    let asked : IsAsked d q c.args.legs c.args.from c.args.to c.last_metric.result = record {
       links = c.listed.ensures.links;
       listed = c.listed.ensures.listed;
       few = c.listed.ensures.few;
@@ -351,15 +361,16 @@ returns-clause-whole c =
       most = c.requires.most;
       start = c.requires.from;
       end = c.requires.to;
+      bounds = c.last_metric.ensures;
     } in
     let nodes = c.loop-at.nodes.items in
     let labels = c.loop-at.labels.items in
     let keys = heap_items c.loop-at.heap in
-    let before : IsUnderWay d q c.args.legs c.args.to c.loop-at.nodes.items c.loop-at.labels.items (heap_items c.loop-at.heap) = record {
+    let before : IsUnderWay d q c.args.legs c.args.to c.last_metric.result c.loop-at.nodes.items c.loop-at.labels.items (heap_items c.loop-at.heap) = record {
       arena = c.loop-at.invariant.arena;
       settled = c.loop-at.invariant.settled;
       left = c.loop-at.invariant.left;
       labelled = c.loop-at.invariant.labels;
     } in
     let none = rw c.deref-in-loop-at.ensures.value at c.in_default.ensures.none in
-    λ left w t x. ended d q legs c.args.from c.args.to asked nodes labels keys before none w t x
+    λ left w t x. ended d q legs c.args.from c.args.to c.last_metric.result asked nodes labels keys before none w t x

@@ -12,7 +12,7 @@ invariant-loop-at l = record {
   arena : AreNodes l.nodes.items;
   few : length l.nodes.items ≤ l.legs * 1024;
   settled : AreSettled l.table l.request (labels_of l.nodes.items);
-  left : index_of l.nodes.items (state_at l.table l.goal) ≡ None;
+  left : index_of l.nodes.items (state_at l.table l.goal.at) ≡ None;
   labels : AreLabels l.table l.request l.nodes.items (CrossesBelow l.table l.request l.nodes.items (links_of l.table) (length l.nodes.items)) l.goal l.labels.items (heap_items l.heap);
 }
 

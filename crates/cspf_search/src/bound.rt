@@ -1,0 +1,46 @@
+ghost use Rattle.std.specs.Prelude.{◌≡◌, ◌^◌, ◌<◌, ◌≤◌};
+ghost use Rattle.cspf_db.specs.declared.link.Link.{Link as Linked};
+ghost use Rattle.cspf_db.specs.Admissible.{IsAdmissible};
+ghost use Rattle.cspf_search.specs.Frontier.{lift};
+
+use cspf_db::{Request, Table};
+use cspf_graph::accepts;
+
+/// The state that a search is for, and what the last link of a route costs at least.
+#[derive(Clone, Copy, Debug)]
+pub(crate) struct Goal {
+    /// The index of the state: the tail-end, in the last of the legs.
+    pub(crate) at: usize,
+    /// No admissible link that ends at the tail-end has a lower metric.
+    pub(crate) bound: u32,
+}
+
+/// What the key of the state at an index is above its rank: 0 at the tail-end's router, and
+/// elsewhere the bound of the last link.
+pub(crate) fn lift(goal: Goal, at: usize) -> u64
+    ensures value { result ≡ lift goal at }
+    ensures small { result < 2 ^ 46 }
+{
+    if at % 1024 == goal.at % 1024 {
+        0
+    } else {
+        u64::from(goal.bound) * 16384
+    }
+}
+
+/// The least metric of the admissible links that end at the tail-end, or the greatest number where
+/// there is none.
+pub(crate) fn last_metric(table: &Table, request: &Request) -> u32
+    ensures { (l : Linked) → IsAdmissible table.now request.now l → l.to ≡ request.now.to
+        → result ≤ l.metric }
+{
+    let links = table.links();
+    let mut least = u32::MAX;
+    for row in 0..links.len() {
+        let link = links[row];
+        if link.to == request.to && link.metric < least && accepts(&link, request) {
+            least = link.metric;
+        }
+    }
+    least
+}
