@@ -1,23 +1,24 @@
 use Rattle.std.specs.Bool.{OnTrue, OnFalse}
 use mathlib.Core.Bool.{true≢false}
-use Rattle.std.proofs.lemmas.List.{nil_from_length, get_or_default}
-use Rattle.std.proofs.Common.{◌≡◌, ℕ, ◌+◌, ◌-◌, ◌*◌, ◌<◌, ◌≤◌, ◌||◌, Bool, true, false, cond, not, Some, None, is_some, List, [], ◌∷◌, ◌++◌, length, map, refl, sym, ap, ◌∙◌, arith, inl, inr, ◌&&◌, IsTrue, ◌↔◌}
+use Rattle.std.proofs.lemmas.List.{nil_from_length, get_or_default, take_more}
+use Rattle.std.proofs.Common.{◌≡◌, ℕ, zero, suc, All, Contains, take, ◌+◌, ◌-◌, ◌<◌, ◌≤◌, ◌||◌, Bool, true, false, cond, not, Some, None, is_some, List, [], ◌∷◌, ◌++◌, length, map, refl, sym, ap, ◌∙◌, arith, inl, inr, ◌&&◌, IsTrue, ◌↔◌}
 use Rattle.std.specs.Ordering.{nat_cmp, eq_by_cmp, is_eq}
 use Rattle.std.specs.declared.cmp.Ordering.TheVariants.{Less, Equal, Greater}
 use Rattle.std.specs.Cmp.{nat_cmp_total, tied_itself, Equal-is}
-use Rattle.std.specs.List.{IsDistinct, AllByRecursion, list_any, HoldsAt, slice_index_or, Any}
+use Rattle.std.specs.List.{IsDistinct, list_any, HoldsAt, slice_index_or, Any}
 use Rattle.std.specs.FinMap as map
 use Rattle.std.specs.FinMap.Entries.{by_order, put}
 use Rattle.std.specs.FinSet as set
+use Rattle.std.proofs.lemmas.List.Elements.{All-contains, All-weaker, filter_map-append}
 use Rattle.std.proofs.lemmas.List.Folds.{list_any-append, list_any-from_Any}
 use Rattle.cspf_db.specs.declared.link.Link.{Link}
 use Rattle.cspf_db.specs.declared.batch.Change.{Change}
-use Rattle.cspf_db.specs.declared.batch.Change.TheVariants.{Put, Remove}
+use Rattle.cspf_db.specs.declared.batch.Change.TheVariants.{Put}
 use Rattle.cspf_db.specs.Database.{Key, key_of, key_cmp, link_count, router_count, ends_of, EndsAt, HaveOwnKeys}
-use Rattle.cspf_db.specs.Changes.{after_changes}
+use Rattle.cspf_db.specs.Changes.{link_left, after_changes}
 use Rattle.cspf_db.specs.Rows.{database_of}
 use Rattle.cspf_db.specs.RowsLeft.{is_untouched, rows_left, links_put}
-use Rattle.cspf_db.specs.CountedEnds.{with_ends, AnyEndsAt, HasKnownEnds}
+use Rattle.cspf_db.specs.CountedEnds.{with_ends, AnyEndsAt, BringsAtMost}
 use Rattle.cspf_db.specs.Refusals.{AreOnceEach}
 use Rattle.cspf_db.proofs.Keys.{keys_total}
 use Rattle.cspf_db.proofs.Listed.{link_at-database_of}
@@ -227,22 +228,6 @@ known_end rows router q (at, within, ends) tie =
     found (l ∷ rows) at within ends =
         (at, slice_index_or (l ∷ rows) at l, within, get_or_default (l ∷ rows) at (slice_index_or (l ∷ rows) at l) l within, one_end (slice_index_or (l ∷ rows) at l) (ends l))
 
--- the ends of a link that is put are known, where all are
-any_put : (rows : List Link) (q : ℕ) (cs : List Change) → AllByRecursion (HasKnownEnds rows) cs
-    → list_any (λ l. eq_by_cmp nat_cmp q l.from || eq_by_cmp nat_cmp q l.to) (links_put cs) ≡ true
-    → list_any (λ l. eq_by_cmp nat_cmp q l.from || eq_by_cmp nat_cmp q l.to) rows ≡ true
-any_put rows q [] all is = absurd (cc)
-any_put rows q (Remove from local ∷ cs) all is = any_put rows q cs all.1 is
-any_put rows q (Put l ∷ cs) all is =
-    or_cases _ _ _ is (λ from. known_end rows l.from q all.0.0 from)
-    (λ to. known_end rows l.to q all.0.1 to) (λ later. any_put rows q cs all.1 later)
-  where
-    or_cases : {P : Type 0} (a b c : Bool) → ((a || b) || c) ≡ true → (a ≡ true → P)
-        → (b ≡ true → P) → (c ≡ true → P) → P
-    or_cases true b c e f g h = f refl
-    or_cases false true c e f g h = g refl
-    or_cases false false c e f g h = h e
-
 -- one of two tests passes
 or_split : {P : Type 0} (a b : Bool) → (a || b) ≡ true → (a ≡ true → P) → (b ≡ true → P) → P
 or_split true b e f g = f refl
@@ -258,14 +243,21 @@ module _ (rows : List Link) (cs : List Change) (apart : HaveOwnKeys rows) (once 
       ∙ ap set.len
       (sym (with_ends-append set.empty (rows_left rows cs) (links_put cs) ∙ with_ends-empty (rows_after rows cs)))
 
-  -- where both ends of each link that is put are known, there are no more than before
-  pub router_count-known : AllByRecursion (HasKnownEnds rows) cs
-      → router_count (after_changes (database_of rows) cs) ≤ router_count (database_of rows)
-  router_count-known known =
-      rw (sym (ap router_count (database-rows_after rows cs once)), router_count-database_of (rows_after rows cs) (apart-rows_after rows cs apart once), router_count-database_of rows apart)
-      (len-within (ends_of (rows_after rows cs)) _ (λ q is. set.contains-from_list nat_cmp_total (ends_of rows) q ∙ any-ends_of (eq_by_cmp nat_cmp q) rows
-      ∙ or_split _ _
-      (sym (list_any-append _ (rows_left rows cs) (links_put cs)) ∙ sym (any-ends_of (eq_by_cmp nat_cmp q) (rows_after rows cs)) ∙ is) (any_left _ rows cs) (any_put rows q cs known)))
+  -- where the changes bring few routers to those of the rows, there are no more than so many more
+  pub router_count-brought : (routers : List ℕ) (most : ℕ) → All (λ r. set.contains (set.from_list {R = nat_cmp} (ends_of rows)) r ≡ true) routers → BringsAtMost routers cs most
+      → router_count (after_changes (database_of rows) cs) ≤ router_count (database_of rows) + most
+  router_count-brought routers most inside brings =
+      let all : set.FinSet nat_cmp = set.from_list (ends_of rows) in
+      let grown : set.FinSet nat_cmp = with_ends all (links_put cs) in
+      let within : set.len (set.from_list {R = nat_cmp} (ends_of (rows_after rows cs))) ≤ set.len grown =
+      len-within (ends_of (rows_after rows cs)) grown (λ q is.
+      contains-with_ends all (links_put cs) q
+      ∙ or_split (list_any (λ l. eq_by_cmp nat_cmp q l.from || eq_by_cmp nat_cmp q l.to) (rows_left rows cs)) (list_any (λ l. eq_by_cmp nat_cmp q l.from || eq_by_cmp nat_cmp q l.to) (links_put cs))
+      (sym (list_any-append _ (rows_left rows cs) (links_put cs)) ∙ sym (any-ends_of (eq_by_cmp nat_cmp q) (rows_after rows cs)) ∙ is)
+      (λ left. ap (λ b. b || list_any (eq_by_cmp nat_cmp q) (ends_of (links_put cs))) (set.contains-from_list nat_cmp_total (ends_of rows) q ∙ any-ends_of (eq_by_cmp nat_cmp q) rows ∙ any_left _ rows cs left))
+      (λ put. or_right (set.contains all q) _ (any-ends_of (eq_by_cmp nat_cmp q) (links_put cs) ∙ put))) in
+      omega
+      (arith, within, brings all inside, ap router_count (database-rows_after rows cs once), router_count-database_of (rows_after rows cs) (apart-rows_after rows cs apart once), router_count-database_of rows apart)
 
 -- to add a router adds one at most
 len-insert-most : (s : set.FinSet nat_cmp) (k : ℕ) → set.len (set.insert s k) ≤ set.len s + 1
@@ -276,34 +268,33 @@ len-insert-most s k =
     one_more true n = omega arith
     one_more false n = omega arith
 
--- to add the ends of links adds two for each at most
-len-with_ends-most : (s : set.FinSet nat_cmp) (links : List Link)
-    → set.len (with_ends s links) ≤ set.len s + 2 * length links
-len-with_ends-most s [] = omega arith
-len-with_ends-most s (l ∷ links) =
+-- to add a router that is there adds none
+one_end : (s : set.FinSet nat_cmp) (k most : ℕ) → (most ≡ 0 → set.contains s k ≡ true) → set.len (set.insert s k) ≤ set.len s + most
+one_end s k zero there = omega (arith, set.len-insert nat_cmp_total s k ∙ ap (λ b. cond b (set.len s) (set.len s + 1)) (there refl))
+one_end s k (suc most) there = omega (arith, len-insert-most s k)
+
+-- a put brings those of its ends that are not among the routers
+pub brings_put : (routers : List ℕ) (l : Link) (m n : ℕ) → (m ≡ 0 → Contains routers l.from) → (n ≡ 0 → Contains routers l.to) → BringsAtMost routers (Put l ∷ []) (m + n)
+brings_put routers l m n from to s inside =
+    let there : (r : ℕ) → Contains routers r → set.contains s r ≡ true = λ r. All-contains (λ q. set.contains s q ≡ true) routers r inside in
     omega
-    (arith, len-with_ends-most (set.insert (set.insert s l.from) l.to) links, len-insert-most (set.insert s l.from) l.to, len-insert-most s l.from)
+    (arith, one_end s l.from m (λ e. there l.from (from e)), one_end (set.insert s l.from) l.to n (λ e. set.contains-insert nat_cmp_total s l.from l.to ∙ or_right (eq_by_cmp nat_cmp l.to l.from) _ (there l.to (to e))))
 
--- changes put one link each at most
-length-links_put-le : (cs : List Change) → length (links_put cs) ≤ length cs
-length-links_put-le [] = omega arith
-length-links_put-le (Put l ∷ cs) = omega (arith, length-links_put-le cs)
-length-links_put-le (Remove from local ∷ cs) = omega (arith, length-links_put-le cs)
-
--- the rows that are left have no more routers than all
-len-left-le : (rows : List Link) (cs : List Change) → HaveOwnKeys rows
-    → set.len (with_ends set.empty (rows_left rows cs)) ≤ router_count (database_of rows)
-len-left-le rows cs apart =
-    rw (with_ends-empty (rows_left rows cs), router_count-database_of rows apart)
-    (len-within (ends_of (rows_left rows cs)) (set.from_list (ends_of rows)) (λ q is. set.contains-from_list nat_cmp_total (ends_of rows) q ∙ any-ends_of (eq_by_cmp nat_cmp q) rows
-    ∙ any_left _ rows cs (sym (any-ends_of (eq_by_cmp nat_cmp q) (rows_left rows cs)) ∙ is)))
-
--- changes bring two routers each at most
-pub router_count-most : (rows : List Link) (cs : List Change) → HaveOwnKeys rows → AreOnceEach cs
-    → router_count (after_changes (database_of rows) cs) ≤ router_count (database_of rows) + 2 * length cs
-router_count-most rows cs apart once =
-    omega
-    (arith, router_count-after rows cs apart once, len-with_ends-most (with_ends set.empty (rows_left rows cs)) (links_put cs), len-left-le rows cs apart, length-links_put-le cs)
+-- changes and one more bring what both do
+pub brings_more : (routers : List ℕ) (cs : List Change) (at : ℕ) (c : Change) (m n : ℕ) → at < length cs → c ≡ slice_index_or cs at c → BringsAtMost routers (take at cs) m → BringsAtMost routers (c ∷ []) n
+    → BringsAtMost routers (take (at + 1) cs) (m + n)
+brings_more routers cs at c m n h read first second s inside =
+    let before : List Link = links_put (take at cs) in
+    let grown : set.FinSet nat_cmp = with_ends s before in
+    let both : links_put (take (at + 1) cs) ≡ before ++ links_put (c ∷ []) =
+    ap links_put (take_more cs at c h ∙ ap (λ b. take at cs ++ b ∷ []) (sym read)) ∙ filter_map-append link_left (take at cs) (c ∷ []) in
+    omega (
+      arith,
+      first s inside,
+      second grown (All-weaker (λ r. set.contains s r ≡ true) (λ r. set.contains grown r ≡ true) (λ r is. contains-with_ends s before r ∙ ap (λ b. b || list_any (eq_by_cmp nat_cmp r) (ends_of before)) is) routers inside),
+      ap set.len (with_ends-append s before (links_put (c ∷ []))),
+      ap (λ ls. set.len (with_ends s ls)) both,
+    )
 
 -- what adding all ends tells of the number of routers
 module _ (rows : List Link) (cs : List Change) (apart : HaveOwnKeys rows) (once : AreOnceEach cs) where

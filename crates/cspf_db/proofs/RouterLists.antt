@@ -1,8 +1,8 @@
-use Rattle.std.proofs.Common.{◌≡◌, ℕ, ◌+◌, ◌<◌, ◌≤◌, ◌↔◌, Bool, true, false, cond, T, IsTrue, Option, List, [], ◌∷◌, ◌-◌, Contains, length, map, take, drop, get_or, slice_index, Result, Ok, Err, IfOk, IfErr, IfNone, is_some, is_ok, nat_lt, nat_eq, nat_eq, refl, sym, ap, subst, ◌∙◌, arith}
-use Rattle.std.specs.Ordering.{nat_cmp, eq_by_cmp}
+use Rattle.std.proofs.Common.{◌≡◌, ℕ, ◌+◌, ◌<◌, ◌≤◌, ◌↔◌, Bool, true, false, cond, T, IsTrue, Option, List, [], ◌∷◌, ◌-◌, All, Contains, length, map, take, drop, get_or, slice_index, Result, Ok, Err, IfOk, IfErr, IfNone, is_some, is_ok, nat_lt, nat_eq, nat_eq, refl, sym, ap, subst, ◌∙◌, arith}
+use Rattle.std.specs.Ordering.{nat_cmp, eq_by_cmp, is_eq}
 use Rattle.std.specs.declared.cmp.Ordering.TheVariants.{Less, Equal, Greater}
 use Rattle.std.specs.Cmp.{nat_cmp_total, ranked, Equal-is, eq_by_cmp_equiv, tied_itself}
-use Rattle.std.specs.List.{HoldsAt, list_any, between, filter, insert, AllByRecursion}
+use Rattle.std.specs.List.{HoldsAt, list_any, between, filter, insert}
 use Rattle.std.specs.List.Sorted.{IsPartitionPoint, IsBinarySearchResult, IsStrictlyIncreasing}
 use Rattle.std.specs.Result.{result_ok}
 use Rattle.std.specs.FinMap as finite
@@ -14,9 +14,7 @@ use Rattle.std.proofs.lemmas.List.Elements.{Contains-get_or}
 use Rattle.std.proofs.lemmas.Map.Views.{list_any-from_Contains, Contains-from_any}
 use Rattle.std.proofs.lemmas.Bool.Decides.{nat_tests}
 use Rattle.cspf_db.specs.declared.link.Link.{Link}
-use Rattle.cspf_db.specs.declared.batch.Change.{Change}
-use Rattle.cspf_db.specs.declared.batch.Change.TheVariants.{Put, Remove}
-use Rattle.cspf_db.specs.CountedEnds.{AnyEndsAt, HasKnownEnds, HasListedEnds}
+use Rattle.cspf_db.specs.CountedEnds.{AnyEndsAt}
 use Rattle.cspf_db.specs.Database.{Database, IsRouterOf, EndsAt, AreAtTheirKeys, ends_of, all_routers, router_count}
 use Rattle.cspf_db.specs.Index.{with_nothing, numbers_in, links_of, router_list, links_from_index}
 use Rattle.cspf_db.specs.Rows.{database_of, AreRising, AreByKey, AreEndsOf}
@@ -24,6 +22,7 @@ use Rattle.cspf_db.proofs.InOrder.{test_from_true, true_from_test, put-gap, rise
 use Rattle.cspf_db.proofs.Ordered.{links_of-database_of, own_keys}
 use Rattle.cspf_db.proofs.Listed.{rows_listed, rows_keyed}
 use Rattle.cspf_db.proofs.Counted.{routers_counted}
+use Rattle.cspf_db.proofs.Counting.{any-ends_of, known_end}
 
 -- where a search for a router finds none
 pub router_gap : (routers : List ℕ) (router : ℕ) (r : Result ℕ ℕ) → AreRising routers → IsBinarySearchResult (λ y. nat_cmp y router) routers r
@@ -160,9 +159,9 @@ listed_end rows routers router by_key all among =
     let has = (rows_listed rows (own_keys rows by_key)).whole is.0 is.1 in
     (has.0, has.1, λ d. subst (EndsAt router) (sym (get_or_default rows has.0 d is.0 has.1 ∙ has.2)) is.2)
 
--- where the ends of what changes put are in the list, they are ends of rows
-pub ends_known : (rows : List Link) (routers : List ℕ) → AreByKey rows → routers ≡ router_list (database_of rows) → (cs : List Change) → AllByRecursion (HasListedEnds routers) cs → AllByRecursion (HasKnownEnds rows) cs
-ends_known rows routers by_key all [] known = tt
-ends_known rows routers by_key all (Put l ∷ cs) known =
-    ((listed_end rows routers l.from by_key all known.0.0, listed_end rows routers l.to by_key all known.0.1), ends_known rows routers by_key all cs known.1)
-ends_known rows routers by_key all (Remove from local ∷ cs) known = (tt, ends_known rows routers by_key all cs known.1)
+-- the routers of the list are among the ends of the rows
+pub ends_listed : (rows : List Link) (routers : List ℕ) → AreByKey rows → routers ≡ router_list (database_of rows) → All (λ r. set.contains (set.from_list {R = nat_cmp} (ends_of rows)) r ≡ true) routers
+ends_listed rows routers by_key all k d h =
+    let router : ℕ = get_or routers k d in
+    set.contains-from_list nat_cmp_total (ends_of rows) router ∙ any-ends_of (eq_by_cmp nat_cmp router) rows
+    ∙ known_end rows router router (listed_end rows routers router by_key all (Contains-get_or routers k d h)) (ap is_eq (tied_itself nat_cmp_total router))

@@ -1,12 +1,13 @@
 -- Private: how the ends of links are counted.
-use Rattle.std.specs.Prelude.{ℕ, Bool, ◌||◌, nat_eq, List, [], ◌∷◌, length, ◌<◌, Contains}
+use Rattle.std.specs.Prelude.{ℕ, Bool, ◌||◌, nat_eq, List, [], ◌∷◌, length, ◌≡◌, ◌+◌, ◌<◌, ◌≤◌, true, All, Contains}
 use Rattle.std.specs.Ordering.{nat_cmp}
 use Rattle.std.specs.List.{HoldsAt, list_any}
-use Rattle.std.specs.FinSet.{FinSet, insert}
+use Rattle.std.specs.FinSet.{FinSet, insert, contains, len}
 use Rattle.cspf_db.specs.declared.link.Link.{Link}
 use Rattle.cspf_db.specs.declared.batch.Change.{Change}
 use Rattle.cspf_db.specs.declared.batch.Change.TheVariants.{Put, Remove}
 use Rattle.cspf_db.specs.Database.{EndsAt}
+use Rattle.cspf_db.specs.RowsLeft.{links_put}
 
 -- a set of routers, and both ends of the links
 abbrev pub with_ends : FinSet nat_cmp → List Link → FinSet nat_cmp
@@ -29,12 +30,14 @@ any_to links router = list_any (λ l. nat_eq l.to router) links
 abbrev pub is_end_of : List Link → ℕ → Bool
 is_end_of links router = any_to links router || any_from links router
 
--- both ends of the link that the change puts, if it does, are ends of the links
-abbrev pub HasKnownEnds : List Link → Change → Type 0
-HasKnownEnds links (Put l) = AnyEndsAt links l.from × AnyEndsAt links l.to
-HasKnownEnds links (Remove from local) = Unit {0}
-
 -- both ends of the link that the change puts, if it does, are among the routers
 abbrev pub HasListedEnds : List ℕ → Change → Type 0
 HasListedEnds routers (Put l) = Contains routers l.from × Contains routers l.to
 HasListedEnds routers (Remove from local) = Unit {0}
+
+-- the changes bring at most so many routers that are not among these: the ends of what they put add
+-- no more to a set that has these
+abbrev pub BringsAtMost : List ℕ → List Change → ℕ → Type 0
+BringsAtMost routers changes most =
+    (s : FinSet nat_cmp) → All (λ r. contains s r ≡ true) routers
+    → len (with_ends s (links_put changes)) ≤ len s + most

@@ -1,4 +1,4 @@
-ghost use Rattle.std.specs.Prelude.{count_by, ◌≡◌, ℕ, ◌+◌, ◌*◌, ◌<◌, ◌≤◌, ◌↔◌, true, false, All, length, map, IfSome, IfNone, IsTrue, OnOk, IfErr};
+ghost use Rattle.std.specs.Prelude.{count_by, ◌≡◌, ℕ, ◌+◌, ◌*◌, ◌<◌, ◌≤◌, ◌↔◌, [], ◌∷◌, true, false, All, Contains, length, map, IfSome, IfNone, IsTrue, OnOk, IfErr};
 ghost use Rattle.std.specs.Bool.{OnTrue, OnFalse};
 ghost use Rattle.std.specs.List.{HoldsAt, AllWithin, IsDistinct};
 ghost use Rattle.std.specs.FinSet as set;
@@ -9,7 +9,7 @@ ghost use Rattle.cspf_db.specs.Changes.{after_changes, key_changed, IsPresent, F
 ghost use Rattle.cspf_db.specs.Rows.{database_of, AreByKey, AreRising};
 ghost use Rattle.cspf_db.specs.RepeatedKeys.{is_changed, IsNewAt, IsRepeatedAt};
 ghost use Rattle.cspf_db.specs.RowsLeft.{is_untouched, rows_left, links_put, adds_link, removes_link};
-ghost use Rattle.cspf_db.specs.CountedEnds.{with_ends, HasListedEnds};
+ghost use Rattle.cspf_db.specs.CountedEnds.{with_ends, HasListedEnds, BringsAtMost};
 ghost use Rattle.cspf_db.specs.Refusals.{RemovesNothing, AreOnceEach, ArePresent, IsRefusal};
 
 use crate::router_list::is_among;
@@ -255,17 +255,44 @@ fn knows_ends_of(routers: &[Addr], change: &Change) -> bool
     }
 }
 
-/// Whether so few changes can't bring more than 1,024 routers: each brings two at most.
-fn are_within(routers: &[Addr], changes: &[Change]) -> bool
-    requires few { length routers.now ≤ 1024 }
-    requires short { length changes.now ≤ 4096 }
-    ensures { result ≡ true → length routers.now + 2 * length changes.now ≤ 1024 }
+/// 0 where the router is among them, and else 1.
+fn count_new(routers: &[Addr], router: Addr) -> usize
+    requires { AreRising routers.now }
+    ensures few { result ≤ 1 }
+    ensures none { result ≡ 0 → Contains routers.now router }
 {
-    routers.len() + 2 * changes.len() <= ROUTERS
+    if is_among(routers, router) { 0 } else { 1 }
 }
 
-/// Whether there are more than 1,024 routers after the changes. Where they bring no new router, or
-/// few enough, there is nothing to count.
+/// How many ends of the link that the change puts, if it does, are not among the routers.
+fn count_new_ends_of(routers: &[Addr], change: &Change) -> usize
+    requires { AreRising routers.now }
+    ensures few { result ≤ 2 }
+    ensures most { BringsAtMost routers.now (change.now ∷ []) result }
+{
+    match change {
+        Change::Put(link) => count_new(routers, link.from) + count_new(routers, link.to),
+        Change::Remove { .. } => 0,
+    }
+}
+
+/// How many ends of the links that the changes put are not among the routers. An end of several
+/// links is counted for each.
+fn count_new_ends(routers: &[Addr], changes: &[Change]) -> usize
+    requires rising { AreRising routers.now }
+    requires short { length changes.now ≤ 4096 }
+    ensures few { result ≤ 2 * length changes.now }
+    ensures most { BringsAtMost routers.now changes.now result }
+{
+    let mut count = 0;
+    for change in changes {
+        count += count_new_ends_of(routers, change);
+    }
+    count
+}
+
+/// Whether there are more than 1,024 routers after the changes. Where they bring few enough new ones,
+/// the ends of the rows need no count.
 fn has_too_many_routers(rows: &[Link], routers: &[Addr], changes: &[Change]) -> bool
     requires by_key { AreByKey rows.now }
     requires all { routers.now ≡ router_list (database_of rows.now) }
@@ -275,10 +302,7 @@ fn has_too_many_routers(rows: &[Link], routers: &[Addr], changes: &[Change]) -> 
     ensures { IsTrue result
         ↔ 1024 < router_count (after_changes (database_of rows.now) changes.now) }
 {
-    if knows_ends(routers, changes) {
-        return false;
-    }
-    if are_within(routers, changes) {
+    if routers.len() + count_new_ends(routers, changes) <= ROUTERS {
         return false;
     }
     let mut found = Routers::new();

@@ -1,20 +1,20 @@
 use Rattle.std.proofs.Common.{length, refl, ap, ◌∙◌, arith}
 use Rattle.std.specs.FinSet as set
 use Rattle.std.specs.Ordering.{nat_cmp}
-use Rattle.std.proofs.lemmas.List.Elements.{recursion_from_All}
 use Rattle.cspf_db.specs.Rows.{database_of}
 use Rattle.cspf_db.specs.RowsLeft.{rows_left}
-use Rattle.cspf_db.specs.CountedEnds.{HasListedEnds, with_ends}
+use Rattle.cspf_db.specs.CountedEnds.{with_ends}
 use Rattle.cspf_db.proofs.Ordered.{own_keys}
-use Rattle.cspf_db.proofs.RouterLists.{ends_known, rising-router_list, length-router_list}
-use Rattle.cspf_db.proofs.Counting.{router_count-known, router_count-most, many_left, tells_both}
+use Rattle.cspf_db.proofs.RouterLists.{ends_listed, rising-router_list, length-router_list}
+use Rattle.cspf_db.proofs.Counting.{router_count-brought, many_left, tells_both}
 use Rattle.cspf_db.proofs.check.has_too_many_routers.Goals as goal
 use Rattle.cspf_db.proofs.check.has_too_many_routers.Goals.{then-add_rows, else-add_rows}
 
-pub returns-then-knows_ends : goal.returns-then-knows_ends
-returns-then-knows_ends c =
-    let known = router_count-known c.args.rows.now c.args.changes.now (own_keys _ c.requires.by_key) c.requires.once (ends_known c.args.rows.now c.args.routers.now c.requires.by_key c.requires.all c.args.changes.now (recursion_from_All (HasListedEnds c.args.routers.now) c.args.changes.now (c.if-knows_ends.ensures refl))) in
-    ((λ e. absurd (cc)), λ many. absurd (omega (arith, known, many, c.requires.few)))
+pub returns-then-routers-count_new_ends-le-ROUTERS : goal.returns-then-routers-count_new_ends-le-ROUTERS
+returns-then-routers-count_new_ends-le-ROUTERS c =
+    let brought = router_count-brought c.args.rows.now c.args.changes.now (own_keys _ c.requires.by_key) c.requires.once c.args.routers.now c.count_new_ends.result (ends_listed c.args.rows.now c.args.routers.now c.requires.by_key c.requires.all) c.count_new_ends.ensures.most in
+    let listed = ap length c.requires.all ∙ length-router_list (database_of c.args.rows.now) in
+    ((λ e. absurd (cc)), λ many. absurd (omega (arith, brought, many, c.if-routers-count_new_ends-le-ROUTERS.true, listed)))
 
 pub returns : goal.returns
 returns c =
@@ -30,15 +30,5 @@ returns c =
 pub add_rows-requires : goal.add_rows-requires
 add_rows-requires c = rw (c.new-found.ensures, set.len-empty nat_cmp) (omega arith)
 
-pub knows_ends-requires : goal.knows_ends-requires
-knows_ends-requires c = rw c.requires.all (rising-router_list _)
-
-pub returns-then-are_within : goal.returns-then-are_within
-returns-then-are_within c =
-    let most = router_count-most c.args.rows.now c.args.changes.now (own_keys _ c.requires.by_key) c.requires.once in
-    let within = c.if-are_within.ensures refl in
-    let listed = ap length c.requires.all ∙ length-router_list (database_of c.args.rows.now) in
-    ((λ e. absurd (cc)), λ many. absurd (omega (arith, most, many, within, listed)))
-
-pub are_within-requires-clause-few : goal.are_within-requires-clause-few
-are_within-requires-clause-few c = rw (c.requires.all, length-router_list (database_of c.args.rows.now)) c.requires.few
+pub count_new_ends-requires-clause-rising : goal.count_new_ends-requires-clause-rising
+count_new_ends-requires-clause-rising c = rw c.requires.all (rising-router_list _)
