@@ -211,6 +211,9 @@ fn add_rows(routers: &mut Routers, rows: &[Link], changes: &[Change]) -> bool
         (1024 < set.len (with_ends routers.old (rows_left rows.now changes.now))) }
 {
     for row in rows {
+        if routers.has_ends(row) {
+            continue;
+        }
         if is_untouched(row, changes) && !routers.add_ends(row) {
             return false;
         }

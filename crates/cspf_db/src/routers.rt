@@ -1,4 +1,4 @@
-ghost use Rattle.std.specs.Prelude.{◌≡◌, ◌<◌, ◌≤◌, [], ◌∷◌};
+ghost use Rattle.std.specs.Prelude.{◌≡◌, true, ◌<◌, ◌≤◌, [], ◌∷◌};
 ghost use Rattle.std.specs.Bool.{OnTrue, OnFalse};
 ghost use Rattle.std.specs.FinSet as set;
 ghost use Rattle.std.specs.Ordering.{nat_cmp};
@@ -64,6 +64,20 @@ impl Routers {
         self.found[self.count] = router;
         self.count += 1;
         true
+    }
+
+    /// Whether the router with this number is there.
+    fn has(&self, router: u32) -> bool
+        ensures { result ≡ true → self.now ≡ set.insert self.now router }
+    {
+        self.found[..self.count].contains(&router)
+    }
+
+    /// Whether both ends of a link are there, so that they need not be added.
+    pub fn has_ends(&self, link: &Link) -> bool
+        ensures { result ≡ true → self.now ≡ with_ends self.now (link.now ∷ []) }
+    {
+        self.has(link.from.number()) && self.has(link.to.number())
     }
 
     /// Adds both ends of a link. It is false where there would be more than 1,024 routers.
