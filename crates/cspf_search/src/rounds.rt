@@ -1,4 +1,4 @@
-ghost use Rattle.std.specs.Prelude.{◌≡◌, ◌+◌, ◌-◌, ◌%◌, ◌<◌, Some, None, IsTrue, length, slice_get, slice_index_or};
+ghost use Rattle.std.specs.Prelude.{◌≡◌, ◌+◌, ◌-◌, ◌%◌, ◌<◌, ◌↔◌, Some, None, IsTrue, length, slice_get, slice_index_or};
 ghost use Rattle.std.specs.Option.{ForSome, IsSomeAnd};
 ghost use Rattle.cspf_db.specs.Index.{links_of, links_from_index};
 ghost use Rattle.cspf_search.specs.Settled.{state_cmp, locals_cmp};
@@ -58,7 +58,7 @@ fn compare(nodes: &[Node], a: &Node, b: &Node) -> Ordering
 
 /// Whether the best node comes by its rank before any of this cost with so many links.
 fn is_late(best: &Option<Node>, cost: u64, links: usize) -> bool
-    ensures { IsTrue result → IsSomeAnd best.now (λ kept. RanksBefore kept cost links) }
+    ensures { IsTrue result ↔ IsSomeAnd best.now (λ kept. RanksBefore kept cost links) }
 {
     match best {
         Some(kept) => kept.cost < cost || (kept.cost == cost && kept.links < links),

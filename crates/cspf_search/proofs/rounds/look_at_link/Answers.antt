@@ -25,7 +25,7 @@ returns-then-is_late c =
     record {
       after =
           link_late c.args.table.now c.args.request.now c.args.nodes.now c.requires.arena c.args.at c.args.state c.requires.from c.args.best.now c.args.row c.args.link c.requires.row
-          c.args.end c.requires.end c.requires.listed.few c.requires.before small c.index-nodes-at.result from c.from.result c.from.ensures (c.if-is_late.ensures refl);
+          c.args.end c.requires.end c.requires.listed.few c.requires.before small c.index-nodes-at.result from c.from.result c.from.ensures (c.if-is_late.ensures.0 refl);
     }
 
 pub returns-then-not-stand : goal.returns-then-not-stand
