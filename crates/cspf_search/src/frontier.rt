@@ -117,7 +117,8 @@ fn offer_link(
     state: usize,
     rank: u64,
     row: usize,
-    link: Link,
+    link: &Link,
+    metric: u32,
     end: usize,
 ) -> Result<(), AllocError>
     requires arena { AreNodes nodes.now }
@@ -126,8 +127,9 @@ fn offer_link(
     requires goal { IsStateIndex table.now request.now goal.at }
     requires from { IsNodeAt table.now request.now nodes.now at state }
     requires rank { rank ≡ rank_of (slice_index_or nodes.now at nowhere) }
-    requires row { slice_get (links_from_index table.now (state % 1024)) row ≡ Some link }
-    requires end { IsEnd table.now link.to end }
+    requires row { slice_get (links_from_index table.now (state % 1024)) row ≡ Some link.now }
+    requires metric { metric ≡ link.now.metric }
+    requires end { IsEnd table.now link.now.to end }
     requires before { AreLabels table.now request.now nodes.now
         (CrossesUpTo table.now request.now nodes.now at (state % 1024) row)
         goal labels.old (heap_items heap.old) }
@@ -138,7 +140,7 @@ fn offer_link(
 {
     let place = state % 1024;
     let index = state - place + end;
-    let new = rank + u64::from(link.metric) * 16384 + 1;
+    let new = rank + u64::from(metric) * 16384 + 1;
     let kept = labels[index];
     if new > kept.rank {
         return Ok(());
@@ -152,7 +154,7 @@ fn offer_link(
     if !stand.inside {
         return Ok(());
     }
-    if !accepts(&link, request) {
+    if !accepts(link, request) {
         return Ok(());
     }
     let label = Label {
@@ -196,7 +198,7 @@ pub(crate) fn expand(
     let links = table.out_at(state % 1024);
     let ends = table.ends_at(state % 1024);
     for row in 0..links.len() {
-        let link = links[row];
+        let link = &links[row];
         let end = ends[row];
         offer_link(
             table,
@@ -211,6 +213,7 @@ pub(crate) fn expand(
             rank,
             row,
             link,
+            link.metric,
             usize::from(end),
         )?;
     }
