@@ -83,6 +83,15 @@ impl Table {
         self.routers.as_slice()
     }
 
+    /// Beside the links, the index in `routers` of the router that each runs to.
+    pub fn ends(&self) -> &[u16]
+        ensures within { All (λ end. end < length (router_list self.now)) result.now }
+        ensures each { map (λ end. slice_index (router_list self.now) end) result.now
+            ≡ map (λ l. l.to) (links_of self.now) }
+    {
+        self.ends.as_slice()
+    }
+
     /// The index of the router in `routers`, if it is one of them.
     pub fn place_of(&self, router: Addr) -> Option<usize>
         ensures bound { IfSome result (λ at. at < length (router_list self.now)) }

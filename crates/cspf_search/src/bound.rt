@@ -35,11 +35,15 @@ pub(crate) fn last_metric(table: &Table, request: &Request) -> u32
         → result ≤ l.metric }
 {
     let links = table.links();
+    let ends = table.ends();
+    let routers = table.routers();
     let mut least = u32::MAX;
     for row in 0..links.len() {
-        let link = links[row];
-        if link.to == request.to && link.metric < least && accepts(&link, request) {
-            least = link.metric;
+        if routers[usize::from(ends[row])] == request.to {
+            let link = links[row];
+            if link.metric < least && accepts(&link, request) {
+                least = link.metric;
+            }
         }
     }
     least
