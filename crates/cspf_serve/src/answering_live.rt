@@ -4,6 +4,7 @@ ghost use Rattle.cspf_serve.specs.Served.{AreAnswered, AreAnswersWithin, AreSame
 ghost use Rattle.cspf_serve.specs.Applied.{IsAppliedUpTo, IsAppliedInPart};
 ghost use Rattle.cspf_serve.specs.Working.{AreRun, IsIdle};
 
+use crate::askers::tell_each;
 use crate::finishing::{Collected, finish};
 use crate::pool::{Room, employ, run_all};
 use crate::worker::Worker;
@@ -87,18 +88,6 @@ fn run_beside<W: Write, G: Gate + Sync, R: Threads + Wait + Sync>(
     (workers, applied, fault)
 }
 
-/// Tells each asker what is published.
-fn tell_all<W: Write>(publisher: &mut Publisher<W>, askers: &mut Vec<Asker>)
-    requires { All (λ a. a.source ≡ publisher.old.source) askers.old.items }
-    ensures same { publisher.new ≡ publisher.old }
-    ensures askers { AreSameAskers askers.old.items askers.new.items }
-    ensures told { All (λ a. BeginsWith a.batches publisher.old.batches) askers.new.items }
-{
-    for index in 0..askers.len() {
-        askers[index].learn(publisher.tell());
-    }
-}
-
 /// The first answer of a version that isn't published.
 fn unaccounted(list: &[Answer], version: u32) -> Option<ServeError>
     ensures none { IfNone result (All (λ a. a.version ≤ version) list.now) }
@@ -156,7 +145,7 @@ fn run_lent<W: Write, G: Gate + Sync, R: Threads + Wait + Sync>(
     let idle = employ(alloc, askers, workers);
     let (done, applied, fault) = run_beside(rt, alloc, batches, publisher, requests, gate, idle);
     let (mut askers, collected) = finish(alloc, done, free, lists, requests);
-    tell_all(publisher, &mut askers);
+    tell_each(publisher, &mut askers);
     match collected {
         Ok(collected) => match unaccounted(collected.list.as_slice(), publisher.version()) {
             None => (askers, Ok((collected, applied, fault))),

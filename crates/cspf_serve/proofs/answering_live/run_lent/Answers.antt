@@ -21,8 +21,8 @@ finish-askers-requires-clause-inside g c =
     run_inside c.args.requests.now c.args.askers.items c.run_beside-done.result.0.items
     (subst (λ (before : List KnownBatches). AreRun c.args.requests.now before c.run_beside-done.result.0.items) c.employ-idle.ensures.askers c.run_beside-done.ensures.run)
 
-pub tell_all-requires : goal.tell_all-requires
-tell_all-requires g c =
+pub tell_each-requires : goal.tell_each-requires
+tell_each-requires g c =
     sources_kept c.args.publisher.now.source c.run_beside-done.new.publisher.source c.args.askers.items c.finish-askers.result.0.items
     c.run_beside-done.ensures.applied.source c.requires.source
     (run_askers c.args.requests.now c.args.askers.items c.run_beside-done.result.0.items c.finish-askers.result.0.items c.finish-askers.ensures.askers
@@ -30,52 +30,52 @@ tell_all-requires g c =
 
 pub returns-in-None-clause-askers : goal.returns-in-None-clause-askers
 returns-in-None-clause-askers g c =
-    same_through c.args.askers.items c.finish-askers.result.0.items c.tell_all.new.askers.items
+    same_through c.args.askers.items c.finish-askers.result.0.items c.tell_each.new.askers.items
     (run_askers c.args.requests.now c.args.askers.items c.run_beside-done.result.0.items c.finish-askers.result.0.items c.finish-askers.ensures.askers
     (subst (λ (before : List KnownBatches). AreRun c.args.requests.now before c.run_beside-done.result.0.items) c.employ-idle.ensures.askers c.run_beside-done.ensures.run))
-    c.tell_all.ensures.askers
+    c.tell_each.ensures.askers
 
 pub returns-in-Some-clause-askers : goal.returns-in-Some-clause-askers
 returns-in-Some-clause-askers g c =
-    same_through c.args.askers.items c.finish-askers.result.0.items c.tell_all.new.askers.items
+    same_through c.args.askers.items c.finish-askers.result.0.items c.tell_each.new.askers.items
     (run_askers c.args.requests.now c.args.askers.items c.run_beside-done.result.0.items c.finish-askers.result.0.items c.finish-askers.ensures.askers
     (subst (λ (before : List KnownBatches). AreRun c.args.requests.now before c.run_beside-done.result.0.items) c.employ-idle.ensures.askers c.run_beside-done.ensures.run))
-    c.tell_all.ensures.askers
+    c.tell_each.ensures.askers
 
 pub returns-in-Err-clause-askers : goal.returns-in-Err-clause-askers
 returns-in-Err-clause-askers g c =
-    same_through c.args.askers.items c.finish-askers.result.0.items c.tell_all.new.askers.items
+    same_through c.args.askers.items c.finish-askers.result.0.items c.tell_each.new.askers.items
     (run_askers c.args.requests.now c.args.askers.items c.run_beside-done.result.0.items c.finish-askers.result.0.items c.finish-askers.ensures.askers
     (subst (λ (before : List KnownBatches). AreRun c.args.requests.now before c.run_beside-done.result.0.items) c.employ-idle.ensures.askers c.run_beside-done.ensures.run))
-    c.tell_all.ensures.askers
+    c.tell_each.ensures.askers
 
 pub returns-in-None-clause-answers : goal.returns-in-None-clause-answers
 returns-in-None-clause-answers g c =
     let same : AreSameAskers c.args.askers.items c.finish-askers.result.0.items = (run_askers c.args.requests.now c.args.askers.items c.run_beside-done.result.0.items c.finish-askers.result.0.items c.finish-askers.ensures.askers
     (subst (λ (before : List KnownBatches). AreRun c.args.requests.now before c.run_beside-done.result.0.items) c.employ-idle.ensures.askers c.run_beside-done.ensures.run)) in
-    (answered_later c.args.requests.now c.args.askers.items c.finish-askers.result.0.items c.tell_all.new.askers.items c.in-Ok-collected.collected.list.items c.in-Ok-collected.collected.drawn.items
-    (same.count) c.tell_all.ensures.askers
+    (answered_later c.args.requests.now c.args.askers.items c.finish-askers.result.0.items c.tell_each.new.askers.items c.in-Ok-collected.collected.list.items c.in-Ok-collected.collected.drawn.items
+    (same.count) c.tell_each.ensures.askers
     (IfOk-at_ok _ c.in-Ok-collected.is c.finish-askers.ensures.answers c.args.askers.items
     (subst (λ (before : List KnownBatches). AreRun c.args.requests.now before c.run_beside-done.result.0.items) c.employ-idle.ensures.askers c.run_beside-done.ensures.run)))
 
 pub returns-in-None-clause-told : goal.returns-in-None-clause-told
 returns-in-None-clause-told g c =
-    subst (λ (p : PublisherState g.row.W.Denot). All (λ (a : KnownBatches). BeginsWith a.batches p.batches) c.tell_all.new.askers.items) (sym c.tell_all.ensures.same) c.tell_all.ensures.told
+    subst (λ (p : PublisherState g.row.W.Denot). All (λ (a : KnownBatches). BeginsWith a.batches p.batches) c.tell_each.new.askers.items) (sym c.tell_each.ensures.same) c.tell_each.ensures.told
 
 pub returns-in-None-clause-published : goal.returns-in-None-clause-published
 returns-in-None-clause-published g c =
     let same : AreSameAskers c.args.askers.items c.finish-askers.result.0.items = (run_askers c.args.requests.now c.args.askers.items c.run_beside-done.result.0.items c.finish-askers.result.0.items c.finish-askers.ensures.askers
     (subst (λ (before : List KnownBatches). AreRun c.args.requests.now before c.run_beside-done.result.0.items) c.employ-idle.ensures.askers c.run_beside-done.ensures.run)) in
-    let told : All (λ (a : KnownBatches). BeginsWith a.batches c.tell_all.new.publisher.batches) c.tell_all.new.askers.items =
-    subst (λ (p : PublisherState g.row.W.Denot). All (λ (a : KnownBatches). BeginsWith a.batches p.batches) c.tell_all.new.askers.items) (sym c.tell_all.ensures.same) c.tell_all.ensures.told in
+    let told : All (λ (a : KnownBatches). BeginsWith a.batches c.tell_each.new.publisher.batches) c.tell_each.new.askers.items =
+    subst (λ (p : PublisherState g.row.W.Denot). All (λ (a : KnownBatches). BeginsWith a.batches p.batches) c.tell_each.new.askers.items) (sym c.tell_each.ensures.same) c.tell_each.ensures.told in
     let items : c.as_slice.result.now ≡ c.in-Ok-collected.collected.list.items = search rules in
-    let version : c.version.result ≡ length c.tell_all.new.publisher.batches = search rules in
-    let accounted : All (λ (a : Answer). a.version ≤ length c.tell_all.new.publisher.batches) c.in-Ok-collected.collected.list.items =
+    let version : c.version.result ≡ length c.tell_each.new.publisher.batches = search rules in
+    let accounted : All (λ (a : Answer). a.version ≤ length c.tell_each.new.publisher.batches) c.in-Ok-collected.collected.list.items =
     subst (λ (n : ℕ). All (λ (a : Answer). a.version ≤ n) c.in-Ok-collected.collected.list.items) version
     (subst (λ (l : List Answer). All (λ (a : Answer). a.version ≤ c.version.result) l) items c.in-None.ensures.none) in
-    within_published c.args.requests.now c.args.askers.items c.tell_all.new.askers.items c.in-Ok-collected.collected.list.items c.in-Ok-collected.collected.drawn.items c.tell_all.new.publisher.batches
-    ((c.tell_all.ensures.askers).count ∙ same.count) told accounted
-    (answered_later c.args.requests.now c.args.askers.items c.finish-askers.result.0.items c.tell_all.new.askers.items c.in-Ok-collected.collected.list.items c.in-Ok-collected.collected.drawn.items
-    (same.count) c.tell_all.ensures.askers
+    within_published c.args.requests.now c.args.askers.items c.tell_each.new.askers.items c.in-Ok-collected.collected.list.items c.in-Ok-collected.collected.drawn.items c.tell_each.new.publisher.batches
+    ((c.tell_each.ensures.askers).count ∙ same.count) told accounted
+    (answered_later c.args.requests.now c.args.askers.items c.finish-askers.result.0.items c.tell_each.new.askers.items c.in-Ok-collected.collected.list.items c.in-Ok-collected.collected.drawn.items
+    (same.count) c.tell_each.ensures.askers
     (IfOk-at_ok _ c.in-Ok-collected.is c.finish-askers.ensures.answers c.args.askers.items
     (subst (λ (before : List KnownBatches). AreRun c.args.requests.now before c.run_beside-done.result.0.items) c.employ-idle.ensures.askers c.run_beside-done.ensures.run)))
