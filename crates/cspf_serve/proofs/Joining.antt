@@ -16,7 +16,7 @@ use Rattle.cspf_publish.specs.KnownBatches.{KnownBatches}
 use Rattle.cspf_serve.specs.declared.serve_error.ServeError.{ServeError}
 use Rattle.cspf_serve.specs.declared.worker.Reply.{Reply}
 use Rattle.cspf_serve.specs.declared.worker.Worker.{Worker}
-use Rattle.cspf_serve.specs.Served.{IsAnswerWithin, IsServed, IsServedAt, AreServed, AreAnswered, HoldEachOnce, IsFaultOfWorker, once_below, times, version_at}
+use Rattle.cspf_serve.specs.Served.{IsAnswerWithin, IsServed, IsServedAt, AreServed, AreAnsweredByWorkers, HoldEachOnce, IsFaultOfWorker, once_below, times, version_at}
 use Rattle.cspf_serve.specs.Working.{IsDone, HasDone, IsRun, AreRun, AreShare, indexes, share_times}
 use Rattle.cspf_serve.proofs.Running.{at_place}
 use Rattle.cspf_serve.specs.Collected.{IsPlaced, IsCollectError, times_in}
@@ -93,7 +93,7 @@ served_place requests before workers lists list drawn run is i old new ix None h
 
 pub answered : (requests : List Request) (before : List KnownBatches) (workers : List Worker) (lists : List (Vec Reply Global)) (list : List Answer) (drawn : List (Vec ℕ Global)) (after : List KnownBatches)
     → after ≡ map (λ w. w.asker) workers → AreCollected workers lists list drawn → length list ≡ length requests → HoldEachOnce (length requests) drawn
-    → AreRun requests before workers → AreAnswered requests before after list drawn
+    → AreRun requests before workers → AreAnsweredByWorkers requests before after list drawn
 answered requests before workers lists list drawn after askers is count once run =
     let drew = drawn_by workers lists list drawn is in
     record {

@@ -14,7 +14,7 @@ use Rattle.cspf_publish.specs.declared.answer.Answer.{Answer}
 use Rattle.cspf_publish.specs.Answers.{IsAnswerAfter}
 use Rattle.cspf_publish.specs.Histories.{BeginsWith}
 use Rattle.cspf_publish.specs.KnownBatches.{KnownBatches}
-use Rattle.cspf_serve.specs.Served.{IsAnswerWithin, IsServed, IsServedAt, AreServed, AreAnswered, AreAnswersWithin, AreSameAskers, KnowsNoLess, HoldEachOnce, once_below, times, version_at}
+use Rattle.cspf_serve.specs.Served.{IsAnswerWithin, IsServed, IsServedAt, AreServed, AreAnsweredByWorkers, AreAnswersWithin, AreSameAskers, KnowsNoLess, HoldEachOnce, once_below, times, version_at}
 use Rattle.cspf_serve.proofs.Asked.{within_later, take_begins, knows_through}
 use Rattle.cspf_serve.proofs.Running.{at_place}
 
@@ -34,7 +34,7 @@ served_later requests list before mid after indexes more is = record {
 
 -- the same where the askers know more
 pub answered_later : (requests : List Request) (before mid after : List KnownBatches) (list : List Answer) (drawn : List (Vec ℕ Global))
-    → length mid ≡ length before → AreSameAskers mid after → AreAnswered requests before mid list drawn → AreAnswered requests before after list drawn
+    → length mid ≡ length before → AreSameAskers mid after → AreAnsweredByWorkers requests before mid list drawn → AreAnsweredByWorkers requests before after list drawn
 answered_later requests before mid after list drawn count same is = record {
   count = is.count;
   lists = is.lists;
@@ -93,7 +93,7 @@ within_front all first q a more within is = record {
 -- each answer is that of some first published batches
 within_published_at : (requests : List Request) (before after : List KnownBatches) (list : List Answer) (drawn : List (Vec ℕ Global)) (published : List NumberedChanges)
     → length after ≡ length before → All (λ (k : KnownBatches). BeginsWith k.batches published) after → All (λ (a : Answer). a.version ≤ length published) list
-    → AreAnswered requests before after list drawn → (i : ℕ) (q : Request) (a : Answer) → slice_get requests i ≡ Some q → slice_get list i ≡ Some a → IsAnswerWithin published q a
+    → AreAnsweredByWorkers requests before after list drawn → (i : ℕ) (q : Request) (a : Answer) → slice_get requests i ≡ Some q → slice_get list i ≡ Some a → IsAnswerWithin published q a
 within_published_at requests before after list drawn published count told accounted is i q a at there =
     let inside = slice_get_within requests i q at in
     let once : sum_by (λ (l : Vec ℕ Global). times i l.items) drawn ≡ 1 = is.once i ∙ (let one : once_below (length requests) i ≡ 1 = grind (arith, nat_tests) in one) in
@@ -113,7 +113,7 @@ within_published_at requests before after list drawn published count told accoun
 
 pub within_published : (requests : List Request) (before after : List KnownBatches) (list : List Answer) (drawn : List (Vec ℕ Global)) (published : List NumberedChanges)
     → length after ≡ length before → All (λ (k : KnownBatches). BeginsWith k.batches published) after → All (λ (a : Answer). a.version ≤ length published) list
-    → AreAnswered requests before after list drawn → AreAnswersWithin published requests list
+    → AreAnsweredByWorkers requests before after list drawn → AreAnswersWithin published requests list
 within_published requests before after list drawn published count told accounted is =
     record { each = within_published_at requests before after list drawn published count told accounted is }
 

@@ -66,7 +66,7 @@ abbrev pub IsFaultOfWorker : ServeError → Type 0
 IsFaultOfWorker e = (e ≡ Memory) ⊎ (e ≡ NoEntry)
 
 -- Workers answered all requests: each request's index stands once in the lists of those that drew it.
-pub record AreAnswered (requests : List Request) (before after : List KnownBatches) (list : List Answer) (drawn : List (Vec ℕ Global)) : Type 0 where
+pub record AreAnsweredByWorkers (requests : List Request) (before after : List KnownBatches) (list : List Answer) (drawn : List (Vec ℕ Global)) : Type 0 where
   pub count : length list ≡ length requests
   pub lists : length drawn ≡ length before
   pub once : HoldEachOnce (length requests) drawn

@@ -1,5 +1,5 @@
 ghost use Rattle.std.specs.Prelude.{◌<◌, ◌≤◌, length, IfOk, IfErr, vec_len};
-ghost use Rattle.cspf_serve.specs.Served.{AreAnswered, AreSameAskers, IsFaultOfWorker};
+ghost use Rattle.cspf_serve.specs.Served.{AreAnsweredByWorkers, AreSameAskers, IsFaultOfWorker};
 
 use crate::finishing::{Collected, finish};
 use crate::pool::{Room, employ, run_workers};
@@ -24,7 +24,7 @@ pub fn answer_all<G: Gate + Sync, R: Threads + Sync>(
 ) -> Result<Answers, (ServeError, Vec<Asker>)>
     requires askers { (0 < vec_len askers) × (vec_len askers ≤ 64) }
     requires requests { length requests.now ≤ 1000000 }
-    ensures answers { IfOk result (λ all. AreAnswered requests.now
+    ensures answers { IfOk result (λ all. AreAnsweredByWorkers requests.now
         askers.items all.askers.items all.list.items all.drawn.items) }
     ensures askers { IfOk result (λ all. AreSameAskers askers.items all.askers.items) }
     // With fixed shares no request is left out and none is answered twice.

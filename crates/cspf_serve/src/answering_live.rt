@@ -1,6 +1,6 @@
 ghost use Rattle.std.specs.Prelude.{◌≡◌, ◌⊎◌, ◌<◌, ◌≤◌, length, map, All, IfOk, IfErr, IfSome, IfNone, vec_len};
 ghost use Rattle.cspf_publish.specs.Histories.{BeginsWith};
-ghost use Rattle.cspf_serve.specs.Served.{AreAnswered, AreAnswersWithin, AreSameAskers, IsFaultOfWorker, IsUnaccounted};
+ghost use Rattle.cspf_serve.specs.Served.{AreAnsweredByWorkers, AreAnswersWithin, AreSameAskers, IsFaultOfWorker, IsUnaccounted};
 ghost use Rattle.cspf_serve.specs.Applied.{IsAppliedUpTo, IsAppliedInPart};
 ghost use Rattle.cspf_serve.specs.Working.{AreRun, IsIdle};
 
@@ -122,7 +122,7 @@ fn run_lent<W: Write, G: Gate + Sync, R: Threads + Wait + Sync>(
     requires source { All (λ a. a.source ≡ publisher.old.source) askers.items }
     requires requests { length requests.now ≤ 1000000 }
     ensures askers { AreSameAskers askers.items result.0.items }
-    ensures answers { IfOk result.1 (λ all. AreAnswered requests.now
+    ensures answers { IfOk result.1 (λ all. AreAnsweredByWorkers requests.now
         askers.items result.0.items all.0.list.items all.0.drawn.items) }
     ensures published { IfOk result.1 (λ all.
         AreAnswersWithin publisher.new.batches requests.now all.0.list.items) }
@@ -173,7 +173,7 @@ pub fn run_live<W: Write, G: Gate + Sync, R: Threads + Wait + Sync>(
     requires askers { (0 < vec_len askers) × (vec_len askers ≤ 64) }
     requires source { All (λ a. a.source ≡ publisher.source) askers.items }
     requires requests { length requests.now ≤ 1000000 }
-    ensures answers { IfOk result (λ live. AreAnswered requests.now
+    ensures answers { IfOk result (λ live. AreAnsweredByWorkers requests.now
         askers.items live.askers.items live.list.items live.drawn.items) }
     ensures published { IfOk result (λ live.
         AreAnswersWithin live.publisher.batches requests.now live.list.items) }

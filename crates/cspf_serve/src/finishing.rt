@@ -1,6 +1,6 @@
 ghost use Rattle.std.specs.Prelude.{◌≡◌, ℕ, ◌<◌, ◌≤◌, List, [], length, map, All, IfOk, IfErr, IfSome, vec_len, vec_capacity};
 ghost use Rattle.cspf_publish.specs.KnownBatches.{KnownBatches};
-ghost use Rattle.cspf_serve.specs.Served.{AreAnswered, IsFaultOfWorker};
+ghost use Rattle.cspf_serve.specs.Served.{AreAnsweredByWorkers, IsFaultOfWorker};
 ghost use Rattle.cspf_serve.specs.Working.{AreRun};
 
 use crate::ServeError;
@@ -34,7 +34,7 @@ pub(crate) fn finish(
     ensures askers { result.0.items ≡ map (λ w. w.asker) workers.items }
     ensures answers { IfOk result.1 (λ all. (before : List KnownBatches)
         → AreRun requests.now before workers.items
-        → AreAnswered requests.now before result.0.items all.list.items all.drawn.items) }
+        → AreAnsweredByWorkers requests.now before result.0.items all.list.items all.drawn.items) }
     ensures error { IfErr result.1 (λ e. (before : List KnownBatches)
         → AreRun requests.now before workers.items → IsFaultOfWorker e) }
 {
