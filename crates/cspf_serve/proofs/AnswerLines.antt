@@ -17,7 +17,7 @@ use Rattle.cspf_serve.specs.Served.{AreAnswersWithin, AreSameAskers, IsAnswerWit
 use Rattle.cspf_serve.specs.BatchRun.{AreReplies, IsReplyTo}
 use Rattle.cspf_serve.specs.BatchStops.{Writes}
 use Rattle.cspf_serve.specs.AnswerLines.{AreAnswerLines, AreAnswersAfter}
-use Rattle.cspf_serve.specs.LiveRun.{AreRepliesWithin, IsReplyWithin}
+use Rattle.cspf_serve.specs.LiveRun.{AreRepliesWithin}
 use Rattle.cspf_serve.proofs.Asked.{begins_through}
 use Rattle.cspf_serve.proofs.Running.{at_place}
 

@@ -1,5 +1,5 @@
 -- Answers in the places of their requests.
-use Rattle.std.proofs.Common.{◌≡◌, ◌≢◌, ℕ, zero, suc, ◌+◌, ◌<◌, ◌≤◌, ◌⊎◌, Bool, true, false, cond, eqb, nat_lt, List, [], ◌∷◌, ◌++◌, length, map, Option, Some, None, get_or, All, Vec, inl, inr, refl, sym, ap, ◌∙◌, subst, arith, rules, IsSome, is_some, append-nil, append_assoc, slice_get, slice_set, sum_by, flat_map}
+use Rattle.std.proofs.Common.{◌≡◌, ◌≢◌, ℕ, zero, suc, ◌+◌, ◌<◌, ◌⊎◌, true, false, cond, eqb, List, [], ◌∷◌, ◌++◌, length, map, Option, Some, None, get_or, All, Vec, inl, inr, refl, sym, ap, ◌∙◌, subst, arith, rules, IsSome, is_some, append-nil, append_assoc, slice_get, slice_set, sum_by, flat_map}
 use Rattle.std.specs.Global.{Global}
 use Rattle.std.specs.Option.{option_map}
 use Rattle.std.proofs.lemmas.Bool.{cases_Bool, cases_lt, eqb-true, eqb-false, ne_eqb, false≢true}

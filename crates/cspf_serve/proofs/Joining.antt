@@ -1,5 +1,5 @@
 -- What all workers answered, put together.
-use Rattle.std.proofs.Common.{◌≡◌, ℕ, zero, suc, ◌+◌, ◌-◌, ◌<◌, ◌≤◌, ◌%◌, ◌⊎◌, Bool, true, false, cond, eqb, ltb, leb, ◌&&◌, List, [], ◌∷◌, ◌++◌, length, map, Option, Some, None, get_or, All, IsNone, Vec, inl, inr, refl, sym, ap, ◌∙◌, subst, arith, slice_get, sum_by}
+use Rattle.std.proofs.Common.{◌≡◌, ℕ, zero, suc, ◌+◌, ◌-◌, ◌<◌, ◌≤◌, ◌%◌, cond, ltb, leb, ◌&&◌, List, [], ◌∷◌, length, map, Option, Some, None, get_or, All, IsNone, Vec, inl, inr, refl, sym, ap, ◌∙◌, subst, arith, slice_get, sum_by}
 use Rattle.std.specs.Global.{Global}
 use Rattle.std.specs.Option.{option_map}
 use Rattle.std.specs.List.Sorted.{IsNonDecreasingBy}
@@ -16,8 +16,8 @@ use Rattle.cspf_publish.specs.KnownBatches.{KnownBatches}
 use Rattle.cspf_serve.specs.declared.serve_error.ServeError.{ServeError}
 use Rattle.cspf_serve.specs.declared.worker.Reply.{Reply}
 use Rattle.cspf_serve.specs.declared.worker.Worker.{Worker}
-use Rattle.cspf_serve.specs.Served.{IsAnswerWithin, IsServed, IsServedAt, AreServed, AreAnsweredByWorkers, HoldEachOnce, IsFaultOfWorker, once_below, times, version_at}
-use Rattle.cspf_serve.specs.Working.{IsDone, HasDone, IsRun, AreRun, AreShare, indexes, share_times}
+use Rattle.cspf_serve.specs.Served.{IsAnswerWithin, IsServed, IsServedAt, AreAnsweredByWorkers, HoldEachOnce, IsFaultOfWorker, once_below, times, version_at}
+use Rattle.cspf_serve.specs.Working.{IsDone, HasDone, AreRun, AreShare, indexes, share_times}
 use Rattle.cspf_serve.proofs.Running.{at_place}
 use Rattle.cspf_serve.specs.Collected.{IsPlaced, IsCollectError, times_in}
 

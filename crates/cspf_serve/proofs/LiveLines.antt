@@ -1,10 +1,9 @@
 -- The lines of a live run, and what its journal holds.
-use Rattle.std.proofs.Common.{◌≡◌, ℕ, suc, ◌+◌, ◌<◌, ◌≤◌, ◌⊎◌, false, Option, Some, None, IfSome, Result, Ok, Err, IfOk, List, [], ◌∷◌, ◌++◌, take, get_or, length, slice_get, inl, inr, refl, sym, ap, ◌∙◌, subst, append_assoc, arith}
+use Rattle.std.proofs.Common.{◌≡◌, ℕ, ◌+◌, ◌<◌, ◌≤◌, false, Option, Some, None, IfSome, Result, Ok, Err, IfOk, List, [], ◌++◌, take, get_or, length, slice_get, inl, inr, refl, sym, ap, ◌∙◌, subst, append_assoc, arith}
 use Rattle.std.proofs.KnownBytes.{Appends-nil, Appends-trans}
 use Rattle.std.proofs.lemmas.List.{length-take-le}
 use Rattle.std.proofs.lemmas.Bool.{cases_lt}
 use Rattle.std.proofs.lemmas.Option.{slice_get_within, get_or_from_slice_get}
-use Rattle.std.proofs.lemmas.Result.{IfOk-weaker}
 use Rattle.std.specs.Io.KnownBytes.{Appends}
 use Rattle.std.specs.List.{flat_map}
 use Rattle.cspf_db.specs.declared.request.Request.{Request}
@@ -30,7 +29,7 @@ use Rattle.cspf_serve.specs.declared.batch_stop.Stop.{Stop}
 use Rattle.cspf_serve.specs.declared.batch_stop.Stop.TheVariants as stop
 use Rattle.cspf_serve.specs.LiveRun.{IsWhyNot, begun_text, IsEndOfLiveRun, AreAnsweredLive, AreInputsRefused, IsLiveRun}
 use Rattle.cspf_serve.specs.LiveStops.{IsFaultShown, AreLiveLines, IsRefusalWritten}
-use Rattle.cspf_serve.specs.LiveWords.{applied_line, unpublished_line}
+use Rattle.cspf_serve.specs.LiveWords.{applied_line}
 use Rattle.cspf_serve.proofs.AnswerLines.{replies_within}
 use Rattle.cspf_serve.proofs.BatchLines.{numbers_of}
 use Rattle.cspf_serve.proofs.PublishedLines.{number_at}

@@ -1,5 +1,5 @@
 -- What workers answered beside a publisher, once each asker has learnt what is published.
-use Rattle.std.proofs.Common.{◌≡◌, ℕ, zero, suc, ◌+◌, ◌<◌, ◌≤◌, ◌⊎◌, Bool, true, false, cond, eqb, ltb, List, [], ◌∷◌, ◌++◌, length, take, Option, Some, None, get_or, All, Vec, inl, inr, refl, sym, ap, ◌∙◌, subst, arith, slice_get, slice_set, length-set, sum_by}
+use Rattle.std.proofs.Common.{◌≡◌, ℕ, zero, suc, ◌+◌, ◌<◌, ◌≤◌, true, false, cond, eqb, List, [], ◌∷◌, length, Some, get_or, All, Vec, inl, inr, refl, sym, ap, ◌∙◌, subst, arith, slice_get, slice_set, sum_by}
 use Rattle.std.specs.Global.{Global}
 use Rattle.std.proofs.lemmas.Bool.{cases_Bool, cases_lt, eqb-true, eqb-false}
 use Rattle.std.proofs.lemmas.Bool.Decides.{nat_tests}
@@ -14,7 +14,7 @@ use Rattle.cspf_publish.specs.declared.answer.Answer.{Answer}
 use Rattle.cspf_publish.specs.Answers.{IsAnswerAfter}
 use Rattle.cspf_publish.specs.Histories.{BeginsWith}
 use Rattle.cspf_publish.specs.KnownBatches.{KnownBatches}
-use Rattle.cspf_serve.specs.Served.{IsAnswerWithin, IsServed, IsServedAt, AreServed, AreAnsweredByWorkers, AreAnswersWithin, AreSameAskers, KnowsNoLess, HoldEachOnce, once_below, times, version_at}
+use Rattle.cspf_serve.specs.Served.{IsAnswerWithin, IsServed, IsServedAt, AreAnsweredByWorkers, AreAnswersWithin, AreSameAskers, KnowsNoLess, once_below, times}
 use Rattle.cspf_serve.proofs.Asked.{within_later, take_begins, knows_through}
 use Rattle.cspf_serve.proofs.Running.{at_place}
 

@@ -1,5 +1,5 @@
 -- How the answers of workers are put into the order of the requests: private.
-use Rattle.std.specs.Prelude.{◌≡◌, ℕ, ◌+◌, ◌<◌, ◌≤◌, ◌⊎◌, List, [], ◌∷◌, ◌++◌, length, Option, Some, None, slice_get, All, sum_by, Vec}
+use Rattle.std.specs.Prelude.{◌≡◌, ℕ, ◌<◌, ◌⊎◌, List, Option, Some, None, slice_get, All, sum_by, Vec}
 use Rattle.std.specs.Global.{Global}
 use Rattle.cspf_publish.specs.declared.answer.Answer.{Answer}
 use Rattle.cspf_serve.specs.declared.serve_error.ServeError.{ServeError}

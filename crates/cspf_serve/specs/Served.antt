@@ -1,5 +1,5 @@
 -- What workers answer: which answers are right, and who answered what.
-use Rattle.std.specs.Prelude.{◌≡◌, ℕ, ◌+◌, ◌<◌, ◌≤◌, ◌⊎◌, ◌==◌, if◌then◌else◌, nat_lt, List, length, take, Option, Some, slice_get, unwrap_or, option_map, All, count_by, sum_by, vec_items, Vec}
+use Rattle.std.specs.Prelude.{◌≡◌, ℕ, ◌<◌, ◌≤◌, ◌⊎◌, ◌==◌, if◌then◌else◌, nat_lt, List, length, take, Some, slice_get, unwrap_or, option_map, All, count_by, sum_by, Vec}
 use Rattle.std.specs.Global.{Global}
 use Rattle.std.specs.List.Sorted.{IsNonDecreasingBy}
 use Rattle.cspf_db.specs.Numbered.{NumberedChanges}

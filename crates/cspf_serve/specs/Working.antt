@@ -1,9 +1,8 @@
 -- What a worker has done so far: private.
-use Rattle.std.specs.Prelude.{◌≡◌, ℕ, ◌+◌, ◌<◌, ◌≤◌, ◌%◌, ◌==◌, ◌&&◌, if◌then◌else◌, nat_lt, List, [], ◌∷◌, ◌++◌, length, map, Option, Some, None, slice_get, IfSome, IsNone, All}
+use Rattle.std.specs.Prelude.{◌≡◌, ℕ, ◌<◌, ◌≤◌, ◌%◌, ◌==◌, ◌&&◌, if◌then◌else◌, nat_lt, List, [], length, map, Some, None, slice_get, IfSome, IsNone, All}
 use Rattle.std.specs.List.Sorted.{IsNonDecreasingBy}
 use Rattle.cspf_db.specs.Numbered.{NumberedChanges}
 use Rattle.cspf_db.specs.declared.request.Request.{Request}
-use Rattle.cspf_publish.specs.Histories.{BeginsWith}
 use Rattle.cspf_publish.specs.KnownBatches.{KnownBatches}
 use Rattle.cspf_serve.specs.declared.worker.Reply.{Reply}
 use Rattle.cspf_serve.specs.declared.worker.Worker.{Worker}

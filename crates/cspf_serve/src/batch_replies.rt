@@ -1,4 +1,4 @@
-ghost use Rattle.std.specs.Prelude.{◌≡◌, ◌≢◌, ℕ, List, length, All, IfNone, IfOk, IfSome, OnOk, vec_len, ◌<◌, ◌≤◌};
+ghost use Rattle.std.specs.Prelude.{◌≡◌, List, length, All, IfNone, IfOk, OnOk, vec_len, ◌<◌, ◌≤◌};
 ghost use Rattle.cspf_db.specs.Numbered.{NumberedChanges};
 ghost use Rattle.cspf_ero.specs.ReplyLine.{IsReply};
 ghost use Rattle.cspf_publish.specs.Histories.{BeginsWith};

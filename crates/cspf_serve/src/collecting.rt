@@ -1,4 +1,4 @@
-ghost use Rattle.std.specs.Prelude.{◌≡◌, ℕ, ◌+◌, ◌<◌, ◌≤◌, ◌⊎◌, ◌++◌, List, [], ◌∷◌, Some, None, length, map, All, IfOk, OnOk, IfErr, slice_get, vec_len};
+ghost use Rattle.std.specs.Prelude.{◌≡◌, ℕ, ◌+◌, ◌<◌, ◌⊎◌, ◌++◌, List, [], ◌∷◌, Some, None, map, All, IfOk, OnOk, IfErr, slice_get, vec_len};
 ghost use Rattle.cspf_serve.specs.declared.worker.Reply.{Reply as Done};
 ghost use Rattle.cspf_serve.specs.Served.{HoldEachOnce};
 ghost use Rattle.cspf_serve.specs.Working.{indexes};

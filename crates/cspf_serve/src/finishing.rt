@@ -1,4 +1,4 @@
-ghost use Rattle.std.specs.Prelude.{◌≡◌, ℕ, ◌<◌, ◌≤◌, List, [], length, map, All, IfOk, IfErr, IfSome, vec_len, vec_capacity};
+ghost use Rattle.std.specs.Prelude.{◌≡◌, ◌<◌, ◌≤◌, List, [], length, map, All, IfOk, IfErr, IfSome, vec_len, vec_capacity};
 ghost use Rattle.cspf_publish.specs.KnownBatches.{KnownBatches};
 ghost use Rattle.cspf_serve.specs.Served.{AreAnsweredByWorkers, IsFaultOfWorker};
 ghost use Rattle.cspf_serve.specs.Working.{AreRun};

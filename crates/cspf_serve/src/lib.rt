@@ -6,6 +6,10 @@
 //! `specs/BatchWords.antt` the words of a refused batch; `specs/BatchRun.antt` what a journal and
 //! requests are answered, and `specs/BatchLaws.antt` when that is what one script of both is.
 //!
+//! A live run publishes batches, each written to the journal first, while workers answer requests:
+//! `run_live` over batches and requests, `run_live_rows` over the bytes of both, whose lines and
+//! journal `specs/LiveRun.antt` defines.
+//!
 //! Workers, each with an asker, answer many requests at once, beside a publisher that applies
 //! batches or without one. `specs/Served.antt` says which answers are right and who answered what,
 //! `specs/Applied.antt` what batches leave that are applied up to the first that is refused.

@@ -1,4 +1,4 @@
-ghost use Rattle.std.specs.Prelude.{◌≡◌, ℕ, IfOk};
+ghost use Rattle.std.specs.Prelude.{◌≡◌, IfOk};
 ghost use Rattle.cspf_serve.specs.Lines.{refused_row_line, version_line, refused_batch_line, unended_line, too_many_line};
 
 use crate::BatchRefusal;

@@ -1,4 +1,4 @@
-ghost use Rattle.std.specs.Prelude.{◌≡◌, ℕ, ◌<◌, IfOk, OnOk, IfSome, length, List, ◌++◌};
+ghost use Rattle.std.specs.Prelude.{◌≡◌, ◌<◌, IfOk};
 ghost use Rattle.cspf_serve.specs.LiveWords.{applied_line, unpublished_line};
 
 use crate::live_words::ApplyWords;

@@ -1,4 +1,4 @@
-use Rattle.std.proofs.Common.{rules, length, refl, arith}
+use Rattle.std.proofs.Common.{rules, length, refl}
 use Rattle.std.proofs.lemmas.Option.{slice_get_read}
 use Rattle.cspf_serve.proofs.Applying.{applied_refused, applied_all}
 use Rattle.cspf_serve.proofs.answering_live.apply_all.Goals as goal

@@ -1,6 +1,5 @@
-use Rattle.std.proofs.Common.{rules, ◌≡◌, ◌≤◌, ℕ, List, All, length, ap, sym, subst, ◌∙◌}
+use Rattle.std.proofs.Common.{rules, ◌≡◌, ◌≤◌, ℕ, List, All, length, sym, subst, ◌∙◌}
 use Rattle.std.proofs.lemmas.Result.{IfOk-at_ok}
-use Rattle.cspf_db.specs.Numbered.{NumberedChanges}
 use Rattle.cspf_publish.specs.declared.answer.Answer.{Answer}
 use Rattle.cspf_publish.specs.Histories.{BeginsWith}
 use Rattle.cspf_publish.specs.KnownBatches.{KnownBatches}

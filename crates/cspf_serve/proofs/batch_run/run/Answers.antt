@@ -1,6 +1,4 @@
-use Rattle.std.proofs.Common.{List, subst}
 use Rattle.std.proofs.lemmas.Result.{IfOk-weaker, err_from_is_err_and}
-use Rattle.cspf_db.specs.Numbered.{NumberedChanges}
 use Rattle.cspf_serve.proofs.BatchLines.{IfRefused-weaker, run_answered, run_stopped, journal_refused}
 use Rattle.cspf_serve.proofs.batch_run.run.Goals as goal
 

@@ -1,4 +1,4 @@
-use Rattle.std.proofs.Common.{rules, ◌≡◌, length, get_or, subst}
+use Rattle.std.proofs.Common.{rules, length, get_or, subst}
 use Rattle.cspf_serve.specs.declared.worker.Worker.{Worker}
 use Rattle.cspf_serve.specs.Working.{IsRun}
 use Rattle.cspf_serve.proofs.Running.{run_each}

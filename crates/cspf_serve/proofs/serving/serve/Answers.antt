@@ -1,4 +1,4 @@
-use Rattle.std.proofs.Common.{rules, ◌≤◌, ◌∙◌, length, arith}
+use Rattle.std.proofs.Common.{rules, ◌∙◌, length, arith}
 use Rattle.cspf_serve.specs.Working.{indexes}
 use Rattle.cspf_serve.proofs.Shares.{share_grows, share_ends, rest_of_next}
 use Rattle.cspf_serve.proofs.serving.serve.Goals as goal

@@ -1,4 +1,4 @@
-use Rattle.std.proofs.Common.{length, ◌-◌, ◌≡◌, ◌+◌, ◌<◌, ◌≤◌, ◌%◌, None}
+use Rattle.std.proofs.Common.{length, ◌-◌, ◌≡◌, ◌+◌, ◌<◌, ◌%◌, None}
 use Rattle.cspf_serve.specs.Working.{HasDone, AreShare, indexes}
 use Rattle.cspf_serve.proofs.serving.serve.Given as goal
 
