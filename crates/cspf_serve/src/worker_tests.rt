@@ -1,9 +1,9 @@
-ghost use Rattle.std.specs.Prelude.{◌≡◌, ◌<◌, ◌≤◌, All, IfOk, vec_len};
+ghost use Rattle.std.specs.Prelude.{◌≡◌, ◌<◌, ◌≤◌, length, All, IfOk, vec_len};
 
-use crate::{Gate, Live, NoGate, answer_all, run_live};
+use crate::{Answers, Gate, Live, NoGate, answer_all, run_live};
 use cspf_addr::{Addr, Hops, Mask};
 use cspf_db::{Batch, Change, Link, Request};
-use cspf_publish::{ApplyError, open};
+use cspf_publish::{Answer, ApplyError, Asker, Publisher, open};
 use cspf_search::Outcome;
 use std::alloc::{AllocError, Global};
 use std::io;
@@ -43,15 +43,18 @@ impl Counts {
     fn is_whole(&self) -> bool {
         self.faults.load(Ordering::SeqCst) == 0
             && self.came.load(Ordering::SeqCst) == self.all
-            && self
-                .reached
-                .iter()
-                .all(|count| count.load(Ordering::SeqCst) == 1)
-            && self
-                .answered
-                .iter()
-                .all(|count| count.load(Ordering::SeqCst) == 1)
+            && are_ones(&self.reached)
+            && are_ones(&self.answered)
     }
+}
+
+fn are_ones(counts: &[AtomicU64]) -> bool {
+    for count in counts {
+        if count.load(Ordering::SeqCst) != 1 {
+            return false;
+        }
+    }
+    true
 }
 
 fn zeros(alloc: Global, count: usize) -> Result<Vec<AtomicU64>, AllocError> {
@@ -171,6 +174,83 @@ fn cost(outcome: &Outcome) -> u64 {
     }
 }
 
+/// A publisher without a batch, and so many askers.
+fn opened<W: Write + Drop, R: Wait + Abort>(
+    rt: &R,
+    alloc: Global,
+    journal: W,
+    askers: usize,
+) -> (Publisher<W>, Vec<Asker>)
+    ensures count { vec_len result.1 ≡ askers }
+    ensures source { All (λ a. a.source ≡ result.0.source) result.1.items }
+{
+    match open(rt, alloc, journal, askers) {
+        Ok(opened) => opened,
+        Err(_) => panic!(rt; "no publisher"),
+    }
+}
+
+/// What workers answer once the link is published.
+fn answered_with_a_link<G: Gate + Sync, R: Threads + Wait + Abort + Sync>(
+    rt: &R,
+    alloc: Global,
+    askers: usize,
+    requests: &[Request],
+    gate: &G,
+) -> Result<Answers, Fail>
+    requires askers { (0 < askers) × (askers ≤ 64) }
+    requires requests { length requests.now ≤ 1000000 }
+{
+    let batch = link_batch(alloc, 1)?;
+    let (mut publisher, askers) = opened(rt, alloc, Vec::<u8>::new(alloc), askers);
+    let applied = publisher.apply(rt, alloc, &batch);
+    let answered = answer_all(rt, alloc, askers, requests, gate);
+    publisher.close(rt);
+    assert!(rt; applied == Ok(1));
+    match answered {
+        Ok(answers) => Ok(answers),
+        Err(_) => panic!(rt; "not answered"),
+    }
+}
+
+/// Whether so many workers answered one request each, at the version of the link.
+fn is_one_each(answers: &Answers, count: usize) -> bool {
+    answers.list.len() == count
+        && answers.drawn.len() == count
+        && answers.askers.len() == count
+        && are_of_the_link(&answers.list)
+        && are_drawn_by_number(&answers.drawn)
+        && are_at_version_1(&answers.askers)
+}
+
+fn are_of_the_link(list: &[Answer]) -> bool {
+    for answer in list {
+        if answer.id != 7 || answer.version != 1 || cost(&answer.outcome) != 10 {
+            return false;
+        }
+    }
+    true
+}
+
+/// Whether each worker drew the index of its own number.
+fn are_drawn_by_number(drawn: &[Vec<usize>]) -> bool {
+    for (worker, indexes) in drawn.iter().enumerate() {
+        if indexes.as_slice() != [worker].as_slice() {
+            return false;
+        }
+    }
+    true
+}
+
+fn are_at_version_1(askers: &[Asker]) -> bool {
+    for asker in askers {
+        if asker.seen() != 1 {
+            return false;
+        }
+    }
+    true
+}
+
 /// As many workers as requests, each of which is held until all are reached: all workers run at once.
 fn answers_at_once<R: Threads + Wait + Abort + Sync>(
     rt: &R,
@@ -179,40 +259,10 @@ fn answers_at_once<R: Threads + Wait + Abort + Sync>(
 ) -> Result<(), Fail>
     requires { (0 < count) × (count ≤ 64) }
 {
-    let batch = link_batch(alloc, 1)?;
     let all = requests(alloc, count)?;
     let gate = Counts::new(alloc, count)?;
-    let opened = open(rt, alloc, Vec::<u8>::new(alloc), count);
-    let Ok((mut publisher, askers)) = opened else {
-        panic!(rt; "no publisher")
-    };
-    let applied = publisher.apply(rt, alloc, &batch).is_ok();
-    let answered = answer_all(rt, alloc, askers, all.as_slice(), &gate);
-    publisher.close(rt);
-    let Ok(answers) = answered else {
-        panic!(rt; "not answered")
-    };
-    assert!(rt; applied && gate.is_whole());
-    assert_eq!(rt;
-        (
-            answers.list.len(),
-            answers.askers.len(),
-            answers.drawn.len()
-        ),
-        (count, count, count)
-    );
-    for answer in &answers.list {
-        assert_eq!(rt;
-            (answer.id, answer.version, cost(&answer.outcome)),
-            (7, 1, 10)
-        );
-    }
-    for (worker, indexes) in answers.drawn.iter().enumerate() {
-        assert_eq!(rt; indexes.as_slice(), [worker].as_slice());
-    }
-    for asker in &answers.askers {
-        assert_eq!(rt; asker.seen(), 1);
-    }
+    let answers = answered_with_a_link(rt, alloc, count, all.as_slice(), &gate)?;
+    assert!(rt; gate.is_whole() && is_one_each(&answers, count));
     Ok(())
 }
 
@@ -231,104 +281,126 @@ fn eight_at_once(rt: HostRuntime) -> Result<(), Fail> {
 /// No requests give no answers, and the askers.
 #[test]
 fn no_requests(rt: HostRuntime) -> Result<(), Fail> {
-    let opened = open(&rt, rt.alloc(), Vec::<u8>::new(rt.alloc()), 3);
-    let Ok((publisher, askers)) = opened else {
-        panic!(rt; "no publisher")
-    };
-    let answered = answer_all(&rt, rt.alloc(), askers, &[], &NoGate);
-    publisher.close(&rt);
-    let Ok(answers) = answered else {
-        panic!(rt; "not answered")
-    };
-    assert_eq!(rt;
-        (
-            answers.list.len(),
-            answers.askers.len(),
-            answers.drawn.len()
-        ),
-        (0, 3, 3)
-    );
+    let answers = answered_with_a_link(&rt, rt.alloc(), 3, &[], &NoGate)?;
+    assert!(rt; answers.list.is_empty() && answers.askers.len() == 3 && answers.drawn.len() == 3);
     for indexes in &answers.drawn {
         assert!(rt; indexes.is_empty());
     }
     Ok(())
 }
 
-/// 1,000 requests of three kinds, answered by 64 workers in the requests' order.
+/// 1,000 requests of three kinds: one that the link has room for, one that it hasn't, and one from a
+/// router that isn't there.
+fn requests_of_three_kinds(alloc: Global) -> Result<Vec<Request>, Fail> {
+    let mut all = Vec::with_capacity(alloc, 1000)?;
+    for index in 0..1000u64 {
+        let (from, bandwidth) = match index % 3 {
+            0 => (0x01010101, 1000),
+            1 => (0x01010101, 1001),
+            _ => (0x09090909, 0),
+        };
+        all.push(request(index, from, bandwidth)?)?;
+    }
+    Ok(all)
+}
+
+/// Whether this is the answer to the request with this index.
+fn is_in_order(index: usize, answer: &Answer) -> bool {
+    let right = match index % 3 {
+        0 => cost(&answer.outcome) == 10,
+        1 => matches!(&answer.outcome, Outcome::NoRoute),
+        _ => matches!(&answer.outcome, Outcome::UnknownFrom),
+    };
+    right && answer.id == index as u64 && answer.version == 1
+}
+
+/// The requests are answered by 64 workers in the requests' order.
 #[test]
 fn in_order(rt: HostRuntime) -> Result<(), Fail> {
-    let batch = link_batch(rt.alloc(), 1)?;
-    let mut all = Vec::with_capacity(rt.alloc(), 1000)?;
-    for index in 0..1000u64 {
-        let one = match index % 3 {
-            0 => request(index, 0x01010101, 1000)?,
-            1 => request(index, 0x01010101, 1001)?,
-            _ => request(index, 0x09090909, 0)?,
-        };
-        all.push(one)?;
-    }
+    let all = requests_of_three_kinds(rt.alloc())?;
     assert!(rt; all.len() == 1000);
-    let opened = open(&rt, rt.alloc(), Vec::<u8>::new(rt.alloc()), 64);
-    let Ok((mut publisher, askers)) = opened else {
-        panic!(rt; "no publisher")
-    };
-    let applied = publisher.apply(&rt, rt.alloc(), &batch).is_ok();
-    let answered = answer_all(&rt, rt.alloc(), askers, all.as_slice(), &NoGate);
-    publisher.close(&rt);
-    let Ok(answers) = answered else {
-        panic!(rt; "not answered")
-    };
-    assert!(rt; applied && answers.list.len() == 1000 && answers.askers.len() == 64);
+    let answers = answered_with_a_link(&rt, rt.alloc(), 64, all.as_slice(), &NoGate)?;
+    assert!(rt; answers.list.len() == 1000 && answers.askers.len() == 64);
     for (index, answer) in answers.list.iter().enumerate() {
-        let right = match index % 3 {
-            0 => cost(&answer.outcome) == 10,
-            1 => matches!(&answer.outcome, Outcome::NoRoute),
-            _ => matches!(&answer.outcome, Outcome::UnknownFrom),
-        };
-        assert!(rt; right && answer.id == index as u64 && answer.version == 1);
+        assert!(rt; is_in_order(index, answer), "{index}");
     }
     Ok(())
+}
+
+/// What a live run leaves once its publisher is closed.
+#[derive(Drop)]
+struct Closed<W> {
+    journal: W,
+    /// The published version.
+    version: u32,
+    list: Vec<Answer>,
+    askers: Vec<Asker>,
+    applied: u32,
+    fault: Option<ApplyError>,
+}
+
+/// Runs live, and closes the publisher.
+fn run_and_close<W: Write + Drop, G: Gate + Sync, R: Threads + Wait + Abort + Sync>(
+    rt: &R,
+    alloc: Global,
+    publisher: Publisher<W>,
+    askers: Vec<Asker>,
+    batch: Batch,
+    requests: &[Request],
+    gate: &G,
+) -> Closed<W>
+    requires askers { (0 < vec_len askers) × (vec_len askers ≤ 64) }
+    requires source { All (λ a. a.source ≡ publisher.source) askers.items }
+    requires requests { length requests.now ≤ 1000000 }
+{
+    let ran = run_live(rt, alloc, publisher, askers, &[batch], requests, gate);
+    let Ok(live) = ran else { panic!(rt; "not run") };
+    let Live {
+        publisher,
+        list,
+        drawn: _,
+        askers,
+        applied,
+        fault,
+    } = live;
+    let version = publisher.version();
+    Closed {
+        journal: publisher.close(rt),
+        version,
+        list,
+        askers,
+        applied,
+        fault,
+    }
 }
 
 /// A batch is applied where nothing is asked.
 #[test]
 fn applies_alone(rt: HostRuntime) -> Result<(), Fail> {
-    let mut batches = Vec::with_capacity(rt.alloc(), 1)?;
-    batches.push(link_batch(rt.alloc(), 1)?)?;
-    let opened = open(&rt, rt.alloc(), Vec::<u8>::new(rt.alloc()), 1);
-    let Ok((publisher, askers)) = opened else {
-        panic!(rt; "no publisher")
-    };
-    match run_live(
-        &rt,
-        rt.alloc(),
-        publisher,
-        askers,
-        batches.as_slice(),
-        &[],
-        &NoGate,
-    ) {
-        Err((_, publisher, _)) => {
-            publisher.close(&rt);
-            panic!(rt; "not run")
-        }
-        Ok(live) => {
-            let Live {
-                publisher,
-                list,
-                drawn,
-                askers,
-                applied,
-                fault,
-            } = live;
-            let version = publisher.version();
-            let text = publisher.close(&rt);
-            assert_eq!(rt; (text.len(), version, applied), (102, 1, 1));
-            assert!(rt; fault.is_none() && list.is_empty() && drawn.len() == 1);
-            assert!(rt; askers.iter().all(|asker| asker.seen() == 1));
-        }
-    }
+    let batch = link_batch(rt.alloc(), 1)?;
+    let (publisher, askers) = opened(&rt, rt.alloc(), Vec::<u8>::new(rt.alloc()), 1);
+    let left = run_and_close(&rt, rt.alloc(), publisher, askers, batch, &[], &NoGate);
+    assert_eq!(rt;
+        (left.journal.len(), left.version, left.applied),
+        (102, 1, 1)
+    );
+    assert!(rt; left.fault.is_none() && left.list.is_empty());
+    assert!(rt; left.askers.len() == 1 && are_at_version_1(&left.askers));
     Ok(())
+}
+
+/// Whether a live run leaves the route of the link as the one answer, at a version from 1 to the
+/// published one.
+fn is_one_answer(list: &[Answer], version: u32) -> bool {
+    match list {
+        [answer] => {
+            answer.id == 7
+                && cost(&answer.outcome) == 10
+                && answer.version >= 1
+                && answer.version <= version
+        }
+        _ => false,
+    }
 }
 
 /// A request is answered while an empty batch with this number is applied to the database of one
@@ -339,51 +411,17 @@ fn applies_beside<R: Threads + Wait + Abort + Sync>(
     number: u32,
 ) -> Result<(u32, u32, Option<ApplyError>), Fail> {
     let first = link_batch(alloc, 1)?;
-    let mut batches = Vec::with_capacity(alloc, 1)?;
-    batches.push(Batch {
+    let all = requests(alloc, 1)?;
+    let next = Batch {
         number,
         changes: Vec::new(alloc),
-    })?;
-    let all = requests(alloc, 1)?;
-    let opened = open(rt, alloc, Vec::<u8>::new(alloc), 1);
-    let Ok((mut publisher, mut askers)) = opened else {
-        panic!(rt; "no publisher")
     };
-    let begun = publisher.apply(rt, alloc, &first).is_ok();
+    let (mut publisher, mut askers) = opened(rt, alloc, Vec::<u8>::new(alloc), 1);
+    assert!(rt; publisher.apply(rt, alloc, &first) == Ok(1));
     askers[0].learn(publisher.tell());
-    let ran = run_live(
-        rt,
-        alloc,
-        publisher,
-        askers,
-        batches.as_slice(),
-        all.as_slice(),
-        &NoGate,
-    );
-    match ran {
-        Err((_, publisher, _)) => {
-            publisher.close(rt);
-            panic!(rt; "not run")
-        }
-        Ok(live) => {
-            let Live {
-                publisher,
-                list,
-                drawn: _,
-                askers: _,
-                applied,
-                fault,
-            } = live;
-            let version = publisher.version();
-            publisher.close(rt);
-            assert!(rt; begun && list.len() == 1);
-            for answer in &list {
-                assert!(rt; answer.id == 7 && cost(&answer.outcome) == 10);
-                assert!(rt; answer.version >= 1 && answer.version <= version);
-            }
-            Ok((applied, version, fault))
-        }
-    }
+    let left = run_and_close(rt, alloc, publisher, askers, next, all.as_slice(), &NoGate);
+    assert!(rt; is_one_answer(&left.list, left.version));
+    Ok((left.applied, left.version, left.fault))
 }
 
 /// The next batch is applied, and one with another number is refused.
@@ -395,11 +433,22 @@ fn applies_the_next(rt: HostRuntime) -> Result<(), Fail> {
     Ok(())
 }
 
+/// Whether the first of two answers is of no batch, and the second of one at most.
+fn are_around_a_batch(list: &[Answer]) -> bool {
+    match list {
+        [first, last] => {
+            first.version == 0
+                && matches!(&first.outcome, Outcome::UnknownFrom)
+                && last.version <= 1
+        }
+        _ => false,
+    }
+}
+
 /// The publisher writes a batch while a worker is between two requests.
 #[test]
 fn applies_at_once(rt: HostRuntime) -> Result<(), Fail> {
-    let mut batches = Vec::with_capacity(rt.alloc(), 1)?;
-    batches.push(link_batch(rt.alloc(), 1)?)?;
+    let batch = link_batch(rt.alloc(), 1)?;
     let all = requests(rt.alloc(), 2)?;
     let meeting = Meeting {
         asked: AtomicU64::new(0),
@@ -410,44 +459,10 @@ fn applies_at_once(rt: HostRuntime) -> Result<(), Fail> {
         held: Vec::new(rt.alloc()),
         meeting: &meeting,
     };
-    let opened = open(&rt, rt.alloc(), journal, 1);
-    let Ok((publisher, askers)) = opened else {
-        panic!(rt; "no publisher")
-    };
-    let ran = run_live(
-        &rt,
-        rt.alloc(),
-        publisher,
-        askers,
-        batches.as_slice(),
-        all.as_slice(),
-        &meeting,
-    );
-    match ran {
-        Err((_, publisher, _)) => {
-            publisher.close(&rt);
-            panic!(rt; "not run")
-        }
-        Ok(live) => {
-            let Live {
-                publisher,
-                list,
-                drawn: _,
-                askers: _,
-                applied,
-                fault,
-            } = live;
-            let text = publisher.close(&rt).held;
-            assert_eq!(rt; (text.len(), applied), (102, 1));
-            assert!(rt; fault.is_none() && meeting.faults.load(Ordering::SeqCst) == 0);
-            let first = list.first();
-            let last = list.last();
-            assert!(rt;
-                matches!(first, Some(a) if a.version == 0 && matches!(&a.outcome, Outcome::UnknownFrom))
-            );
-            assert!(rt; matches!(last, Some(a) if a.version <= 1));
-            assert_eq!(rt; list.len(), 2);
-        }
-    }
+    let (publisher, askers) = opened(&rt, rt.alloc(), journal, 1);
+    let asked = all.as_slice();
+    let left = run_and_close(&rt, rt.alloc(), publisher, askers, batch, asked, &meeting);
+    assert!(rt; left.journal.held.len() == 102 && left.applied == 1 && left.fault.is_none());
+    assert!(rt; meeting.faults.load(Ordering::SeqCst) == 0 && are_around_a_batch(&left.list));
     Ok(())
 }

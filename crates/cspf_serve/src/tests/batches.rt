@@ -1,6 +1,6 @@
 ghost use Rattle.std.specs.Prelude.{◌<◌, ◌≤◌};
 
-use super::{Copies, Narrow, Pieces, bytes_of};
+use super::{Narrow, Pieces, bytes_of, copies, in_pieces};
 use crate::{NoGate, RunError, run_batch, run_solve};
 use std::alloc::{AllocError, Global};
 use std::io::{Read, Write};
@@ -160,43 +160,43 @@ const RUNS: [Run; 22] = [
     ),
 ];
 
-/// What a run by so many workers answers, and what it writes.
-fn run_with<T: Threads + Wait + Sync>(
+/// Whether a run over a journal and requests, by so many workers, writes these lines and answers
+/// this status.
+fn is_answered<T: Threads + Wait + Sync>(
     rt: &T,
     alloc: Global,
-    journal: &[u8],
-    requests: &[u8],
+    input: (&[u8], &[u8]),
     accept_torn: bool,
     workers: usize,
-) -> (Result<u8, RunError>, Vec<u8>)
+    lines: &[u8],
+    status: u8,
+) -> bool
     requires { (0 < workers) × (workers ≤ 64) }
 {
     let mut held = Vec::new(alloc);
     let found = run_batch(
         rt,
         alloc,
-        journal,
-        requests,
+        input.0,
+        input.1,
         &mut held,
         workers,
         accept_torn,
         &NoGate,
     );
-    (found, held)
+    found == Ok(status) && held.as_slice() == lines
 }
 
 #[test]
 fn runs(rt: HostRuntime) -> Result<(), Fail> {
     for (journal, requests, accept_torn, lines, status) in RUNS {
-        let journal_bytes = bytes_of(rt.alloc(), journal)?;
-        let request_bytes = bytes_of(rt.alloc(), requests)?;
-        let (kept, asked) = (journal_bytes.as_slice(), request_bytes.as_slice());
-        let (found, held) = run_with(&rt, rt.alloc(), kept, asked, accept_torn, 1);
-        assert!(rt; found == Ok(status), "{journal:?}");
-        assert!(rt; held.as_slice() == lines, "{journal:?}");
-        let (found, held) = run_with(&rt, rt.alloc(), kept, asked, accept_torn, 4);
-        assert!(rt; found == Ok(status), "{journal:?}");
-        assert!(rt; held.as_slice() == lines, "{journal:?}");
+        let kept = bytes_of(rt.alloc(), journal)?;
+        let asked = bytes_of(rt.alloc(), requests)?;
+        let input = (kept.as_slice(), asked.as_slice());
+        let by_one = is_answered(&rt, rt.alloc(), input, accept_torn, 1, lines, status);
+        assert!(rt; by_one, "by one worker: {journal:?}");
+        let by_four = is_answered(&rt, rt.alloc(), input, accept_torn, 4, lines, status);
+        assert!(rt; by_four, "by four workers: {journal:?}");
     }
     Ok(())
 }
@@ -217,43 +217,21 @@ const LINES: &[u8] =
 fn writes_the_lines_of_a_script(rt: HostRuntime) -> Result<(), Fail> {
     let journal = bytes_of(rt.alloc(), JOURNAL)?;
     let requests = bytes_of(rt.alloc(), REQUESTS)?;
-    let (found, held) = run_with(
-        &rt,
-        rt.alloc(),
-        journal.as_slice(),
-        requests.as_slice(),
-        false,
-        1,
-    );
-    assert!(rt; found == Ok(0));
-    assert!(rt; held.as_slice() == LINES);
-    let (found, held) = run_with(
-        &rt,
-        rt.alloc(),
-        journal.as_slice(),
-        requests.as_slice(),
-        false,
-        64,
-    );
-    assert!(rt; found == Ok(0));
-    assert!(rt; held.as_slice() == LINES);
-    let mut script = bytes_of(rt.alloc(), JOURNAL)?;
-    script.extend_from_slice(requests.as_slice())?;
-    let mut solved = Vec::new(rt.alloc());
-    let summary = run_solve(rt.alloc(), script.as_slice(), &mut solved)?;
-    assert_eq!(rt; summary.status(), 0);
-    assert!(rt; solved.as_slice() == LINES);
+    let input = (journal.as_slice(), requests.as_slice());
+    assert!(rt; is_answered(&rt, rt.alloc(), input, false, 1, LINES, 0));
+    assert!(rt; is_answered(&rt, rt.alloc(), input, false, 64, LINES, 0));
     Ok(())
 }
 
-/// The whole text, so many bytes a read, with a fault behind so many.
-fn pieces(text: &[u8], width: usize, last: usize) -> Pieces<'_> {
-    Pieces {
-        text,
-        at: 0,
-        width,
-        last,
-    }
+#[test]
+fn a_script_has_the_same_lines(rt: HostRuntime) -> Result<(), Fail> {
+    let mut script = bytes_of(rt.alloc(), JOURNAL)?;
+    let requests = bytes_of(rt.alloc(), REQUESTS)?;
+    script.extend_from_slice(requests.as_slice())?;
+    let mut solved = Vec::new(rt.alloc());
+    let summary = run_solve(rt.alloc(), script.as_slice(), &mut solved)?;
+    assert!(rt; summary.status() == 0 && solved.as_slice() == LINES);
+    Ok(())
 }
 
 /// What a run answers whose writer takes so many bytes a write and so many in all, and what the
@@ -283,35 +261,75 @@ fn runs_in_pieces(rt: HostRuntime) -> Result<(), Fail> {
     let (found, held) = run_narrow(
         &rt,
         rt.alloc(),
-        pieces(journal.as_slice(), 1, usize::MAX),
-        pieces(requests.as_slice(), 3, usize::MAX),
+        in_pieces(journal.as_slice(), 1, usize::MAX),
+        in_pieces(requests.as_slice(), 3, usize::MAX),
         2,
         usize::MAX,
     );
-    assert!(rt; found == Ok(0));
-    assert!(rt; held.as_slice() == LINES);
+    assert!(rt; found == Ok(0) && held.as_slice() == LINES);
     Ok(())
 }
 
+/// Whether a run whose journal or whose requests fail after so many bytes writes nothing.
+fn stops_at_a_read<T: Threads + Wait + Sync>(
+    rt: &T,
+    alloc: Global,
+    journal: Pieces<'_>,
+    requests: Pieces<'_>,
+) -> bool {
+    let (found, held) = run_narrow(rt, alloc, journal, requests, 100, usize::MAX);
+    found == Err(RunError::Device) && held.is_empty()
+}
+
+/// The journal or the requests fail after so many bytes.
 #[test]
-fn device_faults(rt: HostRuntime) -> Result<(), Fail> {
+fn faults_of_the_inputs(rt: HostRuntime) -> Result<(), Fail> {
     let journal = bytes_of(rt.alloc(), JOURNAL)?;
     let requests = bytes_of(rt.alloc(), REQUESTS)?;
-    let (whole, asked) = (journal.as_slice(), requests.as_slice());
+    let (kept, asked) = (journal.as_slice(), requests.as_slice());
     for last in [0, 1, 300] {
-        let failing = pieces(whole, 100, last);
-        let (found, held) = run_narrow(&rt, rt.alloc(), failing, asked, 100, usize::MAX);
-        assert!(rt; found == Err(RunError::Device), "journal after {last}");
-        assert!(rt; held.is_empty(), "journal after {last}");
-        let failing = pieces(asked, 100, last);
-        let (found, held) = run_narrow(&rt, rt.alloc(), whole, failing, 100, usize::MAX);
-        assert!(rt; found == Err(RunError::Device), "requests after {last}");
-        assert!(rt; held.is_empty(), "requests after {last}");
+        let (failing, whole) = (
+            in_pieces(kept, 100, last),
+            in_pieces(asked, 100, usize::MAX),
+        );
+        assert!(rt;
+            stops_at_a_read(&rt, rt.alloc(), failing, whole),
+            "journal after {last}"
+        );
+        let (whole, failing) = (
+            in_pieces(kept, 100, usize::MAX),
+            in_pieces(asked, 100, last),
+        );
+        assert!(rt;
+            stops_at_a_read(&rt, rt.alloc(), whole, failing),
+            "requests after {last}"
+        );
     }
+    Ok(())
+}
+
+/// Whether a run whose writer takes so many bytes fails, with the front of the lines written.
+fn stops_at_a_write<T: Threads + Wait + Sync>(
+    rt: &T,
+    alloc: Global,
+    journal: &[u8],
+    requests: &[u8],
+    most: usize,
+) -> bool {
+    let (found, held) = run_narrow(rt, alloc, journal, requests, 4, most);
+    found == Err(RunError::Device) && held.len() == most && LINES.starts_with(held.as_slice())
+}
+
+#[test]
+fn faults_of_the_lines(rt: HostRuntime) -> Result<(), Fail> {
+    let journal = bytes_of(rt.alloc(), JOURNAL)?;
+    let requests = bytes_of(rt.alloc(), REQUESTS)?;
+    let (kept, asked) = (journal.as_slice(), requests.as_slice());
     for most in [0, 9, 10, 30, 31, 200] {
-        let (found, held) = run_narrow(&rt, rt.alloc(), whole, asked, 4, most);
-        assert!(rt; found == Err(RunError::Device), "after {most}");
-        assert!(rt; held.as_slice() == &LINES[..most], "after {most}");
+        assert!(rt;
+            stops_at_a_write(&rt, rt.alloc(), kept, asked, most),
+            "after {most}"
+        );
     }
     let torn: &[u8] = b"x\n";
     let (found, _held) = run_narrow(&rt, rt.alloc(), torn, asked, 100, 5);
@@ -319,29 +337,23 @@ fn device_faults(rt: HostRuntime) -> Result<(), Fail> {
     Ok(())
 }
 
-/// So many copies of a row.
-fn copies(text: &[u8], left: u32) -> Copies<'_> {
-    Copies {
-        text,
-        rest: &[],
-        left,
-    }
+/// Whether so many rows of the journal are answered this line.
+fn is_answered_rows<T: Threads + Wait + Sync>(
+    rt: &T,
+    alloc: Global,
+    left: u32,
+    line: &[u8],
+) -> bool {
+    let none: &[u8] = b"";
+    let journal = copies(b"drop,1.1.1.1,10.0.0.1\n", left);
+    let (found, held) = run_narrow(rt, alloc, journal, none, 100, usize::MAX);
+    found == Ok(2) && held.as_slice() == line
 }
 
 #[test]
-fn as_many_rows_as_are_read(rt: HostRuntime) -> Result<(), Fail> {
-    let row: &[u8] = b"drop,1.1.1.1,10.0.0.1\n";
-    let none: &[u8] = b"";
-    let runs: [(u32, &[u8]); 2] = [
-        (1_000_000, b"journal torn after 0\n"),
-        (1_000_001, b"too many rows\n"),
-    ];
-    for (left, lines) in runs {
-        let (found, held) = run_narrow(&rt, rt.alloc(), copies(row, left), none, 100, usize::MAX);
-        assert!(rt; found == Ok(2));
-        assert!(rt; held.as_slice() == lines);
-    }
-    Ok(())
+fn as_many_rows_as_are_read(rt: HostRuntime) {
+    assert!(rt; is_answered_rows(&rt, rt.alloc(), 1_000_000, b"journal torn after 0\n"));
+    assert!(rt; is_answered_rows(&rt, rt.alloc(), 1_000_001, b"too many rows\n"));
 }
 
 #[test]
@@ -351,12 +363,17 @@ fn as_many_requests_as_are_read(rt: HostRuntime) -> Result<(), Fail> {
     let none: &[u8] = b"";
     let asking = copies(row.as_slice(), 1_000_000);
     let (found, held) = run_narrow(&rt, rt.alloc(), none, asking, 100, usize::MAX);
-    assert!(rt; found == Ok(0));
-    assert_eq!(rt; held.len(), 22_000_000);
+    assert!(rt; found == Ok(0) && held.len() == 22_000_000);
     assert!(rt; held.chunks(22).all(|written| written == line));
+    Ok(())
+}
+
+#[test]
+fn one_request_too_many(rt: HostRuntime) -> Result<(), Fail> {
+    let row = bytes_of(rt.alloc(), b"ask,7,1.1.1.1,2.2.2.2,0,0,Z,\n")?;
+    let none: &[u8] = b"";
     let asking = copies(row.as_slice(), 1_000_001);
     let (found, held) = run_narrow(&rt, rt.alloc(), none, asking, 100, usize::MAX);
-    assert!(rt; found == Ok(2));
-    assert!(rt; held.as_slice() == b"too many rows\n".as_slice());
+    assert!(rt; found == Ok(2) && held.as_slice() == b"too many rows\n".as_slice());
     Ok(())
 }

@@ -1,6 +1,6 @@
 ghost use Rattle.std.specs.Prelude.{◌<◌, ◌≤◌};
 
-use super::{Copies, Narrow, bytes_of};
+use super::{Narrow, bytes_of, copies};
 use crate::{NoGate, RunError, run_live_rows};
 use std::alloc::{AllocError, Global};
 use std::sync::Wait;
@@ -109,20 +109,12 @@ const RUNS: [Run; 14] = [
 const TEXT: &[u8] =
     b"put,1.1.1.1,10.0.12.1,2.2.2.2,10.0.12.2,10,0x00000001,1000,1000,1000,1000,1000,1000,1000,1000\nend,1,1\n";
 
-/// The bytes with the journal's text for the letter `J`.
-fn text_of(alloc: Global, text: &[u8]) -> Result<Vec<u8>, AllocError> {
-    match text {
-        b"J" => Vec::from_slice(alloc, TEXT),
-        _ => Vec::from_slice(alloc, text),
-    }
-}
-
-/// What a run by so many workers answers, what it writes, and what its journal holds.
+/// What a run over updates and requests, by so many workers, answers, what it writes, and what its
+/// journal holds.
 fn run_with<T: Threads + Wait + Sync>(
     rt: &T,
     alloc: Global,
-    updates: &[u8],
-    requests: &[u8],
+    input: (&[u8], &[u8]),
     workers: usize,
 ) -> (Result<u8, RunError>, Vec<u8>, Vec<u8>)
     requires { (0 < workers) × (workers ≤ 64) }
@@ -130,26 +122,37 @@ fn run_with<T: Threads + Wait + Sync>(
     let mut held = Vec::new(alloc);
     let journal = Vec::new(alloc);
     let (found, journal) = run_live_rows(
-        rt, alloc, updates, requests, journal, &mut held, workers, &NoGate,
+        rt, alloc, input.0, input.1, journal, &mut held, workers, &NoGate,
     );
     (found, held, journal)
+}
+
+/// Whether a run by so many workers writes these lines and this journal, and answers this status.
+fn is_answered<T: Threads + Wait + Sync>(
+    rt: &T,
+    alloc: Global,
+    input: (&[u8], &[u8]),
+    workers: usize,
+    output: (&[u8], &[u8]),
+    status: u8,
+) -> bool
+    requires { (0 < workers) × (workers ≤ 64) }
+{
+    let (found, held, journal) = run_with(rt, alloc, input, workers);
+    found == Ok(status) && held.as_slice() == output.0 && journal.as_slice() == output.1
 }
 
 #[test]
 fn runs(rt: HostRuntime) -> Result<(), Fail> {
     for (updates, requests, lines, kept, status) in RUNS {
-        let update_bytes = bytes_of(rt.alloc(), updates)?;
-        let request_bytes = bytes_of(rt.alloc(), requests)?;
-        let text = text_of(rt.alloc(), kept)?;
-        let (rows, asked) = (update_bytes.as_slice(), request_bytes.as_slice());
-        let (found, held, journal) = run_with(&rt, rt.alloc(), rows, asked, 1);
-        assert!(rt; found == Ok(status), "{updates:?}");
-        assert!(rt; held.as_slice() == lines, "{updates:?}");
-        assert!(rt; journal.as_slice() == text.as_slice(), "{updates:?}");
-        let (found, held, journal) = run_with(&rt, rt.alloc(), rows, asked, 4);
-        assert!(rt; found == Ok(status), "{updates:?}");
-        assert!(rt; held.as_slice() == lines, "{updates:?}");
-        assert!(rt; journal.as_slice() == text.as_slice(), "{updates:?}");
+        let rows = bytes_of(rt.alloc(), updates)?;
+        let asked = bytes_of(rt.alloc(), requests)?;
+        let input = (rows.as_slice(), asked.as_slice());
+        let output = (lines, if kept == b"J".as_slice() { TEXT } else { kept });
+        let by_one = is_answered(&rt, rt.alloc(), input, 1, output, status);
+        assert!(rt; by_one, "by one worker: {updates:?}");
+        let by_four = is_answered(&rt, rt.alloc(), input, 4, output, status);
+        assert!(rt; by_four, "by four workers: {updates:?}");
     }
     Ok(())
 }
@@ -159,40 +162,39 @@ fn runs(rt: HostRuntime) -> Result<(), Fail> {
 fn answers_at_a_version(rt: HostRuntime) -> Result<(), Fail> {
     let updates = bytes_of(rt.alloc(), b"P\nend,1,1\n")?;
     let requests = bytes_of(rt.alloc(), b"ask,7,1.1.1.1,2.2.2.2,0,1000,Z,\n")?;
-    let (found, held, journal) = run_with(
-        &rt,
-        rt.alloc(),
-        updates.as_slice(),
-        requests.as_slice(),
-        1,
-    );
+    let input = (updates.as_slice(), requests.as_slice());
+    let (found, held, journal) = run_with(&rt, rt.alloc(), input, 1);
     let before: &[u8] = b"ask 7 v0 unknown-from\napplied 1\n";
     let after: &[u8] =
         b"ask 7 v1 route cost=10 hops=1 again=no ero=000c140101080a000c022000\napplied 1\n";
-    assert!(rt; found == Ok(0));
+    assert!(rt; found == Ok(0) && journal.as_slice() == TEXT);
     assert!(rt; held.as_slice() == before || held.as_slice() == after);
-    assert!(rt; journal.as_slice() == TEXT);
     Ok(())
 }
 
-/// What a run of two batches answers whose journal takes so many bytes, what it writes, and what the
-/// journal holds.
-fn fill_up<T: Threads + Wait + Sync>(
+/// Whether a run of two batches over a journal that takes so many bytes writes these lines, fills
+/// the journal with the front of the text, and answers this status.
+fn fills_up<T: Threads + Wait + Sync>(
     rt: &T,
     alloc: Global,
+    (updates, text): (&[u8], &[u8]),
     most: usize,
-) -> Result<(Result<u8, RunError>, Vec<u8>, Vec<u8>), Fail> {
-    let updates = bytes_of(alloc, b"P\nend,1,1\nend,2,0\n")?;
-    let (rows, none): (&[u8], &[u8]) = (updates.as_slice(), b"");
+    lines: &[u8],
+    status: u8,
+) -> bool {
+    let none: &[u8] = b"";
     let narrow = Narrow {
         held: Vec::new(alloc),
         width: 7,
         most,
     };
-    let mut lines = Vec::new(alloc);
-    let (found, journal) = run_live_rows(rt, alloc, rows, none, narrow, &mut lines, 2, &NoGate);
-    let Narrow { held, .. } = journal;
-    Ok((found, lines, held))
+    let mut held = Vec::new(alloc);
+    let (found, journal) = run_live_rows(rt, alloc, updates, none, narrow, &mut held, 2, &NoGate);
+    let Narrow { held: kept, .. } = journal;
+    found == Ok(status)
+        && held.as_slice() == lines
+        && kept.len() == most
+        && text.starts_with(kept.as_slice())
 }
 
 /// How many bytes a journal takes, the lines of two batches over it, and the status.
@@ -207,71 +209,71 @@ const FAULTS: [(usize, &[u8], u8); 6] = [
 
 #[test]
 fn faults_of_the_journal(rt: HostRuntime) -> Result<(), Fail> {
+    let updates = bytes_of(rt.alloc(), b"P\nend,1,1\nend,2,0\n")?;
     let mut text = Vec::from_slice(rt.alloc(), TEXT)?;
     text.extend_from_slice(b"end,2,0\n")?;
+    let input = (updates.as_slice(), text.as_slice());
     for (most, lines, status) in FAULTS {
-        let (found, written, held) = fill_up(&rt, rt.alloc(), most)?;
-        assert!(rt; found == Ok(status), "{most}");
-        assert!(rt; written.as_slice() == lines, "{most}");
-        assert_eq!(rt; held.len(), most);
-        assert!(rt; text.as_slice().starts_with(held.as_slice()), "{most}");
+        assert!(rt;
+            fills_up(&rt, rt.alloc(), input, most, lines, status),
+            "{most}"
+        );
     }
     Ok(())
+}
+
+/// Whether a run of one batch whose writer of lines takes so many bytes fails, with the front of the
+/// line written and the batch in the journal.
+fn keeps_the_journal<T: Threads + Wait + Sync>(
+    rt: &T,
+    alloc: Global,
+    updates: &[u8],
+    most: usize,
+) -> bool {
+    let none: &[u8] = b"";
+    let mut writer = Narrow {
+        held: Vec::new(alloc),
+        width: 4,
+        most,
+    };
+    let journal: Vec<u8> = Vec::new(alloc);
+    let (found, journal) = run_live_rows(
+        rt,
+        alloc,
+        updates,
+        none,
+        journal,
+        &mut writer,
+        1,
+        &NoGate,
+    );
+    let Narrow { held, .. } = writer;
+    found == Err(RunError::Device)
+        && journal.as_slice() == TEXT
+        && held.len() == most
+        && b"applied 1\n".starts_with(held.as_slice())
 }
 
 /// Whatever the writer of lines takes, its fault is the run's, and the journal comes back.
 #[test]
 fn faults_of_the_lines(rt: HostRuntime) -> Result<(), Fail> {
     let updates = bytes_of(rt.alloc(), b"P\nend,1,1\n")?;
-    let none: &[u8] = b"";
     for most in [0, 1, 9] {
-        let mut writer = Narrow {
-            held: Vec::new(rt.alloc()),
-            width: 4,
-            most,
-        };
-        let journal: Vec<u8> = Vec::new(rt.alloc());
-        let (alloc, rows) = (rt.alloc(), updates.as_slice());
-        let (found, journal) = run_live_rows(
-            &rt,
-            alloc,
-            rows,
-            none,
-            journal,
-            &mut writer,
-            1,
-            &NoGate,
+        assert!(rt;
+            keeps_the_journal(&rt, rt.alloc(), updates.as_slice(), most),
+            "{most}"
         );
-        assert!(rt; found == Err(RunError::Device), "{most}");
-        assert!(rt; journal.as_slice() == TEXT, "{most}");
-        let held = writer.held.as_slice();
-        assert!(rt; held == &b"applied 1\n"[..most], "{most}");
     }
     Ok(())
 }
 
 #[test]
-fn as_many_rows_as_are_read(rt: HostRuntime) -> Result<(), Fail> {
-    let updates = Copies {
-        text: b"drop,1.1.1.1,10.0.0.1\n",
-        rest: &[],
-        left: 1_000_001,
-    };
-    let none: &[u8] = b"";
-    let mut held = Vec::new(rt.alloc());
-    let journal: Vec<u8> = Vec::new(rt.alloc());
-    let (found, journal) = run_live_rows(
-        &rt,
-        rt.alloc(),
-        updates,
-        none,
-        journal,
-        &mut held,
-        1,
-        &NoGate,
-    );
-    assert!(rt; found == Ok(2));
+fn as_many_rows_as_are_read(rt: HostRuntime) {
+    let (alloc, none): (Global, &[u8]) = (rt.alloc(), b"");
+    let updates = copies(b"drop,1.1.1.1,10.0.0.1\n", 1_000_001);
+    let mut held = Vec::new(alloc);
+    let journal: Vec<u8> = Vec::new(alloc);
+    let (found, journal) = run_live_rows(&rt, alloc, updates, none, journal, &mut held, 1, &NoGate);
+    assert!(rt; found == Ok(2) && journal.is_empty());
     assert!(rt; held.as_slice() == b"too many rows\n".as_slice());
-    assert!(rt; journal.is_empty());
-    Ok(())
 }
