@@ -1,8 +1,15 @@
+ghost use Rattle.std.specs.Prelude.{◌≡◌};
+
+use crate::{Answer, ApplyError, AskError, Asker, Publisher, open};
 use cspf_addr::{Addr, Hops, Mask};
 use cspf_db::{Batch, Change, Link, LinkError, Request, RequestError};
+use cspf_search::Outcome;
 use std::alloc::{AllocError, Global};
 use std::io;
 use std::io::{ErrorKind, Write};
+use std::process::Abort;
+use std::sync::Wait;
+use std::test::Fail;
 
 mod abilene;
 mod journal;
@@ -32,6 +39,67 @@ fn batch(alloc: Global, number: u32, changes: &[Change]) -> Result<Batch, AllocE
     })
 }
 
+/// Batch 1, which puts the link.
+fn first_batch(alloc: Global) -> Result<Batch, Fail> {
+    Ok(batch(alloc, 1, &[Change::Put(only_link()?)])?)
+}
+
+/// The batch with this number and without a change.
+fn empty_batch(alloc: Global, number: u32) -> Batch {
+    Batch {
+        number,
+        changes: Vec::new(alloc),
+    }
+}
+
+/// Batch 1, and request 7, which asks for its link.
+fn batch_and_request(alloc: Global) -> Result<(Batch, Request), Fail> {
+    Ok((first_batch(alloc)?, request(7, ONE, TWO, 1000)?))
+}
+
+/// What a publisher answers to the batch with this number and without a change.
+fn apply_empty<W: Write, R: Wait>(
+    rt: &R,
+    alloc: Global,
+    publisher: &mut Publisher<W>,
+    number: u32,
+) -> Result<u32, ApplyError>
+    ensures { publisher.new.source ≡ publisher.old.source }
+{
+    let empty = empty_batch(alloc, number);
+    publisher.apply(rt, alloc, &empty)
+}
+
+/// A publisher without a batch, and its one asker.
+fn opened<W: Write + Drop, R: Wait + Abort>(
+    rt: &R,
+    alloc: Global,
+    journal: W,
+) -> (Publisher<W>, Asker)
+    ensures { result.1.source ≡ result.0.source }
+{
+    match open(rt, alloc, journal, 1) {
+        Ok((publisher, mut askers)) => match askers.pop() {
+            Some(asker) => (publisher, asker),
+            None => panic!(rt; "no asker"),
+        },
+        Err(_) => panic!(rt; "no publisher"),
+    }
+}
+
+/// The id and the version of an answer, and the cost and the number of links of its route.
+fn route_of(answer: &Result<Answer, AskError>) -> Option<(u64, u32, u64, usize)> {
+    match answer {
+        Ok(answer) => match &answer.outcome {
+            Outcome::Route(route) => {
+                Some((answer.id, answer.version, route.cost(), route.links().len()))
+            }
+            _ => None,
+        },
+        Err(_) => None,
+    }
+}
+
 /// A request for a bandwidth at the highest priority, on links of any groups.
 fn request(id: u64, from: u32, to: u32, bandwidth: u64) -> Result<Request, RequestError> {
     let (from, to) = (Addr::new(from), Addr::new(to));
@@ -40,7 +108,7 @@ fn request(id: u64, from: u32, to: u32, bandwidth: u64) -> Result<Request, Reque
 }
 
 /// What a writer does once it holds as many bytes as it may. After that it takes all.
-#[derive(Clone, Copy, Debug)]
+#[derive(Clone, Copy)]
 enum Then {
     Fail(ErrorKind),
     TakeNone,
@@ -53,6 +121,16 @@ struct Narrow {
     width: usize,
     most: usize,
     then: Then,
+}
+
+/// A writer that holds nothing.
+fn empty_writer(alloc: Global, width: usize, most: usize, then: Then) -> Narrow {
+    Narrow {
+        held: Vec::new(alloc),
+        width,
+        most,
+        then,
+    }
 }
 
 impl Write for Narrow {

@@ -14,6 +14,7 @@ use cspf_db::{Batch, Change, Link, LinkError, Request, Table};
 use cspf_search::{Outcome, best};
 use std::alloc::{AllocError, Global};
 use std::io::Write;
+use std::process::Abort;
 use std::sync::Wait;
 use std::sync::atomic::{AtomicU64, Ordering};
 use std::test::Fail;
@@ -59,44 +60,79 @@ const SEATTLE: u32 = 0xc6336401; // 198.51.100.1
 
 const NEW_YORK: u32 = 0xc633640b; // 198.51.100.11
 
-/// The link of a circuit from one router to the other. The interface that it leaves by is
-/// 10.from.to.1.
+/// The least costs from Seattle to New York at some versions, which were worked out with another
+/// program: circuits that fail make it 706 or 1,133 more.
+const COSTS: [(usize, u64); 6] = [
+    (1, 4242),
+    (6, 4948),
+    (7, 4242),
+    (8, 4948),
+    (10, 5375),
+    (12, 4242),
+];
+
+/// A router's address, 198.51.100.number.
+fn router(number: u32) -> Addr {
+    Addr::new(0xc6336400u32.wrapping_add(number))
+}
+
+/// The address 10.from.to.1 of the interface from one router to the other.
+fn interface(from: u32, to: u32) -> Addr {
+    Addr::new((from % 256) * 65536 + (to % 256) * 256 + 0x0a000001)
+}
+
+/// The link of a circuit from one router to the other.
 fn link_of(from: u32, to: u32, metric: u32) -> Result<Link, LinkError> {
-    let router = |number: u32| Addr::new(0xc6336400u32.wrapping_add(number)); // 198.51.100.number
-    let local = Addr::new((from % 256) * 65536 + (to % 256) * 256 + 0x0a000001);
-    let remote = Addr::new((to % 256) * 65536 + (from % 256) * 256 + 0x0a000001);
+    let (local, remote) = (interface(from, to), interface(to, from));
+    let group = Mask::new(1);
     Link::new(
         router(from),
         local,
         router(to),
         remote,
         metric,
-        Mask::new(1),
+        group,
         [1_000_000; 8],
     )
 }
 
-/// The batch of the whole network, and then each circuit in turn fails and comes back.
-fn all_batches(alloc: Global) -> Result<Vec<Batch>, Fail> {
-    let mut all = Vec::new(alloc);
+/// The batch of the whole network.
+fn whole_network(alloc: Global) -> Result<Batch, Fail> {
     let mut changes = Vec::new(alloc);
     for (a, b, metric) in CIRCUITS {
         changes.push(Change::Put(link_of(a, b, metric)?))?;
         changes.push(Change::Put(link_of(b, a, metric)?))?;
     }
-    all.push(Batch { number: 1, changes })?;
+    Ok(Batch { number: 1, changes })
+}
+
+/// A link that fails or comes back.
+fn change_of(link: Link, fails: bool) -> Change {
+    if fails {
+        Change::Remove {
+            from: link.from,
+            local: link.local,
+        }
+    } else {
+        Change::Put(link)
+    }
+}
+
+/// The batch with this number, by which a circuit fails or comes back.
+fn circuit_batch(alloc: Global, number: u32) -> Result<Batch, Fail> {
+    let (a, b, metric) = CIRCUITS[(number / 2) as usize % CIRCUITS.len()];
+    let fails = number % 2 == 0;
+    let there = change_of(link_of(a, b, metric)?, fails);
+    let back = change_of(link_of(b, a, metric)?, fails);
+    Ok(batch(alloc, number, &[there, back])?)
+}
+
+/// The batch of the whole network, and then each circuit in turn fails and comes back.
+fn all_batches(alloc: Global) -> Result<Vec<Batch>, Fail> {
+    let mut all = Vec::new(alloc);
+    all.push(whole_network(alloc)?)?;
     for number in 2..VERSIONS + 1 {
-        let (a, b, metric) = CIRCUITS[(number / 2) as usize % CIRCUITS.len()];
-        let (there, back) = (link_of(a, b, metric)?, link_of(b, a, metric)?);
-        let changes = if number % 2 == 0 {
-            [there, back].map(|link| Change::Remove {
-                from: link.from,
-                local: link.local,
-            })
-        } else {
-            [there, back].map(Change::Put)
-        };
-        all.push(batch(alloc, number, &changes)?)?;
+        all.push(circuit_batch(alloc, number)?)?;
     }
     Ok(all)
 }
@@ -117,9 +153,10 @@ fn outcomes_in_order(
     Ok(all)
 }
 
-fn cost_of(outcome: &Outcome) -> Option<u64> {
-    match outcome {
-        Outcome::Route(route) => Some(route.cost()),
+/// The cost of the route at a version.
+fn cost_at(outcomes: &[Outcome], version: usize) -> Option<u64> {
+    match outcomes.get(version) {
+        Some(Outcome::Route(route)) => Some(route.cost()),
         _ => None,
     }
 }
@@ -135,7 +172,7 @@ fn is_same(a: &Outcome, b: &Outcome) -> bool {
 }
 
 /// What is wrong with an answer.
-#[derive(Clone, Copy, Debug, PartialEq, Eq)]
+#[derive(Clone, Copy, Debug)]
 enum Fault {
     NoEntry,
     Memory,
@@ -200,7 +237,7 @@ fn ask_once(alloc: Global, shared: &Shared<'_>, client: &mut Client) -> Result<u
 fn ask_again(alloc: Global, shared: &Shared<'_>, client: &mut Client) -> Result<u32, Fault> {
     for _ in 0..1000 {
         let answered = ask_once(alloc, shared, client);
-        if answered != Err(Fault::Memory) {
+        if !matches!(answered, Err(Fault::Memory)) {
             return answered;
         }
         thread::yield_now();
@@ -261,24 +298,73 @@ fn publish_and_ask<W: Write, R: Threads + Wait + Sync>(
     thread::join_mut(rt, &mut asking, &mut publishing).1
 }
 
+/// A client for each asker.
+fn clients_of(alloc: Global, askers: Vec<Asker>) -> Result<Vec<Client>, AllocError> {
+    let mut clients = Vec::new(alloc);
+    for asker in askers {
+        clients.push(Client {
+            asker,
+            version: 0,
+            right: 0,
+            fault: None,
+        })?;
+    }
+    Ok(clients)
+}
+
+/// All answers of an asker were right, and the last one is of the last version.
+fn is_right<R: Abort>(rt: &R, number: usize, client: &Client) {
+    if let Some(fault) = client.fault {
+        panic!(rt; "asker {number}: {fault:?}")
+    }
+    assert!(rt;
+        client.right == ASKS && client.version == VERSIONS,
+        "asker {number}"
+    );
+}
+
+/// A publisher without a batch, and a client for each of its askers.
+fn opened<R: Wait + Abort>(rt: &R, alloc: Global) -> (Publisher<Vec<u8>>, Vec<Client>) {
+    match open(rt, alloc, Vec::<u8>::new(alloc), ASKERS) {
+        Ok((publisher, askers)) => match clients_of(alloc, askers) {
+            Ok(clients) => (publisher, clients),
+            Err(_) => panic!(rt; "no clients"),
+        },
+        Err(_) => panic!(rt; "no publisher"),
+    }
+}
+
+/// Publishes while the askers ask. Then the last version alone is there to be asked.
+fn run<R: Threads + Wait + Abort + Sync>(rt: &R, alloc: Global, shared: &Shared<'_>) {
+    let (mut publisher, mut clients) = opened(rt, alloc);
+    let last = publish_and_ask(rt, alloc, shared, &mut clients, &mut publisher);
+    for client in clients.iter_mut() {
+        client.version = ask_again(alloc, shared, client).unwrap_or(0);
+    }
+    publisher.close(rt);
+    assert!(rt; last == VERSIONS && clients.len() == ASKERS);
+    for (number, client) in clients.iter().enumerate() {
+        is_right(rt, number, client);
+    }
+}
+
+/// The outcomes have the least costs.
+fn are_best<R: Abort>(rt: &R, outcomes: &[Outcome]) {
+    for (version, cost) in COSTS {
+        assert!(rt;
+            cost_at(outcomes, version) == Some(cost),
+            "version {version}"
+        );
+    }
+}
+
 #[test]
 fn asked_while_circuits_fail(rt: HostRuntime) -> Result<(), Fail> {
     let alloc = rt.alloc();
     let batches = all_batches(alloc)?;
     let request = request(1, SEATTLE, NEW_YORK, 1000)?;
     let outcomes = outcomes_in_order(alloc, &batches, &request)?;
-    // Worked out with another program: circuits that fail make the least cost 706 or 1,133 more.
-    for (version, cost) in [
-        (1, 4242),
-        (6, 4948),
-        (7, 4242),
-        (8, 4948),
-        (10, 5375),
-        (12, 4242),
-    ] {
-        let found = outcomes.get(version).and_then(cost_of);
-        assert_eq!(rt; found, Some(cost), "version {version}");
-    }
+    are_best(&rt, &outcomes);
     let (asked, published) = (AtomicU64::new(0), AtomicU64::new(0));
     let shared = Shared {
         batches: &batches,
@@ -287,33 +373,6 @@ fn asked_while_circuits_fail(rt: HostRuntime) -> Result<(), Fail> {
         asked: &asked,
         published: &published,
     };
-    let mut clients = Vec::with_capacity(alloc, ASKERS)?;
-    let Ok((mut publisher, askers)) = open(&rt, alloc, Vec::<u8>::new(alloc), ASKERS) else {
-        panic!(rt; "no publisher")
-    };
-    for asker in askers {
-        let client = Client {
-            asker,
-            version: 0,
-            right: 0,
-            fault: None,
-        };
-        let _ = clients.push(client);
-    }
-    let last = publish_and_ask(&rt, alloc, &shared, &mut clients, &mut publisher);
-    // Now the last version alone is there to be asked.
-    for client in clients.iter_mut() {
-        client.version = ask_again(alloc, &shared, client).unwrap_or(0);
-    }
-    publisher.close(&rt);
-    assert_eq!(rt; (last, clients.len()), (VERSIONS, ASKERS));
-    for (number, client) in clients.iter().enumerate() {
-        assert_eq!(rt; client.fault, None, "asker {number}");
-        assert_eq!(rt;
-            (client.right, client.version),
-            (ASKS, VERSIONS),
-            "asker {number}"
-        );
-    }
+    run(&rt, alloc, &shared);
     Ok(())
 }

@@ -1,174 +1,130 @@
-use super::{Narrow, ONE, TEXT, TWO, Then, batch, only_link, request};
-use crate::{Answer, ApplyError, AskError, open};
-use cspf_db::{Batch, Change, Request};
+ghost use Rattle.std.specs.Prelude.{◌≡◌};
+
+use super::{Narrow, TEXT, Then, apply_empty, batch_and_request, empty_writer, opened, route_of};
+use crate::{Answer, ApplyError, AskError, Asker, Publisher};
+use cspf_db::{Batch, Request};
 use cspf_search::Outcome;
 use std::alloc::Global;
-use std::io::ErrorKind;
+use std::io::{ErrorKind, Write};
+use std::process::Abort;
 use std::sync::Wait;
 use std::test::Fail;
 
-/// What a publisher over a writer answers to two batches, and an asker to a request after them. The
-/// writer comes back.
-fn applied_twice<R: Wait>(
+/// What a publisher over a writer answers to a batch and to an empty one with a number, and an asker
+/// to a request after them. The writer comes back.
+fn applied_twice<R: Wait + Abort>(
     rt: &R,
     alloc: Global,
     journal: Narrow,
-    batches: (&Batch, &Batch),
+    first: &Batch,
+    second: u32,
     request: &Request,
-) -> Option<
-    (
-        (Result<u32, ApplyError>, Result<u32, ApplyError>),
-        Result<Answer, AskError>,
-        Narrow,
-    ),
-> {
-    let (mut publisher, mut askers) = match open(rt, alloc, journal, 1) {
-        Ok(opened) => opened,
-        Err(_) => return None,
-    };
-    let first = publisher.apply(rt, alloc, batches.0);
-    let second = publisher.apply(rt, alloc, batches.1);
-    let answer = match askers.pop() {
-        Some(mut asker) => asker.ask(alloc, request),
-        None => Err(AskError::NoEntry),
-    };
-    Some(((first, second), answer, publisher.close(rt)))
+) -> (
+    (Result<u32, ApplyError>, Result<u32, ApplyError>),
+    Result<Answer, AskError>,
+    Narrow,
+) {
+    let (mut publisher, mut asker) = opened(rt, alloc, journal);
+    let applied = (
+        publisher.apply(rt, alloc, first),
+        apply_empty(rt, alloc, &mut publisher, second),
+    );
+    let answer = asker.ask(alloc, request);
+    (applied, answer, publisher.close(rt))
 }
 
-/// A writer fails, takes nothing or is interrupted after each number of bytes of a batch. From then
-/// on the publisher is stopped, and the empty database stays published.
+/// Whether the answer to request 7 is that version 0 doesn't have the first router.
+fn is_of_no_batch(answer: &Result<Answer, AskError>) -> bool {
+    match answer {
+        Ok(answer) => {
+            answer.id == 7 && answer.version == 0 && matches!(answer.outcome, Outcome::UnknownFrom)
+        }
+        Err(_) => false,
+    }
+}
+
+/// A writer's fault after so many bytes of batch 1 stops the publisher, and the empty database stays
+/// published.
+fn stops_at<R: Wait + Abort>(
+    rt: &R,
+    alloc: Global,
+    journal: Narrow,
+    first: &Batch,
+    request: &Request,
+) {
+    let most = journal.most;
+    let (applied, answer, journal) = applied_twice(rt, alloc, journal, first, 7, request);
+    let fault = Err(ApplyError::Journal { written: most });
+    assert!(rt; applied == (fault, Err(ApplyError::Stopped)), "at {most}");
+    assert!(rt; journal.held.len() == most && TEXT.starts_with(journal.held.as_slice()));
+    assert!(rt; is_of_no_batch(&answer), "at {most}");
+}
+
+/// A writer fails, takes nothing or is interrupted after each number of bytes of a batch.
 #[test]
 fn faults_of_the_journal(rt: HostRuntime) -> Result<(), Fail> {
     let alloc = rt.alloc();
-    let first = batch(alloc, 1, &[Change::Put(only_link()?)])?;
-    let wrong = batch(alloc, 7, &[])?;
-    let request = request(7, ONE, TWO, 1000)?;
-    let faults = [
-        Then::Fail(ErrorKind::Other),
-        Then::Fail(ErrorKind::Interrupted),
-        Then::TakeNone,
-    ];
-    for then in faults {
-        for most in 0..TEXT.len() {
-            let journal = Narrow {
-                held: Vec::new(alloc),
-                width: 102,
-                most,
-                then,
-            };
-            let Some((applied, answer, journal)) = applied_twice(
-                &rt,
-                alloc,
-                journal,
-                (&first, &wrong),
-                &request,
-            ) else {
-                panic!(rt; "no publisher")
-            };
-            let fault = ApplyError::Journal { written: most };
-            assert_eq!(rt;
-                applied,
-                (Err(fault), Err(ApplyError::Stopped)),
-                "at {most}"
-            );
-            assert_eq!(rt; journal.held.as_slice(), &TEXT[..most]);
-            assert!(rt;
-                matches!(
-                    answer,
-                    Ok(Answer {
-                        id: 7,
-                        version: 0,
-                        outcome: Outcome::UnknownFrom,
-                    })
-                )
-            );
-        }
+    let (first, request) = batch_and_request(alloc)?;
+    for most in 0..TEXT.len() {
+        let failing = empty_writer(alloc, 102, most, Then::Fail(ErrorKind::Other));
+        stops_at(&rt, alloc, failing, &first, &request);
+        let interrupted = empty_writer(alloc, 102, most, Then::Fail(ErrorKind::Interrupted));
+        stops_at(&rt, alloc, interrupted, &first, &request);
+        let full = empty_writer(alloc, 102, most, Then::TakeNone);
+        stops_at(&rt, alloc, full, &first, &request);
     }
     Ok(())
 }
 
+/// The published version, the told one, and the one that an asker knows once it is told.
+fn versions<W: Write>(publisher: &mut Publisher<W>, asker: &mut Asker) -> (u32, u32, u32)
+    requires { asker.old.source ≡ publisher.old.source }
+{
+    let told = publisher.tell();
+    (publisher.version(), told.version(), asker.meet(told))
+}
+
+/// Whether the journal's fault in the text of batch 2 is answered, and then that the publisher is
+/// stopped.
+fn stops_at_batch_2<R: Wait>(rt: &R, alloc: Global, publisher: &mut Publisher<Narrow>) -> bool
+    ensures { publisher.new.source ≡ publisher.old.source }
+{
+    let failed = apply_empty(rt, alloc, publisher, 2);
+    let again = apply_empty(rt, alloc, publisher, 2);
+    let next = apply_empty(rt, alloc, publisher, 3);
+    let stopped = Err(ApplyError::Stopped);
+    failed == Err(ApplyError::Journal { written: 3 }) && again == stopped && next == stopped
+}
+
 /// A fault in the text of batch 2 stops the publisher for good: version 1 stays published, and the
 /// journal keeps what it had by then.
+fn stops_at_version_1<R: Wait + Abort>(rt: &R, alloc: Global, first: &Batch, request: &Request) {
+    let journal = empty_writer(alloc, 102, 105, Then::Fail(ErrorKind::Other));
+    let (mut publisher, mut asker) = opened(rt, alloc, journal);
+    let applied = publisher.apply(rt, alloc, first);
+    let stops = stops_at_batch_2(rt, alloc, &mut publisher);
+    let versions = versions(&mut publisher, &mut asker);
+    let answer = asker.ask(alloc, request);
+    let held = publisher.close(rt).held;
+    assert!(rt; applied == Ok(1) && stops && versions == (1, 1, 1));
+    assert!(rt; route_of(&answer) == Some((7, 1, 10, 1)));
+    assert!(rt; held.len() == 105 && held.starts_with(TEXT) && held.ends_with(b"end"));
+}
+
 #[test]
 fn stopped_at_a_version(rt: HostRuntime) -> Result<(), Fail> {
-    let alloc = rt.alloc();
-    let first = batch(alloc, 1, &[Change::Put(only_link()?)])?;
-    let (second, third) = (batch(alloc, 2, &[])?, batch(alloc, 3, &[])?);
-    let request = request(7, ONE, TWO, 1000)?;
-    let journal = Narrow {
-        held: Vec::new(alloc),
-        width: 102,
-        most: 105,
-        then: Then::Fail(ErrorKind::Other),
-    };
-    let Ok((mut publisher, mut askers)) = open(&rt, alloc, journal, 1) else {
-        panic!(rt; "no publisher")
-    };
-    let Some(mut asker) = askers.pop() else {
-        panic!(rt; "no asker")
-    };
-    let applied = (
-        publisher.apply(&rt, alloc, &first),
-        publisher.apply(&rt, alloc, &second),
-        publisher.apply(&rt, alloc, &second),
-        publisher.apply(&rt, alloc, &third),
-    );
-    let told = publisher.tell();
-    let versions = (publisher.version(), told.version(), asker.meet(told));
-    let answer = asker.ask(alloc, &request);
-    let journal = publisher.close(&rt);
-    let fault = ApplyError::Journal { written: 3 };
-    let stopped = Err(ApplyError::Stopped);
-    assert_eq!(rt; applied, (Ok(1), Err(fault), stopped, stopped));
-    assert_eq!(rt; versions, (1, 1, 1));
-    assert!(rt;
-        matches!(
-            answer,
-            Ok(Answer {
-                id: 7,
-                version: 1,
-                outcome: Outcome::Route(_),
-            })
-        )
-    );
-    assert_eq!(rt; journal.held.len(), 105);
-    assert!(rt; journal.held.starts_with(TEXT) && journal.held.ends_with(b"end"));
+    let (first, request) = batch_and_request(rt.alloc())?;
+    stops_at_version_1(&rt, rt.alloc(), &first, &request);
     Ok(())
 }
 
 /// A writer that takes three bytes at a time gets both texts.
 #[test]
 fn journal_in_pieces(rt: HostRuntime) -> Result<(), Fail> {
-    let alloc = rt.alloc();
-    let first = batch(alloc, 1, &[Change::Put(only_link()?)])?;
-    let empty = batch(alloc, 2, &[])?;
-    let request = request(7, ONE, TWO, 1000)?;
-    let journal = Narrow {
-        held: Vec::new(alloc),
-        width: 3,
-        most: 110,
-        then: Then::TakeNone,
-    };
-    let Some((applied, answer, journal)) = applied_twice(
-        &rt,
-        alloc,
-        journal,
-        (&first, &empty),
-        &request,
-    ) else {
-        panic!(rt; "no publisher")
-    };
-    assert_eq!(rt; applied, (Ok(1), Ok(2)));
+    let (first, request) = batch_and_request(rt.alloc())?;
+    let journal = empty_writer(rt.alloc(), 3, 110, Then::TakeNone);
+    let (applied, answer, journal) = applied_twice(&rt, rt.alloc(), journal, &first, 2, &request);
+    assert!(rt; applied == (Ok(1), Ok(2)) && route_of(&answer) == Some((7, 2, 10, 1)));
     assert!(rt; journal.held.starts_with(TEXT) && journal.held.ends_with(b"end,2,0\n"));
-    assert!(rt;
-        matches!(
-            answer,
-            Ok(Answer {
-                id: 7,
-                version: 2,
-                outcome: Outcome::Route(_),
-            })
-        )
-    );
     Ok(())
 }

@@ -1,11 +1,11 @@
 //! One allocation is refused: `rt try --test --fail-alloc N -- refused_once` refuses the Nth.
 
-use super::{Narrow, ONE, TEXT, TWO, Then, batch, only_link, request};
+use super::{Narrow, ONE, TEXT, TWO, Then, batch, only_link, opened, request, route_of};
 use crate::{Answer, ApplyError, AskError, Asker, OpenError, Publisher, open};
-use cspf_db::Change;
-use cspf_search::Outcome;
+use cspf_db::{Batch, Change, Request};
 use std::alloc::{AllocError, Global};
-use std::io::ErrorKind;
+use std::io::{ErrorKind, Write};
+use std::process::Abort;
 use std::sync::Wait;
 use std::test::Fail;
 
@@ -19,64 +19,80 @@ fn journal_with_room(alloc: Global) -> Result<Narrow, AllocError> {
     })
 }
 
-/// Opens, once more where memory is refused, which hands the writer back as it was. No other error
-/// is answered.
-fn opened<R: Wait>(
+/// Batch 1, and once more where memory is refused.
+fn batch_at_last(alloc: Global) -> Result<Batch, Fail> {
+    let changes = [Change::Put(only_link()?)];
+    match batch(alloc, 1, &changes) {
+        Ok(first) => Ok(first),
+        Err(_) => Ok(batch(alloc, 1, &changes)?),
+    }
+}
+
+/// A publisher and its one asker, opened once more where memory is refused, which hands the writer
+/// back as it was. No other error is answered.
+fn opened_at_last<R: Wait + Abort>(
     rt: &R,
     alloc: Global,
     journal: Narrow,
-) -> Option<(Publisher<Narrow>, Vec<Asker>)> {
-    let journal = match open(rt, alloc, journal, 1) {
-        Ok(opened) => return Some(opened),
-        Err((error, journal)) => {
-            if error != OpenError::Memory || !journal.held.is_empty() {
-                return None;
-            }
-            journal
-        }
-    };
+) -> (Publisher<Narrow>, Asker) {
     match open(rt, alloc, journal, 1) {
-        Ok(opened) => Some(opened),
-        Err(_) => None,
+        Ok((publisher, mut askers)) => match askers.pop() {
+            Some(asker) => (publisher, asker),
+            None => panic!(rt; "no asker"),
+        },
+        Err((error, journal)) => {
+            assert!(rt; error == OpenError::Memory && journal.held.is_empty());
+            opened(rt, alloc, journal)
+        }
+    }
+}
+
+/// Whether a batch is published, at once, or once memory was refused and nothing was.
+fn is_published<W: Write, R: Wait>(
+    rt: &R,
+    alloc: Global,
+    publisher: &mut Publisher<W>,
+    batch: &Batch,
+) -> bool {
+    let applied = publisher.apply(rt, alloc, batch);
+    if applied == Err(ApplyError::Memory) {
+        return publisher.version() == 0 && publisher.apply(rt, alloc, batch) == Ok(1);
+    }
+    applied == Ok(1) && publisher.version() == 1
+}
+
+/// The answer to a request, asked once more where memory is refused.
+fn asked(alloc: Global, asker: &mut Asker, request: &Request) -> Result<Answer, AskError> {
+    match asker.ask(alloc, request) {
+        Err(AskError::Memory) => asker.ask(alloc, request),
+        answer => answer,
     }
 }
 
 /// Each call answers, or it answers that memory is refused and then the same call answers.
+fn answers<R: Wait + Abort>(
+    rt: &R,
+    alloc: Global,
+    journal: Narrow,
+    first: &Batch,
+    request: &Request,
+) {
+    let (mut publisher, mut asker) = opened_at_last(rt, alloc, journal);
+    let published = is_published(rt, alloc, &mut publisher, first);
+    let answer = asked(alloc, &mut asker, request);
+    let journal = publisher.close(rt);
+    assert!(rt; published && route_of(&answer) == Some((7, 1, 10, 1)));
+    assert!(rt; journal.held.as_slice() == TEXT);
+}
+
 #[test]
 fn refused_once(rt: HostRuntime) -> Result<(), Fail> {
-    let alloc = rt.alloc();
-    let changes = [Change::Put(only_link()?)];
-    let first = batch(alloc, 1, &changes).or_else(|_| batch(alloc, 1, &changes))?;
+    let first = batch_at_last(rt.alloc())?;
     let request = request(7, ONE, TWO, 1000)?;
-    let journal = journal_with_room(alloc).or_else(|_| journal_with_room(alloc))?;
-    let Some((mut publisher, mut askers)) = opened(&rt, alloc, journal) else {
-        panic!(rt; "no publisher")
+    let journal = match journal_with_room(rt.alloc()) {
+        Ok(journal) => journal,
+        Err(_) => journal_with_room(rt.alloc())?,
     };
-    let Some(mut asker) = askers.pop() else {
-        panic!(rt; "no asker")
-    };
-    let mut applied = publisher.apply(&rt, alloc, &first);
-    let version = publisher.version();
-    let is_refused = applied == Err(ApplyError::Memory);
-    if is_refused {
-        applied = publisher.apply(&rt, alloc, &first);
-    }
-    let mut answer = asker.ask(alloc, &request);
-    if matches!(answer, Err(AskError::Memory)) {
-        answer = asker.ask(alloc, &request);
-    }
-    let journal = publisher.close(&rt);
-    assert_eq!(rt; (applied, version), (Ok(1), if is_refused { 0 } else { 1 }));
-    assert!(rt;
-        matches!(
-            answer,
-            Ok(Answer {
-                id: 7,
-                version: 1,
-                outcome: Outcome::Route(_),
-            })
-        )
-    );
-    assert_eq!(rt; journal.held.as_slice(), TEXT);
+    answers(&rt, rt.alloc(), journal, &first, &request);
     Ok(())
 }
