@@ -1,9 +1,9 @@
-ghost use Rattle.std.specs.Prelude.{◌≡◌, ◌^◌, ◌<◌, ◌≤◌};
+ghost use Rattle.std.specs.Prelude.{◌≡◌, ◌^◌, ◌<◌, ◌≤◌, IsTrue};
 ghost use Rattle.cspf_db.specs.declared.link.Link.{Link as Linked};
-ghost use Rattle.cspf_db.specs.Admissible.{IsAdmissible};
+ghost use Rattle.cspf_db.specs.Admissible.{IsAdmissible, IsAdmitted};
 ghost use Rattle.cspf_search.specs.Frontier.{lift};
 
-use cspf_db::{Request, Table};
+use cspf_db::{Link, Request, Table};
 use cspf_graph::accepts;
 
 /// The state that a search is for, and what the last link of a route costs at least.
@@ -28,6 +28,19 @@ pub(crate) fn lift(goal: Goal, at: usize) -> u64
     }
 }
 
+/// The metric that is the least so far, or that of a link that arrives at the tail-end, if the
+/// request admits the link and its metric is lower.
+fn lowered(least: u32, arrives: bool, link: &Link, request: &Request) -> u32
+    ensures below { result ≤ least }
+    ensures met { IsTrue arrives → IsAdmitted request.now link.now → result ≤ link.now.metric }
+{
+    if arrives && link.metric < least && accepts(link, request) {
+        link.metric
+    } else {
+        least
+    }
+}
+
 /// The least metric of the admissible links that end at the tail-end, or the greatest number where
 /// there is none.
 pub(crate) fn last_metric(table: &Table, request: &Request) -> u32
@@ -39,12 +52,8 @@ pub(crate) fn last_metric(table: &Table, request: &Request) -> u32
     let routers = table.routers();
     let mut least = u32::MAX;
     for row in 0..links.len() {
-        if routers[usize::from(ends[row])] == request.to {
-            let link = links[row];
-            if link.metric < least && accepts(&link, request) {
-                least = link.metric;
-            }
-        }
+        let arrives = routers[usize::from(ends[row])] == request.to;
+        least = lowered(least, arrives, &links[row], request);
     }
     least
 }
