@@ -1,6 +1,7 @@
-use Rattle.std.proofs.Common.{◌≡◌, ℕ, ◌+◌, ◌<◌, ◌≤◌, Bool, true, false, cond, List, [], ◌∷◌, ◌++◌, All, length, take, drop, get_or, ltb, leb, nat_eq, slice_range, refl, sym, ap, ◌∙◌, arith}
+use Rattle.std.proofs.Common.{◌≡◌, inl, inr, ℕ, ◌+◌, ◌-◌, ◌<◌, ◌≤◌, Bool, true, false, cond, List, [], ◌∷◌, ◌++◌, All, length, take, drop, get_or, ltb, leb, nat_eq, slice_range, refl, sym, ap, ◌∙◌, arith}
 use Rattle.std.specs.List.{filter, between}
-use Rattle.std.specs.List.Sorted.{IsPartitionPoint}
+use Rattle.std.specs.List.Sorted.{IsPartitionPoint, IsNonDecreasingBy}
+use Rattle.std.proofs.lemmas.Bool.{cases_lt}
 use Rattle.std.proofs.lemmas.Bool.Decides.{nat_tests}
 use Rattle.std.proofs.lemmas.List.{get_or-take, get_or-drop, length-take, length-drop, append-nil}
 use Rattle.std.proofs.lemmas.List.Edits.{split_between, length-between, get_or-between}
@@ -62,3 +63,45 @@ module _ (rows : List Link) (router first end : ℕ) (in_first : first ≤ lengt
       ∙ ap (λ ls. filter p (between first end rows) ++ ls) (none_kept p (drop end rows) behind)
       ∙ append-nil (filter p (between first end rows))
       ∙ all_kept p (between first end rows) inside)
+
+lower : (m r : ℕ) → m < r → ltb m r ≡ true
+lower m r h = grind (arith, nat_tests)
+
+not_lower : (m r : ℕ) → r ≤ m → ltb m r ≡ false
+not_lower m r h = grind (arith, nat_tests)
+
+upto : (m r : ℕ) → m ≤ r → leb m r ≡ true
+upto m r h = grind (arith, nat_tests)
+
+not_upto : (m r : ℕ) → r < m → leb m r ≡ false
+not_upto m r h = grind (arith, nat_tests)
+
+-- a run of rows from a router, behind a lower one and before a higher one, has all the rows from it
+module _ (rows : List Link) (router first end : ℕ) (rises : IsNonDecreasingBy (λ l. l.from) rows) (order : first ≤ end) (bound : end ≤ length rows)
+    (run : (k : ℕ) (d : Link) → first ≤ k → k < end → (get_or rows k d).from ≡ router) (low : 0 < first → (d : Link) → (get_or rows (first - 1) d).from < router)
+    (high : end < length rows → (d : Link) → router < (get_or rows end d).from) where
+  before : (k : ℕ) (d : Link) → k < first → (get_or rows k d).from < router
+  before k d h = omega (arith, rises k (first - 1) d (omega (arith, h)) (omega (arith, h, order, bound)), low (omega (arith, h)) d)
+
+  behind : (k : ℕ) (d : Link) → end ≤ k → k < length rows → router < (get_or rows k d).from
+  behind k d past h = omega (arith, rises end k d past h, high (omega (arith, past, h)) d)
+
+  pub filter-run : slice_range rows first end ≡ filter (λ l. nat_eq l.from router) rows
+  filter-run =
+      filter-span rows router first end (omega (arith, order, bound)) bound
+      (
+        (λ k d _ h. lower (get_or rows k d).from router (before k d h)),
+        λ k d from h.
+            elim (cases_lt k end) [
+              | inl lt ↦ not_lower (get_or rows k d).from router (omega (arith, run k d from lt))
+              | inr past ↦ not_lower (get_or rows k d).from router (omega (arith, behind k d past h))
+            ],
+      )
+      (
+        (λ k d _ h.
+            elim (cases_lt k first) [
+              | inl lt ↦ upto (get_or rows k d).from router (omega (arith, before k d lt))
+              | inr from ↦ upto (get_or rows k d).from router (omega (arith, run k d from h))
+            ]),
+        λ k d past h. not_upto (get_or rows k d).from router (behind k d past h),
+      )

@@ -1,5 +1,5 @@
 -- Private: the rows of a table with their routers and ends, and the database that they make.
-use Rattle.std.specs.Prelude.{◌≡◌, ◌<◌, ◌≤◌, ℕ, IsTrue, List, All, Contains, length, map, slice_index, Vec}
+use Rattle.std.specs.Prelude.{◌≡◌, ◌<◌, ◌≤◌, ℕ, IsTrue, List, All, Contains, filter, length, map, nat_eq, slice_index, slice_index_or, slice_range, Vec}
 use Rattle.std.specs.Vec.{vec_capacity}
 use Rattle.std.specs.declared.alloc.Global.{Global}
 use Rattle.std.specs.Ordering.{nat_cmp}
@@ -67,6 +67,20 @@ pub record AreParts (links : Vec Link Global) (names : Vec ℕ Global) (indices 
   pub ends : AreEndsOf links.items names.items indices.items
   pub room : 20480 ≤ vec_capacity indices
 
--- the parts of a table
-abbrev pub IsTable : Inside → Type 0
-IsTable a = AreParts a.rows a.routers a.ends
+-- where the rows from a router begin and end
+pub record IsSpanOf (rows : List Link) (router : ℕ) (span : ℕ × ℕ) : Type 0 where
+  pub order : span.0 ≤ span.1
+  pub bound : span.1 ≤ length rows
+  pub part : slice_range rows span.0 span.1 ≡ filter (λ l. nat_eq l.from router) rows
+
+-- so it is for each router
+pub record AreSpansOf (rows : List Link) (routers : List ℕ) (spans : List (ℕ × ℕ)) : Type 0 where
+  pub many : length spans ≡ length routers
+  pub each : (at : ℕ) → at < length routers
+      → IsSpanOf rows (slice_index routers at) (slice_index_or spans at (0, 0))
+
+-- the parts of a table, and where the rows from each router begin and end
+pub record IsTable (a : Inside) : Type 0 where
+  pub parts : AreParts a.rows a.routers a.ends
+  pub spans : AreSpansOf a.rows.items a.routers.items a.spans.items
+  pub room : 1024 ≤ vec_capacity a.spans

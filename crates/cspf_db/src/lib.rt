@@ -14,6 +14,7 @@ mod places;
 mod refusal;
 mod request;
 mod router_list;
+mod router_rows;
 mod routers;
 mod scratch;
 mod table;

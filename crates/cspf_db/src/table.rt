@@ -9,7 +9,8 @@ ghost use Rattle.cspf_db.specs.Targets.{Owns};
 use crate::beside::change_table;
 use crate::router_list::search;
 use crate::scratch::Scratch;
-use crate::table_rows::{any_within, index_of, rows_from, span};
+use crate::router_rows::list_spans;
+use crate::table_rows::{any_within, index_of, rows_from};
 use crate::{Batch, Link, Refusal, check};
 use cspf_addr::{Addr, Prefix};
 use std::alloc::{AllocError, Global};
@@ -29,6 +30,7 @@ pub struct Table {
     rows: Vec<Link>,
     routers: Vec<Addr>,
     ends: Vec<u16>,
+    spans: Vec<(u16, u16)>,
     scratch: Scratch,
 }
 
@@ -56,6 +58,7 @@ impl Table {
             rows: Vec::with_capacity(alloc, ROOM)?,
             routers: Vec::with_capacity(alloc, ROUTERS)?,
             ends: Vec::with_capacity(alloc, ROOM)?,
+            spans: Vec::with_capacity(alloc, ROUTERS)?,
             scratch: Scratch::new(alloc)?,
         })
     }
@@ -113,8 +116,8 @@ impl Table {
         requires { at < length (router_list self.now) }
         ensures { result.now ≡ links_from_index self.now at }
     {
-        let (first, end) = span(&self.rows, self.routers[at]);
-        &self.rows[first..end]
+        let (first, end) = self.spans[at];
+        &self.rows[usize::from(first)..usize::from(end)]
     }
 
     /// Beside the links of `out_at`, the index in `routers` of the router that each runs to.
@@ -124,8 +127,8 @@ impl Table {
         ensures each { map (λ end. slice_index (router_list self.now) end) result.now
             ≡ map (λ l. l.to) (links_from_index self.now at) }
     {
-        let (first, end) = span(&self.rows, self.routers[at]);
-        &self.ends[first..end]
+        let (first, end) = self.spans[at];
+        &self.ends[usize::from(first)..usize::from(end)]
     }
 
     /// The link with this key, if there is one.
@@ -178,5 +181,6 @@ impl Table {
             &mut self.scratch,
             &batch.changes,
         );
+        list_spans(&mut self.spans, &self.routers, &self.rows);
     }
 }

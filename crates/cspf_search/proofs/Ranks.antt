@@ -22,7 +22,7 @@ use Rattle.cspf_search.specs.States.{State}
 use Rattle.cspf_search.specs.Settled.{IsNoLater, RanksNoLater, IsConsistent, locals_cmp}
 use Rattle.cspf_search.specs.Arena.{walk_at, walks, walk_of, AreNodes, IsNext}
 use Rattle.cspf_search.specs.Rounds.{CrossesFrom}
-use Rattle.cspf_search.specs.Frontier.{state_at, IsStateIndex, AreListed, nowhere, rank_of, walk_rank, no_rank, lift, IsBeyond}
+use Rattle.cspf_search.specs.Frontier.{state_at, IsStateIndex, AreListed, IsEnd, nowhere, rank_of, walk_rank, no_rank, lift, IsBeyond}
 
 pub same_or_not : (i j : ℕ) → (i ≡ j) ⊎ (i ≢ j)
 same_or_not i j =
@@ -144,6 +144,10 @@ same_index xs up i j low high e =
       | inl lt ↦ absurd (omega (arith, rises xs up i j lt high))
       | inr ge ↦ elim (cases_lt j i) [ inl lt ↦ absurd (omega (arith, rises xs up j i lt low)) | inr le ↦ omega arith ]
     ]
+
+-- a router is at one place of the list
+pub one_place : (d : Database) → AreListed d → (router i j : ℕ) → IsEnd d router i → IsEnd d router j → i ≡ j
+one_place d listed router i j at there = same_index (router_list d) listed.rising i j at.within there.within (at.is ∙ sym there.is)
 
 module _ (d : Database) (q : Request) (listed : AreListed d) where
   -- no two indexes are of one state

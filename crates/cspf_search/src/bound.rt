@@ -1,7 +1,7 @@
 ghost use Rattle.std.specs.Prelude.{◌≡◌, ◌^◌, ◌<◌, ◌≤◌, IsTrue};
 ghost use Rattle.cspf_db.specs.declared.link.Link.{Link as Linked};
 ghost use Rattle.cspf_db.specs.Admissible.{IsAdmissible, IsAdmitted};
-ghost use Rattle.cspf_search.specs.Frontier.{lift};
+ghost use Rattle.cspf_search.specs.Frontier.{lift, AreListed, IsEnd};
 
 use cspf_db::{Link, Request, Table};
 use cspf_graph::accepts;
@@ -42,17 +42,18 @@ fn lowered(least: u32, arrives: bool, link: &Link, request: &Request) -> u32
 }
 
 /// The least metric of the admissible links that end at the tail-end, or the greatest number where
-/// there is none.
-pub(crate) fn last_metric(table: &Table, request: &Request) -> u32
+/// there is none. The tail-end is told by its index in the list of routers.
+pub(crate) fn last_metric(table: &Table, request: &Request, to: usize) -> u32
+    requires listed { AreListed table.now }
+    requires to { IsEnd table.now request.now.to to }
     ensures { (l : Linked) → IsAdmissible table.now request.now l → l.to ≡ request.now.to
         → result ≤ l.metric }
 {
     let links = table.links();
     let ends = table.ends();
-    let routers = table.routers();
     let mut least = u32::MAX;
     for row in 0..links.len() {
-        let arrives = routers[usize::from(ends[row])] == request.to;
+        let arrives = usize::from(ends[row]) == to;
         least = lowered(least, arrives, &links[row], request);
     }
     least

@@ -158,7 +158,7 @@ fn reached(
     listed(table);
     let goal = Goal {
         at: (legs - 1) * 1024 + to,
-        bound: last_metric(table, request),
+        bound: last_metric(table, request, to),
     };
     let stands = stands(alloc, table, request, legs)?;
     let mut nodes = rooted(alloc, request)?;

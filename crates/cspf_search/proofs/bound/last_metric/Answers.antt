@@ -1,7 +1,8 @@
-use Rattle.std.proofs.Common.{◌≡◌, ◌<◌, inl, inr, ℕ, List, length, slice_index, ap, ◌∙◌, arith}
+use Rattle.std.proofs.Common.{◌≡◌, inl, inr, subst, arith}
 use Rattle.std.proofs.lemmas.Bool.{eq-eqb}
 use Rattle.std.proofs.lemmas.List.{get_or_read}
-use Rattle.cspf_search.proofs.Ranks.{same_or_not}
+use Rattle.cspf_search.specs.Frontier.{IsEnd}
+use Rattle.cspf_search.proofs.Ranks.{same_or_not, one_place}
 use Rattle.cspf_search.proofs.Taken.{end_of_row}
 use Rattle.cspf_search.proofs.bound.last_metric.Goals as goal
 
@@ -17,10 +18,7 @@ loop-row-preserved c i e h admitted same =
           let each = rw (← c.links-links.ensures.sorted) at c.ends-ends.ensures.each in
           let end = end_of_row d c.ends-ends.result.now links c.ends-ends.ensures.within each row l c.from.result c.loop-row-test.true c.index-links-row.is c.from.ensures in
           let to : l.to ≡ c.args.request.now.to = rw (here, ← is) at same in
-          let routers = c.routers-routers.ensures.all in
-          let within : c.from.result < length c.routers-routers.result.now = omega (arith, end.within, ap (λ (rs : List ℕ). length rs) routers) in
-          let read = get_or_read c.routers-routers.result.now c.from.result c.index-routers-from.result within c.index-routers-from.is 0 in
-          let router : c.index-routers-from.result ≡ c.args.request.now.to = read ∙ ap (λ rs. slice_index rs c.from.result) routers ∙ end.is ∙ to in
-          rw (here, ← is) (c.lowered-least.ensures.met (c.eq-arrives.ensures ∙ eq-eqb _ _ router) (rw (here, ← is) at admitted))
+          let place : c.from.result ≡ c.args.to = one_place d c.requires.listed c.args.request.now.to c.from.result c.args.to (subst (λ r. IsEnd d r c.from.result) to end) c.requires.to in
+          rw (here, ← is) (c.lowered-least.ensures.met (eq-eqb _ _ place) (rw (here, ← is) at admitted))
       | inr ne ↦ omega (arith, c.loop-row.invariant i e (omega (arith, h, ne)) admitted same, c.lowered-least.ensures.below)
     ]

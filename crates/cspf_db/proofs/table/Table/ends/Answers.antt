@@ -3,8 +3,8 @@ use Rattle.cspf_db.proofs.table.Table.ends.Goals as goal
 
 pub returns-clause-within : goal.returns-clause-within
 returns-clause-within c =
-    rw (c.as_slice.ensures.value, ← c.self.view_is, ← c.self.invariant.routers.all) c.self.invariant.ends.within
+    rw (c.as_slice.ensures.value, ← c.self.view_is, ← c.self.invariant.parts.routers.all) c.self.invariant.parts.ends.within
 
 pub returns-clause-each : goal.returns-clause-each
 returns-clause-each c =
-    rw (c.as_slice.ensures.value, ← c.self.view_is, ← c.self.invariant.routers.all, links_of-database_of _ c.self.invariant.rows.by_key) c.self.invariant.ends.each
+    rw (c.as_slice.ensures.value, ← c.self.view_is, ← c.self.invariant.parts.routers.all, links_of-database_of _ c.self.invariant.parts.rows.by_key) c.self.invariant.parts.ends.each
