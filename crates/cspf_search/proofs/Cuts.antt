@@ -107,7 +107,7 @@ module _ (d : Database) (q : Request) where
       (all.0, all.1, subst (λ x. Reaches d q x (record { leg = suc (length q.hops); router = all.0 })) whole all.2)
 
   -- the leg behind the last hop has one target, the tail-end
-  last_target : (b : ℕ) → IsTarget d q (suc (length q.hops)) b ≡ (b ≡ q.to)
+  pub last_target : (b : ℕ) → IsTarget d q (suc (length q.hops)) b ≡ (b ≡ q.to)
   last_target b = ap (λ o. IsTargetOf d q.to o b) (slice_get_past q.hops (length q.hops) (omega arith))
 
   pub route_reaches : (w : List Link) → IsRoute d q w → Reaches d q w (end_state q)

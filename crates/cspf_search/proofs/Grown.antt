@@ -13,7 +13,7 @@ use Rattle.cspf_db.specs.Walks.{cost_of}
 use Rattle.cspf_db.specs.Targets.{IsTarget, IsInside}
 use Rattle.cspf_search.specs.declared.arena.Node.{Node}
 use Rattle.cspf_search.specs.States.{State, IsStep, by_link, by_turn, Reaches, starts, steps, start_of}
-use Rattle.cspf_search.specs.Settled.{IsNoLater, AreSettled, Crosses, IsFirstCrossing, locals_cmp}
+use Rattle.cspf_search.specs.Settled.{IsNoLater, AreSettled, Crosses, IsFirstCrossing, IsStuck, locals_cmp}
 use Rattle.cspf_search.specs.Arena.{walk_at, walks, walk_of, state_of, labels_of, AreNodes, AreInLegs, IsNext, root_of}
 use Rattle.cspf_search.specs.Rounds.{CrossesBy, Turns, CrossesBelow, IsFirstOf, IsFirst}
 use Rattle.cspf_search.proofs.Orders.{walk_from_state, rank_from_state}
@@ -122,16 +122,28 @@ module _ (d : Database) (q : Request) (links : List Link) (listed : AreLinksOf d
   crosses_to w t x = step_from x.front w x.state t x.step x.settled x.still_open
 
   -- where nothing leads on, nothing crosses
-  pub nothing_crosses : IsFirst nodes (CrossesBelow d q nodes links (length nodes)) None → (w : List Link) (t : State) → Crosses d q (labels_of nodes) w t → ⊥
-  nothing_crosses none w t x = none w t (crosses_to w t x)
+  pub nothing_crosses : IsFirst nodes (CrossesBelow d q nodes links (length nodes)) None → IsStuck d q (labels_of nodes)
+  nothing_crosses none = record {
+    closed = 0;
+    is_closed = λ low. absurd (omega (arith, low));
+    low = omega arith;
+    none = λ w t x behind. none w t (crosses_to w t x);
+  }
 
-  first_crossing : (n : Node) → IsFirstOf nodes (CrossesBelow d q nodes links (length nodes)) n → IsFirstCrossing d q (labels_of nodes) (walk_of nodes n) (state_of n)
-  first_crossing n is = record {
+  first_crossing : AreSettled d q (labels_of nodes) → (n : Node) → IsFirstOf nodes (CrossesBelow d q nodes links (length nodes)) n
+      → IsFirstCrossing d q (labels_of nodes) (walk_of nodes n) (state_of n)
+  first_crossing settled n is = record {
     crosses = crosses_from (walk_of nodes n) (state_of n) is.passes;
     first_here = λ x c. walk_from_state n.leg (walk_of nodes n) x (is.first x (state_of n) (crosses_to x (state_of n) c));
+    closed = 0;
+    is_closed = λ low. absurd (omega (arith, low));
+    behind =
+        let c = crosses_from (walk_of nodes n) (state_of n) is.passes in
+        let leg = reached_leg d q (walk_of nodes n) (state_of n) (steps (settled.reached c.state c.front c.settled) c.step) in
+        omega (arith, leg.0);
     potential = λ _. 0;
-    consistent = λ l a. omega arith;
-    first = λ x u c. rank_from_state (state_of n) u (walk_of nodes n) x (is.first x u (crosses_to x u c));
+    consistent = record { links = λ leg l low high a. omega arith; turns = λ leg router low high target. omega arith };
+    first = λ x u c behind. rank_from_state (state_of n) u (walk_of nodes n) x (is.first x u (crosses_to x u c));
   }
 
 module _ (d : Database) (q : Request) (nodes : List Node) (apart : AreApart nodes) (settled : AreSettled d q (labels_of nodes)) where
@@ -164,7 +176,7 @@ pub settled_more : (d : Database) (q : Request) (links : List Link) → AreLinks
     → (nodes : List Node) → AreNodes nodes → AreSettled d q (labels_of nodes) → (n : Node) → IsFirstOf nodes (CrossesBelow d q nodes links (length nodes)) n
     → AreNodes (nodes ++ (n ∷ [])) × AreSettled d q (labels_of (nodes ++ (n ∷ []))) × (length nodes + 1 ≤ (length q.hops + 1) * 1024)
 settled_more d q links listed from few legs nodes are settled n first =
-    settled_by d q from few legs nodes are settled n first.next (first_crossing d q links listed nodes are.apart n first)
+    settled_by d q from few legs nodes are settled n first.next (first_crossing d q links listed nodes are.apart settled n first)
 
 only_root : (q : Request) (i : ℕ) (s : State) (w : List Link) → i < 1 → state_of (slice_index_or (root_of q ∷ []) i nowhere) ≡ s → walk_at (walks (root_of q ∷ [])) i ≡ w
     → (s ≡ start_of q) × (w ≡ [])

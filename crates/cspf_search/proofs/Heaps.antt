@@ -12,7 +12,7 @@ use Rattle.std.proofs.lemmas.List.Elements.{All-contains, All-from_recursion, Al
 use Rattle.std.proofs.lemmas.List.Sorted.{All-permutation, Contains-permutation, IsPermutation-sym}
 use Rattle.cspf_db.specs.declared.request.Request.{Request}
 use Rattle.cspf_db.specs.Database.{Database}
-use Rattle.cspf_search.specs.declared.bound.Goal.{Goal}
+use Rattle.cspf_search.specs.declared.goal.Goal.{Goal}
 use Rattle.cspf_search.specs.declared.labels.Label.{Label}
 use Rattle.cspf_search.specs.Frontier.{Key, key_cmp, no_label, label_at, lift, IsKey, IsLive, IsUpTo, IsLeast}
 
@@ -65,7 +65,7 @@ module _ (d : Database) (q : Request) (goal : Goal) (labels : List Label) (old h
   popped_key = All-contains (IsKey d q goal) heap x keyed (was_there x heap new moved)
 
   -- where it isn't live, the live ones are left
-  pub live_left : ((label_at labels x.0.1).rank + lift goal x.0.1 ≢ x.0.0) → (key : Key) → Contains old key → IsLive goal labels key → Contains new key
+  pub live_left : (IsLive goal labels x → ⊥) → (key : Key) → Contains old key → IsLive goal labels key → Contains new key
   live_left stale key at is =
       elim (others_left x heap new moved key (live key at is)) [
         | inl same ↦ absurd (stale (subst (IsLive goal labels) (sym same) is))
@@ -73,11 +73,13 @@ module _ (d : Database) (q : Request) (goal : Goal) (labels : List Label) (old h
       ]
 
   -- where it is live, it is the least of the live ones
-  pub popped_least : IsHeap key_cmp heap → PopsGreatest key_cmp heap x new → (label_at labels x.0.1).rank + lift goal x.0.1 ≡ x.0.0 → IsLeast d q goal labels old x.0.1 new
-  popped_least ordered pops is =
+  pub popped_least : IsHeap key_cmp heap → PopsGreatest key_cmp heap x new → goal.floor ≤ x.0.1 → (label_at labels x.0.1).rank + lift goal x.0.1 ≡ x.0.0
+      → IsLeast d q goal labels old x.0.1 new
+  popped_least ordered pops behind is =
       let out = pops ordered in
       record {
         index = popped_key.index;
+        behind = behind;
         some = omega (arith, is, popped_key.some);
         most = omega (arith, is, popped_key.most);
         ordered = out.0;

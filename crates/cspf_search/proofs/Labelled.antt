@@ -43,7 +43,7 @@ module _ (nodes : List Node) (n : Node) where
 
 -- indexes
 
-position-None : {X : Type 0} (p : X → Bool) (xs : List X) (k : ℕ) (d : X) → position p xs ≡ None → k < length xs → p (slice_index_or xs k d) ≡ false
+pub position-None : {X : Type 0} (p : X → Bool) (xs : List X) (k : ℕ) (d : X) → position p xs ≡ None → k < length xs → p (slice_index_or xs k d) ≡ false
 position-None p xs k d e h =
     elim (cases_lt (position_or_len p xs) (length xs)) [
       | inl lt ↦ let t = lt-ltb (position_or_len p xs) (length xs) lt in absurd (cc)

@@ -10,7 +10,7 @@ use Rattle.cspf_db.specs.declared.link.Link.{Link}
 use Rattle.cspf_db.specs.declared.request.Request.{Request}
 use Rattle.cspf_db.specs.Database.{Database}
 use Rattle.cspf_search.specs.declared.arena.Node.{Node}
-use Rattle.cspf_search.specs.declared.bound.Goal.{Goal}
+use Rattle.cspf_search.specs.declared.goal.Goal.{Goal}
 use Rattle.cspf_search.specs.declared.labels.Label.{Label}
 use Rattle.cspf_search.specs.States.{State}
 use Rattle.cspf_search.specs.Settled.{IsNoLater}
@@ -43,7 +43,7 @@ pub record IsBetter (d : Database) (nodes : List Node) (P : List Link → State 
 module _ (d : Database) (q : Request) (nodes : List Node) (are : AreNodes nodes) (listed : AreListed d) (P Q R : List Link → State → Type 0)
     (from_left : (w : List Link) (t : State) → P w t → R w t) (from_right : (w : List Link) (t : State) → Q w t → R w t)
     (cases : (w : List Link) (t : State) → R w t → P w t ⊎ Q w t) (goal : Goal) (labels : List Label) (keys : List Key)
-    (before : AreLabels d q nodes P goal labels keys) (i : ℕ) (index : IsStateIndex d q i) (x : List Link)
+    (before : AreLabels d q nodes P goal labels keys) (i : ℕ) (index : IsStateIndex d q i) (open_leg : goal.floor ≤ i) (x : List Link)
     (only : (w : List Link) (t : State) → Q w t → (t ≡ state_at d i) × (w ≡ x)) where
   abbrev cap : ℕ
   cap = (label_at labels goal.at).rank
@@ -107,11 +107,13 @@ module _ (d : Database) (q : Request) (nodes : List Node) (are : AreNodes nodes)
   pub labels_stay : (Q x (state_at d i) → IsLost d nodes P cap (lift goal i) (state_at d i) (label_at labels i) x) → AreLabels d q nodes R goal labels keys
   labels_stay lost = record {
     small = before.small;
+    bounds = before.bounds;
+    whole = before.whole;
     many = before.many;
-    each = λ j jx.
+    each = λ j jx behind.
         elim (same_or_not j i) [
-          | inl same ↦ rw same (stays (label_at labels i) (before.each i index) lost)
-          | inr ne ↦ other j jx ne cap (omega arith) (label_at labels j) (before.each j jx)
+          | inl same ↦ rw same (stays (label_at labels i) (before.each i index open_leg) lost)
+          | inr ne ↦ other j jx ne cap (omega arith) (label_at labels j) (before.each j jx behind)
         ];
     ordered = before.ordered;
     keyed = before.keyed;
@@ -170,13 +172,15 @@ module _ (d : Database) (q : Request) (nodes : List Node) (are : AreNodes nodes)
       λ k h. Contains-permutation (key_at key i ∷ keys) new_keys k gains.moved (Contains-append_right (key_at key i ∷ []) keys k h) in
       record {
         small = before.small;
+        bounds = before.bounds;
+        whole = before.whole;
         many = length-set labels i label ∙ before.many;
-        each = λ j jx.
+        each = λ j jx behind.
             elim (same_or_not j i) [
               | inl same ↦
                   rw (same, here)
-                  (gets (label_at labels i) label (label_at (set labels i label) goal.at).rank lower (before.each i index) better passes)
-              | inr ne ↦ rw (there j ne) (other j jx ne (label_at (set labels i label) goal.at).rank lower (label_at labels j) (before.each j jx))
+                  (gets (label_at labels i) label (label_at (set labels i label) goal.at).rank lower (before.each i index open_leg) better passes)
+              | inr ne ↦ rw (there j ne) (other j jx ne (label_at (set labels i label) goal.at).rank lower (label_at labels j) (before.each j jx behind))
             ];
         ordered = gains.kept before.ordered;
         keyed =
@@ -184,17 +188,17 @@ module _ (d : Database) (q : Request) (nodes : List Node) (are : AreNodes nodes)
             (All-cons (IsKey d q goal) (key_at key i) keys
             (record {
               some = omega (arith, is_key, better.rank);
-              most = omega (arith, is_key, better.rank, rank_small nodes are (node_of d nodes label) better.offer.next, lift_small goal i before.small);
+              most = omega (arith, is_key, better.rank, rank_small nodes are (node_of d nodes label) better.offer.next, lift_small goal i (before.small i));
               index = index;
             })
             before.keyed);
-        waiting = λ j jx some most.
+        waiting = λ j jx behind some most.
             elim (same_or_not j i) [
               | inl same ↦ rw (same, here, ← is_key) (Contains-permutation (key_at key i ∷ keys) new_keys (key_at key i) gains.moved (0, omega arith, refl))
               | inr ne ↦
                   let e = there j ne in
                   let rank = ap (λ (l : Label). l.rank) e in
-                  rw e (moved (key_at ((label_at labels j).rank + lift goal j) j) (before.waiting j jx (omega (arith, rank)) (omega (arith, rank))))
+                  rw e (moved (key_at ((label_at labels j).rank + lift goal j) j) (before.waiting j jx behind (omega (arith, rank)) (omega (arith, rank))))
             ];
       }
 
@@ -288,8 +292,10 @@ labels_same d q nodes P R up down goal labels keys before =
     λ i t label is. label_same d nodes P R up down (label_at labels goal.at).rank (lift goal i) t label is in
     record {
       small = before.small;
+      bounds = before.bounds;
+      whole = before.whole;
       many = before.many;
-      each = λ j jx. same j (state_at d j) (label_at labels j) (before.each j jx);
+      each = λ j jx behind. same j (state_at d j) (label_at labels j) (before.each j jx behind);
       ordered = before.ordered;
       keyed = before.keyed;
       waiting = before.waiting;

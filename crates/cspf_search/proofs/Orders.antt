@@ -24,9 +24,9 @@ ranks_total =
     then_total (on_total (λ (a : ℕ × List Link). cost_of a.1) nat_cmp_total)
     (then_total (on_total (λ (a : ℕ × List Link). length a.1) nat_cmp_total) (on_total (λ (a : ℕ × List Link). a.0) nat_cmp_total))
 
-pub potentials_total : (potential : ℕ → ℕ) → IsTotalOrder (potential_cmp potential)
+pub potentials_total : (potential : State → ℕ) → IsTotalOrder (potential_cmp potential)
 potentials_total potential =
-    then_total (on_total (λ (a : State × List Link). potential a.0.router + cost_of a.1) nat_cmp_total)
+    then_total (on_total (λ (a : State × List Link). potential a.0 + cost_of a.1) nat_cmp_total)
     (then_total (on_total (λ (a : State × List Link). length a.1) nat_cmp_total) (on_total (λ (a : State × List Link). a.0.leg) nat_cmp_total))
 
 pub states_total : IsTotalOrder state_cmp
@@ -79,14 +79,14 @@ rank_then Greater b d = refl
 nat_cmp-potential : (p a b : ℕ) → nat_cmp (p + a) (p + b) ≡ nat_cmp a b
 nat_cmp-potential p a b = grind (arith, nat_tests)
 
-pub walk_from_less : (potential : ℕ → ℕ) (t : State) (w x : List Link) → potential_cmp potential (t, w) (t, x) ≡ Less → IsNoLater w x
+pub walk_from_less : (potential : State → ℕ) (t : State) (w x : List Link) → potential_cmp potential (t, w) (t, x) ≡ Less → IsNoLater w x
 walk_from_less potential t w x h =
     less_first (nat_cmp (cost_of w) (cost_of x)) (nat_cmp (length w) (length x)) (locals_cmp w x)
-    (rw (tied_itself nat_cmp_total t.leg, nat_cmp-potential (potential t.router) (cost_of w) (cost_of x)) at h)
+    (rw (tied_itself nat_cmp_total t.leg, nat_cmp-potential (potential t) (cost_of w) (cost_of x)) at h)
 
-pub rank_from_walk : (potential : ℕ → ℕ) (t : State) (w x : List Link) → IsNoLater w x → RanksNoLater potential t w t x
+pub rank_from_walk : (potential : State → ℕ) (t : State) (w x : List Link) → IsNoLater w x → RanksNoLater potential t w t x
 rank_from_walk potential t w x h =
-    rw (tied_itself nat_cmp_total t.leg, nat_cmp-potential (potential t.router) (cost_of w) (cost_of x))
+    rw (tied_itself nat_cmp_total t.leg, nat_cmp-potential (potential t) (cost_of w) (cost_of x))
     (first_ranks (nat_cmp (cost_of w) (cost_of x)) (nat_cmp (length w) (length x)) (locals_cmp w x) h)
 
 pub walk_from_state : (k : ℕ) (w x : List Link) → is_gt (state_cmp (k, w) (k, x)) ≡ false → IsNoLater w x
@@ -134,17 +134,19 @@ walk_cmp-push v w l =
 grows : (a n b k : ℕ) (o : Ordering) → a ≤ b → n < k → ordering_then (nat_cmp a b) (ordering_then (nat_cmp n k) o) ≡ Less
 grows a n b k o up more = grind (arith, nat_tests)
 
-below_next : (k : ℕ) → nat_cmp k (suc k) ≡ Less
-below_next k = grind (arith, nat_tests)
-
 -- a walk ranks before itself with one link more
-pub potential_cmp-push : (potential : ℕ → ℕ) (k : ℕ) (v : List Link) (l : Link) → potential l.from ≤ potential l.to + l.metric
-    → potential_cmp potential (record { leg = k; router = l.from }, v) (record { leg = k; router = l.to }, v ++ (l ∷ [])) ≡ Less
-potential_cmp-push potential k v l up =
+pub potential_cmp-push : (potential : State → ℕ) (s t : State) (v : List Link) (l : Link) → potential s ≤ potential t + l.metric
+    → potential_cmp potential (s, v) (t, v ++ (l ∷ [])) ≡ Less
+potential_cmp-push potential s t v l up =
     rw (cost_of-push v l, length_push v l)
-    (grows (potential l.from + cost_of v) (length v) (potential l.to + (cost_of v + l.metric)) (length v + 1) (nat_cmp k k) (omega (arith, up)) (omega arith))
+    (grows (potential s + cost_of v) (length v) (potential t + (cost_of v + l.metric)) (length v + 1) (nat_cmp s.leg t.leg) (omega (arith, up)) (omega arith))
+
+turns : (a b n k : ℕ) → a ≤ b → ordering_then (nat_cmp a b) (ordering_then (nat_cmp n n) (nat_cmp k (suc k))) ≡ Less
+turns a b n k up = grind (arith, nat_tests)
 
 -- a walk ranks before itself in the next leg
-pub potential_cmp-turn : (potential : ℕ → ℕ) (k router : ℕ) (v : List Link)
+pub potential_cmp-turn : (potential : State → ℕ) (k router : ℕ) (v : List Link)
+    → potential (record { leg = k; router = router }) ≤ potential (record { leg = suc k; router = router })
     → potential_cmp potential (record { leg = k; router = router }, v) (record { leg = suc k; router = router }, v) ≡ Less
-potential_cmp-turn potential k router v = rw (tied_itself nat_cmp_total (potential router + cost_of v), tied_itself nat_cmp_total (length v)) (below_next k)
+potential_cmp-turn potential k router v up =
+    turns (potential (record { leg = k; router = router }) + cost_of v) (potential (record { leg = suc k; router = router }) + cost_of v) (length v) k (omega (arith, up))

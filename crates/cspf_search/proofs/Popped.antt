@@ -1,5 +1,5 @@
 -- The node of the least key is a first crossing, and where no key is left nothing crosses.
-use Rattle.std.proofs.Common.{◌≡◌, ◌≢◌, inl, inr, ℕ, ◌+◌, ◌-◌, ◌*◌, ◌/◌, ◌%◌, ◌^◌, ◌<◌, ◌≤◌, true, Some, None, List, [], ◌∷◌, length, set, replicate, slice_index, refl, sym, ap, subst, ◌∙◌, arith, length-set}
+use Rattle.std.proofs.Common.{◌≡◌, ◌≢◌, inl, inr, ℕ, suc, ◌+◌, ◌-◌, ◌*◌, ◌/◌, ◌%◌, ◌^◌, ◌<◌, ◌≤◌, true, Some, None, List, [], ◌∷◌, length, set, replicate, slice_index, refl, sym, ap, subst, ◌∙◌, arith, length-set}
 use Rattle.std.specs.List.{Contains}
 use Rattle.std.specs.BinaryHeap.{IsHeap}
 use Rattle.std.proofs.lemmas.Bool.{eq-eqb}
@@ -11,17 +11,19 @@ use Rattle.cspf_db.specs.declared.link.Link.{Link}
 use Rattle.cspf_db.specs.declared.request.Request.{Request}
 use Rattle.cspf_db.specs.Database.{Database, AreLinksOf, IsRouterOf}
 use Rattle.cspf_db.specs.Admissible.{IsAdmissible}
+use Rattle.cspf_db.specs.Targets.{IsTarget}
 use Rattle.cspf_db.specs.Index.{links_of, router_list}
 use Rattle.cspf_search.specs.declared.arena.Node.{Node}
-use Rattle.cspf_search.specs.declared.bound.Goal.{Goal}
+use Rattle.cspf_search.specs.declared.goal.Goal.{Goal}
 use Rattle.cspf_search.specs.declared.labels.Label.{Label}
 use Rattle.cspf_search.specs.States.{State, steps, start_of, end_state}
-use Rattle.cspf_search.specs.Settled.{RanksNoLater, AreSettled, Crosses, IsFirstCrossing}
+use Rattle.cspf_search.specs.Settled.{RanksNoLater, AreSettled, Crosses, IsStuck, IsFirstCrossing}
 use Rattle.cspf_search.specs.Arena.{walk_of, state_of, same_state, index_of, labels_of, AreNodes, root_of}
 use Rattle.cspf_search.specs.Rounds.{CrossesBelow}
-use Rattle.cspf_search.specs.Frontier.{state_at, IsStateIndex, AreListed, IsEnd, nowhere, node_of, walk_rank, no_rank, lift, IsBeyond, IsReached, IsLabel, is_settled, is_reached, is_unreached, Key, key_cmp, key_at, label_at, IsKey, IsLive, AreLabels, IsLeast}
+use Rattle.cspf_search.specs.Bounds.{AreBounds}
+use Rattle.cspf_search.specs.Frontier.{IsFloor, state_at, IsStateIndex, AreListed, IsEnd, nowhere, node_of, walk_rank, no_rank, lift, IsBeyond, IsReached, IsLabel, is_settled, is_reached, is_unreached, Key, key_cmp, key_at, label_at, IsKey, IsLive, AreLabels, IsLeast}
 use Rattle.cspf_search.proofs.Orders.{potentials_total, rank_from_walk}
-use Rattle.cspf_search.proofs.Cuts.{reached_leg}
+use Rattle.cspf_search.proofs.Cuts.{reached_leg, last_target}
 use Rattle.cspf_search.proofs.Labelled.{same_state-true, open_index, index_at}
 use Rattle.cspf_search.proofs.Grown.{reached_router, crosses_from, crosses_to, root_nodes}
 use Rattle.cspf_search.proofs.Ranks.{same_or_not, before_by_rank, rank_before, rank_tied, rank_is, walk_short, rank_small, crossing_short, state_apart, index_for, potential_of, lift_is, potential_consistent}
@@ -42,7 +44,8 @@ reached_of d nodes P cap ahead t label (is_unreached o none first) some most = a
 
 module _ (d : Database) (q : Request) (of : AreLinksOf d (links_of d)) (listed : AreListed d) (from : IsRouterOf d q.from) (nodes : List Node) (are : AreNodes nodes)
     (settled : AreSettled d q (labels_of nodes)) (goal : Goal) (there : IsStateIndex d q goal.at) (labels : List Label) (keys : List Key)
-    (before : AreLabels d q nodes (CrossesBelow d q nodes (links_of d) (length nodes)) goal labels keys) (left : index_of nodes (state_at d goal.at) ≡ None) where
+    (before : AreLabels d q nodes (CrossesBelow d q nodes (links_of d) (length nodes)) goal labels keys) (left : index_of nodes (state_at d goal.at) ≡ None)
+    (bounds : AreBounds d q goal.bounds.now) (end : state_at d goal.at ≡ end_state q) (floor : IsFloor d q (labels_of nodes) goal) where
   abbrev cap : ℕ
   cap = (label_at labels goal.at).rank
 
@@ -57,22 +60,30 @@ module _ (d : Database) (q : Request) (of : AreLinksOf d (links_of d)) (listed :
   short w u c = let x = crosses_to d q (links_of d) of nodes are.apart w u c in crossing_short d q nodes are (links_of d) x.0 x.1 w u x.2
 
   capped : 0 < cap
-  capped = open_rank d nodes (CrossesBelow d q nodes (links_of d) (length nodes)) cap (lift goal goal.at) (state_at d goal.at) (label_at labels goal.at) (before.each goal.at there) left
+  capped = open_rank d nodes (CrossesBelow d q nodes (links_of d) (length nodes)) cap (lift goal goal.at) (state_at d goal.at) (label_at labels goal.at) (before.each goal.at there floor.low) left
 
   -- the goal waits with its rank for a key
   goal_lift : lift goal goal.at ≡ 0
-  goal_lift = rw (eq-eqb (goal.at % 1024) (goal.at % 1024) refl) refl
+  goal_lift =
+      let last : length q.hops + 1 ≡ suc (length q.hops) = omega arith in
+      let target : IsTarget d q (end_state q).leg (end_state q).router = rw last (subst (λ (T : Type 0). T) (sym (last_target d q q.to)) refl) in
+      let there_too : IsTarget d q (goal.at / 1024 + 1) (slice_index (router_list d) (goal.at % 1024)) = subst (λ (s : State). IsTarget d q s.leg s.router) (sym end) target in
+      let none = bounds.targets goal.at there there_too in
+      omega (arith, none)
 
   goal_waits : cap < no_rank → Contains keys (key_at (cap + lift goal goal.at) goal.at)
-  goal_waits known = before.waiting goal.at there capped known
+  goal_waits known = before.waiting goal.at there floor.low capped known
 
-  module _ (bounds : (l : Link) → IsAdmissible d q l → l.to ≡ slice_index (router_list d) (goal.at % 1024) → goal.bound ≤ l.metric) (i : ℕ) (rest : List Key)
-      (least : IsLeast d q goal labels keys i rest) where
+  -- what crosses behind the closed legs does so at an index behind the floor
+  behind_floor : (u : State) → goal.floor / 1024 < u.leg → (j : ℕ) → u ≡ state_at d j → goal.floor ≤ j
+  behind_floor u h j is = omega (arith, h, ap (λ (s : State). s.leg) is, before.whole)
+
+  module _ (i : ℕ) (rest : List Key) (least : IsLeast d q goal labels keys i rest) where
     abbrev n : Node
     n = node_of d nodes (label_at labels i)
 
     here : IsReached d nodes (CrossesBelow d q nodes (links_of d) (length nodes)) cap (lift goal i) (state_at d i) (label_at labels i)
-    here = reached_of d nodes (CrossesBelow d q nodes (links_of d) (length nodes)) cap (lift goal i) (state_at d i) (label_at labels i) (before.each i least.index) least.some least.most
+    here = reached_of d nodes (CrossesBelow d q nodes (links_of d) (length nodes)) cap (lift goal i) (state_at d i) (label_at labels i) (before.each i least.index least.behind) least.some least.most
 
     rank : (label_at labels i).rank ≡ walk_rank (walk_of nodes n)
     rank = here.rank ∙ rank_is nodes are n here.next
@@ -80,13 +91,13 @@ module _ (d : Database) (q : Request) (of : AreLinksOf d (links_of d)) (listed :
     -- what is behind the cap is behind the least key
     behind : (ahead : ℕ) (w : List Link) → IsBeyond cap ahead w → walk_rank (walk_of nodes n) + lift goal i < walk_rank w + ahead
     behind ahead w beyond =
-        elim (least.first (key_at (cap + lift goal goal.at) goal.at) (goal_waits beyond.known) refl) [
+        elim (least.first (key_at (cap + lift goal goal.at) goal.at) (goal_waits beyond.known) (record { behind = floor.low; same = refl })) [
           | inl lt ↦ omega (arith, lt, goal_lift, beyond.behind, rank)
           | inr tie ↦ omega (arith, goal_lift, beyond.behind, rank, tie.0)
         ]
 
-    lift_at : (j : ℕ) → IsStateIndex d q j → lift goal j ≡ potential_of d goal (state_at d j).router * 16384
-    lift_at j jx = lift_is d q listed goal there j jx
+    lift_at : (j : ℕ) → IsStateIndex d q j → lift goal j ≡ potential_of d goal (state_at d j) * 16384
+    lift_at j jx = lift_is d q listed goal bounds j jx
 
     passed : (j : ℕ) → IsStateIndex d q j → (x : List Link) → length x < 16384 → IsBeyond cap (lift goal j) x
         → RanksNoLater (potential_of d goal) (state_at d i) (walk_of nodes n) (state_at d j) x
@@ -94,20 +105,20 @@ module _ (d : Database) (q : Request) (of : AreLinksOf d (links_of d)) (listed :
         rank_before (potential_of d goal) (state_at d i) (state_at d j) (walk_of nodes n) x high
         (omega (arith, behind (lift goal j) x beyond, lift_at i least.index, lift_at j jx))
 
-    first_rank : (j : ℕ) → IsStateIndex d q j → (x : List Link) → length x < 16384 → CrossesBelow d q nodes (links_of d) (length nodes) x (state_at d j)
+    first_rank : (j : ℕ) → IsStateIndex d q j → goal.floor ≤ j → (x : List Link) → length x < 16384 → CrossesBelow d q nodes (links_of d) (length nodes) x (state_at d j)
         → index_of nodes (state_at d j) ≡ None → (label : Label) → label ≡ label_at labels j
         → IsLabel d nodes (CrossesBelow d q nodes (links_of d) (length nodes)) cap (lift goal j) (state_at d j) label
         → RanksNoLater (potential_of d goal) (state_at d i) (walk_of nodes n) (state_at d j) x
-    first_rank j jx x high p clear label is (is_settled k none e) = absurd (cc)
-    first_rank j jx x high p clear label is (is_reached o r) =
+    first_rank j jx ahead x high p clear label is (is_settled k none e) = absurd (cc)
+    first_rank j jx ahead x high p clear label is (is_reached o r) =
         let m = node_of d nodes label in
         let rank_of_m : label.rank ≡ walk_rank (walk_of nodes m) = r.rank ∙ rank_is nodes are m r.next in
         let same = ap (λ (l : Label). l.rank) is in
-        let key = before.waiting j jx (omega (arith, r.rank, same)) (omega (arith, r.rank, rank_small nodes are m r.next, same)) in
+        let key = before.waiting j jx ahead (omega (arith, r.rank, same)) (omega (arith, r.rank, rank_small nodes are m r.next, same)) in
         elim (r.first x p) [
           | inl late ↦
               upto (potentials_total (potential_of d goal)) (state_at d i, walk_of nodes n) (state_at d j, walk_of nodes m) (state_at d j, x)
-              (elim (least.first (key_at ((label_at labels j).rank + lift goal j) j) key refl) [
+              (elim (least.first (key_at ((label_at labels j).rank + lift goal j) j) key (record { behind = ahead; same = refl })) [
                 | inl lt ↦
                     rank_before (potential_of d goal) (state_at d i) (state_at d j) (walk_of nodes n) (walk_of nodes m) (walk_short nodes are m r.next)
                     (omega (arith, lt, rank, rank_of_m, same, lift_at i least.index, lift_at j jx))
@@ -118,7 +129,7 @@ module _ (d : Database) (q : Request) (of : AreLinksOf d (links_of d)) (listed :
               (rank_from_walk (potential_of d goal) (state_at d j) (walk_of nodes m) x late)
           | inr beyond ↦ passed j jx x high beyond
         ]
-    first_rank j jx x high p clear label is (is_unreached o none f) = passed j jx x high (f x p)
+    first_rank j jx ahead x high p clear label is (is_unreached o none f) = passed j jx x high (f x p)
 
     first_at : IsFirstCrossing d q (labels_of nodes) (walk_of nodes n) (state_at d i)
     first_at = record {
@@ -128,14 +139,17 @@ module _ (d : Database) (q : Request) (of : AreLinksOf d (links_of d)) (listed :
             | inl late ↦ late
             | inr beyond ↦ before_by_rank (walk_of nodes n) x (omega (arith, behind (lift goal i) x beyond)) (short x (state_at d i) c)
           ];
+      closed = goal.floor / 1024;
+      is_closed = floor.shut;
+      behind = omega (arith, least.behind, before.whole);
       potential = potential_of d goal;
       consistent = potential_consistent d q listed goal bounds;
-      first = λ x u c.
+      first = λ x u c behind.
           let at = crossing_index x u c in
           let p = subst (CrossesBelow d q nodes (links_of d) (length nodes) x) at.2 (crosses_to d q (links_of d) of nodes are.apart x u c) in
           let clear = ap (index_of nodes) (sym at.2) ∙ open_index nodes u c.still_open in
           subst (λ s. RanksNoLater (potential_of d goal) (state_at d i) (walk_of nodes n) s x) (sym at.2)
-          (first_rank at.0 at.1 x (short x u c) p clear (label_at labels at.0) refl (before.each at.0 at.1));
+          (first_rank at.0 at.1 (behind_floor u behind at.0 at.2) x (short x u c) p clear (label_at labels at.0) refl (before.each at.0 at.1 (behind_floor u behind at.0 at.2)));
     }
 
     pub first_popped : IsFirstCrossing d q (labels_of nodes) (walk_of nodes n) (state_of n)
@@ -145,21 +159,27 @@ module _ (d : Database) (q : Request) (of : AreLinksOf d (links_of d)) (listed :
     popped = here
 
   module _ (none : (key : Key) → Contains keys key → IsLive goal labels key → ⊥) where
-    uncrossed : (j : ℕ) → IsStateIndex d q j → (x : List Link) → CrossesBelow d q nodes (links_of d) (length nodes) x (state_at d j) → index_of nodes (state_at d j) ≡ None
+    uncrossed : (j : ℕ) → IsStateIndex d q j → goal.floor ≤ j → (x : List Link) → CrossesBelow d q nodes (links_of d) (length nodes) x (state_at d j) → index_of nodes (state_at d j) ≡ None
         → (label : Label) → label ≡ label_at labels j → IsLabel d nodes (CrossesBelow d q nodes (links_of d) (length nodes)) cap (lift goal j) (state_at d j) label → ⊥
-    uncrossed j jx x p clear label is (is_settled k zeros e) = cc
-    uncrossed j jx x p clear label is (is_reached o r) =
+    uncrossed j jx ahead x p clear label is (is_settled k zeros e) = cc
+    uncrossed j jx ahead x p clear label is (is_reached o r) =
         let same = ap (λ (l : Label). l.rank) is in
         let small = rank_small nodes are (node_of d nodes label) r.next in
-        none (key_at ((label_at labels j).rank + lift goal j) j) (before.waiting j jx (omega (arith, r.rank, same)) (omega (arith, r.rank, small, same))) refl
-    uncrossed j jx x p clear label is (is_unreached o far f) = none (key_at (cap + lift goal goal.at) goal.at) (goal_waits (f x p).known) refl
+        none (key_at ((label_at labels j).rank + lift goal j) j) (before.waiting j jx ahead (omega (arith, r.rank, same)) (omega (arith, r.rank, small, same))) (record { behind = ahead; same = refl })
+    uncrossed j jx ahead x p clear label is (is_unreached o far f) = none (key_at (cap + lift goal goal.at) goal.at) (goal_waits (f x p).known) (record { behind = floor.low; same = refl })
 
-    pub nothing_left : (w : List Link) (u : State) → Crosses d q (labels_of nodes) w u → ⊥
-    nothing_left w u c =
-        let at = crossing_index w u c in
-        let p = subst (CrossesBelow d q nodes (links_of d) (length nodes) w) at.2 (crosses_to d q (links_of d) of nodes are.apart w u c) in
-        let clear = ap (index_of nodes) (sym at.2) ∙ open_index nodes u c.still_open in
-        uncrossed at.0 at.1 w p clear (label_at labels at.0) refl (before.each at.0 at.1)
+    pub nothing_left : IsStuck d q (labels_of nodes)
+    nothing_left = record {
+      closed = goal.floor / 1024;
+      is_closed = floor.shut;
+      low = omega (arith, floor.low, ap (λ (s : State). s.leg) end, before.whole);
+      none = λ w u c behind.
+          let at = crossing_index w u c in
+          let p = subst (CrossesBelow d q nodes (links_of d) (length nodes) w) at.2 (crosses_to d q (links_of d) of nodes are.apart w u c) in
+          let clear = ap (index_of nodes) (sym at.2) ∙ open_index nodes u c.still_open in
+          let ahead = behind_floor u behind at.0 at.2 in
+          uncrossed at.0 at.1 ahead w p clear (label_at labels at.0) refl (before.each at.0 at.1 ahead);
+    }
 
 -- the first labels
 
@@ -185,26 +205,28 @@ module _ (d : Database) (q : Request) (listed : AreListed d) (place : ℕ) (at :
         | None ↦ λ e. refl
       ] refl
 
-  pub first_labels : (goal : Goal) → goal.bound < 2 ^ 32 → (blank label : Label) → blank.rank ≡ no_rank → label.rank ≡ 0 → (keys : List Key) → keys ≡ [] → IsHeap key_cmp keys → (count : ℕ)
+  pub first_labels : (goal : Goal) → AreBounds d q goal.bounds.now → goal.floor ≡ 0 → (blank label : Label) → blank.rank ≡ no_rank → label.rank ≡ 0 → (keys : List Key) → keys ≡ [] → IsHeap key_cmp keys → (count : ℕ)
       → count ≡ (length q.hops + 1) * 1024
       → AreLabels d q (root_of q ∷ []) (CrossesBelow d q (root_of q ∷ []) (links_of d) 0) goal (set (replicate count blank) place label) keys
-  first_labels goal low blank label none zero keys empty heap count many =
+  first_labels goal are floor blank label none zero keys empty heap count many =
       let labels = replicate count blank in
       let within : place < length (replicate count blank) = omega (arith, at.within, listed.few, length-replicate count blank) in
       let here : label_at (set (replicate count blank) place label) place ≡ label = get_or-set_same (replicate count blank) place label _ within in
       let there : (j : ℕ) → IsStateIndex d q j → j ≢ place → label_at (set (replicate count blank) place label) j ≡ blank =
       λ j jx ne. get_or-set_other (replicate count blank) place j label _ ne ∙ get_or-replicate count j blank _ (omega (arith, many, jx.low)) in
       record {
-        small = low;
+        small = are.small;
+        bounds = are.many;
+        whole = rw floor refl;
         many = length-set (replicate count blank) place label ∙ length-replicate count blank ∙ many;
-        each = λ j jx.
+        each = λ j jx behind.
             elim (same_or_not j place) [
               | inl same ↦ rw (same, here) (is_settled 0 zero (ap (index_of (root_of q ∷ [])) (sym start_state) ∙ index_at (root_of q ∷ []) (root_nodes q).apart 0 nowhere (omega arith)))
               | inr ne ↦ rw (there j jx ne) (is_unreached (root_only j jx ne) none (λ w p. absurd (omega (arith, p.1))))
             ];
         ordered = heap;
         keyed = rw empty (All-nil (IsKey d q goal));
-        waiting = λ j jx some most.
+        waiting = λ j jx behind some most.
             elim (same_or_not j place) [
               | inl same ↦ absurd (let e : (label_at (set (replicate count blank) place label) j).rank ≡ 0 = rw (same, here) zero in omega arith)
               | inr ne ↦ absurd (let e = ap (λ (l : Label). l.rank) (there j jx ne) in omega (arith, e, none))

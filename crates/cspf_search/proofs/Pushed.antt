@@ -10,7 +10,7 @@ use Rattle.cspf_db.specs.Database.{Database}
 use Rattle.cspf_db.specs.Walks.{cost_of}
 use Rattle.cspf_db.specs.Index.{links_of}
 use Rattle.cspf_search.specs.declared.arena.Node.{Node}
-use Rattle.cspf_search.specs.declared.bound.Goal.{Goal}
+use Rattle.cspf_search.specs.declared.goal.Goal.{Goal}
 use Rattle.cspf_search.specs.declared.labels.Label.{Label}
 use Rattle.cspf_search.specs.States.{State}
 use Rattle.cspf_search.specs.Settled.{IsNoLater}
@@ -40,7 +40,7 @@ module _ (nodes : List Node) (n : Node) (before : AreApart nodes) (apart : AreAp
       let same : state_of (slice_index_or (nodes ++ (n ∷ [])) (length nodes) nowhere) ≡ state_of n = ap state_of (get_or_push nodes n nowhere (length nodes) refl) in
       ap (index_of (nodes ++ (n ∷ []))) (sym same) ∙ index_at (nodes ++ (n ∷ [])) apart (length nodes) nowhere (omega (arith, length_push nodes n))
 
-  open_old : (t : State) → index_of (nodes ++ (n ∷ [])) t ≡ None → index_of nodes t ≡ None
+  pub open_old : (t : State) → index_of (nodes ++ (n ∷ [])) t ≡ None → index_of nodes t ≡ None
   open_old t left =
       elim (index_of nodes t) as (λ o. index_of nodes t ≡ o → o ≡ None) [
         | Some i ↦ λ e. let new = index_old t i e in absurd (cc)
@@ -180,24 +180,26 @@ module _ (nodes : List Node) (n : Node) (before : AreApart nodes) (apart : AreAp
         let there : (j : ℕ) → j ≢ i → label_at (set labels i label) j ≡ label_at labels j = λ j ne. get_or-set_other labels i j label _ ne in
         record {
           small = are.small;
+          bounds = are.bounds;
+          whole = are.whole;
           many = length-set labels i label ∙ are.many;
-          each = λ j jx.
+          each = λ j jx behind.
               elim (same_or_not j i) [
                 | inl same ↦ rw (same, here) (is_settled (length nodes) none (ap (index_of (nodes ++ (n ∷ []))) (sym state) ∙ index_new))
                 | inr ne ↦
                     rw (there j ne, there goal.at off)
-                    (label_old (label_at labels goal.at).rank (lift goal j) (state_at d j) (λ e. ne (state_apart d q listed j i jx least.index (e ∙ state))) (label_at labels j) (are.each j jx))
+                    (label_old (label_at labels goal.at).rank (lift goal j) (state_at d j) (λ e. ne (state_apart d q listed j i jx least.index (e ∙ state))) (label_at labels j) (are.each j jx behind))
               ];
           ordered = least.ordered;
           keyed = least.keyed;
-          waiting = λ j jx some most.
+          waiting = λ j jx behind some most.
               elim (same_or_not j i) [
                 | inl same ↦ absurd (let e : (label_at (set labels i label) j).rank ≡ 0 = rw (same, here) none in omega arith)
                 | inr ne ↦
                     let e = there j ne in
                     let rank = ap (λ (l : Label). l.rank) e in
-                    let was = are.waiting j jx (omega (arith, rank)) (omega (arith, rank)) in
-                    elim (least.others (key_at ((label_at labels j).rank + lift goal j) j) was refl) [
+                    let was = are.waiting j jx behind (omega (arith, rank)) (omega (arith, rank)) in
+                    elim (least.others (key_at ((label_at labels j).rank + lift goal j) j) was (record { behind = behind; same = refl })) [
                       | inl same ↦ absurd (ne same)
                       | inr stays ↦ rw e stays
                     ]

@@ -1,27 +1,31 @@
 -- Ranks as numbers, and the indexes of states.
-use Rattle.std.proofs.Common.{◌≡◌, ◌≢◌, ◌⊎◌, inl, inr, ℕ, zero, suc, ◌+◌, ◌-◌, ◌*◌, ◌/◌, ◌%◌, ◌^◌, ◌<◌, ◌≤◌, Bool, true, false, if◌then◌else◌, nat_eq, List, length, slice_index, slice_index_or, refl, sym, ap, ◌∙◌, arith, add-one}
+use Rattle.std.proofs.Common.{◌≡◌, ◌≢◌, ◌⊎◌, inl, inr, ℕ, zero, suc, ◌+◌, ◌-◌, ◌*◌, ◌/◌, ◌%◌, ◌^◌, ◌<◌, ◌≤◌, Bool, true, false, nat_eq, Option, Some, None, position, List, length, slice_index, slice_index_or, refl, sym, ap, ◌∙◌, arith, add-one}
 use Rattle.std.specs.Ordering.{nat_cmp, ordering_then, ordering_reverse, is_gt}
 use Rattle.std.specs.declared.cmp.Ordering.{Ordering}
 use Rattle.std.specs.declared.cmp.Ordering.TheVariants.{Less, Equal, Greater}
 use Rattle.std.specs.Cmp.{nat_cmp_total}
 use Rattle.std.specs.List.Sorted.{IsStrictlyIncreasing}
 use Rattle.std.proofs.lemmas.Cmp.{tied_itself, nat_list_cmp_total}
-use Rattle.std.proofs.lemmas.Bool.{cases_lt, eq-eqb, ne_eqb}
+use Rattle.std.proofs.lemmas.Bool.{cases_lt, eq-eqb, eqb-true}
 use Rattle.std.proofs.lemmas.Bool.Decides.{nat_tests}
 use Rattle.std.proofs.lemmas.List.{length_push}
 use Rattle.std.proofs.lemmas.List.Elements.{at_from_Contains}
+use Rattle.std.proofs.lemmas.List.Quantifiers.{position-Some}
 use Rattle.cspf_db.specs.declared.link.Link.{Link}
 use Rattle.cspf_db.specs.declared.request.Request.{Request}
 use Rattle.cspf_db.specs.Database.{Database, IsRouterOf}
 use Rattle.cspf_db.specs.Admissible.{IsAdmissible}
 use Rattle.cspf_db.specs.Walks.{cost_of, locals_of}
 use Rattle.cspf_db.specs.Index.{router_list}
+use Rattle.cspf_db.specs.Targets.{IsTarget}
 use Rattle.cspf_search.specs.declared.arena.Node.{Node}
-use Rattle.cspf_search.specs.declared.bound.Goal.{Goal}
+use Rattle.cspf_search.specs.declared.goal.Goal.{Goal}
 use Rattle.cspf_search.specs.States.{State}
 use Rattle.cspf_search.specs.Settled.{IsNoLater, RanksNoLater, IsConsistent, locals_cmp}
 use Rattle.cspf_search.specs.Arena.{walk_at, walks, walk_of, AreNodes, IsNext}
+use Rattle.cspf_search.specs.Bounds.{bound_at, AreBounds}
 use Rattle.cspf_search.specs.Rounds.{CrossesFrom}
+use Rattle.cspf_search.proofs.Labelled.{position-None}
 use Rattle.cspf_search.specs.Frontier.{state_at, IsStateIndex, AreListed, IsEnd, nowhere, rank_of, walk_rank, no_rank, lift, IsBeyond}
 
 pub same_or_not : (i j : ℕ) → (i ≡ j) ⊎ (i ≢ j)
@@ -73,15 +77,15 @@ turned Greater p e g = ap is_gt e
 pub locals_turned : (v w : List Link) → is_gt (locals_cmp v w) ≡ true → is_gt (locals_cmp w v) ≡ false
 locals_turned v w h = turned (locals_cmp v w) (locals_cmp w v) (nat_list_cmp_total.antisymm (locals_of w) (locals_of v)) h
 
-module _ (potential : ℕ → ℕ) (s t : State) (v w : List Link) (high : length w < 16384) where
-  pub rank_before : walk_rank v + potential s.router * 16384 < walk_rank w + potential t.router * 16384 → RanksNoLater potential s v t w
+module _ (potential : State → ℕ) (s t : State) (v w : List Link) (high : length w < 16384) where
+  pub rank_before : walk_rank v + potential s * 16384 < walk_rank w + potential t * 16384 → RanksNoLater potential s v t w
   rank_before less =
-      less_rank (potential s.router + cost_of v) (potential t.router + cost_of w) (length v) (length w) (nat_cmp s.leg t.leg) (omega (arith, less)) high
+      less_rank (potential s + cost_of v) (potential t + cost_of w) (length v) (length w) (nat_cmp s.leg t.leg) (omega (arith, less)) high
 
-  pub rank_tied : length v < 16384 → walk_rank v + potential s.router * 16384 ≡ walk_rank w + potential t.router * 16384 → s.leg ≤ t.leg → RanksNoLater potential s v t w
+  pub rank_tied : length v < 16384 → walk_rank v + potential s * 16384 ≡ walk_rank w + potential t * 16384 → s.leg ≤ t.leg → RanksNoLater potential s v t w
   rank_tied low tie legs =
-      let parts = rank_parts (potential s.router + cost_of v) (potential t.router + cost_of w) (length v) (length w) (omega (arith, tie)) low high in
-      tied_rank (potential s.router + cost_of v) (potential t.router + cost_of w) (length v) (length w) (nat_cmp s.leg t.leg) parts.0 parts.1 (no_less s.leg t.leg legs)
+      let parts = rank_parts (potential s + cost_of v) (potential t + cost_of w) (length v) (length w) (omega (arith, tie)) low high in
+      tied_rank (potential s + cost_of v) (potential t + cost_of w) (length v) (length w) (nat_cmp s.leg t.leg) parts.0 parts.1 (no_less s.leg t.leg legs)
 
 -- nodes
 
@@ -120,12 +124,8 @@ beyond_lower cap lower ahead w h beyond = record { known = omega (arith, beyond.
 
 -- what a key is above its rank
 
-lift_by : (goal : Goal) (i : ℕ) → goal.bound < 2 ^ 32 → (b : Bool) → (if b then 0 else goal.bound * 16384) < 2 ^ 46
-lift_by goal i small true = omega arith
-lift_by goal i small false = omega (arith, small)
-
-pub lift_small : (goal : Goal) (i : ℕ) → goal.bound < 2 ^ 32 → lift goal i < 2 ^ 46
-lift_small goal i small = lift_by goal i small (nat_eq (i % 1024) (goal.at % 1024))
+pub lift_small : (goal : Goal) (i : ℕ) → slice_index_or goal.bounds.now i 0 < 2 ^ 32 → lift goal i < 2 ^ 46
+lift_small goal i small = omega (arith, small)
 
 -- indexes of states
 
@@ -170,35 +170,70 @@ module _ (d : Database) (q : Request) (listed : AreListed d) where
         (λ k. record { leg = leg k; router = router k }),
       )
 
--- The potential of a router: 0 at the goal's, and elsewhere the bound of the last link.
-abbrev pub potential_of : Database → Goal → ℕ → ℕ
-potential_of d goal router = if nat_eq router (slice_index (router_list d) (goal.at % 1024)) then 0 else goal.bound
+-- The potential of a state: its bound. A state of no index has 0.
+abbrev pub potential_from : Goal → ℕ → Option ℕ → ℕ
+potential_from goal leg (Some place) = bound_at goal.bounds.now ((leg - 1) * 1024 + place)
+potential_from goal leg None = 0
 
-potential_by : (goal : Goal) (b : Bool) → (if b then 0 else goal.bound) ≤ goal.bound
-potential_by goal true = omega arith
-potential_by goal false = omega arith
+abbrev pub potential_of : Database → Goal → State → ℕ
+potential_of d goal s = potential_from goal s.leg (position (λ router. nat_eq router s.router) (router_list d))
 
-module _ (d : Database) (q : Request) (listed : AreListed d) (goal : Goal) where
-  potential_low : (router : ℕ) → potential_of d goal router ≤ goal.bound
-  potential_low router = potential_by goal (nat_eq router (slice_index (router_list d) (goal.at % 1024)))
+module _ (d : Database) (q : Request) (listed : AreListed d) where
+  -- a router's place is the index that it is found at
+  place_found : (place : ℕ) → place < length (router_list d) → position (λ router. nat_eq router (slice_index (router_list d) place)) (router_list d) ≡ Some place
+  place_found place within =
+      let r = slice_index (router_list d) place in
+      elim (position (λ router. nat_eq router (slice_index (router_list d) place)) (router_list d))
+      as (λ o. position (λ router. nat_eq router (slice_index (router_list d) place)) (router_list d) ≡ o → o ≡ Some place) [
+        | Some at ↦ λ e.
+            let found = position-Some (λ router. nat_eq router (slice_index (router_list d) place)) (router_list d) at 0 e in
+            let same = eqb-true (slice_index_or (router_list d) at 0) (slice_index (router_list d) place) found.1 in
+            ap Some (same_index (router_list d) listed.rising at place found.0 within same)
+        | None ↦ λ e.
+            let off = position-None (λ router. nat_eq router (slice_index (router_list d) place)) (router_list d) place 0 e within in
+            let on = eq-eqb (slice_index_or (router_list d) place 0) (slice_index (router_list d) place) refl in
+            absurd (cc)
+      ] refl
 
-  -- the lift of a state is the potential of its router
-  pub lift_is : IsStateIndex d q goal.at → (i : ℕ) → IsStateIndex d q i → lift goal i ≡ potential_of d goal (slice_index (router_list d) (i % 1024)) * 16384
-  lift_is there i here =
-      let x = slice_index (router_list d) (goal.at % 1024) in
-      let r = slice_index (router_list d) (i % 1024) in
-      elim (same_or_not (i % 1024) (goal.at % 1024)) [
-        | inl same ↦ rw (eq-eqb (i % 1024) (goal.at % 1024) same, eq-eqb r x (ap (slice_index (router_list d)) same)) refl
-        | inr ne ↦
-            rw (ne_eqb (i % 1024) (goal.at % 1024) ne, ne_eqb r x (λ e. ne (same_index (router_list d) listed.rising (i % 1024) (goal.at % 1024) here.place there.place e))) refl
-      ]
+  module _ (goal : Goal) (bounds : AreBounds d q goal.bounds.now) where
+    -- the potential of the state at an index is its bound
+    pub potential_at : (i : ℕ) → IsStateIndex d q i → potential_of d goal (state_at d i) ≡ bound_at goal.bounds.now i
+    potential_at i here =
+        let whole : (i / 1024 + 1 - 1) * 1024 + i % 1024 ≡ i = omega arith in
+        rw (place_found (i % 1024) here.place) (ap (bound_at goal.bounds.now) whole)
 
-  -- it is consistent where the bound is one
-  pub potential_consistent : ((l : Link) → IsAdmissible d q l → l.to ≡ slice_index (router_list d) (goal.at % 1024) → goal.bound ≤ l.metric)
-      → IsConsistent d q (potential_of d goal)
-  potential_consistent bounds l a =
-      let x = slice_index (router_list d) (goal.at % 1024) in
-      elim (same_or_not l.to x) [
-        | inl same ↦ let low = potential_low l.from in omega (arith, low, bounds l a same)
-        | inr ne ↦ let e : potential_of d goal l.to ≡ goal.bound = rw (ne_eqb l.to x ne) refl in omega (arith, e, potential_low l.from)
-      ]
+    pub lift_is : (i : ℕ) → IsStateIndex d q i → lift goal i ≡ potential_of d goal (state_at d i) * 16384
+    lift_is i here = ap (λ n. n * 16384) (sym (potential_at i here))
+
+    index_of_end : (leg router : ℕ) → 1 ≤ leg → leg ≤ length q.hops + 1 → IsRouterOf d router
+        → (i : ℕ) × IsStateIndex d q i × (record { leg = leg; router = router } ≡ state_at d i)
+    index_of_end leg router low high known = index_for d q listed (record { leg = leg; router = router }) known low high
+
+    links_keep : (leg : ℕ) (l : Link) → 1 ≤ leg → leg ≤ length q.hops + 1 → IsAdmissible d q l
+        → potential_of d goal (record { leg = leg; router = l.from }) ≤ potential_of d goal (record { leg = leg; router = l.to }) + l.metric
+    links_keep leg l low high a =
+        let i = index_of_end leg l.from low high (l, a.link, inl refl) in
+        let j = index_of_end leg l.to low high (l, a.link, inr refl) in
+        let same : i.0 / 1024 ≡ j.0 / 1024 = omega (arith, ap (λ (s : State). s.leg) i.2, ap (λ (s : State). s.leg) j.2) in
+        let up = bounds.links i.0 j.0 i.1 j.1 same l a (ap (λ (s : State). s.router) i.2) (ap (λ (s : State). s.router) j.2) in
+        omega (arith, up, ap (potential_of d goal) i.2 ∙ potential_at i.0 i.1, ap (potential_of d goal) j.2 ∙ potential_at j.0 j.1)
+
+    turns_keep : (leg router : ℕ) → 1 ≤ leg → leg ≤ length q.hops → IsTarget d q leg router
+        → potential_of d goal (record { leg = leg; router = router }) ≤ potential_of d goal (record { leg = suc leg; router = router })
+    turns_keep leg router low high target =
+        elim (position (λ r. nat_eq r router) (router_list d))
+        as (λ o. position (λ r. nat_eq r router) (router_list d) ≡ o → potential_from goal leg o ≤ potential_from goal (suc leg) o) [
+          | Some place ↦ λ e.
+              let found = position-Some (λ r. nat_eq r router) (router_list d) place 0 e in
+              let same = eqb-true (slice_index_or (router_list d) place 0) router found.1 in
+              let i : ℕ = (leg - 1) * 1024 + place in
+              let at_leg : i / 1024 + 1 ≡ leg = omega (arith, found.0, listed.few) in
+              let at_place : i % 1024 ≡ place = omega (arith, found.0, listed.few) in
+              let index : IsStateIndex d q i = record { low = omega (arith, found.0, listed.few); place = rw at_place found.0 } in
+              let none = bounds.targets i index (rw (at_leg, at_place, same) target) in
+              omega (arith, none)
+          | None ↦ λ e. omega arith
+        ] refl
+
+    pub potential_consistent : IsConsistent d q (potential_of d goal)
+    potential_consistent = record { links = links_keep; turns = turns_keep }

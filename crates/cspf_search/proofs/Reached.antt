@@ -1,30 +1,34 @@
 -- What each round of the search from a heap keeps, and what it has at its end.
-use Rattle.std.proofs.Common.{◌≡◌, ℕ, ◌+◌, ◌-◌, ◌*◌, ◌%◌, ◌≤◌, None, List, [], ◌∷◌, ◌++◌, length, take, drop, set, slice_index, refl, sym, ap, ◌∙◌, arith, length-set}
+use Rattle.std.proofs.Common.{◌≡◌, ◌⊎◌, inl, inr, ℕ, zero, suc, ◌+◌, ◌-◌, ◌*◌, ◌/◌, ◌%◌, ◌<◌, ◌≤◌, Some, None, option_map, List, [], ◌∷◌, ◌++◌, length, take, drop, set, slice_get, slice_index, refl, sym, ap, subst, ◌∙◌, arith, length-set}
 use Rattle.std.specs.List.{Contains}
+use Rattle.std.proofs.lemmas.Bool.{cases_lt}
 use Rattle.std.proofs.lemmas.List.{get_or_push, length_push, drop_all, take_all, append-nil}
-use Rattle.std.proofs.lemmas.List.Elements.{Contains-get_or}
+use Rattle.std.proofs.lemmas.List.Elements.{All-weaker, Contains-get_or}
 use Rattle.cspf_db.specs.declared.link.Link.{Link}
 use Rattle.cspf_db.specs.declared.request.Request.{Request}
 use Rattle.cspf_db.specs.Database.{Database, AreLinksOf, IsRouterOf}
-use Rattle.cspf_db.specs.Admissible.{IsAdmissible}
+use Rattle.cspf_db.specs.Targets.{IsTarget, IsTargetOf}
 use Rattle.cspf_db.specs.Index.{links_of, router_list}
 use Rattle.cspf_search.specs.declared.arena.Node.{Node}
-use Rattle.cspf_search.specs.declared.bound.Goal.{Goal}
+use Rattle.cspf_search.specs.declared.goal.Goal.{Goal}
 use Rattle.cspf_search.specs.declared.labels.Label.{Label}
+use Rattle.cspf_search.specs.declared.stands.Stand.{Stand}
 use Rattle.cspf_search.specs.States.{State, end_state}
-use Rattle.cspf_search.specs.Settled.{AreSettled, Crosses}
-use Rattle.cspf_search.specs.Arena.{state_of, index_of, labels_of, AreNodes, root_of}
+use Rattle.cspf_search.specs.Settled.{Labels, AreSettled, IsClosed, IsStuck}
+use Rattle.cspf_search.specs.Arena.{walk_at, walks, state_of, index_of, labels_of, AreNodes, root_of}
 use Rattle.cspf_search.specs.Rounds.{CrossesBelow}
-use Rattle.cspf_search.specs.Frontier.{state_at, IsStateIndex, AreListed, IsEnd, IsNodeAt, nowhere, node_of, IsReached, Key, label_at, lift, IsLive, AreLabels, IsLeast}
+use Rattle.cspf_search.specs.Bounds.{AreBounds}
+use Rattle.cspf_search.specs.Frontier.{state_at, IsStateIndex, AreListed, AreStands, IsRaised, nothing, IsEnd, IsNodeAt, nowhere, node_of, IsReached, Key, label_at, lift, IsKey, IsLive, AreLabels, IsLeast, IsFloor}
 use Rattle.cspf_search.proofs.Few.{HasFewRouters}
+use Rattle.cspf_search.proofs.Cuts.{last_target}
 use Rattle.cspf_search.proofs.Labelled.{open_index}
 use Rattle.cspf_search.proofs.Grown.{settled_by}
-use Rattle.cspf_search.proofs.Ranks.{state_apart}
-use Rattle.cspf_search.proofs.Pushed.{index_new, open_new, labels_settle}
+use Rattle.cspf_search.proofs.Ranks.{one_place, state_apart, index_for}
+use Rattle.cspf_search.proofs.Pushed.{index_new, open_old, open_new, labels_settle}
 use Rattle.cspf_search.proofs.Popped.{first_popped, popped, nothing_left, root_only, goal_index, goal_state}
 
--- what the search is asked, with the indexes of both ends in the list of routers
-pub record IsAsked (d : Database) (q : Request) (legs from to bound : ℕ) : Type 0 where
+-- what the search is asked, with the indexes of both ends in the list of routers, and its goal
+pub record IsAsked (d : Database) (q : Request) (legs from to : ℕ) (goal : Goal) : Type 0 where
   pub links : AreLinksOf d (links_of d)
   pub listed : AreListed d
   pub few : HasFewRouters d
@@ -32,48 +36,53 @@ pub record IsAsked (d : Database) (q : Request) (legs from to bound : ℕ) : Typ
   pub most : legs ≤ 8
   pub start : IsEnd d q.from from
   pub end : IsEnd d q.to to
-  pub bounds : (l : Link) → IsAdmissible d q l → l.to ≡ q.to → bound ≤ l.metric
-
--- the goal of the search
-abbrev pub goal_of : ℕ → ℕ → ℕ → Goal
-goal_of legs to bound = record { at = (legs - 1) * 1024 + to; bound = bound }
+  pub at : goal.at ≡ (legs - 1) * 1024 + to
+  pub bounds : AreBounds d q goal.bounds.now
 
 -- what is settled and what waits, when the tail-end isn't settled in the last of the legs
-pub record IsUnderWay (d : Database) (q : Request) (legs to bound : ℕ) (nodes : List Node) (labels : List Label) (keys : List Key) : Type 0 where
+pub record IsUnderWay (d : Database) (q : Request) (goal : Goal) (nodes : List Node) (labels : List Label) (keys : List Key) : Type 0 where
   pub arena : AreNodes nodes
   pub settled : AreSettled d q (labels_of nodes)
-  pub left : index_of nodes (state_at d ((legs - 1) * 1024 + to)) ≡ None
-  pub labelled : AreLabels d q nodes (CrossesBelow d q nodes (links_of d) (length nodes)) (goal_of legs to bound) labels keys
+  pub left : index_of nodes (state_at d goal.at) ≡ None
+  pub floor : IsFloor d q (labels_of nodes) goal
+  pub labelled : AreLabels d q nodes (CrossesBelow d q nodes (links_of d) (length nodes)) goal labels keys
 
-module _ (d : Database) (q : Request) (legs from to bound : ℕ) (asked : IsAsked d q legs from to bound) where
+module _ (d : Database) (q : Request) (legs from to : ℕ) (goal : Goal) (asked : IsAsked d q legs from to goal) where
   known : IsRouterOf d q.from
   known = (asked.listed.known q.from).0 (rw asked.start.is at (Contains-get_or (router_list d) from 0 asked.start.within))
 
-  goal_there : IsStateIndex d q ((legs - 1) * 1024 + to)
-  goal_there = goal_index d q asked.listed to legs asked.count asked.end
+  known_end : IsRouterOf d q.to
+  known_end = (asked.listed.known q.to).0 (rw asked.end.is at (Contains-get_or (router_list d) to 0 asked.end.within))
 
-  bounds_there : (l : Link) → IsAdmissible d q l → l.to ≡ slice_index (router_list d) (((legs - 1) * 1024 + to) % 1024) → bound ≤ l.metric
-  bounds_there l a e = asked.bounds l a (e ∙ ap (λ (s : State). s.router) (goal_state d q asked.listed to legs asked.count asked.end))
+  goal_there : IsStateIndex d q goal.at
+  goal_there = rw asked.at (goal_index d q asked.listed to legs asked.count asked.end)
 
-  goal_apart : (legs - 1) * 1024 + to ≡ from → ⊥
+  goal_end : state_at d goal.at ≡ end_state q
+  goal_end = ap (state_at d) asked.at ∙ goal_state d q asked.listed to legs asked.count asked.end
+
+  goal_apart : goal.at ≡ from → ⊥
   goal_apart e =
-      let same : to ≡ from = omega (arith, asked.start.within, asked.listed.few) in
+      let same : to ≡ from = omega (arith, asked.at, asked.start.within, asked.listed.few) in
       q.two_ends (sym asked.start.is ∙ ap (slice_index (router_list d)) (sym same) ∙ asked.end.is)
 
   -- at first the tail-end isn't settled
-  pub first_left : index_of (root_of q ∷ []) (state_at d ((legs - 1) * 1024 + to)) ≡ None
-  first_left = root_only d q asked.listed from asked.start ((legs - 1) * 1024 + to) goal_there goal_apart
+  pub first_left : index_of (root_of q ∷ []) (state_at d goal.at) ≡ None
+  first_left = root_only d q asked.listed from asked.start goal.at goal_there goal_apart
 
-  module _ (nodes : List Node) (labels : List Label) (keys : List Key) (before : IsUnderWay d q legs to bound nodes labels keys) where
-    -- where no key is live nothing crosses
-    pub ended : ((key : Key) → Contains keys key → IsLive (goal_of legs to bound) labels key → ⊥) → (w : List Link) (t : State) → Crosses d q (labels_of nodes) w t → ⊥
-    ended none w t x =
-        nothing_left d q asked.links asked.listed known nodes before.arena before.settled (goal_of legs to bound) goal_there labels keys before.labelled before.left none w t x
+  -- at first no leg is closed
+  pub first_floor : goal.floor ≡ 0 → (labels : Labels) → IsFloor d q labels goal
+  first_floor none labels = record { low = omega (arith, none); shut = λ low. absurd (omega (arith, low, none)) }
 
-    module _ (i : ℕ) (rest : List Key) (least : IsLeast d q (goal_of legs to bound) labels keys i rest) (node : Node) (is : node ≡ node_of d nodes (label_at labels i)) where
-      reached : IsReached d nodes (CrossesBelow d q nodes (links_of d) (length nodes)) (label_at labels ((legs - 1) * 1024 + to)).rank (lift (goal_of legs to bound) i) (state_at d i) (label_at labels i)
+  module _ (nodes : List Node) (labels : List Label) (keys : List Key) (before : IsUnderWay d q goal nodes labels keys) where
+    -- where no key is live nothing crosses behind the closed legs
+    pub ended : ((key : Key) → Contains keys key → IsLive goal labels key → ⊥) → IsStuck d q (labels_of nodes)
+    ended none =
+        nothing_left d q asked.links asked.listed known nodes before.arena before.settled goal goal_there labels keys before.labelled before.left asked.bounds goal_end before.floor none
+
+    module _ (i : ℕ) (rest : List Key) (least : IsLeast d q goal labels keys i rest) (node : Node) (is : node ≡ node_of d nodes (label_at labels i)) where
+      reached : IsReached d nodes (CrossesBelow d q nodes (links_of d) (length nodes)) (label_at labels goal.at).rank (lift goal i) (state_at d i) (label_at labels i)
       reached =
-          popped d q asked.links asked.listed known nodes before.arena before.settled (goal_of legs to bound) goal_there labels keys before.labelled before.left bounds_there i rest least
+          popped d q asked.links asked.listed known nodes before.arena before.settled goal goal_there labels keys before.labelled before.left asked.bounds goal_end before.floor i rest least
 
       state : state_of node ≡ state_at d i
       state = ap state_of is ∙ reached.state
@@ -83,7 +92,7 @@ module _ (d : Database) (q : Request) (legs from to bound : ℕ) (asked : IsAske
       stepped =
           rw is
           (settled_by d q known asked.few (omega (arith, asked.count, asked.most)) nodes before.arena before.settled (node_of d nodes (label_at labels i)) reached.next
-          (first_popped d q asked.links asked.listed known nodes before.arena before.settled (goal_of legs to bound) goal_there labels keys before.labelled before.left bounds_there i rest least))
+          (first_popped d q asked.links asked.listed known nodes before.arena before.settled goal goal_there labels keys before.labelled before.left asked.bounds goal_end before.floor i rest least))
 
       pub stepped_few : length (nodes ++ (node ∷ [])) ≤ legs * 1024
       stepped_few = omega (arith, stepped.2, asked.count, length_push nodes node)
@@ -96,23 +105,96 @@ module _ (d : Database) (q : Request) (legs from to bound : ℕ) (asked : IsAske
       }
 
       -- at the tail-end in the last of the legs it is settled
-      pub at_goal : i ≡ (legs - 1) * 1024 + to → labels_of (nodes ++ (node ∷ [])) (end_state q) ≡ None → ⊥
+      pub at_goal : i ≡ goal.at → labels_of (nodes ++ (node ∷ [])) (end_state q) ≡ None → ⊥
       at_goal e none =
-          let same : state_of node ≡ end_state q = state ∙ ap (state_at d) e ∙ goal_state d q asked.listed to legs asked.count asked.end in
+          let same : state_of node ≡ end_state q = state ∙ ap (state_at d) e ∙ goal_end in
           let there = ap (index_of (nodes ++ (node ∷ []))) (sym same) ∙ index_new nodes node before.arena.apart stepped.0.apart in
           let open_there = open_index (nodes ++ (node ∷ [])) (end_state q) none in
           cc
 
       -- elsewhere the labels go on
-      pub settle : (i ≡ (legs - 1) * 1024 + to → ⊥) → (label : Label) → label.rank ≡ 0
-          → AreLabels d q (nodes ++ (node ∷ [])) (CrossesBelow d q (nodes ++ (node ∷ [])) (links_of d) (length nodes)) (goal_of legs to bound) (set labels i label) rest
+      pub settle : (i ≡ goal.at → ⊥) → (label : Label) → label.rank ≡ 0
+          → AreLabels d q (nodes ++ (node ∷ [])) (CrossesBelow d q (nodes ++ (node ∷ [])) (links_of d) (length nodes)) goal (set labels i label) rest
       settle off label none =
-          labels_settle nodes node before.arena.apart stepped.0.apart d q asked.listed (goal_of legs to bound) labels keys before.labelled i rest least state (λ e. off (sym e)) label none
+          labels_settle nodes node before.arena.apart stepped.0.apart d q asked.listed goal labels keys before.labelled i rest least state (λ e. off (sym e)) label none
 
-      pub still_left : (i ≡ (legs - 1) * 1024 + to → ⊥) → index_of (nodes ++ (node ∷ [])) (state_at d ((legs - 1) * 1024 + to)) ≡ None
+      pub still_left : (i ≡ goal.at → ⊥) → index_of (nodes ++ (node ∷ [])) (state_at d goal.at) ≡ None
       still_left off =
-          open_new nodes node before.arena.apart stepped.0.apart (state_at d ((legs - 1) * 1024 + to))
-          (λ e. off (sym (state_apart d q asked.listed ((legs - 1) * 1024 + to) i goal_there least.index (e ∙ state)))) before.left
+          open_new nodes node before.arena.apart stepped.0.apart (state_at d goal.at)
+          (λ e. off (sym (state_apart d q asked.listed goal.at i goal_there least.index (e ∙ state)))) before.left
+
+      -- what is closed stays so
+      closed_still : (leg : ℕ) → IsClosed d q (labels_of nodes) leg → IsClosed d q (labels_of (nodes ++ (node ∷ []))) leg
+      closed_still leg shut low router target none =
+          let s : State = record { leg = leg; router = router } in
+          let left = open_old nodes node before.arena.apart stepped.0.apart s (open_index (nodes ++ (node ∷ [])) s none) in
+          shut low router target (ap (option_map (λ i. walk_at (walks nodes) i)) left)
+
+      module _ (stands : List Stand) (told : AreStands d q stands) (floor : ℕ) where
+        target_known : (leg router : ℕ) → 1 ≤ leg → IsTarget d q leg router → IsRouterOf d router
+        target_known zero router low target = absurd (omega (arith, low))
+        target_known (suc k) router low target =
+            elim (slice_get q.hops k) as (λ o. IsTargetOf d q.to o router → IsRouterOf d router) [
+              | Some hop ↦ λ owns. owns.known
+              | None ↦ λ same. subst (IsRouterOf d) (sym same) known_end
+            ] target
+
+        -- a target of the last leg is the goal
+        last_alone : IsRaised stands i floor → i / 1024 ≡ goal.at / 1024 → i ≡ goal.at
+        last_alone raised same =
+            let leg : i / 1024 + 1 ≡ suc (length q.hops) = omega (arith, same, ap (λ (t : State). t.leg) goal_end) in
+            let target = rw leg at ((told.each i nothing least.index).target.0 raised.target) in
+            let arrives : slice_index (router_list d) (i % 1024) ≡ q.to = subst (λ (T : Type 0). T) (last_target d q (slice_index (router_list d) (i % 1024))) target in
+            let here : IsEnd d q.to (i % 1024) = record { within = least.index.place; is = arrives } in
+            let place = one_place d asked.listed q.to (i % 1024) to here asked.end in
+            omega (arith, same, place, asked.at, asked.end.within, asked.listed.few)
+
+        -- the leg of a state that is its only target is closed when that is settled
+        closes : IsRaised stands i floor → IsClosed d q (labels_of (nodes ++ (node ∷ []))) (floor / 1024)
+        closes raised low router target none =
+            let s : State = record { leg = floor / 1024; router = router } in
+            let leg : floor / 1024 ≡ i / 1024 + 1 = omega (arith, raised.next) in
+            let at = index_for d q asked.listed s (target_known (floor / 1024) router low target) low (omega (arith, leg, least.index.low)) in
+            let there = (told.each at.0 nothing at.1).target.1 (subst (λ (t : State). IsTarget d q t.leg t.router) at.2 target) in
+            let same : at.0 ≡ i = raised.alone at.0 (omega (arith, leg, ap (λ (t : State). t.leg) at.2)) there in
+            let is_state : state_of node ≡ s = state ∙ ap (state_at d) (sym same) ∙ sym at.2 in
+            let found = ap (index_of (nodes ++ (node ∷ []))) (sym is_state) ∙ index_new nodes node before.arena.apart stepped.0.apart in
+            let open_there = open_index (nodes ++ (node ∷ [])) s none in
+            cc
+
+        -- so the floor stays below the goal
+        pub floor_on : (i ≡ goal.at → ⊥) → (floor ≡ goal.floor) ⊎ IsRaised stands i floor
+            → IsFloor d q (labels_of (nodes ++ (node ∷ []))) (record { at = goal.at; floor = floor; bounds = goal.bounds })
+        floor_on off (inl same) = record {
+          low = omega (arith, same, before.floor.low);
+          shut = rw same (closed_still (goal.floor / 1024) before.floor.shut);
+        }
+        floor_on off (inr raised) = record {
+          low =
+              elim (cases_lt (i / 1024) (goal.at / 1024)) [
+                | inl lt ↦ omega (arith, lt, raised.next)
+                | inr ge ↦ absurd (off (last_alone raised (omega (arith, ge, least.index.low, ap (λ (t : State). t.leg) goal_end))))
+              ];
+          shut = closes raised;
+        }
+
+        -- and the labels go on above it
+        pub labels_on : (P : List Link → State → Type 0) (labels : List Label) (keys : List Key) → AreLabels d q (nodes ++ (node ∷ [])) P goal labels keys
+            → (floor ≡ goal.floor) ⊎ IsRaised stands i floor
+            → AreLabels d q (nodes ++ (node ∷ [])) P (record { at = goal.at; floor = floor; bounds = goal.bounds }) labels keys
+        labels_on P labels keys are choice =
+            let up : goal.floor ≤ floor = elim choice [ inl same ↦ omega (arith, same) | inr raised ↦ omega (arith, raised.next, least.behind) ] in
+            let next : Goal = record { at = goal.at; floor = floor; bounds = goal.bounds } in
+            record {
+              small = are.small;
+              bounds = are.bounds;
+              whole = elim choice [ inl same ↦ omega (arith, same, are.whole) | inr raised ↦ omega (arith, raised.next) ];
+              many = are.many;
+              each = λ j jx behind. are.each j jx (omega (arith, up, behind));
+              ordered = are.ordered;
+              keyed = All-weaker (IsKey d q goal) (IsKey d q next) (λ k key. record { some = key.some; most = key.most; index = key.index }) keys are.keyed;
+              waiting = λ j jx behind some most. are.waiting j jx (omega (arith, up, behind)) some most;
+            }
 
 -- what a list of labels is when a slice of all of it was written
 pub put_back : (len : ℕ) (new lent labels : List Label) (i : ℕ) (label : Label) → length new ≡ length lent → lent ≡ set labels i label → len ≡ length labels

@@ -1,17 +1,19 @@
 -- What is settled by first crossings is least.
-use Rattle.std.proofs.Common.{◌≡◌, ◌⊎◌, inl, inr, ℕ, false, Some, None, List, [], ◌∷◌, ◌++◌, refl, ap, subst, ◌∙◌}
+use Rattle.std.proofs.Common.{◌≡◌, ◌⊎◌, inl, inr, ℕ, ◌<◌, false, Some, None, List, [], ◌∷◌, ◌++◌, refl, sym, ap, subst, ◌∙◌, arith}
 use Rattle.std.specs.Ordering.{is_gt, ordering_reverse}
 use Rattle.std.specs.declared.cmp.Ordering.TheVariants.{Less, Equal, Greater}
+use Rattle.std.proofs.lemmas.Bool.{cases_lt}
 use Rattle.std.proofs.lemmas.Cmp.{upto}
 use Rattle.cspf_db.specs.declared.link.Link.{Link}
 use Rattle.cspf_db.specs.declared.request.Request.{Request}
 use Rattle.cspf_db.specs.Database.{Database}
+use Rattle.cspf_db.specs.Targets.{IsTarget}
 use Rattle.cspf_db.specs.Routes.{IsRoute}
 use Rattle.cspf_db.specs.Best.{IsBestRoute}
 use Rattle.cspf_search.specs.States.{State, IsStep, by_link, by_turn, Reaches, starts, steps, end_state}
-use Rattle.cspf_search.specs.Settled.{Labels, IsNoLater, potential_cmp, RanksNoLater, IsConsistent, AreSettled, Crosses, IsFirstCrossing}
+use Rattle.cspf_search.specs.Settled.{Labels, IsNoLater, potential_cmp, RanksNoLater, IsConsistent, AreSettled, Crosses, IsClosed, IsFirstCrossing, IsStuck}
 use Rattle.cspf_search.proofs.Orders.{walks_total, potentials_total, walk_cmp-push, potential_cmp-push, potential_cmp-turn, walk_from_less, rank_from_walk}
-use Rattle.cspf_search.proofs.Cuts.{route_reaches, reaches_route}
+use Rattle.cspf_search.proofs.Cuts.{reached_leg, route_reaches, reaches_route}
 
 -- Labels keep what they have and get one walk more.
 pub record Adds (old : Labels) (t : State) (w : List Link) (new : Labels) : Type 0 where
@@ -22,7 +24,7 @@ no_later_trans : (u v w : List Link) → IsNoLater u v → IsNoLater v w → IsN
 no_later_trans u v w = upto walks_total u v w
 
 -- a later label than a lesser one is strictly later
-before_less : (potential : ℕ → ℕ) (a b c : State × List Link) → is_gt (potential_cmp potential a b) ≡ false → potential_cmp potential b c ≡ Less
+before_less : (potential : State → ℕ) (a b c : State × List Link) → is_gt (potential_cmp potential a b) ≡ false → potential_cmp potential b c ≡ Less
     → potential_cmp potential a c ≡ Less
 before_less potential a b c h less =
     elim (potential_cmp potential a b) as (λ o. potential_cmp potential a b ≡ o → is_gt o ≡ false → potential_cmp potential a c ≡ Less) [
@@ -33,9 +35,27 @@ before_less potential a b c h less =
 
 module _ (d : Database) (q : Request) where
   -- a step goes up in rank
-  step_grows : (potential : ℕ → ℕ) → IsConsistent d q potential → (v x : List Link) (s t : State) → IsStep d q v s x t → potential_cmp potential (s, v) (t, x) ≡ Less
-  step_grows potential up v x s t (by_link {leg = k} l a inside) = potential_cmp-push potential k v l (up l a)
-  step_grows potential up v x s t (by_turn {leg = k} {router = r} within target) = potential_cmp-turn potential k r v
+  step_grows : (potential : State → ℕ) → IsConsistent d q potential → (v x : List Link) (s t : State) → Reaches d q v s → IsStep d q v s x t
+      → potential_cmp potential (s, v) (t, x) ≡ Less
+  step_grows potential up v x s t r (by_link {leg = k} l a inside) =
+      let leg = reached_leg d q v (record { leg = k; router = l.from }) r in
+      potential_cmp-push potential (record { leg = k; router = l.from }) (record { leg = k; router = l.to }) v l (up.links k l leg.0 leg.1 a)
+  step_grows potential up v x s t r (by_turn {leg = k} {router = router} within target) =
+      let leg = reached_leg d q v (record { leg = k; router = router }) r in potential_cmp-turn potential k router v (up.turns k router leg.0 within target)
+
+  -- what leads on into a state behind the closed legs, from a state that is open, is behind them
+  step_behind : (labels : Labels) (closed : ℕ) → IsClosed d q labels closed → (v x : List Link) (s t : State) → Reaches d q v s → IsStep d q v s x t
+      → labels s ≡ None → closed < t.leg → closed < s.leg
+  step_behind labels closed shut v x s t r (by_link {leg = k} l a inside) left h = h
+  step_behind labels closed shut v x s t r (by_turn {leg = k} {router = router} within target) left h =
+      let leg = reached_leg d q v (record { leg = k; router = router }) r in
+      elim (cases_lt closed k) [
+        | inl lt ↦ lt
+        | inr ge ↦
+            let same : closed ≡ k = omega (arith, h) in
+            absurd (shut (omega (arith, leg.0)) router (subst (λ j. IsTarget d q j router) (sym same) target)
+            (subst (λ j. labels (record { leg = j; router = router }) ≡ None) (sym same) left))
+      ]
 
   -- the same step from a walk that is no later ends in a walk that is no later
   step_no_later : (v x : List Link) (s t : State) → IsStep d q v s x t → (w : List Link) → IsNoLater w v
@@ -51,31 +71,31 @@ module _ (d : Database) (q : Request) where
         let same = step_no_later v x s u st f (settled.least s f v here r) in
         (same.0, record { state = s; front = f; settled = here; step = same.1; still_open = left }, same.2)
 
-    -- where nothing crosses, each state that is reached is settled
-    pub all_settled : ((y : List Link) (u : State) → Crosses d q labels y u → ⊥) → (x : List Link) (u : State) → Reaches d q x u → (w : List Link) × (labels u ≡ Some w)
-    all_settled stuck x u starts = ([], settled.start)
-    all_settled stuck x u (steps {v} {s = s} r st) =
-        let before = all_settled stuck v s r in
-        elim (labels u) as (λ o. labels u ≡ o → (w : List Link) × (labels u ≡ Some w)) [
-          | Some w ↦ λ e. (w, e)
-          | None ↦ λ e. let c = crossing_from v x s u r st before.0 before.1 e in absurd (stuck c.0 u c.1)
+    -- where nothing crosses behind the closed legs, each state there that is reached is settled
+    all_settled : (closed : ℕ) → IsClosed d q labels closed → ((y : List Link) (u : State) → Crosses d q labels y u → closed < u.leg → ⊥)
+        → (x : List Link) (u : State) → Reaches d q x u → labels u ≡ None → closed < u.leg → ⊥
+    all_settled closed shut stuck x u starts left behind = cc (settled.start)
+    all_settled closed shut stuck x u (steps {v} {s = s} r st) left behind =
+        elim (labels s) as (λ o. labels s ≡ o → ⊥) [
+          | Some f ↦ λ here. let c = crossing_from v x s u r st f here left in stuck c.0 u c.1 behind
+          | None ↦ λ open_there. all_settled closed shut stuck v s r open_there (step_behind labels closed shut v x s u r st open_there behind)
         ] refl
 
-    -- a first crossing ranks before each walk to an open state, and is no later than those to its
-    -- own
+    -- a first crossing ranks before each walk to an open state behind the closed legs, and is no
+    -- later than those to its own
     pub no_earlier : (w : List Link) (t : State) (first : IsFirstCrossing d q labels w t) (x : List Link) (u : State) → Reaches d q x u → labels u ≡ None
-        → RanksNoLater first.potential t w u x × (u ≡ t → IsNoLater w x)
-    no_earlier w t first x u starts left = cc (settled.start)
-    no_earlier w t first x u (steps {v} {s = s} r st) left =
+        → first.closed < u.leg → RanksNoLater first.potential t w u x × (u ≡ t → IsNoLater w x)
+    no_earlier w t first x u starts left behind = cc (settled.start)
+    no_earlier w t first x u (steps {v} {s = s} r st) left behind =
         elim (labels s) as (λ o. labels s ≡ o → RanksNoLater first.potential t w u x × (u ≡ t → IsNoLater w x)) [
           | Some f ↦ λ here.
               let c = crossing_from v x s u r st f here left in (
-                upto (potentials_total first.potential) (t, w) (u, c.0) (u, x) (first.first c.0 u c.1) (rank_from_walk first.potential u c.0 x c.2),
+                upto (potentials_total first.potential) (t, w) (u, c.0) (u, x) (first.first c.0 u c.1 behind) (rank_from_walk first.potential u c.0 x c.2),
                 λ same. no_later_trans w c.0 x (first.first_here c.0 (subst (λ y. Crosses d q labels c.0 y) same c.1)) c.2,
               )
           | None ↦ λ open_there.
-              let before = no_earlier w t first v s r open_there in
-              let less = before_less first.potential (t, w) (s, v) (u, x) before.0 (step_grows first.potential first.consistent v x s u st) in
+              let before = no_earlier w t first v s r open_there (step_behind labels first.closed first.is_closed v x s u r st open_there behind) in
+              let less = before_less first.potential (t, w) (s, v) (u, x) before.0 (step_grows first.potential first.consistent v x s u r st) in
               (rw less refl, λ same. walk_from_less first.potential t w x (rw same at less))
         ] refl
 
@@ -94,7 +114,7 @@ module _ (d : Database) (q : Request) where
           elim (more.adds s x is) [
             | inl old ↦ settled.least s x y old r
             | inr new ↦
-                rw new.1 ((no_earlier w t first y s r (ap labels new.0 ∙ first.crosses.still_open)).1 new.0)
+                rw new.1 ((no_earlier w t first y s r (ap labels new.0 ∙ first.crosses.still_open) (omega (arith, first.behind, ap (λ (s : State). s.leg) new.0))).1 new.0)
           ];
     }
 
@@ -108,8 +128,7 @@ module _ (d : Database) (q : Request) where
           cc (ap ordering_reverse less);
     }
 
-    -- where nothing crosses and the end state is open, there is no route
-    pub no_route : ((y : List Link) (u : State) → Crosses d q labels y u → ⊥) → labels (end_state q) ≡ None → (w : List Link) → IsRoute d q w → ⊥
+    -- where nothing crosses behind the closed legs and the end state is open, there is no route
+    pub no_route : IsStuck d q labels → labels (end_state q) ≡ None → (w : List Link) → IsRoute d q w → ⊥
     no_route stuck left w route =
-        let found = all_settled stuck w (end_state q) (route_reaches d q w route) in
-        cc (found.1)
+        all_settled stuck.closed stuck.is_closed stuck.none w (end_state q) (route_reaches d q w route) left (omega (arith, stuck.low))

@@ -10,7 +10,7 @@ use Rattle.cspf_db.specs.Admissible.{IsAdmitted}
 use Rattle.cspf_db.specs.Targets.{IsTarget, IsInside}
 use Rattle.cspf_db.specs.Index.{links_of, links_from_index, router_list}
 use Rattle.cspf_search.specs.declared.arena.Node.{Node}
-use Rattle.cspf_search.specs.declared.bound.Goal.{Goal}
+use Rattle.cspf_search.specs.declared.goal.Goal.{Goal}
 use Rattle.cspf_search.specs.declared.labels.Label.{Label}
 use Rattle.cspf_search.specs.declared.stands.Stand.{Stand}
 use Rattle.cspf_search.specs.States.{State}
@@ -37,7 +37,7 @@ end_of_row d ends links within each row l end h is at =
     }
 
 module _ (d : Database) (q : Request) (nodes : List Node) (are : AreNodes nodes) (listed : AreListed d) (at state : ℕ) (is : IsNodeAt d q nodes at state) (goal : Goal)
-    (labels : List Label) (keys : List Key) where
+    (open_leg : goal.floor ≤ state) (labels : List Label) (keys : List Key) where
   pub few_rows : length (links_from_index d (state % 1024)) ≤ 16384
   few_rows = omega (arith, listed.room, filter_short (λ l. nat_eq l.from (slice_index (router_list d) (state % 1024))) (links_of d))
 
@@ -59,11 +59,11 @@ module _ (d : Database) (q : Request) (nodes : List Node) (are : AreNodes nodes)
     turn_late h late =
         labels_stay d q nodes are listed (CrossesBelow d q nodes (links_of d) at) (Turns d q nodes at) (CrossesUpTo d q nodes at (state % 1024) 0)
         (turn_left d q nodes at state is) (turn_right d q nodes at state is) (turn_cases d q nodes at state is) goal labels keys before (state + 1024)
-        (turn_index d q nodes at state is h) (walk_at (walks nodes) at) (turn_only d q nodes at state is)
+        (turn_index d q nodes at state is h) (omega (arith, open_leg)) (walk_at (walks nodes) at) (turn_only d q nodes at state is)
         (λ _. subst (IsLost d nodes (CrossesBelow d q nodes (links_of d) at) (label_at labels goal.at).rank (lift goal (state + 1024)) (state_at d (state + 1024)) (label_at labels (state + 1024)))
         (sym (are.grown at nowhere is.within))
         (lost_by_rank d nodes are (CrossesBelow d q nodes (links_of d) at) (label_at labels goal.at).rank (lift goal (state + 1024)) (state_at d (state + 1024)) (label_at labels (state + 1024))
-        (node_by at (slice_index_or nodes at nowhere) None) turned (lift_small goal (state + 1024) before.small) late))
+        (node_by at (slice_index_or nodes at nowhere) None) turned (lift_small goal (state + 1024) (before.small (state + 1024))) late))
 
     module _ (label : Label) (parent : label.parent ≡ at) (place : label.place ≡ state % 1024) (row : label.row ≡ 65535)
         (rank : label.rank ≡ rank_of (slice_index_or nodes at nowhere)) where
@@ -84,7 +84,7 @@ module _ (d : Database) (q : Request) (nodes : List Node) (are : AreNodes nodes)
       pub turn_tied : state / 1024 < length q.hops → label.rank ≡ (label_at labels (state + 1024)).rank → AreTied d nodes (label_at labels (state + 1024)) label
       turn_tied h tie =
           tied_label d nodes are (CrossesBelow d q nodes (links_of d) at) (label_at labels goal.at).rank (lift goal (state + 1024)) (state_at d (state + 1024)) (label_at labels (state + 1024)) label
-          (before.each (state + 1024) (turn_index d q nodes at state is h)) turn_offer turn_rank tie
+          (before.each (state + 1024) (turn_index d q nodes at state is h) (omega (arith, open_leg))) turn_offer turn_rank tie
 
       pub turn_taken : state / 1024 < length q.hops → IsTarget d q (state / 1024 + 1) (slice_index (router_list d) (state % 1024))
           → label.rank ≤ (label_at labels (state + 1024)).rank → (key : ℕ) (new : List Label) (new_keys : List Key) → key ≡ label.rank + lift goal (state + 1024)
@@ -93,10 +93,10 @@ module _ (d : Database) (q : Request) (nodes : List Node) (are : AreNodes nodes)
       turn_taken h target le key new new_keys is_key choice =
           let index = turn_index d q nodes at state is h in
           let left =
-          left_open d nodes (CrossesBelow d q nodes (links_of d) at) (label_at labels goal.at).rank (lift goal (state + 1024)) (state_at d (state + 1024)) (label_at labels (state + 1024)) (before.each (state + 1024) index)
+          left_open d nodes (CrossesBelow d q nodes (links_of d) at) (label_at labels goal.at).rank (lift goal (state + 1024)) (state_at d (state + 1024)) (label_at labels (state + 1024)) (before.each (state + 1024) index (omega (arith, open_leg)))
           (omega (arith, le, rank)) in
           labels_offered d q nodes are listed (CrossesBelow d q nodes (links_of d) at) (Turns d q nodes at) (CrossesUpTo d q nodes at (state % 1024) 0)
-          (turn_left d q nodes at state is) (turn_right d q nodes at state is) (turn_cases d q nodes at state is) goal labels keys before (state + 1024) index
+          (turn_left d q nodes at state is) (turn_right d q nodes at state is) (turn_cases d q nodes at state is) goal labels keys before (state + 1024) index (omega (arith, open_leg))
           (walk_at (walks nodes) at) (turn_only d q nodes at state is) label key new new_keys is_key turn_offer turn_rank (ap state_of turn_node ∙ turn_state d q nodes at state is)
           (ap (walk_of nodes) turn_node ∙ sym (are.grown at nowhere is.within)) le (turn_passes d q nodes at state is h target left) choice
 
@@ -136,9 +136,9 @@ module _ (d : Database) (q : Request) (nodes : List Node) (are : AreNodes nodes)
         labels_stay d q nodes are listed (CrossesUpTo d q nodes at (state % 1024) row) (CrossesBy d q nodes at l) (CrossesUpTo d q nodes at (state % 1024) (row + 1))
         (link_left d q nodes at state is row l here end ends listed.few) (link_right d q nodes at state is row l here end ends listed.few)
         (link_cases d q nodes at state is row l here end ends listed.few) goal labels keys before (state - state % 1024 + end)
-        (link_index d q nodes at state is row l here end ends listed.few) (walk_at (walks nodes) at ++ (l ∷ [])) (link_only d q nodes at state is row l here end ends listed.few)
+        (link_index d q nodes at state is row l here end ends listed.few) (omega (arith, open_leg, before.whole)) (walk_at (walks nodes) at ++ (l ∷ [])) (link_only d q nodes at state is row l here end ends listed.few)
         (λ _. lost_by_rank d nodes are (CrossesUpTo d q nodes at (state % 1024) row) (label_at labels goal.at).rank (lift goal (state - state % 1024 + end)) (state_at d (state - state % 1024 + end))
-        (label_at labels (state - state % 1024 + end)) n along (lift_small goal (state - state % 1024 + end) before.small) behind)
+        (label_at labels (state - state % 1024 + end)) n along (lift_small goal (state - state % 1024 + end) (before.small (state - state % 1024 + end))) behind)
 
     module _ (label : Label) (parent : label.parent ≡ at) (place : label.place ≡ state % 1024) (at_row : label.row ≡ row)
         (rank : label.rank ≡ rank_of (slice_index_or nodes at nowhere) + l.metric * 16384 + 1) where
@@ -162,7 +162,7 @@ module _ (d : Database) (q : Request) (nodes : List Node) (are : AreNodes nodes)
       link_tied tie =
           tied_label d nodes are (CrossesUpTo d q nodes at (state % 1024) row) (label_at labels goal.at).rank (lift goal (state - state % 1024 + end)) (state_at d (state - state % 1024 + end))
           (label_at labels (state - state % 1024 + end)) label
-          (before.each (state - state % 1024 + end) (link_index d q nodes at state is row l here end ends listed.few)) link_offer link_rank tie
+          (before.each (state - state % 1024 + end) (link_index d q nodes at state is row l here end ends listed.few) (omega (arith, open_leg, before.whole))) link_offer link_rank tie
 
       pub link_taken : IsAdmitted q l → IsInside d q (state / 1024 + 1) l.to → label.rank ≤ (label_at labels (state - state % 1024 + end)).rank
           → (key : ℕ) (new : List Label) (new_keys : List Key) → key ≡ label.rank + lift goal (state - state % 1024 + end)
@@ -172,10 +172,10 @@ module _ (d : Database) (q : Request) (nodes : List Node) (are : AreNodes nodes)
           let index = link_index d q nodes at state is row l here end ends listed.few in
           let left =
           left_open d nodes (CrossesUpTo d q nodes at (state % 1024) row) (label_at labels goal.at).rank (lift goal (state - state % 1024 + end)) (state_at d (state - state % 1024 + end))
-          (label_at labels (state - state % 1024 + end)) (before.each (state - state % 1024 + end) index) (omega (arith, le, rank)) in
+          (label_at labels (state - state % 1024 + end)) (before.each (state - state % 1024 + end) index (omega (arith, open_leg, before.whole))) (omega (arith, le, rank)) in
           labels_offered d q nodes are listed (CrossesUpTo d q nodes at (state % 1024) row) (CrossesBy d q nodes at l) (CrossesUpTo d q nodes at (state % 1024) (row + 1))
           (link_left d q nodes at state is row l here end ends listed.few) (link_right d q nodes at state is row l here end ends listed.few)
-          (link_cases d q nodes at state is row l here end ends listed.few) goal labels keys before (state - state % 1024 + end) index
+          (link_cases d q nodes at state is row l here end ends listed.few) goal labels keys before (state - state % 1024 + end) index (omega (arith, open_leg, before.whole))
           (walk_at (walks nodes) at ++ (l ∷ [])) (link_only d q nodes at state is row l here end ends listed.few) label key new new_keys is_key link_offer link_rank
           (ap state_of link_node ∙ link_state d q nodes at state is row l here end ends listed.few) (ap (walk_of nodes) link_node) le
           (link_passes d q nodes at state is row l here end ends listed.few admitted inside left) choice

@@ -1,5 +1,5 @@
 -- Private words of the search from a heap: the labels of states, and the keys that wait.
-use Rattle.std.specs.Prelude.{◌≡◌, ℕ, true, false, if◌then◌else◌, nat_eq, set, ◌+◌, ◌*◌, ◌/◌, ◌%◌, ◌^◌, ◌<◌, ◌≤◌, ◌⊎◌, ◌↔◌, IsTrue, Option, Some, None, List, ◌∷◌, All, Contains, length, take, slice_get, slice_index, slice_index_or}
+use Rattle.std.specs.Prelude.{◌≡◌, ℕ, true, false, set, ◌+◌, ◌-◌, ◌*◌, ◌/◌, ◌%◌, ◌^◌, ◌<◌, ◌≤◌, ◌⊎◌, ◌↔◌, IsTrue, Option, Some, None, List, ◌∷◌, All, Contains, length, take, slice_get, slice_index, slice_index_or}
 use Rattle.std.specs.Ordering.{nat_cmp, ordering_then, is_gt}
 use Rattle.std.specs.declared.cmp.Ordering.{Ordering}
 use Rattle.std.specs.declared.cmp.Reverse.{Reverse}
@@ -12,11 +12,11 @@ use Rattle.cspf_db.specs.Targets.{IsTarget, IsInside}
 use Rattle.cspf_db.specs.Walks.{cost_of}
 use Rattle.cspf_db.specs.Index.{router_list, links_of, links_from_index}
 use Rattle.cspf_search.specs.declared.arena.Node.{Node}
-use Rattle.cspf_search.specs.declared.bound.Goal.{Goal}
+use Rattle.cspf_search.specs.declared.goal.Goal.{Goal}
 use Rattle.cspf_search.specs.declared.labels.Label.{Label}
 use Rattle.cspf_search.specs.declared.stands.Stand.{Stand}
 use Rattle.cspf_search.specs.States.{State}
-use Rattle.cspf_search.specs.Settled.{IsNoLater, locals_cmp}
+use Rattle.cspf_search.specs.Settled.{Labels, IsNoLater, IsClosed, locals_cmp}
 use Rattle.cspf_search.specs.Arena.{walk_of, state_of, index_of, IsNext}
 use Rattle.cspf_search.specs.Rounds.{CrossesFrom, CrossesBelow}
 
@@ -58,6 +58,12 @@ AreStandsBelow d q below stands =
     (i : ℕ) (e : Stand) → i < below → i % 1024 < length (router_list d)
     → IsStand d q (state_at d i) (slice_index_or stands i e)
 
+-- the floor is behind the leg of a state, which is the only target of its leg
+pub record IsRaised (stands : List Stand) (at floor : ℕ) : Type 0 where
+  pub target : IsTrue (slice_index_or stands at nothing).target
+  pub next : floor ≡ at - at % 1024 + 1024
+  pub alone : (i : ℕ) → i / 1024 ≡ at / 1024 → IsTrue (slice_index_or stands i nothing).target → i ≡ at
+
 -- a node for the indexes past the end of a list
 abbrev pub nowhere : Node
 nowhere = record { parent = 0; by = None; leg = 0; router = 0; cost = 0; links = 0 }
@@ -98,10 +104,9 @@ walk_rank w = cost_of w * 16384 + length w + 1
 abbrev pub no_rank : ℕ
 no_rank = 18446744073709551615
 
--- what the key of a state is above its rank: at other routers than the goal's the bound of the last
--- link
+-- what the key of a state is above its rank: its bound
 abbrev pub lift : Goal → ℕ → ℕ
-lift goal i = if nat_eq (i % 1024) (goal.at % 1024) then 0 else goal.bound * 16384
+lift goal i = slice_index_or goal.bounds.now i 0 * 16384
 
 -- the walk ranks behind one that the tail-end has, with what is ahead of it at least
 pub record IsBeyond (cap ahead : ℕ) (w : List Link) : Type 0 where
@@ -154,22 +159,26 @@ pub record IsKey (d : Database) (q : Request) (goal : Goal) (key : Key) : Type 0
   pub most : key.0.0 < no_rank
   pub index : IsStateIndex d q key.0.1
 
--- a key that the heap gives is still its state's
-abbrev pub IsLive : Goal → List Label → Key → Type 0
-IsLive goal labels key = (label_at labels key.0.1).rank + lift goal key.0.1 ≡ key.0.0
+-- a key that the heap gives is still its state's, in a leg that isn't closed
+pub record IsLive (goal : Goal) (labels : List Label) (key : Key) : Type 0 where
+  pub behind : goal.floor ≤ key.0.1
+  pub same : (label_at labels key.0.1).rank + lift goal key.0.1 ≡ key.0.0
 
--- Labels of all states for what crosses, and a key for each state that is reached.
+-- Labels of the states behind the closed legs for what crosses, and a key for each state of them that
+-- is reached.
 pub record AreLabels (d : Database) (q : Request) (nodes : List Node)
     (P : List Link → State → Type 0) (goal : Goal) (labels : List Label) (keys : List Key)
     : Type 0 where
-  pub small : goal.bound < 2 ^ 32
+  pub small : (i : ℕ) → slice_index_or goal.bounds.now i 0 < 2 ^ 32
+  pub bounds : length goal.bounds.now ≡ (length q.hops + 1) * 1024
+  pub whole : goal.floor % 1024 ≡ 0
   pub many : length labels ≡ (length q.hops + 1) * 1024
-  pub each : (i : ℕ) → IsStateIndex d q i
+  pub each : (i : ℕ) → IsStateIndex d q i → goal.floor ≤ i
       → IsLabel d nodes P (label_at labels goal.at).rank (lift goal i) (state_at d i)
       (label_at labels i)
   pub ordered : IsHeap key_cmp keys
   pub keyed : All (IsKey d q goal) keys
-  pub waiting : (i : ℕ) → IsStateIndex d q i → 0 < (label_at labels i).rank
+  pub waiting : (i : ℕ) → IsStateIndex d q i → goal.floor ≤ i → 0 < (label_at labels i).rank
       → (label_at labels i).rank < no_rank
       → Contains keys (key_at ((label_at labels i).rank + lift goal i) i)
 
@@ -215,6 +224,7 @@ IsUpTo rank i key = (rank < key.0.0) ⊎ ((rank ≡ key.0.0) × (i ≤ key.0.1))
 pub record IsLeast (d : Database) (q : Request) (goal : Goal) (labels : List Label)
     (old : List Key) (i : ℕ) (new : List Key) : Type 0 where
   pub index : IsStateIndex d q i
+  pub behind : goal.floor ≤ i
   pub some : 0 < (label_at labels i).rank
   pub most : (label_at labels i).rank < no_rank
   pub ordered : IsHeap key_cmp new
@@ -241,3 +251,8 @@ pub record GoesTo (d : Database) (nodes : List Node) (i : ℕ) (label : Label) (
       (walk_of nodes (node_of d nodes label))) ≡ true
   pub labels : new ≡ set old i label
   pub keys : Gains (key_at key i) old_keys new_keys
+
+-- the legs below the floor are closed, and the goal is behind them
+pub record IsFloor (d : Database) (q : Request) (labels : Labels) (goal : Goal) : Type 0 where
+  pub low : goal.floor ≤ goal.at
+  pub shut : IsClosed d q labels (goal.floor / 1024)

@@ -3,6 +3,7 @@ pub mod Outcome
 pub mod States
 pub mod Settled
 pub mod Arena
+pub mod Bounds
 pub mod Rounds
 pub mod Frontier
 pub mod Stops

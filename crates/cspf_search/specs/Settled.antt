@@ -1,5 +1,5 @@
 -- Private words of the search: the order in which walks are settled, and what is settled.
-use Rattle.std.specs.Prelude.{◌≡◌, ℕ, ◌+◌, ◌≤◌, Option, Some, None, List, [], false, length}
+use Rattle.std.specs.Prelude.{◌≡◌, ℕ, suc, ◌+◌, ◌<◌, ◌≤◌, Option, Some, None, List, [], false, length}
 use Rattle.std.specs.Ordering.{nat_cmp, ordering_then, is_gt}
 use Rattle.std.specs.declared.cmp.Ordering.{Ordering}
 use Rattle.std.specs.Cmp.Lexicographic.{slice_cmp}
@@ -7,6 +7,7 @@ use Rattle.cspf_db.specs.declared.link.Link.{Link}
 use Rattle.cspf_db.specs.declared.request.Request.{Request}
 use Rattle.cspf_db.specs.Database.{Database}
 use Rattle.cspf_db.specs.Admissible.{IsAdmissible}
+use Rattle.cspf_db.specs.Targets.{IsTarget}
 use Rattle.cspf_db.specs.Walks.{cost_of, locals_of, walk_cmp}
 use Rattle.cspf_search.specs.States.{State, IsStep, Reaches, start_of}
 
@@ -23,19 +24,22 @@ rank_cmp a b =
     ordering_then (nat_cmp (cost_of a.1) (cost_of b.1))
     (ordering_then (nat_cmp (length a.1) (length b.1)) (nat_cmp a.0 b.0))
 
--- by cost and the potential of the router, then by the number of links, then by leg
-abbrev pub potential_cmp : (ℕ → ℕ) → State × List Link → State × List Link → Ordering
+-- by cost and the potential of the state, then by the number of links, then by leg
+abbrev pub potential_cmp : (State → ℕ) → State × List Link → State × List Link → Ordering
 potential_cmp potential a b =
-    ordering_then (nat_cmp (potential a.0.router + cost_of a.1) (potential b.0.router + cost_of b.1))
+    ordering_then (nat_cmp (potential a.0 + cost_of a.1) (potential b.0 + cost_of b.1))
     (ordering_then (nat_cmp (length a.1) (length b.1)) (nat_cmp a.0.leg b.0.leg))
 
-abbrev pub RanksNoLater : (ℕ → ℕ) → State → List Link → State → List Link → Type 0
+abbrev pub RanksNoLater : (State → ℕ) → State → List Link → State → List Link → Type 0
 RanksNoLater potential s v t w = is_gt (potential_cmp potential (s, v) (t, w)) ≡ false
 
--- no link that is admissible lowers the potential by more than its metric
-abbrev pub IsConsistent : Database → Request → (ℕ → ℕ) → Type 0
-IsConsistent d q potential =
-    (l : Link) → IsAdmissible d q l → potential l.from ≤ potential l.to + l.metric
+-- No link that is admissible lowers the potential by more than its metric, and no turn to the next
+-- leg lowers it.
+pub record IsConsistent (d : Database) (q : Request) (potential : State → ℕ) : Type 0 where
+  pub links : (leg : ℕ) (l : Link) → 1 ≤ leg → leg ≤ length q.hops + 1 → IsAdmissible d q l
+      → potential (record { leg = leg; router = l.from }) ≤ potential (record { leg = leg; router = l.to }) + l.metric
+  pub turns : (leg router : ℕ) → 1 ≤ leg → leg ≤ length q.hops → IsTarget d q leg router
+      → potential (record { leg = leg; router = router }) ≤ potential (record { leg = suc leg; router = router })
 
 abbrev pub locals_cmp : List Link → List Link → Ordering
 locals_cmp v w = slice_cmp nat_cmp (locals_of v) (locals_of w)
@@ -58,12 +62,28 @@ pub record Crosses (d : Database) (q : Request) (labels : Labels) (w : List Link
   pub step : IsStep d q front state w t
   pub still_open : labels t ≡ None
 
--- no other that crosses into its state is before it, and none at all ranks before it under a
--- potential of routers
+-- Each target of the leg is settled: what leads on from it or from a leg before it leads to nothing
+-- behind it that isn't led to from there.
+abbrev pub IsClosed : Database → Request → Labels → ℕ → Type 0
+IsClosed d q labels leg =
+    1 ≤ leg → (router : ℕ) → IsTarget d q leg router → labels (record { leg = leg; router = router }) ≡ None → ⊥
+
+-- no other that crosses into its state is before it, and none that crosses behind the closed legs
+-- ranks before it under a potential of states
 pub record IsFirstCrossing (d : Database) (q : Request) (labels : Labels) (w : List Link) (t : State) : Type 0 where
   pub crosses : Crosses d q labels w t
   pub first_here : (x : List Link) → Crosses d q labels x t → IsNoLater w x
-  pub potential : ℕ → ℕ
+  pub closed : ℕ
+  pub is_closed : IsClosed d q labels closed
+  pub behind : closed < t.leg
+  pub potential : State → ℕ
   pub consistent : IsConsistent d q potential
-  pub first : (x : List Link) (u : State) → Crosses d q labels x u
+  pub first : (x : List Link) (u : State) → Crosses d q labels x u → closed < u.leg
       → RanksNoLater potential t w u x
+
+-- nothing crosses behind the closed legs
+pub record IsStuck (d : Database) (q : Request) (labels : Labels) : Type 0 where
+  pub closed : ℕ
+  pub is_closed : IsClosed d q labels closed
+  pub low : closed ≤ length q.hops
+  pub none : (w : List Link) (t : State) → Crosses d q labels w t → closed < t.leg → ⊥

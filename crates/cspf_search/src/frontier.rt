@@ -6,7 +6,7 @@ ghost use Rattle.cspf_search.specs.Rounds.{CrossesBelow};
 ghost use Rattle.cspf_search.specs.Frontier.{AreLabels, AreListed, AreStands, AreTied, CrossesUpTo, GoesTo, IsEnd, IsNodeAt, IsOffer, IsStateIndex, StaysAt, label_at, nowhere, rank_of};
 
 use crate::arena::Node;
-use crate::bound::{Goal, lift};
+use crate::goal::{Goal, lift};
 use crate::labels::{Label, Waiting, node_of, put};
 use crate::rounds::locals;
 use crate::stands::Stand;
@@ -59,7 +59,7 @@ fn offer_turn(
     nodes: &[Node],
     labels: &mut [Label],
     heap: &mut BinaryHeap<Waiting, Global>,
-    goal: Goal,
+    goal: Goal<'_>,
     at: usize,
     state: usize,
     rank: u64,
@@ -68,6 +68,7 @@ fn offer_turn(
     requires listed { AreListed table.now }
     requires stands { AreStands table.now request.now stands.now }
     requires goal { IsStateIndex table.now request.now goal.at }
+    requires behind { goal.floor ≤ state }
     requires from { IsNodeAt table.now request.now nodes.now at state }
     requires rank { rank ≡ rank_of (slice_index_or nodes.now at nowhere) }
     requires before { AreLabels table.now request.now nodes.now
@@ -75,7 +76,7 @@ fn offer_turn(
         goal labels.old (heap_items heap.old) }
     ensures after { OnOk result (AreLabels table.now request.now nodes.now
         (CrossesUpTo table.now request.now nodes.now at (state % 1024) 0)
-        goal labels.new (heap_items heap.new)) }
+        goal.entry labels.new (heap_items heap.new)) }
     ensures few { OnOk result (heap_len heap.new ≤ heap_len heap.old + 1) }
 {
     if state / 1024 >= request.hops.len() {
@@ -112,7 +113,7 @@ fn offer_link(
     nodes: &[Node],
     labels: &mut [Label],
     heap: &mut BinaryHeap<Waiting, Global>,
-    goal: Goal,
+    goal: Goal<'_>,
     at: usize,
     state: usize,
     rank: u64,
@@ -125,6 +126,7 @@ fn offer_link(
     requires listed { AreListed table.now }
     requires stands { AreStands table.now request.now stands.now }
     requires goal { IsStateIndex table.now request.now goal.at }
+    requires behind { goal.floor ≤ state }
     requires from { IsNodeAt table.now request.now nodes.now at state }
     requires rank { rank ≡ rank_of (slice_index_or nodes.now at nowhere) }
     requires row { slice_get (links_from_index table.now (state % 1024)) row ≡ Some link.now }
@@ -135,7 +137,7 @@ fn offer_link(
         goal labels.old (heap_items heap.old) }
     ensures after { OnOk result (AreLabels table.now request.now nodes.now
         (CrossesUpTo table.now request.now nodes.now at (state % 1024) (row + 1))
-        goal labels.new (heap_items heap.new)) }
+        goal.entry labels.new (heap_items heap.new)) }
     ensures few { OnOk result (heap_len heap.new ≤ heap_len heap.old + 1) }
 {
     let place = state % 1024;
@@ -174,7 +176,7 @@ pub(crate) fn expand(
     nodes: &[Node],
     labels: &mut [Label],
     heap: &mut BinaryHeap<Waiting, Global>,
-    goal: Goal,
+    goal: Goal<'_>,
     at: usize,
     state: usize,
 ) -> Result<(), AllocError>
@@ -182,13 +184,14 @@ pub(crate) fn expand(
     requires listed { AreListed table.now }
     requires stands { AreStands table.now request.now stands.now }
     requires goal { IsStateIndex table.now request.now goal.at }
+    requires behind { goal.floor ≤ state }
     requires from { IsNodeAt table.now request.now nodes.now at state }
     requires before { AreLabels table.now request.now nodes.now
         (CrossesBelow table.now request.now nodes.now (links_of table.now) at)
         goal labels.old (heap_items heap.old) }
     ensures after { OnOk result (AreLabels table.now request.now nodes.now
         (CrossesBelow table.now request.now nodes.now (links_of table.now) (at + 1))
-        goal labels.new (heap_items heap.new)) }
+        goal.entry labels.new (heap_items heap.new)) }
     ensures few { OnOk result (heap_len heap.new ≤ heap_len heap.old + 16385) }
 {
     let rank = nodes[at].cost * 16384 + nodes[at].links as u64 + 1;

@@ -1,11 +1,11 @@
-ghost use Rattle.std.specs.Prelude.{◌≡◌, ◌+◌, ◌*◌, ◌<◌, ◌≤◌, All, Contains, length, set, IfSome, IfNone, OnOk};
+ghost use Rattle.std.specs.Prelude.{◌≡◌, ◌+◌, ◌*◌, ◌<◌, ◌≤◌, ◌↔◌, IsTrue, All, Contains, length, set, IfSome, IfNone, OnOk};
 ghost use Rattle.std.specs.BinaryHeap.{IsHeap, heap_items, heap_len};
 ghost use Rattle.cspf_db.specs.Index.{router_list};
 ghost use Rattle.cspf_search.specs.Arena.{AreNodes};
-ghost use Rattle.cspf_search.specs.Frontier.{node_of, key_at, key_cmp, Gains, IsKey, IsLeast, IsLive, Key};
+ghost use Rattle.cspf_search.specs.Frontier.{lift, node_of, key_at, key_cmp, Gains, IsKey, IsLeast, IsLive, Key};
 
 use crate::arena::Node;
-use crate::bound::{Goal, lift};
+use crate::goal::{Goal, lift};
 use cspf_db::{Request, Table};
 use std::alloc::{AllocError, Global};
 use std::cmp::Reverse;
@@ -90,27 +90,38 @@ pub(crate) fn put(
     Ok(())
 }
 
-/// The index of the state that waits with the least key, if one waits that isn't settled.
+/// Whether a key is that of the state at an index, in a leg that isn't closed.
+fn is_live(goal: Goal<'_>, labels: &[Label], key: u64, at: usize) -> bool
+    requires within { at < length labels.now }
+    requires bounds { length goal.bounds.now ≡ length labels.now }
+    requires some { lift goal at ≤ key }
+    ensures { IsTrue result ↔ IsLive goal.entry labels.now (key_at key at) }
+{
+    at >= goal.floor && labels[at].rank == key - lift(goal, at)
+}
+
+/// The index of the state that waits with the least key, if one waits that isn't settled, in a leg
+/// that isn't closed.
 pub(crate) fn least(
     table: &Table,
     request: &Request,
-    goal: Goal,
+    goal: Goal<'_>,
     labels: &[Label],
     heap: &mut BinaryHeap<Waiting, Global>,
 ) -> Option<usize>
     requires many { length labels.now ≡ (length request.now.hops + 1) * 1024 }
+    requires bounds { length goal.bounds.now ≡ (length request.now.hops + 1) * 1024 }
     requires ordered { IsHeap key_cmp (heap_items heap.old) }
     requires keyed { All (IsKey table.now request.now goal) (heap_items heap.old) }
-    ensures some { IfSome result (λ at. IsLeast table.now request.now goal labels.now
+    ensures some { IfSome result (λ at. IsLeast table.now request.now goal.entry labels.now
         (heap_items heap.old) at (heap_items heap.new)) }
     ensures fewer { IfSome result (λ _. heap_len heap.new < heap_len heap.old) }
     ensures none { IfNone result ((key : Key) → Contains (heap_items heap.old) key
-        → ¬ IsLive goal labels.now key) }
+        → ¬ IsLive goal.entry labels.now key) }
 {
     while let Some(Reverse((key, at))) = heap.pop() {
         let at = at as usize;
-        let rank = key - lift(goal, at);
-        if labels[at].rank == rank {
+        if is_live(goal, labels, key, at) {
             return Some(at);
         }
     }

@@ -3,8 +3,9 @@
 #![tactic(auto)]
 
 mod arena;
-mod bound;
+mod bounds;
 mod frontier;
+mod goal;
 mod labels;
 mod outcome;
 mod rounds;

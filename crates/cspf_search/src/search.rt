@@ -5,7 +5,7 @@ ghost use Rattle.cspf_db.specs.Best.{HasEnds, IsBestAnswer};
 ghost use Rattle.cspf_db.specs.Database.{AreLinksOf, IsRouterOf};
 ghost use Rattle.cspf_search.specs.Outcome.{answer_of};
 ghost use Rattle.cspf_search.specs.States.{State, end_state};
-ghost use Rattle.cspf_search.specs.Settled.{AreSettled, Crosses};
+ghost use Rattle.cspf_search.specs.Settled.{AreSettled, IsStuck};
 ghost use Rattle.cspf_search.specs.Arena.{AreNodes, AreInLegs, labels_of, root_of, walk_at, walks};
 ghost use Rattle.cspf_db.specs.Index.{links_of};
 ghost use Rattle.cspf_search.specs.Frontier.{AreListed, AreStands, IsEnd};
@@ -14,11 +14,12 @@ ghost use Rattle.cspf_search.specs.Routes.{AreLinked};
 ghost use Rattle.cspf_search.specs.Rounds.{CrossesBelow, IsFirst, IsFirstOf};
 
 use crate::arena::{Node, index_of, links_to};
-use crate::bound::{Goal, last_metric};
+use crate::bounds::bounds;
 use crate::frontier::expand;
+use crate::goal::Goal;
 use crate::labels::{OPEN, SETTLED, least, node_of};
 use crate::rounds::first;
-use crate::stands::{Stand, stands};
+use crate::stands::{Stand, raised, stands};
 use crate::stops::{Stop, stop_of};
 use crate::{Outcome, Route};
 use cspf_db::{Request, Table, counted_routers};
@@ -87,8 +88,7 @@ fn settled(
     ensures settled { IfOk result (λ nodes.
         AreSettled table.now request.now (labels_of nodes.items)) }
     ensures whole { IfOk result (λ nodes. labels_of nodes.items (end_state request.now) ≡ None
-        → (w : List Linked) (t : State)
-        → ¬ Crosses table.now request.now (labels_of nodes.items) w t) }
+        → IsStuck table.now request.now (labels_of nodes.items)) }
 {
     listed(table);
     let stands = stands(alloc, table, request, legs)?;
@@ -152,15 +152,16 @@ fn reached(
     ensures settled { IfOk result (λ nodes.
         AreSettled table.now request.now (labels_of nodes.items)) }
     ensures whole { IfOk result (λ nodes. labels_of nodes.items (end_state request.now) ≡ None
-        → (w : List Linked) (t : State)
-        → ¬ Crosses table.now request.now (labels_of nodes.items) w t) }
+        → IsStuck table.now request.now (labels_of nodes.items)) }
 {
     listed(table);
-    let goal = Goal {
-        at: (legs - 1) * 1024 + to,
-        bound: last_metric(table, request, to),
-    };
     let stands = stands(alloc, table, request, legs)?;
+    let bounds = bounds(alloc, table, request, &stands, legs)?;
+    let mut goal = Goal {
+        at: (legs - 1) * 1024 + to,
+        floor: 0,
+        bounds: &bounds,
+    };
     let mut nodes = rooted(alloc, request)?;
     let mut labels = Vec::from_elem(alloc, OPEN, legs * 1024)?;
     labels[from] = SETTLED;
@@ -195,6 +196,7 @@ fn reached(
             index,
             at,
         )?;
+        goal.floor = raised(&stands, goal.floor, at);
     }
     Ok(nodes)
 }
@@ -214,8 +216,7 @@ fn answer(
     requires few { length nodes.now ≤ legs * 1024 }
     requires settled { AreSettled table.now request.now (labels_of nodes.now) }
     requires whole { labels_of nodes.now (end_state request.now) ≡ None
-        → (w : List Linked) (t : State)
-        → ¬ Crosses table.now request.now (labels_of nodes.now) w t }
+        → IsStuck table.now request.now (labels_of nodes.now) }
     ensures { IfOk result (λ outcome.
         IsBestAnswer table.now request.now (answer_of outcome)) }
 {

@@ -1,7 +1,7 @@
-ghost use Rattle.std.specs.Prelude.{◌≡◌, ◌+◌, ◌-◌, ◌*◌, ◌%◌, ◌<◌, ◌≤◌, ◌↔◌, IsTrue, IfOk, length, slice_get, slice_index_or};
+ghost use Rattle.std.specs.Prelude.{◌≡◌, ℕ, true, ◌+◌, ◌-◌, ◌*◌, ◌/◌, ◌%◌, ◌<◌, ◌≤◌, ◌↔◌, ◌⊎◌, IsTrue, IfOk, length, slice_get, slice_index_or};
 ghost use Rattle.cspf_db.specs.Index.{router_list};
 ghost use Rattle.cspf_db.specs.Targets.{IsLoose};
-ghost use Rattle.cspf_search.specs.Frontier.{IsStand, AreStands, AreStandsBelow, nothing, state_at};
+ghost use Rattle.cspf_search.specs.Frontier.{IsRaised, IsStand, AreStands, AreStandsBelow, nothing, state_at};
 
 use cspf_addr::Addr;
 use cspf_db::{Request, Table};
@@ -93,4 +93,32 @@ pub(crate) fn stands(
         stands.push(stand)?;
     }
     Ok(stands)
+}
+
+/// Whether no other state of its leg is a target.
+fn is_alone(stands: &[Stand], at: usize) -> bool
+    requires { at - at % 1024 + 1024 ≤ length stands.now }
+    ensures { result ≡ true → (i : ℕ) → i / 1024 ≡ at / 1024
+        → IsTrue (slice_index_or stands.now i nothing).target → i ≡ at }
+{
+    let first = at - at % 1024;
+    for index in first..first + 1024 {
+        if index != at && stands[index].target {
+            return false;
+        }
+    }
+    true
+}
+
+/// The floor once the state at an index is settled: where it is the only target of its leg, behind
+/// that leg.
+pub(crate) fn raised(stands: &[Stand], floor: usize, at: usize) -> usize
+    requires { at - at % 1024 + 1024 ≤ length stands.now }
+    ensures { (result ≡ floor) ⊎ IsRaised stands.now at result }
+{
+    if stands[at].target && is_alone(stands, at) {
+        at - at % 1024 + 1024
+    } else {
+        floor
+    }
 }

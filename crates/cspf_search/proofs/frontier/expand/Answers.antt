@@ -29,5 +29,5 @@ pub returns-clause-few : goal.returns-clause-few
 returns-clause-few c =
     let d = c.args.table.now in
     let few =
-    few_rows d c.args.request.now c.args.nodes.now c.requires.arena c.requires.listed c.args.at c.args.state c.requires.from c.args.goal c.args.labels.now (heap_items c.args.heap.now) in
+    few_rows d c.args.request.now c.args.nodes.now c.requires.arena c.requires.listed c.args.at c.args.state c.requires.from c.args.goal c.requires.behind c.args.labels.now (heap_items c.args.heap.now) in
     omega (arith, few, c.loop-row.invariant.few, ap (λ (ls : List Link). length ls) c.out_at-links.ensures)

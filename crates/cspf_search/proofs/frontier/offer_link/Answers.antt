@@ -9,7 +9,7 @@ use Rattle.cspf_search.specs.Frontier.{nowhere, rank_of, label_at}
 use Rattle.cspf_search.proofs.Expanded.{link_index}
 use Rattle.cspf_search.proofs.Heaps.{rank_read}
 use Rattle.cspf_search.proofs.Ranks.{rank_at}
-use Rattle.cspf_search.proofs.Taken.{few_rows, link_told, link_off, link_late, link_offer, link_taken}
+use Rattle.cspf_search.proofs.Taken.{few_rows, link_told, link_off, link_late, link_offer, link_tied, link_taken}
 use Rattle.cspf_search.proofs.frontier.offer_link.Goals as goal
 
 pub overflow_mul-new : goal.overflow_mul-new
@@ -38,7 +38,7 @@ returns-then-new-kept-clause-after c =
     let index = link_index d q nodes c.args.at c.args.state c.requires.from c.args.row c.args.link.now c.requires.row c.args.end c.requires.end c.requires.listed.few in
     let blank : Label = record { rank = 0; parent = 0; place = 0; row = 0 } in
     let read = rank_read c.args.labels.now (c.args.state - c.args.state % 1024 + c.args.end) blank (omega (arith, index.low, c.requires.before.many)) in
-    link_late d q nodes c.requires.arena c.requires.listed c.args.at c.args.state c.requires.from c.args.goal c.args.labels.now (heap_items c.args.heap.now) c.args.row c.args.link.now
+    link_late d q nodes c.requires.arena c.requires.listed c.args.at c.args.state c.requires.from c.args.goal c.requires.behind c.args.labels.now (heap_items c.args.heap.now) c.args.row c.args.link.now
     small c.requires.row c.args.end c.requires.end c.requires.before
     (inl (omega (arith, read, c.if-new-kept.true, c.requires.rank, c.from.ensures, c.requires.metric)))
 
@@ -50,7 +50,7 @@ returns-then-key-last-clause-after c =
     let small : c.args.link.now.metric < 2 ^ 32 = omega (arith, c.requires.metric) in
     let blank : Label = record { rank = 0; parent = 0; place = 0; row = 0 } in
     let read = rank_read c.args.labels.now c.args.goal.at blank (omega (arith, c.requires.goal.low, c.requires.before.many)) in
-    link_late d q nodes c.requires.arena c.requires.listed c.args.at c.args.state c.requires.from c.args.goal c.args.labels.now (heap_items c.args.heap.now) c.args.row c.args.link.now
+    link_late d q nodes c.requires.arena c.requires.listed c.args.at c.args.state c.requires.from c.args.goal c.requires.behind c.args.labels.now (heap_items c.args.heap.now) c.args.row c.args.link.now
     small c.requires.row c.args.end c.requires.end c.requires.before
     (inr (omega (arith, read, c.if-key-last.true, c.requires.rank, c.from.ensures, c.requires.metric, c.lift.ensures.value)))
 
@@ -62,11 +62,11 @@ returns-then-not-stand-clause-after c =
     let small : c.args.link.now.metric < 2 ^ 32 = omega (arith, c.requires.metric) in
     let index = link_index d q nodes c.args.at c.args.state c.requires.from c.args.row c.args.link.now c.requires.row c.args.end c.requires.end c.requires.listed.few in
     let no_stand : Stand = record { inside = false; target = false } in
-    let told = link_told d q nodes c.requires.arena c.requires.listed c.args.at c.args.state c.requires.from c.args.goal c.args.labels.now (heap_items c.args.heap.now) c.args.row c.args.link.now
+    let told = link_told d q nodes c.requires.arena c.requires.listed c.args.at c.args.state c.requires.from c.args.goal c.requires.behind c.args.labels.now (heap_items c.args.heap.now) c.args.row c.args.link.now
     small c.requires.row c.args.end c.requires.end c.requires.before
     (slice_index_or c.args.stands.now (c.args.state - c.args.state % 1024 + c.args.end) no_stand)
     (c.requires.stands.each (c.args.state - c.args.state % 1024 + c.args.end) no_stand index) in
-    link_off d q nodes c.requires.arena c.requires.listed c.args.at c.args.state c.requires.from c.args.goal c.args.labels.now (heap_items c.args.heap.now) c.args.row c.args.link.now
+    link_off d q nodes c.requires.arena c.requires.listed c.args.at c.args.state c.requires.from c.args.goal c.requires.behind c.args.labels.now (heap_items c.args.heap.now) c.args.row c.args.link.now
     small c.requires.row c.args.end c.requires.end c.requires.before
     (λ admitted inside. false≢true (sym (not-true _ c.if-not-stand.true) ∙ told.1 inside))
 
@@ -76,7 +76,7 @@ returns-then-not-accepts-clause-after c =
     let q = c.args.request.now in
     let nodes = c.args.nodes.now in
     let small : c.args.link.now.metric < 2 ^ 32 = omega (arith, c.requires.metric) in
-    link_off d q nodes c.requires.arena c.requires.listed c.args.at c.args.state c.requires.from c.args.goal c.args.labels.now (heap_items c.args.heap.now) c.args.row c.args.link.now
+    link_off d q nodes c.requires.arena c.requires.listed c.args.at c.args.state c.requires.from c.args.goal c.requires.behind c.args.labels.now (heap_items c.args.heap.now) c.args.row c.args.link.now
     small c.requires.row c.args.end c.requires.end c.requires.before
     (λ admitted inside. false≢true (c.if-not-accepts.ensures.1 admitted))
 
@@ -85,7 +85,7 @@ overflow_cast-label-3 c =
     let d = c.args.table.now in
     let within = slice_get_within (links_from_index d (c.args.state % 1024)) c.args.row c.args.link.now c.requires.row in
     let few =
-    few_rows d c.args.request.now c.args.nodes.now c.requires.arena c.requires.listed c.args.at c.args.state c.requires.from c.args.goal c.args.labels.now (heap_items c.args.heap.now) in
+    few_rows d c.args.request.now c.args.nodes.now c.requires.arena c.requires.listed c.args.at c.args.state c.requires.from c.args.goal c.requires.behind c.args.labels.now (heap_items c.args.heap.now) in
     omega (arith, within, few)
 
 pub offer-requires-clause-offered : goal.offer-requires-clause-offered
@@ -97,8 +97,17 @@ offer-requires-clause-offered c =
     let label : Label = record { rank = c.args.rank + c.from.result * 16384 + 1; parent = c.args.at; place = c.args.state % 1024; row = c.args.row } in
     let rank : c.args.rank + c.from.result * 16384 + 1 ≡ rank_of (slice_index_or c.args.nodes.now c.args.at nowhere) + c.args.link.now.metric * 16384 + 1 =
     omega (arith, c.requires.rank, c.from.ensures, c.requires.metric) in
-    link_offer d q nodes c.requires.arena c.requires.listed c.args.at c.args.state c.requires.from c.args.goal c.args.labels.now (heap_items c.args.heap.now) c.args.row c.args.link.now
+    link_offer d q nodes c.requires.arena c.requires.listed c.args.at c.args.state c.requires.from c.args.goal c.requires.behind c.args.labels.now (heap_items c.args.heap.now) c.args.row c.args.link.now
     small c.requires.row c.args.end c.requires.end c.requires.before label refl refl refl rank
+
+pub offer-requires-clause-tied : goal.offer-requires-clause-tied
+offer-requires-clause-tied c =
+    let small : c.args.link.now.metric < 2 ^ 32 = omega (arith, c.requires.metric) in
+    let label : Label = record { rank = c.args.rank + c.from.result * 16384 + 1; parent = c.args.at; place = c.args.state % 1024; row = c.args.row } in
+    let rank : c.args.rank + c.from.result * 16384 + 1 ≡ rank_of (slice_index_or c.args.nodes.now c.args.at nowhere) + c.args.link.now.metric * 16384 + 1 =
+    omega (arith, c.requires.rank, c.from.ensures, c.requires.metric) in
+    link_tied c.args.table.now c.args.request.now c.args.nodes.now c.requires.arena c.requires.listed c.args.at c.args.state c.requires.from c.args.goal c.requires.behind c.args.labels.now
+    (heap_items c.args.heap.now) c.args.row c.args.link.now small c.requires.row c.args.end c.requires.end c.requires.before label refl refl refl rank
 
 pub returns-clause-after : goal.returns-clause-after
 returns-clause-after c =
@@ -113,14 +122,14 @@ returns-clause-after c =
     let blank : Label = record { rank = 0; parent = 0; place = 0; row = 0 } in
     let read = rank_read c.args.labels.now (c.args.state - c.args.state % 1024 + c.args.end) blank (omega (arith, index.low, c.requires.before.many)) in
     let no_stand : Stand = record { inside = false; target = false } in
-    let told = link_told d q nodes c.requires.arena c.requires.listed c.args.at c.args.state c.requires.from c.args.goal c.args.labels.now (heap_items c.args.heap.now) c.args.row c.args.link.now
+    let told = link_told d q nodes c.requires.arena c.requires.listed c.args.at c.args.state c.requires.from c.args.goal c.requires.behind c.args.labels.now (heap_items c.args.heap.now) c.args.row c.args.link.now
     small c.requires.row c.args.end c.requires.end c.requires.before
     (slice_index_or c.args.stands.now (c.args.state - c.args.state % 1024 + c.args.end) no_stand)
     (c.requires.stands.each (c.args.state - c.args.state % 1024 + c.args.end) no_stand index) in
     let le : c.args.rank + c.from.result * 16384 + 1 ≤ (label_at c.args.labels.now (c.args.state - c.args.state % 1024 + c.args.end)).rank =
     omega (arith, read, c.if-new-kept.false) in
     on_ok_weaker c.offer.result
-    (link_taken d q nodes c.requires.arena c.requires.listed c.args.at c.args.state c.requires.from c.args.goal c.args.labels.now (heap_items c.args.heap.now) c.args.row c.args.link.now
+    (link_taken d q nodes c.requires.arena c.requires.listed c.args.at c.args.state c.requires.from c.args.goal c.requires.behind c.args.labels.now (heap_items c.args.heap.now) c.args.row c.args.link.now
     small c.requires.row c.args.end c.requires.end c.requires.before label refl refl refl rank
     (c.if-not-accepts.ensures.0 refl) (told.0 (not-false _ c.if-not-stand.false)) le (c.args.rank + c.from.result * 16384 + 1 + c.lift.result) c.offer.new.labels
     (heap_items c.offer.new.heap) (ap (λ n. c.args.rank + c.from.result * 16384 + 1 + n) c.lift.ensures.value))

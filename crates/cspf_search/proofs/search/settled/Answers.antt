@@ -96,6 +96,6 @@ loop-node-preserved c =
     })
 
 pub returns-clause-whole : goal.returns-clause-whole
-returns-clause-whole c = λ left w t x.
+returns-clause-whole c = λ left.
     let none = rw c.deref-in-loop-node-2.ensures.value at c.in_default.ensures.none in
-    nothing_crosses c.args.table.now c.args.request.now (links_of c.args.table.now) c.listed.ensures.links c.loop-node.nodes.items c.loop-node.invariant.arena.apart (none left) w t x
+    nothing_crosses c.args.table.now c.args.request.now (links_of c.args.table.now) c.listed.ensures.links c.loop-node.nodes.items c.loop-node.invariant.arena.apart (none left)
