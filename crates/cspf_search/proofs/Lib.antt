@@ -19,3 +19,5 @@ pub mod Marked
 pub mod Grown
 pub mod Answered
 pub mod Twice
+pub mod Arrived
+pub mod Ahead

@@ -1,12 +1,13 @@
 -- Private words of the search: for each state the least that is ahead of it in its leg.
-use Rattle.std.specs.Prelude.{◌≡◌, ℕ, ◌+◌, ◌*◌, ◌/◌, ◌%◌, ◌^◌, ◌<◌, ◌≤◌, List, length, slice_index, slice_index_or}
+use Rattle.std.specs.Prelude.{◌≡◌, ℕ, ◌+◌, ◌*◌, ◌/◌, ◌%◌, ◌^◌, ◌<◌, ◌≤◌, min, Bool, true, false, Some, List, length, slice_get, slice_index, slice_index_or}
 use Rattle.cspf_db.specs.declared.link.Link.{Link}
 use Rattle.cspf_db.specs.declared.request.Request.{Request}
 use Rattle.cspf_db.specs.Database.{Database}
-use Rattle.cspf_db.specs.Admissible.{IsAdmissible}
+use Rattle.cspf_db.specs.Admissible.{IsAdmissible, IsAdmitted}
 use Rattle.cspf_db.specs.Targets.{IsTarget}
-use Rattle.cspf_db.specs.Index.{router_list}
-use Rattle.cspf_search.specs.Frontier.{IsStateIndex}
+use Rattle.cspf_db.specs.Index.{router_list, links_from_index}
+use Rattle.cspf_search.specs.declared.arrivals.Arrival.{Arrival}
+use Rattle.cspf_search.specs.Frontier.{IsEnd, IsStateIndex}
 
 -- the bound of the state at an index
 abbrev pub bound_at : List ℕ → ℕ → ℕ
@@ -22,3 +23,52 @@ pub record AreBounds (d : Database) (q : Request) (bounds : List ℕ) : Type 0 w
       → bound_at bounds i ≤ bound_at bounds j + l.metric
   pub targets : (i : ℕ) → IsStateIndex d q i → IsTarget d q (i / 1024 + 1) (slice_index (router_list d) (i % 1024))
       → bound_at bounds i ≡ 0
+
+-- so it is for each router in the first legs
+pub record AreBoundsBelow (d : Database) (q : Request) (legs : ℕ) (bounds : List ℕ) : Type 0 where
+  pub many : length bounds ≡ legs * 1024
+  pub small : (i : ℕ) → bound_at bounds i < 2 ^ 32
+  pub links : (i j : ℕ) → i < legs * 1024 → j < legs * 1024 → i / 1024 ≡ j / 1024 → (l : Link)
+      → IsAdmissible d q l → IsEnd d l.from (i % 1024) → IsEnd d l.to (j % 1024)
+      → bound_at bounds i ≤ bound_at bounds j + l.metric
+  pub targets : (i : ℕ) → i < legs * 1024 → i % 1024 < length (router_list d)
+      → IsTarget d q (i / 1024 + 1) (slice_index (router_list d) (i % 1024))
+      → bound_at bounds i ≡ 0
+
+-- What is ahead of each router in a leg, as far as an edge: so it is for the lower of the two.
+pub record IsLeg (d : Database) (q : Request) (leg : ℕ) (near : List ℕ) (edge : ℕ) : Type 0 where
+  pub many : length near ≡ 1024
+  pub links : (u w : ℕ) (l : Link) → IsAdmissible d q l → IsEnd d l.from u → IsEnd d l.to w
+      → min (bound_at near u) edge ≤ min (bound_at near w) edge + l.metric
+  pub targets : (p : ℕ) → p < length (router_list d)
+      → IsTarget d q (leg + 1) (slice_index (router_list d) p) → min (bound_at near p) edge ≡ 0
+
+-- whether the links that arrive at a router were all looked at
+abbrev pub is_done : List Bool → ℕ → Bool
+is_done done w = slice_index_or done w false
+
+-- No admissible link that arrives at a router that is done lowers what is ahead by more than its
+-- metric.
+pub record IsRing (d : Database) (q : Request) (near : List ℕ) (done : List Bool) : Type 0 where
+  pub many : length near ≡ 1024
+  pub marks : length done ≡ 1024
+  pub links : (u w : ℕ) → is_done done w ≡ true → (l : Link) → IsAdmissible d q l
+      → IsEnd d l.from u → IsEnd d l.to w → bound_at near u ≤ bound_at near w + l.metric
+
+-- what is ahead is nowhere more than before
+abbrev pub IsLower : List ℕ → List ℕ → Type 0
+IsLower old new = (i : ℕ) → bound_at new i ≤ bound_at old i
+
+-- What is ahead is nowhere more than before, and where it is less the router isn't done.
+pub record Falls (old new : List ℕ) (before after : List Bool) : Type 0 where
+  pub near : length new ≡ length old
+  pub done : length after ≡ length before
+  pub lower : IsLower old new
+  pub kept : (i : ℕ) → is_done after i ≡ true
+      → (is_done before i ≡ true) × (bound_at new i ≡ bound_at old i)
+
+-- what is ahead of the router that an admitted link arrives from is no more than by that link
+abbrev pub IsPassed : Database → Request → ℕ → List ℕ → Arrival → Type 0
+IsPassed d q base near a =
+    (l : Link) → slice_get (links_from_index d a.from) a.row ≡ Some l → IsAdmitted q l
+    → bound_at near a.from ≤ base + l.metric

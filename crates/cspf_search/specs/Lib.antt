@@ -7,3 +7,4 @@ pub mod Bounds
 pub mod Rounds
 pub mod Frontier
 pub mod Stops
+pub mod Arrivals

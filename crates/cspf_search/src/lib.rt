@@ -3,6 +3,7 @@
 #![tactic(auto)]
 
 mod arena;
+mod arrivals;
 mod bounds;
 mod frontier;
 mod goal;

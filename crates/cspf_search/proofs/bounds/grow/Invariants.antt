@@ -1,0 +1,5 @@
+use Rattle.cspf_search.specs.Bounds.{IsLower, IsRing}
+use Rattle.cspf_search.proofs.bounds.grow.Given as goal
+
+abbrev pub invariant-loop-taken : goal.invariant-loop-taken
+invariant-loop-taken l = record { ring : IsRing l.table l.request l.near l.done; lower : IsLower l.fn.near l.near }

@@ -1,0 +1,16 @@
+use Rattle.std.proofs.Common.{arith}
+use Rattle.cspf_search.specs.Frontier.{nothing}
+use Rattle.cspf_search.proofs.Ahead.{leg_of_ring, told_target}
+use Rattle.cspf_search.proofs.bounds.leg_edge.Goals as goal
+
+pub returns : goal.returns
+returns c =
+    let d = c.args.table.now in
+    let q = c.args.request.now in
+    let listed = c.requires.listed in
+    let said = c.in_ok-grow.ensures in
+    let some = c.if-not-branch.false in
+    leg_of_ring d q c.args.leg c.grow.new.near c.grow.new.done c.edge.result listed said.ring c.edge.ensures
+    (λ p h target.
+    let told = told_target d q c.args.stands.now c.args.leg p listed c.requires.stands c.requires.leg h target in
+    omega (arith, said.lower p, c.in_ok-begin.ensures some p nothing (omega (arith, h, listed.few)) told))

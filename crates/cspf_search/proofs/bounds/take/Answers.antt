@@ -1,0 +1,8 @@
+use Rattle.cspf_search.proofs.Ahead.{one_router_more}
+use Rattle.cspf_search.proofs.bounds.take.Goals as goal
+
+pub returns-then-near-to-clause-ring : goal.returns-then-near-to-clause-ring
+returns-then-near-to-clause-ring c =
+    let said = c.in_ok-walk.ensures in
+    one_router_more c.args.table.now c.args.request.now c.requires.links c.args.arrivals.now c.args.last.now c.requires.arrivals c.args.to _ c.args.near.now c.walk.new.near
+    c.args.done.now c.walk.new.done c.requires.ring said.falls said.passed c.if-near-to.true
