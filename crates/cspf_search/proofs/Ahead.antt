@@ -1,7 +1,7 @@
 -- What is ahead of the routers in a leg, and the bounds that it gives.
-use Rattle.std.proofs.Common.{◌≡◌, inl, inr, ℕ, ◌+◌, ◌-◌, ◌*◌, ◌/◌, ◌%◌, ◌^◌, ◌<◌, ◌≤◌, min, Bool, true, false, IsTrue, Some, List, ◌++◌, length, map, set, slice_get, slice_index, slice_index_or, refl, sym, ap, subst, ◌∙◌, arith, length-set}
+use Rattle.std.proofs.Common.{◌≡◌, ◌≢◌, ◌⊎◌, inl, inr, ℕ, ◌+◌, ◌*◌, ◌/◌, ◌%◌, ◌^◌, ◌<◌, ◌≤◌, min, Bool, true, false, IsTrue, Some, List, drop, length, replicate, set, slice_get, slice_index, slice_index_or, refl, sym, ap, subst, ◌∙◌, arith, length-set}
 use Rattle.std.proofs.lemmas.Bool.{cases_lt}
-use Rattle.std.proofs.lemmas.List.{get_or_append_left, get_or-append_right, get_or_past, get_or-map, length-append, length-map, get_or-set_other}
+use Rattle.std.proofs.lemmas.List.{get_or_past, get_or-drop, get_or-replicate, length-replicate, get_or-set_other}
 use Rattle.cspf_db.specs.declared.link.Link.{Link}
 use Rattle.cspf_db.specs.declared.request.Request.{Request}
 use Rattle.cspf_db.specs.Database.{Database, AreLinksOf}
@@ -11,7 +11,7 @@ use Rattle.cspf_search.specs.declared.arrivals.Arrival.{Arrival}
 use Rattle.cspf_search.specs.declared.stands.Stand.{Stand}
 use Rattle.cspf_search.specs.Frontier.{AreListed, AreStands, IsEnd, IsStateIndex, nothing}
 use Rattle.cspf_search.specs.Arrivals.{AreArrivals, Follows, arrival_at, pointer_at}
-use Rattle.cspf_search.specs.Bounds.{AreBoundsBelow, Falls, IsLeg, IsLower, IsPassed, IsRing, bound_at, is_done}
+use Rattle.cspf_search.specs.Bounds.{AreBounds, Falls, IsLeg, IsLower, IsPassed, IsRing, bound_at, is_done}
 use Rattle.cspf_search.proofs.Arrived.{arrived}
 use Rattle.cspf_search.proofs.Ranks.{same_or_not}
 
@@ -56,8 +56,9 @@ module _ (d : Database) (q : Request) (links : AreLinksOf d (links_of d)) (arriv
 -- a leg from its ring
 pub leg_of_ring : (d : Database) (q : Request) (leg : ℕ) (near : List ℕ) (done : List Bool) (edge : ℕ) → AreListed d → IsRing d q near done
     → ((w : ℕ) → w < 1024 → is_done done w ≡ false → edge ≤ bound_at near w)
-    → ((p : ℕ) → p < length (router_list d) → IsTarget d q (leg + 1) (slice_index (router_list d) p) → bound_at near p ≡ 0) → IsLeg d q leg near edge
-leg_of_ring d q leg near done edge listed ring least targets = record {
+    → (ahead : List ℕ) → ((p : ℕ) → p < length (router_list d) → IsTarget d q (leg + 1) (slice_index (router_list d) p) → bound_at near p ≤ bound_at ahead p)
+    → IsLeg d q leg near edge ahead
+leg_of_ring d q leg near done edge listed ring least ahead targets = record {
   many = ring.many;
   links = λ u w l admissible from to.
       elim (is_done done w) as (λ b. is_done done w ≡ b → min (bound_at near u) edge ≤ min (bound_at near w) edge + l.metric) [
@@ -77,52 +78,88 @@ told_target d q stands leg p listed are within h target =
     let index : IsStateIndex d q (leg * 1024 + p) = record { low = omega (arith, few, within); place = rw at_place h } in
     (are.each (leg * 1024 + p) nothing index).target.1 (rw (at_leg, at_place) target)
 
--- one leg more
-module _ (d : Database) (q : Request) (legs : ℕ) (bounds near : List ℕ) (edge : ℕ) (small : edge < 2 ^ 32) (before : AreBoundsBelow d q legs bounds)
-    (leg : IsLeg d q legs near edge) where
-  abbrev more : List ℕ
-  more = bounds ++ map (λ ahead. min ahead edge) near
+-- all bounds are 0
+pub zero_bounds : (d : Database) (q : Request) (bounds : List ℕ) → length bounds ≡ (length q.hops + 1) * 1024 → ((i : ℕ) → bound_at bounds i ≡ 0) → AreBounds d q bounds
+zero_bounds d q bounds many zeros = record {
+  many = many;
+  small = λ i. omega (arith, zeros i);
+  links = λ i j ix jx same l admissible from to. omega (arith, zeros i);
+  turns = λ i ix within target. omega (arith, zeros i);
+  last = λ i ix is_last target. zeros i;
+}
 
-  old_bound : (i : ℕ) → i < legs * 1024 → bound_at (bounds ++ map (λ ahead. min ahead edge) near) i ≡ bound_at bounds i
-  old_bound i h = get_or_append_left bounds (map (λ ahead. min ahead edge) near) 0 i (omega (arith, h, before.many))
+pub zeros_at : (count i : ℕ) → bound_at (replicate count 0) i ≡ 0
+zeros_at count i =
+    let zero : ℕ = 0 in
+    elim (cases_lt i count) [
+      | inl lt ↦ get_or-replicate count i zero zero lt
+      | inr past ↦ get_or_past (replicate count zero) i zero (omega (arith, past, length-replicate count zero))
+    ]
 
-  new_bound : (i : ℕ) → legs * 1024 ≤ i → i < (legs + 1) * 1024
-      → bound_at (bounds ++ map (λ ahead. min ahead edge) near) i ≡ min (bound_at near (i % 1024)) edge
-  new_bound i low high =
-      let place : i - legs * 1024 ≡ i % 1024 = omega (arith, low, high) in
-      get_or-append_right bounds (map (λ ahead. min ahead edge) near) (legs * 1024) i 0 before.many low
-      ∙ get_or-map (λ ahead. min ahead edge) near (i - legs * 1024) 0 0 (omega (arith, low, high, leg.many))
-      ∙ ap (λ p. min (bound_at near p) edge) place
+-- one leg more, from the last back
+module _ (d : Database) (q : Request) (leg : ℕ) (within : leg ≤ length q.hops) (old new near : List ℕ) (edge : ℕ) (small : edge < 2 ^ 32) (before : AreBounds d q old)
+    (zeros : (i : ℕ) → i < (leg + 1) * 1024 → bound_at old i ≡ 0) (is : IsLeg d q leg near edge (drop (leg * 1024 + 1024) old)) (long : length new ≡ length old)
+    (here : (p : ℕ) → p < 1024 → bound_at new (leg * 1024 + p) ≡ min (bound_at near p) edge)
+    (others : (i : ℕ) → (i < leg * 1024) ⊎ (leg * 1024 + 1024 ≤ i) → bound_at new i ≡ bound_at old i) where
+  in_leg : (i : ℕ) → i / 1024 ≡ leg → bound_at new i ≡ min (bound_at near (i % 1024)) edge
+  in_leg i same =
+      let whole : leg * 1024 + i % 1024 ≡ i = omega (arith, same) in
+      ap (bound_at new) (sym whole) ∙ here (i % 1024) (omega arith)
 
-  long : length (bounds ++ map (λ ahead. min ahead edge) near) ≡ (legs + 1) * 1024
-  long = omega (arith, length-append bounds (map (λ ahead. min ahead edge) near), length-map near (λ ahead. min ahead edge), before.many, leg.many)
+  off_leg : (i : ℕ) → i / 1024 ≢ leg → bound_at new i ≡ bound_at old i
+  off_leg i ne =
+      elim (cases_lt i (leg * 1024)) [
+        | inl lt ↦ others i (inl lt)
+        | inr ge ↦
+            elim (cases_lt i (leg * 1024 + 1024)) [
+              | inl lt ↦ let same : i / 1024 ≡ leg = omega (arith, ge, lt) in absurd (ne same)
+              | inr past ↦ others i (inr past)
+            ]
+      ]
 
-  pub one_leg_more : AreBoundsBelow d q (legs + 1) (bounds ++ map (λ ahead. min ahead edge) near)
+  behind_leg : (i : ℕ) → i / 1024 ≡ leg → bound_at (drop (leg * 1024 + 1024) old) (i % 1024) ≡ bound_at old (i + 1024)
+  behind_leg i same =
+      let whole : leg * 1024 + 1024 + i % 1024 ≡ i + 1024 = omega (arith, same) in
+      get_or-drop (leg * 1024 + 1024) old (i % 1024) 0 ∙ ap (bound_at old) whole
+
+  target_ahead : (i : ℕ) → IsStateIndex d q i → i / 1024 ≡ leg → IsTarget d q (i / 1024 + 1) (slice_index (router_list d) (i % 1024))
+      → bound_at new i ≤ bound_at old (i + 1024)
+  target_ahead i ix same target =
+      let low = is.targets (i % 1024) ix.place (subst (λ k. IsTarget d q (k + 1) (slice_index (router_list d) (i % 1024))) same target) in
+      omega (arith, low, in_leg i same, behind_leg i same)
+
+  pub one_leg_more : AreBounds d q new
   one_leg_more = record {
-    many = long;
+    many = long ∙ before.many;
     small = λ i.
-        elim (cases_lt i (legs * 1024)) [
-          | inl lt ↦ omega (arith, old_bound i lt, before.small i)
-          | inr ge ↦
-              elim (cases_lt i ((legs + 1) * 1024)) [
-                | inl lt ↦ omega (arith, new_bound i ge lt, small)
-                | inr past ↦ omega (arith, get_or_past (bounds ++ map (λ ahead. min ahead edge) near) i 0 (omega (arith, past, long)))
+        elim (same_or_not (i / 1024) leg) [
+          | inl same ↦ omega (arith, in_leg i same, small)
+          | inr ne ↦ omega (arith, off_leg i ne, before.small i)
+        ];
+    links = λ i j ix jx same l admissible from to.
+        elim (same_or_not (i / 1024) leg) [
+          | inl at ↦
+              let ends = is.links (i % 1024) (j % 1024) l admissible (record { within = ix.place; is = sym from }) (record { within = jx.place; is = sym to }) in
+              omega (arith, in_leg i at, in_leg j (sym same ∙ at), ends)
+          | inr ne ↦ omega (arith, off_leg i ne, off_leg j (λ e. ne (same ∙ e)), before.links i j ix jx same l admissible from to)
+        ];
+    turns = λ i ix below target.
+        elim (same_or_not (i / 1024) leg) [
+          | inl at ↦ omega (arith, target_ahead i ix at target, others (i + 1024) (inr (omega (arith, at))))
+          | inr ne ↦
+              elim (same_or_not (i / 1024 + 1) leg) [
+                | inl next ↦ omega (arith, off_leg i ne, zeros i (omega (arith, next)))
+                | inr far ↦ omega (arith, off_leg i ne, off_leg (i + 1024) (λ e. far (omega (arith, e))), before.turns i ix below target)
               ]
         ];
-    links = λ i j i_low j_low same l admissible from to.
-        elim (cases_lt i (legs * 1024)) [
-          | inl lt ↦
-              let also : j < legs * 1024 = omega (arith, lt, same) in
-              omega (arith, old_bound i lt, old_bound j also, before.links i j lt also same l admissible from to)
-          | inr ge ↦
-              let also : legs * 1024 ≤ j = omega (arith, ge, same) in
-              omega (arith, new_bound i ge i_low, new_bound j also j_low, leg.links (i % 1024) (j % 1024) l admissible from to)
-        ];
-    targets = λ i low place target.
-        elim (cases_lt i (legs * 1024)) [
-          | inl lt ↦ old_bound i lt ∙ before.targets i lt place target
-          | inr ge ↦
-              let here : i / 1024 ≡ legs = omega (arith, ge, low) in
-              new_bound i ge low ∙ leg.targets (i % 1024) place (subst (λ k. IsTarget d q (k + 1) (slice_index (router_list d) (i % 1024))) here target)
+    last = λ i ix is_last target.
+        elim (same_or_not (i / 1024) leg) [
+          | inl at ↦
+              let past : bound_at old (i + 1024) ≡ 0 = get_or_past old (i + 1024) 0 (omega (arith, is_last, before.many)) in
+              omega (arith, target_ahead i ix at target, past)
+          | inr ne ↦ off_leg i ne ∙ before.last i ix is_last target
         ];
   }
+
+  pub zeros_below : (i : ℕ) → i < leg * 1024 → bound_at new i ≡ 0
+  zeros_below i low = others i (inl low) ∙ zeros i (omega (arith, low))

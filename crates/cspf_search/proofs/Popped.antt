@@ -68,7 +68,7 @@ module _ (d : Database) (q : Request) (of : AreLinksOf d (links_of d)) (listed :
       let last : length q.hops + 1 ≡ suc (length q.hops) = omega arith in
       let target : IsTarget d q (end_state q).leg (end_state q).router = rw last (subst (λ (T : Type 0). T) (sym (last_target d q q.to)) refl) in
       let there_too : IsTarget d q (goal.at / 1024 + 1) (slice_index (router_list d) (goal.at % 1024)) = subst (λ (s : State). IsTarget d q s.leg s.router) (sym end) target in
-      let none = bounds.targets goal.at there there_too in
+      let none = bounds.last goal.at there (omega (arith, ap (λ (s : State). s.leg) end)) there_too in
       omega (arith, none)
 
   goal_waits : cap < no_rank → Contains keys (key_at (cap + lift goal goal.at) goal.at)

@@ -227,11 +227,11 @@ module _ (d : Database) (q : Request) (listed : AreListed d) where
               let found = position-Some (λ r. nat_eq r router) (router_list d) place 0 e in
               let same = eqb-true (slice_index_or (router_list d) place 0) router found.1 in
               let i : ℕ = (leg - 1) * 1024 + place in
-              let at_leg : i / 1024 + 1 ≡ leg = omega (arith, found.0, listed.few) in
+              let at_leg : i / 1024 + 1 ≡ leg = omega (arith, low, found.0, listed.few) in
               let at_place : i % 1024 ≡ place = omega (arith, found.0, listed.few) in
-              let index : IsStateIndex d q i = record { low = omega (arith, found.0, listed.few); place = rw at_place found.0 } in
-              let none = bounds.targets i index (rw (at_leg, at_place, same) target) in
-              omega (arith, none)
+              let next : (suc leg - 1) * 1024 + place ≡ i + 1024 = omega (arith, low) in
+              let index : IsStateIndex d q i = record { low = omega (arith, low, high, found.0, listed.few); place = rw at_place found.0 } in
+              rw next (bounds.turns i index (omega (arith, at_leg, high)) (rw (at_leg, at_place, same) target))
           | None ↦ λ e. omega arith
         ] refl
 

@@ -13,35 +13,27 @@ use Rattle.cspf_search.specs.Frontier.{IsEnd, IsStateIndex}
 abbrev pub bound_at : List ℕ → ℕ → ℕ
 bound_at bounds i = slice_index_or bounds i 0
 
--- A bound for each state: no link that is admissible lowers it by more than its metric, and at a
--- target of the leg it is 0. So it is no more than what is ahead of the state in its leg.
+-- A bound for each state: no link that is admissible lowers it by more than its metric, and no turn to
+-- the next leg lowers it; at the tail-end in the last leg it is 0. So it is no more than what is ahead.
 pub record AreBounds (d : Database) (q : Request) (bounds : List ℕ) : Type 0 where
   pub many : length bounds ≡ (length q.hops + 1) * 1024
   pub small : (i : ℕ) → bound_at bounds i < 2 ^ 32
   pub links : (i j : ℕ) → IsStateIndex d q i → IsStateIndex d q j → i / 1024 ≡ j / 1024 → (l : Link) → IsAdmissible d q l
       → l.from ≡ slice_index (router_list d) (i % 1024) → l.to ≡ slice_index (router_list d) (j % 1024)
       → bound_at bounds i ≤ bound_at bounds j + l.metric
-  pub targets : (i : ℕ) → IsStateIndex d q i → IsTarget d q (i / 1024 + 1) (slice_index (router_list d) (i % 1024))
-      → bound_at bounds i ≡ 0
+  pub turns : (i : ℕ) → IsStateIndex d q i → i / 1024 < length q.hops
+      → IsTarget d q (i / 1024 + 1) (slice_index (router_list d) (i % 1024)) → bound_at bounds i ≤ bound_at bounds (i + 1024)
+  pub last : (i : ℕ) → IsStateIndex d q i → i / 1024 ≡ length q.hops
+      → IsTarget d q (i / 1024 + 1) (slice_index (router_list d) (i % 1024)) → bound_at bounds i ≡ 0
 
--- so it is for each router in the first legs
-pub record AreBoundsBelow (d : Database) (q : Request) (legs : ℕ) (bounds : List ℕ) : Type 0 where
-  pub many : length bounds ≡ legs * 1024
-  pub small : (i : ℕ) → bound_at bounds i < 2 ^ 32
-  pub links : (i j : ℕ) → i < legs * 1024 → j < legs * 1024 → i / 1024 ≡ j / 1024 → (l : Link)
-      → IsAdmissible d q l → IsEnd d l.from (i % 1024) → IsEnd d l.to (j % 1024)
-      → bound_at bounds i ≤ bound_at bounds j + l.metric
-  pub targets : (i : ℕ) → i < legs * 1024 → i % 1024 < length (router_list d)
-      → IsTarget d q (i / 1024 + 1) (slice_index (router_list d) (i % 1024))
-      → bound_at bounds i ≡ 0
-
--- What is ahead of each router in a leg, as far as an edge: so it is for the lower of the two.
-pub record IsLeg (d : Database) (q : Request) (leg : ℕ) (near : List ℕ) (edge : ℕ) : Type 0 where
+-- What is ahead of each router from a leg on, as far as an edge, where this is ahead of its targets
+-- behind it: so it is for the lower of the two.
+pub record IsLeg (d : Database) (q : Request) (leg : ℕ) (near : List ℕ) (edge : ℕ) (ahead : List ℕ) : Type 0 where
   pub many : length near ≡ 1024
   pub links : (u w : ℕ) (l : Link) → IsAdmissible d q l → IsEnd d l.from u → IsEnd d l.to w
       → min (bound_at near u) edge ≤ min (bound_at near w) edge + l.metric
   pub targets : (p : ℕ) → p < length (router_list d)
-      → IsTarget d q (leg + 1) (slice_index (router_list d) p) → min (bound_at near p) edge ≡ 0
+      → IsTarget d q (leg + 1) (slice_index (router_list d) p) → min (bound_at near p) edge ≤ bound_at ahead p
 
 -- whether the links that arrive at a router were all looked at
 abbrev pub is_done : List Bool → ℕ → Bool

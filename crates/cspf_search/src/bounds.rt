@@ -1,10 +1,10 @@
-ghost use Rattle.std.specs.Prelude.{◌≡◌, ◌+◌, ◌*◌, ◌<◌, ◌≤◌, ◌++◌, ℕ, min, false, IsTrue, IfOk, IfSome, OnOk, length, map, slice_index_or};
+ghost use Rattle.std.specs.Prelude.{◌≡◌, ◌+◌, ◌*◌, ◌<◌, ◌≤◌, ◌⊎◌, ℕ, min, false, IsTrue, IfOk, IfSome, OnOk, length, slice_index_or};
 ghost use Rattle.cspf_db.specs.Database.{AreLinksOf};
 ghost use Rattle.cspf_db.specs.Index.{links_of};
 ghost use Rattle.cspf_search.specs.declared.stands.Stand.{Stand as Stood};
 ghost use Rattle.cspf_search.specs.Frontier.{AreListed, AreStands};
 ghost use Rattle.cspf_search.specs.Arrivals.{AreArrivals, Follows, IsRow, arrival_at, pointer_at};
-ghost use Rattle.cspf_search.specs.Bounds.{AreBounds, AreBoundsBelow, Falls, IsLeg, IsLower, IsPassed, IsRing, bound_at, is_done};
+ghost use Rattle.cspf_search.specs.Bounds.{AreBounds, Falls, IsLeg, IsLower, IsPassed, IsRing, bound_at, is_done};
 
 use crate::arrivals::{Arrival, list};
 use crate::stands::Stand;
@@ -16,9 +16,6 @@ use std::collections::BinaryHeap;
 
 /// At most so many routers are taken in a leg.
 const RING: usize = 24;
-
-/// A leg that has more targets has no bounds above 0.
-const TARGETS: usize = 4;
 
 /// What is ahead of a router that waits, and its index in the list of routers.
 type Waiting = Reverse<(u32, u16)>;
@@ -171,32 +168,32 @@ fn grow(
     Ok(())
 }
 
-/// Has the targets of a leg wait, of which nothing is ahead. The states of the leg begin at an
-/// index. It says whether the leg has any, and not too many.
+/// Has the targets of a leg wait, each with what is ahead of it in the next leg, which is nothing in
+/// the last one. The states of the leg begin at an index.
 fn begin(
     stands: &[Stand],
     first: usize,
+    ahead: &[u32],
     near: &mut [u32],
     heap: &mut BinaryHeap<Waiting, Global>,
-) -> Result<bool, AllocError>
+) -> Result<(), AllocError>
     requires within { first + 1024 ≤ length stands.now }
     requires near { length near.old ≡ 1024 }
-    ensures { IfOk result (λ few. IsTrue few → (p : ℕ) (e : Stood) → p < 1024
-        → IsTrue (slice_index_or stands.now (first + p) e).target → bound_at near.new p ≡ 0) }
+    ensures { OnOk result ((p : ℕ) (e : Stood) → p < 1024
+        → IsTrue (slice_index_or stands.now (first + p) e).target
+        → bound_at near.new p ≤ bound_at ahead.now p) }
 {
-    let mut count = 0;
     for place in 0..1024 {
-        let stand = stands[first + place];
-        if stand.target {
-            if count == TARGETS {
-                return Ok(false);
-            }
-            count += 1;
-            near[place] = 0;
-            heap.push(Reverse((0, place as u16)))?;
+        if stands[first + place].target {
+            let least = match ahead.get(place) {
+                Some(bound) => *bound,
+                None => 0,
+            };
+            near[place] = least;
+            heap.push(Reverse((least, place as u16)))?;
         }
     }
-    Ok(count > 0)
+    Ok(())
 }
 
 /// The least that is ahead of a router that isn't done.
@@ -215,7 +212,8 @@ fn edge(near: &[u32], done: &[bool]) -> u32
     least
 }
 
-/// Finds what is ahead of each router in a leg, as far as an edge.
+/// Finds what is ahead of each router from a leg on, as far as an edge, where it is known of the next
+/// leg.
 fn leg_edge(
     table: &Table,
     request: &Request,
@@ -223,6 +221,7 @@ fn leg_edge(
     arrivals: &[Arrival],
     last: &[u32],
     leg: usize,
+    ahead: &[u32],
     near: &mut [u32],
     done: &mut [bool],
     heap: &mut BinaryHeap<Waiting, Global>,
@@ -234,31 +233,34 @@ fn leg_edge(
     requires leg { leg ≤ length request.now.hops }
     requires near { length near.old ≡ 1024 }
     requires done { length done.old ≡ 1024 }
-    ensures { IfOk result (λ edge. IsLeg table.now request.now leg near.new edge) }
+    ensures { IfOk result (λ edge.
+        IsLeg table.now request.now leg near.new edge ahead.now) }
 {
     near.fill(u32::MAX);
     done.fill(false);
     heap.clear();
-    if !begin(stands, leg * 1024, near, heap)? {
-        return Ok(0);
-    }
+    begin(stands, leg * 1024, ahead, near, heap)?;
     grow(table, request, arrivals, last, near, done, heap)?;
     Ok(edge(near, done))
 }
 
-/// Appends what is ahead of each router in a leg, as far as its edge.
-fn append(bounds: &mut Vec<u32>, near: &[u32], edge: u32) -> Result<(), AllocError>
-    ensures { OnOk result (bounds.new.items
-        ≡ bounds.old.items ++ map (λ ahead. min ahead edge) near.now) }
+/// Sets what is ahead of each router in a leg, as far as its edge. The states of the leg begin at an
+/// index.
+fn set_leg(bounds: &mut [u32], first: usize, near: &[u32], edge: u32)
+    requires within { first + 1024 ≤ length bounds.old }
+    requires near { length near.now ≡ 1024 }
+    ensures leg { (p : ℕ) → p < 1024
+        → bound_at bounds.new (first + p) ≡ min (bound_at near.now p) edge }
+    ensures others { (i : ℕ) → (i < first) ⊎ (first + 1024 ≤ i)
+        → bound_at bounds.new i ≡ bound_at bounds.old i }
 {
-    for ahead in near {
-        bounds.push((*ahead).min(edge))?;
+    for place in 0..1024 {
+        bounds[first + place] = near[place].min(edge);
     }
-    Ok(())
 }
 
-/// Appends what is ahead of each router in each leg.
-fn append_legs(
+/// Sets what is ahead of each router in each leg, from the last leg back to the first.
+fn set_legs(
     table: &Table,
     request: &Request,
     stands: &[Stand],
@@ -267,7 +269,7 @@ fn append_legs(
     near: &mut [u32],
     done: &mut [bool],
     heap: &mut BinaryHeap<Waiting, Global>,
-    bounds: &mut Vec<u32>,
+    bounds: &mut [u32],
 ) -> Result<(), AllocError>
     requires listed { AreListed table.now }
     requires links { AreLinksOf table.now (links_of table.now) }
@@ -275,20 +277,23 @@ fn append_legs(
     requires stands { AreStands table.now request.now stands.now }
     requires near { length near.old ≡ 1024 }
     requires done { length done.old ≡ 1024 }
-    requires none { length bounds.old.items ≡ 0 }
-    ensures { OnOk result (AreBounds table.now request.now bounds.new.items) }
+    requires bounds { AreBounds table.now request.now bounds.old }
+    requires zeros { (i : ℕ) → bound_at bounds.old i ≡ 0 }
+    ensures { OnOk result (AreBounds table.now request.now bounds.new) }
 {
-    for leg in 0..request.hops.len() + 1 {
+    let mut leg = request.hops.len() + 1;
+    while leg > 0 {
+        leg -= 1;
+        let ahead = &bounds[leg * 1024 + 1024..];
         let edge = leg_edge(
-            table, request, stands, arrivals, last, leg, near, done, heap,
+            table, request, stands, arrivals, last, leg, ahead, near, done, heap,
         )?;
-        append(bounds, near, edge)?;
+        set_leg(bounds, leg * 1024, near, edge);
     }
     Ok(())
 }
 
-/// For each state the least that is ahead of it in its leg, as far as it is known near the targets
-/// of the leg.
+/// For each state the least that is ahead of it, as far as it is known near the targets of its leg.
 pub(crate) fn bounds(
     alloc: Global,
     table: &Table,
@@ -309,8 +314,8 @@ pub(crate) fn bounds(
     let mut near = Vec::from_elem(alloc, 0u32, 1024)?;
     let mut done = Vec::from_elem(alloc, false, 1024)?;
     let mut heap = BinaryHeap::new(alloc);
-    let mut bounds = Vec::with_capacity(alloc, legs * 1024)?;
-    append_legs(
+    let mut bounds = Vec::from_elem(alloc, 0u32, legs * 1024)?;
+    set_legs(
         table,
         request,
         stands,

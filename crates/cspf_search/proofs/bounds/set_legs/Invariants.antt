@@ -1,0 +1,13 @@
+use Rattle.std.proofs.Common.{◌≡◌, ℕ, ◌+◌, ◌*◌, ◌<◌, ◌≤◌, length}
+use Rattle.cspf_search.specs.Bounds.{AreBounds, bound_at}
+use Rattle.cspf_search.proofs.bounds.set_legs.Given as goal
+
+abbrev pub invariant-loop-leg : goal.invariant-loop-leg
+invariant-loop-leg l = record {
+  most : l.leg ≤ length l.request.hops + 1;
+  bounds : AreBounds l.table l.request l.bounds;
+  zeros : (i : ℕ) → i < l.leg * 1024 → bound_at l.bounds i ≡ 0;
+}
+
+abbrev pub decreases-loop-leg : goal.decreases-loop-leg
+decreases-loop-leg l = l.leg
