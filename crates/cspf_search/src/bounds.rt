@@ -15,7 +15,7 @@ use std::cmp::Reverse;
 use std::collections::BinaryHeap;
 
 /// At most so many routers are taken in a leg.
-const RING: usize = 24;
+const RING: usize = 32;
 
 /// What is ahead of a router that waits, and its index in the list of routers.
 type Waiting = Reverse<(u32, u16)>;
