@@ -1,9 +1,9 @@
-use Rattle.std.proofs.Common.{◌≡◌, ℕ, suc, ◌<◌, ◌≤◌, List, ◌∷◌, ◌++◌, All, Contains, length, map, take, drop, slice_index, slice_set, Result, Ok, Err, IfOk, IfErr, Option, Some, None, IfSome, IfNone, sym, ap, subst, ◌∙◌}
-use Rattle.std.specs.List.{insert, remove as without}
+use Rattle.std.proofs.Common.{◌≡◌, ℕ, suc, ◌-◌, ◌<◌, ◌≤◌, List, [], ◌∷◌, ◌++◌, All, Contains, length, map, take, drop, slice_index, slice_set, Result, Ok, Err, IfOk, IfErr, Option, Some, None, IfSome, IfNone, sym, ap, subst, ◌∙◌}
+use Rattle.std.specs.List.{between, insert, remove as without}
 use Rattle.std.proofs.lemmas.List.{length-map, map-append, map-set, take-map, drop-map}
-use Rattle.std.proofs.lemmas.List.Elements.{All-append, All-cons, All-take, All-drop, All-set}
+use Rattle.std.proofs.lemmas.List.Elements.{All-append, All-nil, All-cons, All-take, All-drop, All-set}
 use Rattle.cspf_db.specs.declared.link.Link.{Link}
-use Rattle.cspf_db.specs.Rows.{AreEndsOf, AreBeside}
+use Rattle.cspf_db.specs.Rows.{AreEndsOf, AreBeside, IsPlaceOf}
 
 -- there is an end beside each row
 pub length-ends : (rows : List Link) (routers ends : List ℕ) → AreEndsOf rows routers ends → length ends ≡ length rows
@@ -93,3 +93,36 @@ upto_ends rows routers ends are (Err at) h = subst (λ n. at ≤ n) (sym (length
 pub some_within_ends : (rows : List Link) (routers ends : List ℕ) → AreEndsOf rows routers ends → (place : Option ℕ) → IfSome place (λ at. at < length rows) → IfSome place (λ at. at < length ends)
 some_within_ends rows routers ends are (Some at) h = subst (λ n. at < n) (sym (length-ends rows routers ends are)) h
 some_within_ends rows routers ends are None h = tt
+
+-- the ends of rows that stand one behind the other
+pub ends_joined : (rows more : List Link) (routers ends more_ends : List ℕ) → AreEndsOf rows routers ends → AreEndsOf more routers more_ends → AreEndsOf (rows ++ more) routers (ends ++ more_ends)
+ends_joined rows more routers ends more_ends are also = record {
+  within = All-append (λ e. e < length routers) ends more_ends are.within also.within;
+  each =
+      map-append (λ e. slice_index routers e) ends more_ends ∙ (λ t. are.each t ++ also.each t) ∙ sym (map-append (λ (l : Link). l.to) rows more);
+}
+
+-- of the rows from an index on
+pub ends_behind : (rows : List Link) (routers ends : List ℕ) (at : ℕ) → AreEndsOf rows routers ends → AreEndsOf (drop at rows) routers (drop at ends)
+ends_behind rows routers ends at are = record {
+  within = All-drop (λ e. e < length routers) at ends are.within;
+  each = sym (drop-map (λ e. slice_index routers e) at ends) ∙ ap (drop at) are.each ∙ drop-map (λ (l : Link). l.to) at rows;
+}
+
+-- of those up to another
+pub ends_between : (rows : List Link) (routers ends : List ℕ) (at next : ℕ) → AreEndsOf rows routers ends → AreEndsOf (between at next rows) routers (between at next ends)
+ends_between rows routers ends at next are =
+    let behind = ends_behind rows routers ends at are in
+    record {
+      within = All-take (λ e. e < length routers) (next - at) (drop at ends) behind.within;
+      each =
+          sym (take-map (λ e. slice_index routers e) (next - at) (drop at ends)) ∙ ap (take (next - at)) behind.each ∙ take-map (λ (l : Link). l.to) (next - at) (drop at rows);
+    }
+
+-- of one more
+pub ends_pushed : (rows : List Link) (routers ends : List ℕ) (l : Link) (end : ℕ) → AreEndsOf rows routers ends → IsPlaceOf routers l.to end → AreEndsOf (rows ++ l ∷ []) routers (ends ++ end ∷ [])
+ends_pushed rows routers ends l end are place =
+    ends_joined rows (l ∷ []) routers ends (end ∷ []) are (record {
+      within = All-cons (λ e. e < length routers) end [] place.within (All-nil (λ e. e < length routers));
+      each = ap (λ n. n ∷ []) place.found;
+    })

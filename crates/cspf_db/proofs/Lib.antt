@@ -7,6 +7,7 @@ pub mod Changing
 pub mod Leaving
 pub mod Counting
 pub mod Ordered
+pub mod Sorting
 pub mod Spans
 pub mod Collecting
 pub mod Refusing

@@ -1,7 +1,8 @@
 use Rattle.std.proofs.Common.{◌≡◌, ℕ, suc, ◌+◌, ◌-◌, ◌<◌, ◌≤◌, nat_lt, true, false, List, [], ◌∷◌, ◌++◌, length, map, drop, get_or, slice_set, refl, sym, ap, subst, ◌∙◌, append_assoc, add-one, length-append, length-drop, arith}
-use Rattle.std.specs.declared.cmp.Ordering.TheVariants.{Less, Greater}
+use Rattle.std.specs.Ordering.{is_lt, is_eq}
+use Rattle.std.specs.declared.cmp.Ordering.{Ordering}
+use Rattle.std.specs.declared.cmp.Ordering.TheVariants.{Less, Equal, Greater}
 use Rattle.std.specs.List.{HoldsAt, AllWithin, between, insert, remove as without}
-use Rattle.std.specs.List.Sorted.{IsPartitionPoint}
 use Rattle.std.specs.FinMap.{entries}
 use Rattle.std.proofs.lemmas.Bool.Decides.{nat_tests}
 use Rattle.std.proofs.lemmas.List.{take-append-drop, drop-drop, drop_more, set_at, take_at, drop_at, get_or_at, get_or_append_left, get_or-append_right, get_or-drop, get_or_default, length_push}
@@ -11,7 +12,7 @@ use Rattle.cspf_db.specs.Database.{Key, key_of, key_cmp}
 use Rattle.cspf_db.specs.Changes.{after_change}
 use Rattle.cspf_db.specs.Rows.{entry_of, database_of, AreByKey}
 use Rattle.cspf_db.proofs.Keys.{keys_total}
-use Rattle.cspf_db.proofs.InOrder.{test_from_true, rises}
+use Rattle.cspf_db.proofs.InOrder.{turned_greater, turned_less, test_from_true, rises}
 use Rattle.cspf_db.proofs.Changing.{database-without}
 use Rattle.cspf_db.proofs.Ordered.{own_keys, entries-hit, entries-gap, by_key-without}
 
@@ -81,7 +82,7 @@ below_key out rest k by_key last i d lo h =
 
 -- where the next row's key is higher, a link is put before it
 pub entries-between : (old rows : List Link) (at next : ℕ) (l : Link) → AreByKey (old ++ drop at rows) → at ≤ next
-    → IsPartitionPoint (λ m. key_cmp (key_of m) (key_of l) ≡ Less) (λ m. key_cmp (key_of m) (key_of l) ≡ Greater) rows next
+    → AllWithin (λ m. key_cmp (key_of m) (key_of l) ≡ Greater) rows next (length rows)
     → ((d : Link) → 0 < length (old ++ between at next rows) → key_cmp (key_of (get_or (old ++ between at next rows) (length (old ++ between at next rows) - 1) d)) (key_of l) ≡ Less)
     → entries (after_change (database_of (old ++ drop at rows)) (Put l)).links ≡ map entry_of (((old ++ between at next rows) ++ l ∷ []) ++ drop next rows)
 entries-between old rows at next l by_key le gap last =
@@ -97,7 +98,7 @@ entries-between old rows at next l by_key le gap last =
     above out k d lo h =
         subst (λ (m : Link). key_cmp (key_of m) (key_of l) ≡ Greater)
         (sym (get_or-append_right out (drop next rows) (length out) k d refl lo ∙ get_or-drop next rows (k - length out) d))
-        (gap.1 (next + (k - length out)) d (omega arith) (omega (arith, h, lo, length-append out (drop next rows), length-drop next rows)))
+        (gap (next + (k - length out)) d (omega arith) (omega (arith, h, lo, length-append out (drop next rows), length-drop next rows)))
 
 -- where the next row has the key of a removal, it is left out
 pub merged_removal : (old rows : List Link) (at next : ℕ) (k : Key) → AreByKey (old ++ drop at rows) → at ≤ next → next < length rows → HoldsAt (λ m. key_of m ≡ k) rows next
@@ -114,3 +115,24 @@ merged_removal old rows at next k by_key le h has =
       ap database_of (sym left) ∙ database-without (out ++ drop next rows) (length out) x k (own_keys _ sorted) within read (has d) ∙ ap (λ xs. after_change (database_of xs) (Remove k.0 k.1)) same,
       subst AreByKey left (by_key-without (out ++ drop next rows) (length out) sorted),
     )
+
+-- where the next row's key is neither lower than a key nor the same, it is higher, and so are those behind it
+higher : (o : Ordering) → is_lt o ≡ false → is_eq o ≡ false → o ≡ Greater
+higher Less no_less no_tie = absurd (cc)
+higher Equal no_less no_tie = absurd (cc)
+higher Greater no_less no_tie = refl
+
+pub above_next : (rows : List Link) (next : ℕ) (k : Key) → AreByKey rows → (next < length rows → (d : Link) → is_lt (key_cmp (key_of (get_or rows next d)) k) ≡ false)
+    → (next < length rows → (d : Link) → is_eq (key_cmp (key_of (get_or rows next d)) k) ≡ false) → AllWithin (λ m. key_cmp (key_of m) k ≡ Greater) rows next (length rows)
+above_next rows next k by_key no_less no_tie i d lo h =
+    let here : next < length rows = omega (arith, lo, h) in
+    let first : key_cmp (key_of (get_or rows next d)) k ≡ Greater = higher _ (no_less here d) (no_tie here d) in
+    elim (nat_lt next i) as (λ b. nat_lt next i ≡ b → key_cmp (key_of (get_or rows i d)) k ≡ Greater) [
+      | true ↦ λ e. let behind : next < i = grind (arith, nat_tests) in
+          let low : key_cmp k (key_of (get_or rows next d)) ≡ Less = turned_greater keys_total entry_of (key_of (get_or rows next d)) k first in
+          turned_less keys_total entry_of k (key_of (get_or rows i d)) (keys_total.trans k (key_of (get_or rows next d)) (key_of (get_or rows i d)) low
+          (rises keys_total entry_of rows (test_from_true _ by_key) next i d behind h))
+      | false ↦ λ e. let upto : i ≤ next = grind (arith, nat_tests) in
+          let same : i ≡ next = omega (arith, upto, lo) in
+          subst (λ n. key_cmp (key_of (get_or rows n d)) k ≡ Greater) (sym same) first
+    ] refl

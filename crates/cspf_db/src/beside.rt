@@ -10,7 +10,6 @@ ghost use Rattle.cspf_db.specs.RowsLeft.{adds_link, removes_link};
 ghost use Rattle.cspf_db.specs.Rows.{database_of, AreRising, AreByKey, AreBeside, AreParts};
 
 use crate::check::{count_added, count_removed};
-use crate::places::list_ends;
 use crate::router_list::index_among;
 use crate::scratch::Scratch;
 use crate::table_rows::{put, remove};
@@ -144,8 +143,7 @@ fn change_with_ends(
         change_rows(rows, ends, routers, changes);
         return;
     }
-    scratch.change(rows, changes);
-    list_ends(ends, routers, rows);
+    scratch.change(rows, ends, routers, changes);
 }
 
 /// Makes the changes of a batch that fits.

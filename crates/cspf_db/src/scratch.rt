@@ -3,7 +3,7 @@ ghost use Rattle.std.specs.Vec.{vec_capacity};
 
 use crate::check::knows_ends;
 use crate::merging::{merge, sort_changes};
-use crate::places::{keep_ends, list_places, move_ends};
+use crate::places::{keep_ends, list_ends, list_places, move_ends};
 use crate::router_list::add_ends;
 use crate::table_rows::apply;
 use crate::{Change, Link};
@@ -21,15 +21,17 @@ const CHANGES: usize = 4096;
 /// batch puts.
 const ROUTERS: usize = 9216;
 
-/// Room for the rows and the routers after changes, for the changes in order of the key, and for
+/// Room for the rows, their ends and the routers after changes, for the changes in order of the key, and for
 /// the places of routers.
 #[derive(Debug, Drop)]
 pub struct Scratch {
     merged: Vec<Link>,
+    ends: Vec<u16>,
     sorted: Vec<Change>,
     listed: Vec<Addr>,
     places: Vec<u16>,
     ghost room: { 20480 ≤ vec_capacity merged },
+    ghost room_for_ends: { 20480 ≤ vec_capacity ends },
     ghost room_for_changes: { 4096 ≤ vec_capacity sorted },
     ghost room_for_routers: { 9216 ≤ vec_capacity listed },
     ghost room_for_places: { 9216 ≤ vec_capacity places },
@@ -46,6 +48,7 @@ fn copy_routers(listed: &mut Vec<Addr>, routers: &[Addr])
 }
 
 impl Scratch {
+    ghost use Rattle.cspf_db.specs.Database.{link_count};
     ghost use Rattle.cspf_db.specs.Changes.{after_changes};
     ghost use Rattle.cspf_db.specs.CountedEnds.{HasListedEnds};
     ghost use Rattle.cspf_db.specs.Rows.{database_of, AreRising, AreByKey, AreBeside, AreEndsOf, AreRoutersOf};
@@ -55,32 +58,53 @@ impl Scratch {
     pub fn new(alloc: Global) -> Result<Self, AllocError> {
         Ok(Scratch {
             merged: Vec::with_capacity(alloc, ROWS)?,
+            ends: Vec::with_capacity(alloc, ROWS)?,
             sorted: Vec::with_capacity(alloc, CHANGES)?,
             listed: Vec::with_capacity(alloc, ROUTERS)?,
             places: Vec::with_capacity(alloc, ROUTERS)?,
         })
     }
 
-    /// Makes changes on keys of their own, however many rows they move. It takes no memory.
-    pub fn change(&mut self, rows: &mut Vec<Link>, changes: &[Change])
+    /// Makes changes on keys of their own, however many rows they move, with the ends beside the
+    /// rows. They put links between listed routers alone. It takes no memory.
+    pub fn change(
+        &mut self,
+        rows: &mut Vec<Link>,
+        ends: &mut Vec<u16>,
+        routers: &[Addr],
+        changes: &[Change],
+    )
         requires by_key { AreByKey rows.old.items }
         requires most { vec_len rows.old ≤ 16384 }
         requires short { length changes.now ≤ 4096 }
         requires once { AreOnceEach changes.now }
+        requires links
+            { link_count (after_changes (database_of rows.old.items) changes.now) ≤ 16384 }
         requires room { 20480 ≤ vec_capacity rows.old }
+        requires room_for_ends { 20480 ≤ vec_capacity ends.old }
+        requires rising { AreRising routers.now }
+        requires few { length routers.now ≤ 9216 }
+        requires known { All (HasListedEnds routers.now) changes.now }
+        requires beside { AreBeside rows.old.items routers.now ends.old.items }
         ensures changed { database_of rows.new.items
             ≡ after_changes (database_of rows.old.items) changes.now }
         ensures by_key { AreByKey rows.new.items }
         ensures room { 20480 ≤ vec_capacity rows.new }
+        ensures room_for_ends { 20480 ≤ vec_capacity ends.new }
+        ensures ends { AreEndsOf rows.new.items routers.now ends.new.items }
     {
         sort_changes(&mut self.sorted, changes);
         self.merged.clear();
-        if !merge(&mut self.merged, rows, &self.sorted) {
+        self.ends.clear();
+        if !merge(&mut self.merged, &mut self.ends, rows, ends, routers, &self.sorted) {
             apply(rows, changes);
+            list_ends(ends, routers, rows);
             return;
         }
         swap(rows, &mut self.merged);
+        swap(ends, &mut self.ends);
     }
+
     /// Lists the ends of the links that the changes put, those that aren't listed. The column of
     /// ends says of the rows what it said.
     pub fn add_routers(&mut self, routers: &mut Vec<Addr>, ends: &mut Vec<u16>, changes: &[Change])

@@ -1,7 +1,7 @@
 use Rattle.std.proofs.Common.{◌≡◌, ◌≤◌, ◌+◌, ◌-◌, ◌++◌, drop, length, vec_len}
 use Rattle.std.specs.Vec.{vec_capacity}
 use Rattle.cspf_db.specs.Changes.{after_changes}
-use Rattle.cspf_db.specs.Rows.{database_of, AreByKey}
+use Rattle.cspf_db.specs.Rows.{database_of, AreByKey, AreEndsOf}
 use Rattle.cspf_db.proofs.merging.merge.Given as goal
 
 abbrev pub invariant-loop-change : goal.invariant-loop-change
@@ -11,4 +11,6 @@ invariant-loop-change l = record {
   joined : AreByKey (l.merged.items ++ drop l.at l.rows);
   longer : vec_len l.merged + (length l.rows - l.at) ≤ length l.rows + l.change-index;
   capacity : vec_capacity l.fn.merged ≤ vec_capacity l.merged;
+  capacity_of_ends : vec_capacity l.fn.merged_ends ≤ vec_capacity l.merged_ends;
+  ends : AreEndsOf l.merged.items l.routers l.merged_ends.items;
 }

@@ -1,12 +1,18 @@
 use Rattle.cspf_db.proofs.Merged.{merged_removal}
+use Rattle.cspf_db.proofs.EndsBeside.{ends_joined, ends_between}
 use Rattle.cspf_db.proofs.merging.merge_removal.Goals as goal
 
 pub returns-clause-changed : goal.returns-clause-changed
 returns-clause-changed c =
-    let made = merged_removal c.args.merged.now.items c.args.rows.now c.args.at c.in-Some.next (c.args.from, c.args.local) c.requires.joined c.if-next-at.false c.in-Some.ensures.bound c.in-Some.ensures.some in
+    let made = merged_removal c.args.merged.now.items c.args.rows.now c.args.at c.in-Ok.next (c.args.from, c.args.local) c.requires.joined c.in-Ok.ensures.within.0 c.in-Ok.ensures.within.1 c.in-Ok.ensures.found in
     rw c.copy_within.ensures.items made.0
 
 pub returns-clause-joined : goal.returns-clause-joined
 returns-clause-joined c =
-    let made = merged_removal c.args.merged.now.items c.args.rows.now c.args.at c.in-Some.next (c.args.from, c.args.local) c.requires.joined c.if-next-at.false c.in-Some.ensures.bound c.in-Some.ensures.some in
+    let made = merged_removal c.args.merged.now.items c.args.rows.now c.args.at c.in-Ok.next (c.args.from, c.args.local) c.requires.joined c.in-Ok.ensures.within.0 c.in-Ok.ensures.within.1 c.in-Ok.ensures.found in
     rw c.copy_within.ensures.items made.1
+
+pub returns-clause-ends : goal.returns-clause-ends
+returns-clause-ends c routers are merged =
+    rw (c.copy_within.ensures.items, c.copy_ends.ensures.items)
+    (ends_joined c.args.merged.now.items _ routers c.args.merged_ends.now.items _ merged (ends_between c.args.rows.now routers c.args.ends.now c.args.at c.in-Ok.next are))
