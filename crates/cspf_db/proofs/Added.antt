@@ -1,9 +1,11 @@
 use mathlib.Core.Bool.{true≢false}
-use Rattle.std.proofs.Common.{◌≡◌, ℕ, ◌+◌, ◌-◌, Bool, true, false, cond, not, is_some, IsSome, List, [], ◌∷◌, length, map, refl, sym, ap, subst, ◌∙◌, arith}
+use Rattle.std.proofs.Common.{◌≡◌, ℕ, ◌+◌, ◌-◌, ◌<◌, get_or, take, Bool, true, false, cond, not, is_some, IsSome, List, [], ◌∷◌, length, map, refl, sym, ap, subst, ◌∙◌, arith}
 use Rattle.std.specs.Ordering.{eq_by_cmp}
-use Rattle.std.specs.List.{IsDistinct, AllByRecursion, count_by}
+use Rattle.std.specs.List.{IsDistinct, AllByRecursion, AllWithin, count_by}
 use Rattle.std.specs.FinMap as finite
-use Rattle.std.proofs.lemmas.List.Sums.{sum_by-cons}
+use Rattle.std.proofs.lemmas.List.{get_or_default}
+use Rattle.std.proofs.lemmas.List.Elements.{AllWithin-more}
+use Rattle.std.proofs.lemmas.List.Sums.{sum_by-cons, count_by_more_no, count_by_more_yes}
 use Rattle.cspf_db.specs.declared.link.Link.{Link}
 use Rattle.cspf_db.specs.declared.batch.Change.{Change}
 use Rattle.cspf_db.specs.declared.batch.Change.TheVariants.{Put, Remove}
@@ -90,3 +92,15 @@ difference_after rows cs by_key once present = less _ _ _ (sum_after rows cs by_
   where
     less : (n r s : ℕ) → n + r ≡ s → n ≡ s - r
     less n r s e = omega arith
+
+-- what holds of those before an index and of the one there holds of those up to it
+pub within_more : {A : Type 0} (P : A → Type 0) (xs : List A) (at : ℕ) (x : A) → at < length xs → x ≡ get_or xs at x → P x → AllWithin P xs 0 at → AllWithin P xs 0 (at + 1)
+within_more P xs at x h is here before = AllWithin-more P xs 0 at before (λ d. subst P (is ∙ get_or_default xs at x d h) here)
+
+-- one more change is counted
+pub count_more : {A : Type 0} (p : A → Bool) (xs : List A) (at : ℕ) (x : A) (m n : ℕ) → at < length xs → x ≡ get_or xs at x → m ≡ count_by p (take at xs) → n ≡ cond (p x) 1 0 → m + n ≡ count_by p (take (at + 1) xs)
+count_more p xs at x m n h is before here =
+    elim (p x) as (λ b. p x ≡ b → n ≡ cond b 1 0 → m + n ≡ count_by p (take (at + 1) xs)) [
+      | true ↦ λ e one. omega (arith, before, one, count_by_more_yes p xs at x h (ap p (sym is) ∙ e))
+      | false ↦ λ e none. omega (arith, before, none, count_by_more_no p xs at x h (ap p (sym is) ∙ e))
+    ] refl here

@@ -69,9 +69,14 @@ module _ (rows : List Link) (routers ends : List ℕ) (are : AreBeside rows rout
       router_list-entries rows routers by_key (sym (entries-from_entries nat_cmp_total (map with_nothing routers) (test_from_true _ rising)) ∙ ap entries (numbers_alike routers (ends_of rows) same_members))
 
 -- a router that a row runs from is in the list
-from_among : (rows : List Link) (at : ℕ) (d : Link) → AreByKey rows → at < length rows → Contains (router_list (database_of rows)) (get_or rows at d).from
+pub from_among : (rows : List Link) (at : ℕ) (d : Link) → AreByKey rows → at < length rows → Contains (router_list (database_of rows)) (get_or rows at d).from
 from_among rows at d by_key h =
     (Contains-router_list (database_of rows) (rows_keyed rows) (get_or rows at d).from).1 (get_or rows at d, (rows_listed rows (own_keys rows by_key)).each at d h, inl refl)
+
+-- and one that it runs to
+pub to_among : (rows : List Link) (at : ℕ) (d : Link) → AreByKey rows → at < length rows → Contains (router_list (database_of rows)) (get_or rows at d).to
+to_among rows at d by_key h =
+    (Contains-router_list (database_of rows) (rows_keyed rows) (get_or rows at d).to).1 (get_or rows at d, (rows_listed rows (own_keys rows by_key)).each at d h, inr refl)
 
 -- the list of routers is beside the rows
 pub beside_table : (rows : List Link) (routers ends : List ℕ) → AreByKey rows → routers ≡ router_list (database_of rows) → AreEndsOf rows routers ends → AreBeside rows routers ends

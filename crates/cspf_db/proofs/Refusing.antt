@@ -1,6 +1,6 @@
 use Rattle.cspf_db.specs.Laws.{OneRefusal}
 use mathlib.Core.Bool.{true≢false}
-use Rattle.std.proofs.Common.{◌≡◌, ℕ, zero, suc, ◌+◌, ◌<◌, ◌≤◌, ◌||◌, true, false, Option, Some, None, option_map, List, [], ◌∷◌, length, map, take, refl, sym, ap, subst, ◌∙◌, add-one, arith, length-take-le, is_some, IfNone, IsTrue, Result, Ok, Err, IfErr, OnOk, OnErr, is_err}
+use Rattle.std.proofs.Common.{◌≡◌, ℕ, zero, suc, ◌+◌, ◌<◌, ◌≤◌, ◌||◌, true, false, Option, Some, None, option_map, List, [], ◌∷◌, length, map, take, refl, sym, ap, subst, ◌∙◌, add-one, arith, length-take-le, is_some, IfNone, IsTrue}
 use Rattle.std.specs.Ordering.{eq_by_cmp}
 use Rattle.std.specs.List.{IsDistinct, AllWithin, HoldsAt, list_any, slice_get, slice_index_or}
 use Rattle.std.proofs.lemmas.Cmp.{eq_by_cmp_equiv}
@@ -201,22 +201,6 @@ not_full above = not_above 16384 above
 -- routers that aren't too many are within the limit
 pub not_many : {n : ℕ} → (1024 < n → IsTrue false) → n ≤ 1024
 not_many above = not_above 1024 above
-
--- what an answer of the check tells
-pub unfit_from : (d : Database) (b : NumberedChanges) (r : Result (Unit {0}) Refusal)
-    → IfErr r (λ e. IsRefusal d b e) → OnErr r (¬ Fits d b)
-unfit_from d b (Ok u) why = tt
-unfit_from d b (Err e) why = refused_unfit d b e why
-
--- what holds where the check refuses
-pub at_refusal : (r : Result (Unit {0}) Refusal) (P : Type 0) → OnErr r P → true ≡ is_err r → P
-at_refusal (Ok u) P h e = absurd (cc)
-at_refusal (Err why) P h e = h
-
--- what holds where the check accepts
-pub at_no_refusal : (r : Result (Unit {0}) Refusal) (P : Type 0) → OnOk r P → false ≡ is_err r → P
-at_no_refusal (Ok u) P h e = h
-at_no_refusal (Err why) P h e = absurd (cc)
 
 -- there is one least place at most
 one_least : (P : ℕ → Type 0) (m n : ℕ) → IsLeastPlace P m → IsLeastPlace P n → m ≡ n

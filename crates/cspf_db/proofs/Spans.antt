@@ -88,16 +88,14 @@ module _ (rows : List Link) (router first end : ℕ) (rises : IsNonDecreasingBy 
 
   pub filter-run : slice_range rows first end ≡ filter (λ l. nat_eq l.from router) rows
   filter-run =
-      filter-span rows router first end (omega (arith, order, bound)) bound
-      (
+      filter-span rows router first end (omega (arith, order, bound)) bound (
         (λ k d _ h. lower (get_or rows k d).from router (before k d h)),
         λ k d from h.
             elim (cases_lt k end) [
               | inl lt ↦ not_lower (get_or rows k d).from router (omega (arith, run k d from lt))
               | inr past ↦ not_lower (get_or rows k d).from router (omega (arith, behind k d past h))
             ],
-      )
-      (
+      ) (
         (λ k d _ h.
             elim (cases_lt k first) [
               | inl lt ↦ upto (get_or rows k d).from router (omega (arith, before k d lt))

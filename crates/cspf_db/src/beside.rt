@@ -9,10 +9,11 @@ ghost use Rattle.cspf_db.specs.Refusals.{AreOnceEach};
 ghost use Rattle.cspf_db.specs.RowsLeft.{adds_link, removes_link};
 ghost use Rattle.cspf_db.specs.Rows.{database_of, AreRising, AreByKey, AreBeside, AreParts};
 
-use crate::check::{count_added, count_removed};
+use crate::check::count_removed;
 use crate::router_list::index_among;
 use crate::scratch::Scratch;
 use crate::table_rows::{put, remove};
+use crate::tally::Tally;
 use crate::{Change, Link};
 use cspf_addr::Addr;
 
@@ -102,14 +103,13 @@ pub fn change_rows(rows: &mut Vec<Link>, ends: &mut Vec<u16>, routers: &[Addr], 
 /// How many rows may be put between others or taken out one by one, as each moves those behind it.
 const FEW: usize = 16;
 
-/// Whether the changes put few rows between others and take few out.
-fn move_few(rows: &[Link], changes: &[Change]) -> bool
-    requires by_key { AreByKey rows.now }
+/// Whether changes, of which so many add a link, put few rows between others and take few out.
+fn move_few(added: usize, changes: &[Change]) -> bool
+    requires few { added ≤ 4096 }
     requires short { length changes.now ≤ 4096 }
-    ensures { result ≡ true
-        → count_by (adds_link (database_of rows.now)) changes.now + count_by removes_link changes.now ≤ 16 }
+    ensures { result ≡ true → added + count_by removes_link changes.now ≤ 16 }
 {
-    count_added(rows, changes) + count_removed(changes) <= FEW
+    added + count_removed(changes) <= FEW
 }
 
 /// Makes changes on keys of their own, with the ends beside the rows. They put links between listed
@@ -120,10 +120,12 @@ fn change_with_ends(
     scratch: &mut Scratch,
     routers: &[Addr],
     changes: &[Change],
+    added: usize,
 )
     requires by_key { AreByKey rows.old.items }
     requires most { vec_len rows.old ≤ 16384 }
     requires short { length changes.now ≤ 4096 }
+    requires added { added ≡ count_by (adds_link (database_of rows.old.items)) changes.now }
     requires once { AreOnceEach changes.now }
     requires links { link_count (after_changes (database_of rows.old.items) changes.now) ≤ 16384 }
     requires room { 20480 ≤ vec_capacity rows.old }
@@ -139,22 +141,25 @@ fn change_with_ends(
     ensures room_for_ends { 20480 ≤ vec_capacity ends.new }
     ensures beside { AreBeside rows.new.items routers.now ends.new.items }
 {
-    if move_few(rows, changes) {
+    if move_few(added, changes) {
         change_rows(rows, ends, routers, changes);
         return;
     }
     scratch.change(rows, ends, routers, changes);
 }
 
-/// Makes the changes of a batch that fits.
+/// Makes the changes of a batch that fits, with what they do to the rows.
 pub fn change_table(
     rows: &mut Vec<Link>,
     routers: &mut Vec<Addr>,
     ends: &mut Vec<u16>,
     scratch: &mut Scratch,
     changes: &[Change],
+    tally: Tally,
 )
     requires parts { AreParts rows.old routers.old ends.old }
+    requires added { tally.added ≡ count_by (adds_link (database_of rows.old.items)) changes.now }
+    requires listed { tally.brought ≡ 0 → All (HasListedEnds routers.old.items) changes.now }
     requires short { length changes.now ≤ 4096 }
     requires once { AreOnceEach changes.now }
     requires links { link_count (after_changes (database_of rows.old.items) changes.now) ≤ 16384 }
@@ -163,7 +168,7 @@ pub fn change_table(
         ≡ after_changes (database_of rows.old.items) changes.now }
     ensures parts { AreParts rows.new routers.new ends.new }
 {
-    scratch.add_routers(routers, ends, changes);
-    change_with_ends(rows, ends, scratch, routers, changes);
+    scratch.add_routers(routers, ends, changes, tally.brought);
+    change_with_ends(rows, ends, scratch, routers, changes, tally.added);
     scratch.drop_routers(routers, ends, rows);
 }

@@ -1,4 +1,4 @@
-ghost use Rattle.std.specs.Prelude.{count_by, ◌≡◌, ℕ, ◌+◌, ◌*◌, ◌<◌, ◌≤◌, ◌↔◌, [], ◌∷◌, true, false, All, Contains, length, map, IfSome, IfNone, IsTrue, OnOk, IfErr};
+ghost use Rattle.std.specs.Prelude.{count_by, ◌≡◌, ℕ, ◌+◌, ◌*◌, ◌<◌, ◌≤◌, ◌↔◌, [], ◌∷◌, true, All, length, map, IfOk, IfErr, IfSome, IfNone, IsTrue};
 ghost use Rattle.std.specs.Bool.{OnTrue, OnFalse};
 ghost use Rattle.std.specs.List.{HoldsAt, AllWithin, IsDistinct};
 ghost use Rattle.std.specs.FinSet as set;
@@ -12,9 +12,8 @@ ghost use Rattle.cspf_db.specs.RowsLeft.{is_untouched, rows_left, links_put, add
 ghost use Rattle.cspf_db.specs.CountedEnds.{with_ends, HasListedEnds, BringsAtMost};
 ghost use Rattle.cspf_db.specs.Refusals.{RemovesNothing, AreOnceEach, ArePresent, IsRefusal};
 
-use crate::router_list::is_among;
 use crate::routers::Routers;
-use crate::table_rows::index_of;
+use crate::tally::{Tally, tally_all};
 use crate::{Batch, Change, Link, Refusal};
 use cspf_addr::Addr;
 
@@ -121,47 +120,11 @@ fn repeat(changes: &[Change]) -> Option<usize>
     }
 }
 
-/// Whether the change is a removal of a link that isn't there.
-fn removes_nothing(rows: &[Link], change: &Change) -> bool
-    requires { AreByKey rows.now }
-    ensures yes { result ≡ true → RemovesNothing (database_of rows.now) change.now }
-    ensures no { result ≡ false → IsPresent (database_of rows.now) change.now }
-{
-    match change {
-        Change::Put(_) => false,
-        Change::Remove { from, local } => index_of(rows, *from, *local).is_none(),
-    }
-}
-
-/// The index of the first removal of a link that isn't there.
-fn first_absent(rows: &[Link], changes: &[Change]) -> Option<usize>
-    requires { AreByKey rows.now }
-    ensures bound { IfSome result (λ at. at < length changes.now) }
-    ensures some { IfSome result (HoldsAt (RemovesNothing (database_of rows.now)) changes.now) }
-    ensures before { IfSome result (AllWithin (IsPresent (database_of rows.now)) changes.now 0) }
-    ensures none { IfNone result (All (IsPresent (database_of rows.now)) changes.now) }
-{
-    changes
-        .iter()
-        .position(|change| removes_nothing(rows, change))
-}
-
 /// Whether none of the changes is on the key of the row.
 fn is_untouched(row: &Link, changes: &[Change]) -> bool
     ensures { result ≡ is_untouched changes.now row.now }
 {
     !any_on(changes, row.from, row.local)
-}
-
-/// Whether the change puts a link where there is none.
-fn adds(rows: &[Link], change: &Change) -> bool
-    requires { AreByKey rows.now }
-    ensures { result ≡ adds_link (database_of rows.now) change.now }
-{
-    match change {
-        Change::Put(link) => index_of(rows, link.from, link.local).is_none(),
-        Change::Remove { .. } => false,
-    }
 }
 
 /// Whether the change takes out a link.
@@ -171,14 +134,6 @@ fn is_removal(change: &Change) -> bool
     matches!(change, Change::Remove { .. })
 }
 
-/// How many changes put a link where there is none.
-pub fn count_added(rows: &[Link], changes: &[Change]) -> usize
-    requires { AreByKey rows.now }
-    ensures { result ≡ count_by (adds_link (database_of rows.now)) changes.now }
-{
-    changes.iter().filter(|change| adds(rows, change)).count()
-}
-
 /// How many changes take out a link.
 pub fn count_removed(changes: &[Change]) -> usize
     ensures { result ≡ count_by removes_link changes.now }
@@ -186,17 +141,18 @@ pub fn count_removed(changes: &[Change]) -> usize
     changes.iter().filter(|change| is_removal(change)).count()
 }
 
-/// Whether there are more than 16,384 links after the changes.
-fn has_too_many_links(rows: &[Link], changes: &[Change]) -> bool
+/// Whether there are more than 16,384 links after the changes, of which so many add one.
+fn has_too_many_links(rows: &[Link], changes: &[Change], added: usize) -> bool
     requires by_key { AreByKey rows.now }
     requires most { length rows.now ≤ 16384 }
     requires short { length changes.now ≤ 4096 }
     requires once { AreOnceEach changes.now }
     requires present { ArePresent (database_of rows.now) changes.now }
+    requires added { added ≡ count_by (adds_link (database_of rows.now)) changes.now }
     ensures { IsTrue result
         ↔ 16384 < link_count (after_changes (database_of rows.now) changes.now) }
 {
-    let after = rows.len() + count_added(rows, changes) - count_removed(changes);
+    let after = rows.len() + added - count_removed(changes);
     after > LINKS
 }
 
@@ -239,87 +195,39 @@ fn add_puts(routers: &mut Routers, changes: &[Change]) -> bool
     true
 }
 
-/// Whether both ends of each link that the changes put are among the routers.
-pub fn knows_ends(routers: &[Addr], changes: &[Change]) -> bool
-    requires { AreRising routers.now }
-    ensures { result ≡ true → All (HasListedEnds routers.now) changes.now }
-{
-    changes.iter().all(|change| knows_ends_of(routers, change))
-}
-
-/// Whether both ends of the link that the change puts, if it does, are among the routers.
-fn knows_ends_of(routers: &[Addr], change: &Change) -> bool
-    requires { AreRising routers.now }
-    ensures { result ≡ true → HasListedEnds routers.now change.now }
-{
-    match change {
-        Change::Put(link) => is_among(routers, link.from) && is_among(routers, link.to),
-        Change::Remove { .. } => true,
-    }
-}
-
-/// 0 where the router is among them, and else 1.
-fn count_new(routers: &[Addr], router: Addr) -> usize
-    requires { AreRising routers.now }
-    ensures few { result ≤ 1 }
-    ensures none { result ≡ 0 → Contains routers.now router }
-{
-    if is_among(routers, router) { 0 } else { 1 }
-}
-
-/// How many ends of the link that the change puts, if it does, are not among the routers.
-fn count_new_ends_of(routers: &[Addr], change: &Change) -> usize
-    requires { AreRising routers.now }
-    ensures few { result ≤ 2 }
-    ensures most { BringsAtMost routers.now (change.now ∷ []) result }
-{
-    match change {
-        Change::Put(link) => count_new(routers, link.from) + count_new(routers, link.to),
-        Change::Remove { .. } => 0,
-    }
-}
-
-/// How many ends of the links that the changes put are not among the routers. An end of several
-/// links is counted for each.
-fn count_new_ends(routers: &[Addr], changes: &[Change]) -> usize
-    requires rising { AreRising routers.now }
-    requires short { length changes.now ≤ 4096 }
-    ensures few { result ≤ 2 * length changes.now }
-    ensures most { BringsAtMost routers.now changes.now result }
-{
-    let mut count = 0;
-    for change in changes {
-        count += count_new_ends_of(routers, change);
-    }
-    count
-}
-
-/// Whether there are more than 1,024 routers after the changes. Where they bring few enough new ones,
-/// the ends of the rows need no count.
-fn has_too_many_routers(rows: &[Link], routers: &[Addr], changes: &[Change]) -> bool
+/// Whether there are more than 1,024 routers after the changes, which bring so many. Where they bring
+/// few enough, the ends of the rows need no count.
+fn has_too_many_routers(rows: &[Link], routers: &[Addr], changes: &[Change], brought: usize) -> bool
     requires by_key { AreByKey rows.now }
     requires all { routers.now ≡ router_list (database_of rows.now) }
     requires few { router_count (database_of rows.now) ≤ 1024 }
     requires short { length changes.now ≤ 4096 }
     requires once { AreOnceEach changes.now }
+    requires few_brought { brought ≤ 2 * length changes.now }
+    requires brought { BringsAtMost routers.now changes.now brought }
     ensures { IsTrue result
         ↔ 1024 < router_count (after_changes (database_of rows.now) changes.now) }
 {
-    if routers.len() + count_new_ends(routers, changes) <= ROUTERS {
+    if routers.len() + brought <= ROUTERS {
         return false;
     }
     let mut found = Routers::new();
     !(add_rows(&mut found, rows, changes) && add_puts(&mut found, changes))
 }
 
-/// Whether the batch fits the rows, and else the first reason why it doesn't.
-pub fn fits(rows: &[Link], routers: &[Addr], batch: &Batch) -> Result<(), Refusal>
+/// Whether the batch fits the rows, with what it does to them, and else the first reason why it
+/// doesn't.
+pub fn fits(rows: &[Link], routers: &[Addr], batch: &Batch) -> Result<Tally, Refusal>
     requires by_key { AreByKey rows.now }
     requires all { routers.now ≡ router_list (database_of rows.now) }
     requires most { length rows.now ≤ 16384 }
     requires few { router_count (database_of rows.now) ≤ 1024 }
-    ensures ok { OnOk result (Fits (database_of rows.now) batch.now) }
+    ensures ok { IfOk result (λ _. Fits (database_of rows.now) batch.now) }
     ensures err { IfErr result (λ refusal. IsRefusal (database_of rows.now) batch.now refusal) }
+    ensures added { IfOk result (λ tally. tally.added
+        ≡ count_by (adds_link (database_of rows.now)) batch.now.changes) }
+    ensures listed { IfOk result
+        (λ tally. tally.brought ≡ 0 → All (HasListedEnds routers.now) batch.now.changes) }
 {
     let changes = batch.changes.as_slice();
     if changes.len() > CHANGES {
@@ -328,14 +236,16 @@ pub fn fits(rows: &[Link], routers: &[Addr], batch: &Batch) -> Result<(), Refusa
     if let Some(at) = repeat(changes) {
         return Err(Refusal::Duplicate { at: at + 1 });
     }
-    if let Some(at) = first_absent(rows, changes) {
-        return Err(Refusal::Absent { at: at + 1 });
+    match tally_all(rows, routers, changes) {
+        Err(at) => Err(Refusal::Absent { at: at + 1 }),
+        Ok(tally) => {
+            if has_too_many_links(rows, changes, tally.added) {
+                return Err(Refusal::Full);
+            }
+            if has_too_many_routers(rows, routers, changes, tally.brought) {
+                return Err(Refusal::TooManyRouters);
+            }
+            Ok(tally)
+        }
     }
-    if has_too_many_links(rows, changes) {
-        return Err(Refusal::Full);
-    }
-    if has_too_many_routers(rows, routers, changes) {
-        return Err(Refusal::TooManyRouters);
-    }
-    Ok(())
 }

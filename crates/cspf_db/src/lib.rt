@@ -19,6 +19,7 @@ mod routers;
 mod scratch;
 mod table;
 mod table_rows;
+mod tally;
 
 pub use batch::{Batch, Change};
 pub use hop_laws::{route_without_hops, worked_routes};

@@ -117,8 +117,7 @@ fn merge_put(
     requires room { vec_len merged.old + (length rows.now - at) < vec_capacity merged.old }
     requires many { length ends.now ≡ length rows.now }
     requires many_merged { vec_len merged_ends.old ≡ vec_len merged.old }
-    requires room_for_ends
-        { vec_len merged.old + (length rows.now - at) < vec_capacity merged_ends.old }
+    requires room_for_ends { vec_len merged.old + (length rows.now - at) < vec_capacity merged_ends.old }
     ensures bound { IfSome result (λ next. next ≤ length rows.now) }
     ensures changed { IfSome result (λ next. database_of (merged.new.items ++ drop next rows.now)
         ≡ after_change (database_of (merged.old.items ++ drop at rows.now)) (Change.Put link)) }
@@ -169,8 +168,7 @@ fn merge_removal(
     requires room { vec_len merged.old + (length rows.now - at) < vec_capacity merged.old }
     requires many { length ends.now ≡ length rows.now }
     requires many_merged { vec_len merged_ends.old ≡ vec_len merged.old }
-    requires room_for_ends
-        { vec_len merged.old + (length rows.now - at) < vec_capacity merged_ends.old }
+    requires room_for_ends { vec_len merged.old + (length rows.now - at) < vec_capacity merged_ends.old }
     ensures bound { IfSome result (λ next. next ≤ length rows.now) }
     ensures changed { IfSome result (λ next. database_of (merged.new.items ++ drop next rows.now)
         ≡ after_change (database_of (merged.old.items ++ drop at rows.now))
@@ -206,8 +204,7 @@ fn merge_one(
     requires joined { AreByKey (merged.old.items ++ drop at rows.now) }
     requires bound { at ≤ length rows.now }
     requires room { vec_len merged.old + (length rows.now - at) < vec_capacity merged.old }
-    requires room_for_ends
-        { vec_len merged.old + (length rows.now - at) < vec_capacity merged_ends.old }
+    requires room_for_ends { vec_len merged.old + (length rows.now - at) < vec_capacity merged_ends.old }
     requires rising { AreRising routers.now }
     requires few { length routers.now ≤ 9216 }
     requires known { HasListedEnds routers.now change.now }
@@ -314,11 +311,7 @@ fn copy_changes(sorted: &mut Vec<Change>, order: &[((Addr, Addr), u16)], changes
 
 /// Copies the changes in order of the key, with room to put their keys in order. The changes
 /// themselves are copied once.
-fn sort_changes_in(
-    order: &mut [((Addr, Addr), u16)],
-    sorted: &mut Vec<Change>,
-    changes: &[Change],
-)
+fn sort_changes_in(order: &mut [((Addr, Addr), u16)], sorted: &mut Vec<Change>, changes: &[Change])
     requires many { length order.old ≡ length changes.now }
     requires short { length changes.now ≤ 4096 }
     requires room { length changes.now ≤ vec_capacity sorted.old }

@@ -1,7 +1,6 @@
 ghost use Rattle.std.specs.Prelude.{◌≡◌, ◌<◌, ◌≤◌, All, Contains, length, map, slice_index, vec_len};
 ghost use Rattle.std.specs.Vec.{vec_capacity};
 
-use crate::check::knows_ends;
 use crate::merging::{merge, sort_changes};
 use crate::places::{keep_ends, list_ends, list_places, move_ends};
 use crate::router_list::add_ends;
@@ -78,8 +77,7 @@ impl Scratch {
         requires most { vec_len rows.old ≤ 16384 }
         requires short { length changes.now ≤ 4096 }
         requires once { AreOnceEach changes.now }
-        requires links
-            { link_count (after_changes (database_of rows.old.items) changes.now) ≤ 16384 }
+        requires links { link_count (after_changes (database_of rows.old.items) changes.now) ≤ 16384 }
         requires room { 20480 ≤ vec_capacity rows.old }
         requires room_for_ends { 20480 ≤ vec_capacity ends.old }
         requires rising { AreRising routers.now }
@@ -96,7 +94,14 @@ impl Scratch {
         sort_changes(&mut self.sorted, changes);
         self.merged.clear();
         self.ends.clear();
-        if !merge(&mut self.merged, &mut self.ends, rows, ends, routers, &self.sorted) {
+        if !merge(
+            &mut self.merged,
+            &mut self.ends,
+            rows,
+            ends,
+            routers,
+            &self.sorted,
+        ) {
             apply(rows, changes);
             list_ends(ends, routers, rows);
             return;
@@ -105,9 +110,16 @@ impl Scratch {
         swap(ends, &mut self.ends);
     }
 
-    /// Lists the ends of the links that the changes put, those that aren't listed. The column of
-    /// ends says of the rows what it said.
-    pub fn add_routers(&mut self, routers: &mut Vec<Addr>, ends: &mut Vec<u16>, changes: &[Change])
+    /// Lists the ends of the links that the changes put, those that aren't listed, where there are
+    /// any. The column of ends says of the rows what it said.
+    pub fn add_routers(
+        &mut self,
+        routers: &mut Vec<Addr>,
+        ends: &mut Vec<u16>,
+        changes: &[Change],
+        brought: usize,
+    )
+        requires listed { brought ≡ 0 → All (HasListedEnds routers.old.items) changes.now }
         requires rising { AreRising routers.old.items }
         requires few { vec_len routers.old ≤ 1024 }
         requires short { length changes.now ≤ 4096 }
@@ -123,7 +135,7 @@ impl Scratch {
             ≡ map (λ end. slice_index routers.old.items end) ends.old.items }
         ensures capacity_of_ends { vec_capacity ends.old ≤ vec_capacity ends.new }
     {
-        if knows_ends(routers, changes) {
+        if brought == 0 {
             return;
         }
         copy_routers(&mut self.listed, routers);

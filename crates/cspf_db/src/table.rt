@@ -8,8 +8,8 @@ ghost use Rattle.cspf_db.specs.Targets.{Owns};
 
 use crate::beside::change_table;
 use crate::router_list::search;
-use crate::scratch::Scratch;
 use crate::router_rows::list_spans;
+use crate::scratch::Scratch;
 use crate::table_rows::{any_within, index_of, rows_from};
 use crate::{Batch, Link, Refusal, check};
 use cspf_addr::{Addr, Prefix};
@@ -162,7 +162,10 @@ impl Table {
         ensures err { IfErr result (λ refusal. IsRefusal self.now batch.now refusal) }
         ensures unfit { OnErr result (¬ Fits self.now batch.now) }
     {
-        check::fits(&self.rows, &self.routers, batch)
+        match check::fits(&self.rows, &self.routers, batch) {
+            Ok(_) => Ok(()),
+            Err(refusal) => Err(refusal),
+        }
     }
 
     /// Makes all changes of a batch that fits. One that doesn't changes nothing.
@@ -171,15 +174,16 @@ impl Table {
             → self.new ≡ after_changes self.old batch.now.changes }
         ensures unfit { (¬ Fits self.old batch.now) → self.new ≡ self.old }
     {
-        if self.check(batch).is_err() {
+        let Ok(tally) = check::fits(&self.rows, &self.routers, batch) else {
             return;
-        }
+        };
         change_table(
             &mut self.rows,
             &mut self.routers,
             &mut self.ends,
             &mut self.scratch,
             &batch.changes,
+            tally,
         );
         list_spans(&mut self.spans, &self.routers, &self.rows);
     }

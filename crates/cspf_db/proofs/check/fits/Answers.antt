@@ -8,33 +8,33 @@ returns-in-Some-clause-err c =
     rw (← c.batch.view_is, ← c.as_slice-changes.ensures.value)
     (c.if-changes-gt-CHANGES.false, least_repeat _ c.in-Some.at first.bound first.some first.before)
 
-pub returns-in-Some-first_absent-clause-err : goal.returns-in-Some-first_absent-clause-err
-returns-in-Some-first_absent-clause-err c =
-    let first = c.in-Some-first_absent.ensures in
+pub returns-in-Err-clause-err : goal.returns-in-Err-clause-err
+returns-in-Err-clause-err c =
+    let first = c.in-Err.ensures in
     rw (← c.batch.view_is, ← c.as_slice-changes.ensures.value)
-    (c.if-changes-gt-CHANGES.false, c.in_default.ensures.none, least_absent _ _ c.in-Some-first_absent.at first.bound first.some first.before)
+    (c.if-changes-gt-CHANGES.false, c.in_default.ensures.none, least_absent _ _ c.in-Err.at first.bound first.absent first.before)
 
 pub returns-then-has_too_many_links-clause-err : goal.returns-then-has_too_many_links-clause-err
 returns-then-has_too_many_links-clause-err c =
     rw (← c.batch.view_is, ← c.as_slice-changes.ensures.value) (
-      record { short = c.if-changes-gt-CHANGES.false; once = c.in_default.ensures.none; present = c.in_default-first_absent.ensures.none },
+      record { short = c.if-changes-gt-CHANGES.false; once = c.in_default.ensures.none; present = c.in-Ok.ensures.present },
       c.if-has_too_many_links.ensures.0 refl,
     )
 
 pub returns-then-has_too_many_routers-clause-err : goal.returns-then-has_too_many_routers-clause-err
 returns-then-has_too_many_routers-clause-err c =
     rw (← c.batch.view_is, ← c.as_slice-changes.ensures.value) (
-      record { short = c.if-changes-gt-CHANGES.false; once = c.in_default.ensures.none; present = c.in_default-first_absent.ensures.none },
+      record { short = c.if-changes-gt-CHANGES.false; once = c.in_default.ensures.none; present = c.in-Ok.ensures.present },
       not_full c.if-has_too_many_links.ensures.1,
       c.if-has_too_many_routers.ensures.0 refl,
     )
 
-pub returns-clause-ok : goal.returns-clause-ok
-returns-clause-ok c =
+pub returns-else-has_too_many_routers-clause-ok : goal.returns-else-has_too_many_routers-clause-ok
+returns-else-has_too_many_routers-clause-ok c =
     rw (← c.batch.view_is, ← c.as_slice-changes.ensures.value) (record {
       short = c.if-changes-gt-CHANGES.false;
       once = c.in_default.ensures.none;
-      present = c.in_default-first_absent.ensures.none;
+      present = c.in-Ok.ensures.present;
       links = not_full c.if-has_too_many_links.ensures.1;
       routers = not_many c.if-has_too_many_routers.ensures.1;
     })

@@ -5,16 +5,16 @@ use Rattle.cspf_db.specs.Rows.{database_of}
 use Rattle.cspf_db.specs.RowsLeft.{rows_left}
 use Rattle.cspf_db.specs.CountedEnds.{with_ends}
 use Rattle.cspf_db.proofs.Ordered.{own_keys}
-use Rattle.cspf_db.proofs.RouterLists.{ends_listed, rising-router_list, length-router_list}
+use Rattle.cspf_db.proofs.RouterLists.{ends_listed, length-router_list}
 use Rattle.cspf_db.proofs.Counting.{router_count-brought, many_left, tells_both}
 use Rattle.cspf_db.proofs.check.has_too_many_routers.Goals as goal
 use Rattle.cspf_db.proofs.check.has_too_many_routers.Goals.{then-add_rows, else-add_rows}
 
-pub returns-then-routers-count_new_ends-le-ROUTERS : goal.returns-then-routers-count_new_ends-le-ROUTERS
-returns-then-routers-count_new_ends-le-ROUTERS c =
-    let brought = router_count-brought c.args.rows.now c.args.changes.now (own_keys _ c.requires.by_key) c.requires.once c.args.routers.now c.count_new_ends.result (ends_listed c.args.rows.now c.args.routers.now c.requires.by_key c.requires.all) c.count_new_ends.ensures.most in
+pub returns-then-routers-brought-le-ROUTERS : goal.returns-then-routers-brought-le-ROUTERS
+returns-then-routers-brought-le-ROUTERS c =
+    let brought = router_count-brought c.args.rows.now c.args.changes.now (own_keys _ c.requires.by_key) c.requires.once c.args.routers.now c.args.brought (ends_listed c.args.rows.now c.args.routers.now c.requires.by_key c.requires.all) c.requires.brought in
     let listed = ap length c.requires.all ∙ length-router_list (database_of c.args.rows.now) in
-    ((λ e. absurd (cc)), λ many. absurd (omega (arith, brought, many, c.if-routers-count_new_ends-le-ROUTERS.true, listed)))
+    ((λ e. absurd (cc)), λ many. absurd (omega (arith, brought, many, c.if-routers-brought-le-ROUTERS.true, listed)))
 
 pub returns : goal.returns
 returns c =
@@ -29,6 +29,3 @@ returns c =
 
 pub add_rows-requires : goal.add_rows-requires
 add_rows-requires c = rw (c.new-found.ensures, set.len-empty nat_cmp) (omega arith)
-
-pub count_new_ends-requires-clause-rising : goal.count_new_ends-requires-clause-rising
-count_new_ends-requires-clause-rising c = rw c.requires.all (rising-router_list _)

@@ -1,4 +1,4 @@
-use Rattle.std.proofs.Common.{All, map, take, ap, subst, ◌∙◌, sym, arith}
+use Rattle.std.proofs.Common.{All, map, ap, subst, ◌∙◌, sym, arith}
 use Rattle.std.proofs.lemmas.List.{take_all}
 use Rattle.cspf_db.proofs.Sorting.{change_of, IsPlace, within_more, listed_more}
 use Rattle.cspf_db.proofs.merging.list_order.Goals as goal

@@ -12,10 +12,10 @@ invariant_of-result c =
     let t = c.in_ok-with_capacity-4.ensures in
     record {
       parts = record {
-      rows = record { by_key = rw r.items refl; most = rw r.items (omega arith); routers = rw r.items (omega (arith, router_count-no_links)); room = omega (arith, r.exact) };
-      routers = record { all = rw (s.items, r.items) router_list-nil; room = omega (arith, s.exact) };
-      ends = record { within = rw e.items (All-nil _); each = rw (e.items, r.items) refl };
-      room = omega (arith, e.exact);
+        rows = record { by_key = rw r.items refl; most = rw r.items (omega arith); routers = rw r.items (omega (arith, router_count-no_links)); room = omega (arith, r.exact) };
+        routers = record { all = rw (s.items, r.items) router_list-nil; room = omega (arith, s.exact) };
+        ends = record { within = rw e.items (All-nil _); each = rw (e.items, r.items) refl };
+        room = omega (arith, e.exact);
       };
       spans = record { many = rw (t.items, s.items) refl; each = rw s.items (λ at h. absurd (omega arith)) };
       room = omega (arith, t.exact);
