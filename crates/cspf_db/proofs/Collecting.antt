@@ -1,9 +1,11 @@
-use Rattle.std.proofs.Common.{◌≡◌, ℕ, ◌+◌, ◌<◌, ◌||◌, Bool, true, false, cond, List, [], ◌∷◌, ◌++◌, length, drop, refl, sym, ap, ◌∙◌, arith, eqb}
+use Rattle.std.proofs.Common.{◌≡◌, ℕ, ◌+◌, ◌<◌, ◌≤◌, ◌||◌, Bool, true, false, cond, List, [], ◌∷◌, ◌++◌, length, length-take-le, take, drop, slice_index, refl, sym, ap, ◌∙◌, arith, eqb}
 use Rattle.std.specs.Ordering.{nat_cmp, eq_by_cmp}
 use Rattle.std.specs.Cmp.{nat_cmp_total, Equal-is, eq_by_cmp_equiv}
 use Rattle.std.specs.List.{IsDistinct, list_any, slice_index_or, AllByRecursion}
 use Rattle.std.specs.FinSet as set
-use Rattle.std.proofs.lemmas.List.{at_drop_more}
+use Rattle.std.proofs.lemmas.Bool.{eq-eqb}
+use Rattle.std.proofs.lemmas.List.{at_drop_more, get_or-take, get_or_default}
+use Rattle.std.proofs.lemmas.List.Folds.{list_any-from_Any}
 use Rattle.std.proofs.lemmas.Map.Keys.{IsDistinct-push}
 use Rattle.cspf_db.specs.declared.link.Link.{Link}
 use Rattle.cspf_db.specs.declared.batch.Change.{Change}
@@ -102,3 +104,9 @@ full-put s old c l cs i within read is same full =
     ∙ sym (at_drop_more (λ bs. with_ends s (links_put bs)) cs i c within) ∙ same in
     omega
     (arith, full, len-with_ends-le (with_ends s (l ∷ [])) (links_put (drop (i + 1) cs)), ap set.len next)
+
+-- a number that stands before an index is found up to there
+pub found_at : (xs : List ℕ) (n at x : ℕ) → at < n → n ≤ length xs → slice_index xs at ≡ x → list_any (λ y. eqb y x) (take n xs) ≡ true
+found_at xs n at x h le is =
+    let within : at < length xs = omega (arith, h, le) in
+    list_any-from_Any (λ y. eqb y x) (take n xs) (at, x, omega (arith, length-take-le n xs le, h), get_or-take n xs at x h ∙ get_or_default xs at x 0 within ∙ is, eq-eqb x x refl)

@@ -296,24 +296,41 @@ brings_more routers cs at c m n h read first second s inside =
       ap (λ ls. set.len (with_ends s ls)) both,
     )
 
+-- three tests in another order
+turn_last : (a b e : Bool) → ((a || b) || e) ≡ ((a || e) || b)
+turn_last true b e = refl
+turn_last false true true = refl
+turn_last false true false = refl
+turn_last false false true = refl
+turn_last false false false = refl
+
+-- the ends of some links and of others, whichever come first
+with_ends-turned : (s : set.FinSet nat_cmp) (xs ys : List Link) → with_ends (with_ends s xs) ys ≡ with_ends (with_ends s ys) xs
+with_ends-turned s xs ys =
+    set.same_set nat_cmp_total set.nat_cmp-IsAntisymmetric _ _ (λ q.
+    contains-with_ends (with_ends s xs) ys q
+    ∙ ap (λ b. b || list_any (eq_by_cmp nat_cmp q) (ends_of ys)) (contains-with_ends s xs q)
+    ∙ turn_last (set.contains s q) _ _
+    ∙ sym (contains-with_ends (with_ends s ys) xs q ∙ ap (λ b. b || list_any (eq_by_cmp nat_cmp q) (ends_of xs)) (contains-with_ends s ys q)))
+
 -- what adding all ends tells of the number of routers
 module _ (rows : List Link) (cs : List Change) (apart : HaveOwnKeys rows) (once : AreOnceEach cs) where
-  -- where the ends of the rows that are left are too many
-  pub many_left : 1024 < set.len (with_ends set.empty (rows_left rows cs))
+  -- they are the ends of the links that are put and of the rows that are left
+  counted : router_count (after_changes (database_of rows) cs) ≡ set.len (with_ends (with_ends set.empty (links_put cs)) (rows_left rows cs))
+  counted = router_count-after rows cs apart once ∙ ap set.len (with_ends-turned set.empty (rows_left rows cs) (links_put cs))
+
+  -- where the ends of the links that are put are too many
+  pub many_put : 1024 < set.len (with_ends set.empty (links_put cs))
       → 1024 < router_count (after_changes (database_of rows) cs)
-  many_left many =
-      omega
-      (arith, many, len-with_ends-le (with_ends set.empty (rows_left rows cs)) (links_put cs), router_count-after rows cs apart once)
+  many_put many = omega (arith, many, len-with_ends-le (with_ends set.empty (links_put cs)) (rows_left rows cs), counted)
 
   -- where both were added
   pub tells_both : (b : Bool) (first second : set.FinSet nat_cmp)
-      → first ≡ with_ends set.empty (rows_left rows cs)
-      → OnTrue b (second ≡ with_ends first (links_put cs)) → OnTrue b (set.len second ≤ 1024)
-      → OnFalse b (1024 < set.len (with_ends first (links_put cs)))
+      → first ≡ with_ends set.empty (links_put cs)
+      → OnTrue b (second ≡ with_ends first (rows_left rows cs)) → OnTrue b (set.len second ≤ 1024)
+      → OnFalse b (1024 < set.len (with_ends first (rows_left rows cs)))
       → IsTrue (not b) ↔ (1024 < router_count (after_changes (database_of rows) cs))
-  tells_both true first second left put few many =
-      let counted = router_count-after rows cs apart once in
-      ((λ e. absurd (cc)), λ above. absurd (omega (arith, above, few, counted, ap set.len put, ap (λ s. set.len (with_ends s (links_put cs))) left)))
-  tells_both false first second left put few many =
-      let counted = router_count-after rows cs apart once in
-      ((λ _. omega (arith, many, counted, ap (λ s. set.len (with_ends s (links_put cs))) left)), λ _. refl)
+  tells_both true first second put left few many =
+      ((λ e. absurd (cc)), λ above. absurd (omega (arith, above, few, counted, ap set.len left, ap (λ s. set.len (with_ends s (rows_left rows cs))) put)))
+  tells_both false first second put left few many =
+      ((λ _. omega (arith, many, counted, ap (λ s. set.len (with_ends s (rows_left rows cs))) put)), λ _. refl)

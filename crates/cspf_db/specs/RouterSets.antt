@@ -12,5 +12,6 @@ routers_in a = from_list (take a.count a.found)
 -- at most 1,024, each once
 pub record AreRouters (a : Inside) : Type 0 where
   pub room : length a.found ≡ 1024
+  pub slots : length a.places ≡ 32768
   pub most : a.count ≤ 1024
   pub once : IsDistinct (eq_by_cmp nat_cmp) (take a.count a.found)

@@ -212,7 +212,7 @@ fn has_too_many_routers(rows: &[Link], routers: &[Addr], changes: &[Change], bro
         return false;
     }
     let mut found = Routers::new();
-    !(add_rows(&mut found, rows, changes) && add_puts(&mut found, changes))
+    !(add_puts(&mut found, changes) && add_rows(&mut found, rows, changes))
 }
 
 /// Whether the batch fits the rows, with what it does to them, and else the first reason why it

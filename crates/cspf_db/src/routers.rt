@@ -9,11 +9,23 @@ use std::marker::Model;
 /// How many routers a database may have.
 const ROUTERS: usize = 1024;
 
-/// A set of at most 1,024 routers, kept in place as numbers.
+/// How many slots there are for the places of routers.
+const SLOTS: usize = 32768;
+
+/// A set of at most 1,024 routers, kept in place as numbers. The place of each is noted at a slot that
+/// follows from its number, unless another's was noted there since.
 #[derive(Drop)]
 pub struct Routers {
     found: [u32; ROUTERS],
     count: usize,
+    places: [u16; SLOTS],
+}
+
+/// The slot of a router with this number.
+fn slot(router: u32) -> usize
+    ensures { result < 32768 }
+{
+    ((router.wrapping_mul(2654435761) >> 16) % 32768) as usize
 }
 
 impl Model for Routers {
@@ -39,14 +51,18 @@ impl Routers {
     pub fn new() -> Self
         ensures { result ≡ set.empty }
     {
-        Routers::kept_in([0; ROUTERS])
+        Routers::kept_in([0; ROUTERS], [0; SLOTS])
     }
 
     /// No routers, with the places where they are kept. What stands there doesn't matter.
-    fn kept_in(found: [u32; ROUTERS]) -> Self
+    fn kept_in(found: [u32; ROUTERS], places: [u16; SLOTS]) -> Self
         ensures { result ≡ set.empty }
     {
-        Routers { found, count: 0 }
+        Routers {
+            found,
+            count: 0,
+            places,
+        }
     }
 
     /// Adds the router with this number. It is false where there would be more than 1,024.
@@ -62,18 +78,20 @@ impl Routers {
             return false;
         }
         self.found[self.count] = router;
+        self.places[slot(router)] = self.count as u16;
         self.count += 1;
         true
     }
 
-    /// Whether the router with this number is there.
+    /// Whether the router with this number is at the place that is noted for it.
     fn has(&self, router: u32) -> bool
         ensures { result ≡ true → self.now ≡ set.insert self.now router }
     {
-        self.found[..self.count].contains(&router)
+        let place = self.places[slot(router)] as usize;
+        place < self.count && self.found[place] == router
     }
 
-    /// Whether both ends of a link are there, so that they need not be added.
+    /// Whether both ends of a link are found at once, so that they need not be added.
     pub fn has_ends(&self, link: &Link) -> bool
         ensures { result ≡ true → self.now ≡ with_ends self.now (link.now ∷ []) }
     {

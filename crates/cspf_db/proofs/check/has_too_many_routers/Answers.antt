@@ -2,13 +2,13 @@ use Rattle.std.proofs.Common.{length, refl, ap, ◌∙◌, arith}
 use Rattle.std.specs.FinSet as set
 use Rattle.std.specs.Ordering.{nat_cmp}
 use Rattle.cspf_db.specs.Rows.{database_of}
-use Rattle.cspf_db.specs.RowsLeft.{rows_left}
+use Rattle.cspf_db.specs.RowsLeft.{links_put}
 use Rattle.cspf_db.specs.CountedEnds.{with_ends}
 use Rattle.cspf_db.proofs.Ordered.{own_keys}
 use Rattle.cspf_db.proofs.RouterLists.{ends_listed, length-router_list}
-use Rattle.cspf_db.proofs.Counting.{router_count-brought, many_left, tells_both}
+use Rattle.cspf_db.proofs.Counting.{router_count-brought, many_put, tells_both}
 use Rattle.cspf_db.proofs.check.has_too_many_routers.Goals as goal
-use Rattle.cspf_db.proofs.check.has_too_many_routers.Goals.{then-add_rows, else-add_rows}
+use Rattle.cspf_db.proofs.check.has_too_many_routers.Goals.{then-add_puts, else-add_puts}
 
 pub returns-then-routers-brought-le-ROUTERS : goal.returns-then-routers-brought-le-ROUTERS
 returns-then-routers-brought-le-ROUTERS c =
@@ -20,12 +20,12 @@ pub returns : goal.returns
 returns c =
     let rows = c.args.rows.now in
     let changes = c.args.changes.now in
-    elim c.if-add_rows.branch [
-      | then-add_rows w ↦ rw w.result-is (tells_both rows changes (own_keys _ c.requires.by_key) c.requires.once w.add_puts.result c.add_rows.new.routers w.add_puts.new.routers
-          (w.if-add_rows.ensures.added ∙ ap (λ s. with_ends s (rows_left rows changes)) c.new-found.ensures) w.add_puts.ensures.added w.add_puts.ensures.few w.add_puts.ensures.full)
-      | else-add_rows w ↦ rw (w.result-is, w.if-add_rows.false)
-          ((λ _. many_left rows changes (own_keys _ c.requires.by_key) c.requires.once (rw c.new-found.ensures at w.if-add_rows.ensures.full)), λ _. refl)
+    elim c.if-add_puts.branch [
+      | then-add_puts w ↦ rw w.result-is (tells_both rows changes (own_keys _ c.requires.by_key) c.requires.once w.add_rows.result c.add_puts.new.routers w.add_rows.new.routers
+          (w.if-add_puts.ensures.added ∙ ap (λ s. with_ends s (links_put changes)) c.new-found.ensures) w.add_rows.ensures.added w.add_rows.ensures.few w.add_rows.ensures.full)
+      | else-add_puts w ↦ rw (w.result-is, w.if-add_puts.false)
+          ((λ _. many_put rows changes (own_keys _ c.requires.by_key) c.requires.once (rw c.new-found.ensures at w.if-add_puts.ensures.full)), λ _. refl)
     ]
 
-pub add_rows-requires : goal.add_rows-requires
-add_rows-requires c = rw (c.new-found.ensures, set.len-empty nat_cmp) (omega arith)
+pub add_puts-requires : goal.add_puts-requires
+add_puts-requires c = rw (c.new-found.ensures, set.len-empty nat_cmp) (omega arith)

@@ -24,6 +24,7 @@ invariant_of-self c =
     record {
       room =
           length-set c.self.inside.found c.self.inside.count c.args.router ∙ c.self.invariant.room;
+      slots = length-set c.self.inside.places c.slot.result c.self.inside.count ∙ c.self.invariant.slots;
       most = omega (arith, c.self.invariant.most);
       once =
           rw (take_more_set c.self.inside.found c.self.inside.count c.args.router within) (distinct-push _ c.args.router (sym c.contains.ensures.value ∙ c.if-contains.false) c.self.invariant.once);

@@ -4,4 +4,4 @@ use Rattle.cspf_db.proofs.routers.Routers.kept_in.Goals as goal
 
 pub invariant_of-result : goal.invariant_of-result
 unfolding IsDistinct
-invariant_of-result c = record { room = search rules; most = omega arith; once = tt }
+invariant_of-result c = record { room = search rules; slots = search rules; most = omega arith; once = tt }
