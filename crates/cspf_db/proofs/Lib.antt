@@ -29,3 +29,4 @@ pub mod Exact
 pub mod Merged
 pub mod Moved
 pub mod Staying
+pub mod Room

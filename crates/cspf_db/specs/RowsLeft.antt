@@ -26,6 +26,10 @@ abbrev pub removes_link : Change → Bool
 removes_link (Put l) = false
 removes_link (Remove from local) = true
 
+-- the change puts a link
+abbrev pub puts_link : Change → Bool
+puts_link c = not (removes_link c)
+
 -- the links that the changes put
 abbrev pub links_put : List Change → List Link
 links_put changes = filter_map link_left changes

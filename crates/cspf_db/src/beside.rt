@@ -1,15 +1,15 @@
 //! Changes of rows, with the ends beside them mended as each row changes.
-ghost use Rattle.std.specs.Prelude.{count_by, ◌≡◌, ℕ, ◌+◌, ◌<◌, ◌≤◌, true, All, length, slice_set, vec_len, IfOk, IfErr, IfSome, IfNone};
+ghost use Rattle.std.specs.Prelude.{count_by, ◌≡◌, ℕ, ◌+◌, ◌<◌, ◌≤◌, true, All, filter, length, slice_set, vec_len, IfOk, IfErr, IfSome, IfNone};
 ghost use Rattle.std.specs.Vec.{vec_capacity};
 ghost use Rattle.std.specs.List.{insert, remove as without};
 ghost use Rattle.cspf_db.specs.Changes.{after_change, after_changes};
 ghost use Rattle.cspf_db.specs.CountedEnds.{HasListedEnds};
 ghost use Rattle.cspf_db.specs.Database.{link_count, router_count};
 ghost use Rattle.cspf_db.specs.Refusals.{AreOnceEach};
-ghost use Rattle.cspf_db.specs.RowsLeft.{adds_link, removes_link};
+ghost use Rattle.cspf_db.specs.RowsLeft.{adds_link, removes_link, puts_link};
 ghost use Rattle.cspf_db.specs.Rows.{database_of, AreRising, AreByKey, AreBeside, AreParts};
 
-use crate::check::count_removed;
+use crate::check::{count_removed, is_removal};
 use crate::router_list::index_among;
 use crate::scratch::Scratch;
 use crate::table_rows::{put, remove};
@@ -47,9 +47,10 @@ fn remove_end(ends: &mut Vec<u16>, place: Option<usize>)
     }
 }
 
-/// Makes one change.
+/// Makes one change. The rows are never more than a table may have.
 fn change_one(rows: &mut Vec<Link>, ends: &mut Vec<u16>, routers: &[Addr], change: &Change)
     requires by_key { AreByKey rows.old.items }
+    requires fits { link_count (after_change (database_of rows.old.items) change.now) ≤ 16384 }
     requires room { vec_len rows.old < vec_capacity rows.old }
     requires room_for_ends { vec_len rows.old < vec_capacity ends.old }
     requires rising { AreRising routers.now }
@@ -59,7 +60,7 @@ fn change_one(rows: &mut Vec<Link>, ends: &mut Vec<u16>, routers: &[Addr], chang
     ensures changed { database_of rows.new.items
         ≡ after_change (database_of rows.old.items) change.now }
     ensures by_key { AreByKey rows.new.items }
-    ensures longer { vec_len rows.new ≤ vec_len rows.old + 1 }
+    ensures most { vec_len rows.new ≤ 16384 }
     ensures capacity { vec_capacity rows.old ≤ vec_capacity rows.new }
     ensures capacity_of_ends { vec_capacity ends.old ≤ vec_capacity ends.new }
     ensures beside { AreBeside rows.new.items routers.now ends.new.items }
@@ -77,11 +78,65 @@ fn change_one(rows: &mut Vec<Link>, ends: &mut Vec<u16>, routers: &[Addr], chang
     }
 }
 
-/// Makes the changes in order. They put links between known routers alone.
+/// Makes the removals among the changes.
+fn remove_rows(rows: &mut Vec<Link>, ends: &mut Vec<u16>, routers: &[Addr], changes: &[Change])
+    requires by_key { AreByKey rows.old.items }
+    requires most { vec_len rows.old ≤ 16384 }
+    requires room { 20480 ≤ vec_capacity rows.old }
+    requires room_for_ends { 20480 ≤ vec_capacity ends.old }
+    requires rising { AreRising routers.now }
+    requires few { length routers.now ≤ 9216 }
+    requires known { All (HasListedEnds routers.now) changes.now }
+    requires beside { AreBeside rows.old.items routers.now ends.old.items }
+    ensures changed { database_of rows.new.items
+        ≡ after_changes (database_of rows.old.items) (filter removes_link changes.now) }
+    ensures by_key { AreByKey rows.new.items }
+    ensures most { vec_len rows.new ≤ 16384 }
+    ensures capacity { vec_capacity rows.old ≤ vec_capacity rows.new }
+    ensures capacity_of_ends { vec_capacity ends.old ≤ vec_capacity ends.new }
+    ensures beside { AreBeside rows.new.items routers.now ends.new.items }
+{
+    for change in changes {
+        if is_removal(change) {
+            change_one(rows, ends, routers, change);
+        }
+    }
+}
+
+/// Makes the puts among the changes, where there is room for all of them.
+fn put_rows(rows: &mut Vec<Link>, ends: &mut Vec<u16>, routers: &[Addr], changes: &[Change])
+    requires by_key { AreByKey rows.old.items }
+    requires most { vec_len rows.old ≤ 16384 }
+    requires fits { link_count
+        (after_changes (database_of rows.old.items) (filter puts_link changes.now)) ≤ 16384 }
+    requires room { 20480 ≤ vec_capacity rows.old }
+    requires room_for_ends { 20480 ≤ vec_capacity ends.old }
+    requires rising { AreRising routers.now }
+    requires few { length routers.now ≤ 9216 }
+    requires known { All (HasListedEnds routers.now) changes.now }
+    requires beside { AreBeside rows.old.items routers.now ends.old.items }
+    ensures changed { database_of rows.new.items
+        ≡ after_changes (database_of rows.old.items) (filter puts_link changes.now) }
+    ensures by_key { AreByKey rows.new.items }
+    ensures most { vec_len rows.new ≤ 16384 }
+    ensures capacity { vec_capacity rows.old ≤ vec_capacity rows.new }
+    ensures capacity_of_ends { vec_capacity ends.old ≤ vec_capacity ends.new }
+    ensures beside { AreBeside rows.new.items routers.now ends.new.items }
+{
+    for change in changes {
+        if !is_removal(change) {
+            change_one(rows, ends, routers, change);
+        }
+    }
+}
+
+/// Makes changes on keys of their own one by one, the removals first, so that the rows are never more
+/// than a table may have. They put links between known routers alone.
 pub fn change_rows(rows: &mut Vec<Link>, ends: &mut Vec<u16>, routers: &[Addr], changes: &[Change])
     requires by_key { AreByKey rows.old.items }
     requires most { vec_len rows.old ≤ 16384 }
-    requires short { length changes.now ≤ 4096 }
+    requires once { AreOnceEach changes.now }
+    requires links { link_count (after_changes (database_of rows.old.items) changes.now) ≤ 16384 }
     requires room { 20480 ≤ vec_capacity rows.old }
     requires room_for_ends { 20480 ≤ vec_capacity ends.old }
     requires rising { AreRising routers.now }
@@ -91,13 +146,13 @@ pub fn change_rows(rows: &mut Vec<Link>, ends: &mut Vec<u16>, routers: &[Addr], 
     ensures changed { database_of rows.new.items
         ≡ after_changes (database_of rows.old.items) changes.now }
     ensures by_key { AreByKey rows.new.items }
+    ensures most { vec_len rows.new ≤ 16384 }
     ensures capacity { vec_capacity rows.old ≤ vec_capacity rows.new }
     ensures capacity_of_ends { vec_capacity ends.old ≤ vec_capacity ends.new }
     ensures beside { AreBeside rows.new.items routers.now ends.new.items }
 {
-    for change in changes {
-        change_one(rows, ends, routers, change);
-    }
+    remove_rows(rows, ends, routers, changes);
+    put_rows(rows, ends, routers, changes);
 }
 
 /// How many rows may be put between others or taken out one by one, as each moves those behind it.

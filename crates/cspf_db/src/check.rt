@@ -128,7 +128,7 @@ fn is_untouched(row: &Link, changes: &[Change]) -> bool
 }
 
 /// Whether the change takes out a link.
-fn is_removal(change: &Change) -> bool
+pub fn is_removal(change: &Change) -> bool
     ensures { result ≡ removes_link change.now }
 {
     matches!(change, Change::Remove { .. })

@@ -25,21 +25,6 @@ fn push_within(places: &mut Vec<u16>, place: u16)
     let _ = places.push(place);
 }
 
-/// Makes the column that of the indices of the routers that the rows run to.
-pub fn list_ends(ends: &mut Vec<u16>, routers: &[Addr], rows: &[Link])
-    requires rising { AreRising routers.now }
-    requires few { length routers.now ≤ 9216 }
-    requires among { All (λ l. Contains routers.now l.to) rows.now }
-    requires room { length rows.now ≤ vec_capacity ends.old }
-    ensures each { AreEndsOf rows.now routers.now ends.new.items }
-    ensures capacity { vec_capacity ends.old ≤ vec_capacity ends.new }
-{
-    ends.clear();
-    for row in rows {
-        push_within(ends, index_among(routers, row.to));
-    }
-}
-
 /// Lists where the routers are in a list that has them all.
 pub fn list_places(places: &mut Vec<u16>, routers: &[Addr], others: &[Addr])
     requires rising { AreRising others.now }

@@ -1,10 +1,10 @@
 ghost use Rattle.std.specs.Prelude.{◌≡◌, ◌<◌, ◌≤◌, All, Contains, length, map, slice_index, vec_len};
 ghost use Rattle.std.specs.Vec.{vec_capacity};
 
+use crate::beside::change_rows;
 use crate::merging::{merge, sort_changes};
-use crate::places::{keep_ends, list_ends, list_places, move_ends};
+use crate::places::{keep_ends, list_places, move_ends};
 use crate::router_list::add_ends;
-use crate::table_rows::apply;
 use crate::{Change, Link};
 use cspf_addr::Addr;
 use std::alloc::{AllocError, Global};
@@ -102,8 +102,7 @@ impl Scratch {
             routers,
             &self.sorted,
         ) {
-            apply(rows, changes);
-            list_ends(ends, routers, rows);
+            change_rows(rows, ends, routers, changes);
             return;
         }
         swap(rows, &mut self.merged);

@@ -1,4 +1,7 @@
-use Rattle.std.proofs.Common.{arith}
+use Rattle.std.proofs.Common.{ap, arith}
+use Rattle.cspf_db.specs.Database.{link_count}
+use Rattle.cspf_db.proofs.Counting.{link_count-database_of}
+use Rattle.cspf_db.proofs.Ordered.{own_keys}
 use Rattle.cspf_db.proofs.EndsBeside.{length-ends, beside_put, beside_remove, within_ends, upto_ends, some_within_ends}
 use Rattle.cspf_db.proofs.beside.change_one.Goals as goal
 
@@ -28,3 +31,17 @@ pub returns-in-Remove-clause-beside : goal.returns-in-Remove-clause-beside
 returns-in-Remove-clause-beside c =
     let at = c.remove-place.ensures in
     beside_remove _ _ _ c.requires.beside c.remove-place.result _ _ at.out at.same c.remove_end.ensures.out c.remove_end.ensures.same
+
+pub returns-in-Put-clause-most : goal.returns-in-Put-clause-most
+returns-in-Put-clause-most c =
+    let made = c.put-place.ensures in
+    let rows = c.put-place.new.rows.items in
+    let fits = rw c.in-Put.is at c.requires.fits in
+    omega (arith, link_count-database_of rows (own_keys rows made.by_key), ap link_count made.changed, fits)
+
+pub returns-in-Remove-clause-most : goal.returns-in-Remove-clause-most
+returns-in-Remove-clause-most c =
+    let made = c.remove-place.ensures in
+    let rows = c.remove-place.new.rows.items in
+    let fits = rw c.in-Remove.is at c.requires.fits in
+    omega (arith, link_count-database_of rows (own_keys rows made.by_key), ap link_count made.changed, fits)

@@ -1,8 +1,18 @@
-use Rattle.std.proofs.Common.{subst, sym}
-use Rattle.cspf_db.specs.declared.batch.Change.{Change}
-use Rattle.cspf_db.specs.CountedEnds.{HasListedEnds}
+use Rattle.std.proofs.Common.{filter, ap, ◌∙◌, arith}
+use Rattle.cspf_db.specs.Database.{link_count}
+use Rattle.cspf_db.specs.Changes.{after_changes}
+use Rattle.cspf_db.specs.Rows.{database_of}
+use Rattle.cspf_db.specs.RowsLeft.{puts_link}
+use Rattle.cspf_db.proofs.Room.{removals_first}
 use Rattle.cspf_db.proofs.beside.change_rows.Goals as goal
 
-pub change_one-requires-clause-known : goal.change_one-requires-clause-known
-change_one-requires-clause-known c =
-    subst (λ (b : Change). HasListedEnds c.args.routers.now b) (sym c.change-item.is) (c.requires.known c.loop-change.change-index c.change-item.result c.loop-change-test.true)
+pub put_rows-requires-clause-fits : goal.put_rows-requires-clause-fits
+put_rows-requires-clause-fits c =
+    let changes = c.args.changes.now in
+    omega
+    (arith, c.requires.links, ap link_count (ap (λ d. after_changes d (filter puts_link changes)) c.remove_rows.ensures.changed ∙ removals_first (database_of c.args.rows.now.items) changes c.requires.once))
+
+pub returns-clause-changed : goal.returns-clause-changed
+returns-clause-changed c =
+    let changes = c.args.changes.now in
+    c.put_rows.ensures.changed ∙ ap (λ d. after_changes d (filter puts_link changes)) c.remove_rows.ensures.changed ∙ removals_first (database_of c.args.rows.now.items) changes c.requires.once

@@ -22,13 +22,3 @@ merge-requires-clause-short c = rw c.deref-3.ensures.value (omega (arith, length
 
 pub merge-requires-clause-known : goal.merge-requires-clause-known
 merge-requires-clause-known c = rw c.deref-3.ensures.value (All-permutation (HasListedEnds c.args.routers.now) _ _ c.sort_changes.ensures.permutation c.requires.known)
-
-pub list_ends-requires-clause-among : goal.list_ends-requires-clause-among
-list_ends-requires-clause-among c =
-    let listed = rows_listed_after c.args.routers.now _ _ _ _ c.requires.beside c.apply.ensures.by_key c.apply.ensures.changed c.requires.known in
-    rw c.deref-then-not-merge.ensures.value (λ k d h. (listed k d h).1)
-
-pub list_ends-requires-clause-room : goal.list_ends-requires-clause-room
-list_ends-requires-clause-room c =
-    rw c.deref-then-not-merge.ensures.value
-    (omega (arith, link_count-database_of c.apply.new.rows.items (own_keys c.apply.new.rows.items c.apply.ensures.by_key), ap link_count c.apply.ensures.changed, c.requires.links, c.requires.room_for_ends))
