@@ -1,16 +1,16 @@
-ghost use Rattle.std.specs.Prelude.{count_by, ◌≡◌, ℕ, ◌+◌, ◌*◌, ◌<◌, ◌≤◌, ◌↔◌, [], ◌∷◌, true, All, length, map, IfOk, IfErr, IfSome, IfNone, IsTrue};
+ghost use Rattle.std.specs.Prelude.{count_by, ◌≡◌, ℕ, ◌+◌, ◌*◌, ◌<◌, ◌≤◌, ◌↔◌, true, All, length, map, IfOk, IfErr, IfSome, IfNone, IsTrue};
 ghost use Rattle.std.specs.Bool.{OnTrue, OnFalse};
-ghost use Rattle.std.specs.List.{HoldsAt, AllWithin, IsDistinct};
+ghost use Rattle.std.specs.List.{IsDistinct};
 ghost use Rattle.std.specs.FinSet as set;
 ghost use Rattle.std.specs.Ordering.{eq_by_cmp, is_lt};
 ghost use Rattle.cspf_db.specs.Database.{key_cmp, link_count, router_count};
 ghost use Rattle.cspf_db.specs.Index.{router_list};
-ghost use Rattle.cspf_db.specs.Changes.{after_changes, key_changed, IsPresent, Fits};
-ghost use Rattle.cspf_db.specs.Rows.{database_of, AreByKey, AreRising};
+ghost use Rattle.cspf_db.specs.Changes.{after_changes, key_changed, Fits};
+ghost use Rattle.cspf_db.specs.Rows.{database_of, AreByKey};
 ghost use Rattle.cspf_db.specs.RepeatedKeys.{is_changed, IsNewAt, IsRepeatedAt};
 ghost use Rattle.cspf_db.specs.RowsLeft.{is_untouched, rows_left, links_put, adds_link, removes_link};
 ghost use Rattle.cspf_db.specs.CountedEnds.{with_ends, HasListedEnds, BringsAtMost};
-ghost use Rattle.cspf_db.specs.Refusals.{RemovesNothing, AreOnceEach, ArePresent, IsRefusal};
+ghost use Rattle.cspf_db.specs.Refusals.{AreOnceEach, ArePresent, IsRefusal};
 
 use crate::routers::Routers;
 use crate::tally::{Tally, tally_all};

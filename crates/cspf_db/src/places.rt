@@ -4,7 +4,7 @@ ghost use Rattle.std.specs.Prelude.{◌≡◌, ℕ, ◌+◌, ◌<◌, ◌≤◌,
 ghost use Rattle.std.specs.Vec.{vec_capacity};
 ghost use Rattle.std.specs.List.{list_any};
 ghost use Rattle.cspf_db.specs.CountedEnds.{any_to, is_end_of};
-ghost use Rattle.cspf_db.specs.Rows.{AreRising, AreByKey, AreBeside, AreEndsOf, ArePlacesIn};
+ghost use Rattle.cspf_db.specs.Rows.{AreRising, AreByKey, AreBeside, ArePlacesIn};
 
 use crate::Link;
 use crate::router_list::index_among;

@@ -16,8 +16,8 @@ use cspf_addr::{Addr, Prefix};
 use std::alloc::{AllocError, Global};
 use std::marker::Model;
 
-/// The links that a table has room for, and a batch more: changes are made in order, and the links
-/// that a batch drops may come after those that it puts.
+/// The links that a table has room for, and a batch more: the rows change places with those that a
+/// batch was merged into, which have room for a put by each change.
 const ROOM: usize = 20480;
 
 /// The routers that a table has room for: its own, and both ends of each link that a batch puts.

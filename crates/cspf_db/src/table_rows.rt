@@ -5,7 +5,7 @@ ghost use Rattle.std.specs.List.Sorted.{IsPartitionPoint};
 ghost use Rattle.cspf_addr.specs.Prefixes.{Covers};
 ghost use Rattle.cspf_db.specs.Database.{key_of, key_cmp};
 ghost use Rattle.cspf_db.specs.Index.{links_from};
-ghost use Rattle.cspf_db.specs.Changes.{after_change, after_changes};
+ghost use Rattle.cspf_db.specs.Changes.{after_change};
 ghost use Rattle.cspf_db.specs.Rows.{database_of, AreByKey};
 ghost use Rattle.cspf_db.specs.CountedEnds.{any_from};
 

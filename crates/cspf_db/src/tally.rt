@@ -1,5 +1,5 @@
 //! What the changes of a batch do to the number of links and of routers, by one search for each.
-ghost use Rattle.std.specs.Prelude.{count_by, ◌≡◌, ℕ, ◌*◌, ◌<◌, ◌≤◌, cond, [], ◌∷◌, All, Contains, length, IfOk, IfErr, IfSome, IfNone};
+ghost use Rattle.std.specs.Prelude.{count_by, ◌≡◌, ◌*◌, ◌<◌, ◌≤◌, cond, [], ◌∷◌, All, Contains, length, IfOk, IfErr, IfSome, IfNone};
 ghost use Rattle.std.specs.List.{HoldsAt, AllWithin};
 ghost use Rattle.cspf_db.specs.Index.{router_list};
 ghost use Rattle.cspf_db.specs.Changes.{IsPresent};
