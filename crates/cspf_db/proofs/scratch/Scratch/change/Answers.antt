@@ -2,13 +2,9 @@ use Rattle.std.proofs.Common.{Vec, ap, ◌∙◌, arith}
 use Rattle.std.specs.declared.alloc.Global.{Global}
 use Rattle.std.proofs.lemmas.List.Sorted.{length_permutation, All-permutation}
 use Rattle.cspf_db.specs.declared.link.Link.{Link}
-use Rattle.cspf_db.specs.Database.{link_count}
 use Rattle.cspf_db.specs.CountedEnds.{HasListedEnds}
 use Rattle.cspf_db.specs.Rows.{database_of}
-use Rattle.cspf_db.proofs.Counting.{link_count-database_of}
 use Rattle.cspf_db.proofs.Leaving.{after_changes-permuted}
-use Rattle.cspf_db.proofs.Ordered.{own_keys}
-use Rattle.cspf_db.proofs.Staying.{rows_listed_after}
 use Rattle.cspf_db.proofs.scratch.Scratch.change.Goals as goal
 
 pub returns-clause-changed : goal.returns-clause-changed
