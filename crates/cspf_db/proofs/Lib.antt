@@ -19,6 +19,7 @@ pub mod Counted
 pub mod RouterLists
 pub mod Worked
 pub mod Owning
+pub mod Within
 pub mod WithoutHops
 pub mod Said
 pub mod ExampleRoutes

@@ -10,7 +10,7 @@ use crate::beside::change_table;
 use crate::router_list::search;
 use crate::router_rows::list_spans;
 use crate::scratch::Scratch;
-use crate::table_rows::{any_within, index_of, rows_from};
+use crate::table_rows::{any_rising_within, index_of, rows_from};
 use crate::{Batch, Link, Refusal, check};
 use cspf_addr::{Addr, Prefix};
 use std::alloc::{AllocError, Global};
@@ -152,7 +152,16 @@ impl Table {
         ensures { IsTrue result ↔ Owns self.now prefix router }
     {
         self.has_router(router)
-            && (prefix.covers(router) || any_within(rows_from(&self.rows, router), prefix))
+            && (prefix.covers(router) || any_rising_within(rows_from(&self.rows, router), prefix))
+    }
+
+    /// The same as `owns`, of the router at an index of `routers`.
+    pub fn owns_at(&self, at: usize, prefix: Prefix) -> bool
+        requires { at < length (router_list self.now) }
+        ensures { IsTrue result
+            ↔ Owns self.now prefix (slice_index (router_list self.now) at) }
+    {
+        prefix.covers(self.routers[at]) || any_rising_within(self.out_at(at), prefix)
     }
 
     /// Whether the batch fits, and else the first reason why it doesn't. The batch's number isn't

@@ -1,7 +1,7 @@
 ghost use Rattle.std.specs.Prelude.{◌≡◌, ◌≢◌, ℕ, ◌+◌, ◌<◌, ◌≤◌, true, false, All, filter, length, nat_eq, slice_range, slice_set, vec_len, IfOk, IfErr, IfSome, IfNone};
 ghost use Rattle.std.specs.Vec.{vec_capacity};
 ghost use Rattle.std.specs.List.{HoldsAt, insert, remove as without};
-ghost use Rattle.std.specs.List.Sorted.{IsPartitionPoint};
+ghost use Rattle.std.specs.List.Sorted.{IsPartitionPoint, IsNonDecreasingBy};
 ghost use Rattle.cspf_addr.specs.Prefixes.{Covers};
 ghost use Rattle.cspf_db.specs.Database.{key_of, key_cmp};
 ghost use Rattle.cspf_db.specs.Index.{links_from};
@@ -80,12 +80,37 @@ pub fn begins(rows: &[Link], router: Addr) -> bool
 }
 
 /// Whether one of the rows has the address of its interface within the prefix.
-pub fn any_within(rows: &[Link], prefix: Prefix) -> bool
+fn any_within(rows: &[Link], prefix: Prefix) -> bool
     ensures yes { result ≡ true
         → (at : ℕ) × (at < length rows.now) × HoldsAt (λ l. Covers prefix l.local) rows.now at }
     ensures no { result ≡ false → All (λ l. ¬ Covers prefix l.local) rows.now }
 {
     rows.iter().any(|link| prefix.covers(link.local))
+}
+
+/// Whether an address from the first to the last may begin with the bits of the prefix: the prefix
+/// covers an unbroken range of addresses.
+fn may_cover(prefix: Prefix, first: Addr, last: Addr) -> bool
+    ensures { result ≡ false
+        → (address : ℕ) → first ≤ address → address ≤ last → ¬ Covers prefix address }
+{
+    let rest = 32 - prefix.length();
+    let front = u64::from(prefix.address().number()) >> rest;
+    u64::from(first.number()) >> rest <= front && front <= u64::from(last.number()) >> rest
+}
+
+/// The same as `any_within`, of rows in order of the address of their interface.
+pub fn any_rising_within(rows: &[Link], prefix: Prefix) -> bool
+    requires { IsNonDecreasingBy (λ l. l.local) rows.now }
+    ensures yes { result ≡ true
+        → (at : ℕ) × (at < length rows.now) × HoldsAt (λ l. Covers prefix l.local) rows.now at }
+    ensures no { result ≡ false → All (λ l. ¬ Covers prefix l.local) rows.now }
+{
+    if rows.is_empty() {
+        return false;
+    }
+    let (first, last) = (rows[0].local, rows[rows.len() - 1].local);
+    may_cover(prefix, first, last) && any_within(rows, prefix)
 }
 
 /// Puts the link in at an index. There is room, so this takes no memory and can't fail.
