@@ -5,7 +5,7 @@ ghost use Rattle.cspf_search.specs.Frontier.{IsRaised, IsStand, AreStands, AreSt
 
 use cspf_addr::Addr;
 use cspf_db::{Request, Table};
-use cspf_graph::member;
+use cspf_graph::member_at;
 use std::alloc::{AllocError, Global};
 
 /// What a route may do at a router in a leg.
@@ -67,7 +67,7 @@ fn make_stand(
         };
     }
     let router = routers[place];
-    let target = member(table, router, leg, request);
+    let target = member_at(table, place, leg, request);
     Stand {
         inside: is_loose(request, leg) || is_target_before(request, stands, at, router) || target,
         target,
