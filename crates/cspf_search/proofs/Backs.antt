@@ -2,7 +2,7 @@
 use Rattle.std.proofs.Common.{◌≡◌, ℕ, zero, suc, ◌+◌, ◌^◌, ◌<◌, ◌≤◌, Some, None, IsSome, List, [], ◌∷◌, ◌++◌, length, slice_get, slice_index_or, refl, sym, ap, subst, ◌∙◌, arith}
 use Rattle.std.specs.Ordering.{nat_cmp, ordering_then, is_gt}
 use Rattle.std.specs.declared.cmp.Ordering.{Ordering}
-use Rattle.std.proofs.lemmas.Cmp.{tied_itself}
+use Rattle.std.proofs.lemmas.Cmp.{nat_list_cmp_total, tied_itself}
 use Rattle.std.proofs.lemmas.List.{length_push}
 use Rattle.std.proofs.lemmas.Option.{get_or_from_slice_get, same_Some}
 use Rattle.cspf_db.specs.declared.link.Link.{Link}
@@ -10,7 +10,7 @@ use Rattle.cspf_db.specs.declared.request.Request.{Request}
 use Rattle.cspf_db.specs.Database.{Database}
 use Rattle.cspf_db.specs.Admissible.{IsAdmitted}
 use Rattle.cspf_db.specs.Targets.{IsTarget, IsInside}
-use Rattle.cspf_db.specs.Walks.{cost_of}
+use Rattle.cspf_db.specs.Walks.{cost_of, locals_of}
 use Rattle.cspf_search.specs.declared.arena.Node.{Node}
 use Rattle.cspf_search.specs.States.{State}
 use Rattle.cspf_search.specs.Settled.{state_cmp, locals_cmp}
@@ -132,3 +132,14 @@ locals_more v w v' w' l k found goal ev ew e h =
     let last : ordering_then (locals_cmp v' w') (nat_cmp l.local k.local) ≡ locals_cmp v w =
     sym (locals_cmp-last v' w' l k e) ∙ (λ i. locals_cmp (sym ev i) (sym ew i)) in
     sym (then_assoc (locals_cmp v' w') (nat_cmp l.local k.local) found) ∙ ap (λ o. ordering_then o found) last ∙ h
+
+-- where both come from one node, their last links decide with what is behind them
+pub locals_of_one : (nodes : List Node) (x y : Node) (l k : Link) (found goal : Ordering) → x.by ≡ Some l → y.by ≡ Some k → x.parent ≡ y.parent
+    → ordering_then (locals_cmp (walk_of nodes x) (walk_of nodes y)) found ≡ goal → ordering_then (nat_cmp l.local k.local) found ≡ goal
+locals_of_one nodes x y l k found goal by_x by_y one h =
+    let front = walk_at (walks nodes) x.parent in
+    let is_x : walk_of nodes x ≡ walk_at (walks nodes) x.parent ++ (l ∷ []) = ap (walk_with (walk_at (walks nodes) x.parent)) by_x in
+    let is_y : walk_of nodes y ≡ walk_at (walks nodes) x.parent ++ (k ∷ []) =
+    ap (walk_with (walk_at (walks nodes) y.parent)) by_y ∙ ap (λ i. walk_at (walks nodes) i ++ (k ∷ [])) (sym one) in
+    let all = locals_more (walk_of nodes x) (walk_of nodes y) front front l k found goal is_x is_y refl h in
+    ap (λ o. ordering_then o (ordering_then (nat_cmp l.local k.local) found)) (sym (tied_itself nat_list_cmp_total (locals_of front))) ∙ all

@@ -14,7 +14,8 @@ use cspf_db::{Link, Request, Table};
 use cspf_graph::accepts;
 use std::cmp::Ordering;
 
-/// How the local addresses of two walks of as many links compare, from the first link on.
+/// How the local addresses of two walks of as many links compare, from the first link on. What they
+/// have in common from there on isn't looked at.
 pub(crate) fn locals(nodes: &[Node], a: &Node, b: &Node) -> Ordering
     requires arena { AreNodes nodes.now }
     requires first { IsNext nodes.now a.now }
@@ -31,6 +32,9 @@ pub(crate) fn locals(nodes: &[Node], a: &Node, b: &Node) -> Ordering
             unreachable!();
         };
         found = l.local.cmp(&m.local).then(found);
+        if x.parent == y.parent {
+            return found;
+        }
         x = &nodes[x.parent];
         y = &nodes[y.parent];
     }

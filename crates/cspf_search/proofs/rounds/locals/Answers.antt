@@ -1,6 +1,12 @@
 use Rattle.std.proofs.Common.{arith}
-use Rattle.cspf_search.proofs.Backs.{walk_back, behind_more, locals_more}
+use Rattle.cspf_search.proofs.Backs.{walk_back, behind_more, locals_more, locals_of_one}
 use Rattle.cspf_search.proofs.rounds.locals.Goals as goal
+
+pub returns-then-x-y : goal.returns-then-x-y
+returns-then-x-y c =
+    let arms = c.in-Some-Some in
+    rw (c.then-found.ensures, c.cmp.ensures)
+    (locals_of_one c.args.nodes.now c.loop-step.x.now c.loop-step.y.now arms.l arms.m c.loop-step.found _ arms.is-0 arms.is-1 c.if-x-y.true c.loop-step.invariant.same)
 
 pub loop-step-preserved : goal.loop-step-preserved
 loop-step-preserved c =
