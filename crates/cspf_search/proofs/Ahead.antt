@@ -2,14 +2,13 @@
 use Rattle.std.proofs.Common.{◌≡◌, ◌≢◌, ◌⊎◌, inl, inr, ℕ, ◌+◌, ◌*◌, ◌/◌, ◌%◌, ◌^◌, ◌<◌, ◌≤◌, min, Bool, true, false, IsTrue, Some, List, drop, length, replicate, set, slice_get, slice_index, slice_index_or, refl, sym, ap, subst, ◌∙◌, arith, length-set}
 use Rattle.std.proofs.lemmas.Bool.{cases_lt}
 use Rattle.std.proofs.lemmas.List.{get_or_past, get_or-drop, get_or-replicate, length-replicate, get_or-set_other}
-use Rattle.cspf_db.specs.declared.link.Link.{Link}
 use Rattle.cspf_db.specs.declared.request.Request.{Request}
 use Rattle.cspf_db.specs.Database.{Database, AreLinksOf}
 use Rattle.cspf_db.specs.Targets.{IsTarget}
 use Rattle.cspf_db.specs.Index.{links_of, links_from_index, router_list}
 use Rattle.cspf_search.specs.declared.arrivals.Arrival.{Arrival}
 use Rattle.cspf_search.specs.declared.stands.Stand.{Stand}
-use Rattle.cspf_search.specs.Frontier.{AreListed, AreStands, IsEnd, IsStateIndex, nothing}
+use Rattle.cspf_search.specs.Frontier.{AreListed, AreStands, IsStateIndex, nothing}
 use Rattle.cspf_search.specs.Arrivals.{AreArrivals, Follows, arrival_at, pointer_at}
 use Rattle.cspf_search.specs.Bounds.{AreBounds, Falls, IsLeg, IsLower, IsPassed, IsRing, bound_at, is_done}
 use Rattle.cspf_search.proofs.Arrived.{arrived}

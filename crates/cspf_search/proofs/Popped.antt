@@ -1,8 +1,7 @@
 -- The node of the least key is a first crossing, and where no key is left nothing crosses.
-use Rattle.std.proofs.Common.{◌≡◌, ◌≢◌, inl, inr, ℕ, suc, ◌+◌, ◌-◌, ◌*◌, ◌/◌, ◌%◌, ◌^◌, ◌<◌, ◌≤◌, true, Some, None, List, [], ◌∷◌, length, set, replicate, slice_index, refl, sym, ap, subst, ◌∙◌, arith, length-set}
+use Rattle.std.proofs.Common.{◌≡◌, ◌≢◌, inl, inr, ℕ, suc, ◌+◌, ◌-◌, ◌*◌, ◌/◌, ◌%◌, ◌<◌, ◌≤◌, true, Some, None, List, [], ◌∷◌, length, set, replicate, slice_index, refl, sym, ap, subst, ◌∙◌, arith, length-set}
 use Rattle.std.specs.List.{Contains}
 use Rattle.std.specs.BinaryHeap.{IsHeap}
-use Rattle.std.proofs.lemmas.Bool.{eq-eqb}
 use Rattle.std.proofs.lemmas.Cmp.{upto}
 use Rattle.std.proofs.lemmas.List.{get_or-set_same, get_or-set_other, get_or-replicate, length-replicate}
 use Rattle.std.proofs.lemmas.List.Elements.{All-nil}
@@ -10,7 +9,6 @@ use Rattle.std.proofs.lemmas.List.Quantifiers.{position-Some}
 use Rattle.cspf_db.specs.declared.link.Link.{Link}
 use Rattle.cspf_db.specs.declared.request.Request.{Request}
 use Rattle.cspf_db.specs.Database.{Database, AreLinksOf, IsRouterOf}
-use Rattle.cspf_db.specs.Admissible.{IsAdmissible}
 use Rattle.cspf_db.specs.Targets.{IsTarget}
 use Rattle.cspf_db.specs.Index.{links_of, router_list}
 use Rattle.cspf_search.specs.declared.arena.Node.{Node}

@@ -1,5 +1,5 @@
 -- What each round of the search from a heap keeps, and what it has at its end.
-use Rattle.std.proofs.Common.{◌≡◌, ◌⊎◌, inl, inr, ℕ, zero, suc, ◌+◌, ◌-◌, ◌*◌, ◌/◌, ◌%◌, ◌<◌, ◌≤◌, Some, None, option_map, List, [], ◌∷◌, ◌++◌, length, take, drop, set, slice_get, slice_index, refl, sym, ap, subst, ◌∙◌, arith, length-set}
+use Rattle.std.proofs.Common.{◌≡◌, ◌⊎◌, inl, inr, ℕ, zero, suc, ◌+◌, ◌-◌, ◌*◌, ◌/◌, ◌%◌, ◌≤◌, Some, None, option_map, List, [], ◌∷◌, ◌++◌, length, take, drop, set, slice_get, slice_index, refl, sym, ap, subst, ◌∙◌, arith, length-set}
 use Rattle.std.specs.List.{Contains}
 use Rattle.std.proofs.lemmas.Bool.{cases_lt}
 use Rattle.std.proofs.lemmas.List.{get_or_push, length_push, drop_all, take_all, append-nil}
@@ -25,7 +25,7 @@ use Rattle.cspf_search.proofs.Labelled.{open_index}
 use Rattle.cspf_search.proofs.Grown.{settled_by}
 use Rattle.cspf_search.proofs.Ranks.{one_place, state_apart, index_for}
 use Rattle.cspf_search.proofs.Pushed.{index_new, open_old, open_new, labels_settle}
-use Rattle.cspf_search.proofs.Popped.{first_popped, popped, nothing_left, root_only, goal_index, goal_state}
+use Rattle.cspf_search.proofs.Popped.{open_rank, first_popped, popped, nothing_left, root_only, goal_index, goal_state}
 
 -- what the search is asked, with the indexes of both ends in the list of routers, and its goal
 pub record IsAsked (d : Database) (q : Request) (legs from to : ℕ) (goal : Goal) : Type 0 where
@@ -139,62 +139,63 @@ module _ (d : Database) (q : Request) (legs from to : ℕ) (goal : Goal) (asked 
               | None ↦ λ same. subst (IsRouterOf d) (sym same) known_end
             ] target
 
-        -- a target of the last leg is the goal
-        last_alone : IsRaised stands i floor → i / 1024 ≡ goal.at / 1024 → i ≡ goal.at
-        last_alone raised same =
-            let leg : i / 1024 + 1 ≡ suc (length q.hops) = omega (arith, same, ap (λ (t : State). t.leg) goal_end) in
-            let target = rw leg at ((told.each i nothing least.index).target.0 raised.target) in
-            let arrives : slice_index (router_list d) (i % 1024) ≡ q.to = subst (λ (T : Type 0). T) (last_target d q (slice_index (router_list d) (i % 1024))) target in
-            let here : IsEnd d q.to (i % 1024) = record { within = least.index.place; is = arrives } in
-            let place = one_place d asked.listed q.to (i % 1024) to here asked.end in
-            omega (arith, same, place, asked.at, asked.end.within, asked.listed.few)
+        module _ (P : List Link → State → Type 0) (after : List Label) (left : List Key) (are : AreLabels d q (nodes ++ (node ∷ [])) P goal after left) where
+          -- a target of the last leg is the goal
+          last_alone : IsRaised stands after i floor → i / 1024 ≡ goal.at / 1024 → i ≡ goal.at
+          last_alone raised same =
+              let leg : i / 1024 + 1 ≡ suc (length q.hops) = omega (arith, same, ap (λ (t : State). t.leg) goal_end) in
+              let target = rw leg at ((told.each i nothing least.index).target.0 raised.target) in
+              let arrives : slice_index (router_list d) (i % 1024) ≡ q.to = subst (λ (T : Type 0). T) (last_target d q (slice_index (router_list d) (i % 1024))) target in
+              let here : IsEnd d q.to (i % 1024) = record { within = least.index.place; is = arrives } in
+              let place = one_place d asked.listed q.to (i % 1024) to here asked.end in
+              omega (arith, same, place, asked.at, asked.end.within, asked.listed.few)
 
-        -- the leg of a state that is its only target is closed when that is settled
-        closes : IsRaised stands i floor → IsClosed d q (labels_of (nodes ++ (node ∷ []))) (floor / 1024)
-        closes raised low router target none =
-            let s : State = record { leg = floor / 1024; router = router } in
-            let leg : floor / 1024 ≡ i / 1024 + 1 = omega (arith, raised.next) in
-            let at = index_for d q asked.listed s (target_known (floor / 1024) router low target) low (omega (arith, leg, least.index.low)) in
-            let there = (told.each at.0 nothing at.1).target.1 (subst (λ (t : State). IsTarget d q t.leg t.router) at.2 target) in
-            let same : at.0 ≡ i = raised.alone at.0 (omega (arith, leg, ap (λ (t : State). t.leg) at.2)) there in
-            let is_state : state_of node ≡ s = state ∙ ap (state_at d) (sym same) ∙ sym at.2 in
-            let found = ap (index_of (nodes ++ (node ∷ []))) (sym is_state) ∙ index_new nodes node before.arena.apart stepped.0.apart in
-            let open_there = open_index (nodes ++ (node ∷ [])) s none in
-            cc
+          -- the leg of a state is closed when each of its targets is settled
+          closes : IsRaised stands after i floor → IsClosed d q (labels_of (nodes ++ (node ∷ []))) (floor / 1024)
+          closes raised low router target none =
+              let s : State = record { leg = floor / 1024; router = router } in
+              let leg : floor / 1024 ≡ i / 1024 + 1 = omega (arith, raised.next) in
+              let at = index_for d q asked.listed s (target_known (floor / 1024) router low target) low (omega (arith, leg, least.index.low)) in
+              let there = (told.each at.0 nothing at.1).target.1 (subst (λ (t : State). IsTarget d q t.leg t.router) at.2 target) in
+              let same : at.0 / 1024 ≡ i / 1024 = omega (arith, leg, ap (λ (t : State). t.leg) at.2) in
+              let behind : goal.floor ≤ at.0 = omega (arith, same, least.behind, are.whole) in
+              let zero = raised.settled at.0 same there in
+              let open_there = ap (index_of (nodes ++ (node ∷ []))) (sym at.2) ∙ open_index (nodes ++ (node ∷ [])) s none in
+              let some = open_rank d (nodes ++ (node ∷ [])) P (label_at after goal.at).rank (lift goal at.0) (state_at d at.0) (label_at after at.0) (are.each at.0 at.1 behind) open_there in
+              omega (arith, some, zero)
 
-        -- so the floor stays below the goal
-        pub floor_on : (i ≡ goal.at → ⊥) → (floor ≡ goal.floor) ⊎ IsRaised stands i floor
-            → IsFloor d q (labels_of (nodes ++ (node ∷ []))) (record { at = goal.at; floor = floor; bounds = goal.bounds })
-        floor_on off (inl same) = record {
-          low = omega (arith, same, before.floor.low);
-          shut = rw same (closed_still (goal.floor / 1024) before.floor.shut);
-        }
-        floor_on off (inr raised) = record {
-          low =
-              elim (cases_lt (i / 1024) (goal.at / 1024)) [
-                | inl lt ↦ omega (arith, lt, raised.next)
-                | inr ge ↦ absurd (off (last_alone raised (omega (arith, ge, least.index.low, ap (λ (t : State). t.leg) goal_end))))
-              ];
-          shut = closes raised;
-        }
+          -- so the floor stays below the goal
+          pub floor_on : (i ≡ goal.at → ⊥) → (floor ≡ goal.floor) ⊎ IsRaised stands after i floor
+              → IsFloor d q (labels_of (nodes ++ (node ∷ []))) (record { at = goal.at; floor = floor; bounds = goal.bounds })
+          floor_on off (inl same) = record {
+            low = omega (arith, same, before.floor.low);
+            shut = rw same (closed_still (goal.floor / 1024) before.floor.shut);
+          }
+          floor_on off (inr raised) = record {
+            low =
+                elim (cases_lt (i / 1024) (goal.at / 1024)) [
+                  | inl lt ↦ omega (arith, lt, raised.next)
+                  | inr ge ↦ absurd (off (last_alone raised (omega (arith, ge, least.index.low, ap (λ (t : State). t.leg) goal_end))))
+                ];
+            shut = closes raised;
+          }
 
-        -- and the labels go on above it
-        pub labels_on : (P : List Link → State → Type 0) (labels : List Label) (keys : List Key) → AreLabels d q (nodes ++ (node ∷ [])) P goal labels keys
-            → (floor ≡ goal.floor) ⊎ IsRaised stands i floor
-            → AreLabels d q (nodes ++ (node ∷ [])) P (record { at = goal.at; floor = floor; bounds = goal.bounds }) labels keys
-        labels_on P labels keys are choice =
-            let up : goal.floor ≤ floor = elim choice [ inl same ↦ omega (arith, same) | inr raised ↦ omega (arith, raised.next, least.behind) ] in
-            let next : Goal = record { at = goal.at; floor = floor; bounds = goal.bounds } in
-            record {
-              small = are.small;
-              bounds = are.bounds;
-              whole = elim choice [ inl same ↦ omega (arith, same, are.whole) | inr raised ↦ omega (arith, raised.next) ];
-              many = are.many;
-              each = λ j jx behind. are.each j jx (omega (arith, up, behind));
-              ordered = are.ordered;
-              keyed = All-weaker (IsKey d q goal) (IsKey d q next) (λ k key. record { some = key.some; most = key.most; index = key.index }) keys are.keyed;
-              waiting = λ j jx behind some most. are.waiting j jx (omega (arith, up, behind)) some most;
-            }
+          -- and the labels go on above it
+          pub labels_on : (floor ≡ goal.floor) ⊎ IsRaised stands after i floor
+              → AreLabels d q (nodes ++ (node ∷ [])) P (record { at = goal.at; floor = floor; bounds = goal.bounds }) after left
+          labels_on choice =
+              let up : goal.floor ≤ floor = elim choice [ inl same ↦ omega (arith, same) | inr raised ↦ omega (arith, raised.next, least.behind) ] in
+              let next : Goal = record { at = goal.at; floor = floor; bounds = goal.bounds } in
+              record {
+                small = are.small;
+                bounds = are.bounds;
+                whole = elim choice [ inl same ↦ omega (arith, same, are.whole) | inr raised ↦ omega (arith, raised.next) ];
+                many = are.many;
+                each = λ j jx behind. are.each j jx (omega (arith, up, behind));
+                ordered = are.ordered;
+                keyed = All-weaker (IsKey d q goal) (IsKey d q next) (λ k key. record { some = key.some; most = key.most; index = key.index }) left are.keyed;
+                waiting = λ j jx behind some most. are.waiting j jx (omega (arith, up, behind)) some most;
+              }
 
 -- what a list of labels is when a slice of all of it was written
 pub put_back : (len : ℕ) (new lent labels : List Label) (i : ℕ) (label : Label) → length new ≡ length lent → lent ≡ set labels i label → len ≡ length labels

@@ -58,12 +58,6 @@ AreStandsBelow d q below stands =
     (i : ℕ) (e : Stand) → i < below → i % 1024 < length (router_list d)
     → IsStand d q (state_at d i) (slice_index_or stands i e)
 
--- the floor is behind the leg of a state, which is the only target of its leg
-pub record IsRaised (stands : List Stand) (at floor : ℕ) : Type 0 where
-  pub target : IsTrue (slice_index_or stands at nothing).target
-  pub next : floor ≡ at - at % 1024 + 1024
-  pub alone : (i : ℕ) → i / 1024 ≡ at / 1024 → IsTrue (slice_index_or stands i nothing).target → i ≡ at
-
 -- a node for the indexes past the end of a list
 abbrev pub nowhere : Node
 nowhere = record { parent = 0; by = None; leg = 0; router = 0; cost = 0; links = 0 }
@@ -152,6 +146,18 @@ no_label = record { rank = 18446744073709551615; parent = 0; place = 0; row = 0 
 
 abbrev pub label_at : List Label → ℕ → Label
 label_at labels i = slice_index_or labels i no_label
+
+-- each target of the leg of a state has the label of a settled state
+abbrev pub AreTargetsSettled : List Stand → List Label → ℕ → Type 0
+AreTargetsSettled stands labels at =
+    (i : ℕ) → i / 1024 ≡ at / 1024 → IsTrue (slice_index_or stands i nothing).target
+    → (label_at labels i).rank ≡ 0
+
+-- the floor is behind the leg of a state, where each target is settled
+pub record IsRaised (stands : List Stand) (labels : List Label) (at floor : ℕ) : Type 0 where
+  pub target : IsTrue (slice_index_or stands at nothing).target
+  pub next : floor ≡ at - at % 1024 + 1024
+  pub settled : AreTargetsSettled stands labels at
 
 -- what a key of a state asks
 pub record IsKey (d : Database) (q : Request) (goal : Goal) (key : Key) : Type 0 where

@@ -196,7 +196,7 @@ fn reached(
             index,
             at,
         )?;
-        goal.floor = raised(&stands, goal.floor, at);
+        goal.floor = raised(&stands, &labels, goal.floor, at);
     }
     Ok(nodes)
 }

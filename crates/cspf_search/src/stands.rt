@@ -1,8 +1,9 @@
 ghost use Rattle.std.specs.Prelude.{◌≡◌, ℕ, true, ◌+◌, ◌-◌, ◌*◌, ◌/◌, ◌%◌, ◌<◌, ◌≤◌, ◌↔◌, ◌⊎◌, IsTrue, IfOk, length, slice_get, slice_index_or};
 ghost use Rattle.cspf_db.specs.Index.{router_list};
 ghost use Rattle.cspf_db.specs.Targets.{IsLoose};
-ghost use Rattle.cspf_search.specs.Frontier.{IsRaised, IsStand, AreStands, AreStandsBelow, nothing, state_at};
+ghost use Rattle.cspf_search.specs.Frontier.{AreTargetsSettled, IsRaised, IsStand, AreStands, AreStandsBelow, nothing, state_at};
 
+use crate::labels::Label;
 use cspf_addr::Addr;
 use cspf_db::{Request, Table};
 use cspf_graph::member_at;
@@ -95,28 +96,28 @@ pub(crate) fn stands(
     Ok(stands)
 }
 
-/// Whether no other state of its leg is a target.
-fn is_alone(stands: &[Stand], at: usize) -> bool
-    requires { at - at % 1024 + 1024 ≤ length stands.now }
-    ensures { result ≡ true → (i : ℕ) → i / 1024 ≡ at / 1024
-        → IsTrue (slice_index_or stands.now i nothing).target → i ≡ at }
+/// Whether each target of the leg of a state is settled.
+fn are_settled(stands: &[Stand], labels: &[Label], at: usize) -> bool
+    requires within { at - at % 1024 + 1024 ≤ length stands.now }
+    requires many { length labels.now ≡ length stands.now }
+    ensures { result ≡ true → AreTargetsSettled stands.now labels.now at }
 {
     let first = at - at % 1024;
     for index in first..first + 1024 {
-        if index != at && stands[index].target {
+        if stands[index].target && labels[index].rank != 0 {
             return false;
         }
     }
     true
 }
 
-/// The floor once the state at an index is settled: where it is the only target of its leg, behind
-/// that leg.
-pub(crate) fn raised(stands: &[Stand], floor: usize, at: usize) -> usize
-    requires { at - at % 1024 + 1024 ≤ length stands.now }
-    ensures { (result ≡ floor) ⊎ IsRaised stands.now at result }
+/// The floor once the state at an index is settled: where each target of its leg is, behind that leg.
+pub(crate) fn raised(stands: &[Stand], labels: &[Label], floor: usize, at: usize) -> usize
+    requires within { at - at % 1024 + 1024 ≤ length stands.now }
+    requires many { length labels.now ≡ length stands.now }
+    ensures { (result ≡ floor) ⊎ IsRaised stands.now labels.now at result }
 {
-    if stands[at].target && is_alone(stands, at) {
+    if stands[at].target && are_settled(stands, labels, at) {
         at - at % 1024 + 1024
     } else {
         floor

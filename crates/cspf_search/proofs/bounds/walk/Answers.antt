@@ -1,4 +1,4 @@
-use Rattle.std.proofs.Common.{◌≡◌, ◌+◌, ◌-◌, ◌<◌, inl, inr, subst, sym, arith}
+use Rattle.std.proofs.Common.{◌≡◌, ◌+◌, ◌-◌, inl, inr, subst, sym, arith}
 use Rattle.cspf_search.specs.Arrivals.{arrival_at}
 use Rattle.cspf_search.specs.Bounds.{IsPassed}
 use Rattle.cspf_search.proofs.Arrived.{follows_none, follows_step}

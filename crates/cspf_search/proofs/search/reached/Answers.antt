@@ -1,4 +1,4 @@
-use Rattle.std.proofs.Common.{◌≡◌, ◌⊎◌, inl, inr, [], ◌∷◌, ◌++◌, ◌+◌, ◌-◌, ◌*◌, length, replicate, refl, sym, ap, ◌∙◌, heap_items, arith}
+use Rattle.std.proofs.Common.{◌≡◌, [], ◌∷◌, ◌++◌, ◌+◌, ◌-◌, ◌*◌, length, replicate, refl, ap, ◌∙◌, heap_items, arith}
 use Rattle.std.proofs.lemmas.List.{get_or_read, length_push}
 use Rattle.std.specs.Vec.{with_item, with_items}
 use Rattle.cspf_db.specs.Index.{links_of}
@@ -6,7 +6,7 @@ use Rattle.cspf_search.specs.declared.labels.Label.{Label}
 use Rattle.cspf_search.specs.Rounds.{CrossesBelow}
 use Rattle.cspf_search.specs.Arena.{labels_of, root_of}
 use Rattle.cspf_search.specs.Bounds.{AreBounds}
-use Rattle.cspf_search.specs.Frontier.{no_label, node_of}
+use Rattle.cspf_search.specs.Frontier.{AreLabels, no_label, node_of}
 use Rattle.cspf_search.proofs.Grown.{root_nodes, root_settled}
 use Rattle.cspf_search.proofs.Popped.{first_labels}
 use Rattle.cspf_search.proofs.Reached.{IsAsked, IsUnderWay, ended, first_floor, first_left, stepped, stepped_few, node_there, at_goal, settle, still_left, floor_on, labels_on, put_back}
@@ -271,7 +271,11 @@ loop-at-preserved c =
     put_back c.loop-at.labels.len c.expand-in-Some.new.labels c.deref_mut-in-Some.result.now c.loop-at.labels.items c.in-Some.at (record { rank = 0; parent = 0; place = 0; row = 0 }) c.expand-in-Some.auto.labels
     c.deref_mut-in-Some.ensures.value c.loop-at.labels.ok.0 in
     let told = c.in_ok-stands.ensures in
-    let choice = rw c.deref-in-Some-4.ensures.value at c.raised.ensures in
+    let choice = rw (c.deref-in-Some-4.ensures.value, c.deref-in-Some-5.ensures.value) at c.raised.ensures in
+    let on : AreLabels c.args.table.now c.args.request.now (c.loop-at.nodes.items ++ (c.node_of-node.result ∷ []))
+    (CrossesBelow c.args.table.now c.args.request.now (c.loop-at.nodes.items ++ (c.node_of-node.result ∷ [])) (links_of c.args.table.now) (length (c.loop-at.nodes.items ++ (c.node_of-node.result ∷ []))))
+    c.loop-at.goal (with_items (with_item c.loop-at.labels c.in-Some.at (record { rank = 0; parent = 0; place = 0; row = 0 })) c.expand-in-Some.new.labels).items (heap_items c.expand-in-Some.new.heap) =
+    rw (put, length_push nodes node) after in
     rw c.in_ok-extend_from_slice.ensures.items (record {
       asked = record {
         links = asked.links;
@@ -288,11 +292,14 @@ loop-at-preserved c =
       few = stepped_few d q c.args.legs c.args.from c.args.to c.loop-at.goal asked nodes labels keys before at rest least node is;
       settled = new.1;
       left = still_left d q c.args.legs c.args.from c.args.to c.loop-at.goal asked nodes labels keys before at rest least node is c.if-at-goal.false;
-      floor = floor_on d q c.args.legs c.args.from c.args.to c.loop-at.goal asked nodes labels keys before at rest least node is c.in_ok-stands.stands.items told c.raised.result c.if-at-goal.false choice;
+      floor =
+          floor_on d q c.args.legs c.args.from c.args.to c.loop-at.goal asked nodes labels keys before at rest least node is c.in_ok-stands.stands.items told c.raised.result (CrossesBelow d q (nodes ++ (node ∷ [])) (links_of d) (length (nodes ++ (node ∷ []))))
+          (with_items (with_item c.loop-at.labels c.in-Some.at (record { rank = 0; parent = 0; place = 0; row = 0 })) c.expand-in-Some.new.labels).items (heap_items c.expand-in-Some.new.heap)
+          on c.if-at-goal.false choice;
       labels =
           labels_on d q c.args.legs c.args.from c.args.to c.loop-at.goal asked nodes labels keys before at rest least node is c.in_ok-stands.stands.items told c.raised.result (CrossesBelow d q (nodes ++ (node ∷ [])) (links_of d) (length (nodes ++ (node ∷ []))))
           (with_items (with_item c.loop-at.labels c.in-Some.at (record { rank = 0; parent = 0; place = 0; row = 0 })) c.expand-in-Some.new.labels).items (heap_items c.expand-in-Some.new.heap)
-          (rw (put, length_push nodes node) after) choice;
+          on choice;
     })
 
 pub returns-clause-whole : goal.returns-clause-whole
