@@ -1,5 +1,5 @@
 -- A run over rows, as far as it has come.
-use Rattle.std.proofs.Common.{◌≡◌, ◌≢◌, ℕ, ◌+◌, ◌<◌, ◌≤◌, Bool, true, false, List, [], ◌∷◌, ◌++◌, take, length, length-append, Option, Some, None, IfSome, inl, inr, refl, sym, ap, ◌∙◌, append_assoc, append-nil, arith}
+use Rattle.std.proofs.Common.{◌≡◌, ◌≢◌, ℕ, ◌+◌, ◌<◌, ◌≤◌, Bool, true, false, List, [], ◌∷◌, ◌++◌, take, length, length-append, Option, Some, None, IfSome, option_map, Result, Ok, Err, IfOk, IfErr, inl, inr, refl, sym, ap, subst, ◌∙◌, append_assoc, append-nil, arith}
 use Rattle.std.proofs.KnownBytes.{Appends-nil, Appends-trans, Appends-kept, Keeps-refl}
 use Rattle.std.proofs.lemmas.Bool.{lt-ltb, le-ltb}
 use Rattle.std.proofs.lemmas.List.{take_all, take_at, length-take-le}
@@ -294,3 +294,17 @@ halted_at_start (Some text) old = (
   },
   Appends-nil old,
 )
+
+-- what is said of the rows that a stream is read as, where its bytes are known
+
+pub ok_of_rows : {T E A B : Type 0} (r : Result T E) (o : Option A) (p : Option B) (f : A → B) (Q : T → B → Type 0) → p ≡ option_map f o
+    → IfOk r (λ x. IfSome p (Q x)) → IfOk r (λ x. IfSome o (λ a. Q x (f a)))
+ok_of_rows (Ok x) None p f Q e h = tt
+ok_of_rows (Ok x) (Some a) p f Q e h = subst (λ p. IfSome p (Q x)) e h
+ok_of_rows (Err y) o p f Q e h = tt
+
+pub err_of_rows : {T E A B : Type 0} (r : Result T E) (o : Option A) (p : Option B) (f : A → B) (Q : E → B → Type 0) → p ≡ option_map f o
+    → IfErr r (λ x. IfSome p (Q x)) → IfErr r (λ x. IfSome o (λ a. Q x (f a)))
+err_of_rows (Ok x) o p f Q e h = tt
+err_of_rows (Err y) None p f Q e h = tt
+err_of_rows (Err y) (Some a) p f Q e h = subst (λ p. IfSome p (Q y)) e h
