@@ -14,8 +14,11 @@ use std::alloc::{AllocError, Global};
 use std::cmp::Reverse;
 use std::collections::BinaryHeap;
 
-/// At most so many routers are taken in a leg.
+/// At most so many routers are taken in the last leg.
 const RING: usize = 32;
+
+/// At most so many routers are taken in a leg to a hop, since more is searched before it ends.
+const WIDE: usize = 64;
 
 /// What is ahead of a router that waits, and its index in the list of routers.
 type Waiting = Reverse<(u32, u16)>;
@@ -142,12 +145,13 @@ fn nearest(near: &[u32], done: &[bool], heap: &mut BinaryHeap<Waiting, Global>) 
     None
 }
 
-/// Takes the routers that wait, nearest first.
+/// Takes the routers that wait, nearest first, and so many at most.
 fn grow(
     table: &Table,
     request: &Request,
     arrivals: &[Arrival],
     last: &[u32],
+    most: usize,
     near: &mut [u32],
     done: &mut [bool],
     heap: &mut BinaryHeap<Waiting, Global>,
@@ -159,7 +163,7 @@ fn grow(
     ensures ring { OnOk result (IsRing table.now request.now near.new done.new) }
     ensures lower { OnOk result (IsLower near.old near.new) }
 {
-    for _taken in 0..RING {
+    for _taken in 0..most {
         let Some(to) = nearest(near, done, heap) else {
             return Ok(());
         };
@@ -240,7 +244,8 @@ fn leg_edge(
     done.fill(false);
     heap.clear();
     begin(stands, leg * 1024, ahead, near, heap)?;
-    grow(table, request, arrivals, last, near, done, heap)?;
+    let most = if leg < request.hops.len() { WIDE } else { RING };
+    grow(table, request, arrivals, last, most, near, done, heap)?;
     Ok(edge(near, done))
 }
 
