@@ -52,10 +52,11 @@ pub record AreStands (d : Database) (q : Request) (stands : List Stand) : Type 0
 abbrev pub nothing : Stand
 nothing = record { inside = false; target = false }
 
--- so it is for each router in the legs, as far as an index
-abbrev pub AreStandsBelow : Database → Request → ℕ → List Stand → Type 0
-AreStandsBelow d q below stands =
-    (i : ℕ) (e : Stand) → i < below → i % 1024 < length (router_list d)
+-- so it is for the routers before an index in each leg, and for the one there in the first legs
+abbrev pub AreStandsUpTo : Database → Request → ℕ → ℕ → List Stand → Type 0
+AreStandsUpTo d q place legs stands =
+    (i : ℕ) (e : Stand) → IsStateIndex d q i
+    → (i % 1024 < place) ⊎ ((i % 1024 ≡ place) × (i / 1024 < legs))
     → IsStand d q (state_at d i) (slice_index_or stands i e)
 
 -- a node for the indexes past the end of a list

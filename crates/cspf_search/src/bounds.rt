@@ -145,13 +145,14 @@ fn nearest(near: &[u32], done: &[bool], heap: &mut BinaryHeap<Waiting, Global>) 
     None
 }
 
-/// Takes the routers that wait, nearest first, and so many at most.
+/// Takes the routers that wait, nearest first, and so many at most, of which less than this is ahead.
 fn grow(
     table: &Table,
     request: &Request,
     arrivals: &[Arrival],
     last: &[u32],
     most: usize,
+    top: u32,
     near: &mut [u32],
     done: &mut [bool],
     heap: &mut BinaryHeap<Waiting, Global>,
@@ -167,26 +168,31 @@ fn grow(
         let Some(to) = nearest(near, done, heap) else {
             return Ok(());
         };
+        if near[to] >= top {
+            return Ok(());
+        }
         take(table, request, arrivals, last, to, near, done, heap)?;
     }
     Ok(())
 }
 
 /// Has the targets of a leg wait, each with what is ahead of it in the next leg, which is nothing in
-/// the last one. The states of the leg begin at an index.
+/// the last one. The states of the leg begin at an index. It answers from where on it is no use to
+/// look further: where there are more targets than are taken, from the farthest of them on.
 fn begin(
     stands: &[Stand],
     first: usize,
     ahead: &[u32],
     near: &mut [u32],
     heap: &mut BinaryHeap<Waiting, Global>,
-) -> Result<(), AllocError>
+) -> Result<u32, AllocError>
     requires within { first + 1024 ≤ length stands.now }
     requires near { length near.old ≡ 1024 }
     ensures { OnOk result ((p : ℕ) (e : Stood) → p < 1024
         → IsTrue (slice_index_or stands.now (first + p) e).target
         → bound_at near.new p ≤ bound_at ahead.now p) }
 {
+    let mut top = 0;
     for place in 0..1024 {
         if stands[first + place].target {
             let least = match ahead.get(place) {
@@ -195,9 +201,10 @@ fn begin(
             };
             near[place] = least;
             heap.push(Reverse((least, place as u16)))?;
+            top = least.max(top);
         }
     }
-    Ok(())
+    Ok(if heap.len() > WIDE { top } else { u32::MAX })
 }
 
 /// The least that is ahead of a router that isn't done.
@@ -243,9 +250,9 @@ fn leg_edge(
     near.fill(u32::MAX);
     done.fill(false);
     heap.clear();
-    begin(stands, leg * 1024, ahead, near, heap)?;
+    let top = begin(stands, leg * 1024, ahead, near, heap)?;
     let most = if leg < request.hops.len() { WIDE } else { RING };
-    grow(table, request, arrivals, last, most, near, done, heap)?;
+    grow(table, request, arrivals, last, most, top, near, done, heap)?;
     Ok(edge(near, done))
 }
 

@@ -1,7 +1,7 @@
 ghost use Rattle.std.specs.Prelude.{◌≡◌, ℕ, true, ◌+◌, ◌-◌, ◌*◌, ◌/◌, ◌%◌, ◌<◌, ◌≤◌, ◌↔◌, ◌⊎◌, IsTrue, IfOk, length, slice_get, slice_index_or};
 ghost use Rattle.cspf_db.specs.Index.{router_list};
 ghost use Rattle.cspf_db.specs.Targets.{IsLoose};
-ghost use Rattle.cspf_search.specs.Frontier.{AreTargetsSettled, IsRaised, IsStand, AreStands, AreStandsBelow, nothing, state_at};
+ghost use Rattle.cspf_search.specs.Frontier.{AreTargetsSettled, IsRaised, IsStand, AreStands, AreStandsUpTo, nothing, state_at};
 
 use crate::labels::Label;
 use cspf_addr::Addr;
@@ -17,6 +17,12 @@ pub(crate) struct Stand {
     /// Whether the router is a target of the leg.
     pub(crate) target: bool,
 }
+
+/// Where a route may neither stand nor turn to the next leg.
+const NOTHING: Stand = Stand {
+    inside: false,
+    target: false,
+};
 
 /// Whether the leg is loose: one to a hop where the hop is, and the leg behind the last hop.
 fn is_loose(request: &Request, leg: usize) -> bool
@@ -44,7 +50,7 @@ fn is_target_before(request: &Request, stands: &[Stand], at: usize, router: Addr
 }
 
 /// What a route may do at the state at an index, where it is that of a router, and it is known of
-/// the states before.
+/// the router in the leg before.
 fn make_stand(
     table: &Table,
     request: &Request,
@@ -55,17 +61,16 @@ fn make_stand(
     requires within { at < (length request.now.hops + 1) * 1024 }
     requires listed { routers.now ≡ router_list table.now }
     requires known { at ≤ length stands.now }
-    requires before { AreStandsBelow table.now request.now at stands.now }
+    requires before { 1024 ≤ at → at % 1024 < length (router_list table.now)
+        → IsStand table.now request.now (state_at table.now (at - 1024))
+        (slice_index_or stands.now (at - 1024) nothing) }
     ensures { at % 1024 < length (router_list table.now)
         → IsStand table.now request.now (state_at table.now at) result }
 {
     let leg = at / 1024 + 1;
     let place = at % 1024;
     if place >= routers.len() {
-        return Stand {
-            inside: false,
-            target: false,
-        };
+        return NOTHING;
     }
     let router = routers[place];
     let target = member_at(table, place, leg, request);
@@ -75,7 +80,28 @@ fn make_stand(
     }
 }
 
-/// What a route may do at each router in each leg.
+/// Finds what a route may do at the router at an index in each leg.
+fn set_stands(
+    table: &Table,
+    request: &Request,
+    routers: &[Addr],
+    stands: &mut [Stand],
+    place: usize,
+)
+    requires within { place < 1024 }
+    requires listed { routers.now ≡ router_list table.now }
+    requires many { length stands.old ≡ (length request.now.hops + 1) * 1024 }
+    requires before { AreStandsUpTo table.now request.now place 0 stands.old }
+    ensures after { AreStandsUpTo table.now request.now (place + 1) 0 stands.new }
+{
+    for leg in 0..request.hops.len() + 1 {
+        let at = leg * 1024 + place;
+        stands[at] = make_stand(table, request, routers, stands, at);
+    }
+}
+
+/// What a route may do at each router in each leg, router by router, so that the links of each are
+/// looked up once for all legs.
 pub(crate) fn stands(
     alloc: Global,
     table: &Table,
@@ -87,11 +113,9 @@ pub(crate) fn stands(
     ensures { IfOk result (λ stands. AreStands table.now request.now stands.items) }
 {
     let routers = table.routers();
-    let count = legs * 1024;
-    let mut stands = Vec::with_capacity(alloc, count)?;
-    for at in 0..count {
-        let stand = make_stand(table, request, routers, &stands, at);
-        stands.push(stand)?;
+    let mut stands = Vec::from_elem(alloc, NOTHING, legs * 1024)?;
+    for place in 0..1024 {
+        set_stands(table, request, routers, &mut stands, place);
     }
     Ok(stands)
 }

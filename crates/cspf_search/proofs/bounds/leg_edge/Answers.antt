@@ -12,4 +12,4 @@ returns c =
     leg_of_ring d q c.args.leg c.grow.new.near c.grow.new.done c.edge.result listed said.ring c.edge.ensures c.args.ahead.now
     (λ p h target.
     let told = told_target d q c.args.stands.now c.args.leg p listed c.requires.stands c.requires.leg h target in
-    omega (arith, said.lower p, c.in_ok-begin.ensures p nothing (omega (arith, h, listed.few)) told))
+    omega (arith, said.lower p, c.in_ok-top.ensures p nothing (omega (arith, h, listed.few)) told))
