@@ -1,4 +1,3 @@
-use Rattle.std.proofs.Common.{◌≡◌, ◌+◌, ◌*◌, length}
 use Rattle.cspf_search.specs.Frontier.{AreStandsUpTo}
 use Rattle.cspf_search.proofs.stands.set_stands.Given as goal
 
