@@ -24,16 +24,16 @@ use Rattle.cspf_search.proofs.Expanded.{filter_short, there, leg, turn_index, tu
 
 -- the router that the end beside a link tells
 pub end_of_row : (d : Database) (ends : List ℕ) (links : List Link) → All (λ end. end < length (router_list d)) ends
-    → map (λ end. slice_index (router_list d) end) ends ≡ map (λ (l : Link). l.to) links → (row : ℕ) (l : Link) (end : ℕ) → row < length links
-    → l ≡ slice_index_or links row l → end ≡ slice_index ends row → IsEnd d l.to end
-end_of_row d ends links within each row l end h is at =
-    let long : row < length ends =
+    → map (λ end. slice_index (router_list d) end) ends ≡ map (λ (l : Link). l.to) links → (i : ℕ) (l : Link) (end : ℕ) → i < length links
+    → l ≡ slice_index_or links i l → end ≡ slice_index ends i → IsEnd d l.to end
+end_of_row d ends links within each i l end h is at =
+    let long : i < length ends =
     omega (arith, h, ap (λ (ns : List ℕ). length ns) each, length-map ends (λ end. slice_index (router_list d) end), length-map links (λ (l : Link). l.to)) in
-    let left = get_or-map (λ end. slice_index (router_list d) end) ends row 0 0 long in
-    let right = get_or-map (λ (l : Link). l.to) links row l 0 h in
+    let left = get_or-map (λ end. slice_index (router_list d) end) ends i 0 0 long in
+    let right = get_or-map (λ (l : Link). l.to) links i l 0 h in
     record {
-      within = rw (← at) at (within row 0 long);
-      is = ap (λ e. slice_index (router_list d) e) at ∙ sym left ∙ ap (λ ns. slice_index_or ns row 0) each ∙ right ∙ ap (λ (l : Link). l.to) (sym is);
+      within = rw (← at) at (within i 0 long);
+      is = ap (λ e. slice_index (router_list d) e) at ∙ sym left ∙ ap (λ ns. slice_index_or ns i 0) each ∙ right ∙ ap (λ (l : Link). l.to) (sym is);
     }
 
 module _ (d : Database) (q : Request) (nodes : List Node) (are : AreNodes nodes) (listed : AreListed d) (at state : ℕ) (is : IsNodeAt d q nodes at state) (goal : Goal)

@@ -1,4 +1,4 @@
--- Private words of the search: for each state the least that is ahead of it in its leg.
+-- Private words of the search: what is ahead of each state at least.
 use Rattle.std.specs.Prelude.{◌≡◌, ℕ, ◌+◌, ◌*◌, ◌/◌, ◌%◌, ◌^◌, ◌<◌, ◌≤◌, min, Bool, true, false, Some, List, length, slice_get, slice_index, slice_index_or}
 use Rattle.cspf_db.specs.declared.link.Link.{Link}
 use Rattle.cspf_db.specs.declared.request.Request.{Request}

@@ -62,8 +62,7 @@ pub record Crosses (d : Database) (q : Request) (labels : Labels) (w : List Link
   pub step : IsStep d q front state w t
   pub still_open : labels t ≡ None
 
--- Each target of the leg is settled: what leads on from it or from a leg before it leads to nothing
--- behind it that isn't led to from there.
+-- Each target of the leg is settled, so a walk to any leg behind it goes on from a settled state.
 abbrev pub IsClosed : Database → Request → Labels → ℕ → Type 0
 IsClosed d q labels leg =
     1 ≤ leg → (router : ℕ) → IsTarget d q leg router → labels (record { leg = leg; router = router }) ≡ None → ⊥

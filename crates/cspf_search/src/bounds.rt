@@ -305,7 +305,7 @@ fn set_legs(
     Ok(())
 }
 
-/// For each state the least that is ahead of it, as far as it is known near the targets of its leg.
+/// For each state what is ahead of it at least, as far as it is known near the targets of its leg.
 pub(crate) fn bounds(
     alloc: Global,
     table: &Table,

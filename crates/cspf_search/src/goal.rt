@@ -9,7 +9,7 @@ pub(crate) struct Goal<'a> {
     /// The legs of the states below this index are closed: each target of the last of them is
     /// settled, so that no more is asked of their states.
     pub(crate) floor: usize,
-    /// For each state the least that is ahead of it in its leg.
+    /// For each state what is ahead of it at least.
     pub(crate) bounds: &'a [u32],
 }
 
