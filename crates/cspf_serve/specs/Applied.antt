@@ -1,5 +1,5 @@
 -- What batches leave that are applied in order, up to the first that is refused.
-use Rattle.std.specs.Prelude.{◌≡◌, ℕ, ◌<◌, ◌≤◌, List, [], ◌++◌, length, take, Option, Some, None, slice_get, flat_map}
+use Rattle.std.specs.Prelude.{◌≡◌, ℕ, ◌<◌, ◌≤◌, ◌⊎◌, List, [], ◌++◌, length, take, Option, Some, None, slice_get, flat_map}
 use Rattle.std.specs.Io.KnownBytes.{Appends}
 use Rattle.cspf_db.specs.Numbered.{NumberedChanges}
 use Rattle.cspf_rows.specs.BatchText.{batch_text}
@@ -32,9 +32,10 @@ pub record IsAppliedUpTo {W : Type 0} (contents : W → Option (List ℕ)) (befo
   pub first : AreApplied contents before between (take applied batches)
   pub stop : IsEndOfApplying contents between after batches applied fault
 
--- some first of these batches were published, and no others
-pub record IsAppliedInPart {W : Type 0} (before after : PublisherState W) (batches : List NumberedChanges) : Type 0 where
-  pub applied : ℕ
-  pub inside : applied ≤ length batches
-  pub source : after.source ≡ before.source
-  pub published : after.batches ≡ before.batches ++ take applied batches
+-- Nothing happened, or the first of these batches were applied as far as they go, however many they are: the journal
+-- grew by the texts of those that were published, and after a fault of it a beginning of one more is there and the
+-- publisher is stopped.
+abbrev pub IsAppliedInPart : {W : Type 0} → (W → Option (List ℕ)) → PublisherState W → PublisherState W → List NumberedChanges → Type 0
+IsAppliedInPart contents before after batches =
+    (after ≡ before)
+    ⊎ ((applied : ℕ) × (fault : Option ApplyError) × IsAppliedUpTo contents before after batches applied fault)

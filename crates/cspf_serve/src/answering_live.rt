@@ -130,7 +130,8 @@ fn run_lent<W: Write, G: Gate + Sync, R: Threads + Wait + Sync>(
         All (λ a. BeginsWith a.batches publisher.new.batches) result.0.items) }
     ensures applied { IfOk result.1 (λ all.
         IsAppliedUpTo W.contents publisher.old publisher.new batches.now all.1 all.2) }
-    ensures part { IfErr result.1 (λ e. IsAppliedInPart publisher.old publisher.new batches.now) }
+    ensures part { IfErr result.1 (λ e. IsAppliedInPart W.contents
+        publisher.old publisher.new batches.now) }
     ensures error { IfErr result.1 (λ e.
         IsFaultOfWorker e ⊎ IsUnaccounted (length publisher.new.batches) e) }
 {
@@ -160,7 +161,8 @@ fn run_lent<W: Write, G: Gate + Sync, R: Threads + Wait + Sync>(
 /// version is `Unaccounted`.
 ///
 /// The askers are of the publisher's own `open`. All of them are handed back in order, and so is the
-/// publisher, after an error too. Some first batches may then have been applied.
+/// publisher, after an error too. Batches may then have been applied as far as they go, and a fault of
+/// the journal may have stopped the publisher.
 pub fn run_live<W: Write, G: Gate + Sync, R: Threads + Wait + Sync>(
     rt: &R,
     alloc: Global,
@@ -184,7 +186,8 @@ pub fn run_live<W: Write, G: Gate + Sync, R: Threads + Wait + Sync>(
         publisher live.publisher batches.now live.applied live.fault) }
     ensures error { IfErr result (λ e.
         IsFaultOfWorker e.0 ⊎ IsUnaccounted (length e.1.batches) e.0) }
-    ensures part { IfErr result (λ e. IsAppliedInPart publisher e.1 batches.now) }
+    ensures part { IfErr result (λ e.
+        IsAppliedInPart W.contents publisher e.1 batches.now) }
     ensures back { IfErr result (λ e. AreSameAskers askers.items e.2.items) }
 {
     let mut publisher = publisher;
