@@ -11,6 +11,7 @@ pub mod Asked
 pub mod Shares
 pub mod Filling
 pub mod Running
+pub mod Strays
 pub mod Joining
 pub mod Applying
 pub mod Telling

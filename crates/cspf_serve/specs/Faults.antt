@@ -1,6 +1,14 @@
 -- Which fault stops a run under which name.
+use Rattle.cspf_publish.specs.declared.errors.AskError.{AskError}
+use Rattle.cspf_publish.specs.declared.errors.AskError.TheVariants as ask
+use Rattle.cspf_publish.specs.declared.errors.OpenError.{OpenError}
+use Rattle.cspf_publish.specs.declared.errors.OpenError.TheVariants as open_error
 use Rattle.cspf_rows.specs.declared.record_error.RecordError.{RecordError}
 use Rattle.cspf_rows.specs.declared.record_error.RecordError.TheVariants as fault
+use Rattle.cspf_serve.specs.declared.run_error.RunError.{RunError}
+use Rattle.cspf_serve.specs.declared.run_error.RunError.TheVariants as run
+use Rattle.cspf_serve.specs.declared.serve_error.ServeError.{ServeError}
+use Rattle.cspf_serve.specs.declared.serve_error.ServeError.TheVariants as serve
 use Rattle.cspf_serve.specs.declared.solve_error.SolveError.{SolveError}
 use Rattle.cspf_serve.specs.declared.solve_error.SolveError.TheVariants as error
 
@@ -8,3 +16,14 @@ use Rattle.cspf_serve.specs.declared.solve_error.SolveError.TheVariants as error
 abbrev pub stop_of : RecordError → SolveError
 stop_of fault.Memory = error.Memory
 stop_of fault.Device = error.Read
+
+-- what a worker meets where it asks keeps its name
+abbrev pub asking_fault_of : AskError → ServeError
+asking_fault_of ask.NoEntry = serve.NoEntry
+asking_fault_of ask.Memory = serve.Memory
+
+-- what a refused opening is to a run, which has as many workers as may ask
+abbrev pub opening_fault_of : OpenError → RunError
+opening_fault_of open_error.Askers = run.Places
+opening_fault_of open_error.Memory = run.Memory
+opening_fault_of open_error.Places = run.Places

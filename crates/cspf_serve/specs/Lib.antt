@@ -12,6 +12,7 @@ pub mod BatchStops
 pub mod Served
 pub mod Working
 pub mod Collected
+pub mod Strays
 pub mod Applied
 pub mod AnswerLines
 pub mod LiveWords

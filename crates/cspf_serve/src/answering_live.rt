@@ -3,6 +3,7 @@ ghost use Rattle.cspf_publish.specs.Histories.{BeginsWith};
 ghost use Rattle.cspf_serve.specs.Served.{AreAnsweredByWorkers, AreAnswersWithin, AreSameAskers, IsFaultOfWorker, IsUnaccounted};
 ghost use Rattle.cspf_serve.specs.Applied.{IsAppliedUpTo, IsAppliedInPart};
 ghost use Rattle.cspf_serve.specs.Working.{AreRun, IsIdle};
+ghost use Rattle.cspf_serve.specs.Strays.{IsFirstStray};
 
 use crate::askers::tell_each;
 use crate::finishing::{Collected, finish};
@@ -91,7 +92,7 @@ fn run_beside<W: Write, G: Gate + Sync, R: Threads + Wait + Sync>(
 /// The first answer of a version that isn't published.
 fn unaccounted(list: &[Answer], version: u32) -> Option<ServeError>
     ensures none { IfNone result (All (λ a. a.version ≤ version) list.now) }
-    ensures some { IfSome result (λ e. IsUnaccounted version e) }
+    ensures some { IfSome result (IsFirstStray list.now (λ v. v ≤ version)) }
 {
     for index in 0..list.len() {
         let answer = &list[index];
@@ -133,7 +134,8 @@ fn run_lent<W: Write, G: Gate + Sync, R: Threads + Wait + Sync>(
     ensures part { IfErr result.1 (λ e. IsAppliedInPart W.contents
         publisher.old publisher.new batches.now) }
     ensures error { IfErr result.1 (λ e.
-        IsFaultOfWorker e ⊎ IsUnaccounted (length publisher.new.batches) e) }
+        IsFaultOfWorker e
+        ⊎ IsUnaccounted (length requests.now) (length publisher.new.batches) e) }
 {
     let Ok(room) = Room::new(alloc, askers.len()) else {
         return (askers, Err(ServeError::Memory));
@@ -185,9 +187,9 @@ pub fn run_live<W: Write, G: Gate + Sync, R: Threads + Wait + Sync>(
     ensures applied { IfOk result (λ live. IsAppliedUpTo W.contents
         publisher live.publisher batches.now live.applied live.fault) }
     ensures error { IfErr result (λ e.
-        IsFaultOfWorker e.0 ⊎ IsUnaccounted (length e.1.batches) e.0) }
-    ensures part { IfErr result (λ e.
-        IsAppliedInPart W.contents publisher e.1 batches.now) }
+        IsFaultOfWorker e.0
+        ⊎ IsUnaccounted (length requests.now) (length e.1.batches) e.0) }
+    ensures part { IfErr result (λ e. IsAppliedInPart W.contents publisher e.1 batches.now) }
     ensures back { IfErr result (λ e. AreSameAskers askers.items e.2.items) }
 {
     let mut publisher = publisher;

@@ -33,11 +33,9 @@ impl From<AllocError> for RunError {
 
 impl From<OpenError> for RunError {
     ghost use Rattle.std.specs.Prelude.{◌≡◌};
-    ghost use Rattle.cspf_publish.specs.declared.errors.OpenError.TheVariants as open_error;
-    ghost use Rattle.cspf_serve.specs.declared.run_error.RunError.TheVariants.{Memory, Places};
+    ghost use Rattle.cspf_serve.specs.Faults.{opening_fault_of};
 
-    ghost from_gives = { λ refused error. (refused ≡ open_error.Memory → error ≡ Memory)
-        × (refused ≡ open_error.Places → error ≡ Places) };
+    ghost from_gives = { λ refused error. error ≡ opening_fault_of refused };
 
     fn from(refused: OpenError) -> RunError {
         match refused {
@@ -45,5 +43,16 @@ impl From<OpenError> for RunError {
             // A run has 1 to 64 workers, which are as many as may ask.
             OpenError::Askers | OpenError::Places => RunError::Places,
         }
+    }
+}
+
+impl From<ServeError> for RunError {
+    ghost use Rattle.std.specs.Prelude.{◌≡◌};
+    ghost use Rattle.cspf_serve.specs.declared.run_error.RunError.TheVariants.{Serve};
+
+    ghost from_gives = { λ fault error. error ≡ Serve fault };
+
+    fn from(fault: ServeError) -> RunError {
+        RunError::Serve(fault)
     }
 }

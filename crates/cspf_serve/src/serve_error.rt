@@ -1,3 +1,4 @@
+use cspf_publish::AskError;
 use std::alloc::AllocError;
 use thiserror::Error;
 
@@ -43,5 +44,19 @@ impl From<AllocError> for ServeError {
 
     fn from(_refused: AllocError) -> ServeError {
         ServeError::Memory
+    }
+}
+
+impl From<AskError> for ServeError {
+    ghost use Rattle.std.specs.Prelude.{◌≡◌};
+    ghost use Rattle.cspf_serve.specs.Faults.{asking_fault_of};
+
+    ghost from_gives = { λ fault error. error ≡ asking_fault_of fault };
+
+    fn from(fault: AskError) -> ServeError {
+        match fault {
+            AskError::NoEntry => ServeError::NoEntry,
+            AskError::Memory => ServeError::Memory,
+        }
     }
 }

@@ -6,7 +6,6 @@ ghost use Rattle.cspf_serve.specs.Working.{HasDone, AreShare, IsIdle, indexes};
 use crate::worker::{Reply, Worker};
 use crate::{Gate, ServeError};
 use cspf_db::Request;
-use cspf_publish::AskError;
 use std::alloc::Global;
 
 /// Asks one request, and keeps its answer.
@@ -25,19 +24,16 @@ fn serve_one<G: Gate>(
     ensures next { OnOk result (indexes worker.new.done.items
         ≡ indexes worker.old.done.items ++ index ∷ []) }
     ensures error { IfErr result IsFaultOfWorker }
+    // Where memory is refused, more may be known than before.
+    ensures no_entry { IfErr result (λ e. e ≡ ServeError.NoEntry → worker.new ≡ worker.old) }
 {
     gate.reached(number, index);
-    match worker.asker.ask(alloc, &requests[index]) {
-        Ok(answer) => {
-            gate.answered(number, index);
-            if worker.done.push(Reply { index, answer }).is_err() {
-                return Err(ServeError::Memory);
-            }
-            Ok(())
-        }
-        Err(AskError::NoEntry) => Err(ServeError::NoEntry),
-        Err(AskError::Memory) => Err(ServeError::Memory),
+    let answer = worker.asker.ask(alloc, &requests[index])?;
+    gate.answered(number, index);
+    if worker.done.push(Reply { index, answer }).is_err() {
+        return Err(ServeError::Memory);
     }
+    Ok(())
 }
 
 /// Answers the share of a worker of so many: the requests number, number + count and so on, up to

@@ -1,12 +1,14 @@
-use Rattle.std.proofs.Common.{rules, ◌≡◌, ◌≤◌, ℕ, List, All, length, sym, subst, ◌∙◌}
+use Rattle.std.proofs.Common.{rules, ◌≡◌, ◌≤◌, ℕ, List, All, length, inr, sym, subst, ◌∙◌}
 use Rattle.std.proofs.lemmas.Result.{IfOk-at_ok}
 use Rattle.cspf_publish.specs.declared.answer.Answer.{Answer}
 use Rattle.cspf_publish.specs.Histories.{BeginsWith}
 use Rattle.cspf_publish.specs.KnownBatches.{KnownBatches}
 use Rattle.cspf_publish.specs.PublisherStates.{PublisherState}
-use Rattle.cspf_serve.specs.Served.{AreSameAskers}
+use Rattle.cspf_serve.specs.Served.{AreAnsweredByWorkers, AreSameAskers, IsUnaccounted}
+use Rattle.cspf_serve.specs.Strays.{IsFirstStray}
 use Rattle.cspf_serve.specs.Working.{AreRun}
 use Rattle.cspf_serve.proofs.Running.{run_faults, run_inside, run_askers}
+use Rattle.cspf_serve.proofs.Strays.{unaccounted_of}
 use Rattle.cspf_serve.proofs.Telling.{answered_later, same_through, sources_kept, within_published}
 use Rattle.cspf_serve.proofs.answering_live.run_lent.Goals as goal
 
@@ -78,3 +80,15 @@ returns-in-None-clause-published g c =
     (same.count) c.tell_each.ensures.askers
     (IfOk-at_ok _ c.in-Ok-collected.is c.finish-askers.ensures.answers c.args.askers.items
     (subst (λ (before : List KnownBatches). AreRun c.args.requests.now before c.run_beside-done.result.0.items) c.employ-idle.ensures.askers c.run_beside-done.ensures.run)))
+
+pub returns-in-Some-clause-error : goal.returns-in-Some-clause-error
+returns-in-Some-clause-error g c =
+    let list = c.in-Ok-collected.collected.list.items in
+    let items : c.as_slice.result.now ≡ list = search rules in
+    let version : c.version.result ≡ length c.tell_each.new.publisher.batches = search rules in
+    let answered : AreAnsweredByWorkers c.args.requests.now c.args.askers.items c.finish-askers.result.0.items list c.in-Ok-collected.collected.drawn.items =
+    IfOk-at_ok _ c.in-Ok-collected.is c.finish-askers.ensures.answers c.args.askers.items
+    (subst (λ (before : List KnownBatches). AreRun c.args.requests.now before c.run_beside-done.result.0.items) c.employ-idle.ensures.askers c.run_beside-done.ensures.run) in
+    inr (subst (λ (n : ℕ). IsUnaccounted (length c.args.requests.now) n c.in-Some.error) version
+    (unaccounted_of list (length c.args.requests.now) c.version.result c.in-Some.error answered.count
+    (subst (λ (l : List Answer). IsFirstStray l (λ v. v ≤ c.version.result) c.in-Some.error) items c.in-Some.ensures.some)))
