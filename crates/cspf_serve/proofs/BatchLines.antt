@@ -1,5 +1,5 @@
 -- The lines of batches and of requests, and where a run over a journal ends early.
-use Rattle.std.proofs.Common.{◌≡◌, ℕ, suc, ◌<◌, ◌≤◌, Bool, Option, Some, None, IfSome, List, [], ◌∷◌, ◌++◌, take, drop, get_or, length, take-append-drop, drop-cons, inl, inr, refl, sym, ap, ◌∙◌, append_assoc, append-nil, Result, Ok, Err, IfErr}
+use Rattle.std.proofs.Common.{◌≡◌, ℕ, suc, ◌<◌, ◌≤◌, Bool, Option, Some, None, IfSome, List, [], ◌∷◌, ◌++◌, take, drop, get_or, length, take-append-drop, drop-cons, inl, inr, refl, sym, ap, ◌∙◌, append_assoc, append-nil, Result, Ok, Err, IfOk, IfErr}
 use Rattle.std.proofs.KnownBytes.{Appends-nil, Appends-trans, Appends-kept}
 use Rattle.std.specs.Io.KnownBytes.{Appends}
 use Rattle.std.specs.Io.KnownBytes as known
@@ -15,12 +15,13 @@ use Rattle.cspf_rows.specs.Records.{rows_of}
 use Rattle.cspf_serve.specs.declared.batch_refusal.BatchRefusal.TheVariants as refusal
 use Rattle.cspf_serve.specs.declared.batch_stop.Stop.{Stop}
 use Rattle.cspf_serve.specs.declared.batch_stop.Stop.TheVariants as stop
+use Rattle.cspf_serve.specs.declared.run_error.RunError.{RunError}
 use Rattle.cspf_serve.specs.declared.summary.Summary.{Summary}
 use Rattle.cspf_serve.specs.Lines.{refused_batch_line}
 use Rattle.cspf_serve.specs.Script.{IsRun}
 use Rattle.cspf_serve.specs.BatchRun.{Records, AreReplies, IsReplyTo, AreAccepted, IsOneUnfit, version_lines, AreBatchesOf, IsJournalRefused, AreRequestsOf, AreAnsweredTogether, IsBatchRun}
 use Rattle.cspf_serve.specs.BatchLaws.{IsCleanJournal, AreLinesOfAScript}
-use Rattle.cspf_serve.specs.BatchStops.{IfRefused, Writes, WritesAllBut}
+use Rattle.cspf_serve.specs.BatchStops.{IfRefused, Writes, WritesAllBut, IsRefusalWritten}
 
 -- one more request is answered
 replies_more : (d : Database) (version : ℕ) (qs : List Request) (q : Request) (lines line : List ℕ) → AreReplies d version qs lines
@@ -160,6 +161,16 @@ refused_written accept_torn None asked line old mid new run written = tt
 refused_written accept_torn (Some journal) None line old mid new run written = tt
 refused_written accept_torn (Some journal) (Some requests) line old mid new run written =
     (run.0 ++ line, run.1, Appends-trans old mid new run.0 line run.2 written)
+
+-- so a run that is refused answers 2
+pub refusal_written : (accept_torn : Bool) (kept asked : Option (List ℕ)) (s : Stop) (r : Result ℕ RunError) (old mid new : Option (List ℕ))
+    → IfRefused s (λ line. IsRefusedRun accept_torn kept asked line old mid) → IfOk r (λ status. status ≡ 2)
+    → IfOk r (λ status. IsRefusalWritten s mid new)
+    → IfOk r (λ status. IfSome kept (λ journal. IfSome asked (λ requests. Writes old new (λ lines. IsBatchRun accept_torn (rows_of journal) (rows_of requests) lines status))))
+refusal_written accept_torn kept asked s (Err e) old mid new refused two written = tt
+refusal_written accept_torn kept asked (stop.Failed error) (Ok status) old mid new refused two written = absurd written
+refusal_written accept_torn kept asked (stop.Refused line) (Ok status) old mid new refused two written =
+    rw two (refused_written accept_torn kept asked line.items old mid new refused written)
 
 -- what is written is the lines of a script
 pub script_written : AreLinesOfAScript → (accept_torn : Bool) (kept asked old new : Option (List ℕ)) → IsWholeRun accept_torn kept asked old new

@@ -23,12 +23,12 @@ use Rattle.cspf_serve.specs.Served.{AreAnswersWithin}
 use Rattle.cspf_serve.specs.Applied.{AreApplied, IsAppliedUpTo, IsEndOfApplying}
 use Rattle.cspf_serve.specs.AnswerLines.{AreAnswerLines}
 use Rattle.cspf_serve.specs.BatchRun.{AreBatchesOf, AreRequestsOf}
-use Rattle.cspf_serve.specs.BatchStops.{Writes, IfRefused}
+use Rattle.cspf_serve.specs.BatchStops.{Writes, IfRefused, IsRefusalWritten}
 use Rattle.cspf_serve.specs.declared.run_error.RunError.{RunError}
 use Rattle.cspf_serve.specs.declared.batch_stop.Stop.{Stop}
 use Rattle.cspf_serve.specs.declared.batch_stop.Stop.TheVariants as stop
 use Rattle.cspf_serve.specs.LiveRun.{IsWhyNot, begun_text, IsEndOfLiveRun, AreAnsweredLive, AreInputsRefused, IsLiveRun}
-use Rattle.cspf_serve.specs.LiveStops.{IsFaultShown, AreLiveLines, IsRefusalWritten}
+use Rattle.cspf_serve.specs.LiveStops.{IsFaultShown, AreLiveLines}
 use Rattle.cspf_serve.specs.LiveWords.{applied_line}
 use Rattle.cspf_serve.proofs.AnswerLines.{replies_within}
 use Rattle.cspf_serve.proofs.BatchLines.{numbers_of}

@@ -18,3 +18,4 @@ pub mod AnswerLines
 pub mod LiveWords
 pub mod LiveRun
 pub mod LiveStops
+pub mod RunFaults

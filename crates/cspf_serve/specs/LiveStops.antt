@@ -1,18 +1,10 @@
 -- Private: the lines of a live run, by what was answered and applied.
 use Rattle.std.specs.Prelude.{◌≡◌, ℕ, List, [], ◌++◌, Option, Some, None, slice_get}
-use Rattle.std.specs.Io.KnownBytes.{Appends}
 use Rattle.cspf_db.specs.Numbered.{NumberedChanges}
 use Rattle.cspf_publish.specs.declared.answer.Answer.{Answer}
 use Rattle.cspf_publish.specs.declared.errors.ApplyError.{ApplyError}
-use Rattle.cspf_serve.specs.declared.batch_stop.Stop.{Stop}
-use Rattle.cspf_serve.specs.declared.batch_stop.Stop.TheVariants as stop
 use Rattle.cspf_serve.specs.AnswerLines.{AreAnswerLines}
 use Rattle.cspf_serve.specs.LiveWords.{applied_line, unpublished_line}
-
--- the line was written by which something is refused
-abbrev pub IsRefusalWritten : Stop → Option (List ℕ) → Option (List ℕ) → Type 0
-IsRefusalWritten (stop.Refused line) old new = Appends old new line.items
-IsRefusalWritten (stop.Failed error) old new = ⊥
 
 -- the line of the batch that was refused, if any, and the status
 abbrev pub IsFaultShown : Option NumberedChanges → Option ApplyError → List ℕ → ℕ → Type 0

@@ -1,4 +1,4 @@
-ghost use Rattle.std.specs.Prelude.{◌≡◌, ◌+◌, ◌≤◌, ◌∷◌, ◌++◌, [], length, IfOk, IfErr, OnOk};
+ghost use Rattle.std.specs.Prelude.{◌≡◌, ◌+◌, ◌≤◌, ◌∷◌, ◌++◌, List, ℕ, [], length, IfOk, IfErr, OnOk, OnErr};
 ghost use Rattle.std.specs.Io.KnownBytes.{Appends};
 ghost use Rattle.std.specs.Io.KnownBytes.{Keeps as HoldsAsBefore};
 ghost use Rattle.cspf_db.specs.declared.refusal.Refusal.{Refusal as IsWhy};
@@ -9,7 +9,8 @@ ghost use Rattle.cspf_rows.specs.Journal.{AreNumberedFrom};
 ghost use Rattle.cspf_serve.specs.declared.batch_refusal.BatchRefusal.TheVariants.{Unfit as IsUnfit};
 ghost use Rattle.cspf_serve.specs.Lines.{version_line, refused_batch_line};
 ghost use Rattle.cspf_serve.specs.BatchRun.{version_lines, IsOneUnfit};
-ghost use Rattle.cspf_serve.specs.BatchStops.{IfRefused, WritesAllBut, IsOwnFaultLine};
+ghost use Rattle.cspf_serve.specs.BatchStops.{IfRefused, IfFailed, WritesAllBut, IsOwnFaultLine, IsFaultBeyond, IsPublishingFault};
+ghost use Rattle.cspf_serve.specs.RunFaults.{IsStreamFault};
 
 use crate::BatchRefusal;
 use crate::batch_put::put;
@@ -40,6 +41,7 @@ pub(crate) fn publish_all<J: Write, W: Write, R: Wait>(
     ensures err { AreNumberedFrom 1 batches.now → IfErr result (λ stop. IfRefused stop (λ line.
         WritesAllBut line (W.contents writer.old) (W.contents writer.new)
         (IsOneUnfit batches.now))) }
+    ensures failed { IfErr result (λ stop. IfFailed stop IsStreamFault) }
 {
     // Law: one more batch that fits keeps the batches lawful.
     lawful_batches();
@@ -71,6 +73,8 @@ fn publish<J: Write, W: Write, R: Wait>(
         × IsRefusal (database_after publisher.old.batches) batch.now why
         × (line ≡ refused_batch_line batch.now.number (IsUnfit why))
         × HoldsAsBefore (W.contents writer.old) (W.contents writer.new))) }
+    ensures failed { IfErr result (λ stop. IfFailed stop
+        (IsPublishingFault publisher.old publisher.new batch.now)) }
 {
     match publisher.apply(rt, alloc, batch) {
         Ok(version) => {
@@ -84,7 +88,10 @@ fn publish<J: Write, W: Write, R: Wait>(
 
 /// How a run ends at a batch that isn't published.
 fn stop_of(alloc: Global, number: u32, error: ApplyError) -> Result<Stop, AllocError>
-    ensures { IfOk result (λ stop. IfRefused stop (IsOwnFaultLine error number)) }
+    ensures refused { IfOk result (λ stop. IfRefused stop (IsOwnFaultLine error number)) }
+    ensures failed { IfOk result (λ stop. IfFailed stop (IsFaultBeyond error)) }
+    // Memory is taken for a line alone.
+    ensures memory { OnErr result ((line : List ℕ) × IsOwnFaultLine error number line) }
 {
     let refusal = match error {
         ApplyError::Exhausted => BatchRefusal::Exhausted,

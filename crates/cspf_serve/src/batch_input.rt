@@ -1,8 +1,9 @@
-ghost use Rattle.std.specs.Prelude.{◌≡◌, ◌≤◌, true, false, length, IfOk, IfErr, IfSome};
+ghost use Rattle.std.specs.Prelude.{◌≡◌, ◌≤◌, List, ℕ, true, false, length, IfOk, IfErr, OnErr, IfSome};
 ghost use Rattle.cspf_rows.specs.Records.{rows_of};
 ghost use Rattle.cspf_rows.specs.declared.journal.Rest.TheVariants.{Torn as IsTorn};
 ghost use Rattle.cspf_serve.specs.BatchRun.{torn_line, AreBatchesOf, IsJournalRefused, AreRequestsOf, AreRequestsRefused, IsFaultLine};
-ghost use Rattle.cspf_serve.specs.BatchStops.{IfRefused};
+ghost use Rattle.cspf_serve.specs.BatchStops.{IfRefused, IfFailed, IsJournalLine, IsJournalError, IsRequestsError};
+ghost use Rattle.cspf_serve.specs.RunFaults.{IsStreamFault};
 ghost use Rattle.cspf_serve.specs.LiveRun.{AreInputsRefused};
 
 use crate::batch_lines::{refused_request_line, torn_line};
@@ -27,12 +28,25 @@ pub(crate) fn batches_of<R: Read + Drop>(
     ensures err { IfErr result (λ stop. IfRefused stop (λ line.
         IfSome (R.remaining journal) (λ bytes.
         IsJournalRefused accept_torn (rows_of bytes) line))) }
+    ensures failed { IfErr result (λ stop. IfFailed stop IsStreamFault) }
 {
     match read_journal(alloc, journal) {
         Ok(journal) => whole_batches(alloc, journal, accept_torn),
-        Err(ReadError::TooManyRows) => Err(Stop::Refused(too_many_line(alloc)?)),
-        Err(ReadError::Memory) => Err(Stop::Failed(RunError::Memory)),
-        Err(ReadError::Device) => Err(Stop::Failed(RunError::Device)),
+        Err(error) => Err(journal_stop_of(alloc, error)?),
+    }
+}
+
+/// How a run ends whose journal can't be read.
+fn journal_stop_of(alloc: Global, error: ReadError) -> Result<Stop, AllocError>
+    ensures refused { IfOk result (λ stop. IfRefused stop (IsJournalLine error)) }
+    ensures failed { IfOk result (λ stop. IfFailed stop (IsJournalError error)) }
+    // Memory is taken for a line alone.
+    ensures memory { OnErr result ((line : List ℕ) × IsJournalLine error line) }
+{
+    match error {
+        ReadError::Memory => Ok(Stop::Failed(RunError::Memory)),
+        ReadError::Device => Ok(Stop::Failed(RunError::Device)),
+        ReadError::TooManyRows => Ok(Stop::Refused(too_many_line(alloc)?)),
     }
 }
 
@@ -42,6 +56,9 @@ fn whole_batches(alloc: Global, journal: Journal, accept_torn: bool) -> Result<V
         × (journal.rest ≡ IsTorn → accept_torn ≡ true)) }
     ensures err { IfErr result (λ stop. IfRefused stop (λ line. (journal.rest ≡ IsTorn)
         × (accept_torn ≡ false) × (line ≡ torn_line (length journal.batches.items)))) }
+    // Memory is taken for a line alone.
+    ensures failed { IfErr result (λ stop. IfFailed stop (λ e. (e ≡ RunError.Memory)
+        × (journal.rest ≡ IsTorn) × (accept_torn ≡ false))) }
 {
     match journal.rest {
         Rest::Torn if !accept_torn => {
@@ -58,16 +75,20 @@ pub(crate) fn requests_of<R: Read + Drop>(alloc: Global, requests: R) -> Result<
     ensures most { IfOk result (λ asked. length asked.items ≤ 1000000) }
     ensures err { IfErr result (λ stop. IfRefused stop (λ line.
         IfSome (R.remaining requests) (λ bytes. AreRequestsRefused (rows_of bytes) line))) }
+    ensures failed { IfErr result (λ stop. IfFailed stop IsStreamFault) }
 {
     match read_requests(alloc, requests) {
         Ok(requests) => Ok(requests),
-        Err(error) => Err(stop_of(alloc, error)?),
+        Err(error) => Err(requests_stop_of(alloc, error)?),
     }
 }
 
 /// How a run ends whose requests can't be read.
-fn stop_of(alloc: Global, error: RequestsError) -> Result<Stop, AllocError>
-    ensures { IfOk result (λ stop. IfRefused stop (IsFaultLine error)) }
+fn requests_stop_of(alloc: Global, error: RequestsError) -> Result<Stop, AllocError>
+    ensures refused { IfOk result (λ stop. IfRefused stop (IsFaultLine error)) }
+    ensures failed { IfOk result (λ stop. IfFailed stop (IsRequestsError error)) }
+    // Memory is taken for a line alone.
+    ensures memory { OnErr result ((line : List ℕ) × IsFaultLine error line) }
 {
     match error {
         RequestsError::Memory => Ok(Stop::Failed(RunError::Memory)),
@@ -105,6 +126,7 @@ pub(crate) fn inputs_of<R: Read + Drop, Q: Read + Drop>(
     ensures err { IfErr result (λ stop. IfRefused stop (λ line.
         IfSome (R.remaining updates) (λ kept. IfSome (Q.remaining requests) (λ asked.
         AreInputsRefused (rows_of kept) (rows_of asked) line)))) }
+    ensures failed { IfErr result (λ stop. IfFailed stop IsStreamFault) }
 {
     let batches = batches_of(alloc, updates, false)?;
     let requests = requests_of(alloc, requests)?;

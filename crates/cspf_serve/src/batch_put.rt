@@ -1,16 +1,35 @@
-ghost use Rattle.std.specs.Prelude.{OnOk};
+ghost use Rattle.std.specs.Prelude.{◌≡◌, IfOk, IfErr, OnOk};
 ghost use Rattle.std.specs.Io.KnownBytes.{Appends};
+ghost use Rattle.cspf_serve.specs.BatchStops.{IsRefusalWritten, IsLastError};
 
+use crate::batch_stop::Stop;
 use crate::run_error::RunError;
 use cspf_rows::put_all;
 use std::io::Write;
 
 /// Writes a line.
 pub(crate) fn put<W: Write>(line: &[u8], writer: &mut W) -> Result<(), RunError>
-    ensures { OnOk result (Appends (W.contents writer.old) (W.contents writer.new) line.now) }
+    ensures text { OnOk result (Appends (W.contents writer.old) (W.contents writer.new) line.now) }
+    ensures error { IfErr result (λ e. e ≡ RunError.Device) }
 {
     match put_all(writer, line) {
         Ok(()) => Ok(()),
         Err(_) => Err(RunError::Device),
+    }
+}
+
+/// Writes the line by which a run is refused, and answers its status.
+pub(crate) fn refuse<W: Write>(stop: Stop, writer: &mut W) -> Result<u8, RunError>
+    ensures status { IfOk result (λ status. status ≡ 2) }
+    ensures line { IfOk result (λ status.
+        IsRefusalWritten stop (W.contents writer.old) (W.contents writer.new)) }
+    ensures error { IfErr result (IsLastError stop) }
+{
+    match stop {
+        Stop::Refused(line) => {
+            put(&line, writer)?;
+            Ok(2)
+        }
+        Stop::Failed(error) => Err(error),
     }
 }

@@ -1,10 +1,13 @@
-ghost use Rattle.std.specs.Prelude.{◌≡◌, List, length, All, IfNone, IfOk, OnOk, vec_len, ◌<◌, ◌≤◌};
+ghost use Rattle.std.specs.Prelude.{◌≡◌, ◌≢◌, List, length, All, IfNone, IfSome, IfOk, IfErr, OnOk, vec_len, ◌<◌, ◌≤◌};
+ghost use Rattle.std.specs.Io.KnownBytes.{Keeps as HoldsAsBefore};
 ghost use Rattle.cspf_db.specs.Numbered.{NumberedChanges};
 ghost use Rattle.cspf_ero.specs.ReplyLine.{IsReply};
 ghost use Rattle.cspf_publish.specs.Histories.{BeginsWith};
 ghost use Rattle.cspf_search.specs.Outcome.{answer_of};
 ghost use Rattle.cspf_serve.specs.AnswerLines.{AreAnswerLines, AreAnswersAfter};
 ghost use Rattle.cspf_serve.specs.BatchStops.{Writes};
+ghost use Rattle.cspf_serve.specs.RunFaults.{IsStreamFault, IsAnsweringFault};
+ghost use Rattle.cspf_serve.specs.Strays.{IsFirstStray};
 
 use crate::batch_put::put;
 use crate::run_error::RunError;
@@ -28,22 +31,25 @@ pub(crate) fn answers_at<G: Gate + Sync, R: Threads + Sync>(
 ) -> Result<Vec<Answer>, RunError>
     requires askers { (0 < vec_len askers) × (vec_len askers ≤ 64) }
     requires requests { length requests.now ≤ 1000000 }
-    ensures { (published : List NumberedChanges) → version ≡ length published
+    ensures answers { (published : List NumberedChanges) → version ≡ length published
         → All (λ a. BeginsWith a.batches published) askers.items
         → IfOk result (λ list. AreAnswersAfter published requests.now list.items) }
+    ensures error { IfErr result (IsAnsweringFault
+        (λ index other. (index < length requests.now) × (other ≢ version))) }
 {
     match answer_all(rt, alloc, askers, requests, gate) {
         Ok(Answers { list, .. }) => match unpublished(list.as_slice(), version) {
             None => Ok(list),
-            Some(error) => Err(RunError::Serve(error)),
+            Some(error) => Err(RunError::from(error)),
         },
-        Err((error, _askers)) => Err(RunError::Serve(error)),
+        Err((error, _askers)) => Err(RunError::from(error)),
     }
 }
 
 /// The first answer of another version than the published one.
 fn unpublished(list: &[Answer], version: u32) -> Option<ServeError>
-    ensures { IfNone result (All (λ a. a.version ≡ version) list.now) }
+    ensures none { IfNone result (All (λ a. a.version ≡ version) list.now) }
+    ensures some { IfSome result (IsFirstStray list.now (λ v. v ≡ version)) }
 {
     for index in 0..list.len() {
         let answer = &list[index];
@@ -63,8 +69,9 @@ pub(crate) fn write_replies<W: Write>(
     answers: &[Answer],
     writer: &mut W,
 ) -> Result<(), RunError>
-    ensures { OnOk result (Writes (W.contents writer.old) (W.contents writer.new)
+    ensures text { OnOk result (Writes (W.contents writer.old) (W.contents writer.new)
         (AreAnswerLines answers.now)) }
+    ensures error { IfErr result IsStreamFault }
 {
     for answer in answers {
         write_reply(alloc, answer, writer)?;
@@ -74,8 +81,12 @@ pub(crate) fn write_replies<W: Write>(
 
 /// Writes the line of an answer.
 fn write_reply<W: Write>(alloc: Global, answer: &Answer, writer: &mut W) -> Result<(), RunError>
-    ensures { OnOk result (Writes (W.contents writer.old) (W.contents writer.new)
+    ensures text { OnOk result (Writes (W.contents writer.old) (W.contents writer.new)
         (IsReply answer.now.id answer.now.version (answer_of answer.now.outcome))) }
+    ensures error { IfErr result IsStreamFault }
+    // Memory is refused before the first byte is written.
+    ensures memory { IfErr result (λ e. e ≡ RunError.Memory
+        → HoldsAsBefore (W.contents writer.old) (W.contents writer.new)) }
 {
     let line = reply_line(alloc, answer.id, answer.version, &answer.outcome)?;
     put(&line, writer)

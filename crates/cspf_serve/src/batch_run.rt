@@ -1,4 +1,4 @@
-ghost use Rattle.std.specs.Prelude.{◌≡◌, ℕ, ◌<◌, ◌≤◌, ◌++◌, List, [], length, All, Ok, IfOk, IfErr, IfSome, OnOk, vec_len};
+ghost use Rattle.std.specs.Prelude.{◌≡◌, ◌≢◌, ℕ, ◌<◌, ◌⊎◌, ◌≤◌, ◌++◌, List, [], length, All, Ok, IfOk, IfErr, IfSome, OnOk, vec_len};
 ghost use Rattle.std.specs.Io.KnownBytes.{Appends};
 ghost use Rattle.cspf_rows.specs.Journal.{AreNumberedFrom};
 ghost use Rattle.cspf_rows.specs.Records.{rows_of};
@@ -6,19 +6,21 @@ ghost use Rattle.cspf_serve.specs.declared.summary.Summary.{Summary as Counts};
 ghost use Rattle.cspf_serve.specs.Script.{IsRun};
 ghost use Rattle.cspf_serve.specs.BatchRun.{AreAccepted, IsOneUnfit, AreAnsweredTogether, IsBatchRun};
 ghost use Rattle.cspf_serve.specs.BatchLaws.{IsCleanJournal};
-ghost use Rattle.cspf_serve.specs.BatchStops.{IfRefused, Writes, WritesAllBut};
+ghost use Rattle.cspf_serve.specs.BatchStops.{IfRefused, IfFailed, Writes, WritesAllBut};
+ghost use Rattle.cspf_serve.specs.RunFaults.{IsStreamFault, IsAnsweringFault, IsRunFault, IsBatchFault};
 
 use crate::Gate;
 use crate::askers::tell_each;
 use crate::batch_apply::publish_all;
 use crate::batch_input::{batches_of, requests_of};
 use crate::batch_laws::lines_of_a_script;
-use crate::batch_put::put;
+use crate::batch_put::refuse;
 use crate::batch_replies::{answers_at, write_replies};
 use crate::batch_stop::Stop;
+use crate::opening::open_for;
 use crate::run_error::RunError;
 use cspf_db::{Batch, Request};
-use cspf_publish::{Asker, Publisher, open};
+use cspf_publish::{Asker, Publisher};
 use std::alloc::Global;
 use std::io;
 use std::io::{Read, Write};
@@ -56,6 +58,8 @@ pub fn run_batch<
         → length (rows_of kept ++ rows_of asked) ≤ 1000000 → (lines : List ℕ) × (counts : Counts)
         × IsRun (rows_of kept ++ rows_of asked) lines counts
         × Appends (W.contents writer.old) (W.contents writer.new) lines)) }
+    ensures error { IfErr result
+        (IsBatchFault accept_torn (R.remaining journal) (Q.remaining requests)) }
 {
     // Law: where nothing is refused the lines are those of a script.
     lines_of_a_script();
@@ -70,11 +74,7 @@ pub fn run_batch<
         gate,
     ) {
         Ok(()) => Ok(0),
-        Err(Stop::Refused(line)) => {
-            put(&line, writer)?;
-            Ok(2)
-        }
-        Err(Stop::Failed(error)) => Err(error),
+        Err(stop) => refuse(stop, writer),
     }
 }
 
@@ -98,6 +98,8 @@ fn run<R: Read + Drop, Q: Read + Drop, W: Write, G: Gate + Sync, T: Threads + Wa
         IfSome (R.remaining journal) (λ kept. IfSome (Q.remaining requests) (λ asked.
         WritesAllBut line (W.contents writer.old) (W.contents writer.new) (λ lines.
         IsBatchRun accept_torn (rows_of kept) (rows_of asked) lines 2))))) }
+    ensures failed { IfErr result (λ stop. IfFailed stop
+        (IsBatchFault accept_torn (R.remaining journal) (Q.remaining requests))) }
 {
     let batches = batches_of(alloc, journal, accept_torn)?;
     answer(rt, alloc, &batches, requests, writer, workers, gate)
@@ -122,6 +124,9 @@ fn answer<Q: Read + Drop, W: Write, G: Gate + Sync, T: Threads + Wait + Sync>(
         IfSome (Q.remaining requests) (λ asked.
         WritesAllBut line (W.contents writer.old) (W.contents writer.new) (λ lines.
         AreAnsweredTogether batches.now (rows_of asked) lines 2)))) }
+    ensures failed { IfErr result (λ stop. IfFailed stop (IsRunFault (λ index version.
+        IfSome (Q.remaining requests) (λ asked. index < length (rows_of asked))
+        × (version ≢ length batches.now)))) }
 {
     let requests = requests_of(alloc, requests)?;
     publish_and_answer(rt, alloc, batches, &requests, writer, workers, gate)
@@ -129,7 +134,6 @@ fn answer<Q: Read + Drop, W: Write, G: Gate + Sync, T: Threads + Wait + Sync>(
 
 /// Publishes batches over a journal that keeps nothing, and then answers requests at the last
 /// version.
-#[tactic(auto, using(crate::proofs::AnswerLines::sources_of))]
 fn publish_and_answer<W: Write, G: Gate + Sync, T: Threads + Wait + Sync>(
     rt: &T,
     alloc: Global,
@@ -147,8 +151,10 @@ fn publish_and_answer<W: Write, G: Gate + Sync, T: Threads + Wait + Sync>(
     ensures err { AreNumberedFrom 1 batches.now → IfErr result (λ stop. IfRefused stop (λ line.
         WritesAllBut line (W.contents writer.old) (W.contents writer.new)
         (IsOneUnfit batches.now))) }
+    ensures failed { IfErr result (λ stop. IfFailed stop (IsRunFault (λ index version.
+        (index < length requests.now) × (version ≢ length batches.now)))) }
 {
-    match open(rt, alloc, io::sink(), workers) {
+    match open_for(rt, alloc, io::sink(), workers) {
         Ok((publisher, askers)) => {
             let mut publisher = publisher;
             let lent = &mut publisher;
@@ -156,7 +162,7 @@ fn publish_and_answer<W: Write, G: Gate + Sync, T: Threads + Wait + Sync>(
             publisher.close(rt);
             done
         }
-        Err((error, _journal)) => Err(Stop::Failed(RunError::from(error))),
+        Err((error, _journal)) => Err(Stop::from(error)),
     }
 }
 
@@ -181,6 +187,9 @@ fn answer_lent<J: Write, W: Write, G: Gate + Sync, T: Threads + Wait + Sync>(
     ensures err { AreNumberedFrom 1 batches.now → IfErr result (λ stop. IfRefused stop (λ line.
         WritesAllBut line (W.contents writer.old) (W.contents writer.new)
         (IsOneUnfit batches.now))) }
+    ensures failed { IfErr result (λ stop. IfFailed stop (λ e. IsStreamFault e
+        ⊎ IsAnsweringFault (λ index version. (index < length requests.now)
+        × (version ≢ length batches.now)) e)) }
 {
     publish_all(rt, alloc, batches, publisher, writer)?;
     let mut askers = askers;

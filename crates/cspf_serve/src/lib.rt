@@ -8,7 +8,8 @@
 //!
 //! A live run publishes batches, each written to the journal first, while workers answer requests:
 //! `run_live` over batches and requests, `run_live_rows` over the bytes of both, whose lines and
-//! journal `specs/LiveRun.antt` defines.
+//! journal `specs/LiveRun.antt` defines. `specs/RunFaults.antt` says which errors end a run over a
+//! journal or updates and requests.
 //!
 //! Workers, each with an asker, answer many requests at once, beside a publisher that applies
 //! batches or without one. `specs/Served.antt` says which answers are right and who answered what,
@@ -37,6 +38,7 @@ mod live;
 mod live_lines;
 mod live_run;
 mod live_words;
+mod opening;
 mod pool;
 mod run_error;
 mod serve_error;

@@ -1,21 +1,22 @@
-ghost use Rattle.std.specs.Prelude.{◌≡◌, ℕ, ◌<◌, ◌≤◌, List, [], length, All, IfOk, IfSome, slice_get, vec_len};
+ghost use Rattle.std.specs.Prelude.{◌≡◌, ℕ, ◌<◌, ◌≤◌, ◌⊎◌, List, [], length, All, IfOk, IfErr, IfSome, slice_get, vec_len};
 ghost use Rattle.std.specs.Io.KnownBytes.{Appends};
 ghost use Rattle.cspf_publish.specs.Histories.{IsHistory};
 ghost use Rattle.cspf_rows.specs.Journal.{AreNumberedFrom};
 ghost use Rattle.cspf_rows.specs.Records.{rows_of};
 ghost use Rattle.cspf_serve.specs.BatchStops.{Writes};
 ghost use Rattle.cspf_serve.specs.LiveRun.{AreAnsweredLive, IsLiveRun};
-ghost use Rattle.cspf_serve.specs.LiveStops.{AreLiveLines, IsFaultShown, IsRefusalWritten};
+ghost use Rattle.cspf_serve.specs.LiveStops.{AreLiveLines, IsFaultShown};
+ghost use Rattle.cspf_serve.specs.RunFaults.{IsStreamFault, IsAnsweringFault, IsRunFault, IsLiveFault};
 
 use crate::batch_input::{Inputs, inputs_of};
-use crate::batch_put::put;
+use crate::batch_put::{put, refuse};
 use crate::batch_replies::write_replies;
-use crate::batch_stop::Stop;
 use crate::live_lines::{applied_line, unpublished_line};
+use crate::opening::open_for;
 use crate::run_error::RunError;
 use crate::{Gate, Live, run_live};
 use cspf_db::{Batch, Request};
-use cspf_publish::{Answer, ApplyError, Asker, Publisher, open};
+use cspf_publish::{Answer, ApplyError, Asker, Publisher};
 use std::alloc::Global;
 use std::io::{Read, Write};
 use std::sync::Wait;
@@ -43,11 +44,12 @@ pub fn run_live_rows<
     gate: &G,
 ) -> (Result<u8, RunError>, J)
     requires workers { (0 < workers) × (workers ≤ 64) }
-    ensures { IfOk result.0 (λ status. IfSome (R.remaining updates) (λ kept.
+    ensures whole { IfOk result.0 (λ status. IfSome (R.remaining updates) (λ kept.
         IfSome (Q.remaining requests) (λ asked. (lines : List ℕ) × (text : List ℕ)
         × IsLiveRun (rows_of kept) (rows_of asked) lines text status
         × Appends (W.contents writer.old) (W.contents writer.new) lines
         × Appends (J.contents journal) (J.contents result.1) text))) }
+    ensures error { IfErr result.0 (IsLiveFault (Q.remaining requests)) }
 {
     match inputs_of(alloc, updates, requests) {
         Ok(read) => {
@@ -60,23 +62,7 @@ pub fn run_live_rows<
     }
 }
 
-/// Writes the line by which a run is refused, and answers its status.
-fn refuse<W: Write>(stop: Stop, writer: &mut W) -> Result<u8, RunError>
-    ensures status { IfOk result (λ status. status ≡ 2) }
-    ensures line { IfOk result (λ status.
-        IsRefusalWritten stop (W.contents writer.old) (W.contents writer.new)) }
-{
-    match stop {
-        Stop::Refused(line) => {
-            put(&line, writer)?;
-            Ok(2)
-        }
-        Stop::Failed(error) => Err(error),
-    }
-}
-
 /// Publishes batches over a journal while workers answer requests.
-#[tactic(auto, using(crate::proofs::AnswerLines::sources_of))]
 fn answer_live<J: Write, W: Write, G: Gate + Sync, T: Threads + Wait + Sync>(
     rt: &T,
     alloc: Global,
@@ -90,18 +76,21 @@ fn answer_live<J: Write, W: Write, G: Gate + Sync, T: Threads + Wait + Sync>(
     requires workers { (0 < workers) × (workers ≤ 64) }
     requires batches { length batches.now ≤ 1000000 }
     requires requests { length requests.now ≤ 1000000 }
-    ensures { AreNumberedFrom 1 batches.now → IfOk result.0 (λ status. (lines : List ℕ) × (text : List ℕ)
+    ensures whole { AreNumberedFrom 1 batches.now → IfOk result.0 (λ status.
+        (lines : List ℕ) × (text : List ℕ)
         × AreAnsweredLive batches.now requests.now lines text status
         × Appends (W.contents writer.old) (W.contents writer.new) lines
         × Appends (J.contents journal) (J.contents result.1) text) }
+    ensures error { IfErr result.0 (IsRunFault
+        (λ index version. (index < length requests.now) × (0 < version))) }
 {
-    match open(rt, alloc, journal, workers) {
+    match open_for(rt, alloc, journal, workers) {
         Ok((publisher, askers)) => {
             answer_opened(
                 rt, alloc, publisher, askers, batches, requests, writer, gate,
             )
         }
-        Err((error, journal)) => (Err(RunError::from(error)), journal),
+        Err((error, journal)) => (Err(error), journal),
     }
 }
 
@@ -121,14 +110,16 @@ fn answer_opened<J: Write, W: Write, G: Gate + Sync, T: Threads + Wait + Sync>(
     requires source { All (λ a. a.source ≡ publisher.source) askers.items }
     requires batches { length batches.now ≤ 1000000 }
     requires requests { length requests.now ≤ 1000000 }
-    ensures { AreNumberedFrom 1 batches.now → IfOk result.0 (λ status. (lines : List ℕ)
+    ensures whole { AreNumberedFrom 1 batches.now → IfOk result.0 (λ status. (lines : List ℕ)
         × (text : List ℕ) × AreAnsweredLive batches.now requests.now lines text status
         × Appends (W.contents writer.old) (W.contents writer.new) lines
         × Appends (J.contents publisher.journal) (J.contents result.1) text) }
+    ensures error { IfErr result.0 (λ e. IsStreamFault e ⊎ IsAnsweringFault
+        (λ index version. (index < length requests.now) × (0 < version)) e) }
 {
     match run_live(rt, alloc, publisher, askers, batches, requests, gate) {
         Ok(live) => end_live(rt, alloc, live, batches, writer),
-        Err((error, publisher, _askers)) => (Err(RunError::Serve(error)), publisher.close(rt)),
+        Err((error, publisher, _askers)) => (Err(RunError::from(error)), publisher.close(rt)),
     }
 }
 
@@ -145,6 +136,7 @@ fn end_live<J: Write, W: Write, T: Wait>(
         status)) }
     ensures journal { result.1 ≡ live.publisher.journal }
     ensures history { IsHistory live.publisher.batches }
+    ensures error { IfErr result.0 IsStreamFault }
 {
     let Live {
         publisher,
@@ -168,8 +160,9 @@ fn write_live<W: Write>(
     fault: Option<ApplyError>,
     writer: &mut W,
 ) -> Result<u8, RunError>
-    ensures { IfOk result (λ status. Writes (W.contents writer.old) (W.contents writer.new)
+    ensures text { IfOk result (λ status. Writes (W.contents writer.old) (W.contents writer.new)
         (AreLiveLines answers.now batches.now applied fault status)) }
+    ensures error { IfErr result IsStreamFault }
 {
     write_replies(alloc, answers, writer)?;
     let line = applied_line(alloc, applied)?;
@@ -185,8 +178,9 @@ fn write_fault<W: Write>(
     fault: Option<ApplyError>,
     writer: &mut W,
 ) -> Result<u8, RunError>
-    ensures { IfOk result (λ status. Writes (W.contents writer.old) (W.contents writer.new)
+    ensures text { IfOk result (λ status. Writes (W.contents writer.old) (W.contents writer.new)
         (λ line. IsFaultShown (slice_get batches.now applied) fault line status)) }
+    ensures error { IfErr result IsStreamFault }
 {
     let Some(error) = fault else {
         return Ok(0);

@@ -9,7 +9,7 @@ loop-index-preserved c =
     All-more (λ (a : Answer). a.version ≡ c.args.version) c.args.list.now c.loop-index.index c.index-list-index.result (search rules) c.loop-index.invariant
     (subst (λ (a : Answer). a.version ≡ c.args.version) c.index-list-index.is (search rules))
 
-pub returns : goal.returns
-returns c =
+pub returns-clause-none : goal.returns-clause-none
+returns-clause-none c =
     let whole : c.loop-index.index ≡ length c.args.list.now = search rules in
     subst (λ (l : List Answer). All (λ (a : Answer). a.version ≡ c.args.version) l) (ap (λ n. take n c.args.list.now) whole ∙ take-length c.args.list.now) c.loop-index.invariant

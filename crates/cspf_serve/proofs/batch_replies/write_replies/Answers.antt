@@ -14,4 +14,4 @@ loop-answer-preserved g c =
     rw more
     (writes_answer (take i list) c.answer-item.result
     (g.W.Write.contents c.args.writer.now) (g.W.Write.contents c.loop-answer.writer) (g.W.Write.contents c.write_reply.new.writer)
-    c.loop-answer.invariant c.in_ok-write_reply.ensures)
+    c.loop-answer.invariant c.in_ok-write_reply.ensures.text)

@@ -23,8 +23,8 @@ returns-clause-ok g c =
     subst (λ (l : List NumberedChanges). All (λ (a : KnownBatches). BeginsWith a.batches l) c.tell_each.new.askers.items) published c.tell_each.ensures.told in
     let items : c.as_slice.result.now ≡ c.in_ok-list.list.items = search rules in
     let answered : AreAnswersAfter bs c.args.requests.now c.as_slice.result.now =
-    subst (λ (l : List Answer). AreAnswersAfter bs c.args.requests.now l) (sym items) (c.in_ok-list.ensures bs version told) in
+    subst (λ (l : List Answer). AreAnswersAfter bs c.args.requests.now l) (sym items) (c.in_ok-list.ensures.answers bs version told) in
     accepted_written bs c.args.requests.now (database_after bs)
     (g.W.Write.contents c.args.writer.now) (g.W.Write.contents c.publish_all.new.writer) (g.W.Write.contents c.write_replies.new.writer)
     c.in_ok-publish_all.ensures.lawful refl c.in_ok-publish_all.ensures.text
-    (replies_written bs c.args.requests.now c.as_slice.result.now (g.W.Write.contents c.publish_all.new.writer) (g.W.Write.contents c.write_replies.new.writer) answered c.in_ok-write_replies.ensures)
+    (replies_written bs c.args.requests.now c.as_slice.result.now (g.W.Write.contents c.publish_all.new.writer) (g.W.Write.contents c.write_replies.new.writer) answered c.in_ok-write_replies.ensures.text)

@@ -3,8 +3,8 @@ use Rattle.std.proofs.lemmas.Result.{IfOk-weaker}
 use Rattle.cspf_serve.proofs.LiveLines.{live_answered}
 use Rattle.cspf_serve.proofs.live_run.answer_opened.Goals as goal
 
-pub returns-in-Ok : goal.returns-in-Ok
-returns-in-Ok g c = λ numbered.
+pub returns-in-Ok-clause-whole : goal.returns-in-Ok-clause-whole
+returns-in-Ok-clause-whole g c = λ numbered.
     let answered = c.in-Ok.ensures.answers in
     rw c.end_live.ensures.journal
     (IfOk-weaker c.end_live.result.0 _ _

@@ -1,0 +1,47 @@
+-- Which errors end a run over a journal, or over updates, and requests.
+use Rattle.std.specs.Prelude.{◌≡◌, ◌≢◌, ℕ, ◌<◌, ◌⊎◌, Bool, List, length, Option, IfSome}
+use Rattle.cspf_db.specs.Numbered.{NumberedChanges}
+use Rattle.cspf_rows.specs.Records.{rows_of}
+use Rattle.cspf_serve.specs.declared.run_error.RunError.{RunError}
+use Rattle.cspf_serve.specs.declared.run_error.RunError.TheVariants.{Memory, Device, Places, Serve}
+use Rattle.cspf_serve.specs.declared.serve_error.ServeError.{ServeError}
+use Rattle.cspf_serve.specs.declared.serve_error.ServeError.TheVariants.{Unaccounted}
+use Rattle.cspf_serve.specs.Served.{IsFaultOfWorker}
+use Rattle.cspf_serve.specs.BatchRun.{AreBatchesOf}
+
+-- memory was refused, or a read or a write failed
+abbrev pub IsStreamFault : RunError → Type 0
+IsStreamFault e = (e ≡ Memory) ⊎ (e ≡ Device)
+
+-- memory was refused, or there was no place for a reader
+abbrev pub IsOpeningFault : RunError → Type 0
+IsOpeningFault e = (e ≡ Memory) ⊎ (e ≡ Places)
+
+-- a worker gave up, or a request, by its index, is answered at a version of which this holds
+abbrev pub IsAnsweringFault : (ℕ → ℕ → Type 0) → RunError → Type 0
+IsAnsweringFault IsStray e =
+    ((fault : ServeError) × (e ≡ Serve fault) × IsFaultOfWorker fault)
+    ⊎ ((index : ℕ) × (version : ℕ) × (e ≡ Serve (Unaccounted index version)) × IsStray index version)
+
+-- the streams, the opening of a publisher or the answers end a run
+abbrev pub IsRunFault : (ℕ → ℕ → Type 0) → RunError → Type 0
+IsRunFault IsStray e = IsStreamFault e ⊎ (IsOpeningFault e ⊎ IsAnsweringFault IsStray e)
+
+-- a request of the stream is answered at another version than the number of the journal's batches
+abbrev pub IsStrayInBatchRun : Bool → Option (List ℕ) → Option (List ℕ) → ℕ → ℕ → Type 0
+IsStrayInBatchRun accept_torn journal requests index version =
+    IfSome requests (λ asked. index < length (rows_of asked))
+    × IfSome journal (λ kept. (batches : List NumberedChanges)
+    × AreBatchesOf accept_torn (rows_of kept) batches × (version ≢ length batches))
+
+-- why a run over a journal and requests ends by an error
+abbrev pub IsBatchFault : Bool → Option (List ℕ) → Option (List ℕ) → RunError → Type 0
+IsBatchFault accept_torn journal requests e = IsRunFault (IsStrayInBatchRun accept_torn journal requests) e
+
+-- a request of the stream is answered at a version above those of some first updates, and so above 0
+abbrev pub IsStrayInLiveRun : Option (List ℕ) → ℕ → ℕ → Type 0
+IsStrayInLiveRun requests index version = IfSome requests (λ asked. index < length (rows_of asked)) × (0 < version)
+
+-- why a run over updates and requests ends by an error
+abbrev pub IsLiveFault : Option (List ℕ) → RunError → Type 0
+IsLiveFault requests e = IsRunFault (IsStrayInLiveRun requests) e
