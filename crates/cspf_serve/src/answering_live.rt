@@ -162,9 +162,9 @@ fn run_lent<W: Write, G: Gate + Sync, R: Threads + Wait + Sync>(
 /// that is refused. When all are done each asker learns what is published, and an answer of a later
 /// version is `Unaccounted`.
 ///
-/// The askers are of the publisher's own `open`. All of them are handed back in order, and so is the
-/// publisher, after an error too. Batches may then have been applied as far as they go, and a fault of
-/// the journal may have stopped the publisher.
+/// The askers are of the publisher's own `open`. All of them are handed back in order, and so is
+/// the publisher, after an error too. Either nothing has happened then, or the batches were applied
+/// as far as they go, and a fault of the journal may have stopped the publisher.
 pub fn run_live<W: Write, G: Gate + Sync, R: Threads + Wait + Sync>(
     rt: &R,
     alloc: Global,
