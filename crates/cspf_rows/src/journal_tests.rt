@@ -1,3 +1,5 @@
+mod ends;
+
 use crate::{
     Journal, ReadError, RequestsError, Rest, RowError, batch_text, read_journal, read_requests,
 };
