@@ -1,6 +1,9 @@
 mod batches;
+mod entries;
+mod gates;
 mod limits;
 mod live_rows;
+mod orders;
 mod scripts;
 
 use std::alloc::{AllocError, Global};

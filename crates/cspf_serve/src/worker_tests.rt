@@ -6,20 +6,20 @@ use cspf_db::{Batch, Change, Link, Request};
 use cspf_publish::{Answer, ApplyError, Asker, Publisher, open};
 use cspf_search::Outcome;
 use std::alloc::{AllocError, Global};
-use std::io;
 use std::io::Write;
 use std::process::Abort;
 use std::sync::Wait;
 use std::sync::atomic::{AtomicU64, Ordering};
 use std::test::Fail;
 use std::thread::Threads;
+use std::{io, thread};
 
 /// The turns that a gate waits before it notes a fault.
-const TURNS: u32 = 50_000_000;
+const TURNS: u32 = 1_000_000;
 
 /// Counts what is reached and answered, by index.
 #[derive(Drop)]
-struct Counts {
+pub(crate) struct Counts {
     reached: Vec<AtomicU64>,
     answered: Vec<AtomicU64>,
     /// How many requests have to be reached before any is asked.
@@ -29,7 +29,7 @@ struct Counts {
 }
 
 impl Counts {
-    fn new(alloc: Global, count: usize) -> Result<Counts, AllocError> {
+    pub(crate) fn new(alloc: Global, count: usize) -> Result<Counts, AllocError> {
         Ok(Counts {
             reached: zeros(alloc, count)?,
             answered: zeros(alloc, count)?,
@@ -40,7 +40,7 @@ impl Counts {
     }
 
     /// Whether each index was reached once and answered once, and no wait was in vain.
-    fn is_whole(&self) -> bool {
+    pub(crate) fn is_whole(&self) -> bool {
         self.faults.load(Ordering::SeqCst) == 0
             && self.came.load(Ordering::SeqCst) == self.all
             && are_ones(&self.reached)
@@ -57,7 +57,7 @@ fn are_ones(counts: &[AtomicU64]) -> bool {
     true
 }
 
-fn zeros(alloc: Global, count: usize) -> Result<Vec<AtomicU64>, AllocError> {
+pub(crate) fn zeros(alloc: Global, count: usize) -> Result<Vec<AtomicU64>, AllocError> {
     let mut zeros = Vec::with_capacity(alloc, count)?;
     for _ in 0..count {
         zeros.push(AtomicU64::new(0))?;
@@ -66,11 +66,12 @@ fn zeros(alloc: Global, count: usize) -> Result<Vec<AtomicU64>, AllocError> {
 }
 
 /// Waits until the word is no less, and notes a fault where that takes too many turns.
-fn wait_for(word: &AtomicU64, least: u64, faults: &AtomicU64) {
+pub(crate) fn wait_for(word: &AtomicU64, least: u64, faults: &AtomicU64) {
     for _ in 0..TURNS {
         if word.load(Ordering::SeqCst) >= least {
             return;
         }
+        thread::yield_now();
     }
     faults.fetch_add(1, Ordering::SeqCst);
 }
@@ -132,7 +133,7 @@ impl<'a> Write for MeetingJournal<'a> {
 
 /// The batch with this number that puts a link of metric 10 with 1,000 bytes per second unreserved,
 /// from 1.1.1.1 by 10.0.12.1 to 2.2.2.2.
-fn link_batch(alloc: Global, number: u32) -> Result<Batch, Fail> {
+pub(crate) fn link_batch(alloc: Global, number: u32) -> Result<Batch, Fail> {
     let (from, local) = (Addr::new(0x01010101), Addr::new(0x0a000c01));
     let (to, remote) = (Addr::new(0x02020202), Addr::new(0x0a000c02));
     let link = Link::new(from, local, to, remote, 10, Mask::new(1), [1000; 8])?;
@@ -159,7 +160,7 @@ fn request(id: u64, from: u32, bandwidth: u64) -> Result<Request, Fail> {
 }
 
 /// The same request so many times.
-fn requests(alloc: Global, count: usize) -> Result<Vec<Request>, Fail>
+pub(crate) fn requests(alloc: Global, count: usize) -> Result<Vec<Request>, Fail>
     requires { count ≤ 1000000 }
     ensures { IfOk result (λ all. vec_len all ≡ count) }
 {
@@ -175,7 +176,7 @@ fn cost(outcome: &Outcome) -> u64 {
 }
 
 /// A publisher without a batch, and so many askers.
-fn opened<W: Write + Drop, R: Wait + Abort>(
+pub(crate) fn opened<W: Write + Drop, R: Wait + Abort>(
     rt: &R,
     alloc: Global,
     journal: W,
@@ -191,7 +192,7 @@ fn opened<W: Write + Drop, R: Wait + Abort>(
 }
 
 /// What workers answer once the link is published.
-fn answered_with_a_link<G: Gate + Sync, R: Threads + Wait + Abort + Sync>(
+pub(crate) fn answered_with_a_link<G: Gate + Sync, R: Threads + Wait + Abort + Sync>(
     rt: &R,
     alloc: Global,
     askers: usize,
@@ -329,23 +330,23 @@ fn in_order(rt: HostRuntime) -> Result<(), Fail> {
 
 /// What a live run leaves once its publisher is closed.
 #[derive(Drop)]
-struct Closed<W> {
-    journal: W,
+pub(crate) struct Closed<W> {
+    pub(crate) journal: W,
     /// The published version.
-    version: u32,
-    list: Vec<Answer>,
-    askers: Vec<Asker>,
-    applied: u32,
-    fault: Option<ApplyError>,
+    pub(crate) version: u32,
+    pub(crate) list: Vec<Answer>,
+    pub(crate) askers: Vec<Asker>,
+    pub(crate) applied: u32,
+    pub(crate) fault: Option<ApplyError>,
 }
 
 /// Runs live, and closes the publisher.
-fn run_and_close<W: Write + Drop, G: Gate + Sync, R: Threads + Wait + Abort + Sync>(
+pub(crate) fn run_and_close<W: Write + Drop, G: Gate + Sync, R: Threads + Wait + Abort + Sync>(
     rt: &R,
     alloc: Global,
     publisher: Publisher<W>,
     askers: Vec<Asker>,
-    batch: Batch,
+    batches: &[Batch],
     requests: &[Request],
     gate: &G,
 ) -> Closed<W>
@@ -353,7 +354,7 @@ fn run_and_close<W: Write + Drop, G: Gate + Sync, R: Threads + Wait + Abort + Sy
     requires source { All (λ a. a.source ≡ publisher.source) askers.items }
     requires requests { length requests.now ≤ 1000000 }
 {
-    let ran = run_live(rt, alloc, publisher, askers, &[batch], requests, gate);
+    let ran = run_live(rt, alloc, publisher, askers, batches, requests, gate);
     let Ok(live) = ran else { panic!(rt; "not run") };
     let Live {
         publisher,
@@ -379,7 +380,7 @@ fn run_and_close<W: Write + Drop, G: Gate + Sync, R: Threads + Wait + Abort + Sy
 fn applies_alone(rt: HostRuntime) -> Result<(), Fail> {
     let batch = link_batch(rt.alloc(), 1)?;
     let (publisher, askers) = opened(&rt, rt.alloc(), Vec::<u8>::new(rt.alloc()), 1);
-    let left = run_and_close(&rt, rt.alloc(), publisher, askers, batch, &[], &NoGate);
+    let left = run_and_close(&rt, rt.alloc(), publisher, askers, &[batch], &[], &NoGate);
     assert_eq!(rt;
         (left.journal.len(), left.version, left.applied),
         (102, 1, 1)
@@ -419,7 +420,15 @@ fn applies_beside<R: Threads + Wait + Abort + Sync>(
     let (mut publisher, mut askers) = opened(rt, alloc, Vec::<u8>::new(alloc), 1);
     assert!(rt; publisher.apply(rt, alloc, &first) == Ok(1));
     askers[0].learn(publisher.tell());
-    let left = run_and_close(rt, alloc, publisher, askers, next, all.as_slice(), &NoGate);
+    let left = run_and_close(
+        rt,
+        alloc,
+        publisher,
+        askers,
+        &[next],
+        all.as_slice(),
+        &NoGate,
+    );
     assert!(rt; is_one_answer(&left.list, left.version));
     Ok((left.applied, left.version, left.fault))
 }
@@ -461,7 +470,15 @@ fn applies_at_once(rt: HostRuntime) -> Result<(), Fail> {
     };
     let (publisher, askers) = opened(&rt, rt.alloc(), journal, 1);
     let asked = all.as_slice();
-    let left = run_and_close(&rt, rt.alloc(), publisher, askers, batch, asked, &meeting);
+    let left = run_and_close(
+        &rt,
+        rt.alloc(),
+        publisher,
+        askers,
+        &[batch],
+        asked,
+        &meeting,
+    );
     assert!(rt; left.journal.held.len() == 102 && left.applied == 1 && left.fault.is_none());
     assert!(rt; meeting.faults.load(Ordering::SeqCst) == 0 && are_around_a_batch(&left.list));
     Ok(())

@@ -1,5 +1,5 @@
 use super::scripts::is_answered;
-use crate::BatchRefusal;
+use crate::{BatchRefusal, NoGate, run_batch, run_live_rows};
 use cspf_db::Refusal;
 use std::alloc::{AllocError, Global};
 use std::fmt::Write;
@@ -16,7 +16,7 @@ fn put_link(text: &mut String, number: u32) -> Result<(), AllocError> {
 fn write_put(text: &mut String, [a, b, c, d]: [u8; 4]) -> Result<(), AllocError> {
     write!(
         text,
-        "put,1.1.1.1,{a}.{b}.{c}.{d},2.2.2.2,10.0.12.2,10,0x1,1,1,1,1,1,1,1,1\n"
+        "put,1.1.1.1,{a}.{b}.{c}.{d},2.2.2.2,10.0.12.2,10,0x00000001,1,1,1,1,1,1,1,1\n"
     )
 }
 
@@ -59,6 +59,35 @@ fn as_many_links_as_are_kept(rt: HostRuntime) -> Result<(), Fail> {
     let script = script_of(rt.alloc(), &LINKS)?;
     let counts = [20_491, 5, 0, 2];
     assert!(rt; is_run(rt.alloc(), script.as_str(), LINES_OF_LINKS, counts));
+    Ok(())
+}
+
+/// As many changes as a batch may have.
+const WHOLE: [(u32, u32, &str); 1] = [(0, 4096, "end,1,4096\n")];
+
+/// The journal's text of a batch is the updates' own, which spells all as a journal does.
+#[test]
+fn a_whole_batch_goes_live(rt: HostRuntime) -> Result<(), Fail> {
+    let (alloc, none): (Global, &[u8]) = (rt.alloc(), b"");
+    let updates = script_of(alloc, &WHOLE)?;
+    assert!(rt; updates.len() > 262_144);
+    let mut held = Vec::new(alloc);
+    let kept: Vec<u8> = Vec::new(alloc);
+    let rows = updates.as_bytes();
+    let (found, kept) = run_live_rows(&rt, alloc, rows, none, kept, &mut held, 1, &NoGate);
+    assert!(rt; found == Ok(0) && held.as_slice() == b"applied 1\n".as_slice());
+    assert!(rt; kept.as_slice() == updates.as_bytes());
+    Ok(())
+}
+
+#[test]
+fn a_whole_batch_of_a_journal(rt: HostRuntime) -> Result<(), Fail> {
+    let (alloc, none): (Global, &[u8]) = (rt.alloc(), b"");
+    let journal = script_of(alloc, &WHOLE)?;
+    let mut held = Vec::new(alloc);
+    let rows = journal.as_bytes();
+    let found = run_batch(&rt, alloc, rows, none, &mut held, 1, false, &NoGate);
+    assert!(rt; found == Ok(0) && held.as_slice() == b"version 1\n".as_slice());
     Ok(())
 }
 
