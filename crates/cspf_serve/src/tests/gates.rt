@@ -63,7 +63,7 @@ fn is_live<G: Gate + Sync, T: Threads + Wait + Sync>(
 }
 
 /// As many workers as requests, each of which is held until all are reached: all workers run at
-/// once, and tell the gate that they were given.
+/// once, and it is the caller's gate that they tell.
 #[test]
 fn at_once_in_a_batch_run(rt: HostRuntime) -> Result<(), Fail> {
     let two = Counts::new(rt.alloc(), 2)?;
