@@ -1,5 +1,6 @@
 -- Beginnings of one list of batches.
-use Rattle.std.proofs.Common.{◌≡◌, ℕ, suc, ◌+◌, ◌≤◌, List, [], ◌∷◌, ◌++◌, length, refl, sym, arith, length-append}
+use Rattle.std.proofs.Common.{◌≡◌, ℕ, suc, ◌+◌, ◌≤◌, List, [], ◌∷◌, ◌++◌, length, refl, sym, ap, ◌∙◌, arith, append_assoc, length-append}
+use Rattle.std.proofs.lemmas.List.{append-nil}
 use mathlib.Core.List.{IsPrefix}
 use Rattle.cspf_db.specs.Numbered.{NumberedChanges}
 use Rattle.cspf_db.specs.Laws.{LawfulByOneMore}
@@ -8,6 +9,12 @@ use Rattle.cspf_publish.specs.Histories.{AreNumberedFrom, BeginsWith, IsHistory,
 -- a beginning, as a book has it
 pub begins : (first all : List NumberedChanges) → IsPrefix first all → BeginsWith all first
 begins first all p = (p.0, sym p.1)
+
+pub BeginsWith-self : (bs : List NumberedChanges) → BeginsWith bs bs
+BeginsWith-self bs = ([], sym (append-nil bs))
+
+pub BeginsWith-snoc : (all first : List NumberedChanges) (b : NumberedChanges) → BeginsWith all first → BeginsWith (all ++ b ∷ []) first
+BeginsWith-snoc all first b p = (p.0 ++ b ∷ [], ap (λ (w : List NumberedChanges). w ++ b ∷ []) p.1 ∙ append_assoc first p.0 (b ∷ []))
 
 -- of two beginnings of one list the shorter begins the longer
 pub shorter : (xs ys all : List NumberedChanges) → BeginsWith all xs → BeginsWith all ys → length xs ≤ length ys → BeginsWith ys xs

@@ -1,80 +1,209 @@
 -- Each step at the replicas keeps their rule.
-use Rattle.std.proofs.Common.{◌≡◌, ℕ, ◌≢◌, List, [], ◌∷◌, ◌++◌, set, refl, sym, ap, ◌∙◌, subst, ⊎_elim, Option, Some, None}
+use Rattle.std.proofs.Common.{◌≡◌, ℕ, ◌≢◌, ◌⊎◌, Bool, true, false, List, [], ◌∷◌, ◌++◌, set, refl, sym, ap, ◌∙◌, subst, ⊎_elim}
 use mathlib.Core.Option.{some, some-ne-none}
 use lib.ListN.{get_elem?}
 use Rattle.crossbeam_utils.specs.Register.{Admits, Turns, TurnsAt, Forks, Merges}
 use Rattle.atomic_table.proofs.Lists.{at_set, at_snoc}
-use Rattle.logbook.specs.Pages.{Book}
 use Rattle.cspf_db.specs.Numbered.{NumberedChanges}
 use Rattle.cspf_db.specs.Database.{Database}
 use Rattle.cspf_db.specs.Changes.{after_changes, database_after, Fits}
-use Rattle.cspf_db.specs.Laws.{OneMoreBatch}
+use Rattle.cspf_db.specs.Laws.{LawfulByOneMore, OneMoreBatch}
 use Rattle.cspf_publish.specs.Absorbed.{database_with}
-use Rattle.cspf_publish.specs.Histories.{MayFollow}
-use Rattle.cspf_publish.specs.KnownBatches.{KnownBatches}
-use Rattle.cspf_publish.specs.Pending.{known_with, idle_at}
+use Rattle.cspf_publish.specs.Histories.{IsHistory, MayFollow}
+use Rattle.cspf_publish.specs.KnownBatches.{KnownBatches, AreFirstOf}
+use Rattle.cspf_publish.specs.OneMore.{known_with, idle_at}
 use Rattle.cspf_publish.specs.ReplicaStates.{ReplicaState, state_with}
-use Rattle.cspf_publish.specs.ReplicaRule.{HoldsBetweenSteps, HasItsDatabase, SuitsSource, NamesSource, Swaps, Enters}
+use Rattle.cspf_publish.specs.ReplicaRule.{HoldsBetweenSteps, HasItsDatabase, Knows, IsPublisher, HasOnePublisher, Opens, Publishes, Enters, told_by, told_of}
+use Rattle.cspf_publish.specs.declared.seat_view.SeatView.{SeatView}
+use Rattle.cspf_publish.specs.declared.seat_view.SeatView.TheVariants.{New, Asker, Publisher}
+use Rattle.cspf_publish.proofs.Beginnings.{BeginsWith-self, BeginsWith-snoc, IsHistory-snoc}
 use Rattle.cspf_publish.proofs.Fitting.{database_with-Fits, database_with-nothing}
 
-abbrev View : Type 0
-View = Option KnownBatches
+-- what each seat knows of the published batches
+abbrev AllKnow : ReplicaState → List SeatView → Type 0
+AllKnow s views = (seat : ℕ) (v : SeatView) → get_elem? views seat ≡ some v → Knows s v
 
--- no seat knows another source
-abbrev AllSuit : List View → Book → Type 0
-AllSuit views source = (seat : ℕ) (v : View) → get_elem? views seat ≡ some v → SuitsSource v source
+AllKnow-set : (s : ReplicaState) (views : List SeatView) (seat : ℕ) (w : SeatView) → AllKnow s views → Knows s w → AllKnow s (set views seat w)
+AllKnow-set s views seat w all knows j u e =
+    ⊎_elim (λ (t : (j ≡ seat) × (w ≡ u)). subst (λ (z : SeatView). Knows s z) t.1 knows) (λ (t : (j ≢ seat) × (get_elem? views j ≡ some u)). all j u t.1) (at_set views seat j w u e)
 
-None-suits : (source : Book) → SuitsSource None source
-None-suits source known e = absurd cc
+AllKnow-snoc : (s : ReplicaState) (views : List SeatView) (w : SeatView) → AllKnow s views → Knows s w → AllKnow s (views ++ w ∷ [])
+AllKnow-snoc s views w all knows j u e = ⊎_elim (all j u) (λ (t : w ≡ u). subst (λ (z : SeatView). Knows s z) t knows) (at_snoc views w u j e)
 
-AllSuit-set : (source : Book) (views : List View) (seat : ℕ) (w : View) → AllSuit views source → SuitsSource w source → AllSuit (set views seat w) source
-AllSuit-set source views seat w all suits j u e =
-    ⊎_elim (λ (t : (j ≡ seat) × (w ≡ u)). subst (λ (z : View). SuitsSource z source) t.1 suits) (λ (t : (j ≢ seat) × (get_elem? views j ≡ some u)). all j u t.1) (at_set views seat j w u e)
+-- a view that is set is a publisher's only where the one before was
+HasOnePublisher-set : (views : List SeatView) (seat : ℕ) (v w : SeatView) → get_elem? views seat ≡ some v → HasOnePublisher views → (IsPublisher w → IsPublisher v) → HasOnePublisher (set views seat w)
+HasOnePublisher-set views seat v w at one was i j x y ex ey px py =
+    ⊎_elim
+    (λ (s : (i ≡ seat) × (w ≡ x)). ⊎_elim
+    (λ (t : (j ≡ seat) × (w ≡ y)). s.0 ∙ sym t.0)
+    (λ (t : (j ≢ seat) × (get_elem? views j ≡ some y)). s.0 ∙ one seat j v y at t.1 (was (subst IsPublisher (sym s.1) px)) py)
+    (at_set views seat j w y ey))
+    (λ (s : (i ≢ seat) × (get_elem? views i ≡ some x)). ⊎_elim
+    (λ (t : (j ≡ seat) × (w ≡ y)). one i seat x v s.1 at px (was (subst IsPublisher (sym t.1) py)) ∙ sym t.0)
+    (λ (t : (j ≢ seat) × (get_elem? views j ≡ some y)). one i j x y s.1 t.1 px py)
+    (at_set views seat j w y ey))
+    (at_set views seat i w x ex)
 
-AllSuit-snoc : (source : Book) (views : List View) (w : View) → AllSuit views source → SuitsSource w source → AllSuit (views ++ w ∷ []) source
-AllSuit-snoc source views w all suits j u e = ⊎_elim (all j u) (λ (t : w ≡ u). subst (λ (z : View). SuitsSource z source) t suits) (at_snoc views w u j e)
+-- a view that is set is the first publisher's
+HasOnePublisher-first : (views : List SeatView) (seat : ℕ) (w : SeatView) → ((j : ℕ) (u : SeatView) → get_elem? views j ≡ some u → IsPublisher u → ⊥) → HasOnePublisher (set views seat w)
+HasOnePublisher-first views seat w none i j x y ex ey px py =
+    ⊎_elim
+    (λ (s : (i ≡ seat) × (w ≡ x)). ⊎_elim
+    (λ (t : (j ≡ seat) × (w ≡ y)). s.0 ∙ sym t.0)
+    (λ (t : (j ≢ seat) × (get_elem? views j ≡ some y)). absurd (none j y t.1 py))
+    (at_set views seat j w y ey))
+    (λ (s : (i ≢ seat) × (get_elem? views i ≡ some x)). absurd (none i x s.1 px))
+    (at_set views seat i w x ex)
+
+HasOnePublisher-snoc : (views : List SeatView) (w : SeatView) → HasOnePublisher views → (IsPublisher w → ⊥) → HasOnePublisher (views ++ w ∷ [])
+HasOnePublisher-snoc views w one not i j x y ex ey px py =
+    ⊎_elim
+    (λ (s : get_elem? views i ≡ some x). ⊎_elim
+    (λ (t : get_elem? views j ≡ some y). one i j x y s t px py)
+    (λ (t : w ≡ y). absurd (not (subst IsPublisher (sym t) py)))
+    (at_snoc views w y j ey))
+    (λ (s : w ≡ x). absurd (not (subst IsPublisher (sym s) px)))
+    (at_snoc views w x i ex)
+
+AreFirstOf-self : (known : KnownBatches) → AreFirstOf known known
+AreFirstOf-self known = record { source = refl; begins = BeginsWith-self known.batches }
+
+-- what a seat knows that isn't a publisher's is still known where a batch came behind
+Knows-more : (s t : ReplicaState) (b : NumberedChanges) → t.known ≡ known_with s.known.batches s.known.source b → (v : SeatView) → Knows s v → (IsPublisher v → ⊥) → Knows t v
+Knows-more s t b is New knows not = tt
+Knows-more s t b is (Asker known) knows not =
+    let more : AreFirstOf (known_with s.known.batches s.known.source b) known = record { source = knows.source; begins = BeginsWith-snoc s.known.batches known.batches b knows.begins } in
+    subst (λ (k : KnownBatches). AreFirstOf k known) (sym is) more
+Knows-more s t b is (Publisher known) knows not = absurd (not tt)
+
+-- before a publisher's first step no seat is a publisher's, and what the others know stays
+Knows-opens : (s t : ReplicaState) → t.known ≡ s.known → (v : SeatView) → Knows s v → (IsPublisher v → ⊥) → Knows t v
+Knows-opens s t is New knows not = tt
+Knows-opens s t is (Asker known) knows not = subst (λ (k : KnownBatches). AreFirstOf k known) (sym is) knows
+Knows-opens s t is (Publisher known) knows not = absurd (not tt)
+
+is_open_by : (s : ReplicaState) (v : SeatView) → Knows s v → IsPublisher v → s.is_open ≡ true
+is_open_by s New knows is = absurd is
+is_open_by s (Asker known) knows is = absurd is
+is_open_by s (Publisher known) knows is = knows.1
 
 -- the writer's seat alone
-pub begins : (s : ReplicaState) → HasItsDatabase s → HoldsBetweenSteps s (None ∷ [])
-begins s has = record { database = has; source = AllSuit-snoc s.known.source [] None (λ j u e. absurd (some-ne-none u (sym e))) (None-suits s.known.source) }
+pub begins : (s : ReplicaState) → IsHistory s.known.batches → HasItsDatabase s → HoldsBetweenSteps s (New ∷ [])
+begins s history has = record {
+  history = history;
+  database = has;
+  seats = AllKnow-snoc s [] New (λ j u e. absurd (some-ne-none u (sym e))) tt;
+  one_publisher = HasOnePublisher-snoc [] New (λ i j v w e f p q. absurd (some-ne-none v (sym e))) (λ p. p);
+}
 
 -- a new reader
-pub admits : Admits HoldsBetweenSteps None
-admits s views w = record { database = w.database; source = AllSuit-snoc s.known.source views None w.source (None-suits s.known.source) }
+pub admits : Admits HoldsBetweenSteps New
+admits s views w = record {
+  history = w.history;
+  database = w.database;
+  seats = AllKnow-snoc s views New w.seats tt;
+  one_publisher = HasOnePublisher-snoc views New w.one_publisher (λ p. p);
+}
+
+later_of : (s : ReplicaState) (v : SeatView) → Knows s v → (known : KnownBatches) → v ≡ Asker known → AreFirstOf s.known known
+later_of s v knows known is = subst (λ (z : SeatView). Knows s z) is knows
 
 -- an entry
-pub enters : (seat : ℕ) (v : View) → Turns HoldsBetweenSteps seat v (λ s. s) Enters
-enters seat v s views w at = let suits = w.source seat v at in (
-  v,
-  record { database = w.database; source = AllSuit-set s.known.source views seat v w.source suits },
-  record { same = refl; database = w.database; source = suits },
+pub enters : (seat : ℕ) (v : SeatView) → Turns HoldsBetweenSteps seat v (λ s. s) Enters
+enters seat v s views w at = let self = AreFirstOf-self s.known in (
+  Asker s.known,
+  record {
+    history = w.history;
+    database = w.database;
+    seats = AllKnow-set s views seat (Asker s.known) w.seats self;
+    one_publisher = HasOnePublisher-set views seat v (Asker s.known) at w.one_publisher (λ p. absurd p);
+  },
+  record { same = refl; database = w.database; later = later_of s v (w.seats seat v at); after = refl },
 )
 
--- a swap for a replica of the same source
-pub swaps : (seat : ℕ) (v : View) (s next : ReplicaState) → HasItsDatabase next → next.known.source ≡ s.known.source
-    → TurnsAt HoldsBetweenSteps seat v s next Swaps
-swaps seat v s next has same views w at =
-    let all : AllSuit views next.known.source = subst (AllSuit views) (sym same) w.source in
-    (v, record { database = has; source = AllSuit-set next.known.source views seat v all (all seat v at) }, refl)
+-- the publisher's first step
+pub opens : (seat : ℕ) (v : SeatView) (s next : ReplicaState) → s.is_open ≡ false → next.is_open ≡ true → next.database ≡ s.database → next.known ≡ s.known
+    → TurnsAt HoldsBetweenSteps seat v s next Opens
+opens seat v s next was now database same views w at =
+    let none : (j : ℕ) (u : SeatView) → get_elem? views j ≡ some u → IsPublisher u → ⊥ = λ j u e p. (let both : false ≡ true = sym was ∙ is_open_by s u (w.seats j u e) p in absurd cc) in
+    let all : AllKnow next views = λ j u e. Knows-opens s next same u (w.seats j u e) (none j u e) in (
+      Publisher next.known,
+      record {
+        history = subst (λ (k : KnownBatches). IsHistory k.batches) (sym same) w.history;
+        database = database ∙ (w.database ∙ ap (λ (k : KnownBatches). database_after k.batches) (sym same));
+        seats = AllKnow-set next views seat (Publisher next.known) all (refl, now);
+        one_publisher = HasOnePublisher-first views seat (Publisher next.known) none;
+      },
+      record { same = same; after = refl },
+    )
 
--- the first step, after which the writer's seat knows the source
-pub names : (seat : ℕ) (v : View) (s next : ReplicaState) → HasItsDatabase next → next.known.source ≡ s.known.source
-    → TurnsAt HoldsBetweenSteps seat v s next NamesSource
-names seat v s next has same views w at =
-    let all : AllSuit views next.known.source = subst (AllSuit views) (sym same) w.source in
-    let suits : SuitsSource (Some next.known) next.known.source = λ known e. (let it : next.known ≡ known = cc e in ap (λ (k : KnownBatches). k.source) it) in
-    (Some next.known, record { database = has; source = AllSuit-set next.known.source views seat (Some next.known) all suits }, refl)
+-- a batch that may come next is published
+pub publishes : LawfulByOneMore → (seat : ℕ) (v : SeatView) (s next : ReplicaState) (b : NumberedChanges) → v ≡ Publisher s.known → MayFollow s.known.batches b
+    → next.known ≡ known_with s.known.batches s.known.source b → next.is_open ≡ true → HasItsDatabase next → TurnsAt HoldsBetweenSteps seat v s next Publishes
+publishes law seat v s next b mine follows is now has views w at =
+    let own : IsPublisher v = subst IsPublisher (sym mine) tt in
+    let history : IsHistory next.known.batches = subst (λ (k : KnownBatches). IsHistory k.batches) (sym is) (IsHistory-snoc law s.known.batches b w.history follows) in
+    let all : AllKnow next (set views seat (Publisher next.known)) = λ j u e. ⊎_elim
+    (λ (t : (j ≡ seat) × (Publisher next.known ≡ u)). subst (λ (z : SeatView). Knows next z) t.1 (refl, now))
+    (λ (t : (j ≢ seat) × (get_elem? views j ≡ some u)). Knows-more s next b is u (w.seats j u t.1) (λ p. t.0 (w.one_publisher j seat u v t.1 at p own)))
+    (at_set views seat j (Publisher next.known) u e) in (
+      Publisher next.known,
+      record {
+        history = history;
+        database = has;
+        seats = all;
+        one_publisher = HasOnePublisher-set views seat v (Publisher next.known) at w.one_publisher (λ p. own);
+      },
+      record {
+        batch = b;
+        follows = follows;
+        batches = ap (λ (k : KnownBatches). k.batches) is;
+        source = ap (λ (k : KnownBatches). k.source) is;
+        before = mine;
+        after = refl;
+      },
+    )
 
--- a note is cut off the writer's seat
-pub forks : (seat : ℕ) (v : View) → Forks HoldsBetweenSteps seat v v v
-forks seat v s views w at = let suits = w.source seat v at in
-    record { database = w.database; source = AllSuit-snoc s.known.source (set views seat v) v (AllSuit-set s.known.source views seat v w.source suits) suits }
+told_by-Knows : (s : ReplicaState) (v : SeatView) → Knows s v → Knows s (told_by v)
+told_by-Knows s New knows = tt
+told_by-Knows s (Asker known) knows = knows
+told_by-Knows s (Publisher known) knows = subst (λ (k : KnownBatches). AreFirstOf s.known k) (sym knows.0) (AreFirstOf-self s.known)
 
--- a reader's seat takes in a note
-pub merges : (seat : ℕ) (v : View) (other : ℕ) (w : View) → Merges HoldsBetweenSteps seat v other w w None
+told_by-IsPublisher : (v : SeatView) → IsPublisher (told_by v) → ⊥
+told_by-IsPublisher New p = p
+told_by-IsPublisher (Asker known) p = p
+told_by-IsPublisher (Publisher known) p = p
+
+told_of-Knows : (s : ReplicaState) (v told : SeatView) → Knows s v → Knows s told → Knows s (told_of v told)
+told_of-Knows s New told knows its = told_by-Knows s told its
+told_of-Knows s (Asker known) told knows its = knows
+told_of-Knows s (Publisher known) told knows its = knows
+
+told_of-IsPublisher : (v told : SeatView) → IsPublisher (told_of v told) → IsPublisher v
+told_of-IsPublisher New told p = told_by-IsPublisher told p
+told_of-IsPublisher (Asker known) told p = p
+told_of-IsPublisher (Publisher known) told p = p
+
+-- a note is cut off a seat
+pub forks : (seat : ℕ) (v : SeatView) → Forks HoldsBetweenSteps seat v v (told_by v)
+forks seat v s views w at = record {
+  history = w.history;
+  database = w.database;
+  seats = AllKnow-snoc s (set views seat v) (told_by v) (AllKnow-set s views seat v w.seats (w.seats seat v at)) (told_by-Knows s v (w.seats seat v at));
+  one_publisher = HasOnePublisher-snoc (set views seat v) (told_by v) (HasOnePublisher-set views seat v v at w.one_publisher (λ p. p)) (told_by-IsPublisher v);
+}
+
+-- a seat takes in a note
+pub merges : (seat : ℕ) (v : SeatView) (other : ℕ) (w : SeatView) → Merges HoldsBetweenSteps seat v other w (told_of v w) New
 merges seat v other w s views holds at apart there =
-    let suits : SuitsSource w s.known.source = ⊎_elim (λ (t : (other ≡ seat) × (w ≡ w)). absurd (apart t.0)) (λ (t : (other ≢ seat) × (get_elem? views other ≡ some w)). holds.source other w t.1) (at_set views seat other w w there) in
-    record { database = holds.database; source = AllSuit-set s.known.source (set views seat w) other None (AllSuit-set s.known.source views seat w holds.source suits) (None-suits s.known.source) }
+    let its : Knows s w = ⊎_elim (λ (t : (other ≡ seat) × (told_of v w ≡ w)). absurd (apart t.0)) (λ (t : (other ≢ seat) × (get_elem? views other ≡ some w)). holds.seats other w t.1) (at_set views seat other (told_of v w) w there) in
+    let both : AllKnow s (set views seat (told_of v w)) = AllKnow-set s views seat (told_of v w) holds.seats (told_of-Knows s v w (holds.seats seat v at) its) in
+    let one : HasOnePublisher (set views seat (told_of v w)) = HasOnePublisher-set views seat v (told_of v w) at holds.one_publisher (told_of-IsPublisher v w) in record {
+      history = holds.history;
+      database = holds.database;
+      seats = AllKnow-set s (set views seat (told_of v w)) other New both tt;
+      one_publisher = HasOnePublisher-set (set views seat (told_of v w)) other w New there one (λ p. absurd p);
+    }
 
 -- a replica that takes in a batch that may come next
 pub HasItsDatabase-more : OneMoreBatch → (s : ReplicaState) (b : NumberedChanges) → HasItsDatabase s → MayFollow s.known.batches b
@@ -83,17 +212,18 @@ HasItsDatabase-more law s b has follows =
     database_with-Fits s.database b (subst (λ (d : Database). Fits d b) (sym has) follows.fits)
     ∙ (ap (λ (d : Database). after_changes d b.changes) has ∙ sym (law s.known.batches b))
 
--- a replica that has the database of its batches is known by them
-pub state_from_known : (s : ReplicaState) (known : KnownBatches) → HasItsDatabase s → known ≡ s.known
-    → s ≡ record { database = database_after known.batches; known = known }
-state_from_known s known has is =
-    ap (λ (d : Database). (let it : ReplicaState = record { database = d; known = s.known } in it)) has
-    ∙ ap (λ (k : KnownBatches). (let it : ReplicaState = record { database = database_after k.batches; known = k } in it)) (sym is)
-
--- two operations that change nothing
+-- two operations that change nothing but that the replica is open
 pub idle_twice : (s : ReplicaState)
-    → state_with (state_with s (idle_at s.known).batch s.known) (idle_at s.known).batch s.known ≡ s
+    → state_with (state_with s (idle_at s.known).batch s.known) (idle_at s.known).batch s.known ≡ record { database = s.database; known = s.known; is_open = true }
 idle_twice s =
     let nothing : (d : Database) → database_with d (idle_at s.known).batch ≡ d = λ d. database_with-nothing d 0 in
-    ap (λ (d : Database). (let it : ReplicaState = record { database = d; known = s.known } in it))
+    ap (λ (d : Database). (let it : ReplicaState = record { database = d; known = s.known; is_open = true } in it))
     (ap (λ (d : Database). database_with d (idle_at s.known).batch) (nothing s.database) ∙ nothing s.database)
+
+-- an open replica that has the database of its batches is known by them
+pub state_from_known : (s : ReplicaState) (known : KnownBatches) → HasItsDatabase s → s.is_open ≡ true → known ≡ s.known
+    → s ≡ record { database = database_after known.batches; known = known; is_open = true }
+state_from_known s known has now is =
+    ap (λ (d : Database). (let it : ReplicaState = record { database = d; known = s.known; is_open = s.is_open } in it)) has
+    ∙ (ap (λ (x : Bool). (let it : ReplicaState = record { database = database_after s.known.batches; known = s.known; is_open = x } in it)) now
+    ∙ ap (λ (k : KnownBatches). (let it : ReplicaState = record { database = database_after k.batches; known = k; is_open = true } in it)) (sym is))

@@ -1,5 +1,5 @@
 -- When a batch is refused, the first that applies, and what stands then.
-use Rattle.std.specs.Prelude.{◌≡◌, ◌≢◌, ℕ, ◌+◌, ◌<◌, ◌≤◌, List, [], length, take, Option}
+use Rattle.std.specs.Prelude.{◌≡◌, ◌≢◌, ℕ, ◌+◌, ◌<◌, ◌≤◌, false, List, length, take, Option}
 use Rattle.std.specs.Io.KnownBytes.{Appends}
 use Rattle.cspf_db.specs.Numbered.{NumberedChanges}
 use Rattle.cspf_db.specs.Changes.{database_after}
@@ -12,12 +12,12 @@ use Rattle.cspf_publish.specs.declared.errors.ApplyError.TheVariants.{Stopped, E
 
 -- no fault of the journal came before, and the batch may come next
 pub record IsNextBatch {W : Type 0} (p : PublisherState W) (b : NumberedChanges) : Type 0 where
-  pub going : p.pending ≡ []
+  pub going : p.stopped ≡ false
   pub follows : MayFollow p.batches b
 
 -- not stopped, and fewer than 1,000,000 batches are published
 pub record HasRoom {W : Type 0} (p : PublisherState W) : Type 0 where
-  pub going : p.pending ≡ []
+  pub going : p.stopped ≡ false
   pub room : length p.batches < 1000000
 
 -- Why the batch isn't published, and what stands then: the first of these that applies. Only a fault of
@@ -25,7 +25,7 @@ pub record HasRoom {W : Type 0} (p : PublisherState W) : Type 0 where
 -- stopped for good.
 abbrev pub IsApplyError : {W : Type 0} → (W → Option (List ℕ)) → PublisherState W → PublisherState W → NumberedChanges → ApplyError → Type 0
 IsApplyError contents p p' b Stopped = IsStopped p × (p' ≡ p)
-IsApplyError contents p p' b Exhausted = (p.pending ≡ []) × (1000000 ≤ length p.batches) × (p' ≡ p)
+IsApplyError contents p p' b Exhausted = (p.stopped ≡ false) × (1000000 ≤ length p.batches) × (p' ≡ p)
 IsApplyError contents p p' b (WrongNumber expected) =
     HasRoom p × (b.number ≢ length p.batches + 1) × (expected ≡ length p.batches + 1) × (p' ≡ p)
 IsApplyError contents p p' b (Refused refusal) =

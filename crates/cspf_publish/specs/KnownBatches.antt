@@ -1,10 +1,15 @@
 -- What a publisher, an asker or a told token knows.
-use Rattle.std.specs.Prelude.{List}
+use Rattle.std.specs.Prelude.{◌≡◌, List}
 use Rattle.logbook.specs.Pages.{Book}
 use Rattle.cspf_db.specs.Numbered.{NumberedChanges}
+use Rattle.cspf_publish.specs.Histories.{BeginsWith}
 
--- The first batches of a publisher's list, and which publisher's. Each `open` makes a source of its
--- own.
+-- the first batches of a publisher's list, and which publisher's
 pub record KnownBatches : Type 0 where
   pub batches : List NumberedChanges
   pub source : Book
+
+-- the one are first batches of the other, of the same source, perhaps all of them
+pub record AreFirstOf (all first : KnownBatches) : Type 0 where
+  pub source : first.source ≡ all.source
+  pub begins : BeginsWith all.batches first.batches

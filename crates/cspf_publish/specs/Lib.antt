@@ -4,7 +4,8 @@ pub mod HistoryRule
 pub mod Absorbed
 pub mod ReplicaStates
 pub mod ReplicaRule
-pub mod Pending
+pub mod OneMore
 pub mod PublisherStates
+pub mod RecordErrors
 pub mod ApplyErrors
 pub mod Answers

@@ -1,23 +1,24 @@
--- What a publisher is to a clause.
-use Rattle.std.specs.Prelude.{◌<◌, List, length}
+-- What a publisher and its parts are to a clause.
+use Rattle.std.specs.Prelude.{◌≡◌, Bool, true, List}
 use Rattle.logbook.specs.Pages.{Book}
 use Rattle.cspf_db.specs.Numbered.{NumberedChanges}
-use Rattle.cspf_publish.specs.declared.replica.PendingBatch.{PendingBatch}
 
--- both replicas: the batches that are published, whose they are, and what waits for the next swap
-pub record ReplicasState : Type 0 where
+-- The journal's writer, the batches whose recording has begun, which publisher's they are, and whether
+-- the writer failed in the text of the last one. Else the texts of all of them are written.
+pub record JournalState (W : Type 0) : Type 0 where
   pub batches : List NumberedChanges
   pub source : Book
-  pub pending : List PendingBatch
+  pub stopped : Bool
+  pub writer : W
 
--- The batches that are published, in order, which publisher's they are, a batch that waits to be
--- published, and the journal's writer. A batch waits only where its text wasn't written whole.
+-- The batches that are published, in order, which publisher's they are, whether a fault of the journal
+-- came before, and the journal's writer.
 pub record PublisherState (W : Type 0) : Type 0 where
   pub batches : List NumberedChanges
   pub source : Book
-  pub pending : List PendingBatch
+  pub stopped : Bool
   pub journal : W
 
 -- a fault of the journal came before
 abbrev pub IsStopped : {W : Type 0} → PublisherState W → Type 0
-IsStopped p = 0 < length p.pending
+IsStopped p = p.stopped ≡ true

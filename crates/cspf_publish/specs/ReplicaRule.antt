@@ -1,42 +1,85 @@
--- The rule between any two steps on the replicas: the one that askers enter has the database of whole
--- batches, the first ones of its source's list.
-use Rattle.std.specs.Prelude.{◌≡◌, ℕ, List, Option, Some}
+-- The rule between any two steps on the replicas, and what each kind of step does to the view of the seat
+-- that takes it. The batches of the replica that askers enter are those that are published.
+use Rattle.std.specs.Prelude.{◌≡◌, ℕ, true, List, [], ◌∷◌, ◌++◌}
 use mathlib.Core.Option.{some}
 use lib.ListN.{get_elem?}
-use Rattle.logbook.specs.Pages.{Book}
+use Rattle.cspf_db.specs.Numbered.{NumberedChanges}
 use Rattle.cspf_db.specs.Changes.{database_after}
-use Rattle.cspf_publish.specs.KnownBatches.{KnownBatches}
+use Rattle.cspf_publish.specs.Histories.{IsHistory, MayFollow}
+use Rattle.cspf_publish.specs.KnownBatches.{KnownBatches, AreFirstOf}
 use Rattle.cspf_publish.specs.ReplicaStates.{ReplicaState}
+use Rattle.cspf_publish.specs.declared.seat_view.SeatView.{SeatView}
+use Rattle.cspf_publish.specs.declared.seat_view.SeatView.TheVariants.{New, Asker, Publisher}
 
 -- the replica has the database of its batches
 abbrev pub HasItsDatabase : ReplicaState → Type 0
 HasItsDatabase s = s.database ≡ database_after s.known.batches
 
--- a seat that knows a source knows this one
-abbrev pub SuitsSource : Option KnownBatches → Book → Type 0
-SuitsSource v source = (known : KnownBatches) → v ≡ Some known → source ≡ known.source
+-- What a seat knows: a new one nothing, an asker's first batches of those that are published, and the
+-- publisher's all of them.
+abbrev pub Knows : ReplicaState → SeatView → Type 0
+Knows s New = Unit {0}
+Knows s (Asker known) = AreFirstOf s.known known
+Knows s (Publisher known) = (known ≡ s.known) × (s.is_open ≡ true)
 
--- the seat knows this source
-abbrev pub KnowsSource : Option KnownBatches → Book → Type 0
-KnowsSource v source = (known : KnownBatches) × (v ≡ Some known) × (known.source ≡ source)
+-- the seat is a publisher's
+abbrev pub IsPublisher : SeatView → Type 0
+IsPublisher New = ⊥
+IsPublisher (Asker known) = ⊥
+IsPublisher (Publisher known) = Unit {0}
 
--- The rule: the replica that askers enter has the database of its batches, and no seat knows another
--- source.
-pub record HoldsBetweenSteps (s : ReplicaState) (views : List (Option KnownBatches)) : Type 0 where
+-- at most one seat is a publisher's
+abbrev pub HasOnePublisher : List SeatView → Type 0
+HasOnePublisher views =
+    (i j : ℕ) (v w : SeatView) → get_elem? views i ≡ some v → get_elem? views j ≡ some w
+    → IsPublisher v → IsPublisher w → i ≡ j
+
+-- The rule: the published batches are a history, the replica that askers enter has their database, each
+-- seat knows first batches of them, the publisher's all, and there is one publisher at most.
+pub record HoldsBetweenSteps (s : ReplicaState) (views : List SeatView) : Type 0 where
+  pub history : IsHistory s.known.batches
   pub database : HasItsDatabase s
-  pub source : (seat : ℕ) (v : Option KnownBatches) → get_elem? views seat ≡ some v → SuitsSource v s.known.source
+  pub seats : (seat : ℕ) (v : SeatView) → get_elem? views seat ≡ some v → Knows s v
+  pub one_publisher : HasOnePublisher views
 
--- the publisher's first step: from now on its seat knows the source
-abbrev pub NamesSource : Option KnownBatches → ReplicaState → ReplicaState → Option KnownBatches → Type 0
-NamesSource v x y w = w ≡ Some y.known
+-- The publisher's first step, which changes no batches: from now on its seat knows those that are
+-- published.
+pub record Opens (v : SeatView) (x y : ReplicaState) (w : SeatView) : Type 0 where
+  pub same : y.known ≡ x.known
+  pub after : w ≡ Publisher y.known
 
--- a swap of the replicas: what is published is said by the call itself
-abbrev pub Swaps : Option KnownBatches → ReplicaState → ReplicaState → Option KnownBatches → Type 0
-Swaps v x y w = w ≡ v
+-- The publisher publishes: the batches are those before and one more, which may follow them. The
+-- publisher's view was all of those before, and is all of these.
+pub record Publishes (v : SeatView) (x y : ReplicaState) (w : SeatView) : Type 0 where
+  pub batch : NumberedChanges
+  pub follows : MayFollow x.known.batches batch
+  pub batches : y.known.batches ≡ x.known.batches ++ batch ∷ []
+  pub source : y.known.source ≡ x.known.source
+  pub before : v ≡ Publisher x.known
+  pub after : w ≡ Publisher y.known
 
--- an asker enters a replica: it has the database of its batches, which are of the source that the
--- seat knows
-pub record Enters (v : Option KnownBatches) (x y : ReplicaState) (w : Option KnownBatches) : Type 0 where
-  pub same : w ≡ v
+-- An asker enters a replica, which has the database of its batches: from now on it knows these, and
+-- those that it knew from its last entry are the first of them.
+pub record Enters (v : SeatView) (x y : ReplicaState) (w : SeatView) : Type 0 where
+  pub same : y ≡ x
   pub database : HasItsDatabase y
-  pub source : SuitsSource v y.known.source
+  pub later : (known : KnownBatches) → v ≡ Asker known → AreFirstOf y.known known
+  pub after : w ≡ Asker y.known
+
+-- A new asker's seat is told what the publisher's knows.
+abbrev pub told_by : SeatView → SeatView
+told_by New = New
+told_by (Asker known) = Asker known
+told_by (Publisher known) = Asker known
+
+-- A new seat knows what it is told. One that knows something keeps it.
+abbrev pub told_of : SeatView → SeatView → SeatView
+told_of New told = told_by told
+told_of (Asker known) told = Asker known
+told_of (Publisher known) told = Publisher known
+
+-- The seat is an asker's, which knows at least what it knew at its last entry.
+pub record KnowsItsEntry (v : SeatView) (known : KnownBatches) : Type 0 where
+  pub entered : KnownBatches
+  pub seat : v ≡ Asker entered
+  pub first : AreFirstOf known entered

@@ -1,13 +1,17 @@
 -- What a replica of the table is to a clause: private.
+use Rattle.std.specs.Prelude.{Bool, true}
 use Rattle.cspf_db.specs.Numbered.{NumberedChanges}
 use Rattle.cspf_db.specs.Database.{Database}
 use Rattle.cspf_publish.specs.KnownBatches.{KnownBatches}
 use Rattle.cspf_publish.specs.Absorbed.{database_with}
 
+-- The database, the batches that it is known by, and whether a publisher's seat knows them: from the
+-- publisher's first step on.
 pub record ReplicaState : Type 0 where
   pub database : Database
   pub known : KnownBatches
+  pub is_open : Bool
 
 -- the replica with one more batch, which ends these batches
 abbrev pub state_with : ReplicaState → NumberedChanges → KnownBatches → ReplicaState
-state_with s b known = record { database = database_with s.database b; known = known }
+state_with s b known = record { database = database_with s.database b; known = known; is_open = true }

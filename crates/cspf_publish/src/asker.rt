@@ -1,11 +1,13 @@
-ghost use Rattle.std.specs.Prelude.{◌≡◌, ◌⊎◌, Some, length, IfOk, IfSome, IfErr};
+ghost use Rattle.std.specs.Prelude.{◌≡◌, ◌⊎◌, length, IfOk, IfSome, IfNone, IfErr};
 ghost use Rattle.left_right.specs.Sides.{view};
 ghost use Rattle.cspf_db.specs.Best.{IsBestAnswer};
 ghost use Rattle.cspf_db.specs.Changes.{database_after};
 ghost use Rattle.cspf_search.specs.Outcome.{answer_of};
 ghost use Rattle.cspf_publish.specs.Answers.{IsAnswerAfter};
 ghost use Rattle.cspf_publish.specs.Histories.{BeginsWith, IsHistory};
-ghost use Rattle.cspf_publish.specs.ReplicaRule.{KnowsSource, SuitsSource};
+ghost use Rattle.cspf_publish.specs.KnownBatches.{KnownBatches, AreFirstOf};
+ghost use Rattle.cspf_publish.specs.ReplicaRule.{KnowsItsEntry};
+ghost use Rattle.cspf_publish.specs.declared.seat_view.SeatView.TheVariants.{Asker as IsAsker};
 
 use crate::known::Known;
 use crate::replica::Replica;
@@ -33,22 +35,25 @@ pub struct Asker {
 impl Model for Asker {
     ghost use Rattle.left_right.specs.Sides.{view as seen_by};
     ghost use Rattle.cspf_publish.specs.KnownBatches.{KnownBatches};
-    ghost use Rattle.cspf_publish.specs.ReplicaRule.{KnowsSource};
+    ghost use Rattle.cspf_publish.specs.ReplicaRule.{KnowsItsEntry};
 
     ghost Value = { KnownBatches };
 
     ghost view = { λ a. a.known };
 
-    ghost invariant = { λ a. KnowsSource (seen_by a.reader.place) a.known.source };
+    ghost invariant = { λ a. KnowsItsEntry (seen_by a.reader.place) a.known };
 }
 
-// One entry: the batches of the replica that was entered, and what is found in its table.
+// One entry: the batches of the replica that was entered, and what is found in its table. Those of
+// the last entry are the first of them.
 fn entered(
     reader: ReplicaReader,
     ask: (Global, Request),
 ) -> (ReplicaReader, Option<(Known, Result<Outcome, AllocError>)>)
-    ensures same { view result.0.place ≡ view reader.place }
-    ensures source { IfSome result.1 (λ r. SuitsSource (view reader.place) r.0.source) }
+    ensures none { IfNone result.1 (view result.0.place ≡ view reader.place) }
+    ensures seat { IfSome result.1 (λ r. view result.0.place ≡ IsAsker r.0) }
+    ensures later { IfSome result.1 (λ r. (known : KnownBatches)
+        → view reader.place ≡ IsAsker known → AreFirstOf r.0 known) }
     ensures best { IfSome result.1 (λ r. IfOk r.1 (λ outcome.
         IsBestAnswer (database_after r.0.batches) ask.1 (answer_of outcome))) }
 {
@@ -66,7 +71,7 @@ fn entered(
 
 impl Asker {
     pub(crate) fn new(reader: ReplicaReader, known: Known) -> Asker
-        requires { KnowsSource (view reader.place) known.source }
+        requires { KnowsItsEntry (view reader.place) known }
         ensures { result ≡ known }
     {
         Asker { reader, known }
@@ -74,7 +79,8 @@ impl Asker {
 
     /// The best answer in the database of the last published version. After it the batches of that
     /// version are known. On `NoEntry` nothing changed, and on `Memory` nothing but what is known.
-    // A replica that is older than what is known is refused as `NoEntry` too, which no run shows.
+    // No less is entered than was entered before. Less than was told is `NoEntry` too, which no run
+    // shows.
     pub fn ask(&mut self, alloc: Global, request: &Request) -> Result<Answer, AskError>
         ensures source { self.new.source ≡ self.old.source }
         ensures later { BeginsWith self.new.batches self.old.batches }

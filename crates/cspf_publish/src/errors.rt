@@ -1,4 +1,5 @@
 use cspf_db::Refusal;
+use std::alloc::AllocError;
 use thiserror::Error;
 
 /// Why no publisher is opened.
@@ -13,6 +14,32 @@ pub enum OpenError {
     /// There was no place for a reader.
     #[error("no place for a reader")]
     Places,
+}
+
+/// There was no place for a reader.
+#[derive(Clone, Copy, Debug)]
+pub(crate) struct NoPlace;
+
+impl From<AllocError> for OpenError {
+    ghost use Rattle.std.specs.Prelude.{◌≡◌};
+    ghost use Rattle.cspf_publish.specs.declared.errors.OpenError.TheVariants.{Memory};
+
+    ghost from_gives = { λ _ error. error ≡ Memory };
+
+    fn from(_refused: AllocError) -> OpenError {
+        OpenError::Memory
+    }
+}
+
+impl From<NoPlace> for OpenError {
+    ghost use Rattle.std.specs.Prelude.{◌≡◌};
+    ghost use Rattle.cspf_publish.specs.declared.errors.OpenError.TheVariants.{Places};
+
+    ghost from_gives = { λ _ error. error ≡ Places };
+
+    fn from(_refused: NoPlace) -> OpenError {
+        OpenError::Places
+    }
 }
 
 /// Why a batch isn't published. Only `Journal` changes anything.

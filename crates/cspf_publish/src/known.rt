@@ -1,15 +1,11 @@
 //! What is known of the list of all batches: its first ones.
-ghost use Rattle.std.specs.Prelude.{◌≡◌, ◌<◌, ◌++◌, ◌∷◌, [], length, IfSome, MatchBool};
-ghost use Rattle.cspf_publish.specs.Histories.{BeginsWith, IsHistory, MayFollow};
-ghost use Rattle.cspf_publish.specs.HistoryRule.{length_word};
+ghost use Rattle.std.specs.Prelude.{◌≡◌, ◌<◌, length, MatchBool};
+ghost use Rattle.cspf_publish.specs.Histories.{BeginsWith, IsHistory};
 
-use crate::history::{AddBatch, History, NoGain};
-use cspf_db::{Batch, lawful_batches};
-use logbook::{Offer, Seen, Start, Word};
+use crate::history::History;
+use cspf_db::Batch;
+use logbook::Seen;
 use std::marker::Model;
-
-/// The word that the publisher moves: the length of the list.
-pub type LengthWord = Word<Batch, u64, History>;
 
 /// The first batches of a publisher's list. The code keeps their number alone.
 #[derive(Drop)]
@@ -31,14 +27,19 @@ impl Model for Known {
 }
 
 impl Known {
-    /// A new list, with no batch.
-    pub fn begin() -> (LengthWord, Known)
-        ensures none { result.1.batches ≡ [] }
-        ensures word { result.0 ≡ length_word result.1.source }
+    /// The batches that are seen, so many.
+    pub fn new(version: u32, seen: Seen<Batch, u64, History>) -> Known
+        requires { (version ≡ length seen.log) × IsHistory seen.log }
+        ensures { result ≡ record { batches = seen.log; source = seen.book } }
     {
-        let (seen, mut first, _second) = Seen::open(Start::alone(), 0, 0);
-        let word = Word::tracked(0, &mut first);
-        (word, Known { version: 0, seen })
+        Known { version, seen }
+    }
+
+    /// What is seen of the list.
+    pub fn seen(&self) -> Seen<Batch, u64, History>
+        ensures { (result.log ≡ self.now.batches) × (result.book ≡ self.now.source) }
+    {
+        self.seen.again()
     }
 
     /// How many batches are known.
@@ -75,36 +76,5 @@ impl Known {
         }
         *self = other.copy();
         true
-    }
-
-    /// These batches with one more. None where the list has more batches than these.
-    pub fn extended(&self, word: &LengthWord, batch: &Batch) -> Option<Known>
-        requires word { word.now ≡ length_word self.now.source }
-        requires next { MayFollow self.now.batches batch.now }
-        ensures { IfSome result (λ more. more
-            ≡ record { batches = self.now.batches ++ batch.now ∷ []; source = self.now.source }) }
-    {
-        // A law: one more batch that fits keeps the list lawful.
-        lawful_batches();
-        let mut seen = self.seen.again();
-        let mut offer: Offer<Batch, u64, History, NoGain> = seen.plain::<NoGain, Batch, AddBatch>(
-            batch,
-        );
-        let mut pen = seen.no_pen();
-        let old = self.version as u64;
-        let found = word.compare_exchange::<AddBatch, NoGain>(
-            old,
-            old + 1,
-            &mut seen,
-            &mut offer,
-            &mut pen,
-        );
-        if found != old {
-            return None;
-        }
-        Some(Known {
-            version: batch.number,
-            seen,
-        })
     }
 }

@@ -4,13 +4,16 @@
 //! A batch takes effect at one step, the swap of two replicas of the table. An ask takes effect at
 //! one step, the entering of a replica. `specs/Histories.antt` says which lists of batches may be
 //! published, `specs/KnownBatches.antt` what a publisher, an asker or a told token knows of one,
-//! and `specs/ReplicaRule.antt` the rule that holds between any two steps.
+//! and `specs/ReplicaRule.antt` the rule that holds between any two steps, and what each kind of
+//! step does.
 #![tactic(auto)]
 
 mod answer;
 mod asker;
+mod batch_list;
 mod errors;
 mod history;
+mod journal;
 mod known;
 mod publisher;
 mod replica;

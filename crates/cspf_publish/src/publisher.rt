@@ -1,13 +1,15 @@
-ghost use Rattle.std.specs.Prelude.{◌≡◌, ◌<◌, ◌≤◌, ◌↔◌, ◌++◌, [], ◌∷◌, length, All, IfOk, OnOk, IfErr, OnErr, vec_len};
+ghost use Rattle.std.specs.Prelude.{◌≡◌, ◌<◌, ◌≤◌, ◌↔◌, ◌++◌, [], ◌∷◌, false, length, All, IfOk, OnOk, IfErr, OnErr, vec_len};
 ghost use Rattle.std.specs.Io.KnownBytes.{Appends};
 ghost use Rattle.cspf_publish.specs.ApplyErrors.{IsApplyError, IsNextBatch};
 ghost use Rattle.cspf_rows.specs.BatchText.{batch_text};
 ghost use Rattle.cspf_publish.specs.Histories.{IsHistory};
 
+use crate::batch_list::BatchList;
+use crate::journal::Journal;
 use crate::replicas::Replicas;
 use crate::{ApplyError, Asker, OpenError, Told};
 use cspf_db::Batch;
-use cspf_rows::{batch_text, put_all};
+use cspf_rows::batch_text;
 use std::alloc::Global;
 use std::io::Write;
 use std::marker::Model;
@@ -23,10 +25,11 @@ const ASKERS: usize = 64;
 /// `close`.
 pub struct Publisher<W> {
     replicas: Replicas,
-    journal: W,
+    journal: Journal<W>,
 }
 
 impl<W> Model for Publisher<W> {
+    ghost use Rattle.std.specs.Prelude.{◌≡◌, false};
     ghost use Rattle.cspf_publish.specs.PublisherStates.{PublisherState};
 
     ghost Value = { PublisherState W };
@@ -34,9 +37,13 @@ impl<W> Model for Publisher<W> {
     ghost view = { λ p. record {
       batches = p.replicas.batches;
       source = p.replicas.source;
-      pending = p.replicas.pending;
-      journal = p.journal;
+      stopped = p.journal.stopped;
+      journal = p.journal.writer;
     } };
+
+    // Unless a fault came before, what is recorded is published.
+    ghost invariant = { λ p. (p.journal.source ≡ p.replicas.source)
+        × (p.journal.stopped ≡ false → p.journal.batches ≡ p.replicas.batches) };
 }
 
 /// A publisher of the empty database, version 0, and 1 to 64 askers. It begins with a writer of its
@@ -48,7 +55,7 @@ pub fn open<W: Write, R: Wait>(
     askers: usize,
 ) -> Result<(Publisher<W>, Vec<Asker>), (OpenError, W)>
     ensures publisher { IfOk result (λ opened.
-        (opened.0.batches ≡ []) × (opened.0.pending ≡ []) × (opened.0.journal ≡ journal)) }
+        (opened.0.batches ≡ []) × (opened.0.stopped ≡ false) × (opened.0.journal ≡ journal)) }
     ensures askers { IfOk result (λ opened.
         All (λ a. (a.batches ≡ []) × (a.source ≡ opened.0.source)) opened.1.items) }
     ensures count { IfOk result (λ opened. vec_len opened.1 ≡ askers) }
@@ -60,14 +67,23 @@ pub fn open<W: Write, R: Wait>(
     if askers == 0 || askers > ASKERS {
         return Err((OpenError::Askers, journal));
     }
-    let Ok(mut replicas) = Replicas::new(rt, alloc, askers) else {
-        return Err((OpenError::Memory, journal));
+    let room = match Vec::with_capacity(alloc, askers) {
+        Ok(room) => room,
+        Err(refused) => return Err((OpenError::from(refused), journal)),
     };
-    match replicas.askers(alloc, askers) {
-        Ok(all) => Ok((Publisher { replicas, journal }, all)),
-        Err(e) => {
+    let list = BatchList::begin();
+    let mut replicas = match Replicas::new(rt, alloc, list.known(), askers) {
+        Ok(replicas) => replicas,
+        Err(refused) => return Err((OpenError::from(refused), journal)),
+    };
+    match replicas.askers(room, askers) {
+        Ok(all) => {
+            let journal = Journal::new(journal, list);
+            Ok((Publisher { replicas, journal }, all))
+        }
+        Err(refused) => {
             replicas.close(rt);
-            Err((e, journal))
+            Err((OpenError::from(refused), journal))
         }
     }
 }
@@ -103,13 +119,13 @@ impl<W: Write> Publisher<W> {
         ensures next { OnOk result (IsNextBatch self.old batch.now) }
         ensures published { OnOk result (self.new.batches ≡ self.old.batches ++ batch.now ∷ []) }
         ensures version { IfOk result (λ version. version ≡ length self.new.batches) }
-        ensures going { OnOk result (self.new.pending ≡ []) }
+        ensures going { OnOk result (self.new.stopped ≡ false) }
         ensures recorded { OnOk result (Appends
             (W.contents self.old.journal) (W.contents self.new.journal) (batch_text batch.now)) }
         ensures same { OnErr result (self.new.batches ≡ self.old.batches) }
         ensures why { IfErr result (λ e. IsApplyError W.contents self.old self.new batch.now e) }
     {
-        if self.replicas.has_pending() {
+        if self.journal.is_stopped() {
             return Err(ApplyError::Stopped);
         }
         let version = self.replicas.version();
@@ -130,13 +146,10 @@ impl<W: Write> Publisher<W> {
         let Ok(copy) = batch.copy(alloc) else {
             return Err(ApplyError::Memory);
         };
-        if !self.replicas.stage(copy) {
-            return Err(ApplyError::Memory);
+        match self.journal.record(batch, text.as_slice()) {
+            Ok(recorded) => Ok(self.replicas.publish(rt, copy, recorded)),
+            Err(error) => Err(error),
         }
-        if let Err(written) = put_all(&mut self.journal, text.as_slice()) {
-            return Err(ApplyError::Journal { written });
-        }
-        Ok(self.replicas.publish(rt))
     }
 
     /// The journal's writer, as the last call left it. May wait for askers that are inside a call.
@@ -145,6 +158,6 @@ impl<W: Write> Publisher<W> {
     {
         let Publisher { replicas, journal } = self;
         replicas.close(rt);
-        journal
+        journal.into_writer()
     }
 }

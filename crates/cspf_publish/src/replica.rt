@@ -24,6 +24,8 @@ pub struct Replica {
     pub table: Table,
     /// The batches that it took in.
     pub known: Known,
+    /// Whether it took in an operation: then a publisher's seat knows its batches.
+    pub is_open: bool,
 }
 
 impl Model for Replica {
@@ -35,7 +37,7 @@ impl Model for Replica {
 
     ghost coded = { Prim.hlevel (codes, database_code) };
 
-    ghost view = { λ r. record { database = r.table; known = r.known } };
+    ghost view = { λ r. record { database = r.table; known = r.known; is_open = r.is_open } };
 }
 
 // Takes in a batch, which changes nothing where it doesn't fit.
@@ -63,6 +65,7 @@ impl Absorb<PendingBatch> for Replica {
     ) -> Result<(), AllocError> {
         absorb(&mut self.table, &operation.batch);
         self.known = operation.known.copy();
+        self.is_open = true;
         Ok(())
     }
 }

@@ -1,6 +1,6 @@
 //! The rule of the replicas, and what each kind of step tells.
-ghost use Rattle.std.specs.Prelude.{None};
-ghost use Rattle.cspf_publish.specs.ReplicaRule.{HoldsBetweenSteps, Enters, NamesSource, Swaps};
+ghost use Rattle.cspf_publish.specs.ReplicaRule.{HoldsBetweenSteps, Enters, Opens, Publishes, told_by, told_of};
+ghost use Rattle.cspf_publish.specs.declared.seat_view.SeatView.TheVariants.{New as IsNew};
 
 use crate::replica::Replica;
 use crate::seat_view::SeatView;
@@ -13,21 +13,21 @@ pub struct ReplicaRule;
 impl Protocol<Replica, SeatView> for ReplicaRule {
     ghost holds = { HoldsBetweenSteps };
 
-    ghost first = { None };
+    ghost first = { IsNew };
 }
 
-/// The publisher's first step, which tells its seat the source.
-pub struct Naming;
+/// The publisher's first step, which tells its seat what is published.
+pub struct Opening;
 
-impl Outcome<Replica, SeatView> for Naming {
-    ghost then = { NamesSource };
+impl Outcome<Replica, SeatView> for Opening {
+    ghost then = { Opens };
 }
 
 /// A swap, at which a batch takes effect.
 pub struct Swap;
 
 impl Outcome<Replica, SeatView> for Swap {
-    ghost then = { Swaps };
+    ghost then = { Publishes };
 }
 
 /// An entry, at which an ask takes effect.
@@ -37,17 +37,17 @@ impl Outcome<Replica, SeatView> for Entry {
     ghost then = { Enters };
 }
 
-/// A new reader's seat is told the source that the publisher's knows.
-pub struct SourceNote;
+/// A new asker's seat is told what the publisher's knows.
+pub struct FirstNote;
 
-impl Split<SeatView> for SourceNote {
+impl Split<SeatView> for FirstNote {
     ghost left = { λ v. v };
 
-    ghost right = { λ v. v };
+    ghost right = { told_by };
 }
 
-impl Join<SeatView> for SourceNote {
-    ghost both = { λ v w. w };
+impl Join<SeatView> for FirstNote {
+    ghost both = { told_of };
 
-    ghost spent = { None };
+    ghost spent = { IsNew };
 }

@@ -1,20 +1,21 @@
-//! Both replicas of the table, with at most one batch that waits for the next swap.
-ghost use Rattle.std.specs.Prelude.{◌≡◌, ◌≢◌, Some, ◌<◌, ◌≤◌, ◌↔◌, ◌++◌, [], ◌∷◌, length, drop, map, All, IsTrue, IfOk, IfErr, OnOk, MatchBool, vec_len};
+//! Both replicas of the table.
+ghost use Rattle.std.specs.Prelude.{◌≡◌, ◌+◌, ◌<◌, ◌≤◌, ◌++◌, [], ◌∷◌, true, false, length, drop, All, IfOk, OnOk, IfErr, vec_len, vec_capacity};
 ghost use Rattle.left_right.specs.Sides.{view};
 ghost use Rattle.cspf_db.specs.Numbered.{NumberedChanges};
 ghost use Rattle.cspf_db.specs.Changes.{no_links, database_after, Fits};
 ghost use Rattle.cspf_db.specs.Refusals.{IsRefusal};
 ghost use Rattle.cspf_publish.specs.Histories.{IsHistory, MayFollow};
-ghost use Rattle.cspf_publish.specs.ReplicaRule.{HasItsDatabase};
-ghost use Rattle.cspf_publish.specs.Pending.{pending_behind, idle_at};
+ghost use Rattle.cspf_publish.specs.OneMore.{known_with, idle_at};
+ghost use Rattle.cspf_publish.specs.declared.seat_view.SeatView.TheVariants.{New as IsNew, Publisher as IsPublisher};
 
-use crate::known::{Known, LengthWord};
+use crate::errors::NoPlace;
+use crate::known::Known;
 use crate::replica::{PendingBatch, Replica};
-use crate::replica_rule::{Naming, ReplicaRule, SourceNote, Swap};
+use crate::replica_rule::{FirstNote, Opening, ReplicaRule, Swap};
 use crate::seat_view::SeatView;
-use crate::{Asker, OpenError, Told};
+use crate::{Asker, Told};
 use core::mem::replace_with;
-use cspf_db::{Batch, Refusal, Table, absorbing};
+use cspf_db::{Batch, Refusal, Table, absorbing, lawful_batches};
 use left_right::writer::Writer;
 use std::alloc::{AllocError, Global};
 use std::marker::Model;
@@ -25,66 +26,81 @@ type ReplicaWriter = Writer<Replica, PendingBatch, SeatView, ReplicaRule>;
 /// It is not `Drop`: end it by `close`.
 pub(crate) struct Replicas {
     writer: ReplicaWriter,
-    word: LengthWord,
     known: Known,
 }
 
 impl Model for Replicas {
-    ghost use Rattle.std.specs.Prelude.{◌≡◌, drop};
+    ghost use Rattle.std.specs.Prelude.{◌≡◌, [], true, drop};
     ghost use Rattle.left_right.specs.Sides.{view as seen_by};
     ghost use Rattle.cspf_db.specs.Changes.{database_after};
-    ghost use Rattle.cspf_publish.specs.HistoryRule.{length_word};
-    ghost use Rattle.cspf_publish.specs.PublisherStates.{ReplicasState};
-    ghost use Rattle.cspf_publish.specs.ReplicaRule.{KnowsSource};
+    ghost use Rattle.cspf_publish.specs.KnownBatches.{KnownBatches};
+    ghost use Rattle.cspf_publish.specs.declared.seat_view.SeatView.TheVariants.{Publisher};
 
-    ghost Value = { ReplicasState };
+    ghost Value = { KnownBatches };
 
-    ghost view = { λ r. record {
-      batches = r.known.batches;
-      source = r.known.source;
-      pending = drop r.writer.behind r.writer.log.items;
-    } };
+    ghost view = { λ r. r.known };
 
     ghost invariant = { λ r. (r.writer.desk.shown.value
-        ≡ record { database = database_after r.known.batches; known = r.known })
-        × KnowsSource (seen_by r.writer.desk.place) r.known.source
-        × (r.word ≡ length_word r.known.source) };
+        ≡ record { database = database_after r.known.batches; known = r.known; is_open = true })
+        × (seen_by r.writer.desk.place ≡ Publisher r.known)
+        × (drop r.writer.behind r.writer.log.items ≡ []) };
 }
 
-// The first step, which changes no table. From now on the writer's seat knows the source.
-fn named<R: Wait>(writer: ReplicaWriter, rt: &R) -> ReplicaWriter
+// The first step, which changes no table. From now on the writer's seat knows what is published.
+fn opened<R: Wait>(writer: ReplicaWriter, rt: &R) -> ReplicaWriter
     requires empty { writer.desk.shown.value ≡ record {
       database = no_links;
       known = record { batches = []; source = writer.desk.shown.value.known.source };
+      is_open = false;
     } }
     requires pending { drop writer.behind writer.log.items
         ≡ idle_at writer.desk.shown.value.known ∷ idle_at writer.desk.shown.value.known ∷ [] }
-    ensures source { view result.desk.place ≡ Some writer.desk.shown.value.known }
-    ensures shown { result.desk.shown.value ≡ writer.desk.shown.value }
+    ensures seat { view result.desk.place ≡ IsPublisher writer.desk.shown.value.known }
+    ensures shown { result.desk.shown.value ≡ record {
+      database = no_links;
+      known = writer.desk.shown.value.known;
+      is_open = true;
+    } }
     ensures pending { drop result.behind result.log.items ≡ [] }
 {
-    let (writer, published) = writer.publish_as::<Naming, R>(rt);
+    let (writer, published) = writer.publish_as::<Opening, R>(rt);
     let _ = published;
     writer
 }
 
 // One step: the pending batch is published.
 fn swapped<R: Wait>(writer: ReplicaWriter, rt: &R) -> (ReplicaWriter, Known)
-    requires database { HasItsDatabase writer.desk.shown.value }
+    requires shown { writer.desk.shown.value ≡ record {
+      database = database_after writer.desk.shown.value.known.batches;
+      known = writer.desk.shown.value.known;
+      is_open = true;
+    } }
+    requires seat { view writer.desk.place ≡ IsPublisher writer.desk.shown.value.known }
     requires pending { (b : NumberedChanges)
         × MayFollow writer.desk.shown.value.known.batches b
-        × (drop writer.behind writer.log.items ≡ pending_behind
-        writer.desk.shown.value.known.batches writer.desk.shown.value.known.source b ∷ []) }
-    ensures source { view result.0.desk.place ≡ view writer.desk.place }
-    ensures shown { result.0.desk.shown.value
-        ≡ record { database = database_after result.1.batches; known = result.1 } }
+        × (drop writer.behind writer.log.items ≡ record {
+          batch = b;
+          known = known_with writer.desk.shown.value.known.batches
+              writer.desk.shown.value.known.source b;
+        } ∷ []) }
+    ensures seat { view result.0.desk.place ≡ IsPublisher result.1 }
+    ensures shown { result.0.desk.shown.value ≡ record {
+      database = database_after result.1.batches;
+      known = result.1;
+      is_open = true;
+    } }
     ensures pending { drop result.0.behind result.0.log.items ≡ [] }
-    ensures batches { result.1.batches ≡ writer.desk.shown.value.known.batches
-        ++ map (λ p. p.batch) (drop writer.behind writer.log.items) }
-    ensures known { result.1.source ≡ writer.desk.shown.value.known.source }
+    ensures known { (b : NumberedChanges) → drop writer.behind writer.log.items ≡ record {
+      batch = b;
+      known = known_with writer.desk.shown.value.known.batches
+          writer.desk.shown.value.known.source b;
+    } ∷ [] → result.1 ≡ known_with writer.desk.shown.value.known.batches
+        writer.desk.shown.value.known.source b }
 {
-    // A law: one more batch makes its changes in the database of those before it.
+    // Laws: one more batch makes its changes in the database of those before it, and keeps the
+    // list lawful.
     absorbing();
+    lawful_batches();
     let (writer, published) = writer.publish_as::<Swap, R>(rt);
     let _ = published;
     let known = writer.published().known.copy();
@@ -105,12 +121,40 @@ fn idle(alloc: Global, known: &Known) -> PendingBatch
 }
 
 fn empty(alloc: Global, known: &Known) -> Result<Replica, AllocError>
-    ensures { IfOk result (λ r. r ≡ record { database = no_links; known = known.now }) }
+    ensures { IfOk result (λ r.
+        r ≡ record { database = no_links; known = known.now; is_open = false }) }
 {
     Ok(Replica {
         table: Table::new(alloc)?,
         known: known.copy(),
+        is_open: false,
     })
+}
+
+// Appends an operation. The log has room for it since the replicas were made, so the first turn is
+// the last one.
+fn append<R: Wait>(writer: &mut ReplicaWriter, rt: &R, operation: PendingBatch)
+    ensures desk { writer.new.desk ≡ writer.old.desk }
+    ensures pending { drop writer.new.behind writer.new.log.items
+        ≡ drop writer.old.behind writer.old.log.items ++ operation ∷ [] }
+{
+    let mut operation = operation;
+    for _ in rt.forever() {
+        match writer.append(operation) {
+            Ok(()) => return,
+            Err(refused) => operation = refused,
+        }
+    }
+    unreachable!()
+}
+
+// Adds an asker where there is room for it.
+fn push_within(all: &mut Vec<Asker>, asker: Asker)
+    requires { vec_len all.old < vec_capacity all.old }
+    ensures items { all.new.items ≡ all.old.items ++ asker ∷ [] }
+    ensures capacity { vec_capacity all.old ≤ vec_capacity all.new }
+{
+    let _ = all.push(asker);
 }
 
 impl Replicas {
@@ -119,12 +163,13 @@ impl Replicas {
     pub(crate) fn new<R: Wait>(
         rt: &R,
         alloc: Global,
+        known: Known,
         readers: usize,
     ) -> Result<Replicas, AllocError>
-        requires { (0 < readers) × (readers ≤ 64) }
-        ensures { IfOk result (λ r. (r.batches ≡ []) × (r.pending ≡ [])) }
+        requires none { known.batches ≡ [] }
+        requires readers { (0 < readers) × (readers ≤ 64) }
+        ensures { IfOk result (λ r. r ≡ known) }
     {
-        let (word, known) = Known::begin();
         let first = empty(alloc, &known)?;
         let second = empty(alloc, &known)?;
         let mut writer: ReplicaWriter = Writer::new(alloc, first, second, readers)?;
@@ -137,39 +182,34 @@ impl Replicas {
             return Err(AllocError);
         };
         Ok(Replicas {
-            writer: named(writer, rt),
-            word,
+            writer: opened(writer, rt),
             known,
         })
     }
 
-    /// So many askers, who know what is published.
-    pub(crate) fn askers(&mut self, alloc: Global, count: usize) -> Result<Vec<Asker>, OpenError>
+    /// So many askers in this room, who know what is published.
+    pub(crate) fn askers(&mut self, room: Vec<Asker>, count: usize) -> Result<Vec<Asker>, NoPlace>
+        requires { (room.items ≡ []) × (count ≤ vec_capacity room) }
         ensures same { self.new ≡ self.old }
         ensures count { IfOk result (λ all. vec_len all ≡ count) }
-        ensures each { IfOk result (λ all.
-            All (λ a. (a.batches ≡ self.old.batches) × (a.source ≡ self.old.source)) all.items) }
-        ensures error { IfErr result (λ e. e ≢ OpenError.Askers) }
+        ensures each { IfOk result (λ all. All (λ a. a ≡ self.old) all.items) }
     {
-        let mut all = Vec::new(alloc);
+        let mut all = room;
         for _ in 0..count {
             let Ok(asker) = self.asker() else {
-                return Err(OpenError::Places);
+                return Err(NoPlace);
             };
-            if all.push(asker).is_err() {
-                return Err(OpenError::Memory);
-            }
+            push_within(&mut all, asker);
         }
         Ok(all)
     }
 
     fn asker(&mut self) -> Result<Asker, AllocError>
         ensures same { self.new ≡ self.old }
-        ensures ok { IfOk result (λ a.
-            (a.batches ≡ self.old.batches) × (a.source ≡ self.old.source)) }
+        ensures ok { IfOk result (λ a. a ≡ self.old) }
     {
         let mut reader = self.writer.factory().reader()?;
-        reader.learn::<SourceNote>(self.writer.tell::<SourceNote>());
+        reader.learn::<FirstNote>(self.writer.tell::<FirstNote>());
         Ok(Asker::new(reader, self.known.copy()))
     }
 
@@ -181,13 +221,6 @@ impl Replicas {
         self.known.version()
     }
 
-    /// Whether a batch waits.
-    pub(crate) fn has_pending(&self) -> bool
-        ensures { IsTrue result ↔ (0 < length self.now.pending) }
-    {
-        self.writer.has_pending_operations()
-    }
-
     /// Whether the batch fits the published database, and else the first reason why it doesn't.
     pub(crate) fn check(&self, batch: &Batch) -> Result<(), Refusal>
         ensures ok { OnOk result (Fits (database_after self.now.batches) batch.now) }
@@ -197,49 +230,38 @@ impl Replicas {
         self.writer.published().table.check(batch)
     }
 
-    /// Makes the batch wait for the next swap. False where it can't.
-    pub(crate) fn stage(&mut self, batch: Batch) -> bool
-        requires { MayFollow self.old.batches batch }
-        ensures same { (self.new.batches ≡ self.old.batches) × (self.new.source ≡ self.old.source) }
-        ensures pending { MatchBool result
-            (self.new.pending
-            ≡ self.old.pending ++ pending_behind self.old.batches self.old.source batch ∷ [])
-            (self.new.pending ≡ self.old.pending) }
-    {
-        let Some(known) = self.known.extended(&self.word, &batch) else {
-            return false;
-        };
-        self.writer.append(PendingBatch { batch, known }).is_ok()
-    }
-
-    /// Publishes the batch that waits, and answers the new version.
-    pub(crate) fn publish<R: Wait>(&mut self, rt: &R) -> u32
-        requires { (b : NumberedChanges) × MayFollow self.old.batches b
-            × (self.old.pending ≡ pending_behind self.old.batches self.old.source b ∷ []) }
-        ensures source { self.new.source ≡ self.old.source }
-        ensures batches { self.new.batches
-            ≡ self.old.batches ++ map (λ p. p.batch) self.old.pending }
-        ensures pending { self.new.pending ≡ [] }
+    /// Publishes a batch that is recorded, and answers the new version.
+    pub(crate) fn publish<R: Wait>(&mut self, rt: &R, batch: Batch, recorded: Known) -> u32
+        requires next { MayFollow self.old.batches batch }
+        requires recorded { recorded ≡ known_with self.old.batches self.old.source batch }
+        ensures known { self.new ≡ recorded }
         ensures version { result ≡ length self.new.batches }
     {
+        let next = PendingBatch {
+            batch,
+            known: recorded,
+        };
+        append(&mut self.writer, rt, next);
         self.known = replace_with(&mut self.writer, rt, swapped::<R>);
         self.known.version()
     }
 
     /// A token of what is published.
     pub(crate) fn tell(&self) -> Told
-        ensures { (result.batches ≡ self.now.batches) × (result.source ≡ self.now.source) }
+        ensures { result ≡ self.now }
     {
         Told::new(self.known.copy())
     }
 
-    /// Lets both replicas go.
-    pub(crate) fn close<R: Wait>(self, rt: &R) {
+    /// Lets both replicas go. What is shown last is what was published last.
+    pub(crate) fn close<R: Wait>(self, rt: &R) -> Known
+        ensures { result ≡ self }
+    {
         let Replicas {
             writer,
-            word: _word,
             known: _known,
         } = self;
-        writer.take(rt);
+        let shown = writer.take(rt);
+        shown.known.copy()
     }
 }

@@ -1,5 +1,5 @@
 -- Batches that are applied one after the other.
-use Rattle.std.proofs.Common.{◌≡◌, ℕ, ◌+◌, ◌<◌, List, [], ◌∷◌, ◌++◌, length, take, Option, Some, None, slice_get, refl, sym, ap, ◌∙◌, subst, arith, length-append, append_assoc, append-nil, flat_map}
+use Rattle.std.proofs.Common.{◌≡◌, ℕ, ◌+◌, ◌<◌, List, [], ◌∷◌, ◌++◌, length, take, Option, Some, None, slice_get, refl, sym, ap, ◌∙◌, subst, arith, length-append, append_assoc, append-nil, flat_map, false}
 use Rattle.std.proofs.KnownBytes.{Appends-nil, Appends-trans}
 use Rattle.std.proofs.lemmas.Grind.{flat_map-append}
 use Rattle.std.specs.Io.KnownBytes.{Appends}
@@ -20,7 +20,7 @@ applied_none contents p = record {
 }
 
 pub applied_more : {W : Type 0} (contents : W → Option (List ℕ)) (p q r : PublisherState W) (bs : List NumberedChanges) (b : NumberedChanges)
-    → r.source ≡ q.source → r.batches ≡ q.batches ++ b ∷ [] → r.pending ≡ [] → Appends (contents q.journal) (contents r.journal) (batch_text b)
+    → r.source ≡ q.source → r.batches ≡ q.batches ++ b ∷ [] → r.stopped ≡ false → Appends (contents q.journal) (contents r.journal) (batch_text b)
     → AreApplied contents p q bs → AreApplied contents p r (bs ++ b ∷ [])
 applied_more contents p q r bs b source published going recorded is =
     let long = length-append bs (b ∷ []) in

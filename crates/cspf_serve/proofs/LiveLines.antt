@@ -1,5 +1,5 @@
 -- The lines of a live run, and what its journal holds.
-use Rattle.std.proofs.Common.{◌≡◌, ℕ, ◌+◌, ◌<◌, ◌≤◌, false, Option, Some, None, IfSome, Result, Ok, Err, IfOk, List, [], ◌++◌, take, get_or, length, slice_get, inl, inr, refl, sym, ap, ◌∙◌, subst, append_assoc, arith}
+use Rattle.std.proofs.Common.{◌≡◌, ℕ, ◌+◌, ◌<◌, ◌≤◌, false, Option, Some, None, IfSome, Result, Ok, Err, IfOk, List, [], ◌++◌, take, get_or, length, slice_get, inl, inr, refl, sym, ap, ◌∙◌, subst, append_assoc, arith, true}
 use Rattle.std.proofs.KnownBytes.{Appends-nil, Appends-trans}
 use Rattle.std.proofs.lemmas.List.{length-take-le}
 use Rattle.std.proofs.lemmas.Bool.{cases_lt}
@@ -56,9 +56,9 @@ fits_there published p b is fits = subst (λ (bs : List NumberedChanges). Fits (
 
 -- a batch with the next number isn't published for its changes, for memory or for a fault of the journal
 why_not : {J : Type 0} (contents : J → Option (List ℕ)) (published : List NumberedChanges) (p after : PublisherState J) (b : NumberedChanges) (e : ApplyError)
-    → p.pending ≡ [] → p.batches ≡ published → b.number ≡ length p.batches + 1 → length p.batches < 1000000 → IsApplyError contents p after b e
+    → p.stopped ≡ false → p.batches ≡ published → b.number ≡ length p.batches + 1 → length p.batches < 1000000 → IsApplyError contents p after b e
     → IsWhyNot published b e × Appends (contents p.journal) (contents after.journal) (begun_text b e)
-why_not contents published p after b error.Stopped going is number room why = let none = ap length going in let some = why.0 in absurd (omega arith)
+why_not contents published p after b error.Stopped going is number room why = let both : true ≡ false = sym why.0 ∙ going in absurd cc
 why_not contents published p after b error.Exhausted going is number room why = let full = why.1 in absurd (omega arith)
 why_not contents published p after b (error.WrongNumber expected) going is number room why = absurd (why.1 number)
 why_not contents published p after b (error.Refused refusal) going is number room why =
@@ -72,16 +72,16 @@ why_not contents published p after b (error.Journal written) going is number roo
 
 -- no fault of the journal came before the first refusal
 still_going : {J : Type 0} (contents : J → Option (List ℕ)) (before between : PublisherState J) (batches : List NumberedChanges)
-    → before.pending ≡ [] → AreApplied contents before between batches → between.pending ≡ []
+    → before.stopped ≡ false → AreApplied contents before between batches → between.stopped ≡ false
 still_going {J} contents before between batches fresh is = elim (cases_lt 0 (length batches)) [
   | inl some ↦ is.going some
-  | inr none ↦ ap (λ (p : PublisherState J). p.pending) (is.none (omega arith)) ∙ fresh
+  | inr none ↦ ap (λ (p : PublisherState J). p.stopped) (is.none (omega arith)) ∙ fresh
 ]
 
 -- what is left to be said of a live run: the last line, the status, and what the journal holds behind the published batches
 ended : {J : Type 0} (contents : J → Option (List ℕ)) (batches : List NumberedChanges) (between after : PublisherState J) (applied : ℕ) (fault : Option ApplyError)
     (last : List ℕ) (status : ℕ) → AreNumberedFrom 1 batches → length batches ≤ 1000000 → applied ≤ length batches
-    → between.pending ≡ [] → between.batches ≡ take applied batches → IsEndOfApplying contents between after batches applied fault
+    → between.stopped ≡ false → between.batches ≡ take applied batches → IsEndOfApplying contents between after batches applied fault
     → IsFaultShown (slice_get batches applied) fault last status
     → (begun : List ℕ) × IsEndOfLiveRun batches applied last begun status × Appends (contents between.journal) (contents after.journal) begun
 ended contents batches between after applied None last status numbered few inside going is end shown =
@@ -101,7 +101,7 @@ ended contents batches between after applied (Some e) last status numbered few i
 -- all that is said of a live run
 pub live_answered : {J : Type 0} (contents : J → Option (List ℕ)) (batches : List NumberedChanges) (requests : List Request) (answers : List Answer)
     (before after : PublisherState J) (applied version : ℕ) (fault : Option ApplyError) (status : ℕ) (old new : Option (List ℕ))
-    → AreNumberedFrom 1 batches → length batches ≤ 1000000 → before.batches ≡ [] → before.pending ≡ []
+    → AreNumberedFrom 1 batches → length batches ≤ 1000000 → before.batches ≡ [] → before.stopped ≡ false
     → IsAppliedUpTo contents before after batches applied fault → version ≡ length after.batches → IsHistory after.batches
     → length answers ≡ length requests → AreAnswersWithin after.batches requests answers
     → Writes old new (AreLiveLines answers batches version fault status)

@@ -1,5 +1,5 @@
 -- The lines of batches that are published, and of one that isn't.
-use Rattle.std.proofs.Common.{◌≡◌, ℕ, zero, suc, ◌+◌, ◌<◌, ◌≤◌, Option, List, [], ◌∷◌, get_or, length, refl, arith}
+use Rattle.std.proofs.Common.{◌≡◌, ℕ, zero, suc, ◌+◌, ◌<◌, ◌≤◌, Option, List, [], ◌∷◌, get_or, length, refl, arith, false}
 use Rattle.std.proofs.KnownBytes.{Keeps-refl}
 use Rattle.std.specs.Io.KnownBytes as known
 use Rattle.cspf_db.specs.declared.refusal.Refusal.{Refusal}
@@ -29,7 +29,7 @@ IsShownUnfit published b line old new =
 
 -- a batch with the next number is refused for its changes alone
 pub shown_unfit : {W : Type 0} (contents : W → Option (List ℕ)) (p after : PublisherState W) (b : NumberedChanges) (e : ApplyError) (line : List ℕ) (old : Option (List ℕ))
-    → p.pending ≡ [] → b.number ≡ length p.batches + 1 → length p.batches + 1 ≤ 1000000 → IsApplyError contents p after b e → IsOwnFaultLine e b.number line
+    → p.stopped ≡ false → b.number ≡ length p.batches + 1 → length p.batches + 1 ≤ 1000000 → IsApplyError contents p after b e → IsOwnFaultLine e b.number line
     → IsShownUnfit p.batches b line old old
 shown_unfit contents p after b error.Stopped line old going number room is shown = absurd shown
 shown_unfit contents p after b error.Exhausted line old going number room is shown = let full = is.1 in absurd (omega arith)

@@ -1,5 +1,5 @@
 -- What batches leave that are applied in order, up to the first that is refused.
-use Rattle.std.specs.Prelude.{◌≡◌, ℕ, ◌<◌, ◌≤◌, ◌⊎◌, List, [], ◌++◌, length, take, Option, Some, None, slice_get, flat_map}
+use Rattle.std.specs.Prelude.{◌≡◌, ℕ, ◌<◌, ◌≤◌, ◌⊎◌, List, [], ◌++◌, length, take, Option, Some, None, slice_get, flat_map, false}
 use Rattle.std.specs.Io.KnownBytes.{Appends}
 use Rattle.cspf_db.specs.Numbered.{NumberedChanges}
 use Rattle.cspf_rows.specs.BatchText.{batch_text}
@@ -14,7 +14,7 @@ pub record AreApplied {W : Type 0} (contents : W → Option (List ℕ)) (before 
   pub published : after.batches ≡ before.batches ++ batches
   pub recorded : Appends (contents before.journal) (contents after.journal) (flat_map batch_text batches)
   pub none : length batches ≡ 0 → after ≡ before
-  pub going : 0 < length batches → after.pending ≡ []
+  pub going : 0 < length batches → after.stopped ≡ false
 
 -- why no more than so many batches were applied: there are no more, or the next one was refused
 abbrev pub IsEndOfApplying : {W : Type 0} → (W → Option (List ℕ)) → PublisherState W → PublisherState W → List NumberedChanges → ℕ → Option ApplyError → Type 0

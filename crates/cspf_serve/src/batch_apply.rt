@@ -1,4 +1,4 @@
-ghost use Rattle.std.specs.Prelude.{◌≡◌, ◌+◌, ◌≤◌, ◌∷◌, ◌++◌, List, ℕ, [], length, IfOk, IfErr, OnOk, OnErr};
+ghost use Rattle.std.specs.Prelude.{◌≡◌, ◌+◌, ◌≤◌, ◌∷◌, ◌++◌, List, ℕ, [], length, IfOk, IfErr, OnOk, OnErr, false};
 ghost use Rattle.std.specs.Io.KnownBytes.{Appends};
 ghost use Rattle.std.specs.Io.KnownBytes.{Keeps as HoldsAsBefore};
 ghost use Rattle.cspf_db.specs.declared.refusal.Refusal.{Refusal as IsWhy};
@@ -31,7 +31,7 @@ pub(crate) fn publish_all<J: Write, W: Write, R: Wait>(
     publisher: &mut Publisher<J>,
     writer: &mut W,
 ) -> Result<(), Stop>
-    requires fresh { (publisher.old.batches ≡ []) × (publisher.old.pending ≡ []) }
+    requires fresh { (publisher.old.batches ≡ []) × (publisher.old.stopped ≡ false) }
     requires few { length batches.now ≤ 1000000 }
     ensures source { publisher.new.source ≡ publisher.old.source }
     ensures published { OnOk result (publisher.new.batches ≡ batches.now) }
@@ -59,12 +59,12 @@ fn publish<J: Write, W: Write, R: Wait>(
     publisher: &mut Publisher<J>,
     writer: &mut W,
 ) -> Result<(), Stop>
-    requires going { publisher.old.pending ≡ [] }
+    requires going { publisher.old.stopped ≡ false }
     ensures source { publisher.new.source ≡ publisher.old.source }
     ensures next { OnOk result (MayFollow publisher.old.batches batch.now) }
     ensures published { OnOk result
         (publisher.new.batches ≡ publisher.old.batches ++ batch.now ∷ []) }
-    ensures going { OnOk result (publisher.new.pending ≡ []) }
+    ensures going { OnOk result (publisher.new.stopped ≡ false) }
     ensures text { OnOk result (Appends (W.contents writer.old) (W.contents writer.new)
         (version_line batch.now.number)) }
     ensures err { batch.now.number ≡ length publisher.old.batches + 1

@@ -1,4 +1,4 @@
-ghost use Rattle.std.specs.Prelude.{◌≡◌, ◌≢◌, ℕ, ◌<◌, ◌⊎◌, ◌≤◌, ◌++◌, List, [], length, All, Ok, IfOk, IfErr, IfSome, OnOk, vec_len};
+ghost use Rattle.std.specs.Prelude.{◌≡◌, ◌≢◌, ℕ, ◌<◌, ◌⊎◌, ◌≤◌, ◌++◌, List, [], length, All, Ok, IfOk, IfErr, IfSome, OnOk, vec_len, false};
 ghost use Rattle.std.specs.Io.KnownBytes.{Appends};
 ghost use Rattle.cspf_rows.specs.Journal.{AreNumberedFrom};
 ghost use Rattle.cspf_rows.specs.Records.{rows_of};
@@ -177,7 +177,7 @@ fn answer_lent<J: Write, W: Write, G: Gate + Sync, T: Threads + Wait + Sync>(
     writer: &mut W,
     gate: &G,
 ) -> Result<(), Stop>
-    requires fresh { (publisher.old.batches ≡ []) × (publisher.old.pending ≡ []) }
+    requires fresh { (publisher.old.batches ≡ []) × (publisher.old.stopped ≡ false) }
     requires askers { (0 < vec_len askers) × (vec_len askers ≤ 64) }
     requires source { All (λ a. a.source ≡ publisher.old.source) askers.items }
     requires batches { length batches.now ≤ 1000000 }

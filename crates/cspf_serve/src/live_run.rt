@@ -1,4 +1,4 @@
-ghost use Rattle.std.specs.Prelude.{◌≡◌, ℕ, ◌<◌, ◌≤◌, ◌⊎◌, List, [], length, All, IfOk, IfErr, IfSome, slice_get, vec_len};
+ghost use Rattle.std.specs.Prelude.{◌≡◌, ℕ, ◌<◌, ◌≤◌, ◌⊎◌, List, [], length, All, IfOk, IfErr, IfSome, slice_get, vec_len, false};
 ghost use Rattle.std.specs.Io.KnownBytes.{Appends};
 ghost use Rattle.cspf_publish.specs.Histories.{IsHistory};
 ghost use Rattle.cspf_rows.specs.Journal.{AreNumberedFrom};
@@ -105,7 +105,7 @@ fn answer_opened<J: Write, W: Write, G: Gate + Sync, T: Threads + Wait + Sync>(
     writer: &mut W,
     gate: &G,
 ) -> (Result<u8, RunError>, J)
-    requires fresh { (publisher.batches ≡ []) × (publisher.pending ≡ []) }
+    requires fresh { (publisher.batches ≡ []) × (publisher.stopped ≡ false) }
     requires askers { (0 < vec_len askers) × (vec_len askers ≤ 64) }
     requires source { All (λ a. a.source ≡ publisher.source) askers.items }
     requires batches { length batches.now ≤ 1000000 }

@@ -1,4 +1,4 @@
-ghost use Rattle.std.specs.Prelude.{◌≡◌, ◌<◌, ◌≤◌, [], All, IfOk, IfErr, vec_len};
+ghost use Rattle.std.specs.Prelude.{◌≡◌, ◌<◌, ◌≤◌, [], All, IfOk, IfErr, vec_len, false};
 ghost use Rattle.cspf_serve.specs.RunFaults.{IsOpeningFault};
 
 use crate::run_error::RunError;
@@ -17,7 +17,7 @@ pub(crate) fn open_for<J: Write, T: Wait>(
 ) -> Result<(Publisher<J>, Vec<Asker>), (RunError, J)>
     requires { (0 < workers) × (workers ≤ 64) }
     ensures publisher { IfOk result (λ opened.
-        (opened.0.batches ≡ []) × (opened.0.pending ≡ []) × (opened.0.journal ≡ journal)) }
+        (opened.0.batches ≡ []) × (opened.0.stopped ≡ false) × (opened.0.journal ≡ journal)) }
     ensures source { IfOk result (λ opened.
         All (λ a. a.source ≡ opened.0.source) opened.1.items) }
     ensures count { IfOk result (λ opened. vec_len opened.1 ≡ workers) }

@@ -208,9 +208,13 @@ fn open_error<R: Wait>(rt: &R, alloc: Global, askers: usize) -> Option<(OpenErro
     }
 }
 
-/// No askers, and 65, are refused.
+/// One asker and 64 are opened. None, and 65, are refused.
 #[test]
-fn askers_out_of_range(rt: HostRuntime) {
+fn numbers_of_askers(rt: HostRuntime) {
+    for askers in [1, 64] {
+        let found = open_error(&rt, rt.alloc(), askers);
+        assert!(rt; found.is_none(), "{askers} askers");
+    }
     for askers in [0, 65] {
         let found = open_error(&rt, rt.alloc(), askers);
         assert!(rt; found == Some((OpenError::Askers, 0)), "{askers} askers");

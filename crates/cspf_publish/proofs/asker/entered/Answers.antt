@@ -14,6 +14,6 @@ enter_as-requires c = enters _ _
 
 pub returns-in-Ok-clause-best : goal.returns-in-Ok-clause-best
 returns-in-Ok-clause-best c =
-    let found : ReplicaState = record { database = c.replica.inside.table; known = c.replica.inside.known } in
+    let found : ReplicaState = record { database = c.replica.inside.table; known = c.replica.inside.known; is_open = c.replica.inside.is_open } in
     let has : HasItsDatabase found = subst HasItsDatabase (sym (c.replica.view_is ∙ c.get-replica.ensures)) c.in-Ok.ensures.1.database in
     subst (λ (d : Database). IfOk c.best-outcome.result (λ outcome. IsBestAnswer d c.args.ask.1 (answer_of outcome))) (has ∙ ap (λ (k : KnownBatches). database_after k.batches) (sym c.copy-known.ensures)) c.best-outcome.ensures

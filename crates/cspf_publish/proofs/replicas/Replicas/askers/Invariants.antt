@@ -1,4 +1,4 @@
-use Rattle.std.proofs.Common.{◌≡◌, All, vec_len}
+use Rattle.std.proofs.Common.{◌≡◌, ◌≤◌, All, vec_len, vec_capacity}
 use Rattle.cspf_publish.proofs.replicas.Replicas.askers.Given as goal
 
 -- so many askers are made, and nothing else changed
@@ -6,5 +6,6 @@ abbrev pub invariant-loop : goal.invariant-loop
 invariant-loop l = record {
   same : l.self ≡ l.fn.self;
   count : vec_len l.all ≡ l.counter;
-  all : All (λ a. (a.batches ≡ l.fn.self.batches) × (a.source ≡ l.fn.self.source)) l.all.items;
+  room : l.count ≤ vec_capacity l.all;
+  all : All (λ a. a ≡ l.fn.self) l.all.items;
 }

@@ -1,4 +1,4 @@
--- What waits for the next swap: private.
+-- A list with one more batch, and an operation that changes nothing: private.
 use Rattle.std.specs.Prelude.{List, [], ◌∷◌, ◌++◌}
 use Rattle.logbook.specs.Pages.{Book}
 use Rattle.cspf_db.specs.Numbered.{NumberedChanges}
@@ -8,10 +8,6 @@ use Rattle.cspf_publish.specs.declared.replica.PendingBatch.{PendingBatch}
 -- the batches with one more
 abbrev pub known_with : List NumberedChanges → Book → NumberedChanges → KnownBatches
 known_with batches source b = record { batches = batches ++ b ∷ []; source = source }
-
--- a batch behind these
-abbrev pub pending_behind : List NumberedChanges → Book → NumberedChanges → PendingBatch
-pending_behind batches source b = record { batch = b; known = known_with batches source b }
 
 -- an operation that changes nothing
 abbrev pub idle_at : KnownBatches → PendingBatch

@@ -1,0 +1,10 @@
+use Rattle.std.proofs.Common.{◌≡◌, drop}
+use Rattle.cspf_publish.proofs.replicas.append.Given as goal
+
+-- nothing changed, and the operation is still the same
+abbrev pub invariant-loop : goal.invariant-loop
+invariant-loop g l =
+    (goal.iterator-loop g).can_next l.iterator' × (goal.iterator-loop g).is_finite l.iterator'
+    × (l.writer.desk ≡ l.fn.writer.desk)
+    × (drop l.writer.behind l.writer.log.items ≡ drop l.fn.writer.behind l.fn.writer.log.items)
+    × (l.operation ≡ l.fn.operation)

@@ -1,0 +1,100 @@
+//! The journal, and the list of the batches that are recorded in it.
+ghost use Rattle.std.specs.Prelude.{◌≡◌, ◌↔◌, ◌++◌, ◌∷◌, [], true, false, IsTrue, IfOk, OnOk, IfErr};
+ghost use Rattle.std.specs.Io.KnownBytes.{Appends};
+ghost use Rattle.cspf_rows.specs.BatchText.{batch_text};
+ghost use Rattle.cspf_publish.specs.Histories.{MayFollow};
+ghost use Rattle.cspf_publish.specs.OneMore.{known_with};
+ghost use Rattle.cspf_publish.specs.RecordErrors.{IsRecordError};
+
+use crate::ApplyError;
+use crate::batch_list::BatchList;
+use crate::known::Known;
+use cspf_db::Batch;
+use cspf_rows::put_all;
+use std::io::Write;
+use std::marker::Model;
+
+/// A writer, and the list whose batches it has the texts of. What is known of a longer list is made
+/// by `record` alone, so nothing can be shown that isn't recorded.
+pub(crate) struct Journal<W> {
+    writer: W,
+    list: BatchList,
+    stopped: bool,
+}
+
+impl<W> Model for Journal<W> {
+    ghost use Rattle.cspf_publish.specs.PublisherStates.{JournalState};
+
+    ghost Value = { JournalState W };
+
+    ghost view = { λ j. record {
+      batches = j.list.batches;
+      source = j.list.source;
+      stopped = j.stopped;
+      writer = j.writer;
+    } };
+}
+
+impl<W> Journal<W> {
+    /// The journal of a list.
+    pub(crate) fn new(writer: W, list: BatchList) -> Journal<W>
+        ensures { result ≡ record {
+          batches = list.batches;
+          source = list.source;
+          stopped = false;
+          writer = writer;
+        } }
+    {
+        Journal {
+            writer,
+            list,
+            stopped: false,
+        }
+    }
+
+    /// Whether the writer failed.
+    pub(crate) fn is_stopped(&self) -> bool
+        ensures { result ≡ self.now.stopped }
+    {
+        self.stopped
+    }
+
+    /// The writer, as the last call left it.
+    pub(crate) fn into_writer(self) -> W
+        ensures { result ≡ self.writer }
+    {
+        let Journal {
+            writer,
+            list: _list,
+            stopped: _,
+        } = self;
+        writer
+    }
+}
+
+impl<W: Write> Journal<W> {
+    /// Adds a batch to the list, and writes its text whole. Only then are the batches up to it
+    /// known. It takes no memory.
+    pub(crate) fn record(&mut self, batch: &Batch, text: &[u8]) -> Result<Known, ApplyError>
+        requires going { self.old.stopped ≡ false }
+        requires next { MayFollow self.old.batches batch.now }
+        requires text { text.now ≡ batch_text batch.now }
+        ensures source { self.new.source ≡ self.old.source }
+        ensures going { OnOk result (self.new.stopped ≡ false) }
+        ensures list { OnOk result (self.new.batches ≡ self.old.batches ++ batch.now ∷ []) }
+        ensures known { IfOk result (λ known.
+            known ≡ known_with self.old.batches self.old.source batch.now) }
+        ensures written { OnOk result (Appends
+            (W.contents self.old.writer) (W.contents self.new.writer) (batch_text batch.now)) }
+        ensures error { IfErr result (λ e. IsRecordError W.contents self.old self.new batch.now e) }
+    {
+        if !self.list.extend(batch) {
+            return Err(ApplyError::Memory);
+        }
+        if let Err(written) = put_all(&mut self.writer, text) {
+            self.stopped = true;
+            return Err(ApplyError::Journal { written });
+        }
+        Ok(self.list.known())
+    }
+}
