@@ -1,5 +1,5 @@
 //! The journal, and the list of the batches that are recorded in it.
-ghost use Rattle.std.specs.Prelude.{◌≡◌, ◌↔◌, ◌++◌, ◌∷◌, [], true, false, IsTrue, IfOk, OnOk, IfErr};
+ghost use Rattle.std.specs.Prelude.{◌≡◌, ◌++◌, ◌∷◌, [], false, IfOk, OnOk, IfErr};
 ghost use Rattle.std.specs.Io.KnownBytes.{Appends};
 ghost use Rattle.cspf_rows.specs.BatchText.{batch_text};
 ghost use Rattle.cspf_publish.specs.Histories.{MayFollow};

@@ -1,12 +1,12 @@
 //! Both replicas of the table.
-ghost use Rattle.std.specs.Prelude.{◌≡◌, ◌+◌, ◌<◌, ◌≤◌, ◌++◌, [], ◌∷◌, true, false, length, drop, All, IfOk, OnOk, IfErr, vec_len, vec_capacity};
+ghost use Rattle.std.specs.Prelude.{◌≡◌, ◌<◌, ◌≤◌, ◌++◌, [], ◌∷◌, true, false, length, drop, All, IfOk, OnOk, IfErr, vec_len, vec_capacity};
 ghost use Rattle.left_right.specs.Sides.{view};
 ghost use Rattle.cspf_db.specs.Numbered.{NumberedChanges};
 ghost use Rattle.cspf_db.specs.Changes.{no_links, database_after, Fits};
 ghost use Rattle.cspf_db.specs.Refusals.{IsRefusal};
 ghost use Rattle.cspf_publish.specs.Histories.{IsHistory, MayFollow};
 ghost use Rattle.cspf_publish.specs.OneMore.{known_with, idle_at};
-ghost use Rattle.cspf_publish.specs.declared.seat_view.SeatView.TheVariants.{New as IsNew, Publisher as IsPublisher};
+ghost use Rattle.cspf_publish.specs.declared.seat_view.SeatView.TheVariants.{Publisher as IsPublisher};
 
 use crate::errors::NoPlace;
 use crate::known::Known;
@@ -148,15 +148,6 @@ fn append<R: Wait>(writer: &mut ReplicaWriter, rt: &R, operation: PendingBatch)
     unreachable!()
 }
 
-// Adds an asker where there is room for it.
-fn push_within(all: &mut Vec<Asker>, asker: Asker)
-    requires { vec_len all.old < vec_capacity all.old }
-    ensures items { all.new.items ≡ all.old.items ++ asker ∷ [] }
-    ensures capacity { vec_capacity all.old ≤ vec_capacity all.new }
-{
-    let _ = all.push(asker);
-}
-
 impl Replicas {
     /// Two empty replicas. The writer's log grows here alone: later on it never has more than two
     /// operations.
@@ -199,7 +190,7 @@ impl Replicas {
             let Ok(asker) = self.asker() else {
                 return Err(NoPlace);
             };
-            push_within(&mut all, asker);
+            all.push_reserved(asker);
         }
         Ok(all)
     }

@@ -1,5 +1,5 @@
 -- What all workers answered, put together.
-use Rattle.std.proofs.Common.{◌≡◌, ℕ, zero, suc, ◌+◌, ◌-◌, ◌<◌, ◌≤◌, ◌%◌, cond, ltb, leb, ◌&&◌, List, [], ◌∷◌, length, map, Option, Some, None, get_or, All, IsNone, Vec, inl, inr, refl, sym, ap, ◌∙◌, subst, arith, slice_get, sum_by}
+use Rattle.std.proofs.Common.{◌≡◌, ℕ, zero, suc, ◌+◌, ◌<◌, ◌≤◌, ◌%◌, cond, ltb, leb, ◌&&◌, List, [], ◌∷◌, length, map, Option, Some, None, get_or, All, IsNone, Vec, inl, inr, refl, sym, ap, ◌∙◌, subst, arith, slice_get}
 use Rattle.std.specs.Global.{Global}
 use Rattle.std.specs.Option.{option_map}
 use Rattle.std.specs.List.Sorted.{IsNonDecreasingBy}

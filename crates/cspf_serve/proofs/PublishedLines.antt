@@ -1,5 +1,5 @@
 -- The lines of batches that are published, and of one that isn't.
-use Rattle.std.proofs.Common.{◌≡◌, ℕ, zero, suc, ◌+◌, ◌<◌, ◌≤◌, Option, List, [], ◌∷◌, get_or, length, refl, arith, false}
+use Rattle.std.proofs.Common.{◌≡◌, ℕ, zero, suc, ◌+◌, ◌<◌, ◌≤◌, Option, List, [], ◌∷◌, get_or, length, arith, false}
 use Rattle.std.proofs.KnownBytes.{Keeps-refl}
 use Rattle.std.specs.Io.KnownBytes as known
 use Rattle.cspf_db.specs.declared.refusal.Refusal.{Refusal}

@@ -1,5 +1,5 @@
 -- What workers answered beside a publisher, once each asker has learnt what is published.
-use Rattle.std.proofs.Common.{◌≡◌, ℕ, zero, suc, ◌+◌, ◌<◌, ◌≤◌, true, false, cond, eqb, List, [], ◌∷◌, length, Some, get_or, All, Vec, inl, inr, refl, sym, ap, ◌∙◌, subst, arith, slice_get, slice_set, sum_by}
+use Rattle.std.proofs.Common.{◌≡◌, ℕ, zero, suc, ◌+◌, ◌<◌, ◌≤◌, cond, eqb, List, [], ◌∷◌, length, Some, get_or, All, Vec, inl, inr, refl, sym, ap, ◌∙◌, subst, arith, slice_get, slice_set, sum_by}
 use Rattle.std.specs.Global.{Global}
 use Rattle.std.proofs.lemmas.Bool.{cases_Bool, cases_lt, eqb-true, eqb-false}
 use Rattle.std.proofs.lemmas.Bool.Decides.{nat_tests}

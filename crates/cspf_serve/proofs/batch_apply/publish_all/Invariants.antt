@@ -1,4 +1,4 @@
-use Rattle.std.proofs.Common.{◌≡◌, [], take, false}
+use Rattle.std.proofs.Common.{◌≡◌, take, false}
 use Rattle.std.specs.Io.KnownBytes.{Appends}
 use Rattle.cspf_db.specs.Changes.{AreLawful}
 use Rattle.cspf_serve.specs.BatchRun.{version_lines}

@@ -1,4 +1,4 @@
-use Rattle.std.proofs.Common.{rules, ◌<◌, List, length, map, All, Vec, sym, subst}
+use Rattle.std.proofs.Common.{rules, ◌<◌, List, length, All, Vec, sym, subst}
 use Rattle.std.specs.Global.{Global}
 use Rattle.std.proofs.lemmas.List.Elements.{All-map}
 use Rattle.cspf_serve.specs.declared.worker.Reply.{Reply}
