@@ -1,4 +1,4 @@
--- What a replica of the table is to a clause: private.
+-- What a replica of the table is to the rule between steps.
 use Rattle.std.specs.Prelude.{Bool, true}
 use Rattle.cspf_db.specs.Numbered.{NumberedChanges}
 use Rattle.cspf_db.specs.Database.{Database}
@@ -12,6 +12,6 @@ pub record ReplicaState : Type 0 where
   pub known : KnownBatches
   pub is_open : Bool
 
--- the replica with one more batch, which ends these batches
+-- the replica with one more batch, which ends these batches, where it fits: for private contracts
 abbrev pub state_with : ReplicaState → NumberedChanges → KnownBatches → ReplicaState
 state_with s b known = record { database = database_with s.database b; known = known; is_open = true }
