@@ -12,19 +12,11 @@ ghost use Rattle.cspf_db.specs.RowsLeft.{is_untouched, rows_left, links_put, add
 ghost use Rattle.cspf_db.specs.CountedEnds.{with_ends, HasListedEnds, BringsAtMost};
 ghost use Rattle.cspf_db.specs.Refusals.{AreOnceEach, ArePresent, IsRefusal};
 
+use crate::limits::{MOST_CHANGES, MOST_LINKS, MOST_ROUTERS};
 use crate::routers::Routers;
 use crate::tally::{Tally, tally_all};
 use crate::{Batch, Change, Link, Refusal};
 use cspf_addr::Addr;
-
-/// How many links a database may have.
-const LINKS: usize = 16384;
-
-/// How many changes a batch may have.
-const CHANGES: usize = 4096;
-
-/// How many routers a database may have.
-const ROUTERS: usize = 1024;
 
 /// Whether the change is on this key.
 fn is_on(change: &Change, from: Addr, local: Addr) -> bool
@@ -98,16 +90,16 @@ fn are_apart_in(keys: &mut [(Addr, Addr)], changes: &[Change]) -> bool
 
 /// Whether no two changes are on one key. Not all pairs are compared.
 fn are_apart(changes: &[Change]) -> bool
-    requires { length changes.now ≤ 4096 }
+    requires { length changes.now ≤ MOST_CHANGES }
     ensures { result ≡ true → AreOnceEach changes.now }
 {
-    let mut keys = [(Addr::new(0), Addr::new(0)); CHANGES];
+    let mut keys = [(Addr::new(0), Addr::new(0)); MOST_CHANGES];
     are_apart_in(&mut keys[..changes.len()], changes)
 }
 
 /// The index of the first change on the key of an earlier one, searched only where there is one.
 fn repeat(changes: &[Change]) -> Option<usize>
-    requires { length changes.now ≤ 4096 }
+    requires { length changes.now ≤ MOST_CHANGES }
     ensures bound { IfSome result (λ at. at < length changes.now) }
     ensures some { IfSome result (IsRepeatedAt changes.now) }
     ensures before { IfSome result (λ at. (k : ℕ) → k < at → IsNewAt changes.now k) }
@@ -144,27 +136,27 @@ pub fn count_removed(changes: &[Change]) -> usize
 /// Whether there are more than 16,384 links after the changes, of which so many add one.
 fn has_too_many_links(rows: &[Link], changes: &[Change], added: usize) -> bool
     requires by_key { AreByKey rows.now }
-    requires most { length rows.now ≤ 16384 }
-    requires short { length changes.now ≤ 4096 }
+    requires most { length rows.now ≤ MOST_LINKS }
+    requires short { length changes.now ≤ MOST_CHANGES }
     requires once { AreOnceEach changes.now }
     requires present { ArePresent (database_of rows.now) changes.now }
     requires added { added ≡ count_by (adds_link (database_of rows.now)) changes.now }
     ensures { IsTrue result
-        ↔ 16384 < link_count (after_changes (database_of rows.now) changes.now) }
+        ↔ MOST_LINKS < link_count (after_changes (database_of rows.now) changes.now) }
 {
     let after = rows.len() + added - count_removed(changes);
-    after > LINKS
+    after > MOST_LINKS
 }
 
 /// Adds the ends of the rows that the changes leave alone. It is false where there would be more
 /// than 1,024 routers.
 fn add_rows(routers: &mut Routers, rows: &[Link], changes: &[Change]) -> bool
-    requires { set.len routers.old ≤ 1024 }
+    requires { set.len routers.old ≤ MOST_ROUTERS }
     ensures added { OnTrue result
         (routers.new ≡ with_ends routers.old (rows_left rows.now changes.now)) }
-    ensures few { OnTrue result (set.len routers.new ≤ 1024) }
+    ensures few { OnTrue result (set.len routers.new ≤ MOST_ROUTERS) }
     ensures full { OnFalse result
-        (1024 < set.len (with_ends routers.old (rows_left rows.now changes.now))) }
+        (MOST_ROUTERS < set.len (with_ends routers.old (rows_left rows.now changes.now))) }
 {
     for row in rows {
         if routers.has_ends(row) {
@@ -180,10 +172,10 @@ fn add_rows(routers: &mut Routers, rows: &[Link], changes: &[Change]) -> bool
 /// Adds the ends of the links that the changes put. It is false where there would be more than
 /// 1,024 routers.
 fn add_puts(routers: &mut Routers, changes: &[Change]) -> bool
-    requires { set.len routers.old ≤ 1024 }
+    requires { set.len routers.old ≤ MOST_ROUTERS }
     ensures added { OnTrue result (routers.new ≡ with_ends routers.old (links_put changes.now)) }
-    ensures few { OnTrue result (set.len routers.new ≤ 1024) }
-    ensures full { OnFalse result (1024 < set.len (with_ends routers.old (links_put changes.now))) }
+    ensures few { OnTrue result (set.len routers.new ≤ MOST_ROUTERS) }
+    ensures full { OnFalse result (MOST_ROUTERS < set.len (with_ends routers.old (links_put changes.now))) }
 {
     for change in changes {
         if let Change::Put(link) = change {
@@ -200,15 +192,15 @@ fn add_puts(routers: &mut Routers, changes: &[Change]) -> bool
 fn has_too_many_routers(rows: &[Link], routers: &[Addr], changes: &[Change], brought: usize) -> bool
     requires by_key { AreByKey rows.now }
     requires all { routers.now ≡ router_list (database_of rows.now) }
-    requires few { router_count (database_of rows.now) ≤ 1024 }
-    requires short { length changes.now ≤ 4096 }
+    requires few { router_count (database_of rows.now) ≤ MOST_ROUTERS }
+    requires short { length changes.now ≤ MOST_CHANGES }
     requires once { AreOnceEach changes.now }
     requires few_brought { brought ≤ 2 * length changes.now }
     requires brought { BringsAtMost routers.now changes.now brought }
     ensures { IsTrue result
-        ↔ 1024 < router_count (after_changes (database_of rows.now) changes.now) }
+        ↔ MOST_ROUTERS < router_count (after_changes (database_of rows.now) changes.now) }
 {
-    if routers.len() + brought <= ROUTERS {
+    if routers.len() + brought <= MOST_ROUTERS {
         return false;
     }
     let mut found = Routers::new();
@@ -220,8 +212,8 @@ fn has_too_many_routers(rows: &[Link], routers: &[Addr], changes: &[Change], bro
 pub fn fits(rows: &[Link], routers: &[Addr], batch: &Batch) -> Result<Tally, Refusal>
     requires by_key { AreByKey rows.now }
     requires all { routers.now ≡ router_list (database_of rows.now) }
-    requires most { length rows.now ≤ 16384 }
-    requires few { router_count (database_of rows.now) ≤ 1024 }
+    requires most { length rows.now ≤ MOST_LINKS }
+    requires few { router_count (database_of rows.now) ≤ MOST_ROUTERS }
     ensures ok { IfOk result (λ _. Fits (database_of rows.now) batch.now) }
     ensures err { IfErr result (λ refusal. IsRefusal (database_of rows.now) batch.now refusal) }
     ensures added { IfOk result (λ tally. tally.added
@@ -230,7 +222,7 @@ pub fn fits(rows: &[Link], routers: &[Addr], batch: &Batch) -> Result<Tally, Ref
         (λ tally. tally.brought ≡ 0 → All (HasListedEnds routers.now) batch.now.changes) }
 {
     let changes = batch.changes.as_slice();
-    if changes.len() > CHANGES {
+    if changes.len() > MOST_CHANGES {
         return Err(Refusal::TooLong);
     }
     if let Some(at) = repeat(changes) {

@@ -8,6 +8,7 @@ mod beside;
 mod check;
 mod hop_laws;
 mod laws;
+mod limits;
 mod link;
 mod merging;
 mod places;
@@ -27,6 +28,7 @@ pub use laws::{
     absorbing, counted_routers, fields_of_links_and_requests, last_change_decides, lawful_batches,
     one_best_answer, one_refusal, order_of_walks, worked_admission, worked_changes, worked_orders,
 };
+pub use limits::{MOST_CHANGES, MOST_LINKS, MOST_ROUTERS};
 pub use link::{Link, LinkError};
 pub use refusal::Refusal;
 pub use request::{Request, RequestError};

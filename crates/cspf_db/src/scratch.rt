@@ -1,7 +1,9 @@
 ghost use Rattle.std.specs.Prelude.{◌≡◌, ◌<◌, ◌≤◌, All, Contains, length, map, slice_index, vec_len};
 ghost use Rattle.std.specs.Vec.{vec_capacity};
+ghost use Rattle.cspf_db.specs.declared.limits.TheConstants.{MOST_CHANGES, MOST_LINKS, ROOM_FOR_LINKS, ROOM_FOR_ROUTERS};
 
 use crate::beside::change_rows;
+use crate::limits::{MOST_CHANGES, ROOM_FOR_LINKS, ROOM_FOR_ROUTERS};
 use crate::merging::{merge, sort_changes};
 use crate::places::{keep_ends, list_places, move_ends};
 use crate::router_list::add_ends;
@@ -9,16 +11,6 @@ use crate::{Change, Link};
 use cspf_addr::Addr;
 use std::alloc::{AllocError, Global};
 use std::mem::swap;
-
-/// How many rows there is room for: those of a full table, and a batch more.
-const ROWS: usize = 20480;
-
-/// How many changes there is room for.
-const CHANGES: usize = 4096;
-
-/// How many routers there is room for: those of a full table, and both ends of each link that a
-/// batch puts.
-const ROUTERS: usize = 9216;
 
 /// Room for the rows, their ends and the routers after changes, for the changes in order of the key, and for
 /// the places of routers.
@@ -29,11 +21,11 @@ pub struct Scratch {
     sorted: Vec<Change>,
     listed: Vec<Addr>,
     places: Vec<u16>,
-    ghost room: { 20480 ≤ vec_capacity merged },
-    ghost room_for_ends: { 20480 ≤ vec_capacity ends },
-    ghost room_for_changes: { 4096 ≤ vec_capacity sorted },
-    ghost room_for_routers: { 9216 ≤ vec_capacity listed },
-    ghost room_for_places: { 9216 ≤ vec_capacity places },
+    ghost room: { ROOM_FOR_LINKS ≤ vec_capacity merged },
+    ghost room_for_ends: { ROOM_FOR_LINKS ≤ vec_capacity ends },
+    ghost room_for_changes: { MOST_CHANGES ≤ vec_capacity sorted },
+    ghost room_for_routers: { ROOM_FOR_ROUTERS ≤ vec_capacity listed },
+    ghost room_for_places: { ROOM_FOR_ROUTERS ≤ vec_capacity places },
 }
 
 /// Copies the routers. There is room, so this takes no memory and can't fail.
@@ -56,11 +48,11 @@ impl Scratch {
     /// Room for the rows of a full table and a batch.
     pub fn new(alloc: Global) -> Result<Self, AllocError> {
         Ok(Scratch {
-            merged: Vec::with_capacity(alloc, ROWS)?,
-            ends: Vec::with_capacity(alloc, ROWS)?,
-            sorted: Vec::with_capacity(alloc, CHANGES)?,
-            listed: Vec::with_capacity(alloc, ROUTERS)?,
-            places: Vec::with_capacity(alloc, ROUTERS)?,
+            merged: Vec::with_capacity(alloc, ROOM_FOR_LINKS)?,
+            ends: Vec::with_capacity(alloc, ROOM_FOR_LINKS)?,
+            sorted: Vec::with_capacity(alloc, MOST_CHANGES)?,
+            listed: Vec::with_capacity(alloc, ROOM_FOR_ROUTERS)?,
+            places: Vec::with_capacity(alloc, ROOM_FOR_ROUTERS)?,
         })
     }
 
@@ -74,21 +66,21 @@ impl Scratch {
         changes: &[Change],
     )
         requires by_key { AreByKey rows.old.items }
-        requires most { vec_len rows.old ≤ 16384 }
-        requires short { length changes.now ≤ 4096 }
+        requires most { vec_len rows.old ≤ MOST_LINKS }
+        requires short { length changes.now ≤ MOST_CHANGES }
         requires once { AreOnceEach changes.now }
-        requires links { link_count (after_changes (database_of rows.old.items) changes.now) ≤ 16384 }
-        requires room { 20480 ≤ vec_capacity rows.old }
-        requires room_for_ends { 20480 ≤ vec_capacity ends.old }
+        requires links { link_count (after_changes (database_of rows.old.items) changes.now) ≤ MOST_LINKS }
+        requires room { ROOM_FOR_LINKS ≤ vec_capacity rows.old }
+        requires room_for_ends { ROOM_FOR_LINKS ≤ vec_capacity ends.old }
         requires rising { AreRising routers.now }
-        requires few { length routers.now ≤ 9216 }
+        requires few { length routers.now ≤ ROOM_FOR_ROUTERS }
         requires known { All (HasListedEnds routers.now) changes.now }
         requires beside { AreBeside rows.old.items routers.now ends.old.items }
         ensures changed { database_of rows.new.items
             ≡ after_changes (database_of rows.old.items) changes.now }
         ensures by_key { AreByKey rows.new.items }
-        ensures room { 20480 ≤ vec_capacity rows.new }
-        ensures room_for_ends { 20480 ≤ vec_capacity ends.new }
+        ensures room { ROOM_FOR_LINKS ≤ vec_capacity rows.new }
+        ensures room_for_ends { ROOM_FOR_LINKS ≤ vec_capacity ends.new }
         ensures ends { AreEndsOf rows.new.items routers.now ends.new.items }
     {
         sort_changes(&mut self.sorted, changes);
@@ -121,14 +113,14 @@ impl Scratch {
         requires listed { brought ≡ 0 → All (HasListedEnds routers.old.items) changes.now }
         requires rising { AreRising routers.old.items }
         requires few { vec_len routers.old ≤ 1024 }
-        requires short { length changes.now ≤ 4096 }
-        requires room { 9216 ≤ vec_capacity routers.old }
+        requires short { length changes.now ≤ MOST_CHANGES }
+        requires room { ROOM_FOR_ROUTERS ≤ vec_capacity routers.old }
         requires within { All (λ end. end < length routers.old.items) ends.old.items }
         ensures listed { All (HasListedEnds routers.new.items) changes.now }
         ensures kept { All (Contains routers.new.items) routers.old.items }
         ensures rising { AreRising routers.new.items }
-        ensures few { vec_len routers.new ≤ 9216 }
-        ensures room { 9216 ≤ vec_capacity routers.new }
+        ensures few { vec_len routers.new ≤ ROOM_FOR_ROUTERS }
+        ensures room { ROOM_FOR_ROUTERS ≤ vec_capacity routers.new }
         ensures within { All (λ end. end < length routers.new.items) ends.new.items }
         ensures same { map (λ end. slice_index routers.new.items end) ends.new.items
             ≡ map (λ end. slice_index routers.old.items end) ends.old.items }
@@ -148,8 +140,8 @@ impl Scratch {
     pub fn drop_routers(&mut self, routers: &mut Vec<Addr>, ends: &mut Vec<u16>, rows: &[Link])
         requires by_key { AreByKey rows.now }
         requires rising { AreRising routers.old.items }
-        requires few { vec_len routers.old ≤ 9216 }
-        requires room { 9216 ≤ vec_capacity routers.old }
+        requires few { vec_len routers.old ≤ ROOM_FOR_ROUTERS }
+        requires room { ROOM_FOR_ROUTERS ≤ vec_capacity routers.old }
         requires beside { AreBeside rows.now routers.old.items ends.old.items }
         ensures routers { AreRoutersOf rows.now routers.new }
         ensures ends { AreEndsOf rows.now routers.new.items ends.new.items }

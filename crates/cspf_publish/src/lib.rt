@@ -15,6 +15,7 @@ mod errors;
 mod history;
 mod journal;
 mod known;
+mod limits;
 mod publisher;
 mod replica;
 mod replica_rule;
@@ -25,6 +26,7 @@ mod told;
 pub use answer::Answer;
 pub use asker::Asker;
 pub use errors::{ApplyError, AskError, OpenError};
+pub use limits::{MOST_ASKERS, MOST_VERSIONS};
 pub use publisher::{Publisher, open};
 pub use told::Told;
 

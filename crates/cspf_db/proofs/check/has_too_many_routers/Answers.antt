@@ -10,11 +10,11 @@ use Rattle.cspf_db.proofs.Counting.{router_count-brought, many_put, tells_both}
 use Rattle.cspf_db.proofs.check.has_too_many_routers.Goals as goal
 use Rattle.cspf_db.proofs.check.has_too_many_routers.Goals.{then-add_puts, else-add_puts}
 
-pub returns-then-routers-brought-le-ROUTERS : goal.returns-then-routers-brought-le-ROUTERS
-returns-then-routers-brought-le-ROUTERS c =
+pub returns-then-routers-brought-le-MOST_ROUTERS : goal.returns-then-routers-brought-le-MOST_ROUTERS
+returns-then-routers-brought-le-MOST_ROUTERS c =
     let brought = router_count-brought c.args.rows.now c.args.changes.now (own_keys _ c.requires.by_key) c.requires.once c.args.routers.now c.args.brought (ends_listed c.args.rows.now c.args.routers.now c.requires.by_key c.requires.all) c.requires.brought in
     let listed = ap length c.requires.all ∙ length-router_list (database_of c.args.rows.now) in
-    ((λ e. absurd (cc)), λ many. absurd (omega (arith, brought, many, c.if-routers-brought-le-ROUTERS.true, listed)))
+    ((λ e. absurd (cc)), λ many. absurd (omega (arith, brought, many, c.if-routers-brought-le-MOST_ROUTERS.true, listed)))
 
 pub returns : goal.returns
 returns c =
