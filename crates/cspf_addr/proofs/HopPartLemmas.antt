@@ -262,19 +262,31 @@ hops_of-join (text ∷ texts) hops each most =
     (rw parts (omega (arith, length-AreHopTexts (text ∷ texts) hops each)))
     ∙ ap (hops_from 1) parts ∙ hops_from-texts 1 (text ∷ texts) hops each
 
+-- a text has few parts, and is read by them
+record IsReadByParts (text : List ℕ) : Type 0 where
+  few : length (parts_of text) ≤ 7
+  read : hops_of text ≡ hops_from 1 (parts_of text)
+
+-- so is each that is not empty and not refused for too many parts
+by_parts : (byte : ℕ) (text : List ℕ) → hops_of (byte ∷ text) ≢ Err TooManyHops
+    → IsReadByParts (byte ∷ text)
+by_parts byte text not = step (few_or_many _)
+  where
+    step : (length (parts_of (byte ∷ text)) ≤ 7) ⊎ (7 < length (parts_of (byte ∷ text)))
+        → IsReadByParts (byte ∷ text)
+    step (inr many) = absurd (not (hops_of-many (byte ∷ text) many))
+    step (inl few) =
+        record { few = few; read = hops_of-few (byte ∷ text) (not_empty byte text) few }
+
 -- what is read is the texts of its hops
 read_texts : (text : List ℕ) (hops : List Hop) → hops_of text ≡ Ok hops → IsHopListText text hops
 read_texts [] hops read =
     let none : [] ≡ hops = cc hops_of-empty in
     record { parts = []; whole = refl; each = subst (AreHopTexts []) none tt; most = omega (arith, ap length none) }
-read_texts (byte ∷ text) hops read = step (few_or_many _)
-  where
-    step : (length (parts_of (byte ∷ text)) ≤ 7) ⊎ (7 < length (parts_of (byte ∷ text)))
-        → IsHopListText (byte ∷ text) hops
-    step (inr many) = absurd (cc (hops_of-many (byte ∷ text) many))
-    step (inl few) =
-        let each = texts_of-hops_from 1 _ hops (sym (hops_of-few (byte ∷ text) (not_empty byte text) few) ∙ read) in
-        record { parts = parts_of (byte ∷ text); whole = (parts_are (byte ∷ text)).whole; each = each; most = omega (arith, few, length-AreHopTexts _ hops each) }
+read_texts (byte ∷ text) hops read =
+    let by = by_parts byte text (λ many. cc) in
+    let each = texts_of-hops_from 1 _ hops (sym by.read ∙ read) in
+    record { parts = parts_of (byte ∷ text); whole = (parts_are (byte ∷ text)).whole; each = each; most = omega (arith, by.few, length-AreHopTexts _ hops each) }
 
 -- a text is read as hops exactly where it is their texts
 pub hop_lists_read : AreHopListsRead
@@ -285,21 +297,17 @@ hop_lists_read text hops =
 refused_part : (text : List ℕ) (place : ℕ) → hops_of text ≡ Err (BadHop place)
     → HasBadHop text place
 refused_part [] place read = absurd (cc hops_of-empty)
-refused_part (byte ∷ text) place read = step (few_or_many _)
-  where
-    step : (length (parts_of (byte ∷ text)) ≤ 7) ⊎ (7 < length (parts_of (byte ∷ text)))
-        → HasBadHop (byte ∷ text) place
-    step (inr many) = absurd (cc (hops_of-many (byte ∷ text) many))
-    step (inl few) =
-        let b = no_hop-hops_from 1 _ place (sym (hops_of-few (byte ∷ text) (not_empty byte text) few) ∙ read) in
-        record {
-          some = not_empty byte text;
-          parts = parts_of (byte ∷ text);
-          are_parts = parts_are (byte ∷ text);
-          most = few;
-          bad =
-              record { front = b.front; part = b.part; behind = b.behind; whole = b.whole; is_place = b.is_place; hops = b.hops; before = b.before; here = b.here };
-        }
+refused_part (byte ∷ text) place read =
+    let by = by_parts byte text (λ many. cc) in
+    let b = no_hop-hops_from 1 _ place (sym by.read ∙ read) in
+    record {
+      some = not_empty byte text;
+      parts = parts_of (byte ∷ text);
+      are_parts = parts_are (byte ∷ text);
+      most = by.few;
+      bad =
+          record { front = b.front; part = b.part; behind = b.behind; whole = b.whole; is_place = b.is_place; hops = b.hops; before = b.before; here = b.here };
+    }
 
 -- the parts in front of one, it, and those behind it are some
 some_parts : (parts front : List (List ℕ)) (part : List ℕ) (behind : List (List ℕ))

@@ -1,12 +1,17 @@
 -- What a reader answers, where the text that spells each value is known.
-use Rattle.std.proofs.Common.{◌≡◌, Option, Some, None, Result, Ok, Err, IfOk, OnErr, refl, sym, ◌∙◌}
+use Rattle.std.proofs.Common.{◌≡◌, Option, Some, None, Result, Ok, Err, IfOk, OnErr, refl, sym, ap, ◌∙◌}
 use Rattle.std.specs.Option.{ok_or}
 use Rattle.std.specs.Result.{result_ok}
 
--- a reader that answers one error answers the value, or the error
-pub result_ok-ok_or : {A E : Type 0} (o : Option A) (e : E) → result_ok (ok_or o e) ≡ o
+-- the value that is found, or else the error
+result_ok-ok_or : {A E : Type 0} (o : Option A) (e : E) → result_ok (ok_or o e) ≡ o
 result_ok-ok_or None e = refl
 result_ok-ok_or (Some a) e = refl
+
+-- a reader that answers one error where nothing is found reads what is found
+pub ok_or_read : {A E : Type 0} {r : Result A E} {o found : Option A} (e : E) → r ≡ ok_or o e
+    → o ≡ found → result_ok r ≡ found
+ok_or_read e same is = ap result_ok same ∙ (result_ok-ok_or _ _ ∙ is)
 
 -- what was read is spelled
 pub ok_spelled : {A E : Type 0} (r : Result A E) (o : Option A) (Spells : A → Type 0)

@@ -4,6 +4,7 @@ use Rattle.std.specs.List.{join_with_byte, AllByRecursion}
 use Rattle.cspf_addr.specs.HopText.{IsHopText}
 use Rattle.cspf_addr.specs.HopLists.{hops_of}
 use Rattle.cspf_addr.specs.declared.hop.Hop.{Hop}
+use Rattle.cspf_addr.specs.declared.hops.TheConstants.{MOST_HOPS}
 use Rattle.cspf_addr.specs.declared.hop_reader.HopsError.TheVariants as error
 
 -- each text is that of the hop at its place, in any spelling
@@ -18,7 +19,7 @@ pub record IsHopListText (text : List ℕ) (hops : List Hop) : Type 0 where
   pub parts : List (List ℕ)
   pub whole : text ≡ join_with_byte 32 parts
   pub each : AreHopTexts parts hops
-  pub most : length hops ≤ 7
+  pub most : length hops ≤ MOST_HOPS
 
 -- parts with no space in them, which are the text with one space between each two
 pub record AreParts (text : List ℕ) (parts : List (List ℕ)) : Type 0 where
@@ -41,14 +42,14 @@ pub record HasBadHop (text : List ℕ) (place : ℕ) : Type 0 where
   pub some : text ≢ []
   pub parts : List (List ℕ)
   pub are_parts : AreParts text parts
-  pub most : length parts ≤ 7
+  pub most : length parts ≤ MOST_HOPS
   pub bad : IsFirstNoHop parts place
 
 -- a text has more than seven parts
 pub record HasTooManyParts (text : List ℕ) : Type 0 where
   pub parts : List (List ℕ)
   pub are_parts : AreParts text parts
-  pub many : 7 < length parts
+  pub many : MOST_HOPS < length parts
 
 -- such texts are read as lists of hops, and no others
 abbrev pub AreHopListsRead : Type 0

@@ -6,6 +6,7 @@ use Rattle.cspf_addr.specs.ResultSteps.{◌>>=◌}
 use Rattle.cspf_addr.specs.PrefixParts.{IsPrefix}
 use Rattle.cspf_addr.specs.HopText.{hop_of, hop_text}
 use Rattle.cspf_addr.specs.declared.hop.Hop.{Hop}
+use Rattle.cspf_addr.specs.declared.hops.TheConstants.{MOST_HOPS}
 use Rattle.cspf_addr.specs.declared.hop_reader.HopsError.{HopsError}
 use Rattle.cspf_addr.specs.declared.hop_reader.HopsError.TheVariants as error
 
@@ -27,7 +28,7 @@ unfoldable pub hops_of : List ℕ → Result (List Hop) HopsError
 hops_of text =
     if length text == 0
     then Ok []
-    else (if nat_lt 7 (length (parts_of text))
+    else (if nat_lt MOST_HOPS (length (parts_of text))
     then Err error.TooManyHops
     else hops_from 1 (parts_of text))
 
@@ -38,5 +39,5 @@ hops_text hops = join_with_byte 32 (map hop_text hops)
 -- a list of at most seven hops is read back from its text
 abbrev pub AreHopListsReadBack : Type 0
 AreHopListsReadBack =
-    (hops : List Hop) → length hops ≤ 7 → AllByRecursion (λ hop. IsPrefix hop.prefix) hops
+    (hops : List Hop) → length hops ≤ MOST_HOPS → AllByRecursion (λ hop. IsPrefix hop.prefix) hops
     → hops_of (hops_text hops) ≡ Ok hops

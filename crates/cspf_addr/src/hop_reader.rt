@@ -43,7 +43,7 @@ fn part_count(text: &[u8]) -> usize
 
 /// The hops of the parts of a text.
 fn read_parts(text: &[u8]) -> Result<Hops, HopsError>
-    requires { length (parts_of text.now) ≤ 7 }
+    requires { length (parts_of text.now) ≤ MOST_HOPS }
     ensures { result ≡ hops_from 1 (parts_of text.now) }
 {
     let mut hops = Hops::none();

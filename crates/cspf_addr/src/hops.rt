@@ -52,7 +52,7 @@ impl Hops {
     /// How many hops there are.
     pub fn len(&self) -> usize
         ensures value { result ≡ length self.now }
-        ensures most { length self.now ≤ 7 }
+        ensures most { length self.now ≤ MOST_HOPS }
     {
         self.count
     }
@@ -80,7 +80,7 @@ impl Hops {
 
     /// Puts a hop behind the others, which are fewer than `MOST_HOPS`.
     pub fn push(&mut self, hop: Hop)
-        requires { length self.old < 7 }
+        requires { length self.old < MOST_HOPS }
         ensures { self.new ≡ self.old ++ hop ∷ [] }
     {
         self.places[self.count] = hop;

@@ -8,6 +8,7 @@ use Rattle.cspf_db.specs.declared.batch.Change.{Change}
 use Rattle.cspf_db.specs.declared.batch.Change.TheVariants.{Put, Remove}
 use Rattle.cspf_db.specs.Numbered.{NumberedChanges}
 use Rattle.cspf_db.specs.Database.{Database, Key, key_of, key_cmp, link_at, link_count, router_count}
+use Rattle.cspf_db.specs.declared.limits.TheConstants.{MOST_CHANGES, MOST_LINKS, MOST_ROUTERS}
 
 -- the key that a change is about
 abbrev pub key_changed : Change → Key
@@ -63,11 +64,11 @@ IsPresent d (Remove from local) = IsSome (link_at d (from, local))
 -- A batch fits a database where it has at most 4,096 changes, no two of them on one key, and each
 -- removal's key is there, and where at most 16,384 links and 1,024 routers are left.
 pub record Fits (d : Database) (batch : NumberedChanges) : Type 0 where
-  pub short : length batch.changes ≤ 4096
+  pub short : length batch.changes ≤ MOST_CHANGES
   pub once : IsDistinct (eq_by_cmp key_cmp) (map key_changed batch.changes)
   pub present : All (IsPresent d) batch.changes
-  pub links : link_count (after_changes d batch.changes) ≤ 16384
-  pub routers : router_count (after_changes d batch.changes) ≤ 1024
+  pub links : link_count (after_changes d batch.changes) ≤ MOST_LINKS
+  pub routers : router_count (after_changes d batch.changes) ≤ MOST_ROUTERS
 
 -- each batch fits the database of those before it
 abbrev pub AreLawfulAfter : Database → List NumberedChanges → Type 0

@@ -1,8 +1,8 @@
+-- The definitions that contracts cite.
 pub mod Numbered
 pub mod Database
 pub mod Index
-pub mod Stored
-pub mod Rows
+pub mod DatabaseCode
 pub mod Changes
 pub mod Admissible
 pub mod Walks
@@ -14,8 +14,5 @@ pub mod Examples
 pub mod Best
 pub mod Fields
 pub mod Refusals
-pub mod RepeatedKeys
-pub mod RowsLeft
-pub mod CountedEnds
-pub mod RouterSets
 pub mod Laws
+pub mod Tables

@@ -9,6 +9,7 @@ use Rattle.cspf_db.specs.declared.refusal.Refusal.TheVariants.{TooLong, Duplicat
 use Rattle.cspf_db.specs.Numbered.{NumberedChanges}
 use Rattle.cspf_db.specs.Database.{Database, key_cmp, link_at, link_count, router_count}
 use Rattle.cspf_db.specs.Changes.{key_changed, after_changes, IsPresent}
+use Rattle.cspf_db.specs.declared.limits.TheConstants.{MOST_CHANGES, MOST_LINKS, MOST_ROUTERS}
 
 -- the change at a place, where places count from 1
 abbrev pub change_at : List Change → ℕ → Option Change
@@ -43,7 +44,7 @@ pub record IsLeastPlace (P : ℕ → Type 0) (place : ℕ) : Type 0 where
 
 -- at most 4,096 changes
 abbrev pub IsShort : List Change → Type 0
-IsShort changes = length changes ≤ 4096
+IsShort changes = length changes ≤ MOST_CHANGES
 
 -- no two changes are on one key
 abbrev pub AreOnceEach : List Change → Type 0
@@ -61,14 +62,14 @@ pub record AreInOrder (d : Database) (changes : List Change) : Type 0 where
 
 -- Why a batch doesn't fit a database: the first of these that applies.
 abbrev pub IsRefusal : Database → NumberedChanges → Refusal → Type 0
-IsRefusal d batch TooLong = 4096 < length batch.changes
+IsRefusal d batch TooLong = MOST_CHANGES < length batch.changes
 IsRefusal d batch (Duplicate at) =
     IsShort batch.changes × IsLeastPlace (RepeatsAt batch.changes) at
 IsRefusal d batch (Absent at) =
     IsShort batch.changes × AreOnceEach batch.changes
     × IsLeastPlace (RemovesNothingAt d batch.changes) at
 IsRefusal d batch Full =
-    AreInOrder d batch.changes × (16384 < link_count (after_changes d batch.changes))
+    AreInOrder d batch.changes × (MOST_LINKS < link_count (after_changes d batch.changes))
 IsRefusal d batch TooManyRouters =
-    AreInOrder d batch.changes × (link_count (after_changes d batch.changes) ≤ 16384)
-    × (1024 < router_count (after_changes d batch.changes))
+    AreInOrder d batch.changes × (link_count (after_changes d batch.changes) ≤ MOST_LINKS)
+    × (MOST_ROUTERS < router_count (after_changes d batch.changes))

@@ -9,6 +9,10 @@ ghost use Rattle.cspf_db.specs.Database.{AreAtTheirKeys};
 ghost use Rattle.cspf_db.specs.Fields.{AreFieldsOfLinks, AreFieldsOfRequests};
 ghost use Rattle.cspf_db.specs.Laws.{WalksAreTold, RoutesAreRanked, OneBestAnswer, LastChangeDecides, OneDatabase, OneMoreBatch, LawfulByOneMore, FirstBatchesAreLawful, RoutersAreCounted, NoRouterIsLeftOut, OneRefusal, AddressesCompareAsNumbers, FewerLinksComeFirst, LastPutStands, LastRemovalStands, ExactBandwidthIsEnough, LessBandwidthIsNot};
 
+mod hop_laws;
+
+pub use hop_laws::{route_without_hops, worked_routes};
+
 /// Walks are in a total order. Their local addresses tell the walks of a request apart, so only
 /// equal routes of one request tie.
 pub fn order_of_walks()

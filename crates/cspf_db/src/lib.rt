@@ -4,29 +4,18 @@
 #![tactic(auto)]
 
 mod batch;
-mod beside;
-mod check;
-mod hop_laws;
 mod laws;
 mod limits;
 mod link;
-mod merging;
-mod places;
 mod refusal;
 mod request;
-mod router_list;
-mod router_rows;
-mod routers;
-mod scratch;
 mod table;
-mod table_rows;
-mod tally;
 
 pub use batch::{Batch, Change};
-pub use hop_laws::{route_without_hops, worked_routes};
 pub use laws::{
     absorbing, counted_routers, fields_of_links_and_requests, last_change_decides, lawful_batches,
-    one_best_answer, one_refusal, order_of_walks, worked_admission, worked_changes, worked_orders,
+    one_best_answer, one_refusal, order_of_walks, route_without_hops, worked_admission,
+    worked_changes, worked_orders, worked_routes,
 };
 pub use limits::{MOST_CHANGES, MOST_LINKS, MOST_ROUTERS};
 pub use link::{Link, LinkError};

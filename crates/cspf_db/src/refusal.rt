@@ -3,7 +3,7 @@ use thiserror::Error;
 /// Why a batch doesn't fit a table. Places of changes count from 1.
 #[derive(Clone, Copy, Debug, PartialEq, Eq, Error)]
 pub enum Refusal {
-    /// The batch has more than 4,096 changes.
+    /// The batch has more than `MOST_CHANGES` changes.
     #[error("more than 4096 changes")]
     TooLong,
     /// Two changes are on one key.
@@ -18,10 +18,10 @@ pub enum Refusal {
         /// The least place of a removal whose key isn't in the table.
         at: usize,
     },
-    /// More than 16,384 links would be left.
+    /// More than `MOST_LINKS` links would be left.
     #[error("more than 16384 links")]
     Full,
-    /// More than 1,024 routers would be left.
+    /// More than `MOST_ROUTERS` routers would be left.
     #[error("more than 1024 routers")]
     TooManyRouters,
 }

@@ -5,23 +5,29 @@ ghost use Rattle.cspf_db.specs.Index.{links_of, router_list, links_from, links_f
 ghost use Rattle.cspf_db.specs.Changes.{no_links, after_changes, Fits};
 ghost use Rattle.cspf_db.specs.Refusals.{IsRefusal};
 ghost use Rattle.cspf_db.specs.Targets.{Owns};
+ghost use Rattle.cspf_db.specs.declared.limits.TheConstants.{MOST_LINKS};
 
-use crate::beside::change_table;
-use crate::router_list::search;
-use crate::router_rows::list_spans;
-use crate::scratch::Scratch;
-use crate::table_rows::{any_rising_within, index_of, rows_from};
-use crate::{Batch, Link, Refusal, check};
+mod check;
+mod merging;
+mod places;
+mod router_list;
+mod router_rows;
+mod routers;
+mod row_changes;
+mod scratch;
+mod table_rows;
+mod tally;
+
+use crate::limits::{MOST_ROUTERS, ROOM_FOR_LINKS, ROOM_FOR_ROUTERS};
+use crate::{Batch, Link, Refusal};
 use cspf_addr::{Addr, Prefix};
+use router_list::search;
+use router_rows::list_spans;
+use row_changes::change_table;
+use scratch::Scratch;
 use std::alloc::{AllocError, Global};
 use std::marker::Model;
-
-/// The links that a table has room for, and a batch more: the rows change places with those that a
-/// batch was merged into, which have room for a put by each change.
-const ROOM: usize = 20480;
-
-/// The routers that a table has room for: its own, and both ends of each link that a batch puts.
-const ROUTERS: usize = 9216;
+use table_rows::{any_rising_within, index_of, rows_from};
 
 /// A traffic engineering database of at most 16,384 links and 1,024 routers. No call but `new` can
 /// fail for memory.
@@ -36,13 +42,13 @@ pub struct Table {
 
 impl Model for Table {
     ghost use Rattle.cspf_db.specs.Database.{Database};
-    ghost use Rattle.cspf_db.specs.Stored.{database_code};
+    ghost use Rattle.cspf_db.specs.DatabaseCode.{database_code};
 
     ghost Value = { Database };
 
     ghost coded = { database_code };
 
-    ghost use Rattle.cspf_db.specs.Rows.{IsTable, database_of};
+    ghost use Rattle.cspf_db.specs.Tables.Rows.{IsTable, database_of};
 
     ghost view = { λ a. database_of a.rows.items };
 
@@ -55,10 +61,10 @@ impl Table {
         ensures { IfOk result (λ table. table ≡ no_links) }
     {
         Ok(Table {
-            rows: Vec::with_capacity(alloc, ROOM)?,
-            routers: Vec::with_capacity(alloc, ROUTERS)?,
-            ends: Vec::with_capacity(alloc, ROOM)?,
-            spans: Vec::with_capacity(alloc, ROUTERS)?,
+            rows: Vec::with_capacity(alloc, ROOM_FOR_LINKS)?,
+            routers: Vec::with_capacity(alloc, ROOM_FOR_ROUTERS)?,
+            ends: Vec::with_capacity(alloc, ROOM_FOR_LINKS)?,
+            spans: Vec::with_capacity(alloc, MOST_ROUTERS)?,
             scratch: Scratch::new(alloc)?,
         })
     }
@@ -67,10 +73,10 @@ impl Table {
     /// there. They have at most 1,024 routers at their ends.
     pub fn links(&self) -> &[Link]
         ensures listed { AreLinksOf self.now result.now }
-        ensures most { length result.now ≤ 16384 }
+        ensures most { length result.now ≤ MOST_LINKS }
         ensures once { HaveOwnKeys result.now }
         ensures keyed { AreAtTheirKeys self.now }
-        ensures few { router_count self.now ≤ 1024 }
+        ensures few { router_count self.now ≤ MOST_ROUTERS }
         ensures sorted { result.now ≡ links_of self.now }
     {
         self.rows.as_slice()
@@ -81,7 +87,7 @@ impl Table {
         ensures all { result.now ≡ router_list self.now }
         ensures known { (router : ℕ) → Contains result.now router ↔ IsRouterOf self.now router }
         ensures rising { IsStrictlyIncreasing result.now }
-        ensures few { length result.now ≤ 1024 }
+        ensures few { length result.now ≤ MOST_ROUTERS }
     {
         self.routers.as_slice()
     }

@@ -1,4 +1,4 @@
--- The front of an object decides which hops it has.
+-- The first bytes of an object decide which hops it has.
 use Rattle.std.proofs.Common.{◌≡◌, ℕ, zero, suc, ◌+◌, ◌-◌, ◌*◌, ◌<◌, ◌≤◌, inl, inr, false, leb, ltb, eqb, List, [], ◌∷◌, length, take, drop, get_or, Ok, Err, refl, sym, ap, ◌∙◌, arith}
 use Rattle.std.proofs.lemmas.Bool.{le-leb, le-ltb, ne_eqb, cases_lt}
 use Rattle.std.proofs.lemmas.List.{take_all, length-take-le, get_or-take, drop-take}
@@ -25,7 +25,7 @@ hops_at-none : (at : ℕ) (bytes : List ℕ) → 0 < length bytes → hops_at ze
 hops_at-none at [] some = absurd (omega arith)
 hops_at-none at (byte ∷ bytes) some = refl
 
--- more bytes than so many subobjects have decide which hops they are
+-- more bytes than this many subobjects have decide which hops they are
 hops_at-take : (most at m : ℕ) (bytes : List ℕ) → 8 * most < m → hops_at most at (take m bytes) ≡ hops_at most at bytes
 hops_at-take zero at m bytes enough =
     elim (cases_lt m (length bytes)) [

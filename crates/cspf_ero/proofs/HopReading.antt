@@ -5,7 +5,7 @@ use Rattle.cspf_ero.specs.declared.ero_error.EroError.{EroError}
 use Rattle.cspf_addr.specs.ResultSteps.{◌>>=◌}
 use Rattle.cspf_ero.specs.Reading.{hop_at, hops_at}
 
--- what a reader that has these hops answers, where the rest is read so
+-- what a reader that has these hops answers, where this is what the rest is read as
 abbrev pub behind : List Hop → Result (List Hop) EroError → Result (List Hop) EroError
 behind hops (Ok more) = Ok (hops ++ more)
 behind hops (Err e) = Err e

@@ -9,14 +9,14 @@ regrouped : (a id b version c d cost e hops f again g : List ℕ)
     ≡ a ++ id ++ b ++ version ++ c ++ (d ++ cost ++ e ++ hops ++ f ++ again ++ g)
 regrouped a id b version c d cost e hops f again g = simp append_assoc
 
--- the front of a line, piece by piece, and by its words
+-- a line up to its object, piece by piece, and by its words
 pub front_pieces : (id version cost hops again : List ℕ)
     → codes "ask " ++ (id ++ (codes " v" ++ (version ++ (codes " route cost=" ++ (cost ++ (codes " hops=" ++ (hops ++ (codes " again=" ++ (again ++ codes " ero=")))))))))
     ≡ codes "ask " ++ id ++ codes " v" ++ version ++ codes " " ++ (codes "route cost=" ++ cost ++ codes " hops=" ++ hops ++ codes " again=" ++ again ++ codes " ero=")
 front_pieces id version cost hops again =
     regrouped (codes "ask ") id (codes " v") version (codes " ") (codes "route cost=") cost (codes " hops=") hops (codes " again=") again (codes " ero=")
 
--- behind the front of a line stand the digits and a line feed
+-- behind what stands before its object, a line has the digits and a line feed
 pub line_pieces : (front words digits feed : List ℕ) → front ++ words ++ digits ++ feed ≡ front ++ (words ++ digits) ++ feed
 line_pieces front words digits feed = simp append_assoc
 
@@ -37,7 +37,7 @@ pub again_letters : (again : Bool) → length (yes_or_no again) ≤ 3
 again_letters true = lit≤ tt
 again_letters false = lit≤ tt
 
--- the front of a line has at most 87 bytes
+-- a line has at most 87 bytes before its object
 pub front_most : (id version cost hops again : List ℕ) → length id ≤ 20 → length version ≤ 10 → length cost ≤ 14 → length hops ≤ 4 → length again ≤ 3
     → length (codes "ask " ++ (id ++ (codes " v" ++ (version ++ (codes " route cost=" ++ (cost ++ (codes " hops=" ++ (hops ++ (codes " again=" ++ (again ++ codes " ero=")))))))))) ≤ 87
 front_most id version cost hops again a b c d e = simp length-append (omega arith)

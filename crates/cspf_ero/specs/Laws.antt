@@ -3,6 +3,7 @@ use Rattle.std.specs.Prelude.{◌≡◌, ℕ, ◌^◌, ◌<◌, ◌≤◌, ◌�
 use Rattle.std.specs.List.{AllByRecursion}
 use Rattle.hex.specs.Hex.{IsBytes}
 use Rattle.cspf_addr.specs.declared.hop.Hop.{Hop}
+use Rattle.cspf_addr.specs.declared.hops.TheConstants.{MOST_HOPS}
 use Rattle.cspf_db.specs.declared.link.Link.{Link}
 use Rattle.cspf_ero.specs.Objects.{Spells, object_of}
 use Rattle.cspf_ero.specs.Reading.{ero_of}
@@ -21,5 +22,5 @@ hops_along links = map (λ link. record { prefix = record { address = link.remot
 
 -- what is written for a route of 1 to 7 links is read as its hops
 abbrev pub AreRoutesReadBack : Type 0
-AreRoutesReadBack = (links : List Link) → 1 ≤ length links → length links ≤ 7 → AllByRecursion (λ link. link.remote < 2 ^ 32) links
+AreRoutesReadBack = (links : List Link) → 1 ≤ length links → length links ≤ MOST_HOPS → AllByRecursion (λ link. link.remote < 2 ^ 32) links
     → ero_of (object_of links) ≡ Ok (hops_along links)

@@ -5,6 +5,7 @@ use Rattle.std.specs.List.{flat_map}
 use Rattle.cspf_addr.specs.PrefixParts.{IsPrefix}
 use Rattle.cspf_addr.specs.Prefixes.{Covers}
 use Rattle.cspf_addr.specs.declared.hop.Hop.{Hop}
+use Rattle.cspf_addr.specs.declared.hops.TheConstants.{MOST_HOPS}
 use Rattle.cspf_db.specs.declared.link.Link.{Link}
 
 -- the header of an object: its length in bytes, the class 20 and the C-Type 1
@@ -37,7 +38,7 @@ SpellsEach bytes (hop ∷ hops) = (front : List ℕ) × (back : List ℕ) × (by
 -- an object spells 1 to 7 hops
 pub record Spells (bytes : List ℕ) (hops : List Hop) : Type 0 where
   pub some : 1 ≤ length hops
-  pub most : length hops ≤ 7
+  pub most : length hops ≤ MOST_HOPS
   pub size : length bytes ≡ 4 + 8 * length hops
   pub body : List ℕ
   pub whole : bytes ≡ header (length bytes) ++ body

@@ -4,6 +4,7 @@ use Rattle.std.specs.Int.{w16, w32, from_be_bytes}
 use Rattle.cspf_addr.specs.ResultSteps.{◌>>=◌}
 use Rattle.cspf_addr.specs.PrefixParts.{with_first_bits}
 use Rattle.cspf_addr.specs.declared.hop.Hop.{Hop}
+use Rattle.cspf_addr.specs.declared.hops.TheConstants.{MOST_HOPS}
 use Rattle.cspf_ero.specs.declared.ero_error.EroError.{EroError}
 use Rattle.cspf_ero.specs.declared.ero_error.EroError.TheVariants as error
 
@@ -26,7 +27,7 @@ hop_at at bytes =
     else Err (error.Sublength at))
     else Err (error.Unsupported at (slice_index bytes 0 % 128))
 
--- the hops of subobjects, the first at this offset of the object, where at most so many may come
+-- the hops of subobjects, the first at this offset of the object, of which at most this many may come
 abbrev pub hops_at : ℕ → ℕ → List ℕ → Result (List Hop) EroError
 hops_at most at [] = Ok []
 hops_at zero at (byte ∷ bytes) = Err error.TooManyHops
@@ -42,7 +43,7 @@ sized_ero_of size bytes =
     then Err error.Short
     else (if length_field bytes == size && size % 4 == 0
     then (if slice_index bytes 2 == 20 && slice_index bytes 3 == 1
-    then (if length bytes == 4 then Err error.Empty else hops_at 7 4 (drop 4 bytes))
+    then (if length bytes == 4 then Err error.Empty else hops_at MOST_HOPS 4 (drop 4 bytes))
     else Err error.Class)
     else Err error.Length)
 

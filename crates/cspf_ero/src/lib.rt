@@ -13,7 +13,7 @@ mod writer;
 
 pub use ero_error::EroError;
 pub use laws::{objects_are_read, routes_are_read_back};
-pub use reader::{read_ero, read_ero_front};
+pub use reader::{FIRST_BYTES, read_ero, read_ero_front};
 pub use reply::reply_line;
 pub use writer::write_ero;
 

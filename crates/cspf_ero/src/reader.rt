@@ -4,6 +4,10 @@ ghost use Rattle.cspf_ero.specs.Reading.{ero_of, sized_ero_of, hops_at, hop_at};
 use crate::ero_error::EroError;
 use cspf_addr::{Addr, Hop, Hops, MOST_HOPS, Prefix};
 
+/// How many bytes of an object decide which hops it has: more than a header and `MOST_HOPS`
+/// subobjects.
+pub const FIRST_BYTES: usize = 64;
+
 /// The hops that the bytes of an EXPLICIT_ROUTE object spell (RFC 2205 3.1.2, RFC 3209 4.3), or the
 /// first refusal: of the header, then of the subobjects from the first to the last.
 pub fn read_ero(bytes: &[u8]) -> Result<Hops, EroError>
@@ -12,11 +16,11 @@ pub fn read_ero(bytes: &[u8]) -> Result<Hops, EroError>
     read_sized(bytes, bytes.len())
 }
 
-/// The hops of an object of `size` bytes by its first 64, or all where it has fewer: the answer of
+/// The hops of an object of `size` bytes by its first `FIRST_BYTES`, or all where it has fewer: the answer of
 /// `read_ero` on the whole object. What comes behind them changes nothing, since more than seven
 /// hops are refused.
 pub fn read_ero_front(front: &[u8], size: usize) -> Result<Hops, EroError>
-    ensures { (bytes : List ℕ) → length bytes ≡ size → take 64 bytes ≡ front.now
+    ensures { (bytes : List ℕ) → length bytes ≡ size → take FIRST_BYTES bytes ≡ front.now
         → result ≡ ero_of bytes }
 {
     read_sized(front, size)
@@ -46,7 +50,7 @@ fn read_sized(bytes: &[u8], size: usize) -> Result<Hops, EroError>
 
 /// The hops of the subobjects behind the header.
 fn read_hops(body: &[u8]) -> Result<Hops, EroError>
-    ensures { result ≡ hops_at 7 4 body.now }
+    ensures { result ≡ hops_at MOST_HOPS 4 body.now }
 {
     let mut hops = Hops::none();
     let mut rest = body;

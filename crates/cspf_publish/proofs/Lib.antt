@@ -1,4 +1,4 @@
-pub mod Beginnings
-pub mod Adding
-pub mod Fitting
+pub mod Prefixes
+pub mod BatchAddition
+pub mod FitTest
 pub mod Steps

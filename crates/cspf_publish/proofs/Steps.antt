@@ -8,16 +8,16 @@ use Rattle.cspf_db.specs.Numbered.{NumberedChanges}
 use Rattle.cspf_db.specs.Database.{Database}
 use Rattle.cspf_db.specs.Changes.{after_changes, database_after, Fits}
 use Rattle.cspf_db.specs.Laws.{LawfulByOneMore, OneMoreBatch}
-use Rattle.cspf_publish.specs.Absorbed.{database_with}
+use Rattle.cspf_publish.specs.BatchAbsorption.{database_with}
 use Rattle.cspf_publish.specs.Histories.{IsHistory, MayFollow}
 use Rattle.cspf_publish.specs.KnownBatches.{KnownBatches, AreFirstOf}
-use Rattle.cspf_publish.specs.OneMore.{known_with, idle_at}
-use Rattle.cspf_publish.specs.ReplicaStates.{ReplicaState, state_with}
-use Rattle.cspf_publish.specs.ReplicaRule.{HoldsBetweenSteps, HasItsDatabase, Knows, IsPublisher, HasOnePublisher, Opens, Publishes, Enters, told_by, told_of}
+use Rattle.cspf_publish.specs.Operations.{known_with, idle_batch}
+use Rattle.cspf_publish.specs.ReplicaStates.{ReplicaState, published_state, state_with}
+use Rattle.cspf_publish.specs.ReplicaRule.{HoldsBetweenSteps, HasItsDatabase, Knows, IsPublisher, HasOnePublisher, Opens, Publishes, Enters, note_of, view_with_note}
 use Rattle.cspf_publish.specs.declared.seat_view.SeatView.{SeatView}
 use Rattle.cspf_publish.specs.declared.seat_view.SeatView.TheVariants.{New, Asker, Publisher}
-use Rattle.cspf_publish.proofs.Beginnings.{BeginsWith-self, BeginsWith-snoc, IsHistory-snoc}
-use Rattle.cspf_publish.proofs.Fitting.{database_with-Fits, database_with-nothing}
+use Rattle.cspf_publish.proofs.Prefixes.{BeginsWith-self, BeginsWith-snoc, IsHistory-snoc}
+use Rattle.cspf_publish.proofs.FitTest.{database_with-Fits, database_with-nothing}
 
 -- what each seat knows of the published batches
 abbrev AllKnow : ReplicaState → List SeatView → Type 0
@@ -164,45 +164,45 @@ publishes law seat v s next b mine follows is now has views w at =
       },
     )
 
-told_by-Knows : (s : ReplicaState) (v : SeatView) → Knows s v → Knows s (told_by v)
-told_by-Knows s New knows = tt
-told_by-Knows s (Asker known) knows = knows
-told_by-Knows s (Publisher known) knows = subst (λ (k : KnownBatches). AreFirstOf s.known k) (sym knows.0) (AreFirstOf-self s.known)
+note_of-Knows : (s : ReplicaState) (v : SeatView) → Knows s v → Knows s (note_of v)
+note_of-Knows s New knows = tt
+note_of-Knows s (Asker known) knows = knows
+note_of-Knows s (Publisher known) knows = subst (λ (k : KnownBatches). AreFirstOf s.known k) (sym knows.0) (AreFirstOf-self s.known)
 
-told_by-IsPublisher : (v : SeatView) → IsPublisher (told_by v) → ⊥
-told_by-IsPublisher New p = p
-told_by-IsPublisher (Asker known) p = p
-told_by-IsPublisher (Publisher known) p = p
+note_of-IsPublisher : (v : SeatView) → IsPublisher (note_of v) → ⊥
+note_of-IsPublisher New p = p
+note_of-IsPublisher (Asker known) p = p
+note_of-IsPublisher (Publisher known) p = p
 
-told_of-Knows : (s : ReplicaState) (v told : SeatView) → Knows s v → Knows s told → Knows s (told_of v told)
-told_of-Knows s New told knows its = told_by-Knows s told its
-told_of-Knows s (Asker known) told knows its = knows
-told_of-Knows s (Publisher known) told knows its = knows
+view_with_note-Knows : (s : ReplicaState) (v told : SeatView) → Knows s v → Knows s told → Knows s (view_with_note v told)
+view_with_note-Knows s New told knows its = note_of-Knows s told its
+view_with_note-Knows s (Asker known) told knows its = knows
+view_with_note-Knows s (Publisher known) told knows its = knows
 
-told_of-IsPublisher : (v told : SeatView) → IsPublisher (told_of v told) → IsPublisher v
-told_of-IsPublisher New told p = told_by-IsPublisher told p
-told_of-IsPublisher (Asker known) told p = p
-told_of-IsPublisher (Publisher known) told p = p
+view_with_note-IsPublisher : (v told : SeatView) → IsPublisher (view_with_note v told) → IsPublisher v
+view_with_note-IsPublisher New told p = note_of-IsPublisher told p
+view_with_note-IsPublisher (Asker known) told p = p
+view_with_note-IsPublisher (Publisher known) told p = p
 
 -- a note is cut off a seat
-pub forks : (seat : ℕ) (v : SeatView) → Forks HoldsBetweenSteps seat v v (told_by v)
+pub forks : (seat : ℕ) (v : SeatView) → Forks HoldsBetweenSteps seat v v (note_of v)
 forks seat v s views w at = record {
   history = w.history;
   database = w.database;
-  seats = AllKnow-snoc s (set views seat v) (told_by v) (AllKnow-set s views seat v w.seats (w.seats seat v at)) (told_by-Knows s v (w.seats seat v at));
-  one_publisher = HasOnePublisher-snoc (set views seat v) (told_by v) (HasOnePublisher-set views seat v v at w.one_publisher (λ p. p)) (told_by-IsPublisher v);
+  seats = AllKnow-snoc s (set views seat v) (note_of v) (AllKnow-set s views seat v w.seats (w.seats seat v at)) (note_of-Knows s v (w.seats seat v at));
+  one_publisher = HasOnePublisher-snoc (set views seat v) (note_of v) (HasOnePublisher-set views seat v v at w.one_publisher (λ p. p)) (note_of-IsPublisher v);
 }
 
 -- a seat takes in a note
-pub merges : (seat : ℕ) (v : SeatView) (other : ℕ) (w : SeatView) → Merges HoldsBetweenSteps seat v other w (told_of v w) New
+pub merges : (seat : ℕ) (v : SeatView) (other : ℕ) (w : SeatView) → Merges HoldsBetweenSteps seat v other w (view_with_note v w) New
 merges seat v other w s views holds at apart there =
-    let its : Knows s w = ⊎_elim (λ (t : (other ≡ seat) × (told_of v w ≡ w)). absurd (apart t.0)) (λ (t : (other ≢ seat) × (get_elem? views other ≡ some w)). holds.seats other w t.1) (at_set views seat other (told_of v w) w there) in
-    let both : AllKnow s (set views seat (told_of v w)) = AllKnow-set s views seat (told_of v w) holds.seats (told_of-Knows s v w (holds.seats seat v at) its) in
-    let one : HasOnePublisher (set views seat (told_of v w)) = HasOnePublisher-set views seat v (told_of v w) at holds.one_publisher (told_of-IsPublisher v w) in record {
+    let its : Knows s w = ⊎_elim (λ (t : (other ≡ seat) × (view_with_note v w ≡ w)). absurd (apart t.0)) (λ (t : (other ≢ seat) × (get_elem? views other ≡ some w)). holds.seats other w t.1) (at_set views seat other (view_with_note v w) w there) in
+    let both : AllKnow s (set views seat (view_with_note v w)) = AllKnow-set s views seat (view_with_note v w) holds.seats (view_with_note-Knows s v w (holds.seats seat v at) its) in
+    let one : HasOnePublisher (set views seat (view_with_note v w)) = HasOnePublisher-set views seat v (view_with_note v w) at holds.one_publisher (view_with_note-IsPublisher v w) in record {
       history = holds.history;
       database = holds.database;
-      seats = AllKnow-set s (set views seat (told_of v w)) other New both tt;
-      one_publisher = HasOnePublisher-set (set views seat (told_of v w)) other w New there one (λ p. absurd p);
+      seats = AllKnow-set s (set views seat (view_with_note v w)) other New both tt;
+      one_publisher = HasOnePublisher-set (set views seat (view_with_note v w)) other w New there one (λ p. absurd p);
     }
 
 -- a replica that takes in a batch that may come next
@@ -214,16 +214,14 @@ HasItsDatabase-more law s b has follows =
 
 -- two operations that change nothing but that the replica is open
 pub idle_twice : (s : ReplicaState)
-    → state_with (state_with s (idle_at s.known).batch s.known) (idle_at s.known).batch s.known ≡ record { database = s.database; known = s.known; is_open = true }
+    → state_with (state_with s (idle_batch s.known).batch s.known) (idle_batch s.known).batch s.known ≡ record { database = s.database; known = s.known; is_open = true }
 idle_twice s =
-    let nothing : (d : Database) → database_with d (idle_at s.known).batch ≡ d = λ d. database_with-nothing d 0 in
+    let nothing : (d : Database) → database_with d (idle_batch s.known).batch ≡ d = λ d. database_with-nothing d 0 in
     ap (λ (d : Database). (let it : ReplicaState = record { database = d; known = s.known; is_open = true } in it))
-    (ap (λ (d : Database). database_with d (idle_at s.known).batch) (nothing s.database) ∙ nothing s.database)
+    (ap (λ (d : Database). database_with d (idle_batch s.known).batch) (nothing s.database) ∙ nothing s.database)
 
--- an open replica that has the database of its batches is known by them
-pub state_from_known : (s : ReplicaState) (known : KnownBatches) → HasItsDatabase s → s.is_open ≡ true → known ≡ s.known
-    → s ≡ record { database = database_after known.batches; known = known; is_open = true }
-state_from_known s known has now is =
+-- an open replica that has the database of its batches
+pub state_from_known : (s : ReplicaState) → HasItsDatabase s → s.is_open ≡ true → s ≡ published_state s.known
+state_from_known s has now =
     ap (λ (d : Database). (let it : ReplicaState = record { database = d; known = s.known; is_open = s.is_open } in it)) has
-    ∙ (ap (λ (x : Bool). (let it : ReplicaState = record { database = database_after s.known.batches; known = s.known; is_open = x } in it)) now
-    ∙ ap (λ (k : KnownBatches). (let it : ReplicaState = record { database = database_after k.batches; known = k; is_open = true } in it)) (sym is))
+    ∙ ap (λ (x : Bool). (let it : ReplicaState = record { database = database_after s.known.batches; known = s.known; is_open = x } in it)) now

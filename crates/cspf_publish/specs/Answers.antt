@@ -4,12 +4,17 @@ use Rattle.cspf_db.specs.declared.request.Request.{Request}
 use Rattle.cspf_db.specs.Numbered.{NumberedChanges}
 use Rattle.cspf_db.specs.Changes.{database_after}
 use Rattle.cspf_db.specs.Best.{IsBestAnswer}
+use Rattle.cspf_search.specs.declared.outcome.Outcome.{Outcome}
 use Rattle.cspf_search.specs.Outcome.{answer_of}
 use Rattle.cspf_publish.specs.declared.answer.Answer.{Answer}
+
+-- the outcome is the best answer in the database of these batches
+abbrev pub IsBestAfter : List NumberedChanges → Request → Outcome → Type 0
+IsBestAfter batches q outcome = IsBestAnswer (database_after batches) q (answer_of outcome)
 
 -- The answer repeats the request's id, its version is the number of these batches, and its outcome is
 -- the best answer in their database.
 pub record IsAnswerAfter (batches : List NumberedChanges) (q : Request) (a : Answer) : Type 0 where
   pub id : a.id ≡ q.id
   pub version : a.version ≡ length batches
-  pub best : IsBestAnswer (database_after batches) q (answer_of a.outcome)
+  pub best : IsBestAfter batches q a.outcome

@@ -1,4 +1,4 @@
--- When a batch is refused, the first that applies, and what stands then.
+-- When a batch is refused, by the first reason that applies, and what the publisher is then.
 use Rattle.std.specs.Prelude.{◌≡◌, ◌≢◌, ℕ, ◌+◌, ◌<◌, ◌≤◌, false, List, length, take, Option}
 use Rattle.std.specs.Io.KnownBytes.{Appends}
 use Rattle.cspf_db.specs.Numbered.{NumberedChanges}
@@ -7,6 +7,7 @@ use Rattle.cspf_db.specs.Refusals.{IsRefusal}
 use Rattle.cspf_publish.specs.Histories.{MayFollow}
 use Rattle.cspf_publish.specs.PublisherStates.{PublisherState, IsStopped}
 use Rattle.cspf_rows.specs.BatchText.{batch_text}
+use Rattle.cspf_publish.specs.declared.limits.TheConstants.{MOST_VERSIONS}
 use Rattle.cspf_publish.specs.declared.errors.ApplyError.{ApplyError}
 use Rattle.cspf_publish.specs.declared.errors.ApplyError.TheVariants.{Stopped, Exhausted, WrongNumber, Refused, Memory, Journal}
 
@@ -18,14 +19,14 @@ pub record IsNextBatch {W : Type 0} (p : PublisherState W) (b : NumberedChanges)
 -- not stopped, and fewer than 1,000,000 batches are published
 pub record HasRoom {W : Type 0} (p : PublisherState W) : Type 0 where
   pub going : p.stopped ≡ false
-  pub room : length p.batches < 1000000
+  pub room : length p.batches < MOST_VERSIONS
 
--- Why the batch isn't published, and what stands then: the first of these that applies. Only a fault of
--- the journal changes anything: the first bytes of the batch's text are written, and the publisher is
--- stopped for good.
+-- Why the batch isn't published, by the first of these that applies, and what the publisher is then. Only
+-- a fault of the journal changes anything: a strict prefix of the batch's text is written, and the
+-- publisher is stopped for good.
 abbrev pub IsApplyError : {W : Type 0} → (W → Option (List ℕ)) → PublisherState W → PublisherState W → NumberedChanges → ApplyError → Type 0
 IsApplyError contents p p' b Stopped = IsStopped p × (p' ≡ p)
-IsApplyError contents p p' b Exhausted = (p.stopped ≡ false) × (1000000 ≤ length p.batches) × (p' ≡ p)
+IsApplyError contents p p' b Exhausted = (p.stopped ≡ false) × (MOST_VERSIONS ≤ length p.batches) × (p' ≡ p)
 IsApplyError contents p p' b (WrongNumber expected) =
     HasRoom p × (b.number ≢ length p.batches + 1) × (expected ≡ length p.batches + 1) × (p' ≡ p)
 IsApplyError contents p p' b (Refused refusal) =

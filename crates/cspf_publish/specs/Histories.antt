@@ -2,13 +2,14 @@
 use Rattle.std.specs.Prelude.{◌≡◌, ℕ, suc, ◌+◌, ◌<◌, ◌≤◌, List, [], ◌∷◌, ◌++◌, length}
 use Rattle.cspf_db.specs.Numbered.{NumberedChanges}
 use Rattle.cspf_db.specs.Changes.{database_after, Fits, AreLawful}
+use Rattle.cspf_publish.specs.declared.limits.TheConstants.{MOST_VERSIONS}
 
 -- The batch may come next: it fits the database of those before it, its number is the next one, and
 -- fewer than 1,000,000 were published.
 pub record MayFollow (batches : List NumberedChanges) (b : NumberedChanges) : Type 0 where
   pub fits : Fits (database_after batches) b
   pub number : b.number ≡ length batches + 1
-  pub room : length batches < 1000000
+  pub room : length batches < MOST_VERSIONS
 
 -- the batches have this number and those after it, in order
 abbrev pub AreNumberedFrom : ℕ → List NumberedChanges → Type 0
@@ -19,8 +20,8 @@ AreNumberedFrom n (b ∷ bs) = (b.number ≡ n) × AreNumberedFrom (suc n) bs
 pub record IsHistory (batches : List NumberedChanges) : Type 0 where
   pub lawful : AreLawful batches
   pub numbers : AreNumberedFrom 1 batches
-  pub most : length batches ≤ 1000000
+  pub most : length batches ≤ MOST_VERSIONS
 
--- the first of all batches
+-- the second list is a prefix of the first
 abbrev pub BeginsWith : List NumberedChanges → List NumberedChanges → Type 0
 BeginsWith all first = (rest : List NumberedChanges) × (all ≡ first ++ rest)

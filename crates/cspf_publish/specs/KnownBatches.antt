@@ -4,12 +4,12 @@ use Rattle.logbook.specs.Pages.{Book}
 use Rattle.cspf_db.specs.Numbered.{NumberedChanges}
 use Rattle.cspf_publish.specs.Histories.{BeginsWith}
 
--- the first batches of a publisher's list, and which publisher's
+-- a prefix of a publisher's list of batches, and which publisher's
 pub record KnownBatches : Type 0 where
   pub batches : List NumberedChanges
   pub source : Book
 
--- the one are first batches of the other, of the same source, perhaps all of them
+-- the second are a prefix of the first, of the same source, perhaps all of them
 pub record AreFirstOf (all first : KnownBatches) : Type 0 where
   pub source : first.source ≡ all.source
   pub begins : BeginsWith all.batches first.batches

@@ -1,11 +1,10 @@
 pub mod Histories
 pub mod KnownBatches
 pub mod HistoryRule
-pub mod Absorbed
+pub mod BatchAbsorption
 pub mod ReplicaStates
 pub mod ReplicaRule
-pub mod OneMore
+pub mod Operations
 pub mod PublisherStates
-pub mod RecordErrors
 pub mod ApplyErrors
 pub mod Answers

@@ -15,7 +15,7 @@ use Rattle.cspf_publish.specs.declared.seat_view.SeatView.TheVariants.{New, Aske
 abbrev pub HasItsDatabase : ReplicaState → Type 0
 HasItsDatabase s = s.database ≡ database_after s.known.batches
 
--- What a seat knows: a new one nothing, an asker's first batches of those that are published, and the
+-- What a seat knows: a new one nothing, an asker's a prefix of the batches that are published, and the
 -- publisher's all of them.
 abbrev pub Knows : ReplicaState → SeatView → Type 0
 Knows s New = Unit {0}
@@ -35,7 +35,7 @@ HasOnePublisher views =
     → IsPublisher v → IsPublisher w → i ≡ j
 
 -- The rule: the published batches are a history, the replica that askers enter has their database, each
--- seat knows first batches of them, the publisher's all, and there is one publisher at most.
+-- seat knows a prefix of them, the publisher's all, and there is one publisher at most.
 pub record HoldsBetweenSteps (s : ReplicaState) (views : List SeatView) : Type 0 where
   pub history : IsHistory s.known.batches
   pub database : HasItsDatabase s
@@ -59,24 +59,25 @@ pub record Publishes (v : SeatView) (x y : ReplicaState) (w : SeatView) : Type 0
   pub after : w ≡ Publisher y.known
 
 -- An asker enters a replica, which has the database of its batches: from now on it knows these, and
--- those that it knew from its last entry are the first of them.
+-- those that it knew from its last entry are a prefix of them.
 pub record Enters (v : SeatView) (x y : ReplicaState) (w : SeatView) : Type 0 where
   pub same : y ≡ x
   pub database : HasItsDatabase y
   pub later : (known : KnownBatches) → v ≡ Asker known → AreFirstOf y.known known
   pub after : w ≡ Asker y.known
 
--- A new asker's seat is told what the publisher's knows.
-abbrev pub told_by : SeatView → SeatView
-told_by New = New
-told_by (Asker known) = Asker known
-told_by (Publisher known) = Asker known
+-- What a new asker's seat is told: what the publisher's knows.
+abbrev pub note_of : SeatView → SeatView
+note_of New = New
+note_of (Asker known) = Asker known
+note_of (Publisher known) = Asker known
 
--- A new seat knows what it is told. One that knows something keeps it.
-abbrev pub told_of : SeatView → SeatView → SeatView
-told_of New told = told_by told
-told_of (Asker known) told = Asker known
-told_of (Publisher known) told = Publisher known
+-- The view of a seat that takes in a note: a new one knows what it is told, and one that knows something
+-- keeps it.
+abbrev pub view_with_note : SeatView → SeatView → SeatView
+view_with_note New told = note_of told
+view_with_note (Asker known) told = Asker known
+view_with_note (Publisher known) told = Publisher known
 
 -- The seat is an asker's, which knows at least what it knew at its last entry.
 pub record KnowsItsEntry (v : SeatView) (known : KnownBatches) : Type 0 where

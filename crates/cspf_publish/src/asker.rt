@@ -1,9 +1,6 @@
 ghost use Rattle.std.specs.Prelude.{◌≡◌, ◌⊎◌, length, IfOk, IfSome, IfNone, IfErr};
 ghost use Rattle.left_right.specs.Sides.{view};
-ghost use Rattle.cspf_db.specs.Best.{IsBestAnswer};
-ghost use Rattle.cspf_db.specs.Changes.{database_after};
-ghost use Rattle.cspf_search.specs.Outcome.{answer_of};
-ghost use Rattle.cspf_publish.specs.Answers.{IsAnswerAfter};
+ghost use Rattle.cspf_publish.specs.Answers.{IsAnswerAfter, IsBestAfter};
 ghost use Rattle.cspf_publish.specs.Histories.{BeginsWith, IsHistory};
 ghost use Rattle.cspf_publish.specs.KnownBatches.{KnownBatches, AreFirstOf};
 ghost use Rattle.cspf_publish.specs.ReplicaRule.{KnowsItsEntry};
@@ -25,7 +22,7 @@ use std::marker::Model;
 pub(crate) type ReplicaReader = Reader<Replica, SeatView, ReplicaRule>;
 
 /// Asks, and knows the batches up to the last version that it saw or learnt of. One thread uses it
-/// at a time, and it may be moved to another thread. No call of it waits.
+/// at a time, and it may be moved to another thread. Its calls are wait-free.
 #[derive(Drop)]
 pub struct Asker {
     reader: ReplicaReader,
@@ -45,8 +42,8 @@ impl Model for Asker {
 }
 
 // One entry: the batches of the replica that was entered, and what is found in its table. Those of
-// the last entry are the first of them.
-fn entered(
+// the last entry are a prefix of them.
+fn enter_and_search(
     reader: ReplicaReader,
     ask: (Global, Request),
 ) -> (ReplicaReader, Option<(Known, Result<Outcome, AllocError>)>)
@@ -54,8 +51,7 @@ fn entered(
     ensures seat { IfSome result.1 (λ r. view result.0.place ≡ IsAsker r.0) }
     ensures later { IfSome result.1 (λ r. (known : KnownBatches)
         → view reader.place ≡ IsAsker known → AreFirstOf r.0 known) }
-    ensures best { IfSome result.1 (λ r. IfOk r.1 (λ outcome.
-        IsBestAnswer (database_after r.0.batches) ask.1 (answer_of outcome))) }
+    ensures best { IfSome result.1 (λ r. IfOk r.1 (IsBestAfter r.0.batches ask.1)) }
 {
     let (alloc, request) = ask;
     match reader.enter_as::<Entry>() {
@@ -87,7 +83,7 @@ impl Asker {
         ensures answer { IfOk result (λ answer. IsAnswerAfter self.new.batches request.now answer) }
         ensures no_entry { IfErr result (λ error. error ≡ AskError.NoEntry → self.new ≡ self.old) }
     {
-        let entry = replace_with(&mut self.reader, (alloc, *request), entered);
+        let entry = replace_with(&mut self.reader, (alloc, *request), enter_and_search);
         let Some((known, outcome)) = entry else {
             return Err(AskError::NoEntry);
         };

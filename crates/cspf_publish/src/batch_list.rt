@@ -2,13 +2,14 @@
 ghost use Rattle.std.specs.Prelude.{◌≡◌, [], MatchBool};
 ghost use Rattle.cspf_publish.specs.Histories.{MayFollow};
 ghost use Rattle.cspf_publish.specs.HistoryRule.{length_word};
-ghost use Rattle.cspf_publish.specs.OneMore.{known_with};
+ghost use Rattle.cspf_publish.specs.Operations.{known_with};
 
 use crate::history::{AddBatch, History, NoGain};
 use crate::known::Known;
 use cspf_db::{Batch, lawful_batches};
 use logbook::{Offer, Seen, Start, Word};
 use std::marker::Model;
+use std::sync::Wait;
 
 /// The word that the publisher moves: the length of the list.
 type LengthWord = Word<Batch, u64, History>;
@@ -34,7 +35,7 @@ impl Model for BatchList {
 
 impl BatchList {
     /// A new list, with no batch.
-    pub(crate) fn begin() -> BatchList
+    pub(crate) fn new() -> BatchList
         ensures { result.batches ≡ [] }
     {
         let (seen, mut first, _second) = Seen::open(Start::alone(), 0, 0);
@@ -52,8 +53,21 @@ impl BatchList {
         self.known.copy()
     }
 
-    /// Adds a batch. False where the list has more batches than these.
-    pub(crate) fn extend(&mut self, batch: &Batch) -> bool
+    /// Adds a batch. All batches are added here alone, so the first turn is the last one.
+    pub(crate) fn extend<R: Wait>(&mut self, rt: &R, batch: &Batch)
+        requires { MayFollow self.old.batches batch.now }
+        ensures { self.new ≡ known_with self.old.batches self.old.source batch.now }
+    {
+        for _ in rt.forever() {
+            if self.try_extend(batch) {
+                return;
+            }
+        }
+        unreachable!()
+    }
+
+    // One step, which adds a batch. False where the list has more batches than these.
+    fn try_extend(&mut self, batch: &Batch) -> bool
         requires { MayFollow self.old.batches batch.now }
         ensures { MatchBool result
             (self.new ≡ known_with self.old.batches self.old.source batch.now)

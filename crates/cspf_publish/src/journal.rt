@@ -1,18 +1,17 @@
 //! The journal, and the list of the batches that are recorded in it.
-ghost use Rattle.std.specs.Prelude.{◌≡◌, ◌++◌, ◌∷◌, [], false, IfOk, OnOk, IfErr};
+ghost use Rattle.std.specs.Prelude.{◌≡◌, ◌++◌, ◌∷◌, [], ◌<◌, true, false, length, take, IfOk, OnOk, IfErr, OnErr};
 ghost use Rattle.std.specs.Io.KnownBytes.{Appends};
 ghost use Rattle.cspf_rows.specs.BatchText.{batch_text};
 ghost use Rattle.cspf_publish.specs.Histories.{MayFollow};
-ghost use Rattle.cspf_publish.specs.OneMore.{known_with};
-ghost use Rattle.cspf_publish.specs.RecordErrors.{IsRecordError};
+ghost use Rattle.cspf_publish.specs.Operations.{known_with};
 
-use crate::ApplyError;
 use crate::batch_list::BatchList;
 use crate::known::Known;
 use cspf_db::Batch;
 use cspf_rows::put_all;
 use std::io::Write;
 use std::marker::Model;
+use std::sync::Wait;
 
 /// A writer, and the list whose batches it has the texts of. What is known of a longer list is made
 /// by `record` alone, so nothing can be shown that isn't recorded.
@@ -74,8 +73,14 @@ impl<W> Journal<W> {
 
 impl<W: Write> Journal<W> {
     /// Adds a batch to the list, and writes its text whole. Only then are the batches up to it
-    /// known. It takes no memory.
-    pub(crate) fn record(&mut self, batch: &Batch, text: &[u8]) -> Result<Known, ApplyError>
+    /// known. On an error that many bytes of the text are written, and the journal is stopped. It
+    /// takes no memory.
+    pub(crate) fn record<R: Wait>(
+        &mut self,
+        rt: &R,
+        batch: &Batch,
+        text: &[u8],
+    ) -> Result<Known, usize>
         requires going { self.old.stopped ≡ false }
         requires next { MayFollow self.old.batches batch.now }
         requires text { text.now ≡ batch_text batch.now }
@@ -86,14 +91,15 @@ impl<W: Write> Journal<W> {
             known ≡ known_with self.old.batches self.old.source batch.now) }
         ensures written { OnOk result (Appends
             (W.contents self.old.writer) (W.contents self.new.writer) (batch_text batch.now)) }
-        ensures error { IfErr result (λ e. IsRecordError W.contents self.old self.new batch.now e) }
+        ensures stopped { OnErr result (self.new.stopped ≡ true) }
+        ensures cut { IfErr result (λ written. (written < length (batch_text batch.now)) × Appends
+            (W.contents self.old.writer) (W.contents self.new.writer)
+            (take written (batch_text batch.now))) }
     {
-        if !self.list.extend(batch) {
-            return Err(ApplyError::Memory);
-        }
+        self.list.extend(rt, batch);
         if let Err(written) = put_all(&mut self.writer, text) {
             self.stopped = true;
-            return Err(ApplyError::Journal { written });
+            return Err(written);
         }
         Ok(self.list.known())
     }

@@ -1,4 +1,4 @@
-//! What is known of the list of all batches: its first ones.
+//! What is known of the list of all batches: a prefix of it.
 ghost use Rattle.std.specs.Prelude.{◌≡◌, ◌<◌, length, MatchBool};
 ghost use Rattle.cspf_publish.specs.Histories.{BeginsWith, IsHistory};
 
@@ -7,7 +7,7 @@ use cspf_db::Batch;
 use logbook::Seen;
 use std::marker::Model;
 
-/// The first batches of a publisher's list. The code keeps their number alone.
+/// A prefix of a publisher's list of batches. The code keeps its length alone.
 #[derive(Drop)]
 pub struct Known {
     version: u32,
@@ -27,7 +27,7 @@ impl Model for Known {
 }
 
 impl Known {
-    /// The batches that are seen, so many.
+    /// The batches that are seen, with how many they are.
     pub fn new(version: u32, seen: Seen<Batch, u64, History>) -> Known
         requires { (version ≡ length seen.log) × IsHistory seen.log }
         ensures { result ≡ record { batches = seen.log; source = seen.book } }
@@ -60,8 +60,8 @@ impl Known {
         }
     }
 
-    /// Takes over what the other knows where that is no less. The less is the beginning of the
-    /// more.
+    /// Takes over what the other knows where that is no less. The shorter list is a prefix of the
+    /// longer.
     pub fn raise(&mut self, other: &Known) -> bool
         requires { other.now.source ≡ self.old.source }
         ensures { MatchBool result

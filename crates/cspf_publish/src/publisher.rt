@@ -7,19 +7,13 @@ ghost use Rattle.cspf_publish.specs.Histories.{IsHistory};
 use crate::batch_list::BatchList;
 use crate::journal::Journal;
 use crate::replicas::Replicas;
-use crate::{ApplyError, Asker, OpenError, Told};
+use crate::{ApplyError, Asker, MOST_ASKERS, MOST_VERSIONS, OpenError, Told};
 use cspf_db::Batch;
 use cspf_rows::batch_text;
 use std::alloc::Global;
 use std::io::Write;
 use std::marker::Model;
 use std::sync::Wait;
-
-/// The greatest version.
-const VERSIONS: u32 = 1_000_000;
-
-/// The greatest number of askers.
-const ASKERS: usize = 64;
 
 /// Publishes batches, each of which it writes to its journal before. It is not `Drop`: end it by
 /// `close`.
@@ -47,7 +41,7 @@ impl<W> Model for Publisher<W> {
 }
 
 /// A publisher of the empty database, version 0, and 1 to 64 askers. It begins with a writer of its
-/// own for the journal, which it hands back untouched with each error.
+/// own for the journal, which each error gives back untouched.
 pub fn open<W: Write, R: Wait>(
     rt: &R,
     alloc: Global,
@@ -59,19 +53,19 @@ pub fn open<W: Write, R: Wait>(
     ensures askers { IfOk result (λ opened.
         All (λ a. (a.batches ≡ []) × (a.source ≡ opened.0.source)) opened.1.items) }
     ensures count { IfOk result (λ opened. vec_len opened.1 ≡ askers) }
-    ensures within { OnOk result ((0 < askers) × (askers ≤ 64)) }
+    ensures within { OnOk result ((0 < askers) × (askers ≤ MOST_ASKERS)) }
     ensures outside { IfErr result (λ e.
-        (e.0 ≡ OpenError.Askers) ↔ ¬ ((0 < askers) × (askers ≤ 64))) }
+        (e.0 ≡ OpenError.Askers) ↔ ¬ ((0 < askers) × (askers ≤ MOST_ASKERS))) }
     ensures journal { IfErr result (λ e. e.1 ≡ journal) }
 {
-    if askers == 0 || askers > ASKERS {
+    if askers == 0 || askers > MOST_ASKERS {
         return Err((OpenError::Askers, journal));
     }
     let room = match Vec::with_capacity(alloc, askers) {
         Ok(room) => room,
         Err(refused) => return Err((OpenError::from(refused), journal)),
     };
-    let list = BatchList::begin();
+    let list = BatchList::new();
     let mut replicas = match Replicas::new(rt, alloc, list.known(), askers) {
         Ok(replicas) => replicas,
         Err(refused) => return Err((OpenError::from(refused), journal)),
@@ -97,7 +91,7 @@ impl<W: Write> Publisher<W> {
         self.replicas.version()
     }
 
-    /// Tells what is published. It waits for nobody.
+    /// Tells what is published. It is wait-free.
     pub fn tell(&mut self) -> Told
         ensures batches { result.batches ≡ self.old.batches }
         ensures source { result.source ≡ self.old.source }
@@ -129,7 +123,7 @@ impl<W: Write> Publisher<W> {
             return Err(ApplyError::Stopped);
         }
         let version = self.replicas.version();
-        if version >= VERSIONS {
+        if version >= MOST_VERSIONS {
             return Err(ApplyError::Exhausted);
         }
         if batch.number != version + 1 {
@@ -146,9 +140,9 @@ impl<W: Write> Publisher<W> {
         let Ok(copy) = batch.copy(alloc) else {
             return Err(ApplyError::Memory);
         };
-        match self.journal.record(batch, text.as_slice()) {
+        match self.journal.record(rt, batch, text.as_slice()) {
             Ok(recorded) => Ok(self.replicas.publish(rt, copy, recorded)),
-            Err(error) => Err(error),
+            Err(written) => Err(ApplyError::Journal { written }),
         }
     }
 

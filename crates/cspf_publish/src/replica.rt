@@ -1,6 +1,6 @@
 //! The replicas of the table, and the operation that changes both.
 ghost use Rattle.std.specs.Prelude.{◌≡◌};
-ghost use Rattle.cspf_publish.specs.Absorbed.{database_with};
+ghost use Rattle.cspf_publish.specs.BatchAbsorption.{database_with};
 
 use crate::known::Known;
 use cspf_db::{Batch, Table};
@@ -30,12 +30,12 @@ pub struct Replica {
 
 impl Model for Replica {
     ghost use Rattle.std.specs.Coded.{codes};
-    ghost use Rattle.cspf_db.specs.Stored.{database_code};
+    ghost use Rattle.cspf_db.specs.contracts.table.Table.{the_row};
     ghost use Rattle.cspf_publish.specs.ReplicaStates.{ReplicaState};
 
     ghost Value = { ReplicaState };
 
-    ghost coded = { Prim.hlevel (codes, database_code) };
+    ghost coded = { Prim.hlevel (codes, the_row.coded) };
 
     ghost view = { λ r. record { database = r.table; known = r.known; is_open = r.is_open } };
 }

@@ -1,5 +1,5 @@
 //! The rule of the replicas, and what each kind of step tells.
-ghost use Rattle.cspf_publish.specs.ReplicaRule.{HoldsBetweenSteps, Enters, Opens, Publishes, told_by, told_of};
+ghost use Rattle.cspf_publish.specs.ReplicaRule.{HoldsBetweenSteps, Enters, Opens, Publishes, note_of, view_with_note};
 ghost use Rattle.cspf_publish.specs.declared.seat_view.SeatView.TheVariants.{New as IsNew};
 
 use crate::replica::Replica;
@@ -43,11 +43,11 @@ pub struct FirstNote;
 impl Split<SeatView> for FirstNote {
     ghost left = { λ v. v };
 
-    ghost right = { told_by };
+    ghost right = { note_of };
 }
 
 impl Join<SeatView> for FirstNote {
-    ghost both = { told_of };
+    ghost both = { view_with_note };
 
     ghost spent = { IsNew };
 }

@@ -5,7 +5,9 @@ ghost use Rattle.cspf_db.specs.Numbered.{NumberedChanges};
 ghost use Rattle.cspf_db.specs.Changes.{no_links, database_after, Fits};
 ghost use Rattle.cspf_db.specs.Refusals.{IsRefusal};
 ghost use Rattle.cspf_publish.specs.Histories.{IsHistory, MayFollow};
-ghost use Rattle.cspf_publish.specs.OneMore.{known_with, idle_at};
+ghost use Rattle.cspf_publish.specs.Operations.{known_with, idle_batch};
+ghost use Rattle.cspf_publish.specs.ReplicaStates.{published_state};
+ghost use Rattle.cspf_publish.specs.declared.limits.TheConstants.{MOST_ASKERS};
 ghost use Rattle.cspf_publish.specs.declared.seat_view.SeatView.TheVariants.{Publisher as IsPublisher};
 
 use crate::errors::NoPlace;
@@ -26,41 +28,36 @@ type ReplicaWriter = Writer<Replica, PendingBatch, SeatView, ReplicaRule>;
 /// It is not `Drop`: end it by `close`.
 pub(crate) struct Replicas {
     writer: ReplicaWriter,
-    known: Known,
 }
 
 impl Model for Replicas {
-    ghost use Rattle.std.specs.Prelude.{◌≡◌, [], true, drop};
+    ghost use Rattle.std.specs.Prelude.{◌≡◌, [], drop};
     ghost use Rattle.left_right.specs.Sides.{view as seen_by};
-    ghost use Rattle.cspf_db.specs.Changes.{database_after};
     ghost use Rattle.cspf_publish.specs.KnownBatches.{KnownBatches};
+    ghost use Rattle.cspf_publish.specs.ReplicaStates.{published_state};
     ghost use Rattle.cspf_publish.specs.declared.seat_view.SeatView.TheVariants.{Publisher};
 
     ghost Value = { KnownBatches };
 
-    ghost view = { λ r. r.known };
+    ghost view = { λ r. r.writer.desk.shown.value.known };
 
     ghost invariant = { λ r. (r.writer.desk.shown.value
-        ≡ record { database = database_after r.known.batches; known = r.known; is_open = true })
-        × (seen_by r.writer.desk.place ≡ Publisher r.known)
+        ≡ published_state r.writer.desk.shown.value.known)
+        × (seen_by r.writer.desk.place ≡ Publisher r.writer.desk.shown.value.known)
         × (drop r.writer.behind r.writer.log.items ≡ []) };
 }
 
 // The first step, which changes no table. From now on the writer's seat knows what is published.
-fn opened<R: Wait>(writer: ReplicaWriter, rt: &R) -> ReplicaWriter
+fn open_writer<R: Wait>(writer: ReplicaWriter, rt: &R) -> ReplicaWriter
     requires empty { writer.desk.shown.value ≡ record {
       database = no_links;
       known = record { batches = []; source = writer.desk.shown.value.known.source };
       is_open = false;
     } }
     requires pending { drop writer.behind writer.log.items
-        ≡ idle_at writer.desk.shown.value.known ∷ idle_at writer.desk.shown.value.known ∷ [] }
+        ≡ idle_batch writer.desk.shown.value.known ∷ idle_batch writer.desk.shown.value.known ∷ [] }
     ensures seat { view result.desk.place ≡ IsPublisher writer.desk.shown.value.known }
-    ensures shown { result.desk.shown.value ≡ record {
-      database = no_links;
-      known = writer.desk.shown.value.known;
-      is_open = true;
-    } }
+    ensures shown { result.desk.shown.value ≡ published_state writer.desk.shown.value.known }
     ensures pending { drop result.behind result.log.items ≡ [] }
 {
     let (writer, published) = writer.publish_as::<Opening, R>(rt);
@@ -68,13 +65,9 @@ fn opened<R: Wait>(writer: ReplicaWriter, rt: &R) -> ReplicaWriter
     writer
 }
 
-// One step: the pending batch is published.
-fn swapped<R: Wait>(writer: ReplicaWriter, rt: &R) -> (ReplicaWriter, Known)
-    requires shown { writer.desk.shown.value ≡ record {
-      database = database_after writer.desk.shown.value.known.batches;
-      known = writer.desk.shown.value.known;
-      is_open = true;
-    } }
+// One step: the pending batch is published. The result is the new version.
+fn swap_replicas<R: Wait>(writer: ReplicaWriter, rt: &R) -> (ReplicaWriter, u32)
+    requires shown { writer.desk.shown.value ≡ published_state writer.desk.shown.value.known }
     requires seat { view writer.desk.place ≡ IsPublisher writer.desk.shown.value.known }
     requires pending { (b : NumberedChanges)
         × MayFollow writer.desk.shown.value.known.batches b
@@ -83,19 +76,16 @@ fn swapped<R: Wait>(writer: ReplicaWriter, rt: &R) -> (ReplicaWriter, Known)
           known = known_with writer.desk.shown.value.known.batches
               writer.desk.shown.value.known.source b;
         } ∷ []) }
-    ensures seat { view result.0.desk.place ≡ IsPublisher result.1 }
-    ensures shown { result.0.desk.shown.value ≡ record {
-      database = database_after result.1.batches;
-      known = result.1;
-      is_open = true;
-    } }
+    ensures seat { view result.0.desk.place ≡ IsPublisher result.0.desk.shown.value.known }
+    ensures shown { result.0.desk.shown.value ≡ published_state result.0.desk.shown.value.known }
     ensures pending { drop result.0.behind result.0.log.items ≡ [] }
     ensures known { (b : NumberedChanges) → drop writer.behind writer.log.items ≡ record {
       batch = b;
       known = known_with writer.desk.shown.value.known.batches
           writer.desk.shown.value.known.source b;
-    } ∷ [] → result.1 ≡ known_with writer.desk.shown.value.known.batches
-        writer.desk.shown.value.known.source b }
+    } ∷ [] → result.0.desk.shown.value.known ≡ known_with
+        writer.desk.shown.value.known.batches writer.desk.shown.value.known.source b }
+    ensures version { result.1 ≡ length result.0.desk.shown.value.known.batches }
 {
     // Laws: one more batch makes its changes in the database of those before it, and keeps the
     // list lawful.
@@ -103,13 +93,13 @@ fn swapped<R: Wait>(writer: ReplicaWriter, rt: &R) -> (ReplicaWriter, Known)
     lawful_batches();
     let (writer, published) = writer.publish_as::<Swap, R>(rt);
     let _ = published;
-    let known = writer.published().known.copy();
-    (writer, known)
+    let version = writer.published().known.version();
+    (writer, version)
 }
 
 // An operation that changes nothing.
-fn idle(alloc: Global, known: &Known) -> PendingBatch
-    ensures { result ≡ idle_at known.now }
+fn idle_operation(alloc: Global, known: &Known) -> PendingBatch
+    ensures { result ≡ idle_batch known.now }
 {
     PendingBatch {
         batch: Batch {
@@ -120,7 +110,7 @@ fn idle(alloc: Global, known: &Known) -> PendingBatch
     }
 }
 
-fn empty(alloc: Global, known: &Known) -> Result<Replica, AllocError>
+fn empty_replica(alloc: Global, known: &Known) -> Result<Replica, AllocError>
     ensures { IfOk result (λ r.
         r ≡ record { database = no_links; known = known.now; is_open = false }) }
 {
@@ -158,27 +148,26 @@ impl Replicas {
         readers: usize,
     ) -> Result<Replicas, AllocError>
         requires none { known.batches ≡ [] }
-        requires readers { (0 < readers) × (readers ≤ 64) }
+        requires readers { (0 < readers) × (readers ≤ MOST_ASKERS) }
         ensures { IfOk result (λ r. r ≡ known) }
     {
-        let first = empty(alloc, &known)?;
-        let second = empty(alloc, &known)?;
+        let first = empty_replica(alloc, &known)?;
+        let second = empty_replica(alloc, &known)?;
         let mut writer: ReplicaWriter = Writer::new(alloc, first, second, readers)?;
-        let Ok(()) = writer.append(idle(alloc, &known)) else {
+        let Ok(()) = writer.append(idle_operation(alloc, &known)) else {
             writer.take(rt);
             return Err(AllocError);
         };
-        let Ok(()) = writer.append(idle(alloc, &known)) else {
+        let Ok(()) = writer.append(idle_operation(alloc, &known)) else {
             writer.take(rt);
             return Err(AllocError);
         };
         Ok(Replicas {
-            writer: opened(writer, rt),
-            known,
+            writer: open_writer(writer, rt),
         })
     }
 
-    /// So many askers in this room, who know what is published.
+    /// This number of askers in this room, who know what is published.
     pub(crate) fn askers(&mut self, room: Vec<Asker>, count: usize) -> Result<Vec<Asker>, NoPlace>
         requires { (room.items ≡ []) × (count ≤ vec_capacity room) }
         ensures same { self.new ≡ self.old }
@@ -201,7 +190,14 @@ impl Replicas {
     {
         let mut reader = self.writer.factory().reader()?;
         reader.learn::<FirstNote>(self.writer.tell::<FirstNote>());
-        Ok(Asker::new(reader, self.known.copy()))
+        Ok(Asker::new(reader, self.known()))
+    }
+
+    // The batches that are published.
+    fn known(&self) -> Known
+        ensures { result ≡ self.now }
+    {
+        self.writer.published().known.copy()
     }
 
     /// How many batches are published.
@@ -209,7 +205,7 @@ impl Replicas {
         ensures version { result ≡ length self.now.batches }
         ensures history { IsHistory self.now.batches }
     {
-        self.known.version()
+        self.writer.published().known.version()
     }
 
     /// Whether the batch fits the published database, and else the first reason why it doesn't.
@@ -233,25 +229,21 @@ impl Replicas {
             known: recorded,
         };
         append(&mut self.writer, rt, next);
-        self.known = replace_with(&mut self.writer, rt, swapped::<R>);
-        self.known.version()
+        replace_with(&mut self.writer, rt, swap_replicas::<R>)
     }
 
     /// A token of what is published.
     pub(crate) fn tell(&self) -> Told
         ensures { result ≡ self.now }
     {
-        Told::new(self.known.copy())
+        Told::new(self.known())
     }
 
-    /// Lets both replicas go. What is shown last is what was published last.
+    /// Drops both replicas, and answers the batches of the one that was shown last.
     pub(crate) fn close<R: Wait>(self, rt: &R) -> Known
         ensures { result ≡ self }
     {
-        let Replicas {
-            writer,
-            known: _known,
-        } = self;
+        let Replicas { writer } = self;
         let shown = writer.take(rt);
         shown.known.copy()
     }

@@ -1,15 +1,14 @@
 -- The text of a list of hops begins with a digit, or is empty.
-use Rattle.std.proofs.Common.{◌≡◌, ◌≢◌, ℕ, ◌/◌, ◌%◌, ◌^◌, ◌<◌, List, [], ◌∷◌, ◌++◌, codes, length, get_or, refl, sym, ap, ◌∙◌, subst, arith}
-use Rattle.std.proofs.lemmas.Fmt.{digits_decimal, decimal_nonempty}
+use Rattle.std.proofs.Common.{◌≡◌, ◌≢◌, ℕ, ◌/◌, ◌%◌, ◌^◌, ◌<◌, Bool, true, false, cond, ◌&&◌, Some, None, List, [], ◌∷◌, ◌++◌, codes, get_or, refl, sym, ap, ◌∙◌, subst, arith}
+use Rattle.std.proofs.lemmas.Bool.{ltb-true}
 use Rattle.std.specs.Char.{digit_value}
 use Rattle.std.specs.Fmt.{decimal}
-use Rattle.std.specs.Str.Parse.{AllDigits}
+use Rattle.cspf_addr.specs.Numbers.{are_digits, is_decimal, number_of, AreSpelledOnce}
 use Rattle.cspf_addr.specs.AddressText.{address_text}
 use Rattle.cspf_addr.specs.Prefixes.{prefix_text}
 use Rattle.cspf_addr.specs.HopText.{hop_text}
 use Rattle.cspf_addr.specs.HopLists.{hops_text}
 use Rattle.cspf_addr.specs.declared.hop.Hop.{Hop}
-use Rattle.cspf_addr.proofs.NumberLemmas.{own}
 
 -- a text begins with a decimal digit
 record BeginsWithDigit (text : List ℕ) : Type 0 where
@@ -18,23 +17,31 @@ record BeginsWithDigit (text : List ℕ) : Type 0 where
   whole : text ≡ first ∷ behind
   digit : digit_value first < 10
 
-digits_begin : (digits : List ℕ) → AllDigits 10 digits → 0 < length digits → BeginsWithDigit digits
-digits_begin [] all some = absurd (omega (arith, some))
-digits_begin (digit ∷ digits) all some = record { first = digit; behind = digits; whole = refl; digit = all.0 }
+-- a test of digits that was passed, with those of the first and of the size
+first_passed : (plain first others small : Bool) (v n : ℕ) → cond ((plain && (first && others)) && small) (Some v) None ≡ Some n → first ≡ true
+first_passed true true others small v n read = refl
+first_passed true false others small v n read = absurd (cc)
+first_passed false first others small v n read = absurd (cc)
+
+-- a text that is read as a number begins with a digit
+number_begins : (text : List ℕ) (n : ℕ) → number_of text ≡ Some n → BeginsWithDigit text
+unfolding number_of is_decimal are_digits
+number_begins [] n read = absurd (cc)
+number_begins (byte ∷ text) n read = record { first = byte; behind = text; whole = refl; digit = ltb-true _ _ (first_passed _ _ _ _ _ n read) }
 
 front_begins : (front back : List ℕ) → BeginsWithDigit front → BeginsWithDigit (front ++ back)
 front_begins front back begins = record { first = begins.first; behind = begins.behind ++ back; whole = ap (λ text. text ++ back) begins.whole; digit = begins.digit }
 
-address_begins : (n : ℕ) → BeginsWithDigit (address_text n)
+address_begins : AreSpelledOnce → (n : ℕ) → BeginsWithDigit (address_text n)
 unfolding address_text
-address_begins n =
+address_begins numbers n =
     let octet = n / 256 ^ 3 % 256 in
     let small : octet < 2 ^ 64 = omega arith in
-    front_begins (decimal octet) _ (digits_begin (decimal octet) (digits_decimal own octet small) (decimal_nonempty octet small))
+    front_begins (decimal octet) _ (number_begins (decimal octet) octet ((numbers (decimal octet) octet).1 (small, refl)))
 
-hop_begins : (hop : Hop) → BeginsWithDigit (hop_text hop)
+hop_begins : AreSpelledOnce → (hop : Hop) → BeginsWithDigit (hop_text hop)
 unfolding hop_text prefix_text
-hop_begins hop = front_begins _ _ (front_begins (address_text hop.prefix.address) _ (address_begins hop.prefix.address))
+hop_begins numbers hop = front_begins _ _ (front_begins (address_text hop.prefix.address) _ (address_begins numbers hop.prefix.address))
 
 other : (text rest : List ℕ) → BeginsWithDigit text → text ≢ codes "ero:" ++ rest
 other text rest begins whole =
@@ -43,8 +50,8 @@ other text rest begins whole =
     omega (arith, digit)
 
 -- no list of hops begins as an object does
-pub no_object : (hops : List Hop) (rest : List ℕ) → hops_text hops ≢ codes "ero:" ++ rest
+pub no_object : AreSpelledOnce → (hops : List Hop) (rest : List ℕ) → hops_text hops ≢ codes "ero:" ++ rest
 unfolding hops_text
-no_object [] rest whole = cc whole
-no_object (hop ∷ []) rest whole = other (hop_text hop) rest (hop_begins hop) whole
-no_object (hop ∷ next ∷ hops) rest whole = other _ rest (front_begins (hop_text hop) _ (hop_begins hop)) whole
+no_object numbers [] rest whole = cc whole
+no_object numbers (hop ∷ []) rest whole = other (hop_text hop) rest (hop_begins numbers hop) whole
+no_object numbers (hop ∷ next ∷ hops) rest whole = other _ rest (front_begins (hop_text hop) _ (hop_begins numbers hop)) whole

@@ -26,7 +26,7 @@ pair_more at count high low byte digits rest first later =
     let two : 2 * suc count ≡ suc (suc (2 * count)) = omega arith in
     rw (two, first, later) refl
 
--- the front of the digits stands for the front of the bytes
+-- the first digits stand for the first bytes
 decode_pairs-take : (at count : ℕ) (digits bytes : List ℕ) → decode_pairs at digits ≡ Ok bytes → decode_pairs at (take (2 * count) digits) ≡ Ok (take count bytes)
 unfolding decode_pairs
 decode_pairs-take at zero digits bytes found = refl

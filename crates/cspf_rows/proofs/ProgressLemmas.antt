@@ -62,7 +62,7 @@ if_some_more (Some x) more h = more x h
 longer : (rows before after : Records) (fields : List (List ℕ)) (count : ℕ) → rows ≡ before ++ (fields ∷ after) → length before ≡ count → count < length rows
 longer rows before after fields count split counted = omega (arith, ap length split, length-append before (fields ∷ after))
 
--- there are more records than so many
+-- there are more records than were seen
 pub sees_more : (Holds : List (List (List ℕ)) → Type 0) (all left next : Option (List (List (List ℕ)))) (count : ℕ) (fields : List (List ℕ))
     → HasSeen Holds all left count → Takes left next true fields → IfSome all (λ rows. count < length rows)
 sees_more Holds all left next count fields h takes =

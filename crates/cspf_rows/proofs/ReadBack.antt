@@ -1,12 +1,14 @@
 -- The records that are written for rows are read back.
-use Rattle.std.proofs.Common.{◌≡◌, ℕ, zero, suc, ◌<◌, List, [], ◌∷◌, map, length, slice_index, unwrap_or, inl, refl, lit<, arith}
+use Rattle.std.proofs.Common.{◌≡◌, ℕ, zero, suc, ◌<◌, ◌^◌, List, [], ◌∷◌, map, length, slice_index, unwrap_or, inl, refl, lit<, arith}
 use Rattle.std.proofs.lemmas.List.{length-map}
 use Rattle.std.specs.Fmt.{decimal}
 use Rattle.csv.specs.Records.{field_at}
+use Rattle.cspf_addr.specs.AddressText.{address_text}
 use Rattle.cspf_addr.specs.HopLists.{AreHopListsReadBack}
 use Rattle.cspf_rows.specs.declared.row.Row.TheVariants as row
+use Rattle.cspf_rows.specs.Says.{SpellsNumber, SpellsAddress}
 use Rattle.cspf_rows.specs.Written.{put_fields, drop_fields, end_fields, ask_fields, ArePutsReadBack, AreDropsReadBack, AreEndsReadBack, AreAsksReadBack}
-use Rattle.cspf_rows.proofs.Spelled.{AreTextsRead}
+use Rattle.cspf_rows.specs.FieldTexts.{AreTextsRead}
 use Rattle.cspf_rows.proofs.HopTexts.{no_object}
 use Rattle.cspf_rows.proofs.RowLaws.{row_of-said}
 
@@ -17,17 +19,24 @@ decimal_at [] place within = absurd (omega (arith, within))
 decimal_at (x ∷ xs) zero within = refl
 decimal_at (x ∷ xs) (suc place) within = decimal_at xs place (omega (arith, within))
 
+-- what is written for a number or an address spells it
+number_written : {bound : ℕ} (n : ℕ) → n < bound → SpellsNumber bound (decimal n) n
+number_written n small = record { small = small; written = refl }
+
+address_written : (n : ℕ) → n < 2 ^ 32 → SpellsAddress (address_text n) n
+address_written n small = record { small = small; written = refl }
+
 pub puts_read_back : AreTextsRead → ArePutsReadBack
 unfolding field_at
 puts_read_back texts link group range mask =
     row_of-said texts (put_fields link group) (row.Put link) (record {
       count = omega (arith, length-map link.free decimal, link.eight);
       kind = refl;
-      from = record { small = range.from; written = refl };
-      local = record { small = range.local; written = refl };
-      to = record { small = range.to; written = refl };
-      remote = record { small = range.remote; written = refl };
-      metric = record { small = range.metric; written = refl };
+      from = address_written link.from range.from;
+      local = address_written link.local range.local;
+      to = address_written link.to range.to;
+      remote = address_written link.remote range.remote;
+      metric = number_written link.metric range.metric;
       group = mask;
       free_0 = record { small = range.free 0 (lit< tt); written = decimal_at link.free 0 (omega (arith, link.eight)) };
       free_1 = record { small = range.free 1 (lit< tt); written = decimal_at link.free 1 (omega (arith, link.eight)) };
@@ -42,22 +51,12 @@ puts_read_back texts link group range mask =
 pub drops_read_back : AreTextsRead → AreDropsReadBack
 unfolding field_at
 drops_read_back texts from local small_from small_local =
-    row_of-said texts (drop_fields from local) (row.Remove from local) (record {
-      count = refl;
-      kind = refl;
-      from = record { small = small_from; written = refl };
-      local = record { small = small_local; written = refl };
-    })
+    row_of-said texts (drop_fields from local) (row.Remove from local) (record { count = refl; kind = refl; from = address_written from small_from; local = address_written local small_local })
 
 pub ends_read_back : AreTextsRead → AreEndsReadBack
 unfolding field_at
 ends_read_back texts number count small_number small_count =
-    row_of-said texts (end_fields number count) (row.End number count) (record {
-      count = refl;
-      kind = refl;
-      number = record { small = small_number; written = refl };
-      has = record { small = small_count; written = refl };
-    })
+    row_of-said texts (end_fields number count) (row.End number count) (record { count = refl; kind = refl; number = number_written number small_number; has = number_written count small_count })
 
 pub asks_read_back : AreTextsRead → AreHopListsReadBack → AreAsksReadBack
 unfolding field_at
@@ -65,13 +64,13 @@ asks_read_back texts hop_lists request exclude_any include_any include_all range
     row_of-said texts (ask_fields request exclude_any include_any include_all) (row.Ask request) (record {
       count = refl;
       kind = refl;
-      id = record { small = range.id; written = refl };
-      from = record { small = range.from; written = refl };
-      to = record { small = range.to; written = refl };
-      setup = record { small = request.priority; written = refl };
-      bandwidth = record { small = range.bandwidth; written = refl };
+      id = number_written request.id range.id;
+      from = address_written request.from range.from;
+      to = address_written request.to range.to;
+      setup = number_written request.setup request.priority;
+      bandwidth = number_written request.bandwidth range.bandwidth;
       exclude_any = exclude_mask;
       include_any = any_mask;
       include_all = all_mask;
-      hops = inl (record { other = no_object request.hops; read = hop_lists request.hops range.few range.hops });
+      hops = inl (record { other = no_object texts.numbers request.hops; read = hop_lists request.hops range.few range.hops });
     })

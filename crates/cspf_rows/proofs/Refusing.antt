@@ -14,12 +14,13 @@ use Rattle.cspf_rows.specs.declared.row_error.RowError.{RowError}
 use Rattle.cspf_rows.specs.declared.row_error.RowError.TheVariants as error
 use Rattle.cspf_addr.specs.ResultSteps.{◌>>=◌}
 use Rattle.cspf_rows.specs.FieldValues.{field, number_at, small_number_at, priority_at, address_at, mask_at, hops_at}
+use Rattle.cspf_rows.specs.FieldTexts.{AreTextsRead}
 use Rattle.cspf_rows.specs.Says.{SpellsNumber, SpellsAddress}
 use Rattle.cspf_rows.specs.RowRefusals.{Kind, put_kind, drop_kind, end_kind, ask_kind, address, number, small_number, priority, mask, hops, word_of, sorts_of, SpellsSort, IsFieldRefused, AreEndsRefused, AreFieldsRefused, IsRefusedAs, IsRefused, AreRowsRefused, IsRefusedOnce}
 use Rattle.cspf_rows.specs.Rows.{put_between, put, ask_between, ask, put_row_of, drop_row_of, end_row_of, ask_row_of, of_count, row_of}
 use Rattle.cspf_rows.proofs.HopsRefused.{mapped_error, fault_told, told_fault}
 use Rattle.cspf_rows.proofs.Made.{put-self, ask-same}
-use Rattle.cspf_rows.proofs.Spelled.{AreTextsRead, number_at-spelled, spelled-number_at, small_number_at-spelled, spelled-small_number_at, priority_at-spelled, spelled-priority_at, address_at-spelled, spelled-address_at, mask_at-spelled, spelled-mask_at, hops_at-spelled, spelled-hops_at}
+use Rattle.cspf_rows.proofs.Spelled.{number_at-spelled, spelled-number_at, small_number_at-spelled, spelled-small_number_at, priority_at-spelled, spelled-priority_at, address_at-spelled, spelled-address_at, mask_at-spelled, spelled-mask_at, hops_at-spelled, spelled-hops_at}
 
 -- a field is read where it spells a value of its sort, and else refused for that
 pub record IsSortRead {A : Type 0} (read : Result A RowError) (Spelled : Type 0) (Refused : RowError → Type 0) : Type 0 where

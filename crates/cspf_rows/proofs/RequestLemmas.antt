@@ -1,7 +1,8 @@
 -- Requests of a stream, one after the other.
-use Rattle.std.proofs.Common.{◌≡◌, ℕ, ◌+◌, ◌<◌, ◌≤◌, true, List, [], ◌∷◌, ◌++◌, length, Option, IfSome, Result, Ok, Err, refl, sym, ap, ◌∙◌, arith}
+use Rattle.std.proofs.Common.{◌≡◌, ℕ, ◌+◌, ◌<◌, ◌≤◌, true, List, [], ◌∷◌, ◌++◌, length, Option, IfSome, Result, Ok, Err, refl, sym, ap, subst, ◌∙◌, arith}
 use Rattle.std.proofs.lemmas.List.{map-append, length-map}
 use Rattle.cspf_db.specs.declared.request.Request.{Request}
+use Rattle.cspf_rows.specs.declared.limits.TheConstants.{MOST_ROWS}
 use Rattle.cspf_rows.specs.declared.row.Row.{Row}
 use Rattle.cspf_rows.specs.declared.row.Row.TheVariants as row
 use Rattle.cspf_rows.specs.declared.row_error.RowError.{RowError}
@@ -9,7 +10,7 @@ use Rattle.cspf_rows.specs.declared.requests_error.RequestsError.{RequestsError}
 use Rattle.cspf_rows.specs.declared.requests_error.RequestsError.TheVariants as fault
 use Rattle.cspf_rows.specs.Rows.{row_of}
 use Rattle.cspf_rows.specs.Records.{Takes}
-use Rattle.cspf_rows.specs.Requests.{AreRequests, IsFirstOther, IsRequestsFault}
+use Rattle.cspf_rows.specs.Requests.{AreRequests, HasRequestsBefore, IsFirstOther, IsRequestsFault}
 use Rattle.cspf_rows.specs.RequestReading.{IsRefusedAt}
 use Rattle.cspf_rows.specs.Progress.{HasSeen}
 use Rattle.cspf_rows.proofs.ProgressLemmas.{sees_another, if_some_more}
@@ -25,50 +26,35 @@ requests_more seen requests fields request are read =
 
 module _ (requests : List Request) (all left next : Option (List (List (List ℕ)))) (count : ℕ) (fields : List (List ℕ))
     (h : HasSeen (λ rows. AreRequests rows requests) all left count) (takes : Takes left next true fields) where
-  first_other : (read : Result Row RowError) (rows before after : Records) → count < 1000000 → row_of fields ≡ read → rows ≡ before ++ (fields ∷ after)
-      → AreRequests before requests → length before ≡ count → IsFirstOther rows (count + 1) read
-  first_other read rows before after few said split are counted = record {
-    before = before;
-    requests = requests;
-    record_there = fields;
-    after = after;
-    split = split;
-    are_requests = are;
-    is_there = ap (λ n. n + 1) (sym counted);
-    is_read = said;
-    within = omega arith;
-  }
+  -- the record stands behind the requests that were read
+  behind_requests : IfSome all (λ rows. HasRequestsBefore rows count fields)
+  behind_requests =
+      if_some_more all (λ rows more. record { before = more.0; requests = requests; after = more.1; split = more.2; are_requests = more.3; counted = more.4 })
+      (sees_another (λ rows. AreRequests rows requests) all left next count fields h takes)
+
+  first_other : (read : Result Row RowError) (rows : Records) → count < MOST_ROWS → row_of fields ≡ read → HasRequestsBefore rows count fields
+      → IsFirstOther rows (count + 1) read
+  first_other read rows few said asked = record { count = count; fields = fields; asked = asked; is_there = refl; is_read = said; within = omega arith }
 
   -- the record refuses the stream
-  pub refused_at : (why : RequestsError) → count < 1000000 → IsRefusedAt (count + 1) (row_of fields) why → IfSome all (λ rows. IsRequestsFault rows why)
+  pub refused_at : (why : RequestsError) → count < MOST_ROWS → IsRefusedAt (count + 1) (row_of fields) why → IfSome all (λ rows. IsRequestsFault rows why)
   refused_at fault.Memory few refused = absurd refused
   refused_at fault.Device few refused = absurd refused
   refused_at fault.TooManyRows few refused = absurd refused
   refused_at (fault.Bad place error) few refused =
-      if_some_more all (λ rows more. rw refused.0 (first_other (Err error) rows more.0 more.1 few refused.1 more.2 more.3 more.4))
-      (sees_another (λ rows. AreRequests rows requests) all left next count fields h takes)
+      if_some_more all (λ rows asked. rw refused.0 (first_other (Err error) rows few refused.1 asked)) behind_requests
   refused_at (fault.NotAsk place) few refused =
       let other = refused.1 in
-      if_some_more all (λ rows more. rw refused.0 (other.0, other.1, first_other (Ok other.0) rows more.0 more.1 few other.2 more.2 more.3 more.4))
-      (sees_another (λ rows. AreRequests rows requests) all left next count fields h takes)
+      if_some_more all (λ rows asked. rw refused.0 (other.0, other.1, first_other (Ok other.0) rows few other.2 asked)) behind_requests
 
   -- one record too many stands there
-  pub one_too_many : count ≡ 1000000 → IfSome all (λ rows. IsRequestsFault rows fault.TooManyRows)
+  pub one_too_many : count ≡ MOST_ROWS → IfSome all (λ rows. IsRequestsFault rows fault.TooManyRows)
   one_too_many whole =
-      if_some_more all (λ rows more. record {
-        before = more.0;
-        requests = requests;
-        first = fields;
-        after = more.1;
-        split = more.2;
-        are_requests = more.3;
-        counted = more.4 ∙ whole;
-      })
-      (sees_another (λ rows. AreRequests rows requests) all left next count fields h takes)
+      if_some_more all (λ rows asked. record { fields = fields; asked = subst (λ n. HasRequestsBefore rows n fields) whole asked }) behind_requests
 
 -- there are no more requests than records were read
 pub few_requests : (requests : List Request) (all left : Option (List (List (List ℕ)))) (count : ℕ)
-    → HasSeen (λ rows. AreRequests rows requests) all left count → count ≤ 1000000 → length requests ≤ 1000000
+    → HasSeen (λ rows. AreRequests rows requests) all left count → count ≤ MOST_ROWS → length requests ≤ MOST_ROWS
 few_requests requests all left count h few =
     let same : length h.seen ≡ length requests =
     sym (length-map h.seen row_of) ∙ ap length h.holds ∙ length-map {B = Result Row RowError} requests (λ (q : Request). Ok (row.Ask q)) in

@@ -12,10 +12,11 @@ use Rattle.cspf_rows.specs.declared.row.Row.TheVariants as row
 use Rattle.cspf_rows.specs.declared.row_error.RowError.{RowError}
 use Rattle.cspf_addr.specs.ResultSteps.{◌>>=◌}
 use Rattle.cspf_rows.specs.FieldValues.{field, number_at, small_number_at, priority_at, address_at, mask_at, hops_at}
-use Rattle.cspf_rows.specs.Rows.{put_between, put, ask_between, ask, put_row_of, drop_row_of, end_row_of, ask_row_of, row_of}
+use Rattle.cspf_rows.specs.Rows.{link_with, request_with, put_between, put, ask_between, ask, put_row_of, drop_row_of, end_row_of, ask_row_of, row_of}
+use Rattle.cspf_rows.specs.FieldTexts.{AreTextsRead}
 use Rattle.cspf_rows.specs.Says.{SaysPut, SaysRemove, SaysEnd, SaysAsk, Says, AreRowsRead, SaysOneRow}
-use Rattle.cspf_rows.proofs.Made.{put-link, ask-request}
-use Rattle.cspf_rows.proofs.Spelled.{AreTextsRead, first_step, number_at-spelled, spelled-number_at, small_number_at-spelled, spelled-small_number_at, priority_at-spelled, spelled-priority_at, address_at-spelled, spelled-address_at, mask_at-spelled, spelled-mask_at, hops_at-spelled, spelled-hops_at}
+use Rattle.cspf_rows.proofs.Made.{put-link, ask-fields}
+use Rattle.cspf_rows.proofs.Spelled.{first_step, number_at-spelled, spelled-number_at, small_number_at-spelled, spelled-small_number_at, priority_at-spelled, spelled-priority_at, address_at-spelled, spelled-address_at, mask_at-spelled, spelled-mask_at, hops_at-spelled, spelled-hops_at}
 
 -- eight numbers, one by one
 eight_items : (xs : List ℕ) → length xs ≡ 8
@@ -50,15 +51,7 @@ put_row_of-said texts fields link s =
       number_at-spelled texts fields 13 (slice_index link.free 5) s.free_5,
       number_at-spelled texts fields 14 (slice_index link.free 6) s.free_6,
       number_at-spelled texts fields 15 (slice_index link.free 7) s.free_7,
-    ) (put-link link _ refl (record {
-      from = refl;
-      local = refl;
-      to = refl;
-      remote = refl;
-      metric = refl;
-      group = refl;
-      free = eight_items link.free link.eight;
-    }))
+    ) (put-link texts.links link _ refl (record { from = refl; local = refl; to = refl; remote = refl; metric = refl; group = refl; free = eight_items link.free link.eight }))
 
 drop_row_of-said : AreTextsRead → (fields : List (List ℕ)) (from local : ℕ) → SaysRemove fields from local → drop_row_of fields ≡ Ok (row.Remove from local)
 unfolding drop_row_of
@@ -82,17 +75,7 @@ ask_row_of-said texts fields request s =
       mask_at-spelled texts fields 8 request.include_any s.include_any,
       mask_at-spelled texts fields 9 request.include_all s.include_all,
       hops_at-spelled texts fields 10 request.hops s.hops,
-    ) (ask-request request _ (record {
-      id = refl;
-      from = refl;
-      to = refl;
-      setup = refl;
-      bandwidth = refl;
-      exclude_any = refl;
-      include_any = refl;
-      include_all = refl;
-      hops = refl;
-    }))
+    ) (ask-fields request)
 
 -- a record that says a row is read as it
 pub row_of-said : AreTextsRead → (fields : List (List ℕ)) (r : Row) → Says fields r → row_of fields ≡ Ok r
@@ -107,17 +90,7 @@ said-put : (link : LinkFields) (eight : length link.free ≡ 8) (ends : Dec (lin
     → (l : Link) × (row.Put l ≡ r) × HasLinkFields l link
 said-put link eight (yes same) r made = absurd (cc)
 said-put link eight (no apart) r made = (
-  record {
-    from = link.from;
-    local = link.local;
-    to = link.to;
-    remote = link.remote;
-    metric = link.metric;
-    group = link.group;
-    free = link.free;
-    eight = eight;
-    two_ends = apart;
-  },
+  link_with link eight apart,
   cc,
   record { from = refl; local = refl; to = refl; remote = refl; metric = refl; group = refl; free = refl },
 )
@@ -128,19 +101,7 @@ said-ask : (request : RequestFields) (low : Dec (request.setup < 8)) (ends : Dec
 said-ask request (no above) ends r made = absurd (cc)
 said-ask request (yes below) (yes same) r made = absurd (cc)
 said-ask request (yes below) (no apart) r made = (
-  record {
-    id = request.id;
-    from = request.from;
-    to = request.to;
-    setup = request.setup;
-    bandwidth = request.bandwidth;
-    exclude_any = request.exclude_any;
-    include_any = request.include_any;
-    include_all = request.include_all;
-    hops = request.hops;
-    priority = below;
-    two_ends = apart;
-  },
+  request_with request below apart,
   cc,
   record { id = refl; from = refl; to = refl; setup = refl; bandwidth = refl; exclude_any = refl; include_any = refl; include_all = refl; hops = refl },
 )
@@ -206,31 +167,24 @@ said-put_row_of texts fields r count kind read =
     let made = said-put _ _ _ r after_u7 in
     subst (Says fields) made.1 (said-link texts fields made.0 _ made.2 count kind is_from is_local is_to is_remote is_metric is_group is_u0 is_u1 is_u2 is_u3 is_u4 is_u5 is_u6 is_u7)))))))))))))))
 
+-- what a row of two fields was made of
+two_steps : (first second : Result ℕ RowError) (make : ℕ → ℕ → Row) (r : Row) → (first >>= (λ x. second >>= (λ y. Ok (make x y)))) ≡ Ok r
+    → (x : ℕ) × (y : ℕ) × (first ≡ Ok x) × (second ≡ Ok y) × (make x y ≡ r)
+two_steps (Ok x) (Ok y) make r read = (x, y, refl, refl, cc)
+two_steps (Ok x) (Err e) make r read = absurd (cc)
+two_steps (Err e) second make r read = absurd (cc)
+
 said-drop_row_of : AreTextsRead → (fields : List (List ℕ)) (r : Row) → length fields ≡ 3 → field fields 1 ≡ codes "drop" → drop_row_of fields ≡ Ok r → Says fields r
 unfolding drop_row_of
 said-drop_row_of texts fields r count kind read =
-    let from = first_step _ _ _ read in
-    let local = first_step _ _ _ from.2 in
-    let same : row.Remove from.0 local.0 ≡ r = cc (local.2) in
-    subst (Says fields) same (record {
-      count = count;
-      kind = kind;
-      from = spelled-address_at texts fields 2 from.0 from.1;
-      local = spelled-address_at texts fields 3 local.0 local.1;
-    })
+    let (from, local, is_from, is_local, same) = two_steps _ _ row.Remove r read in
+    subst (Says fields) same (record { count = count; kind = kind; from = spelled-address_at texts fields 2 from is_from; local = spelled-address_at texts fields 3 local is_local })
 
 said-end_row_of : AreTextsRead → (fields : List (List ℕ)) (r : Row) → length fields ≡ 3 → field fields 1 ≡ codes "end" → end_row_of fields ≡ Ok r → Says fields r
 unfolding end_row_of
 said-end_row_of texts fields r count kind read =
-    let number = first_step _ _ _ read in
-    let changes = first_step _ _ _ number.2 in
-    let same : row.End number.0 changes.0 ≡ r = cc (changes.2) in
-    subst (Says fields) same (record {
-      count = count;
-      kind = kind;
-      number = spelled-small_number_at texts fields 2 number.0 number.1;
-      has = spelled-small_number_at texts fields 3 changes.0 changes.1;
-    })
+    let (number, changes, is_number, is_changes, same) = two_steps _ _ row.End r read in
+    subst (Says fields) same (record { count = count; kind = kind; number = spelled-small_number_at texts fields 2 number is_number; has = spelled-small_number_at texts fields 3 changes is_changes })
 
 said-ask_row_of : AreTextsRead → (fields : List (List ℕ)) (r : Row) → length fields ≡ 10 → field fields 1 ≡ codes "ask" → ask_row_of fields ≡ Ok r → Says fields r
 unfolding ask_row_of ask

@@ -9,9 +9,7 @@ use Rattle.hex.specs.declared.error.FromHexError.{FromHexError}
 use Rattle.hex.proofs.HexLemmas.{decode_of-ok}
 use Rattle.std.specs.Option.{ok_or}
 use Rattle.std.specs.Result.{result_map_both}
-use Rattle.cspf_addr.specs.Numbers.{AreSpelledOnce}
-use Rattle.cspf_addr.specs.AddressText.{AreAddressesSpelledOnce}
-use Rattle.cspf_addr.specs.MaskText.{SpellsMask, AreMasksRead}
+use Rattle.cspf_addr.specs.MaskText.{SpellsMask}
 use Rattle.cspf_addr.specs.HopLists.{hops_of}
 use Rattle.cspf_addr.specs.declared.hop.Hop.{Hop}
 use Rattle.cspf_ero.specs.Objects.{Spells}
@@ -20,14 +18,8 @@ use Rattle.cspf_rows.specs.declared.row_error.HopsFault.TheVariants as fault
 use Rattle.cspf_rows.specs.declared.row_error.RowError.{RowError}
 use Rattle.cspf_addr.specs.ResultSteps.{◌>>=◌}
 use Rattle.cspf_rows.specs.FieldValues.{field, number_at, small_number_at, priority_at, address_at, mask_at, object_hops_of, hex_hops_of, either_hops_of, hops_at}
+use Rattle.cspf_rows.specs.FieldTexts.{AreTextsRead}
 use Rattle.cspf_rows.specs.Says.{SpellsNumber, SpellsAddress, SpellsHops}
-
--- the laws of the texts that fields spell
-pub record AreTextsRead : Type 0 where
-  pub numbers : AreSpelledOnce
-  pub addresses : AreAddressesSpelledOnce
-  pub masks : AreMasksRead
-  pub objects : AreObjectsRead
 
 -- the first step of two that gave a value
 pub first_step : {A B : Type 0} (r : Result A RowError) (f : A → Result B RowError) (y : B) → (r >>= f) ≡ Ok y → (x : A) × (r ≡ Ok x) × (f x ≡ Ok y)

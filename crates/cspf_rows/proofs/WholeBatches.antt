@@ -1,4 +1,4 @@
--- Whole batches at the front of rows.
+-- Whole batches that rows begin with.
 use Rattle.std.proofs.Common.{◌≡◌, ◌≢◌, ℕ, ◌+◌, ◌≤◌, List, [], ◌∷◌, ◌++◌, map, length, Result, Ok, refl, sym, ap, ◌∙◌, append_assoc, arith}
 use Rattle.std.proofs.lemmas.List.{map-append, length-append, length-map}
 use Rattle.cspf_db.specs.declared.batch.Change.{Change}

@@ -41,8 +41,8 @@ abbrev pub IsRest : List (List (List ℕ)) → Rest → Type 0
 IsRest left rest.Clean = left ≡ []
 IsRest left rest.Torn = left ≢ []
 
--- The batches of a journal are the longest front of its records that is whole batches with the
--- numbers 1, 2, 3 and so on: no other such front leaves fewer records. Whether a batch fits a
+-- The batches of a journal are the longest prefix of its records that is whole batches with the
+-- numbers 1, 2, 3 and so on: no other such prefix leaves fewer records. Whether a batch fits a
 -- database isn't asked.
 pub record IsJournal (records : List (List (List ℕ))) (batches : List NumberedChanges) (rest : Rest) : Type 0 where
   pub left : List (List (List ℕ))

@@ -4,6 +4,7 @@ use Rattle.std.specs.List.{flat_map, AllByRecursion}
 use Rattle.cspf_db.specs.declared.batch.Change.{Change}
 use Rattle.cspf_db.specs.declared.batch.Change.TheVariants as change
 use Rattle.cspf_db.specs.Numbered.{NumberedChanges}
+use Rattle.cspf_rows.specs.declared.limits.TheConstants.{MOST_ROWS}
 use Rattle.cspf_rows.specs.declared.journal.Rest.{Rest}
 use Rattle.cspf_rows.specs.declared.journal.Rest.TheVariants as rest
 use Rattle.cspf_rows.specs.Written.{IsLinkInRange}
@@ -24,11 +25,11 @@ AreInRange batches = AllByRecursion (λ batch. AllByRecursion IsChangeInRange ba
 abbrev pub journal_text : List NumberedChanges → List ℕ
 journal_text batches = flat_map batch_text batches
 
--- Batches that are numbered from 1 on, of at most 1,000,000 rows in all.
+-- Batches that are numbered from 1 on, of at most `MOST_ROWS` rows in all.
 pub record AreWritable (batches : List NumberedChanges) : Type 0 where
   pub in_range : AreInRange batches
   pub numbers : AreNumberedFrom 1 batches
-  pub few : length (journal_rows batches) ≤ 1000000
+  pub few : length (journal_rows batches) ≤ MOST_ROWS
 
 -- the text of batches is cut into their records
 abbrev pub AreTextsCut : Type 0

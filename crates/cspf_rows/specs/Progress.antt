@@ -7,7 +7,7 @@ AreSplit None left seen = Unit {0}
 AreSplit (Some all) None seen = ⊥
 AreSplit (Some all) (Some left) seen = all ≡ seen ++ left
 
--- of all records so many were seen, and this holds of them
+-- this many of all records were seen, and this holds of them
 pub record HasSeen (Holds : List (List (List ℕ)) → Type 0) (all left : Option (List (List (List ℕ)))) (count : ℕ) : Type 0 where
   pub seen : List (List (List ℕ))
   pub counted : length seen ≡ count

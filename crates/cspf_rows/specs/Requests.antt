@@ -1,6 +1,7 @@
 -- What a stream of requests reads as, or the first row that keeps it from that.
 use Rattle.std.specs.Prelude.{◌≡◌, ◌+◌, ◌≤◌, ℕ, List, ◌∷◌, ◌++◌, map, length, Result, Ok, Err}
 use Rattle.cspf_db.specs.declared.request.Request.{Request}
+use Rattle.cspf_rows.specs.declared.limits.TheConstants.{MOST_ROWS}
 use Rattle.cspf_rows.specs.declared.row.Row.{Row}
 use Rattle.cspf_rows.specs.declared.row.Row.TheVariants as row
 use Rattle.cspf_rows.specs.declared.row_error.RowError.{RowError}
@@ -19,28 +20,29 @@ IsNoRequest (row.Remove from local) = Unit {0}
 IsNoRequest (row.End number count) = Unit {0}
 IsNoRequest (row.Ask request) = ⊥
 
+-- the first records, this many, ask for requests, and behind them stands this one
+pub record HasRequestsBefore (records : List (List (List ℕ))) (count : ℕ) (fields : List (List ℕ)) : Type 0 where
+  pub before : List (List (List ℕ))
+  pub requests : List Request
+  pub after : List (List (List ℕ))
+  pub split : records ≡ before ++ (fields ∷ after)
+  pub are_requests : AreRequests before requests
+  pub counted : length before ≡ count
+
 -- The record at this place, which counts from 1, is the first that asks for nothing, and is read as
 -- this.
 pub record IsFirstOther (records : List (List (List ℕ))) (place : ℕ) (read : Result Row RowError) : Type 0 where
-  pub before : List (List (List ℕ))
-  pub requests : List Request
-  pub record_there : List (List ℕ)
-  pub after : List (List (List ℕ))
-  pub split : records ≡ before ++ (record_there ∷ after)
-  pub are_requests : AreRequests before requests
-  pub is_there : place ≡ length before + 1
-  pub is_read : row_of record_there ≡ read
-  pub within : place ≤ 1000000
+  pub count : ℕ
+  pub fields : List (List ℕ)
+  pub asked : HasRequestsBefore records count fields
+  pub is_there : place ≡ count + 1
+  pub is_read : row_of fields ≡ read
+  pub within : place ≤ MOST_ROWS
 
--- There are more than 1,000,000 records, of which the first 1,000,000 ask.
+-- There are more than `MOST_ROWS` records, of which the first `MOST_ROWS` ask.
 pub record AreTooMany (records : List (List (List ℕ))) : Type 0 where
-  pub before : List (List (List ℕ))
-  pub requests : List Request
-  pub first : List (List ℕ)
-  pub after : List (List (List ℕ))
-  pub split : records ≡ before ++ (first ∷ after)
-  pub are_requests : AreRequests before requests
-  pub counted : length before ≡ 1000000
+  pub fields : List (List ℕ)
+  pub asked : HasRequestsBefore records MOST_ROWS fields
 
 -- what each refusal says of the records
 abbrev pub IsRequestsFault : List (List (List ℕ)) → RequestsError → Type 0

@@ -1,8 +1,10 @@
 -- The row that a record says, or the first refusal.
-use Rattle.std.specs.Prelude.{◌≡◌, ◌<◌, ℕ, suc, Bool, ◌==◌, if◌then◌else◌, List, [], ◌∷◌, length, codes, refl, Result, Ok, Err}
+use Rattle.std.specs.Prelude.{◌≡◌, ◌≢◌, ◌<◌, ℕ, suc, Bool, ◌==◌, if◌then◌else◌, List, [], ◌∷◌, length, codes, refl, Result, Ok, Err}
 use Rattle.std.specs.Str.{bytes_eq}
 use Rattle.std.proofs.Math.Decide.{ℕ_discrete, dec_le}
 use Rattle.cspf_db.specs.Fields.{LinkFields, RequestFields}
+use Rattle.cspf_db.specs.declared.link.Link.{Link}
+use Rattle.cspf_db.specs.declared.request.Request.{Request}
 use Rattle.cspf_rows.specs.declared.row.Row.{Row}
 use Rattle.cspf_rows.specs.declared.row.Row.TheVariants as row
 use Rattle.cspf_rows.specs.declared.row_error.RowError.{RowError}
@@ -10,44 +12,32 @@ use Rattle.cspf_rows.specs.declared.row_error.RowError.TheVariants as error
 use Rattle.cspf_addr.specs.ResultSteps.{◌>>=◌}
 use Rattle.cspf_rows.specs.FieldValues.{field, number_at, small_number_at, priority_at, address_at, mask_at, hops_at}
 
+-- the link with these attributes, whose ends are two routers
+abbrev pub link_with : (link : LinkFields) → length link.free ≡ 8 → link.from ≢ link.to → Link
+link_with link eight apart =
+    record { from = link.from; local = link.local; to = link.to; remote = link.remote; metric = link.metric; group = link.group; free = link.free; eight = eight; two_ends = apart }
+
 -- a row that puts the link with these attributes, if its ends are two routers
 abbrev pub put_between : (link : LinkFields) → length link.free ≡ 8 → Dec (link.from ≡ link.to) → Result Row RowError
 put_between link eight (yes same) = Err error.SelfLink
 put_between link eight (no apart) =
-    Ok (row.Put (record {
-      from = link.from;
-      local = link.local;
-      to = link.to;
-      remote = link.remote;
-      metric = link.metric;
-      group = link.group;
-      free = link.free;
-      eight = eight;
-      two_ends = apart;
-    }))
+    Ok (row.Put (link_with link eight apart))
 
 -- a row that puts the link with these attributes; a link from a router to itself is refused
 unfoldable pub put : (link : LinkFields) → length link.free ≡ 8 → Result Row RowError
 put link eight = put_between link eight (ℕ_discrete link.from link.to)
+
+-- the request that says this, whose setup priority is one and whose ends are two routers
+abbrev pub request_with : (request : RequestFields) → request.setup < 8 → request.from ≢ request.to → Request
+request_with request below apart =
+    record { id = request.id; from = request.from; to = request.to; setup = request.setup; bandwidth = request.bandwidth; exclude_any = request.exclude_any; include_any = request.include_any; include_all = request.include_all; hops = request.hops; priority = below; two_ends = apart }
 
 -- a row that asks for this, if the priority is one and the ends are two routers
 abbrev pub ask_between : (request : RequestFields) → Dec (request.setup < 8) → Dec (request.from ≡ request.to) → Result Row RowError
 ask_between request (no above) ends = Err error.Priority
 ask_between request (yes below) (yes same) = Err error.SameEnds
 ask_between request (yes below) (no apart) =
-    Ok (row.Ask (record {
-      id = request.id;
-      from = request.from;
-      to = request.to;
-      setup = request.setup;
-      bandwidth = request.bandwidth;
-      exclude_any = request.exclude_any;
-      include_any = request.include_any;
-      include_all = request.include_all;
-      hops = request.hops;
-      priority = below;
-      two_ends = apart;
-    }))
+    Ok (row.Ask (request_with request below apart))
 
 -- a row that asks for this; a priority above 7 is refused, and a request from a router to itself
 unfoldable pub ask : RequestFields → Result Row RowError
@@ -100,7 +90,7 @@ ask_row_of fields = do
   hops ← hops_at fields 10
   ask (record { id = id; from = from; to = to; setup = setup; bandwidth = bandwidth; exclude_any = exclude_any; include_any = include_any; include_all = include_all; hops = hops })
 
--- a record of so many fields is read, and another is refused
+-- a record of this many fields is read, and another is refused
 abbrev pub of_count : ℕ → (List (List ℕ) → Result Row RowError) → List (List ℕ) → Result Row RowError
 of_count count read fields = if length fields == count then read fields else Err error.Fields
 

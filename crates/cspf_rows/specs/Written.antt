@@ -6,6 +6,7 @@ use Rattle.cspf_addr.specs.AddressText.{address_text}
 use Rattle.cspf_addr.specs.MaskText.{SpellsMask}
 use Rattle.cspf_addr.specs.PrefixParts.{IsPrefix}
 use Rattle.cspf_addr.specs.HopLists.{hops_text}
+use Rattle.cspf_addr.specs.declared.hops.TheConstants.{MOST_HOPS}
 use Rattle.cspf_db.specs.declared.link.Link.{Link}
 use Rattle.cspf_db.specs.declared.request.Request.{Request}
 use Rattle.cspf_rows.specs.declared.row.Row.TheVariants as row
@@ -20,13 +21,13 @@ pub record IsLinkInRange (link : Link) : Type 0 where
   pub metric : link.metric < 2 ^ 32
   pub free : (priority : ℕ) → priority < 8 → slice_index link.free priority < 2 ^ 64
 
--- the numbers of a request are those of its types, and it has at most seven hops
+-- the numbers of a request are those of its types, and it has at most `MOST_HOPS` hops
 pub record IsRequestInRange (request : Request) : Type 0 where
   pub id : request.id < 2 ^ 64
   pub from : request.from < 2 ^ 32
   pub to : request.to < 2 ^ 32
   pub bandwidth : request.bandwidth < 2 ^ 64
-  pub few : length request.hops ≤ 7
+  pub few : length request.hops ≤ MOST_HOPS
   pub hops : AllByRecursion (λ hop. IsPrefix hop.prefix) request.hops
 
 -- the record that is written for a link, its group by a text that spells it

@@ -5,27 +5,25 @@ ghost use Rattle.cspf_rows.specs.JournalFront.{HasRead};
 
 use crate::front::Front;
 use crate::journal::Journal;
+use crate::limits::MOST_ROWS;
 use crate::read_error::ReadError;
 use crate::records::{next_record, open_records};
 use csv::{ByteRecord, Reader};
 use std::alloc::Global;
 use std::io::Read;
 
-/// The rows of a stream that are read.
-const ROWS: u32 = 1_000_000;
-
-/// Reads a journal: the longest front of its rows that is whole batches with the numbers 1, 2, 3
+/// Reads a journal: the longest prefix of its rows that is whole batches with the numbers 1, 2, 3
 /// and so on, and whether rows are left behind it. The stream is read to its end, or to its
-/// 1,000,001st row, which is refused as `TooManyRows`. The changes of a batch are kept in the room
+/// row after `MOST_ROWS`, which is refused as `TooManyRows`. The changes of a batch are kept in the room
 /// that they need, and nothing is kept of the rows behind the batches.
 pub fn read_journal<R: Read + Drop>(alloc: Global, reader: R) -> Result<Journal, ReadError>
     ensures whole { IfOk result (λ journal. IfSome (R.remaining reader) (λ bytes.
         IsJournal (rows_of bytes) journal.batches.items journal.rest)) }
     ensures few { OnOk result (IfSome (R.remaining reader) (λ bytes.
-        length (rows_of bytes) ≤ 1000000)) }
+        length (rows_of bytes) ≤ MOST_ROWS)) }
     ensures too_many { result ≡ Err ReadError.TooManyRows → IfSome (R.remaining reader) (λ bytes.
-        1000000 < length (rows_of bytes)) }
-    ensures most { IfOk result (λ journal. length journal.batches.items ≤ 1000000) }
+        MOST_ROWS < length (rows_of bytes)) }
+    ensures most { IfOk result (λ journal. length journal.batches.items ≤ MOST_ROWS) }
 {
     let mut records = open_records(alloc, reader);
     let mut fields = ByteRecord::new(alloc);
@@ -42,10 +40,10 @@ fn read_batches<R: Read>(
     ensures whole { IfOk result (λ journal. IfSome (rows_left R.remaining records.old) (λ rows.
         IsJournal rows journal.batches.items journal.rest)) }
     ensures few { OnOk result (IfSome (rows_left R.remaining records.old) (λ rows.
-        length rows ≤ 1000000)) }
+        length rows ≤ MOST_ROWS)) }
     ensures too_many { result ≡ Err ReadError.TooManyRows
-        → IfSome (rows_left R.remaining records.old) (λ rows. 1000000 < length rows) }
-    ensures most { IfOk result (λ journal. length journal.batches.items ≤ 1000000) }
+        → IfSome (rows_left R.remaining records.old) (λ rows. MOST_ROWS < length rows) }
+    ensures most { IfOk result (λ journal. length journal.batches.items ≤ MOST_ROWS) }
 {
     let mut front = Front::new(alloc);
     read_front(alloc, records, fields, &mut front)?;
@@ -63,12 +61,12 @@ fn read_front<R: Read>(
     requires fresh { HasRead front.old [] }
     ensures whole { OnOk result (IfSome (rows_left R.remaining records.old) (HasRead front.new)) }
     ensures few { OnOk result (IfSome (rows_left R.remaining records.old) (λ rows.
-        length rows ≤ 1000000)) }
+        length rows ≤ MOST_ROWS)) }
     ensures too_many { result ≡ Err ReadError.TooManyRows
-        → IfSome (rows_left R.remaining records.old) (λ rows. 1000000 < length rows) }
-    ensures most { OnOk result (length front.new.batches.items ≤ 1000000) }
+        → IfSome (rows_left R.remaining records.old) (λ rows. MOST_ROWS < length rows) }
+    ensures most { OnOk result (length front.new.batches.items ≤ MOST_ROWS) }
 {
-    for _read in 0..ROWS {
+    for _read in 0..MOST_ROWS {
         if !next_record(records, fields)? {
             return Ok(());
         }

@@ -1,3 +1,4 @@
+ghost use Rattle.cspf_rows.specs.FieldTexts.{AreTextsRead};
 ghost use Rattle.cspf_rows.specs.Says.{AreRowsRead, SaysOneRow};
 ghost use Rattle.cspf_rows.specs.RowRefusals.{AreRowsRefused, IsRefusedOnce};
 ghost use Rattle.cspf_rows.specs.Written.{ArePutsReadBack, AreDropsReadBack, AreEndsReadBack, AreAsksReadBack};
@@ -6,17 +7,26 @@ use cspf_addr::{
     addresses_are_spelled_once, hop_lists_are_read_back, masks_are_spelled,
     numbers_are_spelled_once,
 };
+use cspf_db::fields_of_links_and_requests;
 use cspf_ero::objects_are_read;
+
+/// The laws that rows are read by.
+fn texts_are_read()
+    ensures { AreTextsRead }
+{
+    numbers_are_spelled_once();
+    addresses_are_spelled_once();
+    masks_are_spelled();
+    objects_are_read();
+    fields_of_links_and_requests();
+}
 
 /// Law: a record is read as a row exactly where it says that row, and it says one row at most.
 pub fn rows_are_read()
     ensures read { AreRowsRead }
     ensures one { SaysOneRow }
 {
-    numbers_are_spelled_once();
-    addresses_are_spelled_once();
-    masks_are_spelled();
-    objects_are_read();
+    texts_are_read();
 }
 
 /// Law: the record that is written for a row is read as that row.
@@ -26,10 +36,7 @@ pub fn rows_are_read_back()
     ensures ends { AreEndsReadBack }
     ensures asks { AreAsksReadBack }
 {
-    numbers_are_spelled_once();
-    addresses_are_spelled_once();
-    masks_are_spelled();
-    objects_are_read();
+    texts_are_read();
     hop_lists_are_read_back();
 }
 
@@ -39,8 +46,5 @@ pub fn rows_are_refused()
     ensures refused { AreRowsRefused }
     ensures one { IsRefusedOnce }
 {
-    numbers_are_spelled_once();
-    addresses_are_spelled_once();
-    masks_are_spelled();
-    objects_are_read();
+    texts_are_read();
 }

@@ -6,10 +6,7 @@ ghost use Rattle.cspf_rows.specs.FieldValues.{hex_hops_of};
 
 use crate::row_error::HopsFault;
 use cspf_addr::Hops;
-use cspf_ero::{EroError, read_ero_front};
-
-/// How many bytes of an object decide which hops it has.
-const FRONT: usize = 64;
+use cspf_ero::{EroError, FIRST_BYTES, read_ero_front};
 
 /// The hops of an object in hexadecimal digits of either case. A place of its own holds the bytes
 /// that decide.
@@ -31,8 +28,8 @@ fn read_pairs(digits: &[u8]) -> Result<Hops, EroError>
     ensures { (bytes : List ℕ) → decode_of digits.now ≡ Ok bytes → result ≡ ero_of bytes }
 {
     let size = digits.len() / 2;
-    let count = size.min(FRONT);
-    let mut front = [0; FRONT];
+    let count = size.min(FIRST_BYTES);
+    let mut front = [0; FIRST_BYTES];
     decode_front(digits, &mut front[..count]);
     read_ero_front(&front[..count], size)
 }

@@ -11,16 +11,17 @@ pub enum ReadError {
     /// A read failed.
     #[error("a read failed")]
     Device,
-    /// There is a row past the 1,000,000th.
+    /// There is a row past `MOST_ROWS` rows.
     #[error("too many rows")]
     TooManyRows,
 }
 
 impl From<RecordError> for ReadError {
     ghost use Rattle.std.specs.Prelude.{◌≡◌};
-    ghost use Rattle.cspf_rows.specs.ReadFaults.{read_fault_of};
+    ghost use Rattle.cspf_rows.specs.ReadFaults.{stream_fault_of};
+    ghost use Rattle.cspf_rows.specs.declared.read_error.ReadError.TheVariants.{Memory, Device};
 
-    ghost from_gives = { λ error fault. fault ≡ read_fault_of error };
+    ghost from_gives = { λ error fault. fault ≡ stream_fault_of Memory Device error };
 
     fn from(error: RecordError) -> ReadError {
         match error {

@@ -6,6 +6,7 @@ ghost use Rattle.cspf_rows.specs.declared.row.Row.TheVariants as row;
 ghost use Rattle.cspf_rows.specs.Requests.{AreRequests, IsRequestsFault};
 ghost use Rattle.cspf_rows.specs.RequestReading.{IsRefusedAt};
 
+use crate::limits::MOST_ROWS;
 use crate::records::{next_record, open_records};
 use crate::requests_error::RequestsError;
 use crate::row::Row;
@@ -14,11 +15,8 @@ use csv::{ByteRecord, Reader};
 use std::alloc::{AllocError, Global};
 use std::io::Read;
 
-/// The rows of a stream that are read.
-const ROWS: u32 = 1_000_000;
-
 /// Reads a stream of requests, one in each row. Reading ends at the first row that is refused or
-/// asks for nothing, and at the 1,000,001st.
+/// asks for nothing, and at the row after `MOST_ROWS`.
 pub fn read_requests<R: Read + Drop>(
     alloc: Global,
     reader: R,
@@ -26,8 +24,8 @@ pub fn read_requests<R: Read + Drop>(
     ensures whole { IfOk result (λ requests. IfSome (R.remaining reader) (λ bytes.
         AreRequests (rows_of bytes) requests.items)) }
     ensures few { OnOk result (IfSome (R.remaining reader) (λ bytes.
-        length (rows_of bytes) ≤ 1000000)) }
-    ensures most { IfOk result (λ requests. length requests.items ≤ 1000000) }
+        length (rows_of bytes) ≤ MOST_ROWS)) }
+    ensures most { IfOk result (λ requests. length requests.items ≤ MOST_ROWS) }
     ensures err { IfErr result (λ fault. IfSome (R.remaining reader) (λ bytes.
         IsRequestsFault (rows_of bytes) fault)) }
 {
@@ -46,8 +44,8 @@ fn read_rest<R: Read>(
     ensures whole { IfOk result (λ requests. IfSome (rows_left R.remaining records.old) (λ rows.
         AreRequests rows requests.items)) }
     ensures few { OnOk result (IfSome (rows_left R.remaining records.old) (λ rows.
-        length rows ≤ 1000000)) }
-    ensures most { IfOk result (λ requests. length requests.items ≤ 1000000) }
+        length rows ≤ MOST_ROWS)) }
+    ensures most { IfOk result (λ requests. length requests.items ≤ MOST_ROWS) }
     ensures err { IfErr result (λ fault. IfSome (rows_left R.remaining records.old) (λ rows.
         IsRequestsFault rows fault)) }
 {
@@ -67,12 +65,12 @@ fn read_all<R: Read>(
     ensures whole { OnOk result (IfSome (rows_left R.remaining records.old) (λ rows.
         AreRequests rows requests.new.items)) }
     ensures few { OnOk result (IfSome (rows_left R.remaining records.old) (λ rows.
-        length rows ≤ 1000000)) }
-    ensures most { OnOk result (length requests.new.items ≤ 1000000) }
+        length rows ≤ MOST_ROWS)) }
+    ensures most { OnOk result (length requests.new.items ≤ MOST_ROWS) }
     ensures err { IfErr result (λ fault. IfSome (rows_left R.remaining records.old) (λ rows.
         IsRequestsFault rows fault)) }
 {
-    for read in 0..ROWS {
+    for read in 0..MOST_ROWS {
         if !next_record(records, fields)? {
             return Ok(());
         }

@@ -12,7 +12,7 @@ pub enum RequestsError {
     /// A read failed.
     #[error("a read failed")]
     Device,
-    /// There is a row past the 1,000,000th.
+    /// There is a row past `MOST_ROWS` rows.
     #[error("too many rows")]
     TooManyRows,
     /// A record is no row.
@@ -33,9 +33,10 @@ pub enum RequestsError {
 
 impl From<RecordError> for RequestsError {
     ghost use Rattle.std.specs.Prelude.{◌≡◌};
-    ghost use Rattle.cspf_rows.specs.ReadFaults.{requests_fault_of};
+    ghost use Rattle.cspf_rows.specs.ReadFaults.{stream_fault_of};
+    ghost use Rattle.cspf_rows.specs.declared.requests_error.RequestsError.TheVariants.{Memory, Device};
 
-    ghost from_gives = { λ error fault. fault ≡ requests_fault_of error };
+    ghost from_gives = { λ error fault. fault ≡ stream_fault_of Memory Device error };
 
     fn from(error: RecordError) -> RequestsError {
         match error {

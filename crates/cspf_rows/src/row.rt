@@ -4,7 +4,7 @@ ghost use Rattle.csv.specs.Records.{fields_of};
 use crate::field::{address, expect_count, hops, mask, number, priority, small_number, text};
 use crate::row_error::RowError;
 use cspf_addr::Addr;
-use cspf_db::{Link, LinkError, Request, RequestError};
+use cspf_db::{Link, LinkError, Request, RequestError, fields_of_links_and_requests};
 use csv::ByteRecord;
 
 /// What a record says.
@@ -78,6 +78,7 @@ impl Row {
             number(fields, 14)?,
             number(fields, 15)?,
         ];
+        fields_of_links_and_requests();
         match Link::new(from, local, to, remote, metric, group, free) {
             Ok(link) => Ok(Row::Put(link)),
             Err(LinkError::SelfLink) => Err(RowError::SelfLink),
@@ -118,6 +119,7 @@ impl Row {
         let include_any = mask(fields, 8)?;
         let include_all = mask(fields, 9)?;
         let hops = hops(fields, 10)?;
+        fields_of_links_and_requests();
         let asked = Request::new(
             id,
             from,

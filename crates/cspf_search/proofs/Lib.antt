@@ -21,3 +21,4 @@ pub mod Answered
 pub mod Twice
 pub mod Arrived
 pub mod Ahead
+pub mod Slices

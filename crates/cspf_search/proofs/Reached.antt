@@ -1,8 +1,8 @@
 -- What each round of the search from a heap keeps, and what it has at its end.
-use Rattle.std.proofs.Common.{◌≡◌, ◌⊎◌, inl, inr, ℕ, zero, suc, ◌+◌, ◌-◌, ◌*◌, ◌/◌, ◌%◌, ◌≤◌, Some, None, option_map, List, [], ◌∷◌, ◌++◌, length, take, drop, set, slice_get, slice_index, refl, sym, ap, subst, ◌∙◌, arith, length-set}
+use Rattle.std.proofs.Common.{◌≡◌, ◌⊎◌, inl, inr, ℕ, zero, suc, ◌+◌, ◌-◌, ◌*◌, ◌/◌, ◌%◌, ◌≤◌, Some, None, option_map, List, [], ◌∷◌, ◌++◌, length, set, slice_get, slice_index, refl, sym, ap, subst, ◌∙◌, arith}
 use Rattle.std.specs.List.{Contains}
 use Rattle.std.proofs.lemmas.Bool.{cases_lt}
-use Rattle.std.proofs.lemmas.List.{get_or_push, length_push, drop_all, take_all, append-nil}
+use Rattle.std.proofs.lemmas.List.{get_or_push, length_push}
 use Rattle.std.proofs.lemmas.List.Elements.{All-weaker, Contains-get_or}
 use Rattle.cspf_db.specs.declared.link.Link.{Link}
 use Rattle.cspf_db.specs.declared.request.Request.{Request}
@@ -196,10 +196,3 @@ module _ (d : Database) (q : Request) (legs from to : ℕ) (goal : Goal) (asked 
                 keyed = All-weaker (IsKey d q goal) (IsKey d q next) (λ k key. record { some = key.some; most = key.most; index = key.index }) left are.keyed;
                 waiting = λ j jx behind some most. are.waiting j jx (omega (arith, up, behind)) some most;
               }
-
--- what a list of labels is when a slice of all of it was written
-pub put_back : (len : ℕ) (new lent labels : List Label) (i : ℕ) (label : Label) → length new ≡ length lent → lent ≡ set labels i label → len ≡ length labels
-    → take len (new ++ drop (length new) (set labels i label)) ≡ new
-put_back len new lent labels i label same is long =
-    let all : length new ≡ length labels = same ∙ ap (λ (ls : List Label). length ls) is ∙ length-set labels i label in
-    rw (drop_all (length new) (set labels i label) (omega (arith, all, length-set labels i label)), append-nil new) (take_all len new (omega (arith, all, long)))

@@ -7,4 +7,7 @@ pub mod Bounds
 pub mod Rounds
 pub mod Frontier
 pub mod Stops
+pub mod Query
 pub mod Arrivals
+pub mod Backward
+pub mod Source

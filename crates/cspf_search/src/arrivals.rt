@@ -1,3 +1,4 @@
+ghost use Rattle.cspf_db.specs.declared.limits.TheConstants.{MOST_LINKS};
 ghost use Rattle.std.specs.Prelude.{◌≡◌, ◌+◌, ◌*◌, ◌<◌, ◌≤◌, length, OnOk};
 ghost use Rattle.cspf_db.specs.Index.{router_list};
 ghost use Rattle.cspf_search.specs.Frontier.{AreListed};
@@ -27,9 +28,9 @@ fn add(
 ) -> Result<(), AllocError>
     requires listed { AreListed table.now }
     requires within { place < length (router_list table.now) }
-    requires few { length arrivals.old.items ≤ place * 16384 }
+    requires few { length arrivals.old.items ≤ place * MOST_LINKS }
     requires before { AreArrivalsUpTo table.now place 0 arrivals.old.items last.old }
-    ensures few { OnOk result (length arrivals.new.items ≤ (place + 1) * 16384) }
+    ensures few { OnOk result (length arrivals.new.items ≤ (place + 1) * MOST_LINKS) }
     ensures after { OnOk result
         (AreArrivalsUpTo table.now (place + 1) 0 arrivals.new.items last.new) }
 {

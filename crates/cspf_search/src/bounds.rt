@@ -1,24 +1,35 @@
 ghost use Rattle.std.specs.Prelude.{◌≡◌, ◌+◌, ◌*◌, ◌<◌, ◌≤◌, ◌⊎◌, ℕ, min, false, IsTrue, IfOk, IfSome, OnOk, length, slice_index_or};
-ghost use Rattle.cspf_db.specs.Database.{AreLinksOf};
-ghost use Rattle.cspf_db.specs.Index.{links_of};
 ghost use Rattle.cspf_search.specs.declared.stands.Stand.{Stand as Stood};
-ghost use Rattle.cspf_search.specs.Frontier.{AreListed, AreStands};
+ghost use Rattle.cspf_search.specs.Query.{IsQuery};
+ghost use Rattle.cspf_search.specs.Backward.{IsBackward};
 ghost use Rattle.cspf_search.specs.Arrivals.{AreArrivals, Follows, IsRow, arrival_at, pointer_at};
 ghost use Rattle.cspf_search.specs.Bounds.{AreBounds, Falls, IsLeg, IsLower, IsPassed, IsRing, bound_at, is_done};
 
 use crate::arrivals::{Arrival, list};
+use crate::query::Query;
 use crate::stands::Stand;
-use cspf_db::{Request, Table};
+use cspf_db::MOST_ROUTERS;
 use cspf_graph::accepts;
 use std::alloc::{AllocError, Global};
 use std::cmp::Reverse;
 use std::collections::BinaryHeap;
 
-/// At most so many routers are taken in the last leg.
+/// How many routers the backward search settles in the last leg at most.
 const RING: usize = 32;
 
-/// At most so many routers are taken in a leg to a hop, since more is searched before it ends.
+/// How many it settles in a leg to a hop at most, since more is searched before that ends.
 const WIDE: usize = 64;
+
+/// What a search against the links goes by: what is asked, and the links by the routers that they run
+/// to.
+#[derive(Clone, Copy)]
+struct Backward<'a> {
+    query: Query<'a>,
+    /// The links, those that arrive at one router in a row.
+    arrivals: &'a [Arrival],
+    /// For each router the index of the last of those that arrive there, and 1 more.
+    last: &'a [u32],
+}
 
 /// What is ahead of a router that waits, and its index in the list of routers.
 type Waiting = Reverse<(u32, u16)>;
@@ -31,9 +42,9 @@ fn lower(
     from: u16,
     ahead: u32,
 ) -> Result<(), AllocError>
-    requires near { length near.old ≡ 1024 }
-    requires done { length done.old ≡ 1024 }
-    requires within { from < 1024 }
+    requires near { length near.old ≡ MOST_ROUTERS }
+    requires done { length done.old ≡ MOST_ROUTERS }
+    requires within { from < MOST_ROUTERS }
     ensures falls { OnOk result (Falls near.old near.new done.old done.new) }
     ensures low { OnOk result (bound_at near.new from ≤ ahead) }
 {
@@ -49,23 +60,22 @@ fn lower(
 
 /// Lowers what is ahead of the router that a link arrives from, if the request admits the link.
 fn pass(
-    table: &Table,
-    request: &Request,
+    query: Query<'_>,
     arrival: Arrival,
     base: u32,
     near: &mut [u32],
     done: &mut [bool],
     heap: &mut BinaryHeap<Waiting, Global>,
 ) -> Result<(), AllocError>
-    requires listed { AreListed table.now }
-    requires row { IsRow table.now arrival }
-    requires near { length near.old ≡ 1024 }
-    requires done { length done.old ≡ 1024 }
+    requires query { IsQuery query }
+    requires row { IsRow query.table.now arrival }
+    requires near { length near.old ≡ MOST_ROUTERS }
+    requires done { length done.old ≡ MOST_ROUTERS }
     ensures falls { OnOk result (Falls near.old near.new done.old done.new) }
-    ensures passed { OnOk result (IsPassed table.now request.now base near.new arrival) }
+    ensures passed { OnOk result (IsPassed query.entry.table.now query.entry.request.now base near.new arrival) }
 {
-    let link = &table.out_at(usize::from(arrival.from))[usize::from(arrival.row)];
-    if !accepts(link, request) {
+    let link = &query.table.out_at(usize::from(arrival.from))[usize::from(arrival.row)];
+    if !accepts(link, query.request) {
         return Ok(());
     }
     let ahead = base.saturating_add(link.metric);
@@ -75,29 +85,25 @@ fn pass(
 /// Lowers what is ahead of the routers that links arrive from at the router at an index, of which
 /// this is ahead.
 fn walk(
-    table: &Table,
-    request: &Request,
-    arrivals: &[Arrival],
-    last: &[u32],
+    search: Backward<'_>,
     to: usize,
     base: u32,
     near: &mut [u32],
     done: &mut [bool],
     heap: &mut BinaryHeap<Waiting, Global>,
 ) -> Result<(), AllocError>
-    requires listed { AreListed table.now }
-    requires arrivals { AreArrivals table.now arrivals.now last.now }
-    requires within { to < 1024 }
-    requires near { length near.old ≡ 1024 }
-    requires done { length done.old ≡ 1024 }
+    requires search { IsBackward search }
+    requires within { to < MOST_ROUTERS }
+    requires near { length near.old ≡ MOST_ROUTERS }
+    requires done { length done.old ≡ MOST_ROUTERS }
     ensures falls { OnOk result (Falls near.old near.new done.old done.new) }
-    ensures passed { OnOk result ((n : ℕ) → Follows arrivals.now (pointer_at last.now to) n
-        → IsPassed table.now request.now base near.new (arrival_at arrivals.now n)) }
+    ensures passed { OnOk result ((n : ℕ) → Follows search.entry.arrivals.now (pointer_at search.entry.last.now to) n
+        → IsPassed search.entry.query.table.now search.entry.query.request.now base near.new (arrival_at search.entry.arrivals.now n)) }
 {
-    let mut at = last[to] as usize;
+    let mut at = search.last[to] as usize;
     while at > 0 {
-        let arrival = arrivals[at - 1];
-        pass(table, request, arrival, base, near, done, heap)?;
+        let arrival = search.arrivals[at - 1];
+        pass(search.query, arrival, base, near, done, heap)?;
         at = arrival.before as usize;
     }
     Ok(())
@@ -105,25 +111,20 @@ fn walk(
 
 /// Looks at all links that arrive at the router at an index.
 fn take(
-    table: &Table,
-    request: &Request,
-    arrivals: &[Arrival],
-    last: &[u32],
+    search: Backward<'_>,
     to: usize,
     near: &mut [u32],
     done: &mut [bool],
     heap: &mut BinaryHeap<Waiting, Global>,
 ) -> Result<(), AllocError>
-    requires listed { AreListed table.now }
-    requires links { AreLinksOf table.now (links_of table.now) }
-    requires arrivals { AreArrivals table.now arrivals.now last.now }
-    requires within { to < 1024 }
-    requires ring { IsRing table.now request.now near.old done.old }
-    ensures ring { OnOk result (IsRing table.now request.now near.new done.new) }
+    requires search { IsBackward search }
+    requires within { to < MOST_ROUTERS }
+    requires ring { IsRing search.query.table.now search.query.request.now near.old done.old }
+    ensures ring { OnOk result (IsRing search.entry.query.table.now search.entry.query.request.now near.new done.new) }
     ensures lower { OnOk result (IsLower near.old near.new) }
 {
     let base = near[to];
-    walk(table, request, arrivals, last, to, base, near, done, heap)?;
+    walk(search, to, base, near, done, heap)?;
     if near[to] == base {
         done[to] = true;
     }
@@ -132,36 +133,31 @@ fn take(
 
 /// The index of the router that waits with the least ahead of it, if one waits.
 fn nearest(near: &[u32], done: &[bool], heap: &mut BinaryHeap<Waiting, Global>) -> Option<usize>
-    requires near { length near.now ≡ 1024 }
-    requires done { length done.now ≡ 1024 }
-    ensures { IfSome result (λ at. at < 1024) }
+    requires near { length near.now ≡ MOST_ROUTERS }
+    requires done { length done.now ≡ MOST_ROUTERS }
+    ensures { IfSome result (λ at. at < MOST_ROUTERS) }
 {
     while let Some(Reverse((ahead, at))) = heap.pop() {
         let at = usize::from(at);
-        if at < 1024 && !done[at] && near[at] == ahead {
+        if at < MOST_ROUTERS && !done[at] && near[at] == ahead {
             return Some(at);
         }
     }
     None
 }
 
-/// Takes the routers that wait, nearest first, and so many at most, of which less than this is ahead.
+/// Settles the routers that wait, nearest first, up to a count, of which less than this is ahead.
 fn grow(
-    table: &Table,
-    request: &Request,
-    arrivals: &[Arrival],
-    last: &[u32],
+    search: Backward<'_>,
     most: usize,
     top: u32,
     near: &mut [u32],
     done: &mut [bool],
     heap: &mut BinaryHeap<Waiting, Global>,
 ) -> Result<(), AllocError>
-    requires listed { AreListed table.now }
-    requires links { AreLinksOf table.now (links_of table.now) }
-    requires arrivals { AreArrivals table.now arrivals.now last.now }
-    requires ring { IsRing table.now request.now near.old done.old }
-    ensures ring { OnOk result (IsRing table.now request.now near.new done.new) }
+    requires search { IsBackward search }
+    requires ring { IsRing search.query.table.now search.query.request.now near.old done.old }
+    ensures ring { OnOk result (IsRing search.entry.query.table.now search.entry.query.request.now near.new done.new) }
     ensures lower { OnOk result (IsLower near.old near.new) }
 {
     for _taken in 0..most {
@@ -171,7 +167,7 @@ fn grow(
         if near[to] >= top {
             return Ok(());
         }
-        take(table, request, arrivals, last, to, near, done, heap)?;
+        take(search, to, near, done, heap)?;
     }
     Ok(())
 }
@@ -186,14 +182,14 @@ fn begin(
     near: &mut [u32],
     heap: &mut BinaryHeap<Waiting, Global>,
 ) -> Result<u32, AllocError>
-    requires within { first + 1024 ≤ length stands.now }
-    requires near { length near.old ≡ 1024 }
-    ensures { OnOk result ((p : ℕ) (e : Stood) → p < 1024
+    requires within { first + MOST_ROUTERS ≤ length stands.now }
+    requires near { length near.old ≡ MOST_ROUTERS }
+    ensures { OnOk result ((p : ℕ) (e : Stood) → p < MOST_ROUTERS
         → IsTrue (slice_index_or stands.now (first + p) e).target
         → bound_at near.new p ≤ bound_at ahead.now p) }
 {
     let mut top = 0;
-    for place in 0..1024 {
+    for place in 0..MOST_ROUTERS {
         if stands[first + place].target {
             let least = match ahead.get(place) {
                 Some(bound) => *bound,
@@ -209,13 +205,13 @@ fn begin(
 
 /// The least that is ahead of a router that isn't done.
 fn edge(near: &[u32], done: &[bool]) -> u32
-    requires near { length near.now ≡ 1024 }
-    requires done { length done.now ≡ 1024 }
-    ensures { (w : ℕ) → w < 1024 → is_done done.now w ≡ false
+    requires near { length near.now ≡ MOST_ROUTERS }
+    requires done { length done.now ≡ MOST_ROUTERS }
+    ensures { (w : ℕ) → w < MOST_ROUTERS → is_done done.now w ≡ false
         → result ≤ bound_at near.now w }
 {
     let mut least = u32::MAX;
-    for place in 0..1024 {
+    for place in 0..MOST_ROUTERS {
         if !done[place] && near[place] < least {
             least = near[place];
         }
@@ -226,117 +222,93 @@ fn edge(near: &[u32], done: &[bool]) -> u32
 /// Finds what is ahead of each router from a leg on, as far as an edge, where it is known of the next
 /// leg.
 fn leg_edge(
-    table: &Table,
-    request: &Request,
-    stands: &[Stand],
-    arrivals: &[Arrival],
-    last: &[u32],
+    search: Backward<'_>,
     leg: usize,
     ahead: &[u32],
     near: &mut [u32],
     done: &mut [bool],
     heap: &mut BinaryHeap<Waiting, Global>,
 ) -> Result<u32, AllocError>
-    requires listed { AreListed table.now }
-    requires links { AreLinksOf table.now (links_of table.now) }
-    requires arrivals { AreArrivals table.now arrivals.now last.now }
-    requires stands { AreStands table.now request.now stands.now }
-    requires leg { leg ≤ length request.now.hops }
-    requires near { length near.old ≡ 1024 }
-    requires done { length done.old ≡ 1024 }
+    requires search { IsBackward search }
+    requires leg { leg ≤ length search.query.request.now.hops }
+    requires near { length near.old ≡ MOST_ROUTERS }
+    requires done { length done.old ≡ MOST_ROUTERS }
     ensures { IfOk result (λ edge.
-        IsLeg table.now request.now leg near.new edge ahead.now) }
+        IsLeg search.entry.query.table.now search.entry.query.request.now leg near.new edge ahead.now) }
 {
     near.fill(u32::MAX);
     done.fill(false);
     heap.clear();
-    let top = begin(stands, leg * 1024, ahead, near, heap)?;
-    let most = if leg < request.hops.len() { WIDE } else { RING };
-    grow(table, request, arrivals, last, most, top, near, done, heap)?;
+    let top = begin(search.query.stands, leg * MOST_ROUTERS, ahead, near, heap)?;
+    let most = if leg < search.query.request.hops.len() {
+        WIDE
+    } else {
+        RING
+    };
+    grow(search, most, top, near, done, heap)?;
     Ok(edge(near, done))
 }
 
 /// Sets what is ahead of each router in a leg, as far as its edge. The states of the leg begin at an
 /// index.
 fn set_leg(bounds: &mut [u32], first: usize, near: &[u32], edge: u32)
-    requires within { first + 1024 ≤ length bounds.old }
-    requires near { length near.now ≡ 1024 }
-    ensures leg { (p : ℕ) → p < 1024
+    requires within { first + MOST_ROUTERS ≤ length bounds.old }
+    requires near { length near.now ≡ MOST_ROUTERS }
+    ensures leg { (p : ℕ) → p < MOST_ROUTERS
         → bound_at bounds.new (first + p) ≡ min (bound_at near.now p) edge }
-    ensures others { (i : ℕ) → (i < first) ⊎ (first + 1024 ≤ i)
+    ensures others { (i : ℕ) → (i < first) ⊎ (first + MOST_ROUTERS ≤ i)
         → bound_at bounds.new i ≡ bound_at bounds.old i }
 {
-    for place in 0..1024 {
+    for place in 0..MOST_ROUTERS {
         bounds[first + place] = near[place].min(edge);
     }
 }
 
 /// Sets what is ahead of each router in each leg, from the last leg back to the first.
 fn set_legs(
-    table: &Table,
-    request: &Request,
-    stands: &[Stand],
-    arrivals: &[Arrival],
-    last: &[u32],
+    search: Backward<'_>,
     near: &mut [u32],
     done: &mut [bool],
     heap: &mut BinaryHeap<Waiting, Global>,
     bounds: &mut [u32],
 ) -> Result<(), AllocError>
-    requires listed { AreListed table.now }
-    requires links { AreLinksOf table.now (links_of table.now) }
-    requires arrivals { AreArrivals table.now arrivals.now last.now }
-    requires stands { AreStands table.now request.now stands.now }
-    requires near { length near.old ≡ 1024 }
-    requires done { length done.old ≡ 1024 }
-    requires bounds { AreBounds table.now request.now bounds.old }
+    requires search { IsBackward search }
+    requires near { length near.old ≡ MOST_ROUTERS }
+    requires done { length done.old ≡ MOST_ROUTERS }
+    requires bounds { AreBounds search.query.table.now search.query.request.now bounds.old }
     requires zeros { (i : ℕ) → bound_at bounds.old i ≡ 0 }
-    ensures { OnOk result (AreBounds table.now request.now bounds.new) }
+    ensures { OnOk result (AreBounds search.entry.query.table.now search.entry.query.request.now bounds.new) }
 {
-    let mut leg = request.hops.len() + 1;
+    let mut leg = search.query.request.hops.len() + 1;
     while leg > 0 {
         leg -= 1;
-        let ahead = &bounds[leg * 1024 + 1024..];
-        let edge = leg_edge(
-            table, request, stands, arrivals, last, leg, ahead, near, done, heap,
-        )?;
-        set_leg(bounds, leg * 1024, near, edge);
+        let ahead = &bounds[leg * MOST_ROUTERS + MOST_ROUTERS..];
+        let edge = leg_edge(search, leg, ahead, near, done, heap)?;
+        set_leg(bounds, leg * MOST_ROUTERS, near, edge);
     }
     Ok(())
 }
 
 /// For each state what is ahead of it at least, as far as it is known near the targets of its leg.
-pub(crate) fn bounds(
-    alloc: Global,
-    table: &Table,
-    request: &Request,
-    stands: &[Stand],
-    legs: usize,
-) -> Result<Vec<u32>, AllocError>
-    requires listed { AreListed table.now }
-    requires count { legs ≡ length request.now.hops + 1 }
+pub(crate) fn bounds(alloc: Global, query: Query<'_>, legs: usize) -> Result<Vec<u32>, AllocError>
+    requires query { IsQuery query }
+    requires count { legs ≡ length query.request.now.hops + 1 }
     requires most { legs ≤ 8 }
-    requires stands { AreStands table.now request.now stands.now }
-    ensures { IfOk result (λ bounds. AreBounds table.now request.now bounds.items) }
+    ensures { IfOk result (λ bounds. AreBounds query.entry.table.now query.entry.request.now bounds.items) }
 {
-    let links = table.links();
+    let links = query.table.links();
     let mut arrivals = Vec::with_capacity(alloc, links.len())?;
-    let mut last = Vec::from_elem(alloc, 0u32, 1024)?;
-    list(table, &mut arrivals, &mut last)?;
-    let mut near = Vec::from_elem(alloc, 0u32, 1024)?;
-    let mut done = Vec::from_elem(alloc, false, 1024)?;
+    let mut last = Vec::from_elem(alloc, 0u32, MOST_ROUTERS)?;
+    list(query.table, &mut arrivals, &mut last)?;
+    let mut near = Vec::from_elem(alloc, 0u32, MOST_ROUTERS)?;
+    let mut done = Vec::from_elem(alloc, false, MOST_ROUTERS)?;
     let mut heap = BinaryHeap::new(alloc);
-    let mut bounds = Vec::from_elem(alloc, 0u32, legs * 1024)?;
-    set_legs(
-        table,
-        request,
-        stands,
-        &arrivals,
-        &last,
-        &mut near,
-        &mut done,
-        &mut heap,
-        &mut bounds,
-    )?;
+    let mut bounds = Vec::from_elem(alloc, 0u32, legs * MOST_ROUTERS)?;
+    let search = Backward {
+        query,
+        arrivals: &arrivals,
+        last: &last,
+    };
+    set_legs(search, &mut near, &mut done, &mut heap, &mut bounds)?;
     Ok(bounds)
 }

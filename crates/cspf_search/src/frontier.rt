@@ -1,22 +1,38 @@
+ghost use Rattle.cspf_db.specs.declared.limits.TheConstants.{MOST_LINKS};
 ghost use Rattle.std.specs.Prelude.{◌≡◌, ◌+◌, ◌*◌, ◌%◌, ◌<◌, ◌≤◌, ◌⊎◌, Some, length, slice_get, slice_index_or, OnOk};
 ghost use Rattle.std.specs.BinaryHeap.{heap_items, heap_len};
 ghost use Rattle.cspf_db.specs.Index.{links_of, links_from_index};
 ghost use Rattle.cspf_search.specs.Arena.{AreNodes, AreInLegs};
 ghost use Rattle.cspf_search.specs.Rounds.{CrossesBelow};
 ghost use Rattle.cspf_search.specs.Frontier.{AreLabels, AreListed, AreStands, AreTied, CrossesUpTo, GoesTo, IsEnd, IsNodeAt, IsOffer, IsStateIndex, StaysAt, label_at, nowhere, rank_of};
+ghost use Rattle.cspf_search.specs.Source.{IsSource};
+ghost use Rattle.cspf_search.specs.Query.{IsQuery, CrossesBefore, CrossesToRow};
 
 use crate::arena::Node;
 use crate::goal::{Goal, lift};
 use crate::labels::{Label, Waiting, node_of, put};
+use crate::query::Query;
 use crate::rounds::locals;
-use crate::stands::Stand;
-use cspf_db::{Link, Request, Table};
+use cspf_db::{Link, MOST_ROUTERS, Request, Table};
 use cspf_graph::accepts;
 use std::alloc::{AllocError, Global};
 use std::collections::BinaryHeap;
 
 /// The row of a label that a turn to the next leg leads to.
 const TURN: u16 = u16::MAX;
+
+/// A settled node that the search goes on from.
+#[derive(Clone, Copy)]
+struct Source<'a> {
+    /// The settled nodes.
+    nodes: &'a [Node],
+    /// The index of this one among them.
+    at: usize,
+    /// The index of its state.
+    state: usize,
+    /// Its cost and its number of links as one number.
+    rank: u64,
+}
 
 /// Gives the state at an index this label and has it wait with this key, if no label there ties
 /// with it and is before it.
@@ -53,40 +69,33 @@ fn offer(
 
 /// Offers what the turn to the next leg leads to from the node at an index.
 fn offer_turn(
-    table: &Table,
-    request: &Request,
-    stands: &[Stand],
-    nodes: &[Node],
+    query: Query<'_>,
+    source: Source<'_>,
+    goal: Goal<'_>,
     labels: &mut [Label],
     heap: &mut BinaryHeap<Waiting, Global>,
-    goal: Goal<'_>,
-    at: usize,
-    state: usize,
-    rank: u64,
 ) -> Result<(), AllocError>
-    requires arena { AreNodes nodes.now }
-    requires listed { AreListed table.now }
-    requires stands { AreStands table.now request.now stands.now }
-    requires goal { IsStateIndex table.now request.now goal.at }
-    requires behind { goal.floor ≤ state }
-    requires from { IsNodeAt table.now request.now nodes.now at state }
-    requires rank { rank ≡ rank_of (slice_index_or nodes.now at nowhere) }
-    requires before { AreLabels table.now request.now nodes.now
-        (CrossesBelow table.now request.now nodes.now (links_of table.now) at)
+    requires query { IsQuery query }
+    requires source { IsSource query source }
+    requires goal { IsStateIndex query.table.now query.request.now goal.at }
+    requires behind { goal.floor ≤ source.state }
+    requires before { AreLabels query.table.now query.request.now source.nodes.now
+        (CrossesBefore query source.nodes.now source.at)
         goal labels.old (heap_items heap.old) }
-    ensures after { OnOk result (AreLabels table.now request.now nodes.now
-        (CrossesUpTo table.now request.now nodes.now at (state % 1024) 0)
+    ensures after { OnOk result (AreLabels query.entry.table.now query.entry.request.now source.entry.nodes.now
+        (CrossesToRow query.entry source.entry.nodes.now source.entry.at source.entry.state 0)
         goal.entry labels.new (heap_items heap.new)) }
     ensures few { OnOk result (heap_len heap.new ≤ heap_len heap.old + 1) }
 {
-    if state / 1024 >= request.hops.len() {
+    let (state, rank) = (source.state, source.rank);
+    if state / MOST_ROUTERS >= query.request.hops.len() {
         return Ok(());
     }
-    let stand = stands[state];
+    let stand = query.stands[state];
     if !stand.target {
         return Ok(());
     }
-    let index = state + 1024;
+    let index = state + MOST_ROUTERS;
     let kept = labels[index];
     if rank > kept.rank {
         return Ok(());
@@ -98,49 +107,42 @@ fn offer_turn(
     }
     let label = Label {
         rank,
-        parent: at as u16,
-        place: (state % 1024) as u16,
+        parent: source.at as u16,
+        place: (state % MOST_ROUTERS) as u16,
         row: TURN,
     };
-    offer(table, nodes, labels, heap, index, label, key)
+    offer(query.table, source.nodes, labels, heap, index, label, key)
 }
 
 /// Offers what a link leads to from the node at an index.
 fn offer_link(
-    table: &Table,
-    request: &Request,
-    stands: &[Stand],
-    nodes: &[Node],
+    query: Query<'_>,
+    source: Source<'_>,
+    goal: Goal<'_>,
     labels: &mut [Label],
     heap: &mut BinaryHeap<Waiting, Global>,
-    goal: Goal<'_>,
-    at: usize,
-    state: usize,
-    rank: u64,
     row: usize,
     link: &Link,
     metric: u32,
     end: usize,
 ) -> Result<(), AllocError>
-    requires arena { AreNodes nodes.now }
-    requires listed { AreListed table.now }
-    requires stands { AreStands table.now request.now stands.now }
-    requires goal { IsStateIndex table.now request.now goal.at }
-    requires behind { goal.floor ≤ state }
-    requires from { IsNodeAt table.now request.now nodes.now at state }
-    requires rank { rank ≡ rank_of (slice_index_or nodes.now at nowhere) }
-    requires row { slice_get (links_from_index table.now (state % 1024)) row ≡ Some link.now }
+    requires query { IsQuery query }
+    requires source { IsSource query source }
+    requires goal { IsStateIndex query.table.now query.request.now goal.at }
+    requires behind { goal.floor ≤ source.state }
+    requires row { slice_get (links_from_index query.table.now (source.state % MOST_ROUTERS)) row ≡ Some link.now }
     requires metric { metric ≡ link.now.metric }
-    requires end { IsEnd table.now link.now.to end }
-    requires before { AreLabels table.now request.now nodes.now
-        (CrossesUpTo table.now request.now nodes.now at (state % 1024) row)
+    requires end { IsEnd query.table.now link.now.to end }
+    requires before { AreLabels query.table.now query.request.now source.nodes.now
+        (CrossesToRow query source.nodes.now source.at source.state row)
         goal labels.old (heap_items heap.old) }
-    ensures after { OnOk result (AreLabels table.now request.now nodes.now
-        (CrossesUpTo table.now request.now nodes.now at (state % 1024) (row + 1))
+    ensures after { OnOk result (AreLabels query.entry.table.now query.entry.request.now source.entry.nodes.now
+        (CrossesToRow query.entry source.entry.nodes.now source.entry.at source.entry.state (row + 1))
         goal.entry labels.new (heap_items heap.new)) }
     ensures few { OnOk result (heap_len heap.new ≤ heap_len heap.old + 1) }
 {
-    let place = state % 1024;
+    let (state, rank) = (source.state, source.rank);
+    let place = state % MOST_ROUTERS;
     let index = state - place + end;
     let new = rank + u64::from(metric) * 16384 + 1;
     let kept = labels[index];
@@ -152,27 +154,25 @@ fn offer_link(
     if key > last.rank {
         return Ok(());
     }
-    let stand = stands[index];
+    let stand = query.stands[index];
     if !stand.inside {
         return Ok(());
     }
-    if !accepts(link, request) {
+    if !accepts(link, query.request) {
         return Ok(());
     }
     let label = Label {
         rank: new,
-        parent: at as u16,
+        parent: source.at as u16,
         place: place as u16,
         row: row as u16,
     };
-    offer(table, nodes, labels, heap, index, label, key)
+    offer(query.table, source.nodes, labels, heap, index, label, key)
 }
 
 /// Offers all that leads on from the node at an index.
 pub(crate) fn expand(
-    table: &Table,
-    request: &Request,
-    stands: &[Stand],
+    query: Query<'_>,
     nodes: &[Node],
     labels: &mut [Label],
     heap: &mut BinaryHeap<Waiting, Global>,
@@ -180,40 +180,38 @@ pub(crate) fn expand(
     at: usize,
     state: usize,
 ) -> Result<(), AllocError>
+    requires query { IsQuery query }
     requires arena { AreNodes nodes.now }
-    requires listed { AreListed table.now }
-    requires stands { AreStands table.now request.now stands.now }
-    requires goal { IsStateIndex table.now request.now goal.at }
+    requires goal { IsStateIndex query.table.now query.request.now goal.at }
     requires behind { goal.floor ≤ state }
-    requires from { IsNodeAt table.now request.now nodes.now at state }
-    requires before { AreLabels table.now request.now nodes.now
-        (CrossesBelow table.now request.now nodes.now (links_of table.now) at)
+    requires from { IsNodeAt query.table.now query.request.now nodes.now at state }
+    requires before { AreLabels query.table.now query.request.now nodes.now
+        (CrossesBefore query nodes.now at)
         goal labels.old (heap_items heap.old) }
-    ensures after { OnOk result (AreLabels table.now request.now nodes.now
-        (CrossesBelow table.now request.now nodes.now (links_of table.now) (at + 1))
+    ensures after { OnOk result (AreLabels query.entry.table.now query.entry.request.now nodes.now
+        (CrossesBefore query.entry nodes.now (at + 1))
         goal.entry labels.new (heap_items heap.new)) }
-    ensures few { OnOk result (heap_len heap.new ≤ heap_len heap.old + 16385) }
+    ensures few { OnOk result (heap_len heap.new ≤ heap_len heap.old + 1 + MOST_LINKS) }
 {
     let rank = nodes[at].cost * 16384 + nodes[at].links as u64 + 1;
-    offer_turn(
-        table, request, stands, nodes, labels, heap, goal, at, state, rank,
-    )?;
-    let links = table.out_at(state % 1024);
-    let ends = table.ends_at(state % 1024);
+    let source = Source {
+        nodes,
+        at,
+        state,
+        rank,
+    };
+    offer_turn(query, source, goal, labels, heap)?;
+    let links = query.table.out_at(state % MOST_ROUTERS);
+    let ends = query.table.ends_at(state % MOST_ROUTERS);
     for row in 0..links.len() {
         let link = &links[row];
         let end = ends[row];
         offer_link(
-            table,
-            request,
-            stands,
-            nodes,
+            query,
+            source,
+            goal,
             labels,
             heap,
-            goal,
-            at,
-            state,
-            rank,
             row,
             link,
             link.metric,

@@ -1,3 +1,4 @@
+ghost use Rattle.cspf_db.specs.declared.limits.TheConstants.{MOST_ROUTERS};
 ghost use Rattle.std.specs.Prelude.{◌≡◌, ◌+◌, ◌*◌, ◌<◌, ◌≤◌, ◌↔◌, IsTrue, All, Contains, length, set, IfSome, IfNone, OnOk};
 ghost use Rattle.std.specs.BinaryHeap.{IsHeap, heap_items, heap_len};
 ghost use Rattle.cspf_db.specs.Index.{router_list};
@@ -109,8 +110,8 @@ pub(crate) fn least(
     labels: &[Label],
     heap: &mut BinaryHeap<Waiting, Global>,
 ) -> Option<usize>
-    requires many { length labels.now ≡ (length request.now.hops + 1) * 1024 }
-    requires bounds { length goal.bounds.now ≡ (length request.now.hops + 1) * 1024 }
+    requires many { length labels.now ≡ (length request.now.hops + 1) * MOST_ROUTERS }
+    requires bounds { length goal.bounds.now ≡ (length request.now.hops + 1) * MOST_ROUTERS }
     requires ordered { IsHeap key_cmp (heap_items heap.old) }
     requires keyed { All (IsKey table.now request.now goal) (heap_items heap.old) }
     ensures some { IfSome result (λ at. IsLeast table.now request.now goal.entry labels.now

@@ -9,6 +9,7 @@ mod frontier;
 mod goal;
 mod labels;
 mod outcome;
+mod query;
 mod rounds;
 mod route;
 mod search;

@@ -5,12 +5,13 @@ ghost use Rattle.cspf_search.specs.Settled.{state_cmp, locals_cmp};
 ghost use Rattle.cspf_search.specs.Arena.{AreNodes, AreInLegs, IsNext, state_of, index_of, walk_of};
 ghost use Rattle.cspf_search.specs.Rounds.{CrossesBelow, IsFirst, RanksBefore, earlier_of};
 ghost use Rattle.cspf_search.specs.Frontier.{AreListed, AreStands, CrossesUpTo, IsEnd, IsNodeAt, nowhere, state_at};
+ghost use Rattle.cspf_search.specs.Query.{IsQuery, CrossesBefore, CrossesToRow};
 ghost use Rattle.cspf_search.specs.Stops.{AreMarks, AreStops, IsStop};
 
 use crate::arena::Node;
-use crate::stands::Stand;
+use crate::query::Query;
 use crate::stops::Stop;
-use cspf_db::{Link, Request, Table};
+use cspf_db::{Link, MOST_ROUTERS, Request, Table};
 use cspf_graph::accepts;
 use std::cmp::Ordering;
 
@@ -60,7 +61,7 @@ fn compare(nodes: &[Node], a: &Node, b: &Node) -> Ordering
     locals(nodes, a, b)
 }
 
-/// Whether the best node comes by its rank before any of this cost with so many links.
+/// Whether the best node comes by its rank before any of this cost and this number of links.
 fn is_late(best: &Option<Node>, cost: u64, links: usize) -> bool
     ensures { IsTrue result ↔ IsSomeAnd best.now (λ kept. RanksBefore kept cost links) }
 {
@@ -88,32 +89,29 @@ fn keep(nodes: &[Node], best: &mut Option<Node>, node: Node)
 /// Keeps what the turn to the next leg leads to from the node at an index, if there is a next leg,
 /// nothing is settled there, the node is at a target of its own leg, and it comes before the best.
 fn look_at_turn(
-    table: &Table,
-    request: &Request,
-    stands: &[Stand],
+    query: Query<'_>,
     marks: &[bool],
     nodes: &[Node],
     at: usize,
     state: usize,
     best: &mut Option<Node>,
 )
+    requires query { IsQuery query }
     requires arena { AreNodes nodes.now }
-    requires listed { AreListed table.now }
-    requires stands { AreStands table.now request.now stands.now }
-    requires marks { AreMarks table.now request.now nodes.now marks.now }
-    requires from { IsNodeAt table.now request.now nodes.now at state }
+    requires marks { AreMarks query.table.now query.request.now nodes.now marks.now }
+    requires from { IsNodeAt query.table.now query.request.now nodes.now at state }
     requires before { IsFirst nodes.now
-        (CrossesBelow table.now request.now nodes.now (links_of table.now) at) best.old }
+        (CrossesBefore query nodes.now at) best.old }
     ensures after { IsFirst nodes.now
-        (CrossesUpTo table.now request.now nodes.now at (state % 1024) 0) best.new }
+        (CrossesToRow query.entry nodes.now at state 0) best.new }
 {
-    if state / 1024 >= request.hops.len() {
+    if state / MOST_ROUTERS >= query.request.hops.len() {
         return;
     }
-    if marks[state + 1024] {
+    if marks[state + MOST_ROUTERS] {
         return;
     }
-    let stand = stands[state];
+    let stand = query.stands[state];
     if !stand.target {
         return;
     }
@@ -128,9 +126,7 @@ fn look_at_turn(
 /// Keeps what the link in a row leads to from the node at an index, if the request may use the link
 /// and stand where it ends, and it comes before the best. Nothing is settled there.
 fn look_at_link(
-    table: &Table,
-    request: &Request,
-    stands: &[Stand],
+    query: Query<'_>,
     nodes: &[Node],
     at: usize,
     state: usize,
@@ -139,17 +135,16 @@ fn look_at_link(
     end: usize,
     best: &mut Option<Node>,
 )
+    requires query { IsQuery query }
     requires arena { AreNodes nodes.now }
-    requires listed { AreListed table.now }
-    requires stands { AreStands table.now request.now stands.now }
-    requires from { IsNodeAt table.now request.now nodes.now at state }
-    requires row { slice_get (links_from_index table.now (state % 1024)) row ≡ Some link }
-    requires end { IsEnd table.now link.to end }
-    requires left { index_of nodes.now (state_at table.now (state - state % 1024 + end)) ≡ None }
+    requires from { IsNodeAt query.table.now query.request.now nodes.now at state }
+    requires row { slice_get (links_from_index query.table.now (state % MOST_ROUTERS)) row ≡ Some link }
+    requires end { IsEnd query.table.now link.to end }
+    requires left { index_of nodes.now (state_at query.table.now (state - state % MOST_ROUTERS + end)) ≡ None }
     requires before { IsFirst nodes.now
-        (CrossesUpTo table.now request.now nodes.now at (state % 1024) row) best.old }
+        (CrossesToRow query nodes.now at state row) best.old }
     ensures after { IsFirst nodes.now
-        (CrossesUpTo table.now request.now nodes.now at (state % 1024) (row + 1)) best.new }
+        (CrossesToRow query.entry nodes.now at state (row + 1)) best.new }
 {
     let from = nodes[at];
     let cost = from.cost + u64::from(link.metric);
@@ -157,11 +152,11 @@ fn look_at_link(
     if is_late(best, cost, count) {
         return;
     }
-    let stand = stands[state - state % 1024 + end];
+    let stand = query.stands[state - state % MOST_ROUTERS + end];
     if !stand.inside {
         return;
     }
-    if !accepts(&link, request) {
+    if !accepts(&link, query.request) {
         return;
     }
     let node = Node {
@@ -178,9 +173,7 @@ fn look_at_link(
 /// Keeps what the link in a row leads to from the node at an index, if nothing is settled there, the
 /// request may use the link and stand there, and it comes before the best.
 fn look_at_row(
-    table: &Table,
-    request: &Request,
-    stands: &[Stand],
+    query: Query<'_>,
     marks: &[bool],
     nodes: &[Node],
     at: usize,
@@ -188,81 +181,72 @@ fn look_at_row(
     row: usize,
     best: &mut Option<Node>,
 )
+    requires query { IsQuery query }
     requires arena { AreNodes nodes.now }
-    requires listed { AreListed table.now }
-    requires stands { AreStands table.now request.now stands.now }
-    requires marks { AreMarks table.now request.now nodes.now marks.now }
-    requires from { IsNodeAt table.now request.now nodes.now at stop.state }
-    requires stop { IsStop table.now (state_of (slice_index_or nodes.now at nowhere)) stop }
-    requires row { row < length (links_from_index table.now (stop.state % 1024)) }
+    requires marks { AreMarks query.table.now query.request.now nodes.now marks.now }
+    requires from { IsNodeAt query.table.now query.request.now nodes.now at stop.state }
+    requires stop { IsStop query.table.now (state_of (slice_index_or nodes.now at nowhere)) stop }
+    requires row { row < length (links_from_index query.table.now (stop.state % MOST_ROUTERS)) }
     requires before { IsFirst nodes.now
-        (CrossesUpTo table.now request.now nodes.now at (stop.state % 1024) row) best.old }
+        (CrossesToRow query nodes.now at stop.state row) best.old }
     ensures after { IsFirst nodes.now
-        (CrossesUpTo table.now request.now nodes.now at (stop.entry.state % 1024) (row + 1))
+        (CrossesToRow query.entry nodes.now at stop.entry.state (row + 1))
         best.new }
 {
     let end = usize::from(stop.ends[row]);
-    if marks[stop.state - stop.state % 1024 + end] {
+    if marks[stop.state - stop.state % MOST_ROUTERS + end] {
         return;
     }
     let link = stop.links[row];
-    look_at_link(
-        table, request, stands, nodes, at, stop.state, row, link, end, best,
-    );
+    look_at_link(query, nodes, at, stop.state, row, link, end, best);
 }
 
 /// Keeps the first node that the turn or a link leads to from the node at an index, if it comes
 /// before the best.
 fn look_from(
-    table: &Table,
-    request: &Request,
-    stands: &[Stand],
+    query: Query<'_>,
     marks: &[bool],
     nodes: &[Node],
     at: usize,
     stop: Stop<'_>,
     best: &mut Option<Node>,
 )
+    requires query { IsQuery query }
     requires arena { AreNodes nodes.now }
-    requires listed { AreListed table.now }
-    requires stands { AreStands table.now request.now stands.now }
-    requires marks { AreMarks table.now request.now nodes.now marks.now }
-    requires from { IsNodeAt table.now request.now nodes.now at stop.state }
-    requires stop { IsStop table.now (state_of (slice_index_or nodes.now at nowhere)) stop }
+    requires marks { AreMarks query.table.now query.request.now nodes.now marks.now }
+    requires from { IsNodeAt query.table.now query.request.now nodes.now at stop.state }
+    requires stop { IsStop query.table.now (state_of (slice_index_or nodes.now at nowhere)) stop }
     requires before { IsFirst nodes.now
-        (CrossesBelow table.now request.now nodes.now (links_of table.now) at) best.old }
+        (CrossesBefore query nodes.now at) best.old }
     ensures after { IsFirst nodes.now
-        (CrossesBelow table.now request.now nodes.now (links_of table.now) (at + 1)) best.new }
+        (CrossesBefore query.entry nodes.now (at + 1)) best.new }
 {
-    look_at_turn(table, request, stands, marks, nodes, at, stop.state, best);
+    look_at_turn(query, marks, nodes, at, stop.state, best);
     for row in 0..stop.links.len() {
-        look_at_row(table, request, stands, marks, nodes, at, stop, row, best);
+        look_at_row(query, marks, nodes, at, stop, row, best);
     }
 }
 
 /// The first node that a turn or a link leads to from any node.
 pub(crate) fn first(
-    table: &Table,
-    request: &Request,
-    stands: &[Stand],
+    query: Query<'_>,
     marks: &[bool],
     nodes: &[Node],
     stops: &[Stop<'_>],
 ) -> Option<Node>
+    requires query { IsQuery query }
     requires arena { AreNodes nodes.now }
-    requires legs { AreInLegs request.now nodes.now }
-    requires listed { AreListed table.now }
-    requires stands { AreStands table.now request.now stands.now }
-    requires marks { AreMarks table.now request.now nodes.now marks.now }
-    requires stops { AreStops table.now nodes.now stops.now }
+    requires legs { AreInLegs query.request.now nodes.now }
+    requires marks { AreMarks query.table.now query.request.now nodes.now marks.now }
+    requires stops { AreStops query.table.now nodes.now stops.now }
     ensures { IsFirst nodes.now
-        (CrossesBelow table.now request.now nodes.now (links_of table.now) (length nodes.now))
+        (CrossesBefore query.entry nodes.now (length nodes.now))
         result }
 {
     let mut best = None;
     for at in 0..nodes.len() {
         let stop = stops[at];
-        look_from(table, request, stands, marks, nodes, at, stop, &mut best);
+        look_from(query, marks, nodes, at, stop, &mut best);
     }
     best
 }

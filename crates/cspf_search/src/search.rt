@@ -9,6 +9,7 @@ ghost use Rattle.cspf_search.specs.Settled.{AreSettled, IsStuck};
 ghost use Rattle.cspf_search.specs.Arena.{AreNodes, AreInLegs, labels_of, root_of, walk_at, walks};
 ghost use Rattle.cspf_db.specs.Index.{links_of};
 ghost use Rattle.cspf_search.specs.Frontier.{AreListed, AreStands, IsEnd};
+ghost use Rattle.cspf_search.specs.Query.{IsQuery, CrossesBefore};
 ghost use Rattle.cspf_search.specs.Stops.{AreMarks, AreStops};
 ghost use Rattle.cspf_search.specs.Routes.{AreLinked};
 ghost use Rattle.cspf_search.specs.Rounds.{CrossesBelow, IsFirst, IsFirstOf};
@@ -18,11 +19,12 @@ use crate::bounds::bounds;
 use crate::frontier::expand;
 use crate::goal::Goal;
 use crate::labels::{OPEN, SETTLED, least, node_of};
+use crate::query::Query;
 use crate::rounds::first;
-use crate::stands::{Stand, raised, stands};
+use crate::stands::{raised, stands};
 use crate::stops::{Stop, stop_of};
 use crate::{Outcome, Route};
-use cspf_db::{Request, Table, counted_routers};
+use cspf_db::{MOST_ROUTERS, Request, Table, counted_routers};
 use std::alloc::{AllocError, Global};
 use std::collections::BinaryHeap;
 
@@ -44,32 +46,27 @@ fn rooted(alloc: Global, request: &Request) -> Result<Vec<Node>, AllocError>
 /// The node to settle next, unless the tail-end is settled in the last of the legs or nothing leads
 /// on.
 fn next(
-    table: &Table,
-    request: &Request,
+    query: Query<'_>,
     legs: usize,
-    stands: &[Stand],
     marks: &[bool],
     nodes: &[Node],
     stops: &[Stop<'_>],
 ) -> Option<Node>
+    requires query { IsQuery query }
     requires arena { AreNodes nodes.now }
-    requires legs { AreInLegs request.now nodes.now }
-    requires listed { AreListed table.now }
-    requires stands { AreStands table.now request.now stands.now }
-    requires marks { AreMarks table.now request.now nodes.now marks.now }
-    requires stops { AreStops table.now nodes.now stops.now }
-    requires count { legs ≡ length request.now.hops + 1 }
-    ensures some { IfSome result (IsFirstOf nodes.now
-        (CrossesBelow table.now request.now nodes.now (links_of table.now) (length nodes.now))) }
-    ensures none { IfNone result (labels_of nodes.now (end_state request.now) ≡ None
-        → IsFirst nodes.now
-        (CrossesBelow table.now request.now nodes.now (links_of table.now) (length nodes.now))
-        None) }
+    requires legs { AreInLegs query.request.now nodes.now }
+    requires marks { AreMarks query.table.now query.request.now nodes.now marks.now }
+    requires stops { AreStops query.table.now nodes.now stops.now }
+    requires count { legs ≡ length query.request.now.hops + 1 }
+    ensures some { IfSome result
+        (IsFirstOf nodes.now (CrossesBefore query.entry nodes.now (length nodes.now))) }
+    ensures none { IfNone result (labels_of nodes.now (end_state query.entry.request.now) ≡ None
+        → IsFirst nodes.now (CrossesBefore query.entry nodes.now (length nodes.now)) None) }
 {
-    if index_of(nodes, legs, request.to).is_some() {
+    if index_of(nodes, legs, query.request.to).is_some() {
         return None;
     }
-    first(table, request, stands, marks, nodes, stops)
+    first(query, marks, nodes, stops)
 }
 
 /// The nodes that are settled when the tail-end is in the last of the legs, or when nothing leads
@@ -84,7 +81,7 @@ fn settled(
     requires count { legs ≡ length request.now.hops + 1 }
     requires most { legs ≤ 8 }
     ensures arena { IfOk result (λ nodes. AreNodes nodes.items) }
-    ensures few { IfOk result (λ nodes. length nodes.items ≤ legs * 1024) }
+    ensures few { IfOk result (λ nodes. length nodes.items ≤ legs * MOST_ROUTERS) }
     ensures settled { IfOk result (λ nodes.
         AreSettled table.now request.now (labels_of nodes.items)) }
     ensures whole { IfOk result (λ nodes. labels_of nodes.items (end_state request.now) ≡ None
@@ -92,12 +89,17 @@ fn settled(
 {
     listed(table);
     let stands = stands(alloc, table, request, legs)?;
+    let query = Query {
+        table,
+        request,
+        stands: &stands,
+    };
     let mut nodes = rooted(alloc, request)?;
     let root = stop_of(table, &nodes[0]);
     let mut stops = Vec::from_slice(alloc, &[root])?;
-    let mut marks = Vec::from_elem(alloc, false, legs * 1024)?;
+    let mut marks = Vec::from_elem(alloc, false, legs * MOST_ROUTERS)?;
     marks[root.state] = true;
-    while let Some(node) = next(table, request, legs, &stands, &marks, &nodes, &stops) {
+    while let Some(node) = next(query, legs, &marks, &nodes, &stops) {
         let stop = stop_of(table, &node);
         nodes.extend_from_slice(&[node])?;
         stops.extend_from_slice(&[stop])?;
@@ -126,7 +128,7 @@ fn listed(table: &Table)
     ensures known { (router place : ℕ) → IsEnd table.now router place
         → IsRouterOf table.now router }
     ensures few { (routers : List ℕ) → IsDistinct nat_eq routers
-        → AllByRecursion (IsRouterOf table.now) routers → length routers ≤ 1024 }
+        → AllByRecursion (IsRouterOf table.now) routers → length routers ≤ MOST_ROUTERS }
 {
     counted_routers();
     let _links = table.links();
@@ -148,7 +150,7 @@ fn reached(
     requires count { legs ≡ length request.now.hops + 1 }
     requires most { legs ≤ 8 }
     ensures arena { IfOk result (λ nodes. AreNodes nodes.items) }
-    ensures few { IfOk result (λ nodes. length nodes.items ≤ legs * 1024) }
+    ensures few { IfOk result (λ nodes. length nodes.items ≤ legs * MOST_ROUTERS) }
     ensures settled { IfOk result (λ nodes.
         AreSettled table.now request.now (labels_of nodes.items)) }
     ensures whole { IfOk result (λ nodes. labels_of nodes.items (end_state request.now) ≡ None
@@ -156,27 +158,22 @@ fn reached(
 {
     listed(table);
     let stands = stands(alloc, table, request, legs)?;
-    let bounds = bounds(alloc, table, request, &stands, legs)?;
+    let query = Query {
+        table,
+        request,
+        stands: &stands,
+    };
+    let bounds = bounds(alloc, query, legs)?;
     let mut goal = Goal {
-        at: (legs - 1) * 1024 + to,
+        at: (legs - 1) * MOST_ROUTERS + to,
         floor: 0,
         bounds: &bounds,
     };
     let mut nodes = rooted(alloc, request)?;
-    let mut labels = Vec::from_elem(alloc, OPEN, legs * 1024)?;
+    let mut labels = Vec::from_elem(alloc, OPEN, legs * MOST_ROUTERS)?;
     labels[from] = SETTLED;
     let mut heap = BinaryHeap::new(alloc);
-    expand(
-        table,
-        request,
-        &stands,
-        &nodes,
-        &mut labels,
-        &mut heap,
-        goal,
-        0,
-        from,
-    )?;
+    expand(query, &nodes, &mut labels, &mut heap, goal, 0, from)?;
     while let Some(at) = least(table, request, goal, &labels, &mut heap) {
         let node = node_of(table, &nodes, &labels[at]);
         let index = nodes.len();
@@ -185,17 +182,7 @@ fn reached(
             return Ok(nodes);
         }
         labels[at] = SETTLED;
-        expand(
-            table,
-            request,
-            &stands,
-            &nodes,
-            &mut labels,
-            &mut heap,
-            goal,
-            index,
-            at,
-        )?;
+        expand(query, &nodes, &mut labels, &mut heap, goal, index, at)?;
         goal.floor = raised(&stands, &labels, goal.floor, at);
     }
     Ok(nodes)
@@ -213,7 +200,7 @@ fn answer(
     requires count { legs ≡ length request.now.hops + 1 }
     requires most { legs ≤ 8 }
     requires arena { AreNodes nodes.now }
-    requires few { length nodes.now ≤ legs * 1024 }
+    requires few { length nodes.now ≤ legs * MOST_ROUTERS }
     requires settled { AreSettled table.now request.now (labels_of nodes.now) }
     requires whole { labels_of nodes.now (end_state request.now) ≡ None
         → IsStuck table.now request.now (labels_of nodes.now) }

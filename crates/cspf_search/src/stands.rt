@@ -5,7 +5,7 @@ ghost use Rattle.cspf_search.specs.Frontier.{AreTargetsSettled, IsRaised, IsStan
 
 use crate::labels::Label;
 use cspf_addr::Addr;
-use cspf_db::{Request, Table};
+use cspf_db::{MOST_ROUTERS, Request, Table};
 use cspf_graph::member_at;
 use std::alloc::{AllocError, Global};
 
@@ -38,14 +38,14 @@ fn is_loose(request: &Request, leg: usize) -> bool
 /// Whether the router of the state at an index is a target of the leg before its own.
 fn is_target_before(request: &Request, stands: &[Stand], at: usize, router: Addr) -> bool
     requires { at ≤ length stands.now }
-    ensures head { at < 1024 → (IsTrue result ↔ router ≡ request.now.from) }
-    ensures later { 1024 ≤ at
-        → result ≡ (slice_index_or stands.now (at - 1024) nothing).target }
+    ensures head { at < MOST_ROUTERS → (IsTrue result ↔ router ≡ request.now.from) }
+    ensures later { MOST_ROUTERS ≤ at
+        → result ≡ (slice_index_or stands.now (at - MOST_ROUTERS) nothing).target }
 {
-    if at < 1024 {
+    if at < MOST_ROUTERS {
         router == request.from
     } else {
-        stands[at - 1024].target
+        stands[at - MOST_ROUTERS].target
     }
 }
 
@@ -58,17 +58,17 @@ fn make_stand(
     stands: &[Stand],
     at: usize,
 ) -> Stand
-    requires within { at < (length request.now.hops + 1) * 1024 }
+    requires within { at < (length request.now.hops + 1) * MOST_ROUTERS }
     requires listed { routers.now ≡ router_list table.now }
     requires known { at ≤ length stands.now }
-    requires before { 1024 ≤ at → at % 1024 < length (router_list table.now)
-        → IsStand table.now request.now (state_at table.now (at - 1024))
-        (slice_index_or stands.now (at - 1024) nothing) }
-    ensures { at % 1024 < length (router_list table.now)
+    requires before { MOST_ROUTERS ≤ at → at % MOST_ROUTERS < length (router_list table.now)
+        → IsStand table.now request.now (state_at table.now (at - MOST_ROUTERS))
+        (slice_index_or stands.now (at - MOST_ROUTERS) nothing) }
+    ensures { at % MOST_ROUTERS < length (router_list table.now)
         → IsStand table.now request.now (state_at table.now at) result }
 {
-    let leg = at / 1024 + 1;
-    let place = at % 1024;
+    let leg = at / MOST_ROUTERS + 1;
+    let place = at % MOST_ROUTERS;
     if place >= routers.len() {
         return NOTHING;
     }
@@ -88,14 +88,14 @@ fn set_stands(
     stands: &mut [Stand],
     place: usize,
 )
-    requires within { place < 1024 }
+    requires within { place < MOST_ROUTERS }
     requires listed { routers.now ≡ router_list table.now }
-    requires many { length stands.old ≡ (length request.now.hops + 1) * 1024 }
+    requires many { length stands.old ≡ (length request.now.hops + 1) * MOST_ROUTERS }
     requires before { AreStandsUpTo table.now request.now place 0 stands.old }
     ensures after { AreStandsUpTo table.now request.now (place + 1) 0 stands.new }
 {
     for leg in 0..request.hops.len() + 1 {
-        let at = leg * 1024 + place;
+        let at = leg * MOST_ROUTERS + place;
         stands[at] = make_stand(table, request, routers, stands, at);
     }
 }
@@ -113,8 +113,8 @@ pub(crate) fn stands(
     ensures { IfOk result (λ stands. AreStands table.now request.now stands.items) }
 {
     let routers = table.routers();
-    let mut stands = Vec::from_elem(alloc, NOTHING, legs * 1024)?;
-    for place in 0..1024 {
+    let mut stands = Vec::from_elem(alloc, NOTHING, legs * MOST_ROUTERS)?;
+    for place in 0..MOST_ROUTERS {
         set_stands(table, request, routers, &mut stands, place);
     }
     Ok(stands)
@@ -122,12 +122,12 @@ pub(crate) fn stands(
 
 /// Whether each target of the leg of a state is settled.
 fn are_settled(stands: &[Stand], labels: &[Label], at: usize) -> bool
-    requires within { at - at % 1024 + 1024 ≤ length stands.now }
+    requires within { at - at % MOST_ROUTERS + MOST_ROUTERS ≤ length stands.now }
     requires many { length labels.now ≡ length stands.now }
     ensures { result ≡ true → AreTargetsSettled stands.now labels.now at }
 {
-    let first = at - at % 1024;
-    for index in first..first + 1024 {
+    let first = at - at % MOST_ROUTERS;
+    for index in first..first + MOST_ROUTERS {
         if stands[index].target && labels[index].rank != 0 {
             return false;
         }
@@ -137,12 +137,12 @@ fn are_settled(stands: &[Stand], labels: &[Label], at: usize) -> bool
 
 /// The floor once the state at an index is settled: where each target of its leg is, behind that leg.
 pub(crate) fn raised(stands: &[Stand], labels: &[Label], floor: usize, at: usize) -> usize
-    requires within { at - at % 1024 + 1024 ≤ length stands.now }
+    requires within { at - at % MOST_ROUTERS + MOST_ROUTERS ≤ length stands.now }
     requires many { length labels.now ≡ length stands.now }
     ensures { (result ≡ floor) ⊎ IsRaised stands.now labels.now at result }
 {
     if stands[at].target && are_settled(stands, labels, at) {
-        at - at % 1024 + 1024
+        at - at % MOST_ROUTERS + MOST_ROUTERS
     } else {
         floor
     }

@@ -5,7 +5,7 @@ ghost use Rattle.cspf_search.specs.Frontier.{AreListed};
 ghost use Rattle.cspf_search.specs.Stops.{IsStop};
 
 use crate::arena::Node;
-use cspf_db::{Link, Table};
+use cspf_db::{Link, MOST_ROUTERS, Table};
 
 /// Where a settled node stands, and the links from there.
 #[derive(Clone, Copy)]
@@ -30,7 +30,7 @@ pub(crate) fn stop_of<'a>(table: &'a Table, node: &Node) -> Stop<'a>
         unreachable!();
     };
     Stop {
-        state: (node.leg - 1) * 1024 + place,
+        state: (node.leg - 1) * MOST_ROUTERS + place,
         links: table.out_at(place),
         ends: table.ends_at(place),
     }

@@ -1,8 +1,6 @@
 -- The lines of answers are the replies to their requests.
 use Rattle.std.proofs.Common.{◌≡◌, ℕ, suc, ◌≤◌, All, Option, Some, List, [], ◌∷◌, ◌++◌, take, length, get_or, slice_get, refl, sym, ap, ◌∙◌, subst, append_assoc, append-nil, arith}
 use Rattle.std.proofs.KnownBytes.{Appends-trans}
-use Rattle.std.proofs.Math.Seq.{take-length}
-use Rattle.std.proofs.lemmas.Option.{slice_get_within, slice_get-get_or, get_or_from_slice_get}
 use Rattle.logbook.specs.Pages.{Book}
 use Rattle.cspf_db.specs.declared.request.Request.{Request}
 use Rattle.cspf_db.specs.Numbered.{NumberedChanges}
@@ -11,15 +9,12 @@ use Rattle.cspf_ero.specs.ReplyLine.{IsReply}
 use Rattle.cspf_search.specs.Outcome.{answer_of}
 use Rattle.cspf_publish.specs.declared.answer.Answer.{Answer}
 use Rattle.cspf_publish.specs.Answers.{IsAnswerAfter}
-use Rattle.cspf_publish.specs.Histories.{BeginsWith}
 use Rattle.cspf_publish.specs.KnownBatches.{KnownBatches}
-use Rattle.cspf_serve.specs.Served.{AreAnswersWithin, AreSameAskers, IsAnswerWithin}
+use Rattle.cspf_work.specs.Served.{AreAnswersAfter, AreAnswersWithin, IsAnswerWithin}
 use Rattle.cspf_serve.specs.BatchRun.{AreReplies, IsReplyTo}
-use Rattle.cspf_serve.specs.BatchStops.{Writes}
-use Rattle.cspf_serve.specs.AnswerLines.{AreAnswerLines, AreAnswersAfter}
+use Rattle.cspf_serve.specs.EarlyEnds.{Writes}
+use Rattle.cspf_serve.specs.AnswerLines.{AreAnswerLines}
 use Rattle.cspf_serve.specs.LiveRun.{AreRepliesWithin}
-use Rattle.cspf_serve.proofs.Asked.{begins_through}
-use Rattle.cspf_serve.proofs.Running.{at_place}
 
 -- one more answer's line
 lines_more : (answers : List Answer) (a : Answer) (lines line : List ℕ) → AreAnswerLines answers lines
@@ -40,23 +35,6 @@ writes_answer answers a old mid new before reply = (
   lines_more answers a before.0 reply.0 before.1 reply.1,
   Appends-trans old mid new before.0 reply.0 before.2 reply.2,
 )
-
--- answers of one version are those of all batches that are published
-pub answers_at_version : (published : List NumberedChanges) (requests : List Request) (list : List Answer) (version : ℕ) → version ≡ length published
-    → length list ≡ length requests → All (λ (a : Answer). a.version ≡ version) list → AreAnswersWithin published requests list → AreAnswersAfter published requests list
-answers_at_version published requests list version is count same within = record {
-  count = count;
-  each = λ index q a at there.
-      let one : a.version ≡ version = subst (λ (b : Answer). b.version ≡ version) (get_or_from_slice_get list index a a there) (same index a (slice_get_within list index a there)) in
-      let whole : take a.version published ≡ published = ap (λ n. take n published) (one ∙ is) ∙ take-length published in
-      let right = within.each index q a at there in
-      subst (λ (bs : List NumberedChanges). IsAnswerAfter bs q a) whole right.answer;
-}
-
--- no answer is of a later version
-pub no_later : (published : List NumberedChanges) (list : List Answer) (version : ℕ) → version ≡ length published
-    → All (λ (a : Answer). a.version ≡ version) list → All (λ (a : Answer). a.version ≤ length published) list
-no_later published list version is same i d less = let one = same i d less in omega arith
 
 reply_at : (batches : List NumberedChanges) (q : Request) (a : Answer) (line : List ℕ) → IsAnswerAfter batches q a
     → IsReply a.id a.version (answer_of a.outcome) line → IsReplyTo (database_after batches) a.version q line
@@ -99,17 +77,6 @@ replies_within published (q ∷ qs) (a ∷ answers) lines count each is =
 pub replies_written : (batches : List NumberedChanges) (requests : List Request) (list : List Answer) (old new : Option (List ℕ)) → AreAnswersAfter batches requests list
     → Writes old new (AreAnswerLines list) → Writes old new (AreReplies (database_after batches) (length batches) requests)
 replies_written batches requests list old new is written = (written.0, replies_after batches requests list written.0 is written.1, written.2)
-
--- what askers were told stays known
-pub told_later : (published : List NumberedChanges) (before after : List KnownBatches) → AreSameAskers before after
-    → All (λ (k : KnownBatches). BeginsWith k.batches published) before → All (λ (k : KnownBatches). BeginsWith k.batches published) after
-told_later published before after same told i d less =
-    let count = same.count in
-    let old = at_place before i (omega arith) in
-    let knows = same.each i old.0 (get_or after i d) old.1 (slice_get-get_or after i d less) in
-    let was : BeginsWith (old.0).batches published =
-    subst (λ (k : KnownBatches). BeginsWith k.batches published) (get_or_from_slice_get before i old.0 old.0 old.1) (told i old.0 (omega arith)) in
-    begins_through published (old.0).batches (get_or after i d).batches was knows.later
 
 -- askers of one opening have one source
 pub sources_of : (source : Book) (askers : List KnownBatches) → All (λ (a : KnownBatches). (a.batches ≡ []) × (a.source ≡ source)) askers

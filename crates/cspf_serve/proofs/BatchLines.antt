@@ -13,15 +13,15 @@ use Rattle.std.proofs.lemmas.Result.{IfErr-weaker}
 use Rattle.cspf_rows.specs.Journal.{AreNumberedFrom}
 use Rattle.cspf_rows.specs.Records.{rows_of}
 use Rattle.cspf_serve.specs.declared.batch_refusal.BatchRefusal.TheVariants as refusal
-use Rattle.cspf_serve.specs.declared.batch_stop.Stop.{Stop}
-use Rattle.cspf_serve.specs.declared.batch_stop.Stop.TheVariants as stop
-use Rattle.cspf_serve.specs.declared.run_error.RunError.{RunError}
-use Rattle.cspf_serve.specs.declared.summary.Summary.{Summary}
+use Rattle.cspf_serve.specs.declared.streams.early_end.EarlyEnd.{EarlyEnd}
+use Rattle.cspf_serve.specs.declared.streams.early_end.EarlyEnd.TheVariants as early_end
+use Rattle.cspf_serve.specs.declared.streams.error.RunError.{RunError}
+use Rattle.cspf_serve.specs.declared.solve.summary.Summary.{Summary}
 use Rattle.cspf_serve.specs.Lines.{refused_batch_line}
 use Rattle.cspf_serve.specs.Script.{IsRun}
 use Rattle.cspf_serve.specs.BatchRun.{Records, AreReplies, IsReplyTo, AreAccepted, IsOneUnfit, version_lines, AreBatchesOf, IsJournalRefused, AreRequestsOf, AreAnsweredTogether, IsBatchRun}
 use Rattle.cspf_serve.specs.BatchLaws.{IsCleanJournal, AreLinesOfAScript}
-use Rattle.cspf_serve.specs.BatchStops.{IfRefused, Writes, WritesAllBut, IsRefusalWritten}
+use Rattle.cspf_serve.specs.EarlyEnds.{IfRefused, Writes, WritesAllBut, IsRefusalWritten}
 
 -- one more request is answered
 replies_more : (d : Database) (version : ℕ) (qs : List Request) (q : Request) (lines line : List ℕ) → AreReplies d version qs lines
@@ -44,9 +44,9 @@ writes_reply d version qs q old mid new before reply = (
 )
 
 -- what holds of the line that refuses
-pub IfRefused-weaker : (s : Stop) (P Q : List ℕ → Type 0) → ((line : List ℕ) → P line → Q line) → IfRefused s P → IfRefused s Q
-IfRefused-weaker (stop.Refused line) P Q f refused = f line.items refused
-IfRefused-weaker (stop.Failed error) P Q f refused = tt
+pub IfRefused-weaker : (s : EarlyEnd) (P Q : List ℕ → Type 0) → ((line : List ℕ) → P line → Q line) → IfRefused s P → IfRefused s Q
+IfRefused-weaker (early_end.Refused line) P Q f refused = f line.items refused
+IfRefused-weaker (early_end.Failed error) P Q f refused = tt
 
 -- the batches before one are applied, and that one is refused
 pub unfit_written : (bs : List NumberedChanges) (i : ℕ) (b : NumberedChanges) (d : Database) (why : Refusal) (line : List ℕ) (old mid new : Option (List ℕ))
@@ -126,13 +126,13 @@ numbers_of accept_torn records bs is = elim is.journal [
   | inr torn ↦ torn.0.begins.numbers
 ]
 
-refused_anyway : {T : Type 0} (r : Result T Stop) (P : List ℕ → Type 0) → ((line : List ℕ) → P line) → IfErr r (λ s. IfRefused s P)
+refused_anyway : {T : Type 0} (r : Result T EarlyEnd) (P : List ℕ → Type 0) → ((line : List ℕ) → P line) → IfErr r (λ s. IfRefused s P)
 refused_anyway (Ok x) P f = tt
-refused_anyway (Err (stop.Refused line)) P f = f line.items
-refused_anyway (Err (stop.Failed error)) P f = tt
+refused_anyway (Err (early_end.Refused line)) P f = f line.items
+refused_anyway (Err (early_end.Failed error)) P f = tt
 
 -- batches that are refused were read from a journal
-pub run_stopped : {T : Type 0} (accept_torn : Bool) (kept asked : Option (List ℕ)) (bs : List NumberedChanges) (r : Result T Stop) (old new : Option (List ℕ))
+pub run_stopped : {T : Type 0} (accept_torn : Bool) (kept asked : Option (List ℕ)) (bs : List NumberedChanges) (r : Result T EarlyEnd) (old new : Option (List ℕ))
     → IfSome kept (λ bytes. AreBatchesOf accept_torn (rows_of bytes) bs)
     → (AreNumberedFrom 1 bs → IfErr r (λ s. IfRefused s (λ line.
     IfSome asked (λ bytes. WritesAllBut line old new (λ lines. AreAnsweredTogether bs (rows_of bytes) lines 2)))))
@@ -163,13 +163,13 @@ refused_written accept_torn (Some journal) (Some requests) line old mid new run 
     (run.0 ++ line, run.1, Appends-trans old mid new run.0 line run.2 written)
 
 -- so a run that is refused answers 2
-pub refusal_written : (accept_torn : Bool) (kept asked : Option (List ℕ)) (s : Stop) (r : Result ℕ RunError) (old mid new : Option (List ℕ))
+pub refusal_written : (accept_torn : Bool) (kept asked : Option (List ℕ)) (s : EarlyEnd) (r : Result ℕ RunError) (old mid new : Option (List ℕ))
     → IfRefused s (λ line. IsRefusedRun accept_torn kept asked line old mid) → IfOk r (λ status. status ≡ 2)
     → IfOk r (λ status. IsRefusalWritten s mid new)
     → IfOk r (λ status. IfSome kept (λ journal. IfSome asked (λ requests. Writes old new (λ lines. IsBatchRun accept_torn (rows_of journal) (rows_of requests) lines status))))
 refusal_written accept_torn kept asked s (Err e) old mid new refused two written = tt
-refusal_written accept_torn kept asked (stop.Failed error) (Ok status) old mid new refused two written = absurd written
-refusal_written accept_torn kept asked (stop.Refused line) (Ok status) old mid new refused two written =
+refusal_written accept_torn kept asked (early_end.Failed error) (Ok status) old mid new refused two written = absurd written
+refusal_written accept_torn kept asked (early_end.Refused line) (Ok status) old mid new refused two written =
     rw two (refused_written accept_torn kept asked line.items old mid new refused written)
 
 -- what is written is the lines of a script

@@ -13,7 +13,7 @@ use Rattle.cspf_publish.specs.declared.errors.ApplyError.TheVariants as error
 use Rattle.cspf_rows.specs.Journal.{AreNumberedFrom}
 use Rattle.cspf_serve.specs.declared.batch_refusal.BatchRefusal.TheVariants as refusal
 use Rattle.cspf_serve.specs.Lines.{refused_batch_line}
-use Rattle.cspf_serve.specs.BatchStops.{IsOwnFaultLine}
+use Rattle.cspf_serve.specs.EarlyEnds.{IsOwnFaultLine}
 
 -- the number of the batch at a place
 pub number_at : (first : ℕ) (bs : List NumberedChanges) (i : ℕ) (d : NumberedChanges) → AreNumberedFrom first bs → i < length bs

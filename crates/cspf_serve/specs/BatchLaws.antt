@@ -1,9 +1,10 @@
 -- What holds of every run over a journal and a stream of requests.
 use Rattle.std.specs.Prelude.{◌≤◌, ℕ, Bool, List, ◌++◌, length}
 use Rattle.cspf_db.specs.Numbered.{NumberedChanges}
+use Rattle.cspf_rows.specs.declared.limits.TheConstants.{MOST_ROWS}
 use Rattle.cspf_rows.specs.declared.journal.Rest.TheVariants as rest
 use Rattle.cspf_rows.specs.Journal.{IsJournal}
-use Rattle.cspf_serve.specs.declared.summary.Summary.{Summary}
+use Rattle.cspf_serve.specs.declared.solve.summary.Summary.{Summary}
 use Rattle.cspf_serve.specs.Script.{IsRun}
 use Rattle.cspf_serve.specs.BatchRun.{Records, IsBatchRun}
 
@@ -17,6 +18,6 @@ IsCleanJournal records = (batches : List NumberedChanges) × IsJournal records b
 abbrev pub AreLinesOfAScript : Type 0
 AreLinesOfAScript =
     (accept_torn : Bool) (journal requests : Records) (lines : List ℕ)
-    → IsCleanJournal journal → length (journal ++ requests) ≤ 1000000
+    → IsCleanJournal journal → length (journal ++ requests) ≤ MOST_ROWS
     → IsBatchRun accept_torn journal requests lines 0
     → (summary : Summary) × IsRun (journal ++ requests) lines summary

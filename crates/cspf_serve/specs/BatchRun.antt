@@ -10,6 +10,7 @@ use Rattle.cspf_db.specs.Changes.{AreLawful, database_after}
 use Rattle.cspf_db.specs.Refusals.{IsRefusal}
 use Rattle.cspf_db.specs.Best.{Answer, IsBestAnswer}
 use Rattle.cspf_ero.specs.ReplyLine.{IsReply}
+use Rattle.cspf_rows.specs.declared.limits.TheConstants.{MOST_ROWS}
 use Rattle.cspf_rows.specs.declared.journal.Rest.TheVariants as rest
 use Rattle.cspf_rows.specs.declared.requests_error.RequestsError.{RequestsError}
 use Rattle.cspf_rows.specs.declared.requests_error.RequestsError.TheVariants as fault
@@ -75,7 +76,7 @@ pub record IsOneUnfit (batches : List NumberedChanges) (lines : List ℕ) : Type
 -- behind them are left out where that is asked for.
 pub record AreBatchesOf (accept_torn : Bool) (records : Records)
     (batches : List NumberedChanges) : Type 0 where
-  pub few : length records ≤ 1000000
+  pub few : length records ≤ MOST_ROWS
   pub journal : IsJournal records batches rest.Clean
       ⊎ (IsJournal records batches rest.Torn × (accept_torn ≡ true))
 
@@ -83,14 +84,14 @@ pub record AreBatchesOf (accept_torn : Bool) (records : Records)
 -- its batches.
 abbrev pub IsJournalRefused : Bool → Records → List ℕ → Type 0
 IsJournalRefused accept_torn records line =
-    ((1000000 < length records) × (line ≡ too_many_line))
-    ⊎ ((length records ≤ 1000000) × (accept_torn ≡ false)
+    ((MOST_ROWS < length records) × (line ≡ too_many_line))
+    ⊎ ((length records ≤ MOST_ROWS) × (accept_torn ≡ false)
     × ((batches : List NumberedChanges) × IsJournal records batches rest.Torn
     × (line ≡ torn_line (length batches))))
 
 -- the records of a stream of requests, of which there are at most 1,000,000, ask for these
 pub record AreRequestsOf (records : Records) (requests : List Request) : Type 0 where
-  pub few : length records ≤ 1000000
+  pub few : length records ≤ MOST_ROWS
   pub asked : AreRequests records requests
 
 -- The line that a stream of requests is refused by. A row that asks for nothing is refused by the

@@ -2,11 +2,11 @@
 use Rattle.std.specs.Prelude.{◌≡◌, ◌≢◌, ℕ, ◌<◌, ◌⊎◌, Bool, List, length, Option, IfSome}
 use Rattle.cspf_db.specs.Numbered.{NumberedChanges}
 use Rattle.cspf_rows.specs.Records.{rows_of}
-use Rattle.cspf_serve.specs.declared.run_error.RunError.{RunError}
-use Rattle.cspf_serve.specs.declared.run_error.RunError.TheVariants.{Memory, Device, Places, Serve}
-use Rattle.cspf_serve.specs.declared.serve_error.ServeError.{ServeError}
-use Rattle.cspf_serve.specs.declared.serve_error.ServeError.TheVariants.{Unaccounted}
-use Rattle.cspf_serve.specs.Served.{IsFaultOfWorker}
+use Rattle.cspf_serve.specs.declared.streams.error.RunError.{RunError}
+use Rattle.cspf_serve.specs.declared.streams.error.RunError.TheVariants.{Memory, Device, Places, Serve}
+use Rattle.cspf_work.specs.declared.serve_error.ServeError.{ServeError}
+use Rattle.cspf_work.specs.declared.serve_error.ServeError.TheVariants.{Unaccounted}
+use Rattle.cspf_work.specs.Served.{IsFaultOfWorker}
 use Rattle.cspf_serve.specs.BatchRun.{AreBatchesOf}
 
 -- memory was refused, or a read or a write failed

@@ -8,6 +8,8 @@ use Rattle.cspf_db.specs.Changes.{Fits, database_after}
 use Rattle.cspf_db.specs.Refusals.{IsRefusal}
 use Rattle.cspf_db.specs.Best.{Answer, IsBestAnswer}
 use Rattle.cspf_ero.specs.ReplyLine.{IsReply}
+use Rattle.cspf_publish.specs.declared.limits.TheConstants.{MOST_VERSIONS}
+use Rattle.cspf_rows.specs.declared.limits.TheConstants.{MOST_ROWS}
 use Rattle.cspf_rows.specs.declared.row.Row.{Row}
 use Rattle.cspf_rows.specs.declared.row.Row.TheVariants as row
 use Rattle.cspf_rows.specs.declared.row_error.RowError.{RowError}
@@ -15,7 +17,7 @@ use Rattle.cspf_rows.specs.Records.{rows_of}
 use Rattle.cspf_rows.specs.Rows.{row_of}
 use Rattle.cspf_serve.specs.declared.batch_refusal.BatchRefusal.{BatchRefusal}
 use Rattle.cspf_serve.specs.declared.batch_refusal.BatchRefusal.TheVariants as refusal
-use Rattle.cspf_serve.specs.declared.summary.Summary.{Summary}
+use Rattle.cspf_serve.specs.declared.solve.summary.Summary.{Summary}
 use Rattle.cspf_serve.specs.Lines.{refused_row_line, version_line, refused_batch_line, unended_line, too_many_line}
 
 -- what stands between two rows
@@ -75,7 +77,7 @@ after_reply s = record s { answers = s.answers + 1 }
 -- below 1,000,000, the number is the next version, the count is right, and the batch fits the
 -- database.
 pub record IsAccepted (s : RunState) (number count : ℕ) : Type 0 where
-  pub room : current_version s < 1000000
+  pub room : current_version s < MOST_VERSIONS
   pub next : number ≡ current_version s + 1
   pub counted : count ≡ length s.changes
   pub fits : Fits (current_database s) (open_batch s number)
@@ -83,13 +85,13 @@ pub record IsAccepted (s : RunState) (number count : ℕ) : Type 0 where
 -- Why the open changes are refused as the batch with this number and this count: the first of these
 -- that applies.
 abbrev pub IsBatchRefusal : RunState → ℕ → ℕ → BatchRefusal → Type 0
-IsBatchRefusal s number count refusal.Exhausted = 1000000 ≤ current_version s
+IsBatchRefusal s number count refusal.Exhausted = MOST_VERSIONS ≤ current_version s
 IsBatchRefusal s number count (refusal.WrongNumber expected) =
-    (current_version s < 1000000) × (number ≢ current_version s + 1) × (expected ≡ current_version s + 1)
+    (current_version s < MOST_VERSIONS) × (number ≢ current_version s + 1) × (expected ≡ current_version s + 1)
 IsBatchRefusal s number count (refusal.WrongCount counted) =
-    (current_version s < 1000000) × (number ≡ current_version s + 1) × (count ≢ length s.changes) × (counted ≡ length s.changes)
+    (current_version s < MOST_VERSIONS) × (number ≡ current_version s + 1) × (count ≢ length s.changes) × (counted ≡ length s.changes)
 IsBatchRefusal s number count (refusal.Unfit why) =
-    (current_version s < 1000000) × (number ≡ current_version s + 1) × (count ≡ length s.changes)
+    (current_version s < MOST_VERSIONS) × (number ≡ current_version s + 1) × (count ≡ length s.changes)
     × IsRefusal (current_database s) (open_batch s number) why
 
 -- an end row is answered by the version that its batch makes, or by the refusal of the batch
@@ -117,7 +119,7 @@ AreAnswered s (fields ∷ rows) lines after =
 
 -- there is a row past the 1,000,000th
 abbrev pub is_too_many : List (List (List ℕ)) → Bool
-is_too_many rows = nat_lt 1000000 (length rows)
+is_too_many rows = nat_lt MOST_ROWS (length rows)
 
 -- the number of changes that are still open after the last row, where there are any
 abbrev pub end_line : List Change → List ℕ
@@ -148,7 +150,7 @@ summary_of s too_many = record {
 pub record IsRun (rows : List (List (List ℕ))) (lines : List ℕ) (summary : Summary) : Type 0 where
   pub replies : List ℕ
   pub after : RunState
-  pub answered : AreAnswered start (take 1000000 rows) replies after
+  pub answered : AreAnswered start (take MOST_ROWS rows) replies after
   pub whole : lines ≡ replies ++ last_line (is_too_many rows) after.changes
   pub counts : summary ≡ summary_of after (is_too_many rows)
 

@@ -1,6 +1,6 @@
 -- The exit status of a run over rows.
 use Rattle.std.specs.Prelude.{ℕ, ◌||◌, nat_lt, if◌then◌else◌}
-use Rattle.cspf_serve.specs.declared.summary.Summary.{Summary}
+use Rattle.cspf_serve.specs.declared.solve.summary.Summary.{Summary}
 
 -- 2 where anything was refused or there were too many rows, else 0
 abbrev pub status_of : Summary → ℕ

@@ -144,7 +144,7 @@ fn time_seats<R: AllocGlobal + Clock + Print + Threads + Wait + Sync>(
     println!(rt; "askers {count} {answers} {published} {took}")
 }
 
-/// Times so many askers at once.
+/// Times this number of askers at once.
 pub(crate) fn time_askers<R: AllocGlobal + Clock + Print + Threads + Wait + Sync>(
     rt: &R,
     load: &[Batch],

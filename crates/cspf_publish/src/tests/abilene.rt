@@ -7,7 +7,7 @@
 //! wait for a bounded number of turns, and no assertion rests on it: an asker may end before the
 //! first batch is published.
 
-use super::{batch, request};
+use super::fixtures::{batch, request};
 use crate::{AskError, Asker, Publisher, open};
 use cspf_addr::{Addr, Mask};
 use cspf_db::{Batch, Change, Link, LinkError, Request, Table};

@@ -1,8 +1,12 @@
+//! The journal: its text, and its faults.
 ghost use Rattle.std.specs.Prelude.{◌≡◌};
 
-use super::{Narrow, TEXT, Then, apply_empty, batch_and_request, empty_writer, opened, route_of};
+use super::fixtures::{
+    Narrow, TEXT, apply_empty, batch_and_request, empty_writer, first_batch, opened, route_of,
+};
 use crate::{Answer, ApplyError, AskError, Asker, Publisher};
 use cspf_db::{Batch, Request};
+use cspf_rows::batch_text;
 use cspf_search::Outcome;
 use std::alloc::Global;
 use std::io::{ErrorKind, Write};
@@ -43,7 +47,7 @@ fn is_of_no_batch(answer: &Result<Answer, AskError>) -> bool {
     }
 }
 
-/// A writer's fault after so many bytes of batch 1 stops the publisher, and the empty database stays
+/// A writer's fault after some bytes of batch 1 stops the publisher, and the empty database stays
 /// published.
 fn stops_at<R: Wait + Abort>(
     rt: &R,
@@ -66,11 +70,11 @@ fn faults_of_the_journal(rt: HostRuntime) -> Result<(), Fail> {
     let alloc = rt.alloc();
     let (first, request) = batch_and_request(alloc)?;
     for most in 0..TEXT.len() {
-        let failing = empty_writer(alloc, 102, most, Then::Fail(ErrorKind::Other));
+        let failing = empty_writer(alloc, most, Some(ErrorKind::Other));
         stops_at(&rt, alloc, failing, &first, &request);
-        let interrupted = empty_writer(alloc, 102, most, Then::Fail(ErrorKind::Interrupted));
+        let interrupted = empty_writer(alloc, most, Some(ErrorKind::Interrupted));
         stops_at(&rt, alloc, interrupted, &first, &request);
-        let full = empty_writer(alloc, 102, most, Then::TakeNone);
+        let full = empty_writer(alloc, most, None);
         stops_at(&rt, alloc, full, &first, &request);
     }
     Ok(())
@@ -99,7 +103,7 @@ fn stops_at_batch_2<R: Wait>(rt: &R, alloc: Global, publisher: &mut Publisher<Na
 /// A fault in the text of batch 2 stops the publisher for good: version 1 stays published, and the
 /// journal keeps what it had by then.
 fn stops_at_version_1<R: Wait + Abort>(rt: &R, alloc: Global, first: &Batch, request: &Request) {
-    let journal = empty_writer(alloc, 102, 105, Then::Fail(ErrorKind::Other));
+    let journal = empty_writer(alloc, 105, Some(ErrorKind::Other));
     let (mut publisher, mut asker) = opened(rt, alloc, journal);
     let applied = publisher.apply(rt, alloc, first);
     let stops = stops_at_batch_2(rt, alloc, &mut publisher);
@@ -118,13 +122,21 @@ fn stopped_at_a_version(rt: HostRuntime) -> Result<(), Fail> {
     Ok(())
 }
 
-/// A writer that takes three bytes at a time gets both texts.
+/// A writer that takes a byte at a time gets both texts.
 #[test]
 fn journal_in_pieces(rt: HostRuntime) -> Result<(), Fail> {
     let (first, request) = batch_and_request(rt.alloc())?;
-    let journal = empty_writer(rt.alloc(), 3, 110, Then::TakeNone);
+    let journal = empty_writer(rt.alloc(), 110, None);
     let (applied, answer, journal) = applied_twice(&rt, rt.alloc(), journal, &first, 2, &request);
     assert!(rt; applied == (Ok(1), Ok(2)) && route_of(&answer) == Some((7, 2, 10, 1)));
     assert!(rt; journal.held.starts_with(TEXT) && journal.held.ends_with(b"end,2,0\n"));
+    Ok(())
+}
+
+/// The text of a batch and of its copy are one.
+#[test]
+fn text_of_a_copy(rt: HostRuntime) -> Result<(), Fail> {
+    let copy = first_batch(rt.alloc())?.copy(rt.alloc())?;
+    assert!(rt; batch_text(rt.alloc(), &copy)?.as_slice() == TEXT);
     Ok(())
 }

@@ -1,10 +1,10 @@
 //! One allocation is refused: `rt try --test --fail-alloc N -- refused_once` refuses the Nth.
 
-use super::{Narrow, ONE, TEXT, TWO, Then, batch, only_link, opened, request, route_of};
+use super::fixtures::{Narrow, ONE, TEXT, TWO, batch, only_link, opened, request, route_of};
 use crate::{Answer, ApplyError, AskError, Asker, OpenError, Publisher, open};
 use cspf_db::{Batch, Change, Request};
 use std::alloc::{AllocError, Global};
-use std::io::{ErrorKind, Write};
+use std::io::Write;
 use std::process::Abort;
 use std::sync::Wait;
 use std::test::Fail;
@@ -13,9 +13,8 @@ use std::test::Fail;
 fn journal_with_room(alloc: Global) -> Result<Narrow, AllocError> {
     Ok(Narrow {
         held: Vec::with_capacity(alloc, 200)?,
-        width: 200,
         most: 200,
-        then: Then::Fail(ErrorKind::Other),
+        fault: None,
     })
 }
 
@@ -28,7 +27,7 @@ fn batch_at_last(alloc: Global) -> Result<Batch, Fail> {
     }
 }
 
-/// A publisher and its one asker, opened once more where memory is refused, which hands the writer
+/// A publisher and its one asker, opened once more where memory is refused, which gives the writer
 /// back as it was. No other error is answered.
 fn opened_at_last<R: Wait + Abort>(
     rt: &R,

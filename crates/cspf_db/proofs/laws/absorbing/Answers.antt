@@ -1,4 +1,4 @@
-use Rattle.cspf_db.proofs.Deciding.{one_more_batch}
+use Rattle.cspf_db.proofs.Databases.LastChanges.{one_more_batch}
 use Rattle.cspf_db.proofs.laws.absorbing.Goals as goal
 
 pub returns : goal.returns

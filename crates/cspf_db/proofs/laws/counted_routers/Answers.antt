@@ -1,6 +1,6 @@
-use Rattle.cspf_db.proofs.Deciding.{at_their_keys}
-use Rattle.cspf_db.proofs.Counted.{routers_counted}
-use Rattle.cspf_db.proofs.Few.{length-le-router_count}
+use Rattle.cspf_db.proofs.Databases.LastChanges.{at_their_keys}
+use Rattle.cspf_db.proofs.Databases.CountedRouters.{routers_counted}
+use Rattle.cspf_db.proofs.Databases.DistinctRouters.{length-le-router_count}
 use Rattle.cspf_db.proofs.laws.counted_routers.Goals as goal
 
 pub returns : goal.returns

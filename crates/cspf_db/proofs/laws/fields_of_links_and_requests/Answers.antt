@@ -1,4 +1,4 @@
-use Rattle.cspf_db.proofs.Said.{links_said, requests_said}
+use Rattle.cspf_db.proofs.Routes.FieldRecords.{links_said, requests_said}
 use Rattle.cspf_db.proofs.laws.fields_of_links_and_requests.Goals as goal
 
 pub returns : goal.returns

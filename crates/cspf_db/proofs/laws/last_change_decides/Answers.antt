@@ -1,4 +1,4 @@
-use Rattle.cspf_db.proofs.Deciding.{last_decides, one_database}
+use Rattle.cspf_db.proofs.Databases.LastChanges.{last_decides, one_database}
 use Rattle.cspf_db.proofs.laws.last_change_decides.Goals as goal
 
 pub returns : goal.returns

@@ -1,4 +1,4 @@
-use Rattle.cspf_db.proofs.Refusing.{one_reason}
+use Rattle.cspf_db.proofs.Batches.LeastReasons.{one_reason}
 use Rattle.cspf_db.proofs.laws.one_refusal.Goals as goal
 
 pub returns : goal.returns

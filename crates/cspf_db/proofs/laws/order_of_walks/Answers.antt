@@ -1,4 +1,4 @@
-use Rattle.cspf_db.proofs.Orders.{walks_total, walks_told, routes_ranked}
+use Rattle.cspf_db.proofs.Routes.WalkOrder.{walks_total, walks_told, routes_ranked}
 use Rattle.cspf_db.proofs.laws.order_of_walks.Goals as goal
 
 pub returns : goal.returns

@@ -1,4 +1,4 @@
-use Rattle.cspf_db.proofs.Worked.{enough, too_little}
+use Rattle.cspf_db.proofs.Routes.WorkedExamples.{enough, too_little}
 use Rattle.cspf_db.proofs.laws.worked_admission.Goals as goal
 
 pub returns : goal.returns

@@ -1,4 +1,4 @@
-use Rattle.cspf_db.proofs.Worked.{put_stands, removal_stands}
+use Rattle.cspf_db.proofs.Routes.WorkedExamples.{put_stands, removal_stands}
 use Rattle.cspf_db.proofs.laws.worked_changes.Goals as goal
 
 pub returns : goal.returns

@@ -1,4 +1,4 @@
-use Rattle.cspf_db.proofs.Worked.{as_numbers, fewer_first}
+use Rattle.cspf_db.proofs.Routes.WorkedExamples.{as_numbers, fewer_first}
 use Rattle.cspf_db.proofs.laws.worked_orders.Goals as goal
 
 pub returns : goal.returns

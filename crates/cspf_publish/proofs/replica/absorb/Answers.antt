@@ -1,4 +1,4 @@
-use Rattle.cspf_publish.proofs.Fitting.{is_database_with}
+use Rattle.cspf_publish.proofs.FitTest.{is_database_with}
 use Rattle.cspf_publish.proofs.replica.absorb.Goals as goal
 
 pub returns : goal.returns

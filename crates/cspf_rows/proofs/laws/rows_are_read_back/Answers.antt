@@ -1,15 +1,9 @@
-use Rattle.cspf_rows.proofs.Spelled.{AreTextsRead}
 use Rattle.cspf_rows.proofs.ReadBack.{puts_read_back, drops_read_back, ends_read_back, asks_read_back}
 use Rattle.cspf_rows.proofs.laws.rows_are_read_back.Goals as goal
 
 pub returns : goal.returns
 returns c =
-    let texts : AreTextsRead = record {
-      numbers = c.numbers_are_spelled_once.ensures;
-      addresses = c.addresses_are_spelled_once.ensures.read;
-      masks = c.masks_are_spelled.ensures.read;
-      objects = c.objects_are_read.ensures.read;
-    } in
+    let texts = c.texts_are_read.ensures in
     record {
       puts = puts_read_back texts;
       drops = drops_read_back texts;

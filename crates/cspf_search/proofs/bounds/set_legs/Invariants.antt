@@ -4,8 +4,8 @@ use Rattle.cspf_search.proofs.bounds.set_legs.Given as goal
 
 abbrev pub invariant-loop-leg : goal.invariant-loop-leg
 invariant-loop-leg l = record {
-  most : l.leg ≤ length l.request.hops + 1;
-  bounds : AreBounds l.table l.request l.bounds;
+  most : l.leg ≤ length l.search.query.request.now.hops + 1;
+  bounds : AreBounds l.search.query.table.now l.search.query.request.now l.bounds;
   zeros : (i : ℕ) → i < l.leg * 1024 → bound_at l.bounds i ≡ 0;
 }
 

@@ -7,15 +7,15 @@ use Rattle.cspf_search.proofs.bounds.walk.Goals as goal
 
 pub loop-at-preserved : goal.loop-at-preserved
 loop-at-preserved c =
-    let d = c.args.table.now in
-    let q = c.args.request.now in
-    let arrivals = c.args.arrivals.now in
+    let d = c.args.search.query.table.now in
+    let q = c.args.search.query.request.now in
+    let arrivals = c.args.search.arrivals.now in
     let before = c.loop-at.invariant in
     let falls = c.in_ok-pass.ensures.falls in
     let k = c.loop-at.at - 1 in
     let next : c.loop-at.at ≡ c.loop-at.at - 1 + 1 = omega (arith, c.loop-at-test.true) in
     record {
-      within = omega (arith, before.within, c.requires.arrivals.befores (c.loop-at.at - 1) (omega (arith, before.within, c.loop-at-test.true)));
+      within = omega (arith, before.within, c.requires.search.arrivals.befores (c.loop-at.at - 1) (omega (arith, before.within, c.loop-at-test.true)));
       falls = falls_on c.args.near.now c.loop-at.near c.pass.new.near c.args.done.now c.loop-at.done c.pass.new.done before.falls falls;
       passed = λ n follows.
           elim (before.passed n follows) [
@@ -31,6 +31,6 @@ loop-at-preserved c =
 pub returns-clause-passed : goal.returns-clause-passed
 returns-clause-passed c = λ n follows.
     elim (c.loop-at.invariant.passed n follows) [
-      | inl ahead ↦ absurd (follows_none c.args.arrivals.now c.loop-at.at n (omega (arith, c.loop-at-test.false)) ahead)
+      | inl ahead ↦ absurd (follows_none c.args.search.arrivals.now c.loop-at.at n (omega (arith, c.loop-at-test.false)) ahead)
       | inr passed ↦ passed
     ]

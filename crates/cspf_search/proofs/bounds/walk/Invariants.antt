@@ -5,10 +5,10 @@ use Rattle.cspf_search.proofs.bounds.walk.Given as goal
 
 abbrev pub invariant-loop-at : goal.invariant-loop-at
 invariant-loop-at l = record {
-  within : l.at ≤ length l.arrivals;
+  within : l.at ≤ length l.search.arrivals.now;
   falls : Falls l.fn.near l.near l.fn.done l.done;
-  passed : (n : ℕ) → Follows l.arrivals (pointer_at l.last l.to) n
-      → Follows l.arrivals l.at n ⊎ IsPassed l.table l.request l.base l.near (arrival_at l.arrivals n);
+  passed : (n : ℕ) → Follows l.search.arrivals.now (pointer_at l.search.last.now l.to) n
+      → Follows l.search.arrivals.now l.at n ⊎ IsPassed l.search.query.table.now l.search.query.request.now l.base l.near (arrival_at l.search.arrivals.now n);
 }
 
 abbrev pub decreases-loop-at : goal.decreases-loop-at

@@ -12,13 +12,13 @@ pub offer_link-requires-clause-end : goal.offer_link-requires-clause-end
 offer_link-requires-clause-end c =
     let links = c.out_at-links.result.now in
     let each = rw (← c.out_at-links.ensures) at c.ends_at-ends.ensures.each in
-    end_of_row c.args.table.now c.ends_at-ends.result.now links c.ends_at-ends.ensures.within each c.loop-row.row c.index-links-row.result c.from.result c.loop-row-test.true
+    end_of_row c.args.query.table.now c.ends_at-ends.result.now links c.ends_at-ends.ensures.within each c.loop-row.row c.index-links-row.result c.from.result c.loop-row-test.true
     c.index-links-row.is c.from.ensures
 
 pub returns-clause-after : goal.returns-clause-after
 returns-clause-after c =
-    let d = c.args.table.now in
-    let q = c.args.request.now in
+    let d = c.args.query.table.now in
+    let q = c.args.query.request.now in
     let nodes = c.args.nodes.now in
     let all : c.loop-row.row ≡ length (links_from_index d (c.args.state % 1024)) = omega (arith, ap (λ (ls : List Link). length ls) c.out_at-links.ensures) in
     labels_same d q nodes (CrossesUpTo d q nodes c.args.at (c.args.state % 1024) (length (links_from_index d (c.args.state % 1024)))) (CrossesBelow d q nodes (links_of d) (c.args.at + 1))
@@ -27,7 +27,7 @@ returns-clause-after c =
 
 pub returns-clause-few : goal.returns-clause-few
 returns-clause-few c =
-    let d = c.args.table.now in
+    let d = c.args.query.table.now in
     let few =
-    few_rows d c.args.request.now c.args.nodes.now c.requires.arena c.requires.listed c.args.at c.args.state c.requires.from c.args.goal c.requires.behind c.args.labels.now (heap_items c.args.heap.now) in
+    few_rows d c.args.query.request.now c.args.nodes.now c.requires.arena c.requires.query.listed c.args.at c.args.state c.requires.from c.args.goal c.requires.behind c.args.labels.now (heap_items c.args.heap.now) in
     omega (arith, few, c.loop-row.invariant.few, ap (λ (ls : List Link). length ls) c.out_at-links.ensures)

@@ -20,117 +20,117 @@ overflow_mul-new c =
 pub overflow_add-new : goal.overflow_add-new
 overflow_add-new c =
     let small : c.args.link.now.metric < 2 ^ 32 = omega (arith, c.requires.metric) in
-    let room : c.args.rank < 2 ^ 60 = rw c.requires.rank (rank_at c.args.nodes.now c.requires.arena c.args.at c.requires.from.within) in
+    let room : c.args.source.rank < 2 ^ 60 = rw c.requires.source.rank (rank_at c.args.source.nodes.now c.requires.source.arena c.args.source.at c.requires.source.node.within) in
     omega (arith, small, room, c.from.ensures, c.requires.metric)
 
 pub overflow_add-new-2 : goal.overflow_add-new-2
 overflow_add-new-2 c =
     let small : c.args.link.now.metric < 2 ^ 32 = omega (arith, c.requires.metric) in
-    let room : c.args.rank < 2 ^ 60 = rw c.requires.rank (rank_at c.args.nodes.now c.requires.arena c.args.at c.requires.from.within) in
+    let room : c.args.source.rank < 2 ^ 60 = rw c.requires.source.rank (rank_at c.args.source.nodes.now c.requires.source.arena c.args.source.at c.requires.source.node.within) in
     omega (arith, small, room, c.from.ensures, c.requires.metric)
 
 pub returns-then-new-kept-clause-after : goal.returns-then-new-kept-clause-after
 returns-then-new-kept-clause-after c =
-    let d = c.args.table.now in
-    let q = c.args.request.now in
-    let nodes = c.args.nodes.now in
+    let d = c.args.query.table.now in
+    let q = c.args.query.request.now in
+    let nodes = c.args.source.nodes.now in
     let small : c.args.link.now.metric < 2 ^ 32 = omega (arith, c.requires.metric) in
-    let index = link_index d q nodes c.args.at c.args.state c.requires.from c.args.row c.args.link.now c.requires.row c.args.end c.requires.end c.requires.listed.few in
+    let index = link_index d q nodes c.args.source.at c.args.source.state c.requires.source.node c.args.row c.args.link.now c.requires.row c.args.end c.requires.end c.requires.query.listed.few in
     let blank : Label = record { rank = 0; parent = 0; place = 0; row = 0 } in
-    let read = rank_read c.args.labels.now (c.args.state - c.args.state % 1024 + c.args.end) blank (omega (arith, index.low, c.requires.before.many)) in
-    link_late d q nodes c.requires.arena c.requires.listed c.args.at c.args.state c.requires.from c.args.goal c.requires.behind c.args.labels.now (heap_items c.args.heap.now) c.args.row c.args.link.now
+    let read = rank_read c.args.labels.now (c.args.source.state - c.args.source.state % 1024 + c.args.end) blank (omega (arith, index.low, c.requires.before.many)) in
+    link_late d q nodes c.requires.source.arena c.requires.query.listed c.args.source.at c.args.source.state c.requires.source.node c.args.goal c.requires.behind c.args.labels.now (heap_items c.args.heap.now) c.args.row c.args.link.now
     small c.requires.row c.args.end c.requires.end c.requires.before
-    (inl (omega (arith, read, c.if-new-kept.true, c.requires.rank, c.from.ensures, c.requires.metric)))
+    (inl (omega (arith, read, c.if-new-kept.true, c.requires.source.rank, c.from.ensures, c.requires.metric)))
 
 pub returns-then-key-last-clause-after : goal.returns-then-key-last-clause-after
 returns-then-key-last-clause-after c =
-    let d = c.args.table.now in
-    let q = c.args.request.now in
-    let nodes = c.args.nodes.now in
+    let d = c.args.query.table.now in
+    let q = c.args.query.request.now in
+    let nodes = c.args.source.nodes.now in
     let small : c.args.link.now.metric < 2 ^ 32 = omega (arith, c.requires.metric) in
     let blank : Label = record { rank = 0; parent = 0; place = 0; row = 0 } in
     let read = rank_read c.args.labels.now c.args.goal.at blank (omega (arith, c.requires.goal.low, c.requires.before.many)) in
-    link_late d q nodes c.requires.arena c.requires.listed c.args.at c.args.state c.requires.from c.args.goal c.requires.behind c.args.labels.now (heap_items c.args.heap.now) c.args.row c.args.link.now
+    link_late d q nodes c.requires.source.arena c.requires.query.listed c.args.source.at c.args.source.state c.requires.source.node c.args.goal c.requires.behind c.args.labels.now (heap_items c.args.heap.now) c.args.row c.args.link.now
     small c.requires.row c.args.end c.requires.end c.requires.before
-    (inr (omega (arith, read, c.if-key-last.true, c.requires.rank, c.from.ensures, c.requires.metric, c.lift.ensures.value)))
+    (inr (omega (arith, read, c.if-key-last.true, c.requires.source.rank, c.from.ensures, c.requires.metric, c.lift.ensures.value)))
 
 pub returns-then-not-stand-clause-after : goal.returns-then-not-stand-clause-after
 returns-then-not-stand-clause-after c =
-    let d = c.args.table.now in
-    let q = c.args.request.now in
-    let nodes = c.args.nodes.now in
+    let d = c.args.query.table.now in
+    let q = c.args.query.request.now in
+    let nodes = c.args.source.nodes.now in
     let small : c.args.link.now.metric < 2 ^ 32 = omega (arith, c.requires.metric) in
-    let index = link_index d q nodes c.args.at c.args.state c.requires.from c.args.row c.args.link.now c.requires.row c.args.end c.requires.end c.requires.listed.few in
+    let index = link_index d q nodes c.args.source.at c.args.source.state c.requires.source.node c.args.row c.args.link.now c.requires.row c.args.end c.requires.end c.requires.query.listed.few in
     let no_stand : Stand = record { inside = false; target = false } in
-    let told = link_told d q nodes c.requires.arena c.requires.listed c.args.at c.args.state c.requires.from c.args.goal c.requires.behind c.args.labels.now (heap_items c.args.heap.now) c.args.row c.args.link.now
+    let told = link_told d q nodes c.requires.source.arena c.requires.query.listed c.args.source.at c.args.source.state c.requires.source.node c.args.goal c.requires.behind c.args.labels.now (heap_items c.args.heap.now) c.args.row c.args.link.now
     small c.requires.row c.args.end c.requires.end c.requires.before
-    (slice_index_or c.args.stands.now (c.args.state - c.args.state % 1024 + c.args.end) no_stand)
-    (c.requires.stands.each (c.args.state - c.args.state % 1024 + c.args.end) no_stand index) in
-    link_off d q nodes c.requires.arena c.requires.listed c.args.at c.args.state c.requires.from c.args.goal c.requires.behind c.args.labels.now (heap_items c.args.heap.now) c.args.row c.args.link.now
+    (slice_index_or c.args.query.stands.now (c.args.source.state - c.args.source.state % 1024 + c.args.end) no_stand)
+    (c.requires.query.stands.each (c.args.source.state - c.args.source.state % 1024 + c.args.end) no_stand index) in
+    link_off d q nodes c.requires.source.arena c.requires.query.listed c.args.source.at c.args.source.state c.requires.source.node c.args.goal c.requires.behind c.args.labels.now (heap_items c.args.heap.now) c.args.row c.args.link.now
     small c.requires.row c.args.end c.requires.end c.requires.before
     (λ admitted inside. false≢true (sym (not-true _ c.if-not-stand.true) ∙ told.1 inside))
 
 pub returns-then-not-accepts-clause-after : goal.returns-then-not-accepts-clause-after
 returns-then-not-accepts-clause-after c =
-    let d = c.args.table.now in
-    let q = c.args.request.now in
-    let nodes = c.args.nodes.now in
+    let d = c.args.query.table.now in
+    let q = c.args.query.request.now in
+    let nodes = c.args.source.nodes.now in
     let small : c.args.link.now.metric < 2 ^ 32 = omega (arith, c.requires.metric) in
-    link_off d q nodes c.requires.arena c.requires.listed c.args.at c.args.state c.requires.from c.args.goal c.requires.behind c.args.labels.now (heap_items c.args.heap.now) c.args.row c.args.link.now
+    link_off d q nodes c.requires.source.arena c.requires.query.listed c.args.source.at c.args.source.state c.requires.source.node c.args.goal c.requires.behind c.args.labels.now (heap_items c.args.heap.now) c.args.row c.args.link.now
     small c.requires.row c.args.end c.requires.end c.requires.before
     (λ admitted inside. false≢true (c.if-not-accepts.ensures.1 admitted))
 
 pub overflow_cast-label-3 : goal.overflow_cast-label-3
 overflow_cast-label-3 c =
-    let d = c.args.table.now in
-    let within = slice_get_within (links_from_index d (c.args.state % 1024)) c.args.row c.args.link.now c.requires.row in
+    let d = c.args.query.table.now in
+    let within = slice_get_within (links_from_index d (c.args.source.state % 1024)) c.args.row c.args.link.now c.requires.row in
     let few =
-    few_rows d c.args.request.now c.args.nodes.now c.requires.arena c.requires.listed c.args.at c.args.state c.requires.from c.args.goal c.requires.behind c.args.labels.now (heap_items c.args.heap.now) in
+    few_rows d c.args.query.request.now c.args.source.nodes.now c.requires.source.arena c.requires.query.listed c.args.source.at c.args.source.state c.requires.source.node c.args.goal c.requires.behind c.args.labels.now (heap_items c.args.heap.now) in
     omega (arith, within, few)
 
 pub offer-requires-clause-offered : goal.offer-requires-clause-offered
 offer-requires-clause-offered c =
-    let d = c.args.table.now in
-    let q = c.args.request.now in
-    let nodes = c.args.nodes.now in
+    let d = c.args.query.table.now in
+    let q = c.args.query.request.now in
+    let nodes = c.args.source.nodes.now in
     let small : c.args.link.now.metric < 2 ^ 32 = omega (arith, c.requires.metric) in
-    let label : Label = record { rank = c.args.rank + c.from.result * 16384 + 1; parent = c.args.at; place = c.args.state % 1024; row = c.args.row } in
-    let rank : c.args.rank + c.from.result * 16384 + 1 ≡ rank_of (slice_index_or c.args.nodes.now c.args.at nowhere) + c.args.link.now.metric * 16384 + 1 =
-    omega (arith, c.requires.rank, c.from.ensures, c.requires.metric) in
-    link_offer d q nodes c.requires.arena c.requires.listed c.args.at c.args.state c.requires.from c.args.goal c.requires.behind c.args.labels.now (heap_items c.args.heap.now) c.args.row c.args.link.now
+    let label : Label = record { rank = c.args.source.rank + c.from.result * 16384 + 1; parent = c.args.source.at; place = c.args.source.state % 1024; row = c.args.row } in
+    let rank : c.args.source.rank + c.from.result * 16384 + 1 ≡ rank_of (slice_index_or c.args.source.nodes.now c.args.source.at nowhere) + c.args.link.now.metric * 16384 + 1 =
+    omega (arith, c.requires.source.rank, c.from.ensures, c.requires.metric) in
+    link_offer d q nodes c.requires.source.arena c.requires.query.listed c.args.source.at c.args.source.state c.requires.source.node c.args.goal c.requires.behind c.args.labels.now (heap_items c.args.heap.now) c.args.row c.args.link.now
     small c.requires.row c.args.end c.requires.end c.requires.before label refl refl refl rank
 
 pub offer-requires-clause-tied : goal.offer-requires-clause-tied
 offer-requires-clause-tied c =
     let small : c.args.link.now.metric < 2 ^ 32 = omega (arith, c.requires.metric) in
-    let label : Label = record { rank = c.args.rank + c.from.result * 16384 + 1; parent = c.args.at; place = c.args.state % 1024; row = c.args.row } in
-    let rank : c.args.rank + c.from.result * 16384 + 1 ≡ rank_of (slice_index_or c.args.nodes.now c.args.at nowhere) + c.args.link.now.metric * 16384 + 1 =
-    omega (arith, c.requires.rank, c.from.ensures, c.requires.metric) in
-    link_tied c.args.table.now c.args.request.now c.args.nodes.now c.requires.arena c.requires.listed c.args.at c.args.state c.requires.from c.args.goal c.requires.behind c.args.labels.now
+    let label : Label = record { rank = c.args.source.rank + c.from.result * 16384 + 1; parent = c.args.source.at; place = c.args.source.state % 1024; row = c.args.row } in
+    let rank : c.args.source.rank + c.from.result * 16384 + 1 ≡ rank_of (slice_index_or c.args.source.nodes.now c.args.source.at nowhere) + c.args.link.now.metric * 16384 + 1 =
+    omega (arith, c.requires.source.rank, c.from.ensures, c.requires.metric) in
+    link_tied c.args.query.table.now c.args.query.request.now c.args.source.nodes.now c.requires.source.arena c.requires.query.listed c.args.source.at c.args.source.state c.requires.source.node c.args.goal c.requires.behind c.args.labels.now
     (heap_items c.args.heap.now) c.args.row c.args.link.now small c.requires.row c.args.end c.requires.end c.requires.before label refl refl refl rank
 
 pub returns-clause-after : goal.returns-clause-after
 returns-clause-after c =
-    let d = c.args.table.now in
-    let q = c.args.request.now in
-    let nodes = c.args.nodes.now in
+    let d = c.args.query.table.now in
+    let q = c.args.query.request.now in
+    let nodes = c.args.source.nodes.now in
     let small : c.args.link.now.metric < 2 ^ 32 = omega (arith, c.requires.metric) in
-    let label : Label = record { rank = c.args.rank + c.from.result * 16384 + 1; parent = c.args.at; place = c.args.state % 1024; row = c.args.row } in
-    let rank : c.args.rank + c.from.result * 16384 + 1 ≡ rank_of (slice_index_or c.args.nodes.now c.args.at nowhere) + c.args.link.now.metric * 16384 + 1 =
-    omega (arith, c.requires.rank, c.from.ensures, c.requires.metric) in
-    let index = link_index d q nodes c.args.at c.args.state c.requires.from c.args.row c.args.link.now c.requires.row c.args.end c.requires.end c.requires.listed.few in
+    let label : Label = record { rank = c.args.source.rank + c.from.result * 16384 + 1; parent = c.args.source.at; place = c.args.source.state % 1024; row = c.args.row } in
+    let rank : c.args.source.rank + c.from.result * 16384 + 1 ≡ rank_of (slice_index_or c.args.source.nodes.now c.args.source.at nowhere) + c.args.link.now.metric * 16384 + 1 =
+    omega (arith, c.requires.source.rank, c.from.ensures, c.requires.metric) in
+    let index = link_index d q nodes c.args.source.at c.args.source.state c.requires.source.node c.args.row c.args.link.now c.requires.row c.args.end c.requires.end c.requires.query.listed.few in
     let blank : Label = record { rank = 0; parent = 0; place = 0; row = 0 } in
-    let read = rank_read c.args.labels.now (c.args.state - c.args.state % 1024 + c.args.end) blank (omega (arith, index.low, c.requires.before.many)) in
+    let read = rank_read c.args.labels.now (c.args.source.state - c.args.source.state % 1024 + c.args.end) blank (omega (arith, index.low, c.requires.before.many)) in
     let no_stand : Stand = record { inside = false; target = false } in
-    let told = link_told d q nodes c.requires.arena c.requires.listed c.args.at c.args.state c.requires.from c.args.goal c.requires.behind c.args.labels.now (heap_items c.args.heap.now) c.args.row c.args.link.now
+    let told = link_told d q nodes c.requires.source.arena c.requires.query.listed c.args.source.at c.args.source.state c.requires.source.node c.args.goal c.requires.behind c.args.labels.now (heap_items c.args.heap.now) c.args.row c.args.link.now
     small c.requires.row c.args.end c.requires.end c.requires.before
-    (slice_index_or c.args.stands.now (c.args.state - c.args.state % 1024 + c.args.end) no_stand)
-    (c.requires.stands.each (c.args.state - c.args.state % 1024 + c.args.end) no_stand index) in
-    let le : c.args.rank + c.from.result * 16384 + 1 ≤ (label_at c.args.labels.now (c.args.state - c.args.state % 1024 + c.args.end)).rank =
+    (slice_index_or c.args.query.stands.now (c.args.source.state - c.args.source.state % 1024 + c.args.end) no_stand)
+    (c.requires.query.stands.each (c.args.source.state - c.args.source.state % 1024 + c.args.end) no_stand index) in
+    let le : c.args.source.rank + c.from.result * 16384 + 1 ≤ (label_at c.args.labels.now (c.args.source.state - c.args.source.state % 1024 + c.args.end)).rank =
     omega (arith, read, c.if-new-kept.false) in
     on_ok_weaker c.offer.result
-    (link_taken d q nodes c.requires.arena c.requires.listed c.args.at c.args.state c.requires.from c.args.goal c.requires.behind c.args.labels.now (heap_items c.args.heap.now) c.args.row c.args.link.now
+    (link_taken d q nodes c.requires.source.arena c.requires.query.listed c.args.source.at c.args.source.state c.requires.source.node c.args.goal c.requires.behind c.args.labels.now (heap_items c.args.heap.now) c.args.row c.args.link.now
     small c.requires.row c.args.end c.requires.end c.requires.before label refl refl refl rank
-    (c.if-not-accepts.ensures.0 refl) (told.0 (not-false _ c.if-not-stand.false)) le (c.args.rank + c.from.result * 16384 + 1 + c.lift.result) c.offer.new.labels
-    (heap_items c.offer.new.heap) (ap (λ n. c.args.rank + c.from.result * 16384 + 1 + n) c.lift.ensures.value))
+    (c.if-not-accepts.ensures.0 refl) (told.0 (not-false _ c.if-not-stand.false)) le (c.args.source.rank + c.from.result * 16384 + 1 + c.lift.result) c.offer.new.labels
+    (heap_items c.offer.new.heap) (ap (λ n. c.args.source.rank + c.from.result * 16384 + 1 + n) c.lift.ensures.value))
     c.offer.ensures.first

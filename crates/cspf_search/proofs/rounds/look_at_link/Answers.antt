@@ -24,30 +24,30 @@ returns-then-is_late c =
     let from = get_or_read c.args.nodes.now c.args.at c.index-nodes-at.result c.requires.from.within c.index-nodes-at.is nowhere in
     record {
       after =
-          link_late c.args.table.now c.args.request.now c.args.nodes.now c.requires.arena c.args.at c.args.state c.requires.from c.args.best.now c.args.row c.args.link c.requires.row
-          c.args.end c.requires.end c.requires.listed.few c.requires.before small c.index-nodes-at.result from c.from.result c.from.ensures (c.if-is_late.ensures.0 refl);
+          link_late c.args.query.table.now c.args.query.request.now c.args.nodes.now c.requires.arena c.args.at c.args.state c.requires.from c.args.best.now c.args.row c.args.link c.requires.row
+          c.args.end c.requires.end c.requires.query.listed.few c.requires.before small c.index-nodes-at.result from c.from.result c.from.ensures (c.if-is_late.ensures.0 refl);
     }
 
 pub returns-then-not-stand : goal.returns-then-not-stand
 returns-then-not-stand c =
-    let d = c.args.table.now in
-    let q = c.args.request.now in
+    let d = c.args.query.table.now in
+    let q = c.args.query.request.now in
     let nodes = c.args.nodes.now in
-    let index = link_index d q nodes c.args.at c.args.state c.requires.from c.args.row c.args.link c.requires.row c.args.end c.requires.end c.requires.listed.few in
+    let index = link_index d q nodes c.args.at c.args.state c.requires.from c.args.row c.args.link c.requires.row c.args.end c.requires.end c.requires.query.listed.few in
     let no_stand : Stand = record { inside = false; target = false } in
-    let told = c.requires.stands.each (c.args.state - c.args.state % 1024 + c.args.end) no_stand index in
+    let told = c.requires.query.stands.each (c.args.state - c.args.state % 1024 + c.args.end) no_stand index in
     record {
       after =
           no_link d q nodes c.requires.arena c.args.at c.args.state c.requires.from c.args.best.now c.args.row c.args.link c.requires.row
-          c.args.end c.requires.end c.requires.listed.few c.requires.before
+          c.args.end c.requires.end c.requires.query.listed.few c.requires.before
           (λ admitted inside. false≢true (sym (not-true _ c.if-not-stand.true) ∙ told.inside.1 inside));
     }
 
 pub returns-then-not-accepts : goal.returns-then-not-accepts
 returns-then-not-accepts c = record {
   after =
-      no_link c.args.table.now c.args.request.now c.args.nodes.now c.requires.arena c.args.at c.args.state c.requires.from c.args.best.now c.args.row c.args.link c.requires.row
-      c.args.end c.requires.end c.requires.listed.few c.requires.before (λ admitted inside. false≢true (c.if-not-accepts.ensures.1 admitted));
+      no_link c.args.query.table.now c.args.query.request.now c.args.nodes.now c.requires.arena c.args.at c.args.state c.requires.from c.args.best.now c.args.row c.args.link c.requires.row
+      c.args.end c.requires.end c.requires.query.listed.few c.requires.before (λ admitted inside. false≢true (c.if-not-accepts.ensures.1 admitted));
 }
 
 pub keep-requires-clause-second : goal.keep-requires-clause-second
@@ -56,22 +56,22 @@ keep-requires-clause-second c =
     let from = c.index-nodes-at.result in
     let there = slice_get_read c.args.nodes.now (length c.args.nodes.now) c.args.at from refl c.requires.from.within c.index-nodes-at.is in
     subst (λ m. IsNext c.args.nodes.now (along c.args.at c.index-nodes-at.result c.args.link m)) (sym c.from.ensures)
-    (by_next c.args.table.now c.args.request.now c.args.nodes.now c.requires.arena c.args.at c.requires.from.within from there c.args.link small)
+    (by_next c.args.query.table.now c.args.query.request.now c.args.nodes.now c.requires.arena c.args.at c.requires.from.within from there c.args.link small)
 
 pub returns : goal.returns
 returns c =
-    let d = c.args.table.now in
-    let q = c.args.request.now in
+    let d = c.args.query.table.now in
+    let q = c.args.query.request.now in
     let nodes = c.args.nodes.now in
     let small : c.args.link.metric < 2 ^ 32 = omega arith in
-    let index = link_index d q nodes c.args.at c.args.state c.requires.from c.args.row c.args.link c.requires.row c.args.end c.requires.end c.requires.listed.few in
+    let index = link_index d q nodes c.args.at c.args.state c.requires.from c.args.row c.args.link c.requires.row c.args.end c.requires.end c.requires.query.listed.few in
     let no_stand : Stand = record { inside = false; target = false } in
-    let told = c.requires.stands.each (c.args.state - c.args.state % 1024 + c.args.end) no_stand index in
+    let told = c.requires.query.stands.each (c.args.state - c.args.state % 1024 + c.args.end) no_stand index in
     let from = get_or_read nodes c.args.at c.index-nodes-at.result c.requires.from.within c.index-nodes-at.is nowhere in
     record {
       after =
           rw c.keep.ensures
           (link_kept d q nodes c.requires.arena c.args.at c.args.state c.requires.from c.args.best.now c.args.row c.args.link c.requires.row c.args.end c.requires.end
-          c.requires.listed.few c.requires.before small c.requires.left (c.if-not-accepts.ensures.0 refl) (told.inside.0 (not-false _ c.if-not-stand.false))
+          c.requires.query.listed.few c.requires.before small c.requires.left (c.if-not-accepts.ensures.0 refl) (told.inside.0 (not-false _ c.if-not-stand.false))
           c.index-nodes-at.result from c.from.result c.from.ensures);
     }

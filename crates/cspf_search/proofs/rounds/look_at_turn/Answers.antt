@@ -10,16 +10,16 @@ use Rattle.cspf_search.proofs.rounds.look_at_turn.Goals as goal
 pub returns-then-state-len : goal.returns-then-state-len
 returns-then-state-len c = record {
   after =
-      no_turn c.args.table.now c.args.request.now c.args.nodes.now c.requires.arena c.args.at c.args.state c.requires.from c.args.best.now c.requires.before
+      no_turn c.args.query.table.now c.args.query.request.now c.args.nodes.now c.requires.arena c.args.at c.args.state c.requires.from c.args.best.now c.requires.before
       (λ h target. omega (arith, c.len.ensures.value, c.if-state-len.true));
 }
 
 pub returns-then-marks-state : goal.returns-then-marks-state
 returns-then-marks-state c =
-    let d = c.args.table.now in
-    let q = c.args.request.now in
+    let d = c.args.query.table.now in
+    let q = c.args.query.request.now in
     let nodes = c.args.nodes.now in
-    let h : c.args.state / 1024 < length c.args.request.now.hops = omega (arith, c.len.ensures.value) in
+    let h : c.args.state / 1024 < length c.args.query.request.now.hops = omega (arith, c.len.ensures.value) in
     let index = turn_index d q nodes c.args.at c.args.state c.requires.from h in
     record {
       after =
@@ -30,22 +30,22 @@ returns-then-marks-state c =
 pub returns-then-not-stand : goal.returns-then-not-stand
 returns-then-not-stand c =
     let no_stand : Stand = record { inside = false; target = false } in
-    let told = c.requires.stands.each c.args.state no_stand c.requires.from.index in
+    let told = c.requires.query.stands.each c.args.state no_stand c.requires.from.index in
     record {
       after =
-          no_turn c.args.table.now c.args.request.now c.args.nodes.now c.requires.arena c.args.at c.args.state c.requires.from c.args.best.now c.requires.before
+          no_turn c.args.query.table.now c.args.query.request.now c.args.nodes.now c.requires.arena c.args.at c.args.state c.requires.from c.args.best.now c.requires.before
           (λ h target. false≢true (sym (not-true _ c.if-not-stand.true) ∙ told.target.1 target));
     }
 
 pub returns : goal.returns
 returns c =
-    let d = c.args.table.now in
-    let q = c.args.request.now in
+    let d = c.args.query.table.now in
+    let q = c.args.query.request.now in
     let nodes = c.args.nodes.now in
-    let h : c.args.state / 1024 < length c.args.request.now.hops = omega (arith, c.len.ensures.value) in
+    let h : c.args.state / 1024 < length c.args.query.request.now.hops = omega (arith, c.len.ensures.value) in
     let index = turn_index d q nodes c.args.at c.args.state c.requires.from h in
     let no_stand : Stand = record { inside = false; target = false } in
-    let told = c.requires.stands.each c.args.state no_stand c.requires.from.index in
+    let told = c.requires.query.stands.each c.args.state no_stand c.requires.from.index in
     let from = get_or_read nodes c.args.at c.index-nodes-at.result c.requires.from.within c.index-nodes-at.is nowhere in
     record {
       after =

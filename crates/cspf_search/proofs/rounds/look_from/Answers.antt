@@ -9,8 +9,8 @@ use Rattle.cspf_search.proofs.rounds.look_from.Goals as goal
 
 pub returns : goal.returns
 returns c =
-    let d = c.args.table.now in
-    let q = c.args.request.now in
+    let d = c.args.query.table.now in
+    let q = c.args.query.request.now in
     let nodes = c.args.nodes.now in
     let place = c.args.stop.state % 1024 in
     let all : c.loop-row.row ≡ length (links_from_index d (c.args.stop.state % 1024)) = omega (arith, ap (λ (ls : List Link). length ls) c.requires.stop.links) in

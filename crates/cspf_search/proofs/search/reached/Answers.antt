@@ -1,4 +1,4 @@
-use Rattle.std.proofs.Common.{◌≡◌, [], ◌∷◌, ◌++◌, ◌+◌, ◌-◌, ◌*◌, length, replicate, refl, ap, ◌∙◌, heap_items, arith}
+use Rattle.std.proofs.Common.{◌≡◌, [], ◌∷◌, ◌++◌, ◌+◌, ◌-◌, ◌*◌, length, replicate, set, length-set, refl, sym, ap, ◌∙◌, heap_items, arith}
 use Rattle.std.proofs.lemmas.List.{get_or_read, length_push}
 use Rattle.std.specs.Vec.{with_item, with_items}
 use Rattle.cspf_db.specs.Index.{links_of}
@@ -9,7 +9,8 @@ use Rattle.cspf_search.specs.Bounds.{AreBounds}
 use Rattle.cspf_search.specs.Frontier.{AreLabels, no_label, node_of}
 use Rattle.cspf_search.proofs.Grown.{root_nodes, root_settled}
 use Rattle.cspf_search.proofs.Popped.{first_labels}
-use Rattle.cspf_search.proofs.Reached.{IsAsked, IsUnderWay, ended, first_floor, first_left, stepped, stepped_few, node_there, at_goal, settle, still_left, floor_on, labels_on, put_back}
+use Rattle.cspf_search.proofs.Reached.{IsAsked, ended, first_floor, first_left, stepped, stepped_few, node_there, at_goal, settle, still_left, floor_on, labels_on}
+use Rattle.cspf_search.proofs.Slices.{written_back}
 use Rattle.cspf_search.proofs.search.reached.Goals as goal
 
 pub expand-requires-clause-before : goal.expand-requires-clause-before
@@ -19,7 +20,7 @@ expand-requires-clause-before c =
     let labels : c.in_ok-labels.labels.items ≡ replicate (c.args.legs * 1024) (record { rank = 18446744073709551615; parent = 0; place = 0; row = 0 }) =
     c.in_ok-labels.ensures.items_if_clones_equal (λ y e. e) in
     let bounds : AreBounds c.args.table.now c.args.request.now c.deref-2.result.now = rw c.deref-2.ensures.value c.in_ok-bounds.ensures in
-    rw (c.deref-4.ensures.value, c.in_ok-nodes.ensures, c.deref_mut.ensures.value, labels)
+    rw (c.deref-3.ensures.value, c.in_ok-nodes.ensures, c.deref_mut.ensures.value, labels)
     (first_labels c.args.table.now c.args.request.now c.listed.ensures.listed c.args.from c.requires.from
     (record { at = (c.args.legs - 1) * 1024 + c.args.to; floor = 0; bounds = c.deref-2.result }) bounds refl blank zero refl refl
     (heap_items c.new-heap.result) c.new-heap.ensures.items c.new-heap.ensures.heap_order (c.args.legs * 1024) (ap (λ n. n * 1024) c.requires.count))
@@ -41,237 +42,91 @@ loop-at-init c =
       at = refl;
       bounds = bounds;
     } in
-    let after = rw (c.deref-4.ensures.value, c.in_ok-nodes.ensures) at c.in_ok-expand.ensures.after in
+    let after = rw (c.deref-3.ensures.value, c.in_ok-nodes.ensures) at c.in_ok-expand.ensures.after in
     let put =
-    put_back c.in_ok-labels.labels.len c.expand.new.labels c.deref_mut.result.now c.in_ok-labels.labels.items c.args.from (record { rank = 0; parent = 0; place = 0; row = 0 }) c.expand.auto.labels
-    c.deref_mut.ensures.value c.in_ok-labels.labels.ok.0 in
+    written_back c.in_ok-labels.labels.len c.expand.new.labels c.deref_mut.result.now (set c.in_ok-labels.labels.items c.args.from (record { rank = 0; parent = 0; place = 0; row = 0 }))
+    c.expand.auto.labels c.deref_mut.ensures.value (c.in_ok-labels.labels.ok.0 ∙ sym (length-set c.in_ok-labels.labels.items c.args.from (record { rank = 0; parent = 0; place = 0; row = 0 }))) in
     rw c.in_ok-nodes.ensures (record {
       asked = asked;
-      arena = root_nodes q;
       few = omega (arith, c.requires.count);
-      settled = root_settled d q;
-      left = first_left d q legs c.args.from c.args.to (record { at = (c.args.legs - 1) * 1024 + c.args.to; floor = 0; bounds = c.deref-2.result }) asked;
-      floor = first_floor d q legs c.args.from c.args.to (record { at = (c.args.legs - 1) * 1024 + c.args.to; floor = 0; bounds = c.deref-2.result }) asked refl (labels_of (root_of q ∷ []));
-      labels = rw put after;
+      under_way = record {
+        arena = root_nodes q;
+        settled = root_settled d q;
+        left = first_left d q legs c.args.from c.args.to (record { at = (c.args.legs - 1) * 1024 + c.args.to; floor = 0; bounds = c.deref-2.result }) asked;
+        floor = first_floor d q legs c.args.from c.args.to (record { at = (c.args.legs - 1) * 1024 + c.args.to; floor = 0; bounds = c.deref-2.result }) asked refl (labels_of (root_of q ∷ []));
+        labelled = rw put after;
+      };
     })
 
-pub returns-then-at-goal-clause-arena : goal.returns-then-at-goal-clause-arena
-returns-then-at-goal-clause-arena c =
-    let d = c.args.table.now in
-    let q = c.args.request.now in
+pub returns-then-at-goal : goal.returns-then-at-goal
+returns-then-at-goal c =
     let asked = c.loop-at.invariant.asked in
-    let nodes = c.loop-at.nodes.items in
-    let labels = c.loop-at.labels.items in
-    let keys = heap_items c.loop-at.heap in
-    let before : IsUnderWay c.args.table.now c.args.request.now c.loop-at.goal c.loop-at.nodes.items c.loop-at.labels.items (heap_items c.loop-at.heap) = record {
-      arena = c.loop-at.invariant.arena;
-      settled = c.loop-at.invariant.settled;
-      left = c.loop-at.invariant.left;
-      floor = c.loop-at.invariant.floor;
-      labelled = c.loop-at.invariant.labels;
-    } in
-    let at = c.in-Some.at in
-    let rest = heap_items c.least.new.heap in
+    let before = c.loop-at.invariant.under_way in
     let least = rw c.deref-in-loop-at.ensures.value at c.in-Some.ensures.some in
-    let node = c.node_of-node.result in
-    let label = get_or_read labels _ _ (omega (arith, least.index.low, c.loop-at.invariant.labels.many)) c.index.ensures no_label in
-    let is = (rw c.deref-in-Some.ensures.value at c.node_of-node.ensures) ∙ ap (node_of d nodes) label in
-    rw c.in_ok-extend_from_slice.ensures.items (stepped d q c.args.legs c.args.from c.args.to c.loop-at.goal asked nodes labels keys before at rest least node is).0
-
-pub returns-then-at-goal-clause-few : goal.returns-then-at-goal-clause-few
-returns-then-at-goal-clause-few c =
-    let d = c.args.table.now in
-    let q = c.args.request.now in
-    let asked = c.loop-at.invariant.asked in
-    let nodes = c.loop-at.nodes.items in
-    let labels = c.loop-at.labels.items in
-    let keys = heap_items c.loop-at.heap in
-    let before : IsUnderWay c.args.table.now c.args.request.now c.loop-at.goal c.loop-at.nodes.items c.loop-at.labels.items (heap_items c.loop-at.heap) = record {
-      arena = c.loop-at.invariant.arena;
-      settled = c.loop-at.invariant.settled;
-      left = c.loop-at.invariant.left;
-      floor = c.loop-at.invariant.floor;
-      labelled = c.loop-at.invariant.labels;
-    } in
-    let at = c.in-Some.at in
-    let rest = heap_items c.least.new.heap in
-    let least = rw c.deref-in-loop-at.ensures.value at c.in-Some.ensures.some in
-    let node = c.node_of-node.result in
-    let label = get_or_read labels _ _ (omega (arith, least.index.low, c.loop-at.invariant.labels.many)) c.index.ensures no_label in
-    let is = (rw c.deref-in-Some.ensures.value at c.node_of-node.ensures) ∙ ap (node_of d nodes) label in
-    rw c.in_ok-extend_from_slice.ensures.items (stepped_few d q c.args.legs c.args.from c.args.to c.loop-at.goal asked nodes labels keys before at rest least node is)
-
-pub returns-then-at-goal-clause-settled : goal.returns-then-at-goal-clause-settled
-returns-then-at-goal-clause-settled c =
-    let d = c.args.table.now in
-    let q = c.args.request.now in
-    let asked = c.loop-at.invariant.asked in
-    let nodes = c.loop-at.nodes.items in
-    let labels = c.loop-at.labels.items in
-    let keys = heap_items c.loop-at.heap in
-    let before : IsUnderWay c.args.table.now c.args.request.now c.loop-at.goal c.loop-at.nodes.items c.loop-at.labels.items (heap_items c.loop-at.heap) = record {
-      arena = c.loop-at.invariant.arena;
-      settled = c.loop-at.invariant.settled;
-      left = c.loop-at.invariant.left;
-      floor = c.loop-at.invariant.floor;
-      labelled = c.loop-at.invariant.labels;
-    } in
-    let at = c.in-Some.at in
-    let rest = heap_items c.least.new.heap in
-    let least = rw c.deref-in-loop-at.ensures.value at c.in-Some.ensures.some in
-    let node = c.node_of-node.result in
-    let label = get_or_read labels _ _ (omega (arith, least.index.low, c.loop-at.invariant.labels.many)) c.index.ensures no_label in
-    let is = (rw c.deref-in-Some.ensures.value at c.node_of-node.ensures) ∙ ap (node_of d nodes) label in
-    rw c.in_ok-extend_from_slice.ensures.items (stepped d q c.args.legs c.args.from c.args.to c.loop-at.goal asked nodes labels keys before at rest least node is).1
-
-pub returns-then-at-goal-clause-whole : goal.returns-then-at-goal-clause-whole
-returns-then-at-goal-clause-whole c =
-    let d = c.args.table.now in
-    let q = c.args.request.now in
-    let asked = c.loop-at.invariant.asked in
-    let nodes = c.loop-at.nodes.items in
-    let labels = c.loop-at.labels.items in
-    let keys = heap_items c.loop-at.heap in
-    let before : IsUnderWay c.args.table.now c.args.request.now c.loop-at.goal c.loop-at.nodes.items c.loop-at.labels.items (heap_items c.loop-at.heap) = record {
-      arena = c.loop-at.invariant.arena;
-      settled = c.loop-at.invariant.settled;
-      left = c.loop-at.invariant.left;
-      floor = c.loop-at.invariant.floor;
-      labelled = c.loop-at.invariant.labels;
-    } in
-    let at = c.in-Some.at in
-    let rest = heap_items c.least.new.heap in
-    let least = rw c.deref-in-loop-at.ensures.value at c.in-Some.ensures.some in
-    let node = c.node_of-node.result in
-    let label = get_or_read labels _ _ (omega (arith, least.index.low, c.loop-at.invariant.labels.many)) c.index.ensures no_label in
-    let is = (rw c.deref-in-Some.ensures.value at c.node_of-node.ensures) ∙ ap (node_of d nodes) label in
-    λ none. absurd (at_goal d q c.args.legs c.args.from c.args.to c.loop-at.goal asked nodes labels keys before at rest least node is c.if-at-goal.true (rw c.in_ok-extend_from_slice.ensures.items at none))
+    let is = (rw c.deref-in-Some.ensures.value at c.node_of-node.ensures) ∙ ap (node_of c.args.table.now c.loop-at.nodes.items) (get_or_read c.loop-at.labels.items _ _ (omega (arith, least.index.low, before.labelled.many)) c.index.ensures no_label) in
+    let new = stepped _ _ _ _ _ _ asked _ _ _ before _ _ least _ is in
+    record {
+      arena = rw c.in_ok-extend_from_slice.ensures.items new.0;
+      few = rw c.in_ok-extend_from_slice.ensures.items (stepped_few _ _ _ _ _ _ asked _ _ _ before _ _ least _ is);
+      settled = rw c.in_ok-extend_from_slice.ensures.items new.1;
+      whole = λ none. absurd (at_goal _ _ _ _ _ _ asked _ _ _ before _ _ least _ is c.if-at-goal.true (rw c.in_ok-extend_from_slice.ensures.items at none));
+    }
 
 pub expand-requires-in-Some-clause-arena : goal.expand-requires-in-Some-clause-arena
 expand-requires-in-Some-clause-arena c =
-    let d = c.args.table.now in
-    let q = c.args.request.now in
     let asked = c.loop-at.invariant.asked in
-    let nodes = c.loop-at.nodes.items in
-    let labels = c.loop-at.labels.items in
-    let keys = heap_items c.loop-at.heap in
-    let before : IsUnderWay c.args.table.now c.args.request.now c.loop-at.goal c.loop-at.nodes.items c.loop-at.labels.items (heap_items c.loop-at.heap) = record {
-      arena = c.loop-at.invariant.arena;
-      settled = c.loop-at.invariant.settled;
-      left = c.loop-at.invariant.left;
-      floor = c.loop-at.invariant.floor;
-      labelled = c.loop-at.invariant.labels;
-    } in
-    let at = c.in-Some.at in
-    let rest = heap_items c.least.new.heap in
+    let before = c.loop-at.invariant.under_way in
     let least = rw c.deref-in-loop-at.ensures.value at c.in-Some.ensures.some in
-    let node = c.node_of-node.result in
-    let label = get_or_read labels _ _ (omega (arith, least.index.low, c.loop-at.invariant.labels.many)) c.index.ensures no_label in
-    let is = (rw c.deref-in-Some.ensures.value at c.node_of-node.ensures) ∙ ap (node_of d nodes) label in
-    rw (c.deref-in-Some-3.ensures.value, c.in_ok-extend_from_slice.ensures.items) (stepped d q c.args.legs c.args.from c.args.to c.loop-at.goal asked nodes labels keys before at rest least node is).0
+    let is = (rw c.deref-in-Some.ensures.value at c.node_of-node.ensures) ∙ ap (node_of c.args.table.now c.loop-at.nodes.items) (get_or_read c.loop-at.labels.items _ _ (omega (arith, least.index.low, before.labelled.many)) c.index.ensures no_label) in
+    rw (c.deref-in-Some-2.ensures.value, c.in_ok-extend_from_slice.ensures.items) (stepped _ _ _ _ _ _ asked _ _ _ before _ _ least _ is).0
 
 pub expand-requires-in-Some-clause-from : goal.expand-requires-in-Some-clause-from
 expand-requires-in-Some-clause-from c =
-    let d = c.args.table.now in
-    let q = c.args.request.now in
     let asked = c.loop-at.invariant.asked in
-    let nodes = c.loop-at.nodes.items in
-    let labels = c.loop-at.labels.items in
-    let keys = heap_items c.loop-at.heap in
-    let before : IsUnderWay c.args.table.now c.args.request.now c.loop-at.goal c.loop-at.nodes.items c.loop-at.labels.items (heap_items c.loop-at.heap) = record {
-      arena = c.loop-at.invariant.arena;
-      settled = c.loop-at.invariant.settled;
-      left = c.loop-at.invariant.left;
-      floor = c.loop-at.invariant.floor;
-      labelled = c.loop-at.invariant.labels;
-    } in
-    let at = c.in-Some.at in
-    let rest = heap_items c.least.new.heap in
+    let before = c.loop-at.invariant.under_way in
     let least = rw c.deref-in-loop-at.ensures.value at c.in-Some.ensures.some in
-    let node = c.node_of-node.result in
-    let label = get_or_read labels _ _ (omega (arith, least.index.low, c.loop-at.invariant.labels.many)) c.index.ensures no_label in
-    let is = (rw c.deref-in-Some.ensures.value at c.node_of-node.ensures) ∙ ap (node_of d nodes) label in
+    let is = (rw c.deref-in-Some.ensures.value at c.node_of-node.ensures) ∙ ap (node_of c.args.table.now c.loop-at.nodes.items) (get_or_read c.loop-at.labels.items _ _ (omega (arith, least.index.low, before.labelled.many)) c.index.ensures no_label) in
     let long : c.len-index.result ≡ length c.loop-at.nodes.items = omega (arith, c.len-index.ensures, c.loop-at.nodes.ok.0) in
-    rw (c.deref-in-Some-3.ensures.value, c.in_ok-extend_from_slice.ensures.items, long) (node_there d q c.args.legs c.args.from c.args.to c.loop-at.goal asked nodes labels keys before at rest least node is)
+    rw (c.deref-in-Some-2.ensures.value, c.in_ok-extend_from_slice.ensures.items, long) (node_there _ _ _ _ _ _ asked _ _ _ before _ _ least _ is)
 
 pub expand-requires-in-Some-clause-before : goal.expand-requires-in-Some-clause-before
 expand-requires-in-Some-clause-before c =
-    let d = c.args.table.now in
-    let q = c.args.request.now in
     let asked = c.loop-at.invariant.asked in
-    let nodes = c.loop-at.nodes.items in
-    let labels = c.loop-at.labels.items in
-    let keys = heap_items c.loop-at.heap in
-    let before : IsUnderWay c.args.table.now c.args.request.now c.loop-at.goal c.loop-at.nodes.items c.loop-at.labels.items (heap_items c.loop-at.heap) = record {
-      arena = c.loop-at.invariant.arena;
-      settled = c.loop-at.invariant.settled;
-      left = c.loop-at.invariant.left;
-      floor = c.loop-at.invariant.floor;
-      labelled = c.loop-at.invariant.labels;
-    } in
-    let at = c.in-Some.at in
-    let rest = heap_items c.least.new.heap in
+    let before = c.loop-at.invariant.under_way in
     let least = rw c.deref-in-loop-at.ensures.value at c.in-Some.ensures.some in
-    let node = c.node_of-node.result in
-    let label = get_or_read labels _ _ (omega (arith, least.index.low, c.loop-at.invariant.labels.many)) c.index.ensures no_label in
-    let is = (rw c.deref-in-Some.ensures.value at c.node_of-node.ensures) ∙ ap (node_of d nodes) label in
+    let is = (rw c.deref-in-Some.ensures.value at c.node_of-node.ensures) ∙ ap (node_of c.args.table.now c.loop-at.nodes.items) (get_or_read c.loop-at.labels.items _ _ (omega (arith, least.index.low, before.labelled.many)) c.index.ensures no_label) in
     let long : c.len-index.result ≡ length c.loop-at.nodes.items = omega (arith, c.len-index.ensures, c.loop-at.nodes.ok.0) in
-    rw (c.deref-in-Some-3.ensures.value, c.in_ok-extend_from_slice.ensures.items, long, c.deref_mut-in-Some.ensures.value)
-    (settle d q c.args.legs c.args.from c.args.to c.loop-at.goal asked nodes labels keys before at rest least node is c.if-at-goal.false (record { rank = 0; parent = 0; place = 0; row = 0 }) refl)
+    rw (c.deref-in-Some-2.ensures.value, c.in_ok-extend_from_slice.ensures.items, long, c.deref_mut-in-Some.ensures.value)
+    (settle _ _ _ _ _ _ asked _ _ _ before _ _ least _ is c.if-at-goal.false (record { rank = 0; parent = 0; place = 0; row = 0 }) refl)
 
 pub loop-at-smaller : goal.loop-at-smaller
 loop-at-smaller c =
-    let d = c.args.table.now in
-    let q = c.args.request.now in
-    let asked = c.loop-at.invariant.asked in
     let nodes = c.loop-at.nodes.items in
-    let labels = c.loop-at.labels.items in
-    let keys = heap_items c.loop-at.heap in
-    let before : IsUnderWay c.args.table.now c.args.request.now c.loop-at.goal c.loop-at.nodes.items c.loop-at.labels.items (heap_items c.loop-at.heap) = record {
-      arena = c.loop-at.invariant.arena;
-      settled = c.loop-at.invariant.settled;
-      left = c.loop-at.invariant.left;
-      floor = c.loop-at.invariant.floor;
-      labelled = c.loop-at.invariant.labels;
-    } in
-    let at = c.in-Some.at in
-    let rest = heap_items c.least.new.heap in
-    let least = rw c.deref-in-loop-at.ensures.value at c.in-Some.ensures.some in
     let node = c.node_of-node.result in
-    let label = get_or_read labels _ _ (omega (arith, least.index.low, c.loop-at.invariant.labels.many)) c.index.ensures no_label in
-    let is = (rw c.deref-in-Some.ensures.value at c.node_of-node.ensures) ∙ ap (node_of d nodes) label in
-    let new = stepped d q c.args.legs c.args.from c.args.to c.loop-at.goal asked nodes labels keys before at rest least node is in
+    let asked = c.loop-at.invariant.asked in
+    let before = c.loop-at.invariant.under_way in
+    let least = rw c.deref-in-loop-at.ensures.value at c.in-Some.ensures.some in
+    let is = (rw c.deref-in-Some.ensures.value at c.node_of-node.ensures) ∙ ap (node_of c.args.table.now c.loop-at.nodes.items) (get_or_read c.loop-at.labels.items _ _ (omega (arith, least.index.low, before.labelled.many)) c.index.ensures no_label) in
+    let new = stepped _ _ _ _ _ _ asked _ _ _ before _ _ least _ is in
     rw c.in_ok-extend_from_slice.ensures.items (omega (arith, new.2, length_push nodes node, asked.count, c.in_ok-expand-2.ensures.few, c.in-Some.ensures.fewer))
 
 pub loop-at-preserved : goal.loop-at-preserved
 loop-at-preserved c =
     let d = c.args.table.now in
-    let q = c.args.request.now in
-    let asked = c.loop-at.invariant.asked in
     let nodes = c.loop-at.nodes.items in
-    let labels = c.loop-at.labels.items in
-    let keys = heap_items c.loop-at.heap in
-    let before : IsUnderWay c.args.table.now c.args.request.now c.loop-at.goal c.loop-at.nodes.items c.loop-at.labels.items (heap_items c.loop-at.heap) = record {
-      arena = c.loop-at.invariant.arena;
-      settled = c.loop-at.invariant.settled;
-      left = c.loop-at.invariant.left;
-      floor = c.loop-at.invariant.floor;
-      labelled = c.loop-at.invariant.labels;
-    } in
-    let at = c.in-Some.at in
-    let rest = heap_items c.least.new.heap in
-    let least = rw c.deref-in-loop-at.ensures.value at c.in-Some.ensures.some in
     let node = c.node_of-node.result in
-    let label = get_or_read labels _ _ (omega (arith, least.index.low, c.loop-at.invariant.labels.many)) c.index.ensures no_label in
-    let is = (rw c.deref-in-Some.ensures.value at c.node_of-node.ensures) ∙ ap (node_of d nodes) label in
+    let asked = c.loop-at.invariant.asked in
+    let before = c.loop-at.invariant.under_way in
+    let least = rw c.deref-in-loop-at.ensures.value at c.in-Some.ensures.some in
+    let is = (rw c.deref-in-Some.ensures.value at c.node_of-node.ensures) ∙ ap (node_of c.args.table.now c.loop-at.nodes.items) (get_or_read c.loop-at.labels.items _ _ (omega (arith, least.index.low, before.labelled.many)) c.index.ensures no_label) in
     let long : c.len-index.result ≡ length c.loop-at.nodes.items = omega (arith, c.len-index.ensures, c.loop-at.nodes.ok.0) in
-    let new = stepped d q c.args.legs c.args.from c.args.to c.loop-at.goal asked nodes labels keys before at rest least node is in
-    let after = rw (c.deref-in-Some-3.ensures.value, c.in_ok-extend_from_slice.ensures.items, long) at c.in_ok-expand-2.ensures.after in
+    let new = stepped _ _ _ _ _ _ asked _ _ _ before _ _ least _ is in
+    let after = rw (c.deref-in-Some-2.ensures.value, c.in_ok-extend_from_slice.ensures.items, long) at c.in_ok-expand-2.ensures.after in
     let put =
-    put_back c.loop-at.labels.len c.expand-in-Some.new.labels c.deref_mut-in-Some.result.now c.loop-at.labels.items c.in-Some.at (record { rank = 0; parent = 0; place = 0; row = 0 }) c.expand-in-Some.auto.labels
-    c.deref_mut-in-Some.ensures.value c.loop-at.labels.ok.0 in
+    written_back c.loop-at.labels.len c.expand-in-Some.new.labels c.deref_mut-in-Some.result.now (set c.loop-at.labels.items c.in-Some.at (record { rank = 0; parent = 0; place = 0; row = 0 }))
+    c.expand-in-Some.auto.labels c.deref_mut-in-Some.ensures.value (c.loop-at.labels.ok.0 ∙ sym (length-set c.loop-at.labels.items c.in-Some.at (record { rank = 0; parent = 0; place = 0; row = 0 }))) in
     let told = c.in_ok-stands.ensures in
-    let choice = rw (c.deref-in-Some-4.ensures.value, c.deref-in-Some-5.ensures.value) at c.raised.ensures in
+    let choice = rw (c.deref-in-Some-3.ensures.value, c.deref-in-Some-4.ensures.value) at c.raised.ensures in
     let on : AreLabels c.args.table.now c.args.request.now (c.loop-at.nodes.items ++ (c.node_of-node.result ∷ []))
     (CrossesBelow c.args.table.now c.args.request.now (c.loop-at.nodes.items ++ (c.node_of-node.result ∷ [])) (links_of c.args.table.now) (length (c.loop-at.nodes.items ++ (c.node_of-node.result ∷ []))))
     c.loop-at.goal (with_items (with_item c.loop-at.labels c.in-Some.at (record { rank = 0; parent = 0; place = 0; row = 0 })) c.expand-in-Some.new.labels).items (heap_items c.expand-in-Some.new.heap) =
@@ -288,34 +143,23 @@ loop-at-preserved c =
         at = asked.at;
         bounds = asked.bounds;
       };
-      arena = new.0;
-      few = stepped_few d q c.args.legs c.args.from c.args.to c.loop-at.goal asked nodes labels keys before at rest least node is;
-      settled = new.1;
-      left = still_left d q c.args.legs c.args.from c.args.to c.loop-at.goal asked nodes labels keys before at rest least node is c.if-at-goal.false;
-      floor =
-          floor_on d q c.args.legs c.args.from c.args.to c.loop-at.goal asked nodes labels keys before at rest least node is c.in_ok-stands.stands.items told c.raised.result (CrossesBelow d q (nodes ++ (node ∷ [])) (links_of d) (length (nodes ++ (node ∷ []))))
-          (with_items (with_item c.loop-at.labels c.in-Some.at (record { rank = 0; parent = 0; place = 0; row = 0 })) c.expand-in-Some.new.labels).items (heap_items c.expand-in-Some.new.heap)
-          on c.if-at-goal.false choice;
-      labels =
-          labels_on d q c.args.legs c.args.from c.args.to c.loop-at.goal asked nodes labels keys before at rest least node is c.in_ok-stands.stands.items told c.raised.result (CrossesBelow d q (nodes ++ (node ∷ [])) (links_of d) (length (nodes ++ (node ∷ []))))
-          (with_items (with_item c.loop-at.labels c.in-Some.at (record { rank = 0; parent = 0; place = 0; row = 0 })) c.expand-in-Some.new.labels).items (heap_items c.expand-in-Some.new.heap)
-          on choice;
+      few = stepped_few _ _ _ _ _ _ asked _ _ _ before _ _ least _ is;
+      under_way = record {
+        arena = new.0;
+        settled = new.1;
+        left = still_left _ _ _ _ _ _ asked _ _ _ before _ _ least _ is c.if-at-goal.false;
+        floor =
+            floor_on _ _ _ _ _ _ asked _ _ _ before _ _ least _ is c.in_ok-stands.stands.items told c.raised.result (CrossesBelow d c.args.request.now (nodes ++ (node ∷ [])) (links_of d) (length (nodes ++ (node ∷ []))))
+            (with_items (with_item c.loop-at.labels c.in-Some.at (record { rank = 0; parent = 0; place = 0; row = 0 })) c.expand-in-Some.new.labels).items (heap_items c.expand-in-Some.new.heap)
+            on c.if-at-goal.false choice;
+        labelled =
+            labels_on _ _ _ _ _ _ asked _ _ _ before _ _ least _ is c.in_ok-stands.stands.items told c.raised.result (CrossesBelow d c.args.request.now (nodes ++ (node ∷ [])) (links_of d) (length (nodes ++ (node ∷ []))))
+            (with_items (with_item c.loop-at.labels c.in-Some.at (record { rank = 0; parent = 0; place = 0; row = 0 })) c.expand-in-Some.new.labels).items (heap_items c.expand-in-Some.new.heap)
+            on choice;
+      };
     })
 
 pub returns-clause-whole : goal.returns-clause-whole
 returns-clause-whole c =
-    let d = c.args.table.now in
-    let q = c.args.request.now in
-    let asked = c.loop-at.invariant.asked in
-    let nodes = c.loop-at.nodes.items in
-    let labels = c.loop-at.labels.items in
-    let keys = heap_items c.loop-at.heap in
-    let before : IsUnderWay c.args.table.now c.args.request.now c.loop-at.goal c.loop-at.nodes.items c.loop-at.labels.items (heap_items c.loop-at.heap) = record {
-      arena = c.loop-at.invariant.arena;
-      settled = c.loop-at.invariant.settled;
-      left = c.loop-at.invariant.left;
-      floor = c.loop-at.invariant.floor;
-      labelled = c.loop-at.invariant.labels;
-    } in
     let none = rw c.deref-in-loop-at.ensures.value at c.in_default.ensures.none in
-    λ left. ended d q c.args.legs c.args.from c.args.to c.loop-at.goal asked nodes labels keys before none
+    λ left. ended _ _ _ _ _ _ c.loop-at.invariant.asked _ _ _ c.loop-at.invariant.under_way none

@@ -1,5 +1,5 @@
-use Rattle.cspf_db.proofs.Refusing.{refused_unfit}
-use Rattle.cspf_db.proofs.RouterLists.{length-router_list}
+use Rattle.cspf_db.proofs.Batches.LeastReasons.{refused_unfit}
+use Rattle.cspf_db.proofs.Tables.RouterLists.{length-router_list}
 use Rattle.cspf_db.proofs.table.Table.absorb.Goals as goal
 
 pub fits-requires-clause-all : goal.fits-requires-clause-all

@@ -1,4 +1,4 @@
-use Rattle.cspf_db.proofs.Ordered.{links_of-database_of}
+use Rattle.cspf_db.proofs.Tables.RowOrder.{links_of-database_of}
 use Rattle.cspf_db.proofs.table.Table.ends.Goals as goal
 
 pub returns-clause-within : goal.returns-clause-within

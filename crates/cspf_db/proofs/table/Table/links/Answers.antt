@@ -1,6 +1,6 @@
 use Rattle.std.proofs.Common.{sym}
-use Rattle.cspf_db.proofs.Listed.{rows_listed, rows_keyed}
-use Rattle.cspf_db.proofs.Ordered.{own_keys, links_of-database_of}
+use Rattle.cspf_db.proofs.Databases.LinksOfRows.{rows_listed, rows_keyed}
+use Rattle.cspf_db.proofs.Tables.RowOrder.{own_keys, links_of-database_of}
 use Rattle.cspf_db.proofs.table.Table.links.Goals as goal
 
 pub returns-clause-listed : goal.returns-clause-listed

@@ -1,7 +1,7 @@
 use Rattle.std.proofs.Common.{refl, arith}
 use Rattle.std.proofs.lemmas.List.Elements.{All-nil}
-use Rattle.cspf_db.proofs.Few.{router_count-no_links}
-use Rattle.cspf_db.proofs.RouterLists.{router_list-nil}
+use Rattle.cspf_db.proofs.Databases.DistinctRouters.{router_count-no_links}
+use Rattle.cspf_db.proofs.Tables.RouterLists.{router_list-nil}
 use Rattle.cspf_db.proofs.table.Table.new.Goals as goal
 
 pub invariant_of-result : goal.invariant_of-result

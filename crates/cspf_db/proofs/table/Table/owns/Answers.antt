@@ -1,7 +1,7 @@
 use Rattle.std.proofs.Common.{refl, ap, ◌∙◌}
 use Rattle.cspf_db.specs.Index.{links_from}
-use Rattle.cspf_db.proofs.Owning.{owned_itself}
-use Rattle.cspf_db.proofs.Within.{links_rise, owned_by_links}
+use Rattle.cspf_db.proofs.Tables.OwnedPrefixes.{owned_itself}
+use Rattle.cspf_db.proofs.Tables.InterfaceRange.{links_rise, owned_by_links}
 use Rattle.cspf_db.proofs.table.Table.owns.Goals as goal
 
 pub any_rising_within-requires : goal.any_rising_within-requires

@@ -1,7 +1,7 @@
 use Rattle.std.proofs.Common.{◌≡◌, ◌≤◌, All, vec_len, vec_capacity}
 use Rattle.cspf_publish.proofs.replicas.Replicas.askers.Given as goal
 
--- so many askers are made, and nothing else changed
+-- as many askers are made as are counted, and nothing else changed
 abbrev pub invariant-loop : goal.invariant-loop
 invariant-loop l = record {
   same : l.self ≡ l.fn.self;

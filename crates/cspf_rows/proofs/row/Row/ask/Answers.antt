@@ -6,4 +6,4 @@ use Rattle.cspf_rows.proofs.row.Row.ask.Goals as goal
 
 pub returns-in-Ok : goal.returns-in-Ok
 unfolding ask_row_of
-returns-in-Ok c = grind (arith, common_steps, ask-request c.in-Ok.request _ c.in-Ok.ensures.ok)
+returns-in-Ok c = grind (arith, common_steps, ask-request c.fields_of_links_and_requests.ensures.requests c.in-Ok.request _ c.in-Ok.ensures.ok)

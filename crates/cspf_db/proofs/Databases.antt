@@ -1,0 +1,10 @@
+-- Lemmas of databases: keys, changes and counts.
+pub mod Keys
+pub mod LinksOfRows
+pub mod FoundLinks
+pub mod DistinctRouters
+pub mod OneChange
+pub mod ChangedRows
+pub mod EndCounts
+pub mod LastChanges
+pub mod CountedRouters

@@ -1,0 +1,59 @@
+-- What tells whether a router owns a prefix.
+use Rattle.std.proofs.Common.{◌≡◌, ℕ, zero, suc, ◌<◌, ◌↔◌, Bool, true, false, cond, IsTrue, List, [], ◌∷◌, All, Contains, length, nat_eq, slice_index_or, refl, sym, ap, subst, ◌∙◌, inl, inr, arith}
+use Rattle.std.specs.List.{HoldsAt, filter}
+use Rattle.std.proofs.lemmas.Bool.Decides.{nat_tests}
+use Rattle.std.proofs.lemmas.List.Elements.{All-filter, All-contains, All-contains_itself, filter_passes}
+use Rattle.cspf_addr.specs.PrefixParts.{PrefixParts}
+use Rattle.cspf_addr.specs.Prefixes.{Covers}
+use Rattle.cspf_db.specs.declared.link.Link.{Link}
+use Rattle.cspf_db.specs.Database.{Database, AreLinksOf, IsLinkOf, IsRouterOf}
+use Rattle.cspf_db.specs.Targets.{BeginsWithin, Owns}
+
+-- what passes is kept
+pub Contains-filter : {A : Type 0} (p : A → Bool) (xs : List A) (x : A) → Contains xs x → p x ≡ true → Contains (filter p xs) x
+Contains-filter p [] x has on = absurd (omega (arith, has.1))
+Contains-filter p (y ∷ xs) x (zero, h, is) on = subst (λ b. Contains (cond b (y ∷ filter p xs) (filter p xs)) x) (sym (ap p is ∙ on)) (0, omega arith, is)
+Contains-filter p (y ∷ xs) x (suc k, h, is) on =
+    let rest = Contains-filter p xs x (k, omega (arith, h), is) on in
+    elim (p y) as (λ b. Contains (cond b (y ∷ filter p xs) (filter p xs)) x) [ true ↦ (suc rest.0, omega (arith, rest.1), rest.2) | false ↦ rest ]
+
+same_number : (m n : ℕ) → nat_eq m n ≡ true → m ≡ n
+same_number m n tie = grind (arith, nat_tests)
+
+ties : (m n : ℕ) → m ≡ n → nat_eq m n ≡ true
+ties m n is = grind (arith, nat_tests)
+
+-- what tells whether one of the links from a router is within a prefix tells it of the database
+pub tells_link : (prefix : PrefixParts) (router : ℕ) (d : Database) (rows : List Link) (b : Bool)
+    → AreLinksOf d rows
+    → (b ≡ true → (at : ℕ) × (at < length (filter (λ l. nat_eq l.from router) rows)) × HoldsAt (λ l. Covers prefix l.local) (filter (λ l. nat_eq l.from router) rows) at)
+    → (b ≡ false → All (λ l. ¬ Covers prefix l.local) (filter (λ l. nat_eq l.from router) rows))
+    → IsTrue b ↔ ((l : Link) × IsLinkOf d l × BeginsWithin prefix router l)
+tells_link prefix router d [] true listed hit miss = absurd (omega (arith, (hit refl).1))
+tells_link prefix router d (m ∷ rows) true listed hit miss =
+    let p : Link → Bool = λ l. nat_eq l.from router in
+    let h = hit refl in
+    let l : Link = slice_index_or (filter p (m ∷ rows)) h.0 m in
+    let has : Contains (m ∷ rows) l = All-filter p (Contains (m ∷ rows)) (m ∷ rows) (All-contains_itself (m ∷ rows)) h.0 m h.1 in
+    let begins : BeginsWithin prefix router l = record { from = same_number l.from router (filter_passes p (m ∷ rows) h.0 m h.1); local = h.2 m } in
+    (λ _. (l, All-contains (IsLinkOf d) (m ∷ rows) l listed.each has, begins), λ _. refl)
+tells_link prefix router d rows false listed hit miss = (
+  λ e. absurd (cc),
+  λ (l, is, begins). absurd (All-contains (λ m. ¬ Covers prefix m.local) (filter (λ m. nat_eq m.from router) rows) l (miss refl) (Contains-filter (λ m. nat_eq m.from router) rows l (listed.whole l is) (ties l.from router begins.from)) begins.local),
+)
+
+-- a router of the database that the prefix covers owns it
+pub owned_itself : (d : Database) (prefix : PrefixParts) (router : ℕ) (b : Bool) → b ≡ true
+    → IsRouterOf d router → Covers prefix router → IsTrue b ↔ Owns d prefix router
+owned_itself d prefix router b on known covered =
+    ((λ _. record { known = known; covered = inl covered }), λ _. on)
+
+-- one that the prefix doesn't cover owns it by the address of an interface
+pub owned_by_link : (d : Database) (prefix : PrefixParts) (router : ℕ) (b : Bool)
+    → IsRouterOf d router → ¬ Covers prefix router
+    → IsTrue b ↔ ((l : Link) × IsLinkOf d l × BeginsWithin prefix router l)
+    → IsTrue b ↔ Owns d prefix router
+owned_by_link d prefix router b known apart tells = (
+  (λ on. record { known = known; covered = inr (tells.0 on) }),
+  λ owns. elim owns.covered [ inl covered ↦ absurd (apart covered) | inr by_link ↦ tells.1 by_link ],
+)

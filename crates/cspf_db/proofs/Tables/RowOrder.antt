@@ -1,0 +1,88 @@
+-- Rows in order of the key, and the links of their database.
+use Rattle.std.proofs.Common.{◌≡◌, ℕ, ◌<◌, ◌≤◌, ◌⊎◌, inl, inr, nat_lt, true, false, T, List, [], ◌∷◌, length, map, get_or, slice_set, Result, Ok, Err, IfOk, IfErr, refl, ap, subst, ◌∙◌, arith}
+use Rattle.std.specs.Ordering.{nat_cmp, ordering_then}
+use Rattle.std.specs.declared.cmp.Ordering.TheVariants.{Less, Equal, Greater}
+use Rattle.std.specs.List.{HoldsAt, insert, remove as without}
+use Rattle.std.specs.List.Sorted.{IsNonDecreasingBy, IsBinarySearchResult, IsPartitionPoint}
+use Rattle.std.specs.FinMap.{is_sorted, entries, entries-insert, entries_sorted, put}
+use Rattle.std.specs.Cmp.{ranked}
+use Rattle.std.proofs.lemmas.Bool.Decides.{nat_tests}
+use Rattle.cspf_db.specs.declared.link.Link.{Link}
+use Rattle.cspf_db.specs.declared.batch.Change.TheVariants.{Put}
+use Rattle.cspf_db.specs.Database.{Database, Key, key_of, key_cmp, HaveOwnKeys}
+use Rattle.cspf_db.specs.Index.{links_of}
+use Rattle.cspf_db.specs.Changes.{after_change}
+use Rattle.cspf_db.specs.Tables.Rows.{entry_of, database_of, AreByKey}
+use Rattle.cspf_db.proofs.Databases.Keys.{keys_total, keys_antisymmetric}
+use Rattle.cspf_db.proofs.Tables.SortedEntries.{test_from_true, true_from_test, put-gap, put-hit, sorted_without, rises, searchable, distinct, gap_from, entries-from_entries, from_entries-entries}
+
+-- rows in order have keys of their own
+pub own_keys : (rows : List Link) → AreByKey rows → HaveOwnKeys rows
+own_keys rows by_key = distinct keys_total entry_of rows (test_from_true _ by_key)
+
+-- rows in order are the entries of their database
+pub entries-database_of : (rows : List Link) → AreByKey rows → entries (database_of rows).links ≡ map entry_of rows
+entries-database_of rows by_key = entries-from_entries keys_total (map entry_of rows) (test_from_true _ by_key)
+
+-- the links of some rows with their keys
+links_with_keys : (rows : List Link) → map (λ (e : Key × Link). e.1) (map entry_of rows) ≡ rows
+links_with_keys [] = refl
+links_with_keys (l ∷ rows) = ap (λ ls. l ∷ ls) (links_with_keys rows)
+
+-- rows in order are the links of their database in order
+pub links_of-database_of : (rows : List Link) → AreByKey rows → links_of (database_of rows) ≡ rows
+links_of-database_of rows by_key = ap (map (λ (e : Key × Link). e.1)) (entries-database_of rows by_key) ∙ links_with_keys rows
+
+-- rows that are a database's entries are in order, and make it
+pub by_key-entries : (d : Database) (rows : List Link) → entries d.links ≡ map entry_of rows → AreByKey rows
+by_key-entries d rows e = true_from_test _ (subst (λ es. T (is_sorted key_cmp es)) e (entries_sorted d.links))
+
+pub database_of-entries : (d : Database) (rows : List Link) → entries d.links ≡ map entry_of rows → database_of rows ≡ d
+database_of-entries d rows e = ap (λ m. record { links = m }) (from_entries-entries keys_total d.links (map entry_of rows) e)
+
+-- the entries after a put over the row with its key
+pub entries-hit : (rows : List Link) (at : ℕ) (l : Link) → AreByKey rows → at < length rows → HoldsAt (λ m. key_of m ≡ key_of l) rows at
+    → entries (after_change (database_of rows) (Put l)).links ≡ map entry_of (slice_set rows at l)
+entries-hit rows at l by_key h has =
+    entries-insert keys_total (database_of rows).links (key_of l) l ∙ ap (put key_cmp (key_of l) l) (entries-database_of rows by_key) ∙ put-hit keys_total entry_of rows at l l (test_from_true _ by_key) h (has l)
+
+-- the entries after a put between the lower keys and the higher ones
+pub entries-gap : (rows : List Link) (at : ℕ) (l : Link) → AreByKey rows → at ≤ length rows
+    → IsPartitionPoint (λ m. key_cmp (key_of m) (key_of l) ≡ Less) (λ m. key_cmp (key_of m) (key_of l) ≡ Greater) rows at
+    → entries (after_change (database_of rows) (Put l)).links ≡ map entry_of (insert rows at l)
+entries-gap rows at l by_key h gap =
+    entries-insert keys_total (database_of rows).links (key_of l) l ∙ ap (put key_cmp (key_of l) l) (entries-database_of rows by_key) ∙ put-gap keys_total entry_of rows at l h gap.0 gap.1
+
+-- without one row the others are in order
+pub by_key-without : (rows : List Link) (at : ℕ) → AreByKey rows → AreByKey (without rows at)
+by_key-without rows at by_key = true_from_test _ (sorted_without keys_total entry_of rows at (test_from_true _ by_key))
+
+-- the row that a search by a key finds has it
+pub found_key : (rows : List Link) (k : Key) (r : Result ℕ ℕ) → IsBinarySearchResult (λ l. key_cmp (key_of l) k) rows r → IfOk r (HoldsAt (λ l. key_of l ≡ k) rows)
+found_key rows k (Ok at) found = λ d. keys_antisymmetric _ _ (found d)
+found_key rows k (Err at) found = tt
+
+-- where a search by a key finds none
+pub key_gap : (rows : List Link) (k : Key) (r : Result ℕ ℕ) → AreByKey rows → IsBinarySearchResult (λ l. key_cmp (key_of l) k) rows r
+    → IfErr r (IsPartitionPoint (λ l. key_cmp (key_of l) k ≡ Less) (λ l. key_cmp (key_of l) k ≡ Greater) rows)
+key_gap rows k r by_key found = gap_from (λ l. key_cmp (key_of l) k) rows r found (searchable keys_total entry_of rows k (test_from_true _ by_key))
+
+-- a lower key has no higher router
+from_le : (j k : Key) → key_cmp j k ≡ Less → j.0 ≤ k.0
+from_le j k is =
+    elim (nat_cmp j.0 k.0) as (λ r. r ≡ nat_cmp j.0 k.0 → ordering_then r (nat_cmp j.1 k.1) ≡ Less → j.0 ≤ k.0) [
+      | Less ↦ λ e _. let low : j.0 < k.0 = ranked j.0 k.0 Less e in omega arith
+      | Equal ↦ λ e _. let same : j.0 ≡ k.0 = ranked j.0 k.0 Equal e in omega arith
+      | Greater ↦ λ _ off. absurd (cc)
+    ] refl is
+
+-- the routers that rows in order run from don't fall
+pub from_rises : (rows : List Link) → AreByKey rows → IsNonDecreasingBy (λ l. l.from) rows
+from_rises rows by_key i j d le h =
+    elim (i_or i j le) [
+      | inl low ↦ from_le (key_of (get_or rows i d)) (key_of (get_or rows j d)) (rises keys_total entry_of rows (test_from_true _ by_key) i j d low h)
+      | inr same ↦ subst (λ k. (get_or rows i d).from ≤ (get_or rows k d).from) same (omega arith)
+    ]
+  where
+    i_or : (i j : ℕ) → i ≤ j → (i < j) ⊎ (i ≡ j)
+    i_or i j le = elim (nat_lt i j) as (λ b. nat_lt i j ≡ b → (i < j) ⊎ (i ≡ j)) [ true ↦ λ e. inl (grind (arith, nat_tests)) | false ↦ λ e. inr (grind (arith, nat_tests)) ] refl

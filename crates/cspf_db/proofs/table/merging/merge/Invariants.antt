@@ -1,0 +1,16 @@
+use Rattle.std.proofs.Common.{◌≡◌, ◌≤◌, ◌+◌, ◌-◌, ◌++◌, drop, length, vec_len}
+use Rattle.std.specs.Vec.{vec_capacity}
+use Rattle.cspf_db.specs.Changes.{after_changes}
+use Rattle.cspf_db.specs.Tables.Rows.{database_of, AreByKey, AreEndsOf}
+use Rattle.cspf_db.proofs.table.merging.merge.Given as goal
+
+abbrev pub invariant-loop-change : goal.invariant-loop-change
+invariant-loop-change l = record {
+  bound : l.at ≤ length l.rows;
+  left : after_changes (database_of (l.merged.items ++ drop l.at l.rows)) (drop l.change-index l.changes) ≡ after_changes (database_of l.rows) l.changes;
+  joined : AreByKey (l.merged.items ++ drop l.at l.rows);
+  longer : vec_len l.merged + (length l.rows - l.at) ≤ length l.rows + l.change-index;
+  capacity : vec_capacity l.fn.merged ≤ vec_capacity l.merged;
+  capacity_of_ends : vec_capacity l.fn.merged_ends ≤ vec_capacity l.merged_ends;
+  ends : AreEndsOf l.merged.items l.routers l.merged_ends.items;
+}

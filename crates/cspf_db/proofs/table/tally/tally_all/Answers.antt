@@ -1,0 +1,25 @@
+use Rattle.std.proofs.Common.{arith}
+use Rattle.cspf_db.specs.Changes.{IsPresent}
+use Rattle.cspf_db.specs.Tables.CountedEnds.{HasListedEnds}
+use Rattle.cspf_db.specs.Tables.Rows.{database_of}
+use Rattle.cspf_db.specs.Tables.RowsLeft.{adds_link}
+use Rattle.cspf_db.proofs.Batches.LinkCounts.{within_more, count_more}
+use Rattle.cspf_db.proofs.Databases.EndCounts.{brings_more}
+use Rattle.cspf_db.proofs.table.tally.tally_all.Goals as goal
+
+pub loop-at-preserved : goal.loop-at-preserved
+loop-at-preserved c =
+    let d = database_of c.args.rows.now in
+    let changes = c.args.changes.now in
+    let at = c.loop-at.at in
+    let change = c.index-changes-at.result in
+    let one = c.in-Some.ensures in
+    let before = c.loop-at.invariant in
+    record {
+      present = within_more (IsPresent d) changes at change c.loop-at-test.true c.index-changes-at.is one.present before.present;
+      added = count_more (adds_link d) changes at change c.loop-at.added c.in-Some.one.added c.loop-at-test.true c.index-changes-at.is before.added one.added;
+      few_added = omega (arith, before.few_added, one.one);
+      few = omega (arith, before.few, one.few);
+      most = brings_more c.args.routers.now changes at change c.loop-at.brought c.in-Some.one.brought c.loop-at-test.true c.index-changes-at.is before.most one.most;
+      listed = λ none. within_more (HasListedEnds c.args.routers.now) changes at change c.loop-at-test.true c.index-changes-at.is (one.listed (omega (arith, none))) (before.listed (omega (arith, none)));
+    }

@@ -1,0 +1,17 @@
+use Rattle.std.proofs.Common.{◌≡◌, ◌≤◌, ◌*◌, take, count_by}
+use Rattle.std.specs.List.{AllWithin}
+use Rattle.cspf_db.specs.Changes.{IsPresent}
+use Rattle.cspf_db.specs.Tables.CountedEnds.{HasListedEnds, BringsAtMost}
+use Rattle.cspf_db.specs.Tables.Rows.{database_of}
+use Rattle.cspf_db.specs.Tables.RowsLeft.{adds_link}
+use Rattle.cspf_db.proofs.table.tally.tally_all.Given as goal
+
+abbrev pub invariant-loop-at : goal.invariant-loop-at
+invariant-loop-at l = record {
+  present : AllWithin (IsPresent (database_of l.rows)) l.changes 0 l.at;
+  added : l.added ≡ count_by (adds_link (database_of l.rows)) (take l.at l.changes);
+  few_added : l.added ≤ l.at;
+  few : l.brought ≤ 2 * l.at;
+  most : BringsAtMost l.routers (take l.at l.changes) l.brought;
+  listed : l.brought ≡ 0 → AllWithin (HasListedEnds l.routers) l.changes 0 l.at;
+}

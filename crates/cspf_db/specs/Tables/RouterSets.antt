@@ -1,0 +1,19 @@
+-- Private: sets of routers that are kept in place.
+use Rattle.std.specs.Prelude.{◌≡◌, ◌≤◌, take, length}
+use Rattle.std.specs.Ordering.{nat_cmp, eq_by_cmp}
+use Rattle.std.specs.List.{IsDistinct}
+use Rattle.std.specs.FinSet.{FinSet, from_list}
+use Rattle.cspf_db.specs.declared.table.routers.TheConstants.{SLOTS}
+use Rattle.cspf_db.specs.declared.table.routers.Routers.TheInside.{Inside}
+use Rattle.cspf_db.specs.declared.limits.TheConstants.{MOST_ROUTERS}
+
+-- the set of those found so far
+abbrev pub routers_in : Inside → FinSet nat_cmp
+routers_in a = from_list (take a.count a.found)
+
+-- at most 1,024, each once
+pub record AreRouters (a : Inside) : Type 0 where
+  pub room : length a.found ≡ MOST_ROUTERS
+  pub slots : length a.places ≡ SLOTS
+  pub most : a.count ≤ MOST_ROUTERS
+  pub once : IsDistinct (eq_by_cmp nat_cmp) (take a.count a.found)

@@ -1,0 +1,87 @@
+-- Private: the rows of a table with their routers and ends, and the database that they make.
+use Rattle.std.specs.Prelude.{◌≡◌, ◌<◌, ◌≤◌, ℕ, IsTrue, List, All, Contains, filter, length, map, nat_eq, slice_index, slice_index_or, slice_range, Vec}
+use Rattle.std.specs.Vec.{vec_capacity}
+use Rattle.std.specs.declared.alloc.Global.{Global}
+use Rattle.std.specs.Ordering.{nat_cmp}
+use Rattle.std.specs.FinMap.{from_entries, is_sorted}
+use Rattle.cspf_db.specs.declared.link.Link.{Link}
+use Rattle.cspf_db.specs.declared.table.Table.TheInside.{Inside}
+use Rattle.cspf_db.specs.Database.{Database, Key, key_of, key_cmp, router_count}
+use Rattle.cspf_db.specs.Index.{with_nothing, router_list}
+use Rattle.cspf_db.specs.declared.limits.TheConstants.{MOST_LINKS, MOST_ROUTERS, ROOM_FOR_LINKS, ROOM_FOR_ROUTERS}
+
+-- a row with its key
+abbrev pub entry_of : Link → Key × Link
+entry_of l = (key_of l, l)
+
+-- the database that rows make
+abbrev pub database_of : List Link → Database
+database_of rows = record { links = from_entries {R = key_cmp} (map entry_of rows) }
+
+-- each row's key is above those before it
+abbrev pub AreByKey : List Link → Type 0
+AreByKey rows = IsTrue (is_sorted key_cmp (map entry_of rows))
+
+-- each router is above those before it
+abbrev pub AreRising : List ℕ → Type 0
+AreRising routers = IsTrue (is_sorted nat_cmp (map with_nothing routers))
+
+-- The rows are in order of the key, there are no more links and routers than a table may have, and
+-- there is room for as many links, and a batch more.
+pub record AreRows (rows : Vec Link Global) : Type 0 where
+  pub by_key : AreByKey rows.items
+  pub most : length rows.items ≤ MOST_LINKS
+  pub routers : router_count (database_of rows.items) ≤ MOST_ROUTERS
+  pub room : ROOM_FOR_LINKS ≤ vec_capacity rows
+
+-- the routers are those of the rows' database, and there is room for both ends of each link that a
+-- batch puts
+pub record AreRoutersOf (rows : List Link) (routers : Vec ℕ Global) : Type 0 where
+  pub all : routers.items ≡ router_list (database_of rows)
+  pub room : ROOM_FOR_ROUTERS ≤ vec_capacity routers
+
+-- the indices at which the routers are that the rows run to
+pub record AreEndsOf (rows : List Link) (routers : List ℕ) (ends : List ℕ) : Type 0 where
+  pub within : All (λ end. end < length routers) ends
+  pub each : map (λ end. slice_index routers end) ends ≡ map (λ l. l.to) rows
+
+-- the router is at the place in the list
+pub record IsPlaceOf (routers : List ℕ) (router place : ℕ) : Type 0 where
+  pub within : place < length routers
+  pub found : slice_index routers place ≡ router
+
+-- where each of the routers is in another list, if it is there
+abbrev pub ArePlacesIn : List ℕ → List ℕ → List ℕ → Type 0
+ArePlacesIn others routers places =
+    (at : ℕ) → at < length routers → Contains others (slice_index routers at)
+    → IsPlaceOf others (slice_index routers at) (slice_index places at)
+
+-- the routers have both ends of each row, those that it runs to at the given indices
+pub record AreBeside (links : List Link) (routers : List ℕ) (indices : List ℕ) : Type 0 where
+  pub froms : All (λ l. Contains routers l.from) links
+  pub ends : AreEndsOf links routers indices
+
+-- rows, with their routers and their ends
+pub record AreParts (links : Vec Link Global) (names : Vec ℕ Global) (indices : Vec ℕ Global) : Type 0 where
+  pub rows : AreRows links
+  pub routers : AreRoutersOf links.items names
+  pub ends : AreEndsOf links.items names.items indices.items
+  pub room : ROOM_FOR_LINKS ≤ vec_capacity indices
+
+-- where the rows from a router begin and end
+pub record IsSpanOf (rows : List Link) (router : ℕ) (span : ℕ × ℕ) : Type 0 where
+  pub order : span.0 ≤ span.1
+  pub bound : span.1 ≤ length rows
+  pub part : slice_range rows span.0 span.1 ≡ filter (λ l. nat_eq l.from router) rows
+
+-- so it is for each router
+pub record AreSpansOf (rows : List Link) (routers : List ℕ) (spans : List (ℕ × ℕ)) : Type 0 where
+  pub many : length spans ≡ length routers
+  pub each : (at : ℕ) → at < length routers
+      → IsSpanOf rows (slice_index routers at) (slice_index_or spans at (0, 0))
+
+-- the parts of a table, and where the rows from each router begin and end
+pub record IsTable (a : Inside) : Type 0 where
+  pub parts : AreParts a.rows a.routers a.ends
+  pub spans : AreSpansOf a.rows.items a.routers.items a.spans.items
+  pub room : MOST_ROUTERS ≤ vec_capacity a.spans

@@ -1,0 +1,169 @@
+//! The column of the indices at which the routers are that the rows run to, and how it follows the
+//! list of routers.
+ghost use Rattle.std.specs.Prelude.{◌≡◌, ℕ, ◌+◌, ◌<◌, ◌≤◌, Bool, true, false, [], ◌∷◌, ◌++◌, cond, All, Contains, filter, length, map, slice_index, slice_index_or, vec_len, nat_eq};
+ghost use Rattle.std.specs.Vec.{vec_capacity};
+ghost use Rattle.std.specs.List.{list_any};
+ghost use Rattle.cspf_db.specs.Tables.CountedEnds.{any_to, is_end_of};
+ghost use Rattle.cspf_db.specs.Tables.Rows.{AreRising, AreByKey, AreBeside, ArePlacesIn};
+
+use crate::Link;
+use crate::limits::ROOM_FOR_ROUTERS;
+use crate::table::router_list::index_among;
+use crate::table::table_rows::begins;
+use cspf_addr::Addr;
+
+/// Puts an index behind the others. There is room, so this takes no memory and can't fail.
+fn push_within(places: &mut Vec<u16>, place: u16)
+    requires { vec_len places.old < vec_capacity places.old }
+    ensures items { places.new.items ≡ places.old.items ++ place ∷ [] }
+    ensures len { vec_len places.new ≡ vec_len places.old + 1 }
+    ensures capacity { vec_capacity places.old ≤ vec_capacity places.new }
+{
+    let _ = places.push(place);
+}
+
+/// Lists where the routers are in a list that has them all.
+pub fn list_places(places: &mut Vec<u16>, routers: &[Addr], others: &[Addr])
+    requires rising { AreRising others.now }
+    requires few { length others.now ≤ ROOM_FOR_ROUTERS }
+    requires among { All (Contains others.now) routers.now }
+    requires room { length routers.now ≤ vec_capacity places.old }
+    ensures each { ArePlacesIn others.now routers.now places.new.items }
+    ensures len { vec_len places.new ≡ length routers.now }
+    ensures capacity { vec_capacity places.old ≤ vec_capacity places.new }
+{
+    places.clear();
+    for router in routers {
+        push_within(places, index_among(others, *router));
+    }
+}
+
+/// Puts in place of each end the place of its router in another list.
+pub fn move_ends(ends: &mut Vec<u16>, places: &[u16])
+    requires { All (λ end. end < length places.now) ends.old.items }
+    ensures moved { ends.new.items ≡ map (λ end. slice_index places.now end) ends.old.items }
+    ensures capacity { vec_capacity ends.old ≤ vec_capacity ends.new }
+{
+    for end in ends.iter_mut() {
+        *end = places[*end as usize];
+    }
+}
+
+/// Marks the indices that are among the ends.
+fn mark_ends(marked: &mut [bool], ends: &[u16])
+    requires within { All (λ end. end < length marked.old) ends.now }
+    requires none { All (λ mark. mark ≡ false) marked.old }
+    ensures marked { (at : ℕ) → at < length marked.old
+        → slice_index_or marked.new at false ≡ list_any (λ end. nat_eq end at) ends.now }
+{
+    for end in ends {
+        marked[*end as usize] = true;
+    }
+}
+
+/// Whether the router is an end of a row, where it is known whether one runs to it.
+fn is_end(rows: &[Link], router: Addr, arrives: bool) -> bool
+    requires by_key { AreByKey rows.now }
+    requires known { arrives ≡ any_to rows.now router }
+    ensures { result ≡ is_end_of rows.now router }
+{
+    arrives || begins(rows, router)
+}
+
+/// Notes the place that the router would have behind those that stay, and keeps it where it stays.
+fn keep_one(kept: &mut Vec<Addr>, places: &mut Vec<u16>, router: Addr, stays: bool)
+    requires few { vec_len kept.old < ROOM_FOR_ROUTERS }
+    requires room { vec_len kept.old < vec_capacity kept.old }
+    requires room_for_places { vec_len places.old < vec_capacity places.old }
+    ensures kept { kept.new.items ≡ kept.old.items ++ cond stays (router ∷ []) [] }
+    ensures placed { places.new.items ≡ places.old.items ++ length kept.old.items ∷ [] }
+    ensures len { vec_len places.new ≡ vec_len places.old + 1 }
+    ensures longer { vec_len kept.new ≤ vec_len kept.old + 1 }
+    ensures capacity { vec_capacity kept.old ≤ vec_capacity kept.new }
+    ensures capacity_of_places { vec_capacity places.old ≤ vec_capacity places.new }
+{
+    push_within(places, kept.len() as u16);
+    if stays {
+        let _ = kept.push(router);
+    }
+}
+
+/// Keeps the routers that are ends of rows, where the indices are marked to which rows run.
+fn keep_marked(
+    kept: &mut Vec<Addr>,
+    places: &mut Vec<u16>,
+    marked: &[bool],
+    routers: &[Addr],
+    rows: &[Link],
+)
+    requires by_key { AreByKey rows.now }
+    requires few { length routers.now ≤ ROOM_FOR_ROUTERS }
+    requires enough { length routers.now ≤ length marked.now }
+    requires marked { (at : ℕ) → at < length routers.now
+        → slice_index_or marked.now at false ≡ any_to rows.now (slice_index routers.now at) }
+    requires room { ROOM_FOR_ROUTERS ≤ vec_capacity kept.old }
+    requires room_for_places { ROOM_FOR_ROUTERS ≤ vec_capacity places.old }
+    ensures kept { kept.new.items ≡ filter (is_end_of rows.now) routers.now }
+    ensures placed { ArePlacesIn kept.new.items routers.now places.new.items }
+    ensures len { vec_len places.new ≡ length routers.now }
+    ensures capacity { vec_capacity kept.old ≤ vec_capacity kept.new }
+    ensures capacity_of_places { vec_capacity places.old ≤ vec_capacity places.new }
+{
+    kept.clear();
+    places.clear();
+    for (at, router) in routers.iter().enumerate() {
+        let stays = is_end(rows, *router, marked[at]);
+        keep_one(kept, places, *router, stays);
+    }
+}
+
+/// Keeps the routers that are ends of rows, with room for marks.
+fn keep_ends_in(
+    marked: &mut [bool],
+    kept: &mut Vec<Addr>,
+    places: &mut Vec<u16>,
+    routers: &[Addr],
+    ends: &[u16],
+    rows: &[Link],
+)
+    requires none { All (λ mark. mark ≡ false) marked.old }
+    requires enough { length marked.old ≡ ROOM_FOR_ROUTERS }
+    requires by_key { AreByKey rows.now }
+    requires rising { AreRising routers.now }
+    requires few { length routers.now ≤ ROOM_FOR_ROUTERS }
+    requires beside { AreBeside rows.now routers.now ends.now }
+    requires room { ROOM_FOR_ROUTERS ≤ vec_capacity kept.old }
+    requires room_for_places { ROOM_FOR_ROUTERS ≤ vec_capacity places.old }
+    ensures kept { kept.new.items ≡ filter (is_end_of rows.now) routers.now }
+    ensures placed { ArePlacesIn kept.new.items routers.now places.new.items }
+    ensures len { vec_len places.new ≡ length routers.now }
+    ensures capacity { vec_capacity kept.old ≤ vec_capacity kept.new }
+    ensures capacity_of_places { vec_capacity places.old ≤ vec_capacity places.new }
+{
+    mark_ends(marked, ends);
+    keep_marked(kept, places, marked, routers, rows);
+}
+
+/// Keeps the routers that are ends of rows, and lists the places of each among them.
+pub fn keep_ends(
+    kept: &mut Vec<Addr>,
+    places: &mut Vec<u16>,
+    routers: &[Addr],
+    ends: &[u16],
+    rows: &[Link],
+)
+    requires by_key { AreByKey rows.now }
+    requires rising { AreRising routers.now }
+    requires few { length routers.now ≤ ROOM_FOR_ROUTERS }
+    requires beside { AreBeside rows.now routers.now ends.now }
+    requires room { ROOM_FOR_ROUTERS ≤ vec_capacity kept.old }
+    requires room_for_places { ROOM_FOR_ROUTERS ≤ vec_capacity places.old }
+    ensures kept { kept.new.items ≡ filter (is_end_of rows.now) routers.now }
+    ensures placed { ArePlacesIn kept.new.items routers.now places.new.items }
+    ensures len { vec_len places.new ≡ length routers.now }
+    ensures capacity { vec_capacity kept.old ≤ vec_capacity kept.new }
+    ensures capacity_of_places { vec_capacity places.old ≤ vec_capacity places.new }
+{
+    let mut marked = [false; ROOM_FOR_ROUTERS];
+    keep_ends_in(&mut marked, kept, places, routers, ends, rows);
+}

@@ -1,0 +1,107 @@
+ghost use Rattle.std.specs.Prelude.{◌≡◌, true, ◌<◌, ◌≤◌, [], ◌∷◌};
+ghost use Rattle.std.specs.Bool.{OnTrue, OnFalse};
+ghost use Rattle.std.specs.FinSet as set;
+ghost use Rattle.std.specs.Ordering.{nat_cmp};
+
+use crate::Link;
+use crate::limits::MOST_ROUTERS;
+use std::marker::Model;
+
+/// How many slots there are for the places of routers.
+const SLOTS: usize = 32768;
+
+/// A set of at most 1,024 routers, kept in place as numbers. The place of each is noted at a slot that
+/// follows from its number, unless another's was noted there since.
+#[derive(Drop)]
+pub struct Routers {
+    found: [u32; MOST_ROUTERS],
+    count: usize,
+    places: [u16; SLOTS],
+}
+
+/// The slot of a router with this number.
+fn slot(router: u32) -> usize
+    ensures { result < SLOTS }
+{
+    ((router.wrapping_mul(2654435761) >> 16) % SLOTS as u32) as usize
+}
+
+impl Model for Routers {
+    ghost use Rattle.std.specs.FinSet as set;
+    ghost use Rattle.std.specs.Ordering.{nat_cmp};
+    ghost use Rattle.std.specs.Coded.{coded_ℕ};
+
+    ghost Value = { set.FinSet nat_cmp };
+
+    ghost coded = { set.code coded_ℕ };
+
+    ghost use Rattle.cspf_db.specs.Tables.RouterSets.{routers_in, AreRouters};
+
+    ghost view = { routers_in };
+
+    ghost invariant = { AreRouters };
+}
+
+impl Routers {
+    ghost use Rattle.cspf_db.specs.Tables.CountedEnds.{with_ends};
+
+    /// No routers.
+    pub fn new() -> Self
+        ensures { result ≡ set.empty }
+    {
+        Routers::kept_in([0; MOST_ROUTERS], [0; SLOTS])
+    }
+
+    /// No routers, with the places where they are kept. What stands there doesn't matter.
+    fn kept_in(found: [u32; MOST_ROUTERS], places: [u16; SLOTS]) -> Self
+        ensures { result ≡ set.empty }
+    {
+        Routers {
+            found,
+            count: 0,
+            places,
+        }
+    }
+
+    /// Adds the router with this number. It is false where there would be more than 1,024.
+    fn add(&mut self, router: u32) -> bool
+        ensures added { OnTrue result (self.new ≡ set.insert self.old router) }
+        ensures full { OnFalse result (MOST_ROUTERS < set.len (set.insert self.old router)) }
+        ensures few { OnTrue result (set.len self.new ≤ MOST_ROUTERS) }
+    {
+        if self.found[..self.count].contains(&router) {
+            return true;
+        }
+        if self.count == MOST_ROUTERS {
+            return false;
+        }
+        self.found[self.count] = router;
+        self.places[slot(router)] = self.count as u16;
+        self.count += 1;
+        true
+    }
+
+    /// Whether the router with this number is at the place that is noted for it.
+    fn has(&self, router: u32) -> bool
+        ensures { result ≡ true → self.now ≡ set.insert self.now router }
+    {
+        let place = self.places[slot(router)] as usize;
+        place < self.count && self.found[place] == router
+    }
+
+    /// Whether both ends of a link are found at once, so that they need not be added.
+    pub fn has_ends(&self, link: &Link) -> bool
+        ensures { result ≡ true → self.now ≡ with_ends self.now (link.now ∷ []) }
+    {
+        self.has(link.from.number()) && self.has(link.to.number())
+    }
+
+    /// Adds both ends of a link. It is false where there would be more than 1,024 routers.
+    pub fn add_ends(&mut self, link: &Link) -> bool
+        ensures added { OnTrue result (self.new ≡ with_ends self.old (link.now ∷ [])) }
+        ensures full { OnFalse result (MOST_ROUTERS < set.len (with_ends self.old (link.now ∷ []))) }
+        ensures few { OnTrue result (set.len self.new ≤ MOST_ROUTERS) }
+    {
+        self.add(link.from.number()) && self.add(link.to.number())
+    }
+}

@@ -1,0 +1,230 @@
+//! Changes of rows, with the ends beside them mended as each row changes.
+ghost use Rattle.std.specs.Prelude.{count_by, ◌≡◌, ℕ, ◌+◌, ◌<◌, ◌≤◌, true, All, filter, length, slice_set, vec_len, IfOk, IfErr, IfSome, IfNone};
+ghost use Rattle.std.specs.Vec.{vec_capacity};
+ghost use Rattle.std.specs.List.{insert, remove as without};
+ghost use Rattle.cspf_db.specs.Changes.{after_change, after_changes};
+ghost use Rattle.cspf_db.specs.Tables.CountedEnds.{HasListedEnds};
+ghost use Rattle.cspf_db.specs.Database.{link_count, router_count};
+ghost use Rattle.cspf_db.specs.Refusals.{AreOnceEach};
+ghost use Rattle.cspf_db.specs.Tables.RowsLeft.{adds_link, removes_link, puts_link};
+ghost use Rattle.cspf_db.specs.Tables.Rows.{database_of, AreRising, AreByKey, AreBeside, AreParts};
+ghost use Rattle.cspf_db.specs.declared.limits.TheConstants.{MOST_CHANGES, MOST_LINKS, MOST_ROUTERS, ROOM_FOR_LINKS, ROOM_FOR_ROUTERS};
+
+use crate::table::check::{count_removed, is_removal};
+use crate::table::router_list::index_among;
+use crate::table::scratch::Scratch;
+use crate::table::table_rows::{put, remove};
+use crate::table::tally::Tally;
+use crate::{Change, Link};
+use cspf_addr::Addr;
+
+/// Puts the end beside the row that was put over another, or between others. There is room, so
+/// this takes no memory and can't fail.
+fn put_end(ends: &mut Vec<u16>, place: Result<usize, usize>, end: u16)
+    requires within { IfOk place (λ at. at < length ends.old.items) }
+    requires upto { IfErr place (λ at. at ≤ length ends.old.items) }
+    requires room { vec_len ends.old < vec_capacity ends.old }
+    ensures over { IfOk place (λ at. ends.new.items ≡ slice_set ends.old.items at end) }
+    ensures between { IfErr place (λ at. ends.new.items ≡ insert ends.old.items at end) }
+    ensures capacity { vec_capacity ends.old ≤ vec_capacity ends.new }
+{
+    match place {
+        Ok(at) => ends[at] = end,
+        Err(at) => {
+            let _ = ends.insert(at, end);
+        }
+    }
+}
+
+/// Takes out the end beside the row that was taken out, if one was.
+fn remove_end(ends: &mut Vec<u16>, place: Option<usize>)
+    requires { IfSome place (λ at. at < length ends.old.items) }
+    ensures out { IfSome place (λ at. ends.new.items ≡ without ends.old.items at) }
+    ensures same { IfNone place (ends.new.items ≡ ends.old.items) }
+    ensures capacity { vec_capacity ends.old ≤ vec_capacity ends.new }
+{
+    if let Some(at) = place {
+        let _ = ends.remove(at);
+    }
+}
+
+/// Makes one change. The rows are never more than a table may have.
+fn change_one(rows: &mut Vec<Link>, ends: &mut Vec<u16>, routers: &[Addr], change: &Change)
+    requires by_key { AreByKey rows.old.items }
+    requires fits { link_count (after_change (database_of rows.old.items) change.now) ≤ MOST_LINKS }
+    requires room { vec_len rows.old < vec_capacity rows.old }
+    requires room_for_ends { vec_len rows.old < vec_capacity ends.old }
+    requires rising { AreRising routers.now }
+    requires few { length routers.now ≤ ROOM_FOR_ROUTERS }
+    requires known { HasListedEnds routers.now change.now }
+    requires beside { AreBeside rows.old.items routers.now ends.old.items }
+    ensures changed { database_of rows.new.items
+        ≡ after_change (database_of rows.old.items) change.now }
+    ensures by_key { AreByKey rows.new.items }
+    ensures most { vec_len rows.new ≤ MOST_LINKS }
+    ensures capacity { vec_capacity rows.old ≤ vec_capacity rows.new }
+    ensures capacity_of_ends { vec_capacity ends.old ≤ vec_capacity ends.new }
+    ensures beside { AreBeside rows.new.items routers.now ends.new.items }
+{
+    match change {
+        Change::Put(link) => {
+            let end = index_among(routers, link.to);
+            let place = put(rows, *link);
+            put_end(ends, place, end);
+        }
+        Change::Remove { from, local } => {
+            let place = remove(rows, *from, *local);
+            remove_end(ends, place);
+        }
+    }
+}
+
+/// Makes the removals among the changes.
+fn remove_rows(rows: &mut Vec<Link>, ends: &mut Vec<u16>, routers: &[Addr], changes: &[Change])
+    requires by_key { AreByKey rows.old.items }
+    requires most { vec_len rows.old ≤ MOST_LINKS }
+    requires room { ROOM_FOR_LINKS ≤ vec_capacity rows.old }
+    requires room_for_ends { ROOM_FOR_LINKS ≤ vec_capacity ends.old }
+    requires rising { AreRising routers.now }
+    requires few { length routers.now ≤ ROOM_FOR_ROUTERS }
+    requires known { All (HasListedEnds routers.now) changes.now }
+    requires beside { AreBeside rows.old.items routers.now ends.old.items }
+    ensures changed { database_of rows.new.items
+        ≡ after_changes (database_of rows.old.items) (filter removes_link changes.now) }
+    ensures by_key { AreByKey rows.new.items }
+    ensures most { vec_len rows.new ≤ MOST_LINKS }
+    ensures capacity { vec_capacity rows.old ≤ vec_capacity rows.new }
+    ensures capacity_of_ends { vec_capacity ends.old ≤ vec_capacity ends.new }
+    ensures beside { AreBeside rows.new.items routers.now ends.new.items }
+{
+    for change in changes {
+        if is_removal(change) {
+            change_one(rows, ends, routers, change);
+        }
+    }
+}
+
+/// Makes the puts among the changes, where there is room for all of them.
+fn put_rows(rows: &mut Vec<Link>, ends: &mut Vec<u16>, routers: &[Addr], changes: &[Change])
+    requires by_key { AreByKey rows.old.items }
+    requires most { vec_len rows.old ≤ MOST_LINKS }
+    requires fits { link_count
+        (after_changes (database_of rows.old.items) (filter puts_link changes.now)) ≤ MOST_LINKS }
+    requires room { ROOM_FOR_LINKS ≤ vec_capacity rows.old }
+    requires room_for_ends { ROOM_FOR_LINKS ≤ vec_capacity ends.old }
+    requires rising { AreRising routers.now }
+    requires few { length routers.now ≤ ROOM_FOR_ROUTERS }
+    requires known { All (HasListedEnds routers.now) changes.now }
+    requires beside { AreBeside rows.old.items routers.now ends.old.items }
+    ensures changed { database_of rows.new.items
+        ≡ after_changes (database_of rows.old.items) (filter puts_link changes.now) }
+    ensures by_key { AreByKey rows.new.items }
+    ensures most { vec_len rows.new ≤ MOST_LINKS }
+    ensures capacity { vec_capacity rows.old ≤ vec_capacity rows.new }
+    ensures capacity_of_ends { vec_capacity ends.old ≤ vec_capacity ends.new }
+    ensures beside { AreBeside rows.new.items routers.now ends.new.items }
+{
+    for change in changes {
+        if !is_removal(change) {
+            change_one(rows, ends, routers, change);
+        }
+    }
+}
+
+/// Makes changes on keys of their own one by one, the removals first, so that the rows are never more
+/// than a table may have. They put links between known routers alone.
+pub fn change_rows(rows: &mut Vec<Link>, ends: &mut Vec<u16>, routers: &[Addr], changes: &[Change])
+    requires by_key { AreByKey rows.old.items }
+    requires most { vec_len rows.old ≤ MOST_LINKS }
+    requires once { AreOnceEach changes.now }
+    requires links { link_count (after_changes (database_of rows.old.items) changes.now) ≤ MOST_LINKS }
+    requires room { ROOM_FOR_LINKS ≤ vec_capacity rows.old }
+    requires room_for_ends { ROOM_FOR_LINKS ≤ vec_capacity ends.old }
+    requires rising { AreRising routers.now }
+    requires few { length routers.now ≤ ROOM_FOR_ROUTERS }
+    requires known { All (HasListedEnds routers.now) changes.now }
+    requires beside { AreBeside rows.old.items routers.now ends.old.items }
+    ensures changed { database_of rows.new.items
+        ≡ after_changes (database_of rows.old.items) changes.now }
+    ensures by_key { AreByKey rows.new.items }
+    ensures most { vec_len rows.new ≤ MOST_LINKS }
+    ensures capacity { vec_capacity rows.old ≤ vec_capacity rows.new }
+    ensures capacity_of_ends { vec_capacity ends.old ≤ vec_capacity ends.new }
+    ensures beside { AreBeside rows.new.items routers.now ends.new.items }
+{
+    remove_rows(rows, ends, routers, changes);
+    put_rows(rows, ends, routers, changes);
+}
+
+/// How many rows may be put between others or taken out one by one, as each moves those behind it.
+const FEW: usize = 16;
+
+/// Whether changes, of which so many add a link, put few rows between others and take few out.
+fn move_few(added: usize, changes: &[Change]) -> bool
+    requires few { added ≤ MOST_CHANGES }
+    requires short { length changes.now ≤ MOST_CHANGES }
+    ensures { result ≡ true → added + count_by removes_link changes.now ≤ FEW }
+{
+    added + count_removed(changes) <= FEW
+}
+
+/// Makes changes on keys of their own, with the ends beside the rows. They put links between listed
+/// routers alone.
+fn change_with_ends(
+    rows: &mut Vec<Link>,
+    ends: &mut Vec<u16>,
+    scratch: &mut Scratch,
+    routers: &[Addr],
+    changes: &[Change],
+    added: usize,
+)
+    requires by_key { AreByKey rows.old.items }
+    requires most { vec_len rows.old ≤ MOST_LINKS }
+    requires short { length changes.now ≤ MOST_CHANGES }
+    requires added { added ≡ count_by (adds_link (database_of rows.old.items)) changes.now }
+    requires once { AreOnceEach changes.now }
+    requires links { link_count (after_changes (database_of rows.old.items) changes.now) ≤ MOST_LINKS }
+    requires room { ROOM_FOR_LINKS ≤ vec_capacity rows.old }
+    requires room_for_ends { ROOM_FOR_LINKS ≤ vec_capacity ends.old }
+    requires rising { AreRising routers.now }
+    requires few { length routers.now ≤ ROOM_FOR_ROUTERS }
+    requires known { All (HasListedEnds routers.now) changes.now }
+    requires beside { AreBeside rows.old.items routers.now ends.old.items }
+    ensures changed { database_of rows.new.items
+        ≡ after_changes (database_of rows.old.items) changes.now }
+    ensures by_key { AreByKey rows.new.items }
+    ensures room { ROOM_FOR_LINKS ≤ vec_capacity rows.new }
+    ensures room_for_ends { ROOM_FOR_LINKS ≤ vec_capacity ends.new }
+    ensures beside { AreBeside rows.new.items routers.now ends.new.items }
+{
+    if move_few(added, changes) {
+        change_rows(rows, ends, routers, changes);
+        return;
+    }
+    scratch.change(rows, ends, routers, changes);
+}
+
+/// Makes the changes of a batch that fits, with what they do to the rows.
+pub fn change_table(
+    rows: &mut Vec<Link>,
+    routers: &mut Vec<Addr>,
+    ends: &mut Vec<u16>,
+    scratch: &mut Scratch,
+    changes: &[Change],
+    tally: Tally,
+)
+    requires parts { AreParts rows.old routers.old ends.old }
+    requires added { tally.added ≡ count_by (adds_link (database_of rows.old.items)) changes.now }
+    requires listed { tally.brought ≡ 0 → All (HasListedEnds routers.old.items) changes.now }
+    requires short { length changes.now ≤ MOST_CHANGES }
+    requires once { AreOnceEach changes.now }
+    requires links { link_count (after_changes (database_of rows.old.items) changes.now) ≤ MOST_LINKS }
+    requires few { router_count (after_changes (database_of rows.old.items) changes.now) ≤ MOST_ROUTERS }
+    ensures changed { database_of rows.new.items
+        ≡ after_changes (database_of rows.old.items) changes.now }
+    ensures parts { AreParts rows.new routers.new ends.new }
+{
+    scratch.add_routers(routers, ends, changes, tally.brought);
+    change_with_ends(rows, ends, scratch, routers, changes, tally.added);
+    scratch.drop_routers(routers, ends, rows);
+}

@@ -1,0 +1,157 @@
+ghost use Rattle.std.specs.Prelude.{◌≡◌, ◌<◌, ◌≤◌, All, Contains, length, map, slice_index, vec_len};
+ghost use Rattle.std.specs.Vec.{vec_capacity};
+ghost use Rattle.cspf_db.specs.declared.limits.TheConstants.{MOST_CHANGES, MOST_LINKS, MOST_ROUTERS, ROOM_FOR_LINKS, ROOM_FOR_ROUTERS};
+
+use crate::limits::{MOST_CHANGES, ROOM_FOR_LINKS, ROOM_FOR_ROUTERS};
+use crate::table::merging::{merge, sort_changes};
+use crate::table::places::{keep_ends, list_places, move_ends};
+use crate::table::router_list::add_ends;
+use crate::table::row_changes::change_rows;
+use crate::{Change, Link};
+use cspf_addr::Addr;
+use std::alloc::{AllocError, Global};
+use std::mem::swap;
+
+/// Room for the rows, their ends and the routers after changes, for the changes in order of the key, and for
+/// the places of routers.
+#[derive(Debug, Drop)]
+pub struct Scratch {
+    merged: Vec<Link>,
+    ends: Vec<u16>,
+    sorted: Vec<Change>,
+    listed: Vec<Addr>,
+    places: Vec<u16>,
+    ghost room: { ROOM_FOR_LINKS ≤ vec_capacity merged },
+    ghost room_for_ends: { ROOM_FOR_LINKS ≤ vec_capacity ends },
+    ghost room_for_changes: { MOST_CHANGES ≤ vec_capacity sorted },
+    ghost room_for_routers: { ROOM_FOR_ROUTERS ≤ vec_capacity listed },
+    ghost room_for_places: { ROOM_FOR_ROUTERS ≤ vec_capacity places },
+}
+
+/// Copies the routers. There is room, so this takes no memory and can't fail.
+fn copy_routers(listed: &mut Vec<Addr>, routers: &[Addr])
+    requires { length routers.now ≤ vec_capacity listed.old }
+    ensures items { listed.new.items ≡ routers.now }
+    ensures capacity { vec_capacity listed.old ≤ vec_capacity listed.new }
+{
+    listed.clear();
+    let _ = listed.extend_from_slice(routers);
+}
+
+impl Scratch {
+    ghost use Rattle.cspf_db.specs.Database.{link_count};
+    ghost use Rattle.cspf_db.specs.Changes.{after_changes};
+    ghost use Rattle.cspf_db.specs.Tables.CountedEnds.{HasListedEnds};
+    ghost use Rattle.cspf_db.specs.Tables.Rows.{database_of, AreRising, AreByKey, AreBeside, AreEndsOf, AreRoutersOf};
+    ghost use Rattle.cspf_db.specs.Refusals.{AreOnceEach};
+
+    /// Room for the rows of a full table and a batch.
+    pub fn new(alloc: Global) -> Result<Self, AllocError> {
+        Ok(Scratch {
+            merged: Vec::with_capacity(alloc, ROOM_FOR_LINKS)?,
+            ends: Vec::with_capacity(alloc, ROOM_FOR_LINKS)?,
+            sorted: Vec::with_capacity(alloc, MOST_CHANGES)?,
+            listed: Vec::with_capacity(alloc, ROOM_FOR_ROUTERS)?,
+            places: Vec::with_capacity(alloc, ROOM_FOR_ROUTERS)?,
+        })
+    }
+
+    /// Makes changes on keys of their own, however many rows they move, with the ends beside the
+    /// rows. They put links between listed routers alone. It takes no memory.
+    pub fn change(
+        &mut self,
+        rows: &mut Vec<Link>,
+        ends: &mut Vec<u16>,
+        routers: &[Addr],
+        changes: &[Change],
+    )
+        requires by_key { AreByKey rows.old.items }
+        requires most { vec_len rows.old ≤ MOST_LINKS }
+        requires short { length changes.now ≤ MOST_CHANGES }
+        requires once { AreOnceEach changes.now }
+        requires links { link_count (after_changes (database_of rows.old.items) changes.now) ≤ MOST_LINKS }
+        requires room { ROOM_FOR_LINKS ≤ vec_capacity rows.old }
+        requires room_for_ends { ROOM_FOR_LINKS ≤ vec_capacity ends.old }
+        requires rising { AreRising routers.now }
+        requires few { length routers.now ≤ ROOM_FOR_ROUTERS }
+        requires known { All (HasListedEnds routers.now) changes.now }
+        requires beside { AreBeside rows.old.items routers.now ends.old.items }
+        ensures changed { database_of rows.new.items
+            ≡ after_changes (database_of rows.old.items) changes.now }
+        ensures by_key { AreByKey rows.new.items }
+        ensures room { ROOM_FOR_LINKS ≤ vec_capacity rows.new }
+        ensures room_for_ends { ROOM_FOR_LINKS ≤ vec_capacity ends.new }
+        ensures ends { AreEndsOf rows.new.items routers.now ends.new.items }
+    {
+        sort_changes(&mut self.sorted, changes);
+        self.merged.clear();
+        self.ends.clear();
+        if !merge(
+            &mut self.merged,
+            &mut self.ends,
+            rows,
+            ends,
+            routers,
+            &self.sorted,
+        ) {
+            change_rows(rows, ends, routers, changes);
+            return;
+        }
+        swap(rows, &mut self.merged);
+        swap(ends, &mut self.ends);
+    }
+
+    /// Lists the ends of the links that the changes put, those that aren't listed, where there are
+    /// any. The column of ends says of the rows what it said.
+    pub fn add_routers(
+        &mut self,
+        routers: &mut Vec<Addr>,
+        ends: &mut Vec<u16>,
+        changes: &[Change],
+        brought: usize,
+    )
+        requires listed { brought ≡ 0 → All (HasListedEnds routers.old.items) changes.now }
+        requires rising { AreRising routers.old.items }
+        requires few { vec_len routers.old ≤ MOST_ROUTERS }
+        requires short { length changes.now ≤ MOST_CHANGES }
+        requires room { ROOM_FOR_ROUTERS ≤ vec_capacity routers.old }
+        requires within { All (λ end. end < length routers.old.items) ends.old.items }
+        ensures listed { All (HasListedEnds routers.new.items) changes.now }
+        ensures kept { All (Contains routers.new.items) routers.old.items }
+        ensures rising { AreRising routers.new.items }
+        ensures few { vec_len routers.new ≤ ROOM_FOR_ROUTERS }
+        ensures room { ROOM_FOR_ROUTERS ≤ vec_capacity routers.new }
+        ensures within { All (λ end. end < length routers.new.items) ends.new.items }
+        ensures same { map (λ end. slice_index routers.new.items end) ends.new.items
+            ≡ map (λ end. slice_index routers.old.items end) ends.old.items }
+        ensures capacity_of_ends { vec_capacity ends.old ≤ vec_capacity ends.new }
+    {
+        if brought == 0 {
+            return;
+        }
+        copy_routers(&mut self.listed, routers);
+        add_ends(&mut self.listed, changes);
+        list_places(&mut self.places, routers, &self.listed);
+        move_ends(ends, &self.places);
+        swap(routers, &mut self.listed);
+    }
+
+    /// Drops the routers that are no end of a row. The column of ends follows.
+    pub fn drop_routers(&mut self, routers: &mut Vec<Addr>, ends: &mut Vec<u16>, rows: &[Link])
+        requires by_key { AreByKey rows.now }
+        requires rising { AreRising routers.old.items }
+        requires few { vec_len routers.old ≤ ROOM_FOR_ROUTERS }
+        requires room { ROOM_FOR_ROUTERS ≤ vec_capacity routers.old }
+        requires beside { AreBeside rows.now routers.old.items ends.old.items }
+        ensures routers { AreRoutersOf rows.now routers.new }
+        ensures ends { AreEndsOf rows.now routers.new.items ends.new.items }
+        ensures capacity_of_ends { vec_capacity ends.old ≤ vec_capacity ends.new }
+    {
+        keep_ends(&mut self.listed, &mut self.places, routers, ends, rows);
+        if self.listed.len() == routers.len() {
+            return;
+        }
+        move_ends(ends, &self.places);
+        swap(routers, &mut self.listed);
+    }
+}

@@ -1,0 +1,171 @@
+ghost use Rattle.std.specs.Prelude.{◌≡◌, ◌≢◌, ℕ, ◌+◌, ◌<◌, ◌≤◌, true, false, All, filter, length, nat_eq, slice_range, slice_set, vec_len, IfOk, IfErr, IfSome, IfNone};
+ghost use Rattle.std.specs.Vec.{vec_capacity};
+ghost use Rattle.std.specs.List.{HoldsAt, insert, remove as without};
+ghost use Rattle.std.specs.List.Sorted.{IsPartitionPoint, IsNonDecreasingBy};
+ghost use Rattle.cspf_addr.specs.Prefixes.{Covers};
+ghost use Rattle.cspf_db.specs.Database.{key_of, key_cmp};
+ghost use Rattle.cspf_db.specs.Index.{links_from};
+ghost use Rattle.cspf_db.specs.Changes.{after_change};
+ghost use Rattle.cspf_db.specs.Tables.Rows.{database_of, AreByKey};
+ghost use Rattle.cspf_db.specs.Tables.CountedEnds.{any_from};
+
+use crate::{Change, Link};
+use cspf_addr::{Addr, Prefix};
+use std::cmp::Ordering;
+
+/// How the key of the row compares with another.
+pub fn compare(row: &Link, from: Addr, local: Addr) -> Ordering
+    ensures { result ≡ key_cmp (key_of row.now) (from, local) }
+{
+    row.from.cmp(&from).then(row.local.cmp(&local))
+}
+
+/// The index of the row with this key, and else the index at which it would stand.
+pub fn search(rows: &[Link], from: Addr, local: Addr) -> Result<usize, usize>
+    requires { AreByKey rows.now }
+    ensures within { IfOk result (λ at. at < length rows.now) }
+    ensures found { IfOk result (HoldsAt (λ l. key_of l ≡ (from, local)) rows.now) }
+    ensures upto { IfErr result (λ at. at ≤ length rows.now) }
+    ensures gap { IfErr result (IsPartitionPoint
+        (λ l. key_cmp (key_of l) (from, local) ≡ Ordering.Less)
+        (λ l. key_cmp (key_of l) (from, local) ≡ Ordering.Greater)
+        rows.now) }
+{
+    rows.binary_search_by(
+        |row: &Link| -> Ordering
+            ensures { result ≡ key_cmp (key_of row.now) (from, local) }
+        { compare(row, from, local) },
+    )
+}
+
+/// The index of the row with this key, if there is one.
+pub fn index_of(rows: &[Link], from: Addr, local: Addr) -> Option<usize>
+    requires { AreByKey rows.now }
+    ensures bound { IfSome result (λ at. at < length rows.now) }
+    ensures some { IfSome result (λ at. HoldsAt (λ l. key_of l ≡ (from, local)) rows.now at) }
+    ensures none { IfNone result (All (λ l. key_of l ≢ (from, local)) rows.now) }
+{
+    search(rows, from, local).ok()
+}
+
+/// Where the rows from the router begin and end.
+pub fn span(rows: &[Link], router: Addr) -> (usize, usize)
+    requires { AreByKey rows.now }
+    ensures order { result.0 ≤ result.1 }
+    ensures bound { result.1 ≤ length rows.now }
+    ensures rows { slice_range rows.now result.0 result.1
+        ≡ filter (λ l. nat_eq l.from router) rows.now }
+{
+    let first = rows.partition_point(|row| row.from < router);
+    let end = rows.partition_point(|row| row.from <= router);
+    (first, end)
+}
+
+/// The rows from the router, in order.
+pub fn rows_from(rows: &[Link], router: Addr) -> &[Link]
+    requires { AreByKey rows.now }
+    ensures { result.now ≡ links_from (database_of rows.now) router }
+{
+    let (first, end) = span(rows, router);
+    &rows[first..end]
+}
+
+/// Whether a row begins at the router.
+pub fn begins(rows: &[Link], router: Addr) -> bool
+    requires { AreByKey rows.now }
+    ensures { result ≡ any_from rows.now router }
+{
+    let (first, end) = span(rows, router);
+    first < end
+}
+
+/// Whether one of the rows has the address of its interface within the prefix.
+fn any_within(rows: &[Link], prefix: Prefix) -> bool
+    ensures yes { result ≡ true
+        → (at : ℕ) × (at < length rows.now) × HoldsAt (λ l. Covers prefix l.local) rows.now at }
+    ensures no { result ≡ false → All (λ l. ¬ Covers prefix l.local) rows.now }
+{
+    rows.iter().any(|link| prefix.covers(link.local))
+}
+
+/// Whether an address from the first to the last may begin with the bits of the prefix: the prefix
+/// covers an unbroken range of addresses.
+fn may_cover(prefix: Prefix, first: Addr, last: Addr) -> bool
+    ensures { result ≡ false
+        → (address : ℕ) → first ≤ address → address ≤ last → ¬ Covers prefix address }
+{
+    let rest = 32 - prefix.length();
+    let front = u64::from(prefix.address().number()) >> rest;
+    u64::from(first.number()) >> rest <= front && front <= u64::from(last.number()) >> rest
+}
+
+/// The same as `any_within`, of rows in order of the address of their interface.
+pub fn any_rising_within(rows: &[Link], prefix: Prefix) -> bool
+    requires { IsNonDecreasingBy (λ l. l.local) rows.now }
+    ensures yes { result ≡ true
+        → (at : ℕ) × (at < length rows.now) × HoldsAt (λ l. Covers prefix l.local) rows.now at }
+    ensures no { result ≡ false → All (λ l. ¬ Covers prefix l.local) rows.now }
+{
+    if rows.is_empty() {
+        return false;
+    }
+    let (first, last) = (rows[0].local, rows[rows.len() - 1].local);
+    may_cover(prefix, first, last) && any_within(rows, prefix)
+}
+
+/// Puts the link in at an index. There is room, so this takes no memory and can't fail.
+fn insert_within(rows: &mut Vec<Link>, at: usize, link: Link)
+    requires bound { at ≤ vec_len rows.old }
+    requires room { vec_len rows.old < vec_capacity rows.old }
+    ensures items { rows.new.items ≡ insert rows.old.items at link }
+    ensures len { vec_len rows.new ≡ vec_len rows.old + 1 }
+    ensures capacity { vec_capacity rows.old ≤ vec_capacity rows.new }
+{
+    let _ = rows.insert(at, link);
+}
+
+/// Puts the link in place of the row with its key, or between the lower keys and the higher ones,
+/// and says at which index.
+pub fn put(rows: &mut Vec<Link>, link: Link) -> Result<usize, usize>
+    requires by_key { AreByKey rows.old.items }
+    requires room { vec_len rows.old < vec_capacity rows.old }
+    ensures changed { database_of rows.new.items
+        ≡ after_change (database_of rows.old.items) (Change.Put link) }
+    ensures by_key { AreByKey rows.new.items }
+    ensures longer { vec_len rows.new ≤ vec_len rows.old + 1 }
+    ensures capacity { vec_capacity rows.old ≤ vec_capacity rows.new }
+    ensures within { IfOk result (λ at. at < length rows.old.items) }
+    ensures over { IfOk result (λ at. rows.new.items ≡ slice_set rows.old.items at link) }
+    ensures upto { IfErr result (λ at. at ≤ length rows.old.items) }
+    ensures between { IfErr result (λ at. rows.new.items ≡ insert rows.old.items at link) }
+{
+    match search(rows, link.from, link.local) {
+        Ok(at) => {
+            rows[at] = link;
+            Ok(at)
+        }
+        Err(at) => {
+            insert_within(rows, at, link);
+            Err(at)
+        }
+    }
+}
+
+/// Takes out the row with this key, if there is one, and says at which index.
+pub fn remove(rows: &mut Vec<Link>, from: Addr, local: Addr) -> Option<usize>
+    requires { AreByKey rows.old.items }
+    ensures changed { database_of rows.new.items
+        ≡ after_change (database_of rows.old.items) (Change.Remove from local) }
+    ensures by_key { AreByKey rows.new.items }
+    ensures longer { vec_len rows.new ≤ vec_len rows.old }
+    ensures capacity { vec_capacity rows.old ≤ vec_capacity rows.new }
+    ensures bound { IfSome result (λ at. at < length rows.old.items) }
+    ensures out { IfSome result (λ at. rows.new.items ≡ without rows.old.items at) }
+    ensures same { IfNone result (rows.new.items ≡ rows.old.items) }
+{
+    if let Some(at) = index_of(rows, from, local) {
+        let _ = rows.remove(at);
+        return Some(at);
+    }
+    None
+}

@@ -1,0 +1,130 @@
+//! What the changes of a batch do to the number of links and of routers, by one search for each.
+ghost use Rattle.std.specs.Prelude.{count_by, ◌≡◌, ◌*◌, ◌<◌, ◌≤◌, cond, [], ◌∷◌, All, Contains, length, IfOk, IfErr, IfSome, IfNone};
+ghost use Rattle.std.specs.List.{HoldsAt, AllWithin};
+ghost use Rattle.cspf_db.specs.Index.{router_list};
+ghost use Rattle.cspf_db.specs.Changes.{IsPresent};
+ghost use Rattle.cspf_db.specs.Tables.CountedEnds.{HasListedEnds, BringsAtMost};
+ghost use Rattle.cspf_db.specs.Refusals.{RemovesNothing};
+ghost use Rattle.cspf_db.specs.Tables.Rows.{database_of, AreRising, AreByKey};
+ghost use Rattle.cspf_db.specs.Tables.RowsLeft.{adds_link};
+ghost use Rattle.cspf_db.specs.declared.limits.TheConstants.{MOST_CHANGES};
+
+use crate::table::router_list::is_among;
+use crate::table::table_rows::index_of;
+use crate::{Change, Link};
+use cspf_addr::Addr;
+
+/// How many links changes put where there is none, and how many ends of the links that they put are
+/// not among the routers. An end of several links is counted for each.
+#[derive(Clone, Copy)]
+pub struct Tally {
+    /// How many links are put where there is none.
+    pub added: usize,
+    /// How many ends are not among the routers.
+    pub brought: usize,
+}
+
+/// 0 where the router is among them, and else 1.
+fn count_new(routers: &[Addr], router: Addr) -> usize
+    requires { AreRising routers.now }
+    ensures few { result ≤ 1 }
+    ensures none { result ≡ 0 → Contains routers.now router }
+{
+    if is_among(routers, router) { 0 } else { 1 }
+}
+
+/// 0 where the router that the link runs to is among the routers, as it is where the row at the index
+/// runs to it too, and else 1.
+fn count_new_end(rows: &[Link], routers: &[Addr], at: usize, link: &Link) -> usize
+    requires by_key { AreByKey rows.now }
+    requires all { routers.now ≡ router_list (database_of rows.now) }
+    requires bound { at < length rows.now }
+    ensures few { result ≤ 1 }
+    ensures none { result ≡ 0 → Contains routers.now link.now.to }
+{
+    if rows[at].to == link.to {
+        0
+    } else {
+        count_new(routers, link.to)
+    }
+}
+
+/// What a put does.
+fn tally_put(rows: &[Link], routers: &[Addr], link: &Link) -> Tally
+    requires by_key { AreByKey rows.now }
+    requires all { routers.now ≡ router_list (database_of rows.now) }
+    ensures added { result.added
+        ≡ cond (adds_link (database_of rows.now) (Change.Put link.now)) 1 0 }
+    ensures one { result.added ≤ 1 }
+    ensures few { result.brought ≤ 2 }
+    ensures most { BringsAtMost routers.now (Change.Put link.now ∷ []) result.brought }
+    ensures listed { result.brought ≡ 0 → HasListedEnds routers.now (Change.Put link.now) }
+{
+    match index_of(rows, link.from, link.local) {
+        Some(at) => Tally {
+            added: 0,
+            brought: count_new_end(rows, routers, at, link),
+        },
+        None => Tally {
+            added: 1,
+            brought: count_new(routers, link.from) + count_new(routers, link.to),
+        },
+    }
+}
+
+/// What a change does. It is none where a link is removed that isn't there.
+fn tally_one(rows: &[Link], routers: &[Addr], change: &Change) -> Option<Tally>
+    requires by_key { AreByKey rows.now }
+    requires all { routers.now ≡ router_list (database_of rows.now) }
+    ensures absent { IfNone result (RemovesNothing (database_of rows.now) change.now) }
+    ensures present { IfSome result (λ _. IsPresent (database_of rows.now) change.now) }
+    ensures added { IfSome result (λ tally. tally.added
+        ≡ cond (adds_link (database_of rows.now) change.now) 1 0) }
+    ensures one { IfSome result (λ tally. tally.added ≤ 1) }
+    ensures few { IfSome result (λ tally. tally.brought ≤ 2) }
+    ensures most { IfSome result
+        (λ tally. BringsAtMost routers.now (change.now ∷ []) tally.brought) }
+    ensures listed { IfSome result
+        (λ tally. tally.brought ≡ 0 → HasListedEnds routers.now change.now) }
+{
+    match change {
+        Change::Put(link) => Some(tally_put(rows, routers, link)),
+        Change::Remove { from, local } => {
+            if index_of(rows, *from, *local).is_none() {
+                return None;
+            }
+            Some(Tally {
+                added: 0,
+                brought: 0,
+            })
+        }
+    }
+}
+
+/// What the changes do. Else the index of the first removal of a link that isn't there.
+pub fn tally_all(rows: &[Link], routers: &[Addr], changes: &[Change]) -> Result<Tally, usize>
+    requires by_key { AreByKey rows.now }
+    requires all { routers.now ≡ router_list (database_of rows.now) }
+    requires short { length changes.now ≤ MOST_CHANGES }
+    ensures bound { IfErr result (λ at. at < length changes.now) }
+    ensures absent { IfErr result (HoldsAt (RemovesNothing (database_of rows.now)) changes.now) }
+    ensures before { IfErr result (AllWithin (IsPresent (database_of rows.now)) changes.now 0) }
+    ensures present { IfOk result (λ _. All (IsPresent (database_of rows.now)) changes.now) }
+    ensures added { IfOk result (λ tally. tally.added
+        ≡ count_by (adds_link (database_of rows.now)) changes.now) }
+    ensures few { IfOk result (λ tally. tally.brought ≤ 2 * length changes.now) }
+    ensures most { IfOk result (λ tally. BringsAtMost routers.now changes.now tally.brought) }
+    ensures listed { IfOk result
+        (λ tally. tally.brought ≡ 0 → All (HasListedEnds routers.now) changes.now) }
+{
+    let mut added = 0;
+    let mut brought = 0;
+    for (at, change) in changes.iter().enumerate() {
+        let Some(one) = tally_one(rows, routers, change) else {
+            return Err(at);
+        };
+        added += one.added;
+        brought += one.brought;
+    }
+    Ok(Tally { added, brought })
+}

@@ -1,0 +1,67 @@
+-- The test of `database_with` tells exactly whether the batch fits.
+use Rattle.std.proofs.Common.{◌≡◌, ℕ, ◌≤◌, Bool, true, false, not, cond, nat_le, List, [], ◌∷◌, length, map, refl, ap, Decides}
+use Rattle.std.specs.List.{list_all, IsDistinct, AllByRecursion}
+use Rattle.std.specs.Ordering.{eq_by_cmp}
+use Rattle.std.proofs.lemmas.Bool.{leb-true, le-leb}
+use Rattle.std.proofs.lemmas.Bool.Decides.{not_from_Decides, Decides-and, Decides-like, Decides-by_and}
+use Rattle.cspf_db.specs.declared.limits.TheConstants.{MOST_CHANGES, MOST_LINKS, MOST_ROUTERS}
+use Rattle.cspf_db.specs.declared.batch.Change.{Change}
+use Rattle.cspf_db.specs.declared.batch.Change.TheVariants.{Put, Remove}
+use Rattle.cspf_db.specs.Numbered.{NumberedChanges}
+use Rattle.cspf_db.specs.Database.{Database, Key, key_cmp, link_count, router_count}
+use Rattle.cspf_db.specs.Changes.{key_changed, after_changes, IsPresent, Fits}
+use Rattle.cspf_publish.specs.BatchAbsorption.{are_distinct, is_present, is_fitting, database_with}
+
+not-Decides : (b : Bool) → Decides (not b) (b ≡ false)
+not-Decides true = (λ e. absurd cc, λ e. absurd cc)
+not-Decides false = (λ _. refl, λ _. refl)
+
+nat_le-Decides : (a b : ℕ) → Decides (nat_le a b) (a ≤ b)
+nat_le-Decides a b = (leb-true a b, le-leb a b)
+
+-- whether the key isn't among the others
+other_keys-Decides : (k : Key) (ks : List Key)
+    → Decides (list_all (λ j. not (eq_by_cmp key_cmp k j)) ks) (AllByRecursion (λ j. eq_by_cmp key_cmp k j ≡ false) ks)
+other_keys-Decides k [] = (λ _. tt, λ _. refl)
+other_keys-Decides k (j ∷ js) = Decides-and (not (eq_by_cmp key_cmp k j)) _ (not-Decides (eq_by_cmp key_cmp k j)) (other_keys-Decides k js)
+
+are_distinct-Decides : (ks : List Key) → Decides (are_distinct ks) (IsDistinct (eq_by_cmp key_cmp) ks)
+unfolding IsDistinct
+are_distinct-Decides [] = (λ _. tt, λ _. refl)
+are_distinct-Decides (k ∷ ks) = Decides-and _ (are_distinct ks) (other_keys-Decides k ks) (are_distinct-Decides ks)
+
+is_present-Decides : (d : Database) (c : Change) → Decides (is_present d c) (IsPresent d c)
+is_present-Decides d (Put l) = (λ _. tt, λ _. refl)
+is_present-Decides d (Remove from local) = (λ is. is, λ is. is)
+
+is_fitting-Decides : (d : Database) (b : NumberedChanges) → Decides (is_fitting d b) (Fits d b)
+is_fitting-Decides d b =
+    let present = Decides-by_and (is_present d) (IsPresent d) (list_all (is_present d)) (is_present-Decides d) refl (λ _ _. refl) b.changes in
+    let all = Decides-and _ _ (nat_le-Decides (length b.changes) MOST_CHANGES)
+    (Decides-and _ _ (are_distinct-Decides (map key_changed b.changes))
+    (Decides-and _ _ present
+    (Decides-and _ _ (nat_le-Decides (link_count (after_changes d b.changes)) MOST_LINKS) (nat_le-Decides (router_count (after_changes d b.changes)) MOST_ROUTERS)))) in
+    Decides-like (is_fitting d b)
+    (λ p. record { short = p.0; once = p.1.0; present = p.1.1.0; links = p.1.1.1.0; routers = p.1.1.1.1 })
+    (λ (f : Fits d b). (f.short, (f.once, (f.present, (f.links, f.routers))))) all
+
+pub database_with-Fits : (d : Database) (b : NumberedChanges) → Fits d b → database_with d b ≡ after_changes d b.changes
+database_with-Fits d b f = ap (λ t. cond t (after_changes d b.changes) d) ((is_fitting-Decides d b).1 f)
+
+-- a database with the batch's changes where it fits, and as it was where it doesn't
+pub is_database_with : (d e : Database) (b : NumberedChanges)
+    → (Fits d b → e ≡ after_changes d b.changes) → ((¬ Fits d b) → e ≡ d) → e ≡ database_with d b
+is_database_with d e b fits unfit =
+    let by_test : (t : Bool) → is_fitting d b ≡ t → e ≡ cond t (after_changes d b.changes) d = λ t. elim t as (λ t. is_fitting d b ≡ t → e ≡ cond t (after_changes d b.changes) d) [
+      | true ↦ λ is. fits ((is_fitting-Decides d b).0 is)
+      | false ↦ λ is. unfit (not_from_Decides (is_fitting d b) (is_fitting-Decides d b) is)
+    ] in
+    by_test (is_fitting d b) refl
+
+cond-same : (t : Bool) (d : Database) → cond t d d ≡ d
+cond-same true d = refl
+cond-same false d = refl
+
+-- a batch without changes changes nothing
+pub database_with-nothing : (d : Database) (number : ℕ) → database_with d (record { number = number; changes = [] }) ≡ d
+database_with-nothing d number = cond-same (is_fitting d (record { number = number; changes = [] })) d

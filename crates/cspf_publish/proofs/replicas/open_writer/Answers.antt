@@ -1,0 +1,12 @@
+use Rattle.std.proofs.Common.{◌≡◌, ◌∙◌, ap, fold, true}
+use Rattle.cspf_publish.specs.ReplicaStates.{ReplicaState, state_with}
+use Rattle.cspf_publish.specs.declared.replica.PendingBatch.{PendingBatch}
+use Rattle.cspf_publish.proofs.Steps.{opens, idle_twice}
+use Rattle.cspf_publish.proofs.replicas.open_writer.Goals as goal
+
+pub publish_as-writer-requires : goal.publish_as-writer-requires
+publish_as-writer-requires g c next is =
+    let shown : ReplicaState = c.args.writer.desk.shown.value in
+    let step : ReplicaState → PendingBatch → ReplicaState = λ s p. state_with s p.batch p.known in
+    let new : next ≡ record { database = shown.database; known = shown.known; is_open = true } = is ∙ (ap (fold step shown) c.requires.pending ∙ idle_twice shown) in
+    opens _ _ shown next (ap (λ (s : ReplicaState). s.is_open) c.requires.empty) (ap (λ (s : ReplicaState). s.is_open) new) (ap (λ (s : ReplicaState). s.database) new) (ap (λ (s : ReplicaState). s.known) new)

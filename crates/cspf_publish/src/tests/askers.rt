@@ -1,0 +1,144 @@
+//! Askers that are told of versions, that are not, and that go to another thread.
+ghost use Rattle.std.specs.Prelude.{◌≡◌};
+
+use super::fixtures::{
+    ONE, TWO, apply_empty, batch_and_request, first_batch, opened, request, route_of,
+};
+use crate::{Answer, AskError, Asker, Publisher, Told, open};
+use cspf_db::{Batch, Request};
+use cspf_search::Outcome;
+use std::alloc::Global;
+use std::io::Write;
+use std::process::Abort;
+use std::sync::Wait;
+use std::test::Fail;
+use std::thread;
+use std::thread::Threads;
+
+/// Whether the answer to request 8 is that there is no route at version 2.
+fn has_no_route(answer: &Result<Answer, AskError>) -> bool {
+    match answer {
+        Ok(answer) => {
+            answer.id == 8 && answer.version == 2 && matches!(answer.outcome, Outcome::NoRoute)
+        }
+        Err(_) => false,
+    }
+}
+
+/// A publisher without a batch, and its two askers.
+fn opened_for_two<R: Wait + Abort>(rt: &R, alloc: Global) -> (Publisher<Vec<u8>>, Asker, Asker)
+    ensures first { result.1.source ≡ result.0.source }
+    ensures second { result.2.source ≡ result.0.source }
+{
+    match open(rt, alloc, Vec::<u8>::new(alloc), 2) {
+        Ok((publisher, mut askers)) => match (askers.pop(), askers.pop()) {
+            (Some(second), Some(first)) => (publisher, first, second),
+            _ => panic!(rt; "no askers"),
+        },
+        Err(_) => panic!(rt; "no publisher"),
+    }
+}
+
+/// Publishes a batch and an empty one behind it. An asker is told of the first, of the second, and
+/// of the first once more: the versions that are told, and the one that it knows after each.
+fn told_out_of_order<W: Write, R: Wait>(
+    rt: &R,
+    alloc: Global,
+    publisher: &mut Publisher<W>,
+    asker: &mut Asker,
+    first: &Batch,
+) -> ((u32, u32, u32), (u32, u32, u32))
+    requires { asker.old.source ≡ publisher.old.source }
+    ensures { publisher.new.source ≡ publisher.old.source }
+{
+    let _ = publisher.apply(rt, alloc, first);
+    let t1 = publisher.tell();
+    let t2 = publisher.tell();
+    let _ = apply_empty(rt, alloc, publisher, 2);
+    let t3 = publisher.tell();
+    let told = (t1.version(), t2.version(), t3.version());
+    asker.learn(t1);
+    (told, (asker.seen(), asker.meet(t3), asker.meet(t2)))
+}
+
+/// An asker that nobody tells asks at version 2: whether it is answered at that version, and what it
+/// knows before and after.
+fn asked_untold(alloc: Global, asker: &mut Asker, request: &Request) -> (u32, bool, u32)
+    ensures { asker.new.source ≡ asker.old.source }
+{
+    let before = asker.seen();
+    let answer = asker.ask(alloc, request);
+    (before, has_no_route(&answer), asker.seen())
+}
+
+/// One asker is told of versions in and out of order, the other asks untold.
+fn tells_and_asks<R: Wait + Abort>(rt: &R, alloc: Global, first: &Batch, request: &Request) {
+    let (mut publisher, mut asker, mut untold) = opened_for_two(rt, alloc);
+    let versions = told_out_of_order(rt, alloc, &mut publisher, &mut asker, first);
+    let asked = asked_untold(alloc, &mut untold, request);
+    let last = untold.meet(publisher.tell());
+    publisher.close(rt);
+    assert!(rt; versions == ((1, 1, 2), (1, 2, 2)) && asked == (0, true, 2) && last == 2);
+    let closed = untold.ask(alloc, request);
+    assert!(rt; matches!(closed, Err(AskError::NoEntry)) || has_no_route(&closed));
+}
+
+#[test]
+fn told_and_untold(rt: HostRuntime) -> Result<(), Fail> {
+    let first = first_batch(rt.alloc())?;
+    let back = request(8, TWO, ONE, 1)?;
+    tells_and_asks(&rt, rt.alloc(), &first, &back);
+    Ok(())
+}
+
+/// Learns what was told, and asks, on another thread.
+fn asked_elsewhere<R: Threads>(
+    rt: &R,
+    alloc: Global,
+    asker: Asker,
+    told: Told,
+    request: Request,
+) -> (Asker, Result<Answer, AskError>, u32)
+    requires { told.source ≡ asker.source }
+    ensures { result.0.source ≡ asker.source }
+{
+    thread::join(
+        rt,
+        move || -> (Asker, Result<Answer, AskError>, u32)
+            requires { told.source ≡ asker.source }
+            ensures { result.0.source ≡ asker.source }
+        {
+            let mut asker = asker;
+            asker.learn(told);
+            let answer = asker.ask(alloc, &request);
+            let seen = asker.seen();
+            (asker, answer, seen)
+        },
+        || {},
+    )
+    .0
+}
+
+/// An asker goes to another thread and back.
+fn goes_and_comes_back<R: Threads + Wait + Abort>(
+    rt: &R,
+    alloc: Global,
+    first: &Batch,
+    request: Request,
+) {
+    let (mut publisher, asker) = opened(rt, alloc, Vec::<u8>::new(alloc));
+    let applied = publisher.apply(rt, alloc, first);
+    let told = publisher.tell();
+    let (mut asker, answer, seen) = asked_elsewhere(rt, alloc, asker, told, request);
+    let met = asker.meet(publisher.tell());
+    publisher.close(rt);
+    assert!(rt; applied == Ok(1) && seen == 1 && met == 1);
+    assert!(rt; route_of(&answer) == Some((7, 1, 10, 1)));
+}
+
+#[test]
+fn asked_on_another_thread(rt: HostRuntime) -> Result<(), Fail> {
+    let (first, request) = batch_and_request(rt.alloc())?;
+    goes_and_comes_back(&rt, rt.alloc(), &first, request);
+    Ok(())
+}

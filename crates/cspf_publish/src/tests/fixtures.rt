@@ -1,0 +1,147 @@
+//! What the tests share: batches, requests, publishers, and a writer that fails.
+ghost use Rattle.std.specs.Prelude.{◌≡◌};
+
+use crate::{Answer, ApplyError, AskError, Asker, Publisher, open};
+use cspf_addr::{Addr, Hops, Mask};
+use cspf_db::{Batch, Change, Link, LinkError, Request, RequestError};
+use cspf_search::Outcome;
+use std::alloc::{AllocError, Global};
+use std::io;
+use std::io::{ErrorKind, Write};
+use std::process::Abort;
+use std::sync::Wait;
+use std::test::Fail;
+
+pub(super) const ONE: u32 = 0x01010101; // 1.1.1.1
+
+pub(super) const TWO: u32 = 0x02020202; // 2.2.2.2
+
+/// The text of batch 1 with `put_of_row`, 102 bytes.
+pub(super) const TEXT: &[u8] = b"put,1.1.1.1,10.0.12.1,2.2.2.2,10.0.12.2,10,0x00000001,\
+1000,1000,1000,1000,1000,1000,1000,1000\nend,1,1\n";
+
+/// A link of metric 10 with 1,000 bytes per second unreserved, from 1.1.1.1 by 10.0.12.1 to
+/// 2.2.2.2.
+pub(super) fn only_link() -> Result<Link, LinkError> {
+    let (from, local) = (Addr::new(ONE), Addr::new(0x0a000c01));
+    let (to, remote) = (Addr::new(TWO), Addr::new(0x0a000c02));
+    Link::new(from, local, to, remote, 10, Mask::new(1), [1000; 8])
+}
+
+pub(super) fn batch(alloc: Global, number: u32, changes: &[Change]) -> Result<Batch, AllocError> {
+    Ok(Batch {
+        number,
+        changes: Vec::from_slice(alloc, changes)?,
+    })
+}
+
+/// Batch 1, which puts the link.
+pub(super) fn first_batch(alloc: Global) -> Result<Batch, Fail> {
+    Ok(batch(alloc, 1, &[Change::Put(only_link()?)])?)
+}
+
+/// The batch with this number and without a change.
+pub(super) fn empty_batch(alloc: Global, number: u32) -> Batch {
+    Batch {
+        number,
+        changes: Vec::new(alloc),
+    }
+}
+
+/// Batch 1, and request 7, which asks for its link.
+pub(super) fn batch_and_request(alloc: Global) -> Result<(Batch, Request), Fail> {
+    Ok((first_batch(alloc)?, request(7, ONE, TWO, 1000)?))
+}
+
+/// What a publisher answers to the batch with this number and without a change.
+pub(super) fn apply_empty<W: Write, R: Wait>(
+    rt: &R,
+    alloc: Global,
+    publisher: &mut Publisher<W>,
+    number: u32,
+) -> Result<u32, ApplyError>
+    ensures { publisher.new.source ≡ publisher.old.source }
+{
+    let empty = empty_batch(alloc, number);
+    publisher.apply(rt, alloc, &empty)
+}
+
+/// A publisher without a batch, and its one asker.
+pub(super) fn opened<W: Write + Drop, R: Wait + Abort>(
+    rt: &R,
+    alloc: Global,
+    journal: W,
+) -> (Publisher<W>, Asker)
+    ensures { result.1.source ≡ result.0.source }
+{
+    match open(rt, alloc, journal, 1) {
+        Ok((publisher, mut askers)) => match askers.pop() {
+            Some(asker) => (publisher, asker),
+            None => panic!(rt; "no asker"),
+        },
+        Err(_) => panic!(rt; "no publisher"),
+    }
+}
+
+/// The id and the version of an answer, and the cost and the number of links of its route.
+pub(super) fn route_of(answer: &Result<Answer, AskError>) -> Option<(u64, u32, u64, usize)> {
+    match answer {
+        Ok(answer) => match &answer.outcome {
+            Outcome::Route(route) => {
+                Some((answer.id, answer.version, route.cost(), route.links().len()))
+            }
+            _ => None,
+        },
+        Err(_) => None,
+    }
+}
+
+/// A request for a bandwidth at the highest priority, on links of any groups.
+pub(super) fn request(
+    id: u64,
+    from: u32,
+    to: u32,
+    bandwidth: u64,
+) -> Result<Request, RequestError> {
+    let (from, to) = (Addr::new(from), Addr::new(to));
+    let any = Mask::new(0);
+    Request::new(id, from, to, 0, bandwidth, any, any, any, Hops::none())
+}
+
+/// Takes a byte a write, until it holds as many as it may. Then it fails once, or takes none once.
+/// After that it takes all.
+#[derive(Drop)]
+pub(super) struct Narrow {
+    pub held: Vec<u8>,
+    pub most: usize,
+    pub fault: Option<ErrorKind>,
+}
+
+/// A writer that holds nothing.
+pub(super) fn empty_writer(alloc: Global, most: usize, fault: Option<ErrorKind>) -> Narrow {
+    Narrow {
+        held: Vec::new(alloc),
+        most,
+        fault,
+    }
+}
+
+impl Write for Narrow {
+    fn write(&mut self, buf: &[u8]) -> io::Result<usize> {
+        if self.held.len() >= self.most {
+            self.most = usize::MAX;
+            return self.fault.map_or(Ok(0), |kind| Err(io::Error::from(kind)));
+        }
+        let Some(&byte) = buf.first() else {
+            return Ok(0);
+        };
+        match self.held.push(byte) {
+            Ok(()) => Ok(1),
+            Err(_) => Err(io::Error::from(ErrorKind::OutOfMemory)),
+        }
+    }
+
+    fn flush(&mut self) -> io::Result<()> {
+        Err(io::Error::from(ErrorKind::Unsupported))
+    }
+}

@@ -1,0 +1,168 @@
+-- The lines of a live run, and what its journal holds.
+use Rattle.std.proofs.Common.{◌≡◌, ℕ, ◌+◌, ◌<◌, ◌≤◌, false, Option, Some, None, IfSome, Result, Ok, Err, IfOk, List, [], ◌++◌, take, get_or, length, slice_get, inl, inr, refl, sym, ap, ◌∙◌, subst, append_assoc, arith, true}
+use Rattle.std.proofs.KnownBytes.{Appends-nil, Appends-trans}
+use Rattle.std.proofs.lemmas.List.{length-take-le}
+use Rattle.std.proofs.lemmas.Bool.{cases_lt}
+use Rattle.std.proofs.lemmas.Option.{slice_get_within, get_or_from_slice_get}
+use Rattle.std.specs.Io.KnownBytes.{Appends}
+use Rattle.std.specs.List.{flat_map}
+use Rattle.cspf_db.specs.declared.request.Request.{Request}
+use Rattle.cspf_db.specs.Numbered.{NumberedChanges}
+use Rattle.cspf_db.specs.Changes.{database_after, Fits}
+use Rattle.cspf_db.specs.Refusals.{IsRefusal}
+use Rattle.cspf_publish.specs.ApplyErrors.{IsApplyError}
+use Rattle.cspf_publish.specs.Histories.{IsHistory}
+use Rattle.cspf_publish.specs.PublisherStates.{PublisherState}
+use Rattle.cspf_publish.specs.declared.answer.Answer.{Answer}
+use Rattle.cspf_publish.specs.declared.errors.ApplyError.{ApplyError}
+use Rattle.cspf_publish.specs.declared.errors.ApplyError.TheVariants as error
+use Rattle.cspf_rows.specs.BatchText.{batch_text}
+use Rattle.cspf_rows.specs.Journal.{AreNumberedFrom}
+use Rattle.cspf_rows.specs.Records.{rows_of}
+use Rattle.cspf_work.specs.Served.{AreAnswersWithin}
+use Rattle.cspf_work.specs.Applied.{AreApplied, IsAppliedUpTo, IsEndOfApplying}
+use Rattle.cspf_serve.specs.AnswerLines.{AreAnswerLines}
+use Rattle.cspf_serve.specs.BatchRun.{AreBatchesOf, AreRequestsOf}
+use Rattle.cspf_serve.specs.EarlyEnds.{Writes, IfRefused, IsRefusalWritten}
+use Rattle.cspf_serve.specs.declared.streams.error.RunError.{RunError}
+use Rattle.cspf_serve.specs.declared.streams.early_end.EarlyEnd.{EarlyEnd}
+use Rattle.cspf_serve.specs.declared.streams.early_end.EarlyEnd.TheVariants as early_end
+use Rattle.cspf_serve.specs.LiveRun.{IsWhyNot, begun_text, IsEndOfLiveRun, AreAnsweredLive, AreInputsRefused, IsLiveRun}
+use Rattle.cspf_serve.specs.LiveLines.{IsFaultShown, AreLiveLines}
+use Rattle.cspf_serve.specs.LiveWords.{applied_line}
+use Rattle.cspf_serve.proofs.AnswerLines.{replies_within}
+use Rattle.cspf_serve.proofs.BatchLines.{numbers_of}
+use Rattle.cspf_serve.proofs.PublishedLines.{number_at}
+
+-- the replies are written, then how many batches were applied, and then the last line
+pub live_written : (answers : List Answer) (batches : List NumberedChanges) (applied : ℕ) (fault : Option ApplyError) (status : ℕ) (old mid next new : Option (List ℕ))
+    → Writes old mid (AreAnswerLines answers) → Appends mid next (applied_line applied)
+    → Writes next new (λ line. IsFaultShown (slice_get batches applied) fault line status) → Writes old new (AreLiveLines answers batches applied fault status)
+live_written answers batches applied fault status old mid next new replies count last = (
+  replies.0 ++ (applied_line applied ++ last.0),
+  (replies.0, last.0, replies.1, last.1, sym (append_assoc replies.0 (applied_line applied) last.0)),
+  Appends-trans old mid new replies.0 (applied_line applied ++ last.0) replies.2 (Appends-trans mid next new (applied_line applied) last.0 count last.2),
+)
+
+-- ---- the end of the run
+
+same_journal : {J : Type 0} (contents : J → Option (List ℕ)) (p after : PublisherState J) → after ≡ p → Appends (contents p.journal) (contents after.journal) []
+same_journal {J} contents p after same =
+    subst (λ (x : PublisherState J). Appends (contents p.journal) (contents x.journal) []) (sym same) (Appends-nil (contents p.journal))
+
+fits_there : {J : Type 0} (published : List NumberedChanges) (p : PublisherState J) (b : NumberedChanges) → p.batches ≡ published
+    → Fits (database_after p.batches) b → Fits (database_after published) b
+fits_there published p b is fits = subst (λ (bs : List NumberedChanges). Fits (database_after bs) b) is fits
+
+-- a batch with the next number isn't published for its changes, for memory or for a fault of the journal
+why_not : {J : Type 0} (contents : J → Option (List ℕ)) (published : List NumberedChanges) (p after : PublisherState J) (b : NumberedChanges) (e : ApplyError)
+    → p.stopped ≡ false → p.batches ≡ published → b.number ≡ length p.batches + 1 → length p.batches < 1000000 → IsApplyError contents p after b e
+    → IsWhyNot published b e × Appends (contents p.journal) (contents after.journal) (begun_text b e)
+why_not contents published p after b error.Stopped going is number room why = let both : true ≡ false = sym why.0 ∙ going in absurd cc
+why_not contents published p after b error.Exhausted going is number room why = let full = why.1 in absurd (omega arith)
+why_not contents published p after b (error.WrongNumber expected) going is number room why = absurd (why.1 number)
+why_not contents published p after b (error.Refused refusal) going is number room why =
+    (subst (λ (bs : List NumberedChanges). IsRefusal (database_after bs) b refusal) is why.2, same_journal contents p after why.3)
+why_not contents published p after b error.Memory going is number room why =
+    let next = why.0 in
+    (fits_there published p b is next.follows.fits, same_journal contents p after why.1)
+why_not contents published p after b (error.Journal written) going is number room why =
+    let next = why.0 in
+    ((fits_there published p b is next.follows.fits, why.2), why.3)
+
+-- no fault of the journal came before the first refusal
+still_going : {J : Type 0} (contents : J → Option (List ℕ)) (before between : PublisherState J) (batches : List NumberedChanges)
+    → before.stopped ≡ false → AreApplied contents before between batches → between.stopped ≡ false
+still_going {J} contents before between batches fresh is = elim (cases_lt 0 (length batches)) [
+  | inl some ↦ is.going some
+  | inr none ↦ ap (λ (p : PublisherState J). p.stopped) (is.none (omega arith)) ∙ fresh
+]
+
+-- what is left to be said of a live run: the last line, the status, and what the journal holds behind the published batches
+ended : {J : Type 0} (contents : J → Option (List ℕ)) (batches : List NumberedChanges) (between after : PublisherState J) (applied : ℕ) (fault : Option ApplyError)
+    (last : List ℕ) (status : ℕ) → AreNumberedFrom 1 batches → length batches ≤ 1000000 → applied ≤ length batches
+    → between.stopped ≡ false → between.batches ≡ take applied batches → IsEndOfApplying contents between after batches applied fault
+    → IsFaultShown (slice_get batches applied) fault last status
+    → (begun : List ℕ) × IsEndOfLiveRun batches applied last begun status × Appends (contents between.journal) (contents after.journal) begun
+ended contents batches between after applied None last status numbered few inside going is end shown =
+    ([], inl (end.0, shown.0, refl, shown.1), same_journal contents between after end.1)
+ended contents batches between after applied (Some e) last status numbered few inside going is end shown =
+    let next = end.0 in
+    let at : slice_get batches applied ≡ Some next = end.1 in
+    let within = slice_get_within batches applied next at in
+    let size : length between.batches ≡ applied = ap length is ∙ length-take-le applied batches inside in
+    let placed : get_or batches applied next ≡ next = get_or_from_slice_get batches applied next next at in
+    let first = number_at 1 batches applied next numbered within in
+    let number : next.number ≡ length between.batches + 1 = sym (ap (λ (b : NumberedChanges). b.number) placed) ∙ (first ∙ omega arith) in
+    let why = why_not contents (take applied batches) between after next e going is number (omega arith) end.2 in
+    let line : IsFaultShown (Some next) (Some e) last status = subst (λ (b : Option NumberedChanges). IsFaultShown b (Some e) last status) at shown in
+    (begun_text next e, inr (next, e, at, why.0, line.0, refl, line.1), why.1)
+
+-- all that is said of a live run
+pub live_answered : {J : Type 0} (contents : J → Option (List ℕ)) (batches : List NumberedChanges) (requests : List Request) (answers : List Answer)
+    (before after : PublisherState J) (applied version : ℕ) (fault : Option ApplyError) (status : ℕ) (old new : Option (List ℕ))
+    → AreNumberedFrom 1 batches → length batches ≤ 1000000 → before.batches ≡ [] → before.stopped ≡ false
+    → IsAppliedUpTo contents before after batches applied fault → version ≡ length after.batches → IsHistory after.batches
+    → length answers ≡ length requests → AreAnswersWithin after.batches requests answers
+    → Writes old new (AreLiveLines answers batches version fault status)
+    → (lines : List ℕ) × (text : List ℕ) × AreAnsweredLive batches requests lines text status
+    × Appends old new lines × Appends (contents before.journal) (contents after.journal) text
+live_answered {J} contents batches requests answers before after applied version fault status old new numbered few fresh going up is history count within written =
+    let published : after.batches ≡ take applied batches = up.published ∙ ap (λ (bs : List NumberedChanges). bs ++ take applied batches) fresh in
+    let same : version ≡ applied = is ∙ (ap length published ∙ length-take-le applied batches up.inside) in
+    let lines : AreLiveLines answers batches applied fault status written.0 =
+    subst (λ (n : ℕ). AreLiveLines answers batches n fault status written.0) same written.1 in
+    let first = up.first in
+    let between : up.between.batches ≡ take applied batches = first.published ∙ ap (λ (bs : List NumberedChanges). bs ++ take applied batches) fresh in
+    let end = ended contents batches up.between after applied fault lines.1 status numbered few up.inside
+    (still_going contents before up.between (take applied batches) going first) between up.stop lines.3 in (
+      written.0,
+      flat_map batch_text (take applied batches) ++ end.0,
+      record {
+        applied = applied;
+        inside = up.inside;
+        history = subst IsHistory published history;
+        replies = lines.0;
+        answered = replies_within (take applied batches) requests answers lines.0 count (subst (λ (bs : List NumberedChanges). AreAnswersWithin bs requests answers) published within) lines.2;
+        last = lines.1;
+        begun = end.0;
+        end = end.1;
+        written = lines.4;
+        recorded = refl;
+      },
+      written.2,
+      Appends-trans (contents before.journal) (contents up.between.journal) (contents after.journal) (flat_map batch_text (take applied batches)) end.0 first.recorded end.2,
+    )
+
+-- ---- the whole run
+
+-- what is said of a live run over two streams
+abbrev pub IsWrittenLive : Option (List ℕ) → Option (List ℕ) → ℕ → Option (List ℕ) → Option (List ℕ) → Option (List ℕ) → Option (List ℕ) → Type 0
+IsWrittenLive updates requests status old new begun held =
+    IfSome updates (λ kept. IfSome requests (λ asked. (lines : List ℕ) × (text : List ℕ) × IsLiveRun (rows_of kept) (rows_of asked) lines text status
+    × Appends old new lines × Appends begun held text))
+
+-- the streams are read, and the run is over what they say
+pub live_ran : (updates requests : Option (List ℕ)) (bs : List NumberedChanges) (qs : List Request) (r : Result ℕ RunError) (old new begun held : Option (List ℕ))
+    → IfSome updates (λ bytes. AreBatchesOf false (rows_of bytes) bs) → IfSome requests (λ bytes. AreRequestsOf (rows_of bytes) qs)
+    → (AreNumberedFrom 1 bs → IfOk r (λ status. (lines : List ℕ) × (text : List ℕ) × AreAnsweredLive bs qs lines text status
+    × Appends old new lines × Appends begun held text))
+    → IfOk r (λ status. IsWrittenLive updates requests status old new begun held)
+live_ran updates requests bs qs (Err e) old new begun held batches asked ran = tt
+live_ran None requests bs qs (Ok status) old new begun held batches asked ran = tt
+live_ran (Some kept) None bs qs (Ok status) old new begun held batches asked ran = tt
+live_ran (Some kept) (Some rows) bs qs (Ok status) old new begun held batches asked ran =
+    let is = ran (numbers_of false (rows_of kept) bs batches) in
+    (is.0, is.1, inr (bs, qs, batches, asked, is.2), is.3, is.4)
+
+-- the streams are refused
+pub live_refused : (updates requests : Option (List ℕ)) (s : EarlyEnd) (r : Result ℕ RunError) (old new held : Option (List ℕ))
+    → IfRefused s (λ line. IfSome updates (λ kept. IfSome requests (λ asked. AreInputsRefused (rows_of kept) (rows_of asked) line)))
+    → IfOk r (λ status. status ≡ 2) → IfOk r (λ status. IsRefusalWritten s old new)
+    → IfOk r (λ status. IsWrittenLive updates requests status old new held held)
+live_refused updates requests s (Err e) old new held refused two written = tt
+live_refused None requests s (Ok status) old new held refused two written = tt
+live_refused (Some kept) None s (Ok status) old new held refused two written = tt
+live_refused (Some kept) (Some asked) (early_end.Failed error) (Ok status) old new held refused two written = absurd written
+live_refused (Some kept) (Some asked) (early_end.Refused line) (Ok status) old new held refused two written =
+    (line.items, [], inl (refused, refl, two), written, Appends-nil held)

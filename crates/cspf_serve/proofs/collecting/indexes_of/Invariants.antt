@@ -1,6 +1,0 @@
-use Rattle.std.proofs.Common.{◌≡◌, take}
-use Rattle.cspf_serve.specs.Working.{indexes}
-use Rattle.cspf_serve.proofs.collecting.indexes_of.Given as goal
-
-abbrev pub invariant-loop-reply : goal.invariant-loop-reply
-invariant-loop-reply l = l.all.items ≡ indexes (take l.reply-index l.list)

@@ -1,0 +1,52 @@
+use Rattle.std.proofs.Common.{refl, inl, inr, rules}
+use Rattle.std.proofs.lemmas.Result.{IfOk-weaker}
+use Rattle.cspf_db.specs.declared.batch.Change.TheVariants as change
+use Rattle.cspf_serve.specs.Script.{after_change_row, after_batch, after_refused_batch, after_reply}
+use Rattle.cspf_serve.proofs.SolverSteps.{keeps_replied}
+use Rattle.cspf_serve.proofs.solve.solver.Solver.answer_read.Goals as goal
+
+pub returns-in_ok-open-in-Put : goal.returns-in_ok-open-in-Put
+returns-in_ok-open-in-Put c = λ s kept. (
+  after_change_row s (change.Put c.in-Put.link),
+  c.in_ok-open-in-Put.ensures s kept,
+  rw c.in-Put.is (search rules, refl),
+)
+
+pub returns-in_ok-open-in-Remove : goal.returns-in_ok-open-in-Remove
+returns-in_ok-open-in-Remove c = λ s kept. (
+  after_change_row s (change.Remove c.in-Remove.from c.in-Remove.local),
+  c.in_ok-open-in-Remove.ensures s kept,
+  rw c.in-Remove.is (search rules, refl),
+)
+
+pub returns-in-Ok : goal.returns-in-Ok
+returns-in-Ok c =
+    IfOk-weaker c.version_line.result _ _
+    (λ line written. λ s kept.
+    let ended = c.in-Ok.ensures s kept in (
+      after_batch s c.in-End.number,
+      ended.1,
+      rw c.in-End.is (inl (ended.0, written, refl)),
+    ))
+    c.version_line.ensures
+
+pub returns-in-Err : goal.returns-in-Err
+returns-in-Err c =
+    IfOk-weaker c.refused_batch_line.result _ _
+    (λ line written. λ s kept.
+    let ended = c.in-Err.ensures s kept in (
+      after_refused_batch s,
+      ended.2,
+      rw c.in-End.is (inr (c.in-Err.refusal, ended.0, ended.1, written, refl)),
+    ))
+    c.refused_batch_line.ensures
+
+pub returns-in-Ask : goal.returns-in-Ask
+returns-in-Ask c =
+    IfOk-weaker c.reply.result _ _
+    (λ line replied. λ s kept. (
+      after_reply s,
+      keeps_replied c.args.self.now s kept,
+      rw c.in-Ask.is (replied.0, rw kept.table at replied.1, rw kept.version at replied.2, refl),
+    ))
+    c.reply.ensures

@@ -1,0 +1,8 @@
+//! The batches of a journal are published, and then the requests of a stream are answered.
+
+mod laws;
+mod publishing;
+mod run;
+
+pub use laws::lines_of_a_script;
+pub use run::run_batch;

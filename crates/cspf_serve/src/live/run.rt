@@ -1,0 +1,196 @@
+ghost use Rattle.std.specs.Prelude.{◌≡◌, ℕ, ◌<◌, ◌≤◌, ◌⊎◌, List, [], length, All, IfOk, IfErr, IfSome, slice_get, vec_len, false};
+ghost use Rattle.std.specs.Io.KnownBytes.{Appends};
+ghost use Rattle.cspf_publish.specs.Histories.{IsHistory};
+ghost use Rattle.cspf_rows.specs.Journal.{AreNumberedFrom};
+ghost use Rattle.cspf_rows.specs.Records.{rows_of};
+ghost use Rattle.cspf_serve.specs.EarlyEnds.{Writes};
+ghost use Rattle.cspf_serve.specs.LiveRun.{AreAnsweredLive, IsLiveRun};
+ghost use Rattle.cspf_serve.specs.LiveLines.{AreLiveLines, IsFaultShown};
+ghost use Rattle.cspf_serve.specs.RunFaults.{IsStreamFault, IsAnsweringFault, IsRunFault, IsLiveFault};
+ghost use Rattle.cspf_publish.specs.declared.limits.TheConstants.{MOST_ASKERS, MOST_VERSIONS};
+ghost use Rattle.cspf_work.specs.declared.limits.TheConstants.{MOST_REQUESTS};
+
+use crate::live::lines::{applied_line, unpublished_line};
+use crate::streams::input::{Inputs, inputs_of};
+use crate::streams::opening::open_for;
+use crate::streams::output::{put, refuse};
+use crate::streams::replies::write_replies;
+use crate::{Gate, Live, RunError, run_live};
+use cspf_db::{Batch, Request};
+use cspf_publish::{Answer, ApplyError, Asker, Publisher};
+use std::alloc::Global;
+use std::io::{Read, Write};
+use std::sync::Wait;
+use std::thread::Threads;
+
+/// Publishes the batches of updates over a journal while this many workers answer the requests of a
+/// stream: `IsLiveRun`. Both streams are read before. The status is 2 where anything was refused,
+/// and else 0. The journal's writer is handed back. After an error nothing is said of what the two
+/// writers hold. Neither is flushed.
+pub fn run_live_rows<
+    R: Read + Drop,
+    Q: Read + Drop,
+    J: Write,
+    W: Write,
+    G: Gate + Sync,
+    T: Threads + Wait + Sync,
+>(
+    rt: &T,
+    alloc: Global,
+    updates: R,
+    requests: Q,
+    journal: J,
+    writer: &mut W,
+    workers: usize,
+    gate: &G,
+) -> (Result<u8, RunError>, J)
+    requires workers { (0 < workers) × (workers ≤ MOST_ASKERS) }
+    ensures whole { IfOk result.0 (λ status. IfSome (R.remaining updates) (λ kept.
+        IfSome (Q.remaining requests) (λ asked. (lines : List ℕ) × (text : List ℕ)
+        × IsLiveRun (rows_of kept) (rows_of asked) lines text status
+        × Appends (W.contents writer.old) (W.contents writer.new) lines
+        × Appends (J.contents journal) (J.contents result.1) text))) }
+    ensures error { IfErr result.0 (IsLiveFault (Q.remaining requests)) }
+{
+    match inputs_of(alloc, updates, requests) {
+        Ok(read) => {
+            let Inputs { batches, requests } = read;
+            answer_live(
+                rt, alloc, &batches, &requests, journal, writer, workers, gate,
+            )
+        }
+        Err(end) => (refuse(end, writer), journal),
+    }
+}
+
+/// Publishes batches over a journal while workers answer requests.
+fn answer_live<J: Write, W: Write, G: Gate + Sync, T: Threads + Wait + Sync>(
+    rt: &T,
+    alloc: Global,
+    batches: &[Batch],
+    requests: &[Request],
+    journal: J,
+    writer: &mut W,
+    workers: usize,
+    gate: &G,
+) -> (Result<u8, RunError>, J)
+    requires workers { (0 < workers) × (workers ≤ MOST_ASKERS) }
+    requires batches { length batches.now ≤ MOST_VERSIONS }
+    requires requests { length requests.now ≤ MOST_REQUESTS }
+    ensures whole { AreNumberedFrom 1 batches.now → IfOk result.0 (λ status.
+        (lines : List ℕ) × (text : List ℕ)
+        × AreAnsweredLive batches.now requests.now lines text status
+        × Appends (W.contents writer.old) (W.contents writer.new) lines
+        × Appends (J.contents journal) (J.contents result.1) text) }
+    ensures error { IfErr result.0 (IsRunFault
+        (λ index version. (index < length requests.now) × (0 < version))) }
+{
+    match open_for(rt, alloc, journal, workers) {
+        Ok((publisher, askers)) => {
+            answer_opened(
+                rt, alloc, publisher, askers, batches, requests, writer, gate,
+            )
+        }
+        Err((error, journal)) => (Err(error), journal),
+    }
+}
+
+/// Publishes batches by a new publisher while workers answer requests.
+fn answer_opened<J: Write, W: Write, G: Gate + Sync, T: Threads + Wait + Sync>(
+    rt: &T,
+    alloc: Global,
+    publisher: Publisher<J>,
+    askers: Vec<Asker>,
+    batches: &[Batch],
+    requests: &[Request],
+    writer: &mut W,
+    gate: &G,
+) -> (Result<u8, RunError>, J)
+    requires fresh { (publisher.batches ≡ []) × (publisher.stopped ≡ false) }
+    requires askers { (0 < vec_len askers) × (vec_len askers ≤ MOST_ASKERS) }
+    requires source { All (λ a. a.source ≡ publisher.source) askers.items }
+    requires batches { length batches.now ≤ MOST_VERSIONS }
+    requires requests { length requests.now ≤ MOST_REQUESTS }
+    ensures whole { AreNumberedFrom 1 batches.now → IfOk result.0 (λ status. (lines : List ℕ)
+        × (text : List ℕ) × AreAnsweredLive batches.now requests.now lines text status
+        × Appends (W.contents writer.old) (W.contents writer.new) lines
+        × Appends (J.contents publisher.journal) (J.contents result.1) text) }
+    ensures error { IfErr result.0 (λ e. IsStreamFault e ⊎ IsAnsweringFault
+        (λ index version. (index < length requests.now) × (0 < version)) e) }
+{
+    match run_live(rt, alloc, publisher, askers, batches, requests, gate) {
+        Ok(live) => end_live(rt, alloc, live, batches, writer),
+        Err((error, publisher, _askers)) => (Err(RunError::from(error)), publisher.close(rt)),
+    }
+}
+
+/// Writes the lines of what was answered and applied, and ends the publisher.
+fn end_live<J: Write, W: Write, T: Wait>(
+    rt: &T,
+    alloc: Global,
+    live: Live<J>,
+    batches: &[Batch],
+    writer: &mut W,
+) -> (Result<u8, RunError>, J)
+    ensures lines { IfOk result.0 (λ status. Writes (W.contents writer.old) (W.contents writer.new)
+        (AreLiveLines live.list.items batches.now (length live.publisher.batches) live.fault
+        status)) }
+    ensures journal { result.1 ≡ live.publisher.journal }
+    ensures history { IsHistory live.publisher.batches }
+    ensures error { IfErr result.0 IsStreamFault }
+{
+    let Live {
+        publisher,
+        list,
+        drawn: _,
+        askers: _,
+        applied: _,
+        fault,
+    } = live;
+    let version = publisher.version();
+    let written = write_live(alloc, list.as_slice(), batches, version, fault, writer);
+    (written, publisher.close(rt))
+}
+
+/// Writes the lines of a live run, and answers its status.
+fn write_live<W: Write>(
+    alloc: Global,
+    answers: &[Answer],
+    batches: &[Batch],
+    applied: u32,
+    fault: Option<ApplyError>,
+    writer: &mut W,
+) -> Result<u8, RunError>
+    ensures text { IfOk result (λ status. Writes (W.contents writer.old) (W.contents writer.new)
+        (AreLiveLines answers.now batches.now applied fault status)) }
+    ensures error { IfErr result IsStreamFault }
+{
+    write_replies(alloc, answers, writer)?;
+    let line = applied_line(alloc, applied)?;
+    put(&line, writer)?;
+    write_fault(alloc, batches, applied, fault, writer)
+}
+
+/// Writes the line of the batch that wasn't applied, if any, and answers the status.
+fn write_fault<W: Write>(
+    alloc: Global,
+    batches: &[Batch],
+    applied: u32,
+    fault: Option<ApplyError>,
+    writer: &mut W,
+) -> Result<u8, RunError>
+    ensures text { IfOk result (λ status. Writes (W.contents writer.old) (W.contents writer.new)
+        (λ line. IsFaultShown (slice_get batches.now applied) fault line status)) }
+    ensures error { IfErr result IsStreamFault }
+{
+    let Some(error) = fault else {
+        return Ok(0);
+    };
+    let Some(batch) = batches.get(applied as usize) else {
+        // Never: the batch behind those that were applied is the one that wasn't.
+        return Ok(0);
+    };
+    let line = unpublished_line(alloc, batch.number, error)?;
+    put(&line, writer)?;
+    Ok(2)
+}

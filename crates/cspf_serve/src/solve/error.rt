@@ -1,0 +1,45 @@
+use cspf_rows::RecordError;
+use std::alloc::AllocError;
+use thiserror::Error;
+
+/// Why a run stops before the end of its rows.
+#[derive(Clone, Copy, Debug, PartialEq, Eq, Error)]
+pub enum SolveError {
+    /// Memory was refused.
+    #[error("out of memory")]
+    Memory,
+    /// A read failed.
+    #[error("a read failed")]
+    Read,
+    /// A write failed, or took no bytes.
+    #[error("a write failed after {written} bytes")]
+    Write {
+        /// The bytes that the whole run wrote. No run can write too many for this type.
+        written: u128,
+    },
+}
+
+impl From<AllocError> for SolveError {
+    ghost use Rattle.std.specs.Prelude.{◌≡◌};
+    ghost use Rattle.cspf_serve.specs.declared.solve.error.SolveError.TheVariants.{Memory};
+
+    ghost from_gives = { λ _ error. error ≡ Memory };
+
+    fn from(_refused: AllocError) -> SolveError {
+        SolveError::Memory
+    }
+}
+
+impl From<RecordError> for SolveError {
+    ghost use Rattle.std.specs.Prelude.{◌≡◌};
+    ghost use Rattle.cspf_serve.specs.ErrorNames.{solve_error_of};
+
+    ghost from_gives = { λ fault error. error ≡ solve_error_of fault };
+
+    fn from(fault: RecordError) -> SolveError {
+        match fault {
+            RecordError::Memory => SolveError::Memory,
+            RecordError::Device => SolveError::Read,
+        }
+    }
+}

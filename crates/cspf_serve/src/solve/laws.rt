@@ -1,0 +1,23 @@
+ghost use Rattle.cspf_serve.specs.SolveLaws.{HaveOneReply, StopsAtAPrefix};
+
+use cspf_db::{one_best_answer, one_refusal};
+
+/// Law: rows have one reply. Two runs over the same rows write the same lines, and come to the same
+/// summary.
+pub fn rows_have_one_reply()
+    ensures { HaveOneReply }
+{
+    // Laws: a request has one best answer at most, and a batch one refusal.
+    one_best_answer();
+    one_refusal();
+}
+
+/// Law: what a run has written where it stops before its end is a prefix of what the whole run
+/// writes.
+pub fn stops_at_a_prefix()
+    ensures { StopsAtAPrefix }
+{
+    // Laws: a request has one best answer at most, and a batch one refusal.
+    one_best_answer();
+    one_refusal();
+}

@@ -1,0 +1,250 @@
+ghost use Rattle.std.specs.Prelude.{◌≡◌, ℕ, ◌+◌, ◌<◌, ◌≤◌, List, [], ◌∷◌, ◌++◌, take, IfOk, OnOk, MatchResult};
+ghost use Rattle.cspf_db.specs.declared.batch.Change.{Change as Changed};
+ghost use Rattle.cspf_db.specs.Best.{Answer, IsBestAnswer};
+ghost use Rattle.cspf_ero.specs.ReplyLine.{IsReply};
+
+use crate::lines::{
+    refused_batch_line, refused_row_line, too_many_line, unended_line, version_line,
+};
+use crate::{BatchRefusal, Summary};
+use cspf_db::{Batch, Change, MOST_CHANGES, Request, Table, absorbing};
+use cspf_ero::reply_line;
+use cspf_publish::MOST_VERSIONS;
+use cspf_rows::{MOST_ROWS, Row, RowError};
+use cspf_search::best;
+use std::alloc::{AllocError, Global};
+
+/// How many open changes are kept at most: one more than a batch may have, which is refused.
+const KEPT_CHANGES: usize = MOST_CHANGES + 1;
+
+/// What stands between two rows. A stream of any length takes no more memory than this.
+#[derive(Drop)]
+pub(crate) struct Solver {
+    /// The links of the batches that were accepted.
+    table: Table,
+    /// The first of the open changes.
+    batch: Batch,
+    /// The number of all open changes.
+    count: u32,
+    /// The rows that were read.
+    rows: u32,
+    /// The number of the batches that were accepted.
+    version: u32,
+    /// The requests that were answered.
+    answers: u32,
+    /// The rows and batches that were refused.
+    refused: u32,
+}
+
+impl Solver {
+    ghost use Rattle.cspf_serve.specs.Script.{RunState, start, at_next_row, after_change_row, after_batch, after_refused_batch, IsAccepted, IsBatchRefusal, IsRowAnswered, last_line, summary_of};
+    ghost use Rattle.cspf_serve.specs.SolverStates.{Keeps, AreFew};
+
+    /// Version 0, with no links and no open changes.
+    pub(crate) fn new(alloc: Global) -> Result<Solver, AllocError>
+        ensures { IfOk result (λ solver. Keeps solver start) }
+    {
+        Ok(Solver {
+            table: Table::new(alloc)?,
+            batch: Batch {
+                number: 0,
+                changes: Vec::new(alloc),
+            },
+            count: 0,
+            rows: 0,
+            version: 0,
+            answers: 0,
+            refused: 0,
+        })
+    }
+
+    /// Takes one more row, and answers its line: none, an empty one, for a change.
+    pub(crate) fn answer(
+        &mut self,
+        alloc: Global,
+        row: &Result<Row, RowError>,
+    ) -> Result<Vec<u8>, AllocError>
+        requires { AreFew self.old }
+        ensures { IfOk result (λ line. (s : RunState) → Keeps self.old s → (after : RunState)
+            × Keeps self.new after × IsRowAnswered (at_next_row s) row.now line.items after) }
+    {
+        self.rows += 1;
+        match row {
+            Ok(row) => self.answer_read(alloc, row),
+            Err(error) => {
+                self.refused += 1;
+                refused_row_line(alloc, self.rows, *error)
+            }
+        }
+    }
+
+    /// Takes a row that is read, and answers its line.
+    fn answer_read(&mut self, alloc: Global, row: &Row) -> Result<Vec<u8>, AllocError>
+        requires count { self.old.count ≤ MOST_ROWS }
+        requires answers { self.old.answers ≤ MOST_ROWS }
+        requires refused { self.old.refused ≤ MOST_ROWS }
+        ensures { IfOk result (λ line. (s : RunState) → Keeps self.old s → (after : RunState)
+            × Keeps self.new after × IsRowAnswered s (Ok row.now) line.items after) }
+    {
+        match row {
+            Row::Put(link) => {
+                self.open(Change::Put(*link))?;
+                Ok(Vec::new(alloc))
+            }
+            Row::Remove { from, local } => {
+                let change = Change::Remove {
+                    from: *from,
+                    local: *local,
+                };
+                self.open(change)?;
+                Ok(Vec::new(alloc))
+            }
+            Row::End { number, count } => match self.end(*number, *count) {
+                Ok(()) => version_line(alloc, *number),
+                Err(refusal) => refused_batch_line(alloc, *number, refusal),
+            },
+            Row::Ask(request) => {
+                self.answers += 1;
+                self.reply(alloc, request)
+            }
+        }
+    }
+
+    /// One more open change.
+    fn open(&mut self, change: Change) -> Result<(), AllocError>
+        requires { self.old.count ≤ MOST_ROWS }
+        ensures { OnOk result ((s : RunState) → Keeps self.old s
+            → Keeps self.new (after_change_row s change)) }
+    {
+        keep(&mut self.batch.changes, change)?;
+        self.count += 1;
+        Ok(())
+    }
+
+    /// Applies the open changes as the batch with this number and this count, or refuses them. None
+    /// are open afterwards.
+    fn end(&mut self, number: u32, count: u32) -> Result<(), BatchRefusal>
+        requires { self.old.refused ≤ MOST_ROWS }
+        ensures { (s : RunState) → Keeps self.old s → MatchResult result
+            (λ done. IsAccepted s number count × Keeps self.new (after_batch s number))
+            (λ why. (¬ IsAccepted s number count) × IsBatchRefusal s number count why
+            × Keeps self.new (after_refused_batch s)) }
+    {
+        self.batch.number = number;
+        let found = self.fits(count);
+        if found.is_ok() {
+            self.apply();
+        } else {
+            self.refuse();
+        }
+        found
+    }
+
+    /// Whether the open changes are accepted as a batch of so many changes with the number that
+    /// they have, and else the first reason why they aren't.
+    #[tactic(auto, using(crate::proofs::BatchRefusals::refused))]
+    fn fits(&self, count: u32) -> Result<(), BatchRefusal>
+        ensures { (s : RunState) → Keeps self.now s → MatchResult result
+            (λ done. IsAccepted s self.now.batch.number count)
+            (λ why. (¬ IsAccepted s self.now.batch.number count)
+            × IsBatchRefusal s self.now.batch.number count why) }
+    {
+        if self.version >= MOST_VERSIONS {
+            return Err(BatchRefusal::Exhausted);
+        }
+        let expected = self.version + 1;
+        if self.batch.number != expected {
+            return Err(BatchRefusal::WrongNumber { expected });
+        }
+        if count != self.count {
+            return Err(BatchRefusal::WrongCount {
+                counted: self.count,
+            });
+        }
+        match self.table.check(&self.batch) {
+            Ok(()) => Ok(()),
+            Err(why) => Err(BatchRefusal::Unfit(why)),
+        }
+    }
+
+    /// Applies the open changes. None are open afterwards.
+    fn apply(&mut self)
+        ensures { (s : RunState) (count : ℕ) → Keeps self.old s → IsAccepted s self.old.batch.number count
+            → Keeps self.new (after_batch s self.old.batch.number) }
+    {
+        // Law: one more batch makes its changes in the database of the batches before it.
+        absorbing();
+        self.table.absorb(&self.batch);
+        self.version = self.batch.number;
+        self.drop_changes();
+    }
+
+    /// Drops the open changes.
+    fn refuse(&mut self)
+        requires { self.old.refused ≤ MOST_ROWS }
+        ensures { (s : RunState) → Keeps self.old s → Keeps self.new (after_refused_batch s) }
+    {
+        self.drop_changes();
+        self.refused += 1;
+    }
+
+    /// Leaves no change open.
+    fn drop_changes(&mut self)
+        ensures keeps { self.new ≡ record self.old { batch = self.new.batch; count = 0 } }
+        ensures none { self.new.batch.changes ≡ [] }
+    {
+        self.batch.changes.clear();
+        self.count = 0;
+    }
+
+    /// The reply line of a request at the version that is there. Open changes aren't seen.
+    fn reply(&self, alloc: Global, request: &Request) -> Result<Vec<u8>, AllocError>
+        ensures { IfOk result (λ line. (answer : Answer)
+            × IsBestAnswer self.now.table request.now answer
+            × IsReply request.now.id self.now.version answer line.items) }
+    {
+        let outcome = best(alloc, &self.table, request)?;
+        reply_line(alloc, request.id, self.version, &outcome)
+    }
+
+    /// The last line: rows that aren't read come before changes that are still open.
+    pub(crate) fn last_line(&self, alloc: Global, too_many: bool) -> Result<Vec<u8>, AllocError>
+        ensures { IfOk result (λ line. (s : RunState) → Keeps self.now s
+            → line.items ≡ last_line too_many s.changes) }
+    {
+        if too_many {
+            too_many_line(alloc)
+        } else if self.count > 0 {
+            unended_line(alloc, self.count)
+        } else {
+            Ok(Vec::new(alloc))
+        }
+    }
+
+    /// The summary, where the run ends here.
+    pub(crate) fn summary(&self, too_many: bool) -> Summary
+        requires { self.now.refused ≤ MOST_ROWS }
+        ensures { (s : RunState) → Keeps self.now s → result ≡ summary_of s too_many }
+    {
+        let unended = !too_many && self.count > 0;
+        Summary {
+            rows: self.rows,
+            version: self.version,
+            answers: self.answers,
+            refused: self.refused + u32::from(unended),
+            too_many,
+        }
+    }
+}
+
+/// One more change at the end of those that are kept, unless they are as many as are kept.
+fn keep(changes: &mut Vec<Change>, change: Change) -> Result<(), AllocError>
+    ensures { OnOk result ((all : List Changed) → changes.old.items ≡ take KEPT_CHANGES all
+        → changes.new.items ≡ take KEPT_CHANGES (all ++ change ∷ [])) }
+{
+    if changes.len() >= KEPT_CHANGES {
+        return Ok(());
+    }
+    changes.push(change)?;
+    Ok(())
+}

@@ -1,0 +1,58 @@
+use crate::ServeError;
+use cspf_publish::OpenError;
+use std::alloc::AllocError;
+use thiserror::Error;
+
+/// Why a run over a journal or updates and requests stops.
+#[derive(Clone, Copy, Debug, PartialEq, Eq, Error)]
+pub enum RunError {
+    /// Memory was refused.
+    #[error("out of memory")]
+    Memory,
+    /// A read failed, or a write failed or took no bytes.
+    #[error("a read or a write failed")]
+    Device,
+    /// There was no place for a worker's reader.
+    #[error("no place for a reader")]
+    Places,
+    /// The requests aren't answered.
+    #[error("{0}")]
+    Serve(ServeError),
+}
+
+impl From<AllocError> for RunError {
+    ghost use Rattle.std.specs.Prelude.{◌≡◌};
+    ghost use Rattle.cspf_serve.specs.declared.streams.error.RunError.TheVariants.{Memory};
+
+    ghost from_gives = { λ _ error. error ≡ Memory };
+
+    fn from(_refused: AllocError) -> RunError {
+        RunError::Memory
+    }
+}
+
+impl From<OpenError> for RunError {
+    ghost use Rattle.std.specs.Prelude.{◌≡◌};
+    ghost use Rattle.cspf_serve.specs.ErrorNames.{run_error_of};
+
+    ghost from_gives = { λ refused error. error ≡ run_error_of refused };
+
+    fn from(refused: OpenError) -> RunError {
+        match refused {
+            OpenError::Memory => RunError::Memory,
+            // A run has 1 to 64 workers, which are as many as may ask.
+            OpenError::Askers | OpenError::Places => RunError::Places,
+        }
+    }
+}
+
+impl From<ServeError> for RunError {
+    ghost use Rattle.std.specs.Prelude.{◌≡◌};
+    ghost use Rattle.cspf_serve.specs.declared.streams.error.RunError.TheVariants.{Serve};
+
+    ghost from_gives = { λ fault error. error ≡ Serve fault };
+
+    fn from(fault: ServeError) -> RunError {
+        RunError::Serve(fault)
+    }
+}

@@ -1,0 +1,32 @@
+ghost use Rattle.std.specs.Prelude.{◌≡◌, ◌<◌, ◌≤◌, [], All, IfOk, IfErr, vec_len, false};
+ghost use Rattle.cspf_serve.specs.RunFaults.{IsOpeningFault};
+ghost use Rattle.cspf_publish.specs.declared.limits.TheConstants.{MOST_ASKERS};
+
+use crate::RunError;
+use cspf_publish::{Asker, Publisher, open};
+use std::alloc::Global;
+use std::io::Write;
+use std::sync::Wait;
+
+/// A new publisher over a journal, and an asker for each of so many workers.
+#[tactic(auto, using(crate::proofs::AnswerLines::sources_of))]
+pub(crate) fn open_for<J: Write, T: Wait>(
+    rt: &T,
+    alloc: Global,
+    journal: J,
+    workers: usize,
+) -> Result<(Publisher<J>, Vec<Asker>), (RunError, J)>
+    requires { (0 < workers) × (workers ≤ MOST_ASKERS) }
+    ensures publisher { IfOk result (λ opened.
+        (opened.0.batches ≡ []) × (opened.0.stopped ≡ false) × (opened.0.journal ≡ journal)) }
+    ensures source { IfOk result (λ opened.
+        All (λ a. a.source ≡ opened.0.source) opened.1.items) }
+    ensures count { IfOk result (λ opened. vec_len opened.1 ≡ workers) }
+    ensures error { IfErr result (λ e. IsOpeningFault e.0) }
+    ensures journal { IfErr result (λ e. e.1 ≡ journal) }
+{
+    match open(rt, alloc, journal, workers) {
+        Ok(opened) => Ok(opened),
+        Err((refused, journal)) => Err((RunError::from(refused), journal)),
+    }
+}

@@ -1,0 +1,263 @@
+-- Answers in the places of their requests.
+use Rattle.std.proofs.Common.{◌≡◌, ◌≢◌, ℕ, zero, suc, ◌+◌, ◌<◌, ◌⊎◌, true, false, cond, eqb, List, [], ◌∷◌, ◌++◌, length, map, Option, Some, None, get_or, All, Vec, inl, inr, refl, sym, ap, ◌∙◌, subst, arith, rules, IsSome, is_some, append-nil, append_assoc, slice_get, slice_set, sum_by, flat_map}
+use Rattle.std.specs.Global.{Global}
+use Rattle.std.specs.Option.{option_map}
+use Rattle.std.proofs.lemmas.Bool.{cases_Bool, cases_lt, eqb-true, eqb-false, ne_eqb, false≢true}
+use Rattle.std.proofs.lemmas.Bool.Decides.{nat_tests}
+use Rattle.std.proofs.lemmas.List.Elements.{All-push, All-nil, All-cons, All-head, All-tail}
+use Rattle.std.proofs.lemmas.Grind.{flat_map-append}
+use Rattle.std.proofs.lemmas.List.{map-append}
+use Rattle.std.proofs.lemmas.List.Sums.{sum_by-append, sum_by-cons}
+use Rattle.std.proofs.lemmas.Option.{slice_get_within, slice_get-map, slice_get-get_or, slice_get_read}
+use Rattle.cspf_publish.specs.declared.answer.Answer.{Answer}
+use Rattle.cspf_work.specs.declared.serve_error.ServeError.{ServeError}
+use Rattle.cspf_work.specs.declared.serve_error.ServeError.TheVariants.{Memory, Missing, Twice}
+use Rattle.cspf_work.specs.declared.worker.Reply.{Reply}
+use Rattle.cspf_work.specs.Served.{times, once_below}
+use Rattle.cspf_work.specs.Working.{indexes}
+use Rattle.cspf_work.specs.Collected.{AreFilled, IsPlaced, IsTwice, IsCollectError, times_in}
+use Rattle.cspf_work.proofs.Shares.{times-push}
+
+slice_get-set_same : {X : Type 0} (xs : List X) (i : ℕ) (v : X) → i < length xs → slice_get (slice_set xs i v) i ≡ Some v
+slice_get-set_same [] i v less = absurd (omega arith)
+slice_get-set_same (x ∷ xs) zero v less = refl
+slice_get-set_same (x ∷ xs) (suc i) v less = slice_get-set_same xs i v (omega arith)
+
+slice_get-set_other : {X : Type 0} (xs : List X) (i j : ℕ) (v : X) → i ≢ j → slice_get (slice_set xs i v) j ≡ slice_get xs j
+slice_get-set_other [] i j v apart = refl
+slice_get-set_other (x ∷ xs) zero zero v apart = absurd (apart refl)
+slice_get-set_other (x ∷ xs) zero (suc j) v apart = refl
+slice_get-set_other (x ∷ xs) (suc i) zero v apart = refl
+slice_get-set_other (x ∷ xs) (suc i) (suc j) v apart = slice_get-set_other xs i j v (λ e. apart (ap suc e))
+
+pub indexes-append : (xs ys : List Reply) → indexes (xs ++ ys) ≡ indexes xs ++ indexes ys
+indexes-append [] ys = refl
+indexes-append (x ∷ xs) ys = ap (λ l. x.index ∷ l) (indexes-append xs ys)
+
+times-append : (x : ℕ) (xs ys : List ℕ) → times x (xs ++ ys) ≡ times x xs + times x ys
+times-append x xs ys = sum_by-append (λ y. cond (eqb y x) 1 0) xs ys
+
+times-indexes-push : (x : ℕ) (done : List Reply) (r : Reply) → times x (indexes (done ++ r ∷ [])) ≡ times x (indexes done) + cond (eqb r.index x) 1 0
+times-indexes-push x done r = ap (times x) (indexes-append done (r ∷ [])) ∙ times-push x (indexes done) r.index
+
+-- no place is filled
+pub filled_none : (slots : List (Option Answer)) → All (λ slot. slot ≡ None) slots → AreFilled slots []
+filled_none slots none = record {
+  placed = λ k d less. absurd (omega arith);
+  some = λ x a at. absurd (
+      let less = slice_get_within slots x (Some a) at in
+      let e = slice_get-get_or slots x None less in
+      let n = none x None less in
+      cc (at, e, n));
+  none = λ x at. refl;
+  past = λ x at. refl;
+}
+
+-- one more reply is put into its place
+pub filled_more : (slots : List (Option Answer)) (done : List Reply) (r : Reply)
+    → slice_get slots r.index ≡ Some None → AreFilled slots done → AreFilled (slice_set slots r.index (Some r.answer)) (done ++ r ∷ [])
+filled_more slots done r free is =
+    let after : List (Option Answer) = slice_set slots r.index (Some r.answer) in
+    let less = slice_get_within slots r.index None free in
+    let here : slice_get after r.index ≡ Some (Some r.answer) = slice_get-set_same slots r.index (Some r.answer) less in
+    let other : (x : ℕ) → r.index ≢ x → slice_get after x ≡ slice_get slots x = λ x apart. slice_get-set_other slots r.index x (Some r.answer) apart in
+    let same : (x : ℕ) → r.index ≢ x → times x (indexes (done ++ r ∷ [])) ≡ times x (indexes done) + 0 =
+    λ x apart. times-indexes-push x done r ∙ ap (λ b. times x (indexes done) + cond b 1 0) (ne_eqb r.index x apart) in
+    record {
+      placed = All-push (λ (q : Reply). slice_get after q.index ≡ Some (Some q.answer)) done r
+          (λ k d inside.
+          let q = get_or done k d in
+          let was = is.placed k d inside in
+          other q.index (λ e. absurd (cc (e, was, free))) ∙ was)
+          here;
+      some = λ x a at. elim (cases_Bool (eqb r.index x)) [
+        | inl same_index ↦
+            let e = eqb-true r.index x same_index in
+            let zero_there = is.none r.index free in
+            times-indexes-push x done r ∙ (let z : times x (indexes done) ≡ 0 = subst (λ n. times n (indexes done) ≡ 0) e zero_there in ap (λ b. times x (indexes done) + cond b 1 0) same_index ∙ omega arith)
+        | inr other_index ↦
+            let apart = eqb-false r.index x other_index in
+            same x apart ∙ (let one = is.some x a (sym (other x apart) ∙ at) in omega arith)
+      ];
+      none = λ x at. elim (cases_Bool (eqb r.index x)) [
+        | inl same_index ↦ absurd (let e = eqb-true r.index x same_index in cc (e, at, here))
+        | inr other_index ↦
+            let apart = eqb-false r.index x other_index in
+            same x apart ∙ (let z = is.none x (sym (other x apart) ∙ at) in omega arith)
+      ];
+      past = λ x at. elim (cases_Bool (eqb r.index x)) [
+        | inl same_index ↦ absurd (let e = eqb-true r.index x same_index in cc (e, at, here))
+        | inr other_index ↦
+            let apart = eqb-false r.index x other_index in
+            same x apart ∙ (let z = is.past x (sym (other x apart) ∙ at) in omega arith)
+      ];
+    }
+
+-- a reply whose place is filled
+pub filled_twice : (slots : List (Option Answer)) (done : List Reply) (r : Reply) (a : Answer)
+    → slice_get slots r.index ≡ Some (Some a) → AreFilled slots done → IsTwice (done ++ r ∷ []) (Twice r.index)
+filled_twice slots done r a at is = (
+  r.index,
+  refl,
+  let one = is.some r.index a at in
+      let two = times-indexes-push r.index done r in
+      grind (arith, nat_tests),
+)
+
+pub twice_more : (done more : List Reply) (e : ServeError) → IsTwice done e → IsTwice (done ++ more) e
+twice_more done more e t = (
+  t.0,
+  t.1,
+  let s = ap (times t.0) (indexes-append done more) ∙ times-append t.0 (indexes done) (indexes more) in
+      let u = t.2 in
+      omega arith,
+)
+
+-- a place that is tested, where it is filled
+pub put_twice : (slots : List (Option Answer)) (done : List Reply) (r : Reply) (o : Option Answer)
+    → o ≡ get_or slots r.index o → r.index < length slots → is_some o ≡ true → AreFilled slots done → IsTwice (done ++ r ∷ []) (Twice r.index)
+put_twice slots done r (Some a) at inside full is = filled_twice slots done r a (slice_get_read slots (length slots) r.index (Some a) refl inside at) is
+put_twice slots done r None at inside full is = absurd (false≢true full)
+
+-- and where it is free
+pub put_free : (slots : List (Option Answer)) (done : List Reply) (r : Reply) (o : Option Answer)
+    → o ≡ get_or slots r.index o → r.index < length slots → is_some o ≡ false → AreFilled slots done → AreFilled (slice_set slots r.index (Some r.answer)) (done ++ r ∷ [])
+put_free slots done r (Some a) at inside free is = absurd (false≢true (sym free))
+put_free slots done r None at inside free is = filled_more slots done r (slice_get_read slots (length slots) r.index None refl inside at) is
+
+-- the index of the first reply of a list that is cut
+pub slice_get-seam : {X : Type 0} (xs : List X) (y : X) (ys : List X) → slice_get (xs ++ y ∷ ys) (length xs) ≡ Some y
+slice_get-seam [] y ys = refl
+slice_get-seam (x ∷ xs) y ys = slice_get-seam xs y ys
+
+from_some : (o : Option Answer) (a : Answer) → option_map (λ (b : Answer). Some b) o ≡ Some (Some a) → o ≡ Some a
+from_some (Some b) a e = cc e
+from_some None a e = absurd (cc e)
+
+-- where each place is filled, each reply stands in the list
+pub filled_placed : (slots : List (Option Answer)) (list : List Answer) (done : List Reply)
+    → map (λ a. Some a) list ≡ slots → AreFilled slots done → All (IsPlaced list) done
+filled_placed slots list done same is k d inside =
+    let r = get_or done k d in
+    from_some (slice_get list r.index) r.answer
+    (sym (slice_get-map (λ (b : Answer). Some b) list r.index) ∙ ap (λ (l : List (Option Answer)). slice_get l r.index) same ∙ is.placed k d inside)
+
+none_inside : (o : Option Answer) → o ≡ None → IsSome o → ⊥
+none_inside None e s = search rules
+none_inside (Some a) e s = cc e
+
+slice_get-inside : (list : List Answer) (x : ℕ) → x < length list → IsSome (slice_get list x)
+slice_get-inside [] x less = absurd (omega arith)
+slice_get-inside (a ∷ rest) zero less = refl
+slice_get-inside (a ∷ rest) (suc x) less = slice_get-inside rest x (omega arith)
+
+-- and each index stands once
+pub filled_once : (slots : List (Option Answer)) (list : List Answer) (done : List Reply)
+    → map (λ a. Some a) list ≡ slots → AreFilled slots done → (x : ℕ) → times x (indexes done) ≡ once_below (length list) x
+filled_once slots list done same is x =
+    let at : slice_get slots x ≡ option_map (λ (b : Answer). Some b) (slice_get list x) =
+    ap (λ (l : List (Option Answer)). slice_get l x) (sym same) ∙ slice_get-map (λ (b : Answer). Some b) list x in
+    by_place (slice_get list x) refl at
+  where
+    by_place : (o : Option Answer) → slice_get list x ≡ o → slice_get slots x ≡ option_map (λ (b : Answer). Some b) (slice_get list x) → times x (indexes done) ≡ once_below (length list) x
+    by_place (Some a) here at =
+        let less = slice_get_within list x a here in
+        let one = is.some x a (at ∙ ap (option_map (λ (b : Answer). Some b)) here) in
+        grind (arith, nat_tests)
+    by_place None here at = elim (cases_lt x (length list)) [
+      | inl less ↦ absurd (none_inside (slice_get list x) here (slice_get-inside list x less))
+      | inr past ↦ let none = is.past x (at ∙ ap (option_map (λ (b : Answer). Some b)) here) in grind (arith, nat_tests)
+    ]
+
+-- lists of replies, one after the other
+abbrev pub replies : List (Vec Reply Global) → List Reply
+replies lists = flat_map (λ (l : Vec Reply Global). l.items) lists
+
+all_front : {X : Type 0} (P : X → Type 0) (xs ys : List X) → All P (xs ++ ys) → All P xs
+all_front P [] ys all = All-nil P
+all_front P (x ∷ xs) ys all = All-cons P x xs (All-head P x (xs ++ ys) all) (all_front P xs ys (All-tail P x (xs ++ ys) all))
+
+all_back : {X : Type 0} (P : X → Type 0) (xs ys : List X) → All P (xs ++ ys) → All P ys
+all_back P [] ys all = all
+all_back P (x ∷ xs) ys all = all_back P xs ys (All-tail P x (xs ++ ys) all)
+
+-- what holds of all replies holds of those of each list
+pub all_lists : (P : Reply → Type 0) (lists : List (Vec Reply Global)) → All P (replies lists) → All (λ (l : Vec Reply Global). All P l.items) lists
+all_lists P [] all = All-nil (λ (l : Vec Reply Global). All P l.items)
+all_lists P (l ∷ ls) all =
+    All-cons (λ (v : Vec Reply Global). All P v.items) l ls (all_front P l.items (replies ls) all) (all_lists P ls (all_back P l.items (replies ls) all))
+
+-- an index stands in all lists together as often as in each of them
+pub times-replies : (x : ℕ) (lists : List (Vec Reply Global)) → times x (indexes (replies lists)) ≡ times_in x lists
+times-replies x [] = refl
+times-replies x (l ∷ ls) =
+    ap (times x) (indexes-append l.items (replies ls)) ∙ times-append x (indexes l.items) (indexes (replies ls))
+    ∙ ap (λ n. times x (indexes l.items) + n) (times-replies x ls)
+    ∙ sym (sum_by-cons (λ (v : Vec Reply Global). times x (indexes v.items)) l ls)
+
+-- the lists of indexes hold each index as often as the lists of replies
+pub times_in-indexes : (x : ℕ) (drawn : List (Vec ℕ Global)) (lists : List (Vec Reply Global))
+    → map (λ (v : Vec ℕ Global). v.items) drawn ≡ map (λ (l : Vec Reply Global). indexes l.items) lists
+    → sum_by (λ (v : Vec ℕ Global). times x v.items) drawn ≡ times_in x lists
+times_in-indexes x [] [] same = refl
+times_in-indexes x [] (l ∷ ls) same = absurd (cc same)
+times_in-indexes x (v ∷ vs) [] same = absurd (cc same)
+times_in-indexes x (v ∷ vs) (l ∷ ls) same =
+    let head : v.items ≡ indexes l.items = cc same in
+    let tail : map (λ (v : Vec ℕ Global). v.items) vs ≡ map (λ (l : Vec Reply Global). indexes l.items) ls = cc same in
+    sum_by-cons (λ (w : Vec ℕ Global). times x w.items) v vs
+    ∙ ap (λ n. n + sum_by (λ (w : Vec ℕ Global). times x w.items) vs) (ap (times x) head)
+    ∙ ap (λ n. times x (indexes l.items) + n) (times_in-indexes x vs ls tail)
+    ∙ sym (sum_by-cons (λ (w : Vec Reply Global). times x (indexes w.items)) l ls)
+
+pub replies-push : (lists : List (Vec Reply Global)) (l : Vec Reply Global) → replies (lists ++ l ∷ []) ≡ replies lists ++ l.items
+replies-push lists l = flat_map-append (λ (v : Vec Reply Global). v.items) lists (l ∷ []) ∙ ap (λ rest. replies lists ++ rest) (append-nil l.items)
+
+-- an index that stands twice in some lists stands twice in all
+pub twice_collected : (count : ℕ) (first rest lists : List (Vec Reply Global)) (l : Vec Reply Global) (e : ServeError)
+    → (first ++ l ∷ []) ++ rest ≡ lists → (e ≡ Memory) ⊎ IsTwice (replies first ++ l.items) e → IsCollectError count lists e
+twice_collected count first rest lists l e whole (inl memory) = inl memory
+twice_collected count first rest lists l e whole (inr twice) =
+    let index = twice.0 in
+    let more = twice.2 in
+    let some : times_in index (first ++ l ∷ []) ≡ times index (indexes (replies first ++ l.items)) =
+    sym (times-replies index (first ++ l ∷ [])) ∙ ap (λ done. times index (indexes done)) (replies-push first l) in
+    let all : times_in index lists ≡ times_in index (first ++ l ∷ []) + times_in index rest =
+    ap (times_in index) (sym whole) ∙ sum_by-append (λ (v : Vec Reply Global). times index (indexes v.items)) (first ++ l ∷ []) rest in
+    inr (inr (index, twice.1, omega arith))
+
+-- an index whose place is free stands in no list
+pub missing_collected : (count : ℕ) (slots : List (Option Answer)) (lists : List (Vec Reply Global)) (e : ServeError)
+    → length slots ≡ count → AreFilled slots (replies lists) → (e ≡ Memory) ⊎ ((index : ℕ) × (e ≡ Missing index) × (slice_get slots index ≡ Some None)) → IsCollectError count lists e
+missing_collected count slots lists e long is (inl memory) = inl memory
+missing_collected count slots lists e long is (inr missing) =
+    let less = slice_get_within slots missing.0 None missing.2 in
+    inr (inl (missing.0, missing.1, omega arith, sym (times-replies missing.0 lists) ∙ is.none missing.0 missing.2))
+
+-- one step through a list
+pub left_step : {X : Type 0} (before : List X) (x : X) (left after all : List X) → before ++ left ≡ all → left ≡ x ∷ after → (before ++ x ∷ []) ++ after ≡ all
+left_step before x left after all whole next = append_assoc before (x ∷ []) after ∙ ap (λ l. before ++ l) (sym next) ∙ whole
+
+-- the last step
+pub left_none : {X : Type 0} (before left all : List X) → before ++ left ≡ all → length left ≡ 0 → before ≡ all
+left_none before [] all whole none = sym (append-nil before) ∙ whole
+left_none before (x ∷ left) all whole none = absurd (omega arith)
+
+-- what holds of all holds of the next
+pub left_next : {X : Type 0} (P : X → Type 0) (before : List X) (x : X) (left after all : List X) → before ++ left ≡ all → left ≡ x ∷ after → All P all → P x
+left_next P before x left after all whole next holds =
+    let same : before ++ x ∷ after ≡ all = ap (λ l. before ++ l) (sym next) ∙ whole in
+    let here : All P (before ++ x ∷ after) = subst (All P) (sym same) holds in
+    All-head P x after (all_back P before (x ∷ after) here)
+
+-- one more element, mapped
+pub map_push : {X Y : Type 0} (f : X → Y) (xs ys : List X) (x : X) → ys ≡ xs ++ x ∷ [] → map f ys ≡ map f xs ++ f x ∷ []
+map_push f xs ys x pushed = ap (map f) pushed ∙ map-append f xs (x ∷ [])
+
+-- what stands twice in a beginning stands twice in the whole
+pub twice_whole : (done before : List Reply) (r : Reply) (after all : List Reply) (e : ServeError)
+    → (before ++ r ∷ []) ++ after ≡ all → IsTwice ((done ++ before) ++ r ∷ []) e → IsTwice (done ++ all) e
+twice_whole done before r after all e whole twice =
+    let same : ((done ++ before) ++ r ∷ []) ++ after ≡ done ++ all =
+    ap (λ l. l ++ after) (append_assoc done before (r ∷ [])) ∙ append_assoc done (before ++ r ∷ []) after ∙ ap (λ l. done ++ l) whole in
+    subst (λ (l : List Reply). IsTwice l e) same (twice_more ((done ++ before) ++ r ∷ []) after e twice)

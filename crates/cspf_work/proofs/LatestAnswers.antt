@@ -1,0 +1,63 @@
+-- Answers at the last published version.
+use Rattle.std.proofs.Common.{◌≡◌, ◌≢◌, ℕ, ◌≤◌, ◌<◌, All, List, take, length, get_or, ap, ◌∙◌, subst, arith, Vec}
+use Rattle.std.proofs.Math.Seq.{take-length}
+use Rattle.std.proofs.lemmas.Option.{slice_get_within, slice_get-get_or, get_or_from_slice_get}
+use Rattle.cspf_db.specs.declared.request.Request.{Request}
+use Rattle.cspf_db.specs.Numbered.{NumberedChanges}
+use Rattle.cspf_publish.specs.declared.answer.Answer.{Answer}
+use Rattle.cspf_publish.specs.Answers.{IsAnswerAfter}
+use Rattle.cspf_publish.specs.Histories.{BeginsWith}
+use Rattle.cspf_publish.specs.KnownBatches.{KnownBatches}
+use Rattle.std.specs.Global.{Global}
+use Rattle.cspf_work.specs.declared.serve_error.ServeError.{ServeError}
+use Rattle.cspf_work.specs.declared.serve_error.ServeError.TheVariants.{Unaccounted}
+use Rattle.cspf_work.specs.Served.{AreAnsweredByWorkers, AreAnswersAfter, AreAnswersWithin, AreSameAskers}
+use Rattle.cspf_work.specs.Strays.{IsFirstStray}
+use Rattle.cspf_work.proofs.Asked.{begins_through}
+use Rattle.cspf_work.proofs.Running.{at_place}
+use Rattle.cspf_work.proofs.Telling.{within_published}
+
+-- answers of one version are those of all batches that are published
+answers_at_version : (published : List NumberedChanges) (requests : List Request) (list : List Answer) (version : ℕ) → version ≡ length published
+    → length list ≡ length requests → All (λ (a : Answer). a.version ≡ version) list → AreAnswersWithin published requests list → AreAnswersAfter published requests list
+answers_at_version published requests list version is count same within = record {
+  count = count;
+  each = λ index q a at there.
+      let one : a.version ≡ version = subst (λ (b : Answer). b.version ≡ version) (get_or_from_slice_get list index a a there) (same index a (slice_get_within list index a there)) in
+      let whole : take a.version published ≡ published = ap (λ n. take n published) (one ∙ is) ∙ take-length published in
+      let right = within.each index q a at there in
+      subst (λ (bs : List NumberedChanges). IsAnswerAfter bs q a) whole right.answer;
+}
+
+-- no answer is of a later version
+no_later : (published : List NumberedChanges) (list : List Answer) (version : ℕ) → version ≡ length published
+    → All (λ (a : Answer). a.version ≡ version) list → All (λ (a : Answer). a.version ≤ length published) list
+no_later published list version is same i d less = let one = same i d less in omega arith
+
+-- what askers were told stays known
+told_later : (published : List NumberedChanges) (before after : List KnownBatches) → AreSameAskers before after
+    → All (λ (k : KnownBatches). BeginsWith k.batches published) before → All (λ (k : KnownBatches). BeginsWith k.batches published) after
+told_later published before after same told i d less =
+    let count = same.count in
+    let old = at_place before i (omega arith) in
+    let knows = same.each i old.0 (get_or after i d) old.1 (slice_get-get_or after i d less) in
+    let was : BeginsWith (old.0).batches published =
+    subst (λ (k : KnownBatches). BeginsWith k.batches published) (get_or_from_slice_get before i old.0 old.0 old.1) (told i old.0 (omega arith)) in
+    begins_through published (old.0).batches (get_or after i d).batches was knows.later
+
+-- what askers answer that were told all of these batches
+pub latest_answers : (published : List NumberedChanges) (requests : List Request) (told after : List KnownBatches) (list : List Answer) (drawn : List (Vec ℕ Global)) (version : ℕ)
+    → version ≡ length published → All (λ (k : KnownBatches). BeginsWith k.batches published) told → AreSameAskers told after
+    → AreAnsweredByWorkers requests told after list drawn → All (λ (a : Answer). (version ≤ a.version) × (a.version ≤ version)) list → AreAnswersAfter published requests list
+latest_answers published requests told after list drawn version is begins same answered between =
+    let exact : All (λ (a : Answer). a.version ≡ version) list = λ i d less. (let both = between i d less in omega (arith, both.0, both.1)) in
+    answers_at_version published requests list version is answered.count exact
+    (within_published requests told after list drawn published same.count (told_later published told after same begins) (no_later published list version is exact) answered)
+
+-- the first answer of another version is that of a request
+pub other_version : (list : List Answer) (published : List NumberedChanges) (requests version : ℕ) (e : ServeError) → version ≡ length published → length list ≡ requests
+    → IsFirstStray list (λ v. (version ≤ v) × (v ≤ version)) e
+    → (index : ℕ) × (other : ℕ) × (e ≡ Unaccounted index other) × (index < requests) × (other ≢ length published)
+other_version list published requests version e is count stray =
+    let within = slice_get_within list stray.index stray.answer stray.there in
+    (stray.index, stray.answer.version, stray.names, omega arith, λ same. stray.stray (omega (arith, same, is), omega (arith, same, is)))

@@ -1,0 +1,72 @@
+-- What all workers did, one by one.
+use Rattle.std.proofs.Common.{◌≡◌, ℕ, zero, suc, ◌<◌, List, [], ◌∷◌, ◌++◌, All, IfSome, take, length, map, Option, Some, None, get_or, refl, sym, ap, ◌∙◌, subst, arith, slice_get}
+use Rattle.std.specs.Option.{option_map}
+use Rattle.std.proofs.lemmas.List.{length-map}
+use Rattle.std.proofs.lemmas.Option.{slice_get_within, slice_get-map, slice_get-get_or, get_or_from_slice_get}
+use Rattle.cspf_db.specs.declared.request.Request.{Request}
+use Rattle.cspf_publish.specs.KnownBatches.{KnownBatches}
+use Rattle.cspf_work.specs.declared.worker.Worker.{Worker}
+use Rattle.std.proofs.Math.Seq.{take-append_seam}
+use Rattle.cspf_work.specs.declared.worker.Reply.{Reply}
+use Rattle.cspf_work.specs.Served.{AreSameAskers, IsFaultOfWorker, KnowsNoLess}
+use Rattle.cspf_work.specs.Working.{IsRun, AreRun}
+
+-- the element at a place inside
+pub at_place : {X : Type 0} (xs : List X) (i : ℕ) → i < length xs → (x : X) × (slice_get xs i ≡ Some x)
+at_place [] i less = absurd (omega arith)
+at_place (x ∷ xs) zero less = (x, refl)
+at_place (x ∷ xs) (suc i) less = at_place xs i (omega arith)
+
+-- what each worker did, by its place
+abbrev pub AreRunByPlace : List Request → List Worker → List Worker → Type 0
+AreRunByPlace requests old new = (i : ℕ) (d : Worker) → i < length old → IsRun i (length old) requests (get_or old i d).asker (get_or new i d)
+
+run_at : (requests : List Request) (old new : List Worker) → AreRunByPlace requests old new → (i : ℕ) (known : KnownBatches) (after : Worker) (o : Option Worker)
+    → slice_get old i ≡ o → option_map (λ (w : Worker). w.asker) o ≡ Some known → slice_get new i ≡ Some after → IsRun i (length old) requests known after
+run_at requests old new run i known after (Some w) at is there =
+    let less = slice_get_within old i w at in
+    let before : (get_or old i after).asker ≡ known = ap (λ (v : Worker). v.asker) (get_or_from_slice_get old i w after at) ∙ cc is in
+    subst (λ (v : Worker). IsRun i (length old) requests known v) (get_or_from_slice_get new i after after there)
+    (subst (λ (k : KnownBatches). IsRun i (length old) requests k (get_or new i after)) before (run i after less))
+run_at requests old new run i known after None at is there = absurd (cc is)
+
+pub run_each : (requests : List Request) (old new : List Worker) → length new ≡ length old → AreRunByPlace requests old new → AreRun requests (map (λ w. w.asker) old) new
+run_each requests old new same run =
+    let count : length (map (λ (w : Worker). w.asker) old) ≡ length old = length-map old (λ (w : Worker). w.asker) in
+    record {
+      count = same ∙ sym count;
+      each = λ i known after at there.
+          subst (λ n. IsRun i n requests known after) (sym count)
+          (run_at requests old new run i known after (slice_get old i) refl (sym (slice_get-map (λ (w : Worker). w.asker) old i) ∙ at) there);
+    }
+
+-- one worker's part
+run_of : (requests : List Request) (before : List KnownBatches) (workers : List Worker) → AreRun requests before workers → (i : ℕ) (d : Worker) → i < length workers
+    → (known : KnownBatches) × IsRun i (length before) requests known (get_or workers i d)
+run_of requests before workers run i d less =
+    let known = at_place before i (let e = run.count in omega arith) in
+    (known.0, run.each i known.0 (get_or workers i d) known.1 (slice_get-get_or workers i d less))
+
+pub run_faults : (requests : List Request) (before : List KnownBatches) (workers : List Worker) → AreRun requests before workers → All (λ (w : Worker). IfSome w.fault IsFaultOfWorker) workers
+run_faults requests before workers run i d less = (run_of requests before workers run i d less).1.fault
+
+pub run_inside : (requests : List Request) (before : List KnownBatches) (workers : List Worker) → AreRun requests before workers
+    → All (λ (w : Worker). All (λ (r : Reply). r.index < length requests) w.done.items) workers
+run_inside requests before workers run i d less k e inside = ((run_of requests before workers run i d less).1.done.done k e inside).inside
+
+-- each asker knows no less than before
+pub run_askers : (requests : List Request) (before : List KnownBatches) (workers : List Worker) (after : List KnownBatches)
+    → after ≡ map (λ w. w.asker) workers → AreRun requests before workers → AreSameAskers before after
+run_askers requests before workers after askers run = record {
+  count = ap length askers ∙ length-map workers (λ (w : Worker). w.asker) ∙ run.count;
+  each = λ i old new at there.
+      asker_at i old new (slice_get workers i) refl at (sym (slice_get-map (λ (w : Worker). w.asker) workers i) ∙ ap (λ (l : List KnownBatches). slice_get l i) (sym askers) ∙ there);
+}
+  where
+    asker_at : (i : ℕ) (old new : KnownBatches) (o : Option Worker) → slice_get workers i ≡ o → slice_get before i ≡ Some old → option_map (λ (w : Worker). w.asker) o ≡ Some new → KnowsNoLess old new
+    asker_at i old new (Some w) here at there = subst (λ (k : KnownBatches). KnowsNoLess old k) (cc there) ((run.each i old w at here).done.asker)
+    asker_at i old new None here at there = absurd (cc there)
+
+-- what a slice of a whole list leaves there
+pub written_back : {X : Type 0} (new rest : List X) (n : ℕ) → n ≡ length new → take n (new ++ rest) ≡ new
+written_back new rest n long = ap (λ m. take m (new ++ rest)) long ∙ take-append_seam new rest

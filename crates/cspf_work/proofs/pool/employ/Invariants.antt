@@ -1,0 +1,12 @@
+use Rattle.std.proofs.Common.{◌≡◌, ◌≤◌, ◌++◌, map, All, vec_len, vec_capacity}
+use Rattle.std.specs.Vec.Iter.{into_iter_items}
+use Rattle.cspf_work.specs.Working.{IsIdle}
+use Rattle.cspf_work.proofs.pool.employ.Given as goal
+
+abbrev pub invariant-loop-asker : goal.invariant-loop-asker
+invariant-loop-asker l = record {
+  left : l.yielded ++ into_iter_items l.asker-iterator ≡ l.fn.askers.items;
+  workers : map (λ w. w.asker) l.workers.items ≡ l.yielded;
+  idle : All IsIdle l.workers.items;
+  room : vec_len l.fn.askers ≤ vec_capacity l.workers;
+}

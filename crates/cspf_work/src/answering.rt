@@ -1,0 +1,47 @@
+ghost use Rattle.std.specs.Prelude.{◌<◌, ◌≤◌, length, IfOk, IfErr, vec_len};
+ghost use Rattle.cspf_work.specs.Served.{AreAnsweredByWorkers, AreSameAskers, IsFaultOfWorker};
+
+use crate::finishing::{Collected, finish};
+use crate::pool::{room_for, run_workers};
+use crate::{Answers, Gate, MOST_REQUESTS, ServeError};
+use cspf_db::Request;
+use cspf_publish::{Asker, MOST_ASKERS};
+use std::alloc::Global;
+use std::thread::Threads;
+
+/// Answers requests by one worker for each asker: request i, from 0, falls to worker i mod n. All
+/// workers run at once, each in a thread of its own; where no thread can be made they run one after
+/// the other.
+///
+/// All askers are handed back in order, after an error too. They then know no less than before. Of
+/// several workers' faults the first worker's is answered.
+pub fn answer_all<G: Gate + Sync, R: Threads + Sync>(
+    rt: &R,
+    alloc: Global,
+    askers: Vec<Asker>,
+    requests: &[Request],
+    gate: &G,
+) -> Result<Answers, (ServeError, Vec<Asker>)>
+    requires askers { (0 < vec_len askers) × (vec_len askers ≤ MOST_ASKERS) }
+    requires requests { length requests.now ≤ MOST_REQUESTS }
+    ensures answers { IfOk result (λ all. AreAnsweredByWorkers requests.now
+        askers.items all.askers.items all.list.items all.drawn.items) }
+    ensures askers { IfOk result (λ all. AreSameAskers askers.items all.askers.items) }
+    // With fixed shares no request is left out and none is answered twice.
+    ensures error { IfErr result (λ e. IsFaultOfWorker e.0) }
+    ensures back { IfErr result (λ e. AreSameAskers askers.items e.1.items) }
+{
+    let Ok((workers, room)) = room_for(alloc, askers.len()) else {
+        return Err((ServeError::Memory, askers));
+    };
+    let done = run_workers(rt, alloc, requests, gate, askers, workers);
+    let (askers, collected) = finish(alloc, done, room, requests);
+    match collected {
+        Ok(Collected { list, drawn }) => Ok(Answers {
+            list,
+            drawn,
+            askers,
+        }),
+        Err(error) => Err((error, askers)),
+    }
+}

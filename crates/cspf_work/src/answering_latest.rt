@@ -1,0 +1,49 @@
+ghost use Rattle.std.specs.Prelude.{◌≡◌, ◌≢◌, ℕ, ◌<◌, ◌≤◌, ◌⊎◌, length, All, IfOk, IfErr, vec_len};
+ghost use Rattle.cspf_work.specs.Served.{AreAnswersAfter, AreSameAskers, IsFaultOfWorker};
+ghost use Rattle.cspf_work.specs.declared.serve_error.ServeError.TheVariants.{Unaccounted as IsUnaccounted};
+
+use crate::askers::tell_each;
+use crate::strays::first_stray;
+use crate::{Answers, Gate, MOST_REQUESTS, ServeError, answer_all};
+use cspf_db::Request;
+use cspf_publish::{Asker, MOST_ASKERS, Publisher};
+use std::alloc::Global;
+use std::io::Write;
+use std::thread::Threads;
+
+/// Answers requests as `answer_all` does, at the last published version: each asker learns before
+/// what is published. An answer of another version is `Unaccounted`.
+///
+/// The askers are of the publisher's own `open`. All of them are handed back in order, after an
+/// error too.
+pub fn answer_latest<W: Write, G: Gate + Sync, R: Threads + Sync>(
+    rt: &R,
+    alloc: Global,
+    publisher: &mut Publisher<W>,
+    askers: Vec<Asker>,
+    requests: &[Request],
+    gate: &G,
+) -> Result<Answers, (ServeError, Vec<Asker>)>
+    requires askers { (0 < vec_len askers) × (vec_len askers ≤ MOST_ASKERS) }
+    requires source { All (λ a. a.source ≡ publisher.old.source) askers.items }
+    requires requests { length requests.now ≤ MOST_REQUESTS }
+    ensures same { publisher.new ≡ publisher.old }
+    ensures answers { IfOk result (λ all.
+        AreAnswersAfter publisher.old.batches requests.now all.list.items) }
+    ensures askers { IfOk result (λ all. AreSameAskers askers.items all.askers.items) }
+    ensures error { IfErr result (λ e. IsFaultOfWorker e.0
+        ⊎ ((index : ℕ) × (version : ℕ) × (e.0 ≡ IsUnaccounted index version)
+        × (index < length requests.now) × (version ≢ length publisher.old.batches))) }
+    ensures back { IfErr result (λ e. AreSameAskers askers.items e.1.items) }
+{
+    let mut askers = askers;
+    tell_each(publisher, &mut askers);
+    let version = publisher.version();
+    match answer_all(rt, alloc, askers, requests, gate) {
+        Ok(answers) => match first_stray(answers.list.as_slice(), version, version) {
+            None => Ok(answers),
+            Some(error) => Err((error, answers.askers)),
+        },
+        Err((error, askers)) => Err((error, askers)),
+    }
+}

@@ -1,0 +1,188 @@
+ghost use Rattle.std.specs.Prelude.{◌≡◌, ◌⊎◌, ◌<◌, ◌≤◌, [], length, map, All, IfOk, IfErr, vec_len, vec_capacity};
+ghost use Rattle.cspf_publish.specs.Histories.{BeginsWith};
+ghost use Rattle.cspf_work.specs.Served.{AreAnsweredByWorkers, AreAnswersWithin, AreSameAskers, IsFaultOfWorker, IsUnaccounted};
+ghost use Rattle.cspf_work.specs.Applied.{IsAppliedUpTo, IsAppliedInPart};
+ghost use Rattle.cspf_work.specs.Working.{AreRun, IsIdle};
+
+use crate::askers::tell_each;
+use crate::finishing::{Collected, finish};
+use crate::pool::{employ, room_for, run_all};
+use crate::strays::first_stray;
+use crate::worker::Worker;
+use crate::{Gate, Live, MOST_REQUESTS, ServeError};
+use cspf_db::{Batch, Request};
+use cspf_publish::{ApplyError, Asker, MOST_ASKERS, Publisher};
+use std::alloc::Global;
+use std::io::Write;
+use std::sync::Wait;
+use std::thread;
+use std::thread::Threads;
+
+/// Applies batches in order, up to the first that is refused. Answers how many were applied, and why
+/// the next one wasn't.
+fn apply_all<W: Write, R: Wait>(
+    rt: &R,
+    alloc: Global,
+    batches: &[Batch],
+    publisher: &mut Publisher<W>,
+) -> (u32, Option<ApplyError>)
+    ensures { IsAppliedUpTo W.contents publisher.old publisher.new batches.now result.0 result.1 }
+{
+    let mut applied: u32 = 0;
+    for batch in batches {
+        if let Err(fault) = publisher.apply(rt, alloc, batch) {
+            return (applied, Some(fault));
+        }
+        applied += 1;
+    }
+    (applied, None)
+}
+
+/// Applies batches in this thread while the workers answer.
+fn apply_and_run<W: Write, G: Gate + Sync, R: Threads + Wait + Sync>(
+    rt: &R,
+    alloc: Global,
+    batches: &[Batch],
+    publisher: &mut Publisher<W>,
+    requests: &[Request],
+    gate: &G,
+    workers: &mut [Worker],
+) -> (u32, Option<ApplyError>)
+    requires share { (0 < length workers.old) × (length workers.old ≤ MOST_ASKERS)
+        × (length requests.now ≤ MOST_REQUESTS) }
+    requires idle { All IsIdle workers.old }
+    ensures run { AreRun requests.now (map (λ w. w.asker) workers.old) workers.new }
+    ensures applied { IsAppliedUpTo W.contents publisher.old publisher.new batches.now result.0 result.1 }
+{
+    let mut answer = ||
+        requires { (0 < length workers.now) × (length workers.now ≤ MOST_ASKERS)
+            × (length requests.now ≤ MOST_REQUESTS) × All IsIdle workers.now }
+        ensures { AreRun requests.entry.now (map (λ w. w.asker) workers.entry.now) workers.exit.now }
+    { run_all(rt, alloc, requests, gate, workers) };
+    let mut apply = || -> (u32, Option<ApplyError>)
+        ensures { IsAppliedUpTo W.contents publisher.entry.now publisher.exit.now batches.entry.now
+            result.0 result.1 }
+    { apply_all(rt, alloc, batches, publisher) };
+    thread::join_mut(rt, &mut answer, &mut apply).1
+}
+
+/// The workers of askers after they have answered their shares while this thread applied batches.
+fn run_beside<W: Write, G: Gate + Sync, R: Threads + Wait + Sync>(
+    rt: &R,
+    alloc: Global,
+    batches: &[Batch],
+    publisher: &mut Publisher<W>,
+    requests: &[Request],
+    gate: &G,
+    askers: Vec<Asker>,
+    room: Vec<Worker>,
+) -> (Vec<Worker>, u32, Option<ApplyError>)
+    requires askers { (0 < vec_len askers) × (vec_len askers ≤ MOST_ASKERS) }
+    requires requests { length requests.now ≤ MOST_REQUESTS }
+    requires room { (room.items ≡ []) × (vec_len askers ≤ vec_capacity room) }
+    ensures run { AreRun requests.now askers.items result.0.items }
+    ensures applied { IsAppliedUpTo W.contents publisher.old publisher.new batches.now
+        result.1 result.2 }
+{
+    let mut workers = employ(alloc, askers, room);
+    let all = workers.as_mut_slice();
+    let (applied, fault) = apply_and_run(rt, alloc, batches, publisher, requests, gate, all);
+    (workers, applied, fault)
+}
+
+/// What `run_live` does while the publisher is lent to it.
+fn run_lent<W: Write, G: Gate + Sync, R: Threads + Wait + Sync>(
+    rt: &R,
+    alloc: Global,
+    publisher: &mut Publisher<W>,
+    askers: Vec<Asker>,
+    batches: &[Batch],
+    requests: &[Request],
+    gate: &G,
+) -> (
+    Vec<Asker>,
+    Result<(Collected, u32, Option<ApplyError>), ServeError>,
+)
+    requires askers { (0 < vec_len askers) × (vec_len askers ≤ MOST_ASKERS) }
+    requires source { All (λ a. a.source ≡ publisher.old.source) askers.items }
+    requires requests { length requests.now ≤ MOST_REQUESTS }
+    ensures askers { AreSameAskers askers.items result.0.items }
+    ensures answers { IfOk result.1 (λ all. AreAnsweredByWorkers requests.now
+        askers.items result.0.items all.0.list.items all.0.drawn.items) }
+    ensures published { IfOk result.1 (λ all.
+        AreAnswersWithin publisher.new.batches requests.now all.0.list.items) }
+    ensures told { IfOk result.1 (λ all.
+        All (λ a. BeginsWith a.batches publisher.new.batches) result.0.items) }
+    ensures applied { IfOk result.1 (λ all.
+        IsAppliedUpTo W.contents publisher.old publisher.new batches.now all.1 all.2) }
+    ensures part { IfErr result.1 (λ e. IsAppliedInPart W.contents
+        publisher.old publisher.new batches.now) }
+    ensures error { IfErr result.1 (λ e.
+        IsFaultOfWorker e
+        ⊎ IsUnaccounted (length requests.now) (length publisher.new.batches) e) }
+{
+    let Ok((workers, room)) = room_for(alloc, askers.len()) else {
+        return (askers, Err(ServeError::Memory));
+    };
+    let (done, applied, fault) = run_beside(
+        rt, alloc, batches, publisher, requests, gate, askers, workers,
+    );
+    let (mut askers, collected) = finish(alloc, done, room, requests);
+    tell_each(publisher, &mut askers);
+    match collected {
+        Ok(collected) => match first_stray(collected.list.as_slice(), 0, publisher.version()) {
+            None => (askers, Ok((collected, applied, fault))),
+            Some(error) => (askers, Err(error)),
+        },
+        Err(error) => (askers, Err(error)),
+    }
+}
+
+/// Answers requests as `answer_all` does, while this thread applies batches in order up to the first
+/// that is refused. When all are done each asker learns what is published, and an answer of a later
+/// version is `Unaccounted`.
+///
+/// The askers are of the publisher's own `open`. All of them are handed back in order, and so is
+/// the publisher, after an error too. Either nothing has happened then, or the batches were applied
+/// as far as they go, and a fault of the journal may have stopped the publisher.
+pub fn run_live<W: Write, G: Gate + Sync, R: Threads + Wait + Sync>(
+    rt: &R,
+    alloc: Global,
+    publisher: Publisher<W>,
+    askers: Vec<Asker>,
+    batches: &[Batch],
+    requests: &[Request],
+    gate: &G,
+) -> Result<Live<W>, (ServeError, Publisher<W>, Vec<Asker>)>
+    requires askers { (0 < vec_len askers) × (vec_len askers ≤ MOST_ASKERS) }
+    requires source { All (λ a. a.source ≡ publisher.source) askers.items }
+    requires requests { length requests.now ≤ MOST_REQUESTS }
+    ensures answers { IfOk result (λ live. AreAnsweredByWorkers requests.now
+        askers.items live.askers.items live.list.items live.drawn.items) }
+    ensures published { IfOk result (λ live.
+        AreAnswersWithin live.publisher.batches requests.now live.list.items) }
+    ensures askers { IfOk result (λ live. AreSameAskers askers.items live.askers.items) }
+    ensures told { IfOk result (λ live.
+        All (λ a. BeginsWith a.batches live.publisher.batches) live.askers.items) }
+    ensures applied { IfOk result (λ live. IsAppliedUpTo W.contents
+        publisher live.publisher batches.now live.applied live.fault) }
+    ensures error { IfErr result (λ e.
+        IsFaultOfWorker e.0
+        ⊎ IsUnaccounted (length requests.now) (length e.1.batches) e.0) }
+    ensures part { IfErr result (λ e. IsAppliedInPart W.contents publisher e.1 batches.now) }
+    ensures back { IfErr result (λ e. AreSameAskers askers.items e.2.items) }
+{
+    let mut publisher = publisher;
+    let (askers, ran) = run_lent(rt, alloc, &mut publisher, askers, batches, requests, gate);
+    match ran {
+        Ok((Collected { list, drawn }, applied, fault)) => Ok(Live {
+            publisher,
+            list,
+            drawn,
+            askers,
+            applied,
+            fault,
+        }),
+        Err(error) => Err((error, publisher, askers)),
+    }
+}

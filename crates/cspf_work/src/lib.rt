@@ -1,0 +1,32 @@
+//! Workers, each with an asker in a thread of its own, answer many requests at once, beside a
+//! publisher that applies batches or without one.
+//!
+//! `specs/Served.antt` says which answers are right and who answered what, `specs/Applied.antt` what
+//! batches leave that are applied up to the first that is refused, and `specs/AskingErrors.antt`
+//! which error of a worker's ask is answered under which name.
+#![tactic(auto)]
+
+mod answering;
+mod answering_latest;
+mod answering_live;
+mod answers;
+mod askers;
+mod collecting;
+mod finishing;
+mod gate;
+mod limits;
+mod live;
+mod pool;
+mod serve_error;
+mod serving;
+mod strays;
+mod worker;
+
+pub use answering::answer_all;
+pub use answering_latest::answer_latest;
+pub use answering_live::run_live;
+pub use answers::Answers;
+pub use gate::{Gate, NoGate};
+pub use limits::MOST_REQUESTS;
+pub use live::Live;
+pub use serve_error::ServeError;

@@ -1,0 +1,62 @@
+use cspf_publish::AskError;
+use std::alloc::AllocError;
+use thiserror::Error;
+
+/// Why requests aren't answered.
+#[derive(Clone, Copy, Debug, PartialEq, Eq, Error)]
+pub enum ServeError {
+    /// Out of memory.
+    #[error("out of memory")]
+    Memory,
+    /// A worker couldn't enter the published replica.
+    #[error("no entry")]
+    NoEntry,
+    /// A worker couldn't be started.
+    #[error("a worker couldn't be started")]
+    NoWorker,
+    /// A request has no answer.
+    #[error("request {index} has no answer")]
+    Missing {
+        /// The request's index, from 0.
+        index: usize,
+    },
+    /// A request has two answers.
+    #[error("request {index} has two answers")]
+    Twice {
+        /// The request's index, from 0.
+        index: usize,
+    },
+    /// An answer is of a version that isn't published.
+    #[error("request {index} is answered at version {version}, which is not published")]
+    Unaccounted {
+        /// The request's index, from 0.
+        index: usize,
+        /// The answer's version.
+        version: u32,
+    },
+}
+
+impl From<AllocError> for ServeError {
+    ghost use Rattle.std.specs.Prelude.{◌≡◌};
+    ghost use Rattle.cspf_work.specs.declared.serve_error.ServeError.TheVariants.{Memory};
+
+    ghost from_gives = { λ _ error. error ≡ Memory };
+
+    fn from(_refused: AllocError) -> ServeError {
+        ServeError::Memory
+    }
+}
+
+impl From<AskError> for ServeError {
+    ghost use Rattle.std.specs.Prelude.{◌≡◌};
+    ghost use Rattle.cspf_work.specs.AskingErrors.{serve_error_of};
+
+    ghost from_gives = { λ fault error. error ≡ serve_error_of fault };
+
+    fn from(fault: AskError) -> ServeError {
+        match fault {
+            AskError::NoEntry => ServeError::NoEntry,
+            AskError::Memory => ServeError::Memory,
+        }
+    }
+}

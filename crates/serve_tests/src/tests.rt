@@ -1,0 +1,107 @@
+mod batches;
+mod limits;
+mod live_rows;
+mod scripts;
+
+use std::alloc::{AllocError, Global};
+use std::io;
+use std::io::{ErrorKind, Read, Write};
+
+/// What a byte of a script stands for.
+fn spelled(byte: &u8) -> &[u8] {
+    match *byte {
+        b'P' => {
+            b"put,1.1.1.1,10.0.12.1,2.2.2.2,10.0.12.2,10,0x1,1000,1000,1000,1000,1000,1000,1000,1000"
+        }
+        b'F' => b"1000,1000,1000,1000,1000,1000,1000,1000",
+        b'Z' => b"0x0,0x0,0x0",
+        b'H' => b"0.0.0.0/0l 0.0.0.0/0l 0.0.0.0/0l 0.0.0.0/0l 0.0.0.0/0l 0.0.0.0/0l 0.0.0.0/0l",
+        b'B' => b"\xef\xbb\xbf",
+        _ => std::slice::from_ref(byte),
+    }
+}
+
+/// The bytes of a script.
+fn bytes_of(alloc: Global, script: &[u8]) -> Result<Vec<u8>, AllocError> {
+    let mut bytes = Vec::new(alloc);
+    for byte in script {
+        bytes.extend_from_slice(spelled(byte))?;
+    }
+    Ok(bytes)
+}
+
+/// Gives its text so many times, so many bytes a read at most, and fails behind so many.
+#[derive(Drop)]
+struct Pieces<'a> {
+    text: &'a [u8],
+    rest: &'a [u8],
+    left: u32,
+    width: usize,
+    last: usize,
+}
+
+/// The text once, so many bytes a read, with a fault behind so many.
+fn in_pieces(text: &[u8], width: usize, last: usize) -> Pieces<'_> {
+    Pieces {
+        text,
+        rest: text,
+        left: 0,
+        width,
+        last,
+    }
+}
+
+/// So many copies of a row.
+fn copies(text: &[u8], left: u32) -> Pieces<'_> {
+    Pieces {
+        text,
+        rest: &[],
+        left,
+        width: usize::MAX,
+        last: usize::MAX,
+    }
+}
+
+impl<'a> Read for Pieces<'a> {
+    fn read(&mut self, buf: &mut [u8]) -> io::Result<usize> {
+        if self.last == 0 {
+            return Err(io::Error::from(ErrorKind::BrokenPipe));
+        }
+        if self.rest.is_empty() && self.left > 0 {
+            self.left = self.left.saturating_sub(1);
+            self.rest = self.text;
+        }
+        let rest = self.rest;
+        let given = rest.len().min(self.width).min(self.last).min(buf.len());
+        buf[..given].copy_from_slice(&rest[..given]);
+        self.rest = &rest[given..];
+        self.last = self.last.saturating_sub(given);
+        Ok(given)
+    }
+}
+
+/// Takes so many bytes a write, and fails once it holds as many as it may.
+#[derive(Drop)]
+struct Narrow {
+    held: Vec<u8>,
+    width: usize,
+    most: usize,
+}
+
+impl Write for Narrow {
+    fn write(&mut self, buf: &[u8]) -> io::Result<usize> {
+        let free = self.most.saturating_sub(self.held.len());
+        if free == 0 {
+            return Err(io::Error::from(ErrorKind::StorageFull));
+        }
+        let taken = buf.len().min(self.width).min(free);
+        if self.held.extend_from_slice(&buf[..taken]).is_err() {
+            return Err(io::Error::from(ErrorKind::OutOfMemory));
+        }
+        Ok(taken)
+    }
+
+    fn flush(&mut self) -> io::Result<()> {
+        Err(io::Error::from(ErrorKind::Unsupported))
+    }
+}

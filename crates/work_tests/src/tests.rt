@@ -1,0 +1,4 @@
+mod entries;
+mod gates;
+mod orders;
+mod workers;

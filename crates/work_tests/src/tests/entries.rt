@@ -1,0 +1,57 @@
+ghost use Rattle.std.specs.Prelude.{◌<◌, ◌≤◌, length};
+ghost use Rattle.cspf_work.specs.declared.limits.TheConstants.{MOST_REQUESTS};
+
+use super::workers::{link_batch, opened, requests};
+use cspf_db::{Batch, Request};
+use cspf_publish::Asker;
+use cspf_serve::{Answers, NoGate, ServeError, answer_all};
+use std::alloc::Global;
+use std::process::Abort;
+use std::sync::Wait;
+use std::test::Fail;
+use std::thread::Threads;
+
+/// What three askers answer once their publisher is closed, of whom the first alone was told of its
+/// batch.
+fn ask_closed<R: Threads + Wait + Abort + Sync>(
+    rt: &R,
+    alloc: Global,
+    batch: &Batch,
+    requests: &[Request],
+) -> Result<Answers, (ServeError, Vec<Asker>)>
+    requires { length requests.now ≤ MOST_REQUESTS }
+{
+    let (mut publisher, mut askers) = opened(rt, alloc, Vec::<u8>::new(alloc), 3);
+    let applied = publisher.apply(rt, alloc, batch);
+    askers[0].learn(publisher.tell());
+    publisher.close(rt);
+    assert!(rt; applied == Ok(1));
+    answer_all(rt, alloc, askers, requests, &NoGate)
+}
+
+/// Whether these are three askers of whom the first alone knows a batch.
+fn are_as_told(askers: &[Asker]) -> bool {
+    match askers {
+        [first, second, third] => first.seen() == 1 && second.seen() == 0 && third.seen() == 0,
+        _ => false,
+    }
+}
+
+/// Behind a closed publisher there is no entry, and the askers come back as they were.
+#[test]
+fn no_entry(rt: HostRuntime) -> Result<(), Fail> {
+    let batch = link_batch(rt.alloc(), 1)?;
+    for count in [1, 3] {
+        let all = requests(rt.alloc(), count)?;
+        match ask_closed(&rt, rt.alloc(), &batch, all.as_slice()) {
+            Ok(_) => panic!(rt; "answered"),
+            Err((error, askers)) => {
+                assert!(rt;
+                    error == ServeError::NoEntry && are_as_told(&askers),
+                    "{count}"
+                );
+            }
+        }
+    }
+    Ok(())
+}

@@ -1,0 +1,169 @@
+ghost use Rattle.std.specs.Prelude.{◌<◌, ◌≤◌};
+ghost use Rattle.cspf_publish.specs.declared.limits.TheConstants.{MOST_ASKERS};
+
+use super::workers::{
+    Counts, answered_with_a_link, link_batch, opened, requests, run_and_close, zeros,
+};
+use cspf_serve::{Gate, run_batch, run_live_rows};
+use std::alloc::{AllocError, Global};
+use std::fmt::Write;
+use std::sync::Wait;
+use std::sync::atomic::{AtomicU64, Ordering};
+use std::test::Fail;
+use std::thread::Threads;
+
+/// The rows of so many requests over the database without a link, and their lines.
+fn asking(alloc: Global, count: u32) -> Result<(String, String), AllocError> {
+    let mut rows = String::new(alloc);
+    let mut lines = String::new(alloc);
+    for id in 0..count {
+        write!(rows, "ask,{id},1.1.1.1,2.2.2.2,0,0,0x0,0x0,0x0,\n")?;
+        write!(lines, "ask {id} v0 unknown-from\n")?;
+    }
+    Ok((rows, lines))
+}
+
+/// Which run answers requests.
+#[derive(Clone, Copy)]
+enum Run {
+    /// `run_batch` over no journal.
+    Batch,
+    /// `run_live_rows` over no updates.
+    Live,
+}
+
+/// Whether a run over nothing but so many requests answers them, by this many workers, with their
+/// lines.
+fn answers<G: Gate + Sync, T: Threads + Wait + Sync>(
+    rt: &T,
+    alloc: Global,
+    run: Run,
+    count: u32,
+    workers: usize,
+    gate: &G,
+) -> Result<bool, AllocError>
+    requires { (0 < workers) × (workers ≤ MOST_ASKERS) }
+{
+    let none: &[u8] = b"";
+    let (rows, mut lines) = asking(alloc, count)?;
+    let asked = rows.as_bytes();
+    let mut held = Vec::new(alloc);
+    let mut kept: Vec<u8> = Vec::new(alloc);
+    let found = match run {
+        Run::Batch => run_batch(rt, alloc, none, asked, &mut held, workers, false, gate),
+        Run::Live => {
+            lines.push_str("applied 0\n")?;
+            let (found, journal) = run_live_rows(
+                rt, alloc, none, asked, kept, &mut held, workers, gate,
+            );
+            kept = journal;
+            found
+        }
+    };
+    Ok(found == Ok(0) && held.as_slice() == lines.as_bytes() && kept.is_empty())
+}
+
+/// As many workers as requests, each of which is held until all are reached: all workers run at
+/// once, and it is the caller's gate that they tell.
+#[test]
+fn at_once_in_a_batch_run(rt: HostRuntime) -> Result<(), Fail> {
+    let two = Counts::new(rt.alloc(), 2)?;
+    assert!(rt; answers(&rt, rt.alloc(), Run::Batch, 2, 2, &two)? && two.is_whole());
+    let all = Counts::new(rt.alloc(), 64)?;
+    assert!(rt; answers(&rt, rt.alloc(), Run::Batch, 64, 64, &all)? && all.is_whole());
+    Ok(())
+}
+
+#[test]
+fn at_once_in_a_live_run(rt: HostRuntime) -> Result<(), Fail> {
+    let two = Counts::new(rt.alloc(), 2)?;
+    assert!(rt; answers(&rt, rt.alloc(), Run::Live, 2, 2, &two)? && two.is_whole());
+    let all = Counts::new(rt.alloc(), 64)?;
+    assert!(rt; answers(&rt, rt.alloc(), Run::Live, 64, 64, &all)? && all.is_whole());
+    Ok(())
+}
+
+/// Notes what each worker tells, in its order, as hexadecimal digits: 1, 3 and 5 for reaching the
+/// requests 0, 1 and 2, and 2, 4 and 6 for having their answers.
+#[derive(Drop)]
+struct Notes {
+    words: Vec<AtomicU64>,
+    /// What is told of a worker that isn't there.
+    others: AtomicU64,
+}
+
+impl Notes {
+    fn new(alloc: Global, workers: usize) -> Result<Notes, AllocError> {
+        Ok(Notes {
+            words: zeros(alloc, workers)?,
+            others: AtomicU64::new(0),
+        })
+    }
+
+    fn note(&self, worker: usize, digit: u64) {
+        let word = self.words.get(worker).unwrap_or(&self.others);
+        let noted = word.load(Ordering::SeqCst);
+        word.store(noted.wrapping_mul(16).wrapping_add(digit), Ordering::SeqCst);
+    }
+
+    /// Whether worker 0 asks the requests 0 and 2 one after the other, and worker 1 the request 1.
+    fn are_of_three_requests(&self) -> bool {
+        match self.words.as_slice() {
+            [first, second] => {
+                first.load(Ordering::SeqCst) == 0x1256
+                    && second.load(Ordering::SeqCst) == 0x34
+                    && self.others.load(Ordering::SeqCst) == 0
+            }
+            _ => false,
+        }
+    }
+}
+
+impl Gate for Notes {
+    fn reached(&self, worker: usize, index: usize) {
+        self.note(worker, (index as u64).wrapping_mul(2).wrapping_add(1));
+    }
+
+    fn answered(&self, worker: usize, index: usize) {
+        self.note(worker, (index as u64).wrapping_mul(2).wrapping_add(2));
+    }
+}
+
+#[test]
+fn what_workers_tell(rt: HostRuntime) -> Result<(), Fail> {
+    let all = requests(rt.alloc(), 3)?;
+    let notes = Notes::new(rt.alloc(), 2)?;
+    let answers = answered_with_a_link(&rt, rt.alloc(), 2, all.as_slice(), &notes)?;
+    assert!(rt; answers.list.len() == 3 && notes.are_of_three_requests());
+    Ok(())
+}
+
+#[test]
+fn what_live_workers_tell(rt: HostRuntime) -> Result<(), Fail> {
+    let batch = link_batch(rt.alloc(), 1)?;
+    let all = requests(rt.alloc(), 3)?;
+    let notes = Notes::new(rt.alloc(), 2)?;
+    let (publisher, askers) = opened(&rt, rt.alloc(), Vec::<u8>::new(rt.alloc()), 2);
+    let asked = all.as_slice();
+    let left = run_and_close(&rt, rt.alloc(), publisher, askers, &[batch], asked, &notes);
+    assert!(rt; left.list.len() == 3 && left.applied == 1 && notes.are_of_three_requests());
+    Ok(())
+}
+
+#[test]
+fn what_workers_tell_of_rows(rt: HostRuntime) -> Result<(), Fail> {
+    let notes = Notes::new(rt.alloc(), 2)?;
+    assert!(rt;
+        answers(&rt, rt.alloc(), Run::Batch, 3, 2, &notes)? && notes.are_of_three_requests()
+    );
+    Ok(())
+}
+
+#[test]
+fn what_live_workers_tell_of_rows(rt: HostRuntime) -> Result<(), Fail> {
+    let notes = Notes::new(rt.alloc(), 2)?;
+    assert!(rt;
+        answers(&rt, rt.alloc(), Run::Live, 3, 2, &notes)? && notes.are_of_three_requests()
+    );
+    Ok(())
+}

@@ -1,0 +1,229 @@
+ghost use Rattle.std.specs.Prelude.{◌<◌, ◌≤◌};
+ghost use Rattle.cspf_publish.specs.declared.limits.TheConstants.{MOST_ASKERS};
+
+use super::workers::{link_batch, opened, requests, run_and_close, wait_for};
+use cspf_publish::{Answer, ApplyError};
+use cspf_serve::{Gate, RunError, run_live_rows};
+use std::alloc::{AllocError, Global};
+use std::fmt::Write as FmtWrite;
+use std::io;
+use std::io::{ErrorKind, Write};
+use std::process::Abort;
+use std::sync::Wait;
+use std::sync::atomic::{AtomicU64, Ordering};
+use std::test::Fail;
+use std::thread::Threads;
+
+/// The bytes of the text of a batch of one link.
+const TEXT: usize = 102;
+
+/// Holds each worker on one side of its asks until the first batch is published, and the first batch
+/// until a worker is there.
+#[derive(Drop)]
+struct Order {
+    /// Whether that side is the one before the ask.
+    before: bool,
+    there: AtomicU64,
+    published: AtomicU64,
+    faults: AtomicU64,
+}
+
+impl Order {
+    fn new(before: bool) -> Order {
+        Order {
+            before,
+            there: AtomicU64::new(0),
+            published: AtomicU64::new(0),
+            faults: AtomicU64::new(0),
+        }
+    }
+
+    fn hold(&self) {
+        self.there.fetch_add(1, Ordering::SeqCst);
+        wait_for(&self.published, 1, &self.faults);
+    }
+
+    /// Whether so many asks were held, and no wait was in vain.
+    fn has_held(&self, count: u64) -> bool {
+        self.faults.load(Ordering::SeqCst) == 0 && self.there.load(Ordering::SeqCst) == count
+    }
+}
+
+impl Gate for Order {
+    fn reached(&self, _worker: usize, _index: usize) {
+        if self.before {
+            self.hold();
+        }
+    }
+
+    fn answered(&self, _worker: usize, _index: usize) {
+        if !self.before {
+            self.hold();
+        }
+    }
+}
+
+/// A journal in memory that waits with the first batch for a worker, and fails at the second.
+#[derive(Drop)]
+struct OrderJournal<'a> {
+    held: Vec<u8>,
+    order: &'a Order,
+}
+
+impl<'a> Write for OrderJournal<'a> {
+    fn write(&mut self, buf: &[u8]) -> io::Result<usize> {
+        if self.held.is_empty() {
+            wait_for(&self.order.there, 1, &self.order.faults);
+        }
+        if self.held.len() >= TEXT {
+            self.order.published.fetch_add(1, Ordering::SeqCst);
+            return Err(io::Error::from(ErrorKind::StorageFull));
+        }
+        self.held.write(buf)
+    }
+
+    fn flush(&mut self) -> io::Result<()> {
+        Ok(())
+    }
+}
+
+/// Whether these are two answers of these versions.
+fn are_of(list: &[Answer], versions: (u32, u32)) -> bool {
+    match list {
+        [first, second] => first.version == versions.0 && second.version == versions.1,
+        _ => false,
+    }
+}
+
+/// Two requests of one worker are held on one side of their asks: whether their answers are of these
+/// versions.
+fn answers_held<R: Threads + Wait + Abort + Sync>(
+    rt: &R,
+    alloc: Global,
+    before: bool,
+    versions: (u32, u32),
+) -> Result<bool, Fail> {
+    let batches = [link_batch(alloc, 1)?, link_batch(alloc, 2)?];
+    let all = requests(alloc, 2)?;
+    let order = Order::new(before);
+    let journal = OrderJournal {
+        held: Vec::new(alloc),
+        order: &order,
+    };
+    let (publisher, askers) = opened(rt, alloc, journal, 1);
+    let left = run_and_close(
+        rt,
+        alloc,
+        publisher,
+        askers,
+        &batches,
+        all.as_slice(),
+        &order,
+    );
+    let stopped = left.fault == Some(ApplyError::Journal { written: 0 });
+    Ok(stopped && left.version == 1 && order.has_held(2) && are_of(&left.list, versions))
+}
+
+/// The first request is asked before the first batch is published, since that waits until the gate
+/// is told of the answer.
+#[test]
+fn answered_comes_after_the_ask(rt: HostRuntime) -> Result<(), Fail> {
+    assert!(rt; answers_held(&rt, rt.alloc(), false, (0, 1))?);
+    Ok(())
+}
+
+/// The first request is asked after the first batch is published, since it waits for that once it is
+/// reached.
+#[test]
+fn reached_comes_before_the_ask(rt: HostRuntime) -> Result<(), Fail> {
+    assert!(rt; answers_held(&rt, rt.alloc(), true, (1, 1))?);
+    Ok(())
+}
+
+/// Two batches of one link.
+const UPDATES: &[u8] =
+    b"put,1.1.1.1,10.0.12.1,2.2.2.2,10.0.12.2,10,0x1,1000,1000,1000,1000,1000,1000,1000,1000
+end,1,1
+put,1.1.1.1,10.0.12.1,2.2.2.2,10.0.12.2,10,0x1,1000,1000,1000,1000,1000,1000,1000,1000
+end,2,1
+";
+
+/// More requests than workers.
+const COUNT: u32 = 130;
+
+fn request_rows(alloc: Global) -> Result<String, AllocError> {
+    let mut rows = String::new(alloc);
+    for id in 0..COUNT {
+        write!(rows, "ask,{id},1.1.1.1,2.2.2.2,0,1000,0x0,0x0,0x0,\n")?;
+    }
+    Ok(rows)
+}
+
+/// The lines of these requests at version 1, of one batch that is published and of one that the
+/// journal refuses.
+fn lines_at_version_1(alloc: Global) -> Result<String, AllocError> {
+    let mut lines = String::new(alloc);
+    for id in 0..COUNT {
+        write!(
+            lines,
+            "ask {id} v1 route cost=10 hops=1 again=no ero=000c140101080a000c022000\n"
+        )?;
+    }
+    lines.push_str("applied 1\nbatch 2 refused: journal 0\n")?;
+    Ok(lines)
+}
+
+/// What so many workers answer and write that are held until the first of two batches is published,
+/// and whether each request was held.
+fn run_held<T: Threads + Wait + Sync>(
+    rt: &T,
+    alloc: Global,
+    updates: &[u8],
+    requests: &[u8],
+    workers: usize,
+) -> (Result<u8, RunError>, Vec<u8>, bool)
+    requires { (0 < workers) × (workers ≤ MOST_ASKERS) }
+{
+    let order = Order::new(true);
+    let journal = OrderJournal {
+        held: Vec::new(alloc),
+        order: &order,
+    };
+    let mut lines = Vec::new(alloc);
+    let (found, journal) = run_live_rows(
+        rt, alloc, updates, requests, journal, &mut lines, workers, &order,
+    );
+    let whole = journal.held.len() == TEXT && order.has_held(COUNT as u64);
+    (found, lines, whole)
+}
+
+/// Whether so many workers answer these lines.
+fn is_held<T: Threads + Wait + Sync>(
+    rt: &T,
+    alloc: Global,
+    input: (&[u8], &[u8]),
+    workers: usize,
+    lines: &[u8],
+) -> bool
+    requires { (0 < workers) × (workers ≤ MOST_ASKERS) }
+{
+    let (found, written, whole) = run_held(rt, alloc, input.0, input.1, workers);
+    found == Ok(2) && written.as_slice() == lines && whole
+}
+
+/// Sixty-four workers answer as one does.
+#[test]
+fn any_number_of_workers(rt: HostRuntime) -> Result<(), Fail> {
+    let requests = request_rows(rt.alloc())?;
+    let lines = lines_at_version_1(rt.alloc())?;
+    let input = (UPDATES, requests.as_bytes());
+    assert!(rt;
+        is_held(&rt, rt.alloc(), input, 1, lines.as_bytes()),
+        "by one worker"
+    );
+    assert!(rt;
+        is_held(&rt, rt.alloc(), input, 64, lines.as_bytes()),
+        "by 64 workers"
+    );
+    Ok(())
+}
