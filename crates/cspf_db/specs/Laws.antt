@@ -67,6 +67,11 @@ RoutersAreCounted =
     (d : Database) → AreAtTheirKeys d → (router : ℕ)
     → IsTrue (set.contains (all_routers d) router) ↔ IsRouterOf d router
 
+-- each link is at its own key after any list of batches
+abbrev pub LinksAreAtTheirKeys : Type 0
+LinksAreAtTheirKeys =
+    (batches : List NumberedChanges) → AreAtTheirKeys (database_after batches)
+
 -- different routers of a database are at most as many as it has
 abbrev pub NoRouterIsLeftOut : Type 0
 NoRouterIsLeftOut =

@@ -4,3 +4,5 @@ pub mod RepeatedKeys
 pub mod RowsLeft
 pub mod CountedEnds
 pub mod RouterSets
+pub mod RowChanges
+pub mod MergeSteps

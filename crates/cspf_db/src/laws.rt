@@ -1,13 +1,9 @@
 //! What follows from the definitions of `specs/` alone. Each call here does nothing: its contract
 //! is the law.
 ghost use Rattle.std.specs.Cmp.{IsTotalOrder};
-ghost use Rattle.cspf_db.specs.Changes.{database_after};
 ghost use Rattle.cspf_db.specs.Walks.{walk_cmp};
-ghost use Rattle.cspf_db.specs.Numbered.{NumberedChanges};
-ghost use Rattle.std.specs.Prelude.{List};
-ghost use Rattle.cspf_db.specs.Database.{AreAtTheirKeys};
 ghost use Rattle.cspf_db.specs.Fields.{AreFieldsOfLinks, AreFieldsOfRequests};
-ghost use Rattle.cspf_db.specs.Laws.{WalksAreTold, RoutesAreRanked, OneBestAnswer, LastChangeDecides, OneDatabase, OneMoreBatch, LawfulByOneMore, FirstBatchesAreLawful, RoutersAreCounted, NoRouterIsLeftOut, OneRefusal, AddressesCompareAsNumbers, FewerLinksComeFirst, LastPutStands, LastRemovalStands, ExactBandwidthIsEnough, LessBandwidthIsNot};
+ghost use Rattle.cspf_db.specs.Laws.{WalksAreTold, RoutesAreRanked, OneBestAnswer, LastChangeDecides, OneDatabase, OneMoreBatch, LawfulByOneMore, FirstBatchesAreLawful, RoutersAreCounted, NoRouterIsLeftOut, LinksAreAtTheirKeys, OneRefusal, AddressesCompareAsNumbers, FewerLinksComeFirst, LastPutStands, LastRemovalStands, ExactBandwidthIsEnough, LessBandwidthIsNot};
 
 mod hop_laws;
 
@@ -51,8 +47,7 @@ pub fn lawful_batches()
 pub fn counted_routers()
     ensures counted { RoutersAreCounted }
     ensures distinct { NoRouterIsLeftOut }
-    ensures at_their_keys { (batches : List NumberedChanges)
-        → AreAtTheirKeys (database_after batches) }
+    ensures at_their_keys { LinksAreAtTheirKeys }
 {}
 
 /// A link has the attributes that are read off it and no others, and a request says what is read off

@@ -8,6 +8,7 @@ ghost use Rattle.cspf_db.specs.Targets.{Owns};
 ghost use Rattle.cspf_db.specs.declared.limits.TheConstants.{MOST_LINKS};
 
 mod check;
+mod insertion;
 mod merging;
 mod places;
 mod router_list;

@@ -4,4 +4,4 @@ pub mod Lines
 pub mod Subobjects
 pub mod Spelling
 pub mod RoutesRead
-pub mod Fronts
+pub mod FirstBytes

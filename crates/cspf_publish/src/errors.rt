@@ -1,3 +1,6 @@
+ghost use Rattle.std.specs.Prelude.{◌≡◌};
+ghost use Rattle.cspf_publish.specs.declared.errors.OpenError.TheVariants as open_error;
+
 use cspf_db::Refusal;
 use std::alloc::AllocError;
 use thiserror::Error;
@@ -21,10 +24,7 @@ pub enum OpenError {
 pub(crate) struct NoPlace;
 
 impl From<AllocError> for OpenError {
-    ghost use Rattle.std.specs.Prelude.{◌≡◌};
-    ghost use Rattle.cspf_publish.specs.declared.errors.OpenError.TheVariants.{Memory};
-
-    ghost from_gives = { λ _ error. error ≡ Memory };
+    ghost from_gives = { λ _ error. error ≡ open_error.Memory };
 
     fn from(_refused: AllocError) -> OpenError {
         OpenError::Memory
@@ -32,10 +32,7 @@ impl From<AllocError> for OpenError {
 }
 
 impl From<NoPlace> for OpenError {
-    ghost use Rattle.std.specs.Prelude.{◌≡◌};
-    ghost use Rattle.cspf_publish.specs.declared.errors.OpenError.TheVariants.{Places};
-
-    ghost from_gives = { λ _ error. error ≡ Places };
+    ghost from_gives = { λ _ error. error ≡ open_error.Places };
 
     fn from(_refused: NoPlace) -> OpenError {
         OpenError::Places

@@ -15,8 +15,8 @@ use Rattle.cspf_rows.specs.FieldValues.{field, number_at, small_number_at, prior
 use Rattle.cspf_rows.specs.Rows.{link_with, request_with, put_between, put, ask_between, ask, put_row_of, drop_row_of, end_row_of, ask_row_of, row_of}
 use Rattle.cspf_rows.specs.FieldTexts.{AreTextsRead}
 use Rattle.cspf_rows.specs.Says.{SaysPut, SaysRemove, SaysEnd, SaysAsk, Says, AreRowsRead, SaysOneRow}
-use Rattle.cspf_rows.proofs.Made.{put-link, ask-fields}
-use Rattle.cspf_rows.proofs.Spelled.{first_step, number_at-spelled, spelled-number_at, small_number_at-spelled, spelled-small_number_at, priority_at-spelled, spelled-priority_at, address_at-spelled, spelled-address_at, mask_at-spelled, spelled-mask_at, hops_at-spelled, spelled-hops_at}
+use Rattle.cspf_rows.proofs.AttributeLemmas.{put-link, ask-fields}
+use Rattle.cspf_rows.proofs.FieldLemmas.{first_step, number_at-spelled, spelled-number_at, small_number_at-spelled, spelled-small_number_at, priority_at-spelled, spelled-priority_at, address_at-spelled, spelled-address_at, mask_at-spelled, spelled-mask_at, hops_at-spelled, spelled-hops_at}
 
 -- eight numbers, one by one
 eight_items : (xs : List ℕ) → length xs ≡ 8

@@ -8,7 +8,7 @@ use Rattle.cspf_rows.specs.declared.row.Row.{Row}
 use Rattle.cspf_rows.specs.declared.row.Row.TheVariants as row
 use Rattle.cspf_rows.specs.declared.row_error.RowError.{RowError}
 use Rattle.cspf_rows.specs.Journal.{change_row, batch_rows, journal_rows, AreNumberedFrom}
-use Rattle.cspf_rows.specs.JournalFront.{EndsFront, AreBehind}
+use Rattle.cspf_rows.specs.JournalReading.{EndsBatches, AreBehind}
 
 abbrev ReadRow : Type 0
 ReadRow = Result Row RowError
@@ -55,15 +55,15 @@ abbrev pub HasNoBatch : ℕ → List (Result Row RowError) → Type 0
 HasNoBatch number xs = (batch : NumberedChanges) (rest : List (Result Row RowError)) → batch.number ≡ number → xs ≢ read_rows (batch_rows batch) ++ rest
 
 -- where batches are followed by no further one, no other batches leave fewer rows
-pub longest_front : (first : ℕ) (bs os : List NumberedChanges) (xs ys : List (Result Row RowError)) → AreNumberedFrom first bs → AreNumberedFrom first os
+pub longest_prefix : (first : ℕ) (bs os : List NumberedChanges) (xs ys : List (Result Row RowError)) → AreNumberedFrom first bs → AreNumberedFrom first os
     → read_rows (journal_rows bs) ++ xs ≡ read_rows (journal_rows os) ++ ys → HasNoBatch (first + length bs) xs → length xs ≤ length ys
-longest_front first [] [] xs ys numbers others e none = omega (arith, ap length e)
-longest_front first [] (o ∷ os) xs ys numbers others e none =
+longest_prefix first [] [] xs ys numbers others e none = omega (arith, ap length e)
+longest_prefix first [] (o ∷ os) xs ys numbers others e none =
     absurd (none o (read_rows (journal_rows os) ++ ys) (omega (arith, others.0)) (e ∙ split_first o os ys))
-longest_front first (b ∷ bs) [] xs ys numbers others e none = omega (arith, simp length-append at (ap length e))
-longest_front first (b ∷ bs) (o ∷ os) xs ys numbers others e none =
+longest_prefix first (b ∷ bs) [] xs ys numbers others e none = omega (arith, simp length-append at (ap length e))
+longest_prefix first (b ∷ bs) (o ∷ os) xs ys numbers others e none =
     let count : first + length (b ∷ bs) ≡ (first + 1) + length bs = omega arith in
-    longest_front (first + 1) bs os xs ys numbers.1 others.1 (first_two b o bs os xs ys e).2 (rw count at none)
+    longest_prefix (first + 1) bs os xs ys numbers.1 others.1 (first_two b o bs os xs ys e).2 (rw count at none)
 
 equal_batches : (b o : NumberedChanges) → b.number ≡ o.number → b.changes ≡ o.changes → b ≡ o
 equal_batches b o number changes =
@@ -71,23 +71,23 @@ equal_batches b o number changes =
     ∙ ap (λ cs. let x : NumberedChanges = record { number = o.number; changes = cs } in x) changes
 
 -- two lists of batches that leave as many rows are one, and so is what they leave
-pub same_front : (bs os : List NumberedChanges) (xs ys : List (Result Row RowError))
+pub same_prefix : (bs os : List NumberedChanges) (xs ys : List (Result Row RowError))
     → read_rows (journal_rows bs) ++ xs ≡ read_rows (journal_rows os) ++ ys → length xs ≡ length ys → bs ≡ os
-same_front [] [] xs ys e count = refl
-same_front [] (o ∷ os) xs ys e count = absurd (omega (arith, simp (length-append, length-map) at (ap length e)))
-same_front (b ∷ bs) [] xs ys e count = absurd (omega (arith, simp (length-append, length-map) at (ap length e)))
-same_front (b ∷ bs) (o ∷ os) xs ys e count =
+same_prefix [] [] xs ys e count = refl
+same_prefix [] (o ∷ os) xs ys e count = absurd (omega (arith, simp (length-append, length-map) at (ap length e)))
+same_prefix (b ∷ bs) [] xs ys e count = absurd (omega (arith, simp (length-append, length-map) at (ap length e)))
+same_prefix (b ∷ bs) (o ∷ os) xs ys e count =
     let two = first_two b o bs os xs ys e in
-    rw (equal_batches b o two.1 two.0, same_front bs os xs ys two.2 count) refl
+    rw (equal_batches b o two.1 two.0, same_prefix bs os xs ys two.2 count) refl
 
--- open changes, and then rows that end the front, begin with no whole batch
+-- open changes, and then a row that no batch has, begin with no whole batch
 no_batch : (opens cs : List Change) (done n k number count : ℕ) (xs rest : List ReadRow)
     → AreBehind n k xs → done + length opens ≡ k → done + length cs ≡ count → number ≡ n
     → read_rows (map change_row opens) ++ xs ≡ read_rows (map change_row cs ++ (row.End number count ∷ [])) ++ rest → ⊥
 no_batch [] [] done n k number count [] rest behind opened counted same e = cc
 no_batch [] [] done n k number count (x ∷ xs) rest behind opened counted same e =
     let head : x ≡ Ok (row.End number count) = cc in
-    let last : EndsFront n k (Ok (row.End number count)) = rw head at behind in
+    let last : EndsBatches n k (Ok (row.End number count)) = rw head at behind in
     last (same, omega arith)
 no_batch [] (c ∷ cs) done n k number count [] rest behind opened counted same e = cc
 no_batch [] (change.Put a ∷ cs) done n k number count (x ∷ xs) rest behind opened counted same e =

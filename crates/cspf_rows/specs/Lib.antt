@@ -10,7 +10,7 @@ pub mod RecordFaults
 pub mod RowRefusals
 pub mod Journal
 pub mod JournalLaws
-pub mod JournalFront
+pub mod JournalReading
 pub mod ReadFaults
 pub mod Requests
 pub mod RequestReading

@@ -1,4 +1,4 @@
--- private: how far the records of a stream were read.
+-- Private: how far the records of a stream were read.
 use Rattle.std.specs.Prelude.{◌≡◌, ℕ, List, ◌++◌, length, Option, Some, None}
 
 -- all records are those that were seen, and then those that are left

@@ -1,4 +1,4 @@
--- private: how one record refuses a stream of requests.
+-- Private: how one record refuses a stream of requests.
 use Rattle.std.specs.Prelude.{◌≡◌, ℕ, Result, Ok, Err}
 use Rattle.cspf_rows.specs.declared.row.Row.{Row}
 use Rattle.cspf_rows.specs.declared.row_error.RowError.{RowError}

@@ -68,9 +68,7 @@ pub(crate) fn address(fields: &ByteRecord, place: usize) -> Result<Addr, RowErro
     requires { 1 ≤ place }
     ensures { result ≡ address_at (fields_of fields.now) place }
 {
-    Addr::parse(text(fields, place))
-        .ok()
-        .ok_or(RowError::Address { field: place })
+    Addr::parse(text(fields, place)).map_err(|_| RowError::Address { field: place })
 }
 
 /// The mask that a field spells.
@@ -79,9 +77,7 @@ pub(crate) fn mask(fields: &ByteRecord, place: usize) -> Result<Mask, RowError>
     requires { 1 ≤ place }
     ensures { result ≡ mask_at (fields_of fields.now) place }
 {
-    Mask::parse(text(fields, place))
-        .ok()
-        .ok_or(RowError::Mask { field: place })
+    Mask::parse(text(fields, place)).map_err(|_| RowError::Mask { field: place })
 }
 
 /// The hops that a field spells, as a hop list, or as an object in hexadecimal digits behind `ero:`.

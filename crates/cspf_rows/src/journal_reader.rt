@@ -1,10 +1,11 @@
-ghost use Rattle.std.specs.Prelude.{◌≡◌, ◌<◌, ◌≤◌, [], length, IfOk, IfSome, OnOk};
+ghost use Rattle.std.specs.Prelude.{◌≡◌, ◌<◌, ◌≤◌, [], length, IfOk, IfSome, OnOk, true};
+ghost use Rattle.csv.specs.Reading.{has_failed};
 ghost use Rattle.cspf_rows.specs.Records.{rows_of, rows_left, IsPlain};
 ghost use Rattle.cspf_rows.specs.Journal.{IsJournal};
-ghost use Rattle.cspf_rows.specs.JournalFront.{HasRead};
+ghost use Rattle.cspf_rows.specs.JournalReading.{HasRead};
 
-use crate::front::Front;
 use crate::journal::Journal;
+use crate::journal_parser::JournalParser;
 use crate::limits::MOST_ROWS;
 use crate::read_error::ReadError;
 use crate::records::{next_record, open_records};
@@ -44,33 +45,35 @@ fn read_batches<R: Read>(
     ensures too_many { result ≡ Err ReadError.TooManyRows
         → IfSome (rows_left R.remaining records.old) (λ rows. MOST_ROWS < length rows) }
     ensures most { IfOk result (λ journal. length journal.batches.items ≤ MOST_ROWS) }
+    ensures device { result ≡ Err ReadError.Device → has_failed records.new ≡ true }
 {
-    let mut front = Front::new(alloc);
-    read_front(alloc, records, fields, &mut front)?;
-    Ok(front.into_journal())
+    let mut parser = JournalParser::new(alloc);
+    read_rows(alloc, records, fields, &mut parser)?;
+    Ok(parser.into_journal())
 }
 
 /// Reads the rows that a reader has left.
-fn read_front<R: Read>(
+fn read_rows<R: Read>(
     alloc: Global,
     records: &mut Reader<R>,
     fields: &mut ByteRecord,
-    front: &mut Front,
+    parser: &mut JournalParser,
 ) -> Result<(), ReadError>
     requires plain { IsPlain records.old }
-    requires fresh { HasRead front.old [] }
-    ensures whole { OnOk result (IfSome (rows_left R.remaining records.old) (HasRead front.new)) }
+    requires fresh { HasRead parser.old [] }
+    ensures whole { OnOk result (IfSome (rows_left R.remaining records.old) (HasRead parser.new)) }
     ensures few { OnOk result (IfSome (rows_left R.remaining records.old) (λ rows.
         length rows ≤ MOST_ROWS)) }
     ensures too_many { result ≡ Err ReadError.TooManyRows
         → IfSome (rows_left R.remaining records.old) (λ rows. MOST_ROWS < length rows) }
-    ensures most { OnOk result (length front.new.batches.items ≤ MOST_ROWS) }
+    ensures most { OnOk result (length parser.new.batches.items ≤ MOST_ROWS) }
+    ensures device { result ≡ Err ReadError.Device → has_failed records.new ≡ true }
 {
     for _read in 0..MOST_ROWS {
         if !next_record(records, fields)? {
             return Ok(());
         }
-        front.take(alloc, fields)?;
+        parser.take(alloc, fields)?;
     }
     if next_record(records, fields)? {
         return Err(ReadError::TooManyRows);

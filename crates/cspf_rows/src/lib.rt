@@ -4,8 +4,8 @@
 //! field spells, and `specs/Words.antt` the words of a refusal. `specs/Says.antt` has the formats of
 //! the rows, and `specs/RowRefusals.antt` why a record is refused. Reading a row takes no memory.
 //!
-//! `specs/Records.antt` defines how a stream of bytes is cut into records. `put_all` is the way in
-//! which every text of this repository reaches its writer.
+//! `specs/Records.antt` defines how a stream of bytes is cut into records. By `put_all` every
+//! text of this repository reaches its writer.
 //!
 //! `specs/BatchText.antt` defines the text of a batch, `specs/Journal.antt` which batches the records
 //! of a journal are, and `specs/Requests.antt` which requests the records of a stream ask for.
@@ -14,9 +14,9 @@
 
 mod batch;
 mod field;
-mod front;
 mod journal;
 mod journal_laws;
+mod journal_parser;
 mod journal_reader;
 mod laws;
 mod limits;
@@ -45,7 +45,5 @@ pub use requests_error::RequestsError;
 pub use row::Row;
 pub use row_error::{HopsFault, RowError};
 
-#[cfg(test)]
-mod journal_tests;
 #[cfg(test)]
 mod tests;

@@ -30,19 +30,19 @@ fn read_pairs(digits: &[u8]) -> Result<Hops, EroError>
     let size = digits.len() / 2;
     let count = size.min(FIRST_BYTES);
     let mut front = [0; FIRST_BYTES];
-    decode_front(digits, &mut front[..count]);
+    decode_first_bytes(digits, &mut front[..count]);
     read_ero_front(&front[..count], size)
 }
 
 /// Decodes the digits of the first bytes into a place for these.
-fn decode_front(digits: &[u8], front: &mut [u8])
+fn decode_first_bytes(digits: &[u8], front: &mut [u8])
     requires pairs { (length digits.now % 2 ≡ 0) × AllPass is_hex_digit digits.now }
     requires within { 2 * length front.old ≤ length digits.now }
     ensures { (bytes : List ℕ) → decode_of digits.now ≡ Ok bytes
         → front.new ≡ take (length front.old) bytes }
 {
-    let (front_digits, _) = digits.split_at(2 * front.len());
-    let decoded = hex::decode_to_slice(front_digits, front);
+    let (first_digits, _) = digits.split_at(2 * front.len());
+    let decoded = hex::decode_to_slice(first_digits, front);
     prove!(decoded.is_ok());
 }
 

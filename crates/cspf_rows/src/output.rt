@@ -21,6 +21,3 @@ pub fn put_all<W: Write>(to: &mut W, text: &[u8]) -> Result<(), usize>
     }
     Ok(())
 }
-
-#[cfg(test)]
-mod tests;

@@ -1,3 +1,7 @@
+ghost use Rattle.std.specs.Prelude.{◌≡◌};
+ghost use Rattle.cspf_rows.specs.ReadFaults.{stream_fault_of};
+ghost use Rattle.cspf_rows.specs.declared.read_error.ReadError.TheVariants as read_error;
+
 use crate::record_error::RecordError;
 use std::alloc::AllocError;
 use thiserror::Error;
@@ -17,11 +21,7 @@ pub enum ReadError {
 }
 
 impl From<RecordError> for ReadError {
-    ghost use Rattle.std.specs.Prelude.{◌≡◌};
-    ghost use Rattle.cspf_rows.specs.ReadFaults.{stream_fault_of};
-    ghost use Rattle.cspf_rows.specs.declared.read_error.ReadError.TheVariants.{Memory, Device};
-
-    ghost from_gives = { λ error fault. fault ≡ stream_fault_of Memory Device error };
+    ghost from_gives = { λ error fault. fault ≡ stream_fault_of read_error.Memory read_error.Device error };
 
     fn from(error: RecordError) -> ReadError {
         match error {
@@ -32,10 +32,7 @@ impl From<RecordError> for ReadError {
 }
 
 impl From<AllocError> for ReadError {
-    ghost use Rattle.std.specs.Prelude.{◌≡◌};
-    ghost use Rattle.cspf_rows.specs.declared.read_error.ReadError.TheVariants.{Memory};
-
-    ghost from_gives = { λ _ fault. fault ≡ Memory };
+    ghost from_gives = { λ _ fault. fault ≡ read_error.Memory };
 
     fn from(_refused: AllocError) -> ReadError {
         ReadError::Memory

@@ -1,3 +1,7 @@
+ghost use Rattle.std.specs.Prelude.{◌≡◌};
+ghost use Rattle.csv.specs.Reading.{error_kind};
+ghost use Rattle.cspf_rows.specs.RecordFaults.{fault_of};
+
 use csv::ErrorKind;
 use thiserror::Error;
 
@@ -13,10 +17,6 @@ pub enum RecordError {
 }
 
 impl From<csv::Error> for RecordError {
-    ghost use Rattle.std.specs.Prelude.{◌≡◌};
-    ghost use Rattle.csv.specs.Reading.{error_kind};
-    ghost use Rattle.cspf_rows.specs.RecordFaults.{fault_of};
-
     ghost from_gives = { λ error fault. fault ≡ fault_of (error_kind error) };
 
     fn from(error: csv::Error) -> RecordError {

@@ -34,6 +34,3 @@ pub fn next_record<R: Read>(
 {
     Ok(rows.read_byte_record(fields)?)
 }
-
-#[cfg(test)]
-mod tests;

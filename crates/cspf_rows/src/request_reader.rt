@@ -1,4 +1,5 @@
-ghost use Rattle.std.specs.Prelude.{◌≡◌, ◌+◌, ◌≤◌, ◌∷◌, ◌++◌, [], length, IfOk, IfErr, IfSome, OnOk, List, ℕ};
+ghost use Rattle.std.specs.Prelude.{◌≡◌, ◌+◌, ◌≤◌, ◌∷◌, ◌++◌, [], length, IfOk, IfErr, IfSome, OnOk, List, ℕ, true};
+ghost use Rattle.csv.specs.Reading.{has_failed};
 ghost use Rattle.csv.specs.Records.{fields_of};
 ghost use Rattle.cspf_rows.specs.Records.{rows_of, rows_left, IsPlain};
 ghost use Rattle.cspf_rows.specs.Rows.{row_of};
@@ -48,6 +49,7 @@ fn read_rest<R: Read>(
     ensures most { IfOk result (λ requests. length requests.items ≤ MOST_ROWS) }
     ensures err { IfErr result (λ fault. IfSome (rows_left R.remaining records.old) (λ rows.
         IsRequestsFault rows fault)) }
+    ensures device { result ≡ Err RequestsError.Device → has_failed records.new ≡ true }
 {
     let mut requests = Vec::new(alloc);
     read_all(records, fields, &mut requests)?;
@@ -69,6 +71,7 @@ fn read_all<R: Read>(
     ensures most { OnOk result (length requests.new.items ≤ MOST_ROWS) }
     ensures err { IfErr result (λ fault. IfSome (rows_left R.remaining records.old) (λ rows.
         IsRequestsFault rows fault)) }
+    ensures device { result ≡ Err RequestsError.Device → has_failed records.new ≡ true }
 {
     for read in 0..MOST_ROWS {
         if !next_record(records, fields)? {

@@ -1,3 +1,7 @@
+ghost use Rattle.std.specs.Prelude.{◌≡◌};
+ghost use Rattle.cspf_rows.specs.ReadFaults.{stream_fault_of};
+ghost use Rattle.cspf_rows.specs.declared.requests_error.RequestsError.TheVariants as requests_error;
+
 use crate::record_error::RecordError;
 use crate::row_error::RowError;
 use std::alloc::AllocError;
@@ -32,11 +36,7 @@ pub enum RequestsError {
 }
 
 impl From<RecordError> for RequestsError {
-    ghost use Rattle.std.specs.Prelude.{◌≡◌};
-    ghost use Rattle.cspf_rows.specs.ReadFaults.{stream_fault_of};
-    ghost use Rattle.cspf_rows.specs.declared.requests_error.RequestsError.TheVariants.{Memory, Device};
-
-    ghost from_gives = { λ error fault. fault ≡ stream_fault_of Memory Device error };
+    ghost from_gives = { λ error fault. fault ≡ stream_fault_of requests_error.Memory requests_error.Device error };
 
     fn from(error: RecordError) -> RequestsError {
         match error {
@@ -47,10 +47,7 @@ impl From<RecordError> for RequestsError {
 }
 
 impl From<AllocError> for RequestsError {
-    ghost use Rattle.std.specs.Prelude.{◌≡◌};
-    ghost use Rattle.cspf_rows.specs.declared.requests_error.RequestsError.TheVariants.{Memory};
-
-    ghost from_gives = { λ _ fault. fault ≡ Memory };
+    ghost from_gives = { λ _ fault. fault ≡ requests_error.Memory };
 
     fn from(_refused: AllocError) -> RequestsError {
         RequestsError::Memory

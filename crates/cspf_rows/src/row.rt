@@ -58,7 +58,7 @@ impl Row {
     }
 
     /// The row of 15 fields that puts a link.
-    #[tactic(auto, using(crate::proofs::Made::made), unfolding(crate::specs::Rows::put_row_of))]
+    #[tactic(auto, using(crate::proofs::AttributeLemmas::refused_ends), unfolding(crate::specs::Rows::put_row_of))]
     fn put(fields: &ByteRecord) -> Result<Row, RowError>
         ensures { result ≡ put_row_of (fields_of fields.now) }
     {
@@ -106,7 +106,7 @@ impl Row {
     }
 
     /// The row of 10 fields that asks for a route.
-    #[tactic(auto, using(crate::proofs::Made::made), unfolding(crate::specs::Rows::ask_row_of))]
+    #[tactic(auto, using(crate::proofs::AttributeLemmas::refused_ends), unfolding(crate::specs::Rows::ask_row_of))]
     fn ask(fields: &ByteRecord) -> Result<Row, RowError>
         ensures { result ≡ ask_row_of (fields_of fields.now) }
     {

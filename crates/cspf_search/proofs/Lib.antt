@@ -20,5 +20,5 @@ pub mod Grown
 pub mod Answered
 pub mod Twice
 pub mod Arrived
-pub mod Ahead
+pub mod LegBounds
 pub mod Slices

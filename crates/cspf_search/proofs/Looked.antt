@@ -13,13 +13,13 @@ use Rattle.cspf_db.specs.Targets.{IsTarget, IsInside}
 use Rattle.cspf_db.specs.Walks.{cost_of}
 use Rattle.cspf_db.specs.Index.{links_of, links_from_index, router_list}
 use Rattle.cspf_search.specs.declared.arena.Node.{Node}
-use Rattle.cspf_search.specs.declared.stops.Stop.{Stop}
+use Rattle.cspf_search.specs.declared.forward_star.ForwardStar.{ForwardStar}
 use Rattle.cspf_search.specs.States.{State}
 use Rattle.cspf_search.specs.Settled.{state_cmp}
 use Rattle.cspf_search.specs.Arena.{walk_of, index_of, AreNodes, IsNext}
 use Rattle.cspf_search.specs.Rounds.{CrossesBy, Turns, CrossesBelow, IsFirst, RanksBefore, earlier_of}
 use Rattle.cspf_search.specs.Frontier.{state_at, nowhere, node_by, IsNodeAt, IsEnd, CrossesUpTo}
-use Rattle.cspf_search.specs.Stops.{IsStop}
+use Rattle.cspf_search.specs.ForwardStars.{IsForwardStar}
 use Rattle.cspf_search.proofs.Backs.{by_next, by_first, turned_first}
 use Rattle.cspf_search.proofs.Expanded.{there, leg, turn_state, turn_only, turn_passes, turn_within, turn_left, turn_right, turn_cases, link_state, link_only, link_passes, link_left, link_right, link_cases}
 use Rattle.cspf_search.proofs.Firsts.{first_both, first_same, left_first}
@@ -37,11 +37,11 @@ some_at (x ∷ xs) zero h = (x, refl)
 some_at (x ∷ xs) (suc i) h = some_at xs i (omega arith)
 
 -- the router at the end of a link
-pub row_end : (d : Database) (s : State) (stop : Stop) → IsStop d s stop → (row : ℕ) (l : Link) → row < length (links_from_index d (stop.state % 1024))
-    → slice_get (links_from_index d (stop.state % 1024)) row ≡ Some l → (end : ℕ) → end ≡ slice_index stop.ends.now row → IsEnd d l.to end
-row_end d s stop is row l h here end at =
-    end_of_row d stop.ends.now (links_from_index d (stop.state % 1024)) is.within is.each row l end h
-    (sym (get_or_from_slice_get (links_from_index d (stop.state % 1024)) row l l here)) at
+pub row_end : (d : Database) (s : State) (star : ForwardStar) → IsForwardStar d s star → (row : ℕ) (l : Link) → row < length (links_from_index d (star.state % 1024))
+    → slice_get (links_from_index d (star.state % 1024)) row ≡ Some l → (end : ℕ) → end ≡ slice_index star.ends.now row → IsEnd d l.to end
+row_end d s star is row l h here end at =
+    end_of_row d star.ends.now (links_from_index d (star.state % 1024)) is.within is.each row l end h
+    (sym (get_or_from_slice_get (links_from_index d (star.state % 1024)) row l l here)) at
 
 -- the node that a link of a metric leads to from a node
 abbrev pub along : ℕ → Node → Link → ℕ → Node

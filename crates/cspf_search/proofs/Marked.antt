@@ -6,13 +6,13 @@ use Rattle.cspf_db.specs.declared.request.Request.{Request}
 use Rattle.cspf_db.specs.Database.{Database, AreLinksOf, IsRouterOf}
 use Rattle.cspf_db.specs.Index.{links_of}
 use Rattle.cspf_search.specs.declared.arena.Node.{Node}
-use Rattle.cspf_search.specs.declared.stops.Stop.{Stop}
+use Rattle.cspf_search.specs.declared.forward_star.ForwardStar.{ForwardStar}
 use Rattle.cspf_search.specs.States.{State, Reaches}
 use Rattle.cspf_search.specs.Settled.{AreSettled}
 use Rattle.cspf_search.specs.Arena.{walk_at, walks, state_of, index_of, labels_of, AreNodes, IsInLeg}
 use Rattle.cspf_search.specs.Rounds.{CrossesBelow, IsFirstOf}
 use Rattle.cspf_search.specs.Frontier.{state_at, IsStateIndex, AreListed, nowhere}
-use Rattle.cspf_search.specs.Stops.{IsStop, AreStops, AreMarks}
+use Rattle.cspf_search.specs.ForwardStars.{IsForwardStar, AreForwardStars, AreMarks}
 use Rattle.cspf_search.proofs.Labelled.{label_at}
 use Rattle.cspf_search.proofs.Few.{HasFewRouters, AreApart}
 use Rattle.cspf_search.proofs.Grown.{reached_router, nodes_in_legs, settled_more}
@@ -21,8 +21,8 @@ use Rattle.cspf_search.proofs.Ranks.{same_or_not, state_apart}
 
 -- at first nothing is settled
 
-pub no_stops : (d : Database) → AreStops d [] []
-no_stops d = record { many = refl; each = λ i e h. absurd (omega arith) }
+pub no_stars : (d : Database) → AreForwardStars d [] []
+no_stars d = record { many = refl; each = λ i e h. absurd (omega arith) }
 
 pub no_marks : (d : Database) (q : Request) (count : ℕ) → count ≡ (length q.hops + 1) * 1024 → AreMarks d q [] (replicate count false)
 no_marks d q count many = record {
@@ -31,22 +31,22 @@ no_marks d q count many = record {
 }
 
 -- the index of a stop is one of the request
-pub stop_index : (d : Database) (q : Request) (n : Node) (stop : Stop) → IsInLeg q n → IsStop d (state_of n) stop → IsStateIndex d q stop.state
-stop_index d q n stop leg is =
+pub star_index : (d : Database) (q : Request) (n : Node) (star : ForwardStar) → IsInLeg q n → IsForwardStar d (state_of n) star → IsStateIndex d q star.state
+star_index d q n star leg is =
     let same = ap (λ (s : State). s.leg) is.state in
     record { low = omega (arith, same, leg.high); place = is.place }
 
-pub stops_push : (d : Database) (nodes : List Node) (stops : List Stop) → AreStops d nodes stops → (n : Node) (stop : Stop) → IsStop d (state_of n) stop
-    → AreStops d (nodes ++ (n ∷ [])) (stops ++ (stop ∷ []))
-stops_push d nodes stops are n stop is = record {
-  many = omega (arith, length_push nodes n, length_push stops stop, are.many);
+pub stars_push : (d : Database) (nodes : List Node) (stars : List ForwardStar) → AreForwardStars d nodes stars → (n : Node) (star : ForwardStar) → IsForwardStar d (state_of n) star
+    → AreForwardStars d (nodes ++ (n ∷ [])) (stars ++ (star ∷ []))
+stars_push d nodes stars are n star is = record {
+  many = omega (arith, length_push nodes n, length_push stars star, are.many);
   each = λ i e h.
       elim (cases_lt i (length nodes)) [
         | inl lt ↦
-            rw (get_or_append_left nodes (n ∷ []) nowhere i lt, get_or_append_left stops (stop ∷ []) e i (omega (arith, lt, are.many))) (are.each i e lt)
+            rw (get_or_append_left nodes (n ∷ []) nowhere i lt, get_or_append_left stars (star ∷ []) e i (omega (arith, lt, are.many))) (are.each i e lt)
         | inr ge ↦
             let last : i ≡ length nodes = omega (arith, h, length_push nodes n) in
-            rw (get_or_push nodes n nowhere i (sym last), get_or_push stops stop e i (omega (arith, last, are.many))) is
+            rw (get_or_push nodes n nowhere i (sym last), get_or_push stars star e i (omega (arith, last, are.many))) is
       ];
 }
 
@@ -58,23 +58,23 @@ module _ (d : Database) (q : Request) (listed : AreListed d) (nodes : List Node)
         | None ↦ λ e. sym (ap is_some (open_new nodes n before apart t ne e))
       ] refl
 
-  pub marks_push : (marks : List Bool) → AreMarks d q nodes marks → (stop : Stop) → IsStop d (state_of n) stop → IsInLeg q n
-      → AreMarks d q (nodes ++ (n ∷ [])) (set marks stop.state true)
-  marks_push marks are stop is leg =
-      let index = stop_index d q n stop leg is in
-      let within : stop.state < length marks = omega (arith, are.many, index.low) in
+  pub marks_push : (marks : List Bool) → AreMarks d q nodes marks → (star : ForwardStar) → IsForwardStar d (state_of n) star → IsInLeg q n
+      → AreMarks d q (nodes ++ (n ∷ [])) (set marks star.state true)
+  marks_push marks are star is leg =
+      let index = star_index d q n star leg is in
+      let within : star.state < length marks = omega (arith, are.many, index.low) in
       record {
-        many = length-set marks stop.state true ∙ are.many;
+        many = length-set marks star.state true ∙ are.many;
         each = λ i e ix.
-            elim (same_or_not i stop.state) [
+            elim (same_or_not i star.state) [
               | inl same ↦
-                  let here : slice_index_or (set marks stop.state true) i e ≡ true = rw same (get_or-set_same marks stop.state true e within) in
+                  let here : slice_index_or (set marks star.state true) i e ≡ true = rw same (get_or-set_same marks star.state true e within) in
                   here
                   ∙ sym (ap is_some
                   (ap (λ k. index_of (nodes ++ (n ∷ [])) (state_at d k)) same ∙ ap (index_of (nodes ++ (n ∷ []))) (sym is.state) ∙ index_new nodes n before apart))
               | inr ne ↦
-                  get_or-set_other marks stop.state i true e ne ∙ are.each i e ix
-                  ∙ still (state_at d i) (λ same. ne (state_apart d q listed i stop.state ix index (same ∙ is.state)))
+                  get_or-set_other marks star.state i true e ne ∙ are.each i e ix
+                  ∙ still (state_at d i) (λ same. ne (state_apart d q listed i star.state ix index (same ∙ is.state)))
             ];
       }
 

@@ -12,13 +12,13 @@ use Rattle.cspf_db.specs.Index.{links_of, router_list}
 use Rattle.cspf_search.specs.declared.arena.Node.{Node}
 use Rattle.cspf_search.specs.declared.goal.Goal.{Goal}
 use Rattle.cspf_search.specs.declared.labels.Label.{Label}
-use Rattle.cspf_search.specs.declared.stands.Stand.{Stand}
+use Rattle.cspf_search.specs.declared.roles.Role.{Role}
 use Rattle.cspf_search.specs.States.{State, end_state}
 use Rattle.cspf_search.specs.Settled.{Labels, AreSettled, IsClosed, IsStuck}
 use Rattle.cspf_search.specs.Arena.{walk_at, walks, state_of, index_of, labels_of, AreNodes, root_of}
 use Rattle.cspf_search.specs.Rounds.{CrossesBelow}
 use Rattle.cspf_search.specs.Bounds.{AreBounds}
-use Rattle.cspf_search.specs.Frontier.{state_at, IsStateIndex, AreListed, AreStands, IsRaised, nothing, IsEnd, IsNodeAt, nowhere, node_of, IsReached, Key, label_at, lift, IsKey, IsLive, AreLabels, IsLeast, IsFloor}
+use Rattle.cspf_search.specs.Frontier.{state_at, IsStateIndex, AreListed, AreRoles, IsRaised, nothing, IsEnd, IsNodeAt, nowhere, node_of, IsReached, Key, label_at, lift, IsKey, IsLive, AreLabels, IsLeast, IsFloor}
 use Rattle.cspf_search.proofs.Few.{HasFewRouters}
 use Rattle.cspf_search.proofs.Cuts.{last_target}
 use Rattle.cspf_search.proofs.Labelled.{open_index}
@@ -130,7 +130,7 @@ module _ (d : Database) (q : Request) (legs from to : ℕ) (goal : Goal) (asked 
           let left = open_old nodes node before.arena.apart stepped.0.apart s (open_index (nodes ++ (node ∷ [])) s none) in
           shut low router target (ap (option_map (λ i. walk_at (walks nodes) i)) left)
 
-      module _ (stands : List Stand) (told : AreStands d q stands) (floor : ℕ) where
+      module _ (roles : List Role) (told : AreRoles d q roles) (floor : ℕ) where
         target_known : (leg router : ℕ) → 1 ≤ leg → IsTarget d q leg router → IsRouterOf d router
         target_known zero router low target = absurd (omega (arith, low))
         target_known (suc k) router low target =
@@ -141,7 +141,7 @@ module _ (d : Database) (q : Request) (legs from to : ℕ) (goal : Goal) (asked 
 
         module _ (P : List Link → State → Type 0) (after : List Label) (left : List Key) (are : AreLabels d q (nodes ++ (node ∷ [])) P goal after left) where
           -- a target of the last leg is the goal
-          last_alone : IsRaised stands after i floor → i / 1024 ≡ goal.at / 1024 → i ≡ goal.at
+          last_alone : IsRaised roles after i floor → i / 1024 ≡ goal.at / 1024 → i ≡ goal.at
           last_alone raised same =
               let leg : i / 1024 + 1 ≡ suc (length q.hops) = omega (arith, same, ap (λ (t : State). t.leg) goal_end) in
               let target = rw leg at ((told.each i nothing least.index).target.0 raised.target) in
@@ -151,7 +151,7 @@ module _ (d : Database) (q : Request) (legs from to : ℕ) (goal : Goal) (asked 
               omega (arith, same, place, asked.at, asked.end.within, asked.listed.few)
 
           -- the leg of a state is closed when each of its targets is settled
-          closes : IsRaised stands after i floor → IsClosed d q (labels_of (nodes ++ (node ∷ []))) (floor / 1024)
+          closes : IsRaised roles after i floor → IsClosed d q (labels_of (nodes ++ (node ∷ []))) (floor / 1024)
           closes raised low router target none =
               let s : State = record { leg = floor / 1024; router = router } in
               let leg : floor / 1024 ≡ i / 1024 + 1 = omega (arith, raised.next) in
@@ -165,7 +165,7 @@ module _ (d : Database) (q : Request) (legs from to : ℕ) (goal : Goal) (asked 
               omega (arith, some, zero)
 
           -- so the floor stays below the goal
-          pub floor_on : (i ≡ goal.at → ⊥) → (floor ≡ goal.floor) ⊎ IsRaised stands after i floor
+          pub floor_on : (i ≡ goal.at → ⊥) → (floor ≡ goal.floor) ⊎ IsRaised roles after i floor
               → IsFloor d q (labels_of (nodes ++ (node ∷ []))) (record { at = goal.at; floor = floor; bounds = goal.bounds })
           floor_on off (inl same) = record {
             low = omega (arith, same, before.floor.low);
@@ -181,7 +181,7 @@ module _ (d : Database) (q : Request) (legs from to : ℕ) (goal : Goal) (asked 
           }
 
           -- and the labels go on above it
-          pub labels_on : (floor ≡ goal.floor) ⊎ IsRaised stands after i floor
+          pub labels_on : (floor ≡ goal.floor) ⊎ IsRaised roles after i floor
               → AreLabels d q (nodes ++ (node ∷ [])) P (record { at = goal.at; floor = floor; bounds = goal.bounds }) after left
           labels_on choice =
               let up : goal.floor ≤ floor = elim choice [ inl same ↦ omega (arith, same) | inr raised ↦ omega (arith, raised.next, least.behind) ] in

@@ -12,11 +12,11 @@ use Rattle.cspf_db.specs.Index.{links_of, links_from_index, router_list}
 use Rattle.cspf_search.specs.declared.arena.Node.{Node}
 use Rattle.cspf_search.specs.declared.goal.Goal.{Goal}
 use Rattle.cspf_search.specs.declared.labels.Label.{Label}
-use Rattle.cspf_search.specs.declared.stands.Stand.{Stand}
+use Rattle.cspf_search.specs.declared.roles.Role.{Role}
 use Rattle.cspf_search.specs.States.{State}
 use Rattle.cspf_search.specs.Arena.{walk_at, walks, walk_of, state_of, AreNodes, IsNext}
 use Rattle.cspf_search.specs.Rounds.{CrossesBy, Turns, CrossesBelow}
-use Rattle.cspf_search.specs.Frontier.{state_at, AreListed, nowhere, node_by, node_of, rank_of, IsNodeAt, IsEnd, IsOffer, AreTied, StaysAt, GoesTo, Key, label_at, lift, AreLabels, IsStand, CrossesUpTo}
+use Rattle.cspf_search.specs.Frontier.{state_at, AreListed, nowhere, node_by, node_of, rank_of, IsNodeAt, IsEnd, IsOffer, AreTied, StaysAt, GoesTo, Key, label_at, lift, AreLabels, IsRole, CrossesUpTo}
 use Rattle.cspf_search.proofs.Ranks.{lift_small}
 use Rattle.cspf_search.proofs.Backs.{turned_next, by_next}
 use Rattle.cspf_search.proofs.Offered.{labels_stay, labels_offered, labels_same, lost_by_rank, tied_label, left_open, IsLost}
@@ -106,12 +106,12 @@ module _ (d : Database) (q : Request) (nodes : List Node) (are : AreNodes nodes)
     along = by_next d q nodes are at is.within (slice_index_or nodes at nowhere) (there d q nodes at state is) l small
 
     -- whether a route may stand where the link ends, as told for the state there
-    pub link_told : (stand : Stand) → IsStand d q (state_at d (state - state % 1024 + end)) stand → IsTrue stand.inside ↔ IsInside d q (state / 1024 + 1) l.to
-    link_told stand told =
+    pub link_told : (role : Role) → IsRole d q (state_at d (state - state % 1024 + end)) role → IsTrue role.inside ↔ IsInside d q (state / 1024 + 1) l.to
+    link_told role told =
         let legs = leg d q nodes at state is in
         let same : record { leg = state / 1024 + 1; router = l.to } ≡ state_at d (state - state % 1024 + end) =
         (λ k. record { leg = sym legs k; router = l.to }) ∙ link_state d q nodes at state is row l here end ends listed.few in
-        subst (λ (s : State). IsTrue stand.inside ↔ IsInside d q s.leg s.router) (sym same) told.inside
+        subst (λ (s : State). IsTrue role.inside ↔ IsInside d q s.leg s.router) (sym same) told.inside
 
     -- what may not be used changes nothing
     pub link_off : (IsAdmitted q l → IsInside d q (state / 1024 + 1) l.to → ⊥) → AreLabels d q nodes (CrossesUpTo d q nodes at (state % 1024) (row + 1)) goal labels keys

@@ -1,5 +1,6 @@
 -- Private words of the search: the links that arrive at each router.
 use Rattle.std.specs.Prelude.{◌≡◌, ℕ, ◌+◌, ◌<◌, ◌≤◌, ◌⊎◌, Some, List, length, slice_get, slice_index_or}
+use Rattle.cspf_db.specs.declared.limits.TheConstants.{MOST_ROUTERS}
 use Rattle.cspf_db.specs.declared.link.Link.{Link}
 use Rattle.cspf_db.specs.Database.{Database}
 use Rattle.cspf_db.specs.Index.{router_list, links_from_index}
@@ -45,7 +46,7 @@ IsBefore place row p k = (p < place) ⊎ ((p ≡ place) × (k < row))
 -- runs to, and the pointer of each arrival is that of one before it.
 pub record AreArrivalsUpTo (d : Database) (place row : ℕ) (arrivals : List Arrival)
     (last : List ℕ) : Type 0 where
-  pub many : length last ≡ 1024
+  pub many : length last ≡ MOST_ROUTERS
   pub lasts : (v : ℕ) → pointer_at last v ≤ length arrivals
   pub befores : (k : ℕ) → k < length arrivals → (arrival_at arrivals k).before ≤ k
   pub rows : (k : ℕ) → k < length arrivals → IsRow d (arrival_at arrivals k)

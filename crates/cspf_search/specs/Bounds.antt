@@ -1,5 +1,6 @@
--- Private words of the search: what is ahead of each state at least.
+-- Private words of the search: a lower bound of the cost from each state to the tail-end.
 use Rattle.std.specs.Prelude.{◌≡◌, ℕ, ◌+◌, ◌*◌, ◌/◌, ◌%◌, ◌^◌, ◌<◌, ◌≤◌, min, Bool, true, false, Some, List, length, slice_get, slice_index, slice_index_or}
+use Rattle.cspf_db.specs.declared.limits.TheConstants.{MOST_ROUTERS}
 use Rattle.cspf_db.specs.declared.link.Link.{Link}
 use Rattle.cspf_db.specs.declared.request.Request.{Request}
 use Rattle.cspf_db.specs.Database.{Database}
@@ -14,22 +15,22 @@ abbrev pub bound_at : List ℕ → ℕ → ℕ
 bound_at bounds i = slice_index_or bounds i 0
 
 -- A bound for each state: no link that is admissible lowers it by more than its metric, and no turn to
--- the next leg lowers it; at the tail-end in the last leg it is 0. So it is no more than what is ahead.
+-- the next leg lowers it; at the tail-end in the last leg it is 0. So it is no more than the cost to go.
 pub record AreBounds (d : Database) (q : Request) (bounds : List ℕ) : Type 0 where
-  pub many : length bounds ≡ (length q.hops + 1) * 1024
+  pub many : length bounds ≡ (length q.hops + 1) * MOST_ROUTERS
   pub small : (i : ℕ) → bound_at bounds i < 2 ^ 32
-  pub links : (i j : ℕ) → IsStateIndex d q i → IsStateIndex d q j → i / 1024 ≡ j / 1024 → (l : Link) → IsAdmissible d q l
-      → l.from ≡ slice_index (router_list d) (i % 1024) → l.to ≡ slice_index (router_list d) (j % 1024)
+  pub links : (i j : ℕ) → IsStateIndex d q i → IsStateIndex d q j → i / MOST_ROUTERS ≡ j / MOST_ROUTERS → (l : Link) → IsAdmissible d q l
+      → l.from ≡ slice_index (router_list d) (i % MOST_ROUTERS) → l.to ≡ slice_index (router_list d) (j % MOST_ROUTERS)
       → bound_at bounds i ≤ bound_at bounds j + l.metric
-  pub turns : (i : ℕ) → IsStateIndex d q i → i / 1024 < length q.hops
-      → IsTarget d q (i / 1024 + 1) (slice_index (router_list d) (i % 1024)) → bound_at bounds i ≤ bound_at bounds (i + 1024)
-  pub last : (i : ℕ) → IsStateIndex d q i → i / 1024 ≡ length q.hops
-      → IsTarget d q (i / 1024 + 1) (slice_index (router_list d) (i % 1024)) → bound_at bounds i ≡ 0
+  pub turns : (i : ℕ) → IsStateIndex d q i → i / MOST_ROUTERS < length q.hops
+      → IsTarget d q (i / MOST_ROUTERS + 1) (slice_index (router_list d) (i % MOST_ROUTERS)) → bound_at bounds i ≤ bound_at bounds (i + MOST_ROUTERS)
+  pub last : (i : ℕ) → IsStateIndex d q i → i / MOST_ROUTERS ≡ length q.hops
+      → IsTarget d q (i / MOST_ROUTERS + 1) (slice_index (router_list d) (i % MOST_ROUTERS)) → bound_at bounds i ≡ 0
 
--- What is ahead of each router from a leg on, as far as an edge, where this is ahead of its targets
+-- The bound of each router from a leg on, as far as an edge, where these are the bounds of its targets
 -- behind it: so it is for the lower of the two.
 pub record IsLeg (d : Database) (q : Request) (leg : ℕ) (near : List ℕ) (edge : ℕ) (ahead : List ℕ) : Type 0 where
-  pub many : length near ≡ 1024
+  pub many : length near ≡ MOST_ROUTERS
   pub links : (u w : ℕ) (l : Link) → IsAdmissible d q l → IsEnd d l.from u → IsEnd d l.to w
       → min (bound_at near u) edge ≤ min (bound_at near w) edge + l.metric
   pub targets : (p : ℕ) → p < length (router_list d)
@@ -39,19 +40,19 @@ pub record IsLeg (d : Database) (q : Request) (leg : ℕ) (near : List ℕ) (edg
 abbrev pub is_done : List Bool → ℕ → Bool
 is_done done w = slice_index_or done w false
 
--- No admissible link that arrives at a router that is done lowers what is ahead by more than its
+-- No admissible link that arrives at a router that is done lowers the bound by more than its
 -- metric.
 pub record IsRing (d : Database) (q : Request) (near : List ℕ) (done : List Bool) : Type 0 where
-  pub many : length near ≡ 1024
-  pub marks : length done ≡ 1024
+  pub many : length near ≡ MOST_ROUTERS
+  pub marks : length done ≡ MOST_ROUTERS
   pub links : (u w : ℕ) → is_done done w ≡ true → (l : Link) → IsAdmissible d q l
       → IsEnd d l.from u → IsEnd d l.to w → bound_at near u ≤ bound_at near w + l.metric
 
--- what is ahead is nowhere more than before
+-- the bound is nowhere more than before
 abbrev pub IsLower : List ℕ → List ℕ → Type 0
 IsLower old new = (i : ℕ) → bound_at new i ≤ bound_at old i
 
--- What is ahead is nowhere more than before, and where it is less the router isn't done.
+-- The bound is nowhere more than before, and where it is less the router isn't done.
 pub record Falls (old new : List ℕ) (before after : List Bool) : Type 0 where
   pub near : length new ≡ length old
   pub done : length after ≡ length before
@@ -59,7 +60,7 @@ pub record Falls (old new : List ℕ) (before after : List Bool) : Type 0 where
   pub kept : (i : ℕ) → is_done after i ≡ true
       → (is_done before i ≡ true) × (bound_at new i ≡ bound_at old i)
 
--- what is ahead of the router that an admitted link arrives from is no more than by that link
+-- the bound of the router that an admitted link arrives from is no more than by that link
 abbrev pub IsPassed : Database → Request → ℕ → List ℕ → Arrival → Type 0
 IsPassed d q base near a =
     (l : Link) → slice_get (links_from_index d a.from) a.row ≡ Some l → IsAdmitted q l

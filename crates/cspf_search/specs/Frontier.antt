@@ -5,6 +5,8 @@ use Rattle.std.specs.declared.cmp.Ordering.{Ordering}
 use Rattle.std.specs.declared.cmp.Reverse.{Reverse}
 use Rattle.std.specs.BinaryHeap.{IsHeap}
 use Rattle.std.specs.List.Sorted.{IsPermutation, IsStrictlyIncreasing}
+use Rattle.cspf_db.specs.declared.limits.TheConstants.{MOST_LINKS, MOST_ROUTERS}
+use Rattle.cspf_search.specs.declared.limits.TheConstants.{COST_WEIGHT}
 use Rattle.cspf_db.specs.declared.link.Link.{Link}
 use Rattle.cspf_db.specs.declared.request.Request.{Request}
 use Rattle.cspf_db.specs.Database.{Database, IsRouterOf}
@@ -14,7 +16,7 @@ use Rattle.cspf_db.specs.Index.{router_list, links_of, links_from_index}
 use Rattle.cspf_search.specs.declared.arena.Node.{Node}
 use Rattle.cspf_search.specs.declared.goal.Goal.{Goal}
 use Rattle.cspf_search.specs.declared.labels.Label.{Label}
-use Rattle.cspf_search.specs.declared.stands.Stand.{Stand}
+use Rattle.cspf_search.specs.declared.roles.Role.{Role}
 use Rattle.cspf_search.specs.States.{State}
 use Rattle.cspf_search.specs.Settled.{Labels, IsNoLater, IsClosed, locals_cmp}
 use Rattle.cspf_search.specs.Arena.{walk_of, state_of, index_of, IsNext}
@@ -23,41 +25,41 @@ use Rattle.cspf_search.specs.Rounds.{CrossesFrom, CrossesBelow}
 -- the state at an index: 1,024 indexes for each leg, and among them the router at its index in
 -- the list of routers
 abbrev pub state_at : Database → ℕ → State
-state_at d i = record { leg = i / 1024 + 1; router = slice_index (router_list d) (i % 1024) }
+state_at d i = record { leg = i / MOST_ROUTERS + 1; router = slice_index (router_list d) (i % MOST_ROUTERS) }
 
 -- The list of routers is that of the database, and rises.
 pub record AreListed (d : Database) : Type 0 where
   pub known : (router : ℕ) → Contains (router_list d) router ↔ IsRouterOf d router
   pub rising : IsStrictlyIncreasing (router_list d)
-  pub few : length (router_list d) ≤ 1024
-  pub room : length (links_of d) ≤ 16384
+  pub few : length (router_list d) ≤ MOST_ROUTERS
+  pub room : length (links_of d) ≤ MOST_LINKS
 
 -- the index is that of a router in a leg of the request
 pub record IsStateIndex (d : Database) (q : Request) (i : ℕ) : Type 0 where
-  pub low : i < (length q.hops + 1) * 1024
-  pub place : i % 1024 < length (router_list d)
+  pub low : i < (length q.hops + 1) * MOST_ROUTERS
+  pub place : i % MOST_ROUTERS < length (router_list d)
 
 -- whether a route may stand at a state, and whether it may turn to the next leg there
-pub record IsStand (d : Database) (q : Request) (t : State) (stand : Stand) : Type 0 where
-  pub inside : IsTrue stand.inside ↔ IsInside d q t.leg t.router
-  pub target : IsTrue stand.target ↔ IsTarget d q t.leg t.router
+pub record IsRole (d : Database) (q : Request) (t : State) (role : Role) : Type 0 where
+  pub inside : IsTrue role.inside ↔ IsInside d q t.leg t.router
+  pub target : IsTrue role.target ↔ IsTarget d q t.leg t.router
 
 -- so it is for each router in each leg
-pub record AreStands (d : Database) (q : Request) (stands : List Stand) : Type 0 where
-  pub many : length stands ≡ (length q.hops + 1) * 1024
-  pub each : (i : ℕ) (e : Stand) → IsStateIndex d q i
-      → IsStand d q (state_at d i) (slice_index_or stands i e)
+pub record AreRoles (d : Database) (q : Request) (roles : List Role) : Type 0 where
+  pub many : length roles ≡ (length q.hops + 1) * MOST_ROUTERS
+  pub each : (i : ℕ) (e : Role) → IsStateIndex d q i
+      → IsRole d q (state_at d i) (slice_index_or roles i e)
 
 -- a stand for the indexes past the end of a list
-abbrev pub nothing : Stand
+abbrev pub nothing : Role
 nothing = record { inside = false; target = false }
 
 -- so it is for the routers before an index in each leg, and for the one there in the first legs
-abbrev pub AreStandsUpTo : Database → Request → ℕ → ℕ → List Stand → Type 0
-AreStandsUpTo d q place legs stands =
-    (i : ℕ) (e : Stand) → IsStateIndex d q i
-    → (i % 1024 < place) ⊎ ((i % 1024 ≡ place) × (i / 1024 < legs))
-    → IsStand d q (state_at d i) (slice_index_or stands i e)
+abbrev pub AreRolesUpTo : Database → Request → ℕ → ℕ → List Role → Type 0
+AreRolesUpTo d q place legs roles =
+    (i : ℕ) (e : Role) → IsStateIndex d q i
+    → (i % MOST_ROUTERS < place) ⊎ ((i % MOST_ROUTERS ≡ place) × (i / MOST_ROUTERS < legs))
+    → IsRole d q (state_at d i) (slice_index_or roles i e)
 
 -- a node for the indexes past the end of a list
 abbrev pub nowhere : Node
@@ -90,10 +92,10 @@ node_of d nodes label =
 
 -- by cost, and then by the number of links, as one number above 0
 abbrev pub rank_of : Node → ℕ
-rank_of n = n.cost * 16384 + n.links + 1
+rank_of n = n.cost * COST_WEIGHT + n.links + 1
 
 abbrev pub walk_rank : List Link → ℕ
-walk_rank w = cost_of w * 16384 + length w + 1
+walk_rank w = cost_of w * COST_WEIGHT + length w + 1
 
 -- the rank of a state that nothing led to yet
 abbrev pub no_rank : ℕ
@@ -101,9 +103,9 @@ no_rank = 18446744073709551615
 
 -- what the key of a state is above its rank: its bound
 abbrev pub lift : Goal → ℕ → ℕ
-lift goal i = slice_index_or goal.bounds.now i 0 * 16384
+lift goal i = slice_index_or goal.bounds.now i 0 * COST_WEIGHT
 
--- the walk ranks behind one that the tail-end has, with what is ahead of it at least
+-- the walk ranks behind one that the tail-end has, with its lower bound of the cost to go
 pub record IsBeyond (cap ahead : ℕ) (w : List Link) : Type 0 where
   pub known : cap < no_rank
   pub behind : cap < walk_rank w + ahead
@@ -149,16 +151,16 @@ abbrev pub label_at : List Label → ℕ → Label
 label_at labels i = slice_index_or labels i no_label
 
 -- each target of the leg of a state has the label of a settled state
-abbrev pub AreTargetsSettled : List Stand → List Label → ℕ → Type 0
-AreTargetsSettled stands labels at =
-    (i : ℕ) → i / 1024 ≡ at / 1024 → IsTrue (slice_index_or stands i nothing).target
+abbrev pub AreTargetsSettled : List Role → List Label → ℕ → Type 0
+AreTargetsSettled roles labels at =
+    (i : ℕ) → i / MOST_ROUTERS ≡ at / MOST_ROUTERS → IsTrue (slice_index_or roles i nothing).target
     → (label_at labels i).rank ≡ 0
 
 -- the floor is behind the leg of a state, where each target is settled
-pub record IsRaised (stands : List Stand) (labels : List Label) (at floor : ℕ) : Type 0 where
-  pub target : IsTrue (slice_index_or stands at nothing).target
-  pub next : floor ≡ at - at % 1024 + 1024
-  pub settled : AreTargetsSettled stands labels at
+pub record IsRaised (roles : List Role) (labels : List Label) (at floor : ℕ) : Type 0 where
+  pub target : IsTrue (slice_index_or roles at nothing).target
+  pub next : floor ≡ at - at % MOST_ROUTERS + MOST_ROUTERS
+  pub settled : AreTargetsSettled roles labels at
 
 -- what a key of a state asks
 pub record IsKey (d : Database) (q : Request) (goal : Goal) (key : Key) : Type 0 where
@@ -177,9 +179,9 @@ pub record AreLabels (d : Database) (q : Request) (nodes : List Node)
     (P : List Link → State → Type 0) (goal : Goal) (labels : List Label) (keys : List Key)
     : Type 0 where
   pub small : (i : ℕ) → slice_index_or goal.bounds.now i 0 < 2 ^ 32
-  pub bounds : length goal.bounds.now ≡ (length q.hops + 1) * 1024
-  pub whole : goal.floor % 1024 ≡ 0
-  pub many : length labels ≡ (length q.hops + 1) * 1024
+  pub bounds : length goal.bounds.now ≡ (length q.hops + 1) * MOST_ROUTERS
+  pub whole : goal.floor % MOST_ROUTERS ≡ 0
+  pub many : length labels ≡ (length q.hops + 1) * MOST_ROUTERS
   pub each : (i : ℕ) → IsStateIndex d q i → goal.floor ≤ i
       → IsLabel d nodes P (label_at labels goal.at).rank (lift goal i) (state_at d i)
       (label_at labels i)
@@ -262,4 +264,4 @@ pub record GoesTo (d : Database) (nodes : List Node) (i : ℕ) (label : Label) (
 -- the legs below the floor are closed, and the goal is behind them
 pub record IsFloor (d : Database) (q : Request) (labels : Labels) (goal : Goal) : Type 0 where
   pub low : goal.floor ≤ goal.at
-  pub shut : IsClosed d q labels (goal.floor / 1024)
+  pub shut : IsClosed d q labels (goal.floor / MOST_ROUTERS)

@@ -6,7 +6,7 @@ pub mod Arena
 pub mod Bounds
 pub mod Rounds
 pub mod Frontier
-pub mod Stops
+pub mod ForwardStars
 pub mod Query
 pub mod Arrivals
 pub mod Backward

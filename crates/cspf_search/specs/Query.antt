@@ -1,5 +1,6 @@
 -- Private words of the search: what it is asked, and what leads on in it.
 use Rattle.std.specs.Prelude.{ℕ, ◌%◌, List}
+use Rattle.cspf_db.specs.declared.limits.TheConstants.{MOST_ROUTERS}
 use Rattle.cspf_db.specs.declared.link.Link.{Link}
 use Rattle.cspf_db.specs.Database.{AreLinksOf}
 use Rattle.cspf_db.specs.Index.{links_of}
@@ -7,13 +8,13 @@ use Rattle.cspf_search.specs.declared.arena.Node.{Node}
 use Rattle.cspf_search.specs.declared.query.Query.{Query}
 use Rattle.cspf_search.specs.States.{State}
 use Rattle.cspf_search.specs.Rounds.{CrossesBelow}
-use Rattle.cspf_search.specs.Frontier.{AreListed, AreStands, CrossesUpTo}
+use Rattle.cspf_search.specs.Frontier.{AreListed, AreRoles, CrossesUpTo}
 
 -- The lists of the table are those of its database, and for each state it is known what a route may do.
 pub record IsQuery (query : Query) : Type 0 where
   pub listed : AreListed query.table.now
   pub links : AreLinksOf query.table.now (links_of query.table.now)
-  pub stands : AreStands query.table.now query.request.now query.stands.now
+  pub roles : AreRoles query.table.now query.request.now query.roles.now
 
 -- the walks that lead on from the nodes before an index
 abbrev pub CrossesBefore : Query → List Node → ℕ → List Link → State → Type 0
@@ -21,4 +22,4 @@ CrossesBefore query nodes at = CrossesBelow query.table.now query.request.now no
 
 -- those, and from the node there, at a state, the turn and the links before a row
 abbrev pub CrossesToRow : Query → List Node → ℕ → ℕ → ℕ → List Link → State → Type 0
-CrossesToRow query nodes at state row = CrossesUpTo query.table.now query.request.now nodes at (state % 1024) row
+CrossesToRow query nodes at state row = CrossesUpTo query.table.now query.request.now nodes at (state % MOST_ROUTERS) row

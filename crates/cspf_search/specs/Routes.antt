@@ -1,6 +1,7 @@
 -- What a route keeps, and when it visits a router again.
 use Rattle.std.specs.Prelude.{◌≡◌, ℕ, ◌<◌, ◌≤◌, ◌^◌, List, [], ◌∷◌, length, nat_eq}
 use Rattle.std.specs.List.{IsDistinct}
+use Rattle.cspf_search.specs.declared.limits.TheConstants.{MOST_ROUTE_LINKS}
 use Rattle.cspf_db.specs.declared.link.Link.{Link}
 use Rattle.cspf_db.specs.Walks.{AreJoined, cost_of, routers_of}
 
@@ -21,7 +22,7 @@ VisitsTwice links = ¬ IsDistinct nat_eq (routers_on links)
 -- what a route keeps
 pub record IsKept (links : List Link) (kept : ℕ) : Type 0 where
   pub some : 0 < length links
-  pub most : length links ≤ 8184
+  pub most : length links ≤ MOST_ROUTE_LINKS
   pub linked : AreLinked links
   pub cost : kept ≡ cost_of links
   pub small : kept < 2 ^ 45

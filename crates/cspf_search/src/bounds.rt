@@ -1,5 +1,6 @@
+ghost use Rattle.cspf_search.specs.declared.limits.TheConstants.{MOST_LEGS};
 ghost use Rattle.std.specs.Prelude.{◌≡◌, ◌+◌, ◌*◌, ◌<◌, ◌≤◌, ◌⊎◌, ℕ, min, false, IsTrue, IfOk, IfSome, OnOk, length, slice_index_or};
-ghost use Rattle.cspf_search.specs.declared.stands.Stand.{Stand as Stood};
+ghost use Rattle.cspf_search.specs.declared.roles.Role.{Role as Stood};
 ghost use Rattle.cspf_search.specs.Query.{IsQuery};
 ghost use Rattle.cspf_search.specs.Backward.{IsBackward};
 ghost use Rattle.cspf_search.specs.Arrivals.{AreArrivals, Follows, IsRow, arrival_at, pointer_at};
@@ -7,7 +8,7 @@ ghost use Rattle.cspf_search.specs.Bounds.{AreBounds, Falls, IsLeg, IsLower, IsP
 
 use crate::arrivals::{Arrival, list};
 use crate::query::Query;
-use crate::stands::Stand;
+use crate::roles::Role;
 use cspf_db::MOST_ROUTERS;
 use cspf_graph::accepts;
 use std::alloc::{AllocError, Global};
@@ -31,10 +32,10 @@ struct Backward<'a> {
     last: &'a [u32],
 }
 
-/// What is ahead of a router that waits, and its index in the list of routers.
+/// The bound of a router that waits, and its index in the list of routers.
 type Waiting = Reverse<(u32, u16)>;
 
-/// Lowers what is ahead of the router at an index, which then waits, if this is less.
+/// Lowers the bound of the router at an index, which then waits, if this is less.
 fn lower(
     near: &mut [u32],
     done: &mut [bool],
@@ -58,7 +59,7 @@ fn lower(
     Ok(())
 }
 
-/// Lowers what is ahead of the router that a link arrives from, if the request admits the link.
+/// Lowers the bound of the router that a link arrives from, if the request admits the link.
 fn pass(
     query: Query<'_>,
     arrival: Arrival,
@@ -82,8 +83,8 @@ fn pass(
     lower(near, done, heap, arrival.from, ahead)
 }
 
-/// Lowers what is ahead of the routers that links arrive from at the router at an index, of which
-/// this is ahead.
+/// Lowers the bounds of the routers that links arrive from at the router at an index, which has
+/// this bound.
 fn walk(
     search: Backward<'_>,
     to: usize,
@@ -131,7 +132,7 @@ fn take(
     Ok(())
 }
 
-/// The index of the router that waits with the least ahead of it, if one waits.
+/// The index of the router that waits with the least bound, if one waits.
 fn nearest(near: &[u32], done: &[bool], heap: &mut BinaryHeap<Waiting, Global>) -> Option<usize>
     requires near { length near.now ≡ MOST_ROUTERS }
     requires done { length done.now ≡ MOST_ROUTERS }
@@ -146,7 +147,7 @@ fn nearest(near: &[u32], done: &[bool], heap: &mut BinaryHeap<Waiting, Global>) 
     None
 }
 
-/// Settles the routers that wait, nearest first, up to a count, of which less than this is ahead.
+/// Settles the routers that wait, nearest first, up to a count, whose bounds are less than this.
 fn grow(
     search: Backward<'_>,
     most: usize,
@@ -172,25 +173,25 @@ fn grow(
     Ok(())
 }
 
-/// Has the targets of a leg wait, each with what is ahead of it in the next leg, which is nothing in
+/// Has the targets of a leg wait, each with its bound in the next leg, which is nothing in
 /// the last one. The states of the leg begin at an index. It answers from where on it is no use to
 /// look further: where there are more targets than are taken, from the farthest of them on.
 fn begin(
-    stands: &[Stand],
+    roles: &[Role],
     first: usize,
     ahead: &[u32],
     near: &mut [u32],
     heap: &mut BinaryHeap<Waiting, Global>,
 ) -> Result<u32, AllocError>
-    requires within { first + MOST_ROUTERS ≤ length stands.now }
+    requires within { first + MOST_ROUTERS ≤ length roles.now }
     requires near { length near.old ≡ MOST_ROUTERS }
     ensures { OnOk result ((p : ℕ) (e : Stood) → p < MOST_ROUTERS
-        → IsTrue (slice_index_or stands.now (first + p) e).target
+        → IsTrue (slice_index_or roles.now (first + p) e).target
         → bound_at near.new p ≤ bound_at ahead.now p) }
 {
     let mut top = 0;
     for place in 0..MOST_ROUTERS {
-        if stands[first + place].target {
+        if roles[first + place].target {
             let least = match ahead.get(place) {
                 Some(bound) => *bound,
                 None => 0,
@@ -203,7 +204,7 @@ fn begin(
     Ok(if heap.len() > WIDE { top } else { u32::MAX })
 }
 
-/// The least that is ahead of a router that isn't done.
+/// The least bound of a router that isn't done.
 fn edge(near: &[u32], done: &[bool]) -> u32
     requires near { length near.now ≡ MOST_ROUTERS }
     requires done { length done.now ≡ MOST_ROUTERS }
@@ -219,7 +220,7 @@ fn edge(near: &[u32], done: &[bool]) -> u32
     least
 }
 
-/// Finds what is ahead of each router from a leg on, as far as an edge, where it is known of the next
+/// Finds the bound of each router from a leg on, as far as an edge, where it is known of the next
 /// leg.
 fn leg_edge(
     search: Backward<'_>,
@@ -239,7 +240,7 @@ fn leg_edge(
     near.fill(u32::MAX);
     done.fill(false);
     heap.clear();
-    let top = begin(search.query.stands, leg * MOST_ROUTERS, ahead, near, heap)?;
+    let top = begin(search.query.roles, leg * MOST_ROUTERS, ahead, near, heap)?;
     let most = if leg < search.query.request.hops.len() {
         WIDE
     } else {
@@ -249,7 +250,7 @@ fn leg_edge(
     Ok(edge(near, done))
 }
 
-/// Sets what is ahead of each router in a leg, as far as its edge. The states of the leg begin at an
+/// Sets the bound of each router in a leg, as far as its edge. The states of the leg begin at an
 /// index.
 fn set_leg(bounds: &mut [u32], first: usize, near: &[u32], edge: u32)
     requires within { first + MOST_ROUTERS ≤ length bounds.old }
@@ -264,7 +265,7 @@ fn set_leg(bounds: &mut [u32], first: usize, near: &[u32], edge: u32)
     }
 }
 
-/// Sets what is ahead of each router in each leg, from the last leg back to the first.
+/// Sets the bound of each router in each leg, from the last leg back to the first.
 fn set_legs(
     search: Backward<'_>,
     near: &mut [u32],
@@ -289,11 +290,12 @@ fn set_legs(
     Ok(())
 }
 
-/// For each state what is ahead of it at least, as far as it is known near the targets of its leg.
+/// For each state a lower bound of the cost from it to the tail-end, which is close to it near the
+/// targets of its leg.
 pub(crate) fn bounds(alloc: Global, query: Query<'_>, legs: usize) -> Result<Vec<u32>, AllocError>
     requires query { IsQuery query }
     requires count { legs ≡ length query.request.now.hops + 1 }
-    requires most { legs ≤ 8 }
+    requires most { legs ≤ MOST_LEGS }
     ensures { IfOk result (λ bounds. AreBounds query.entry.table.now query.entry.request.now bounds.items) }
 {
     let links = query.table.links();

@@ -4,13 +4,14 @@ ghost use Rattle.std.specs.BinaryHeap.{heap_items, heap_len};
 ghost use Rattle.cspf_db.specs.Index.{links_of, links_from_index};
 ghost use Rattle.cspf_search.specs.Arena.{AreNodes, AreInLegs};
 ghost use Rattle.cspf_search.specs.Rounds.{CrossesBelow};
-ghost use Rattle.cspf_search.specs.Frontier.{AreLabels, AreListed, AreStands, AreTied, CrossesUpTo, GoesTo, IsEnd, IsNodeAt, IsOffer, IsStateIndex, StaysAt, label_at, nowhere, rank_of};
+ghost use Rattle.cspf_search.specs.Frontier.{AreLabels, AreListed, AreRoles, AreTied, CrossesUpTo, GoesTo, IsEnd, IsNodeAt, IsOffer, IsStateIndex, StaysAt, label_at, nowhere, rank_of};
 ghost use Rattle.cspf_search.specs.Source.{IsSource};
 ghost use Rattle.cspf_search.specs.Query.{IsQuery, CrossesBefore, CrossesToRow};
 
 use crate::arena::Node;
 use crate::goal::{Goal, lift};
 use crate::labels::{Label, Waiting, node_of, put};
+use crate::limits::COST_WEIGHT;
 use crate::query::Query;
 use crate::rounds::locals;
 use cspf_db::{Link, MOST_ROUTERS, Request, Table};
@@ -91,8 +92,8 @@ fn offer_turn(
     if state / MOST_ROUTERS >= query.request.hops.len() {
         return Ok(());
     }
-    let stand = query.stands[state];
-    if !stand.target {
+    let role = query.roles[state];
+    if !role.target {
         return Ok(());
     }
     let index = state + MOST_ROUTERS;
@@ -144,7 +145,7 @@ fn offer_link(
     let (state, rank) = (source.state, source.rank);
     let place = state % MOST_ROUTERS;
     let index = state - place + end;
-    let new = rank + u64::from(metric) * 16384 + 1;
+    let new = rank + u64::from(metric) * COST_WEIGHT + 1;
     let kept = labels[index];
     if new > kept.rank {
         return Ok(());
@@ -154,8 +155,8 @@ fn offer_link(
     if key > last.rank {
         return Ok(());
     }
-    let stand = query.stands[index];
-    if !stand.inside {
+    let role = query.roles[index];
+    if !role.inside {
         return Ok(());
     }
     if !accepts(link, query.request) {
@@ -193,7 +194,7 @@ pub(crate) fn expand(
         goal.entry labels.new (heap_items heap.new)) }
     ensures few { OnOk result (heap_len heap.new ≤ heap_len heap.old + 1 + MOST_LINKS) }
 {
-    let rank = nodes[at].cost * 16384 + nodes[at].links as u64 + 1;
+    let rank = nodes[at].cost * COST_WEIGHT + nodes[at].links as u64 + 1;
     let source = Source {
         nodes,
         at,

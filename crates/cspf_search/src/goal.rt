@@ -1,6 +1,8 @@
 ghost use Rattle.std.specs.Prelude.{◌≡◌, ◌^◌, ◌<◌, length, slice_index_or};
 ghost use Rattle.cspf_search.specs.Frontier.{lift};
 
+use crate::limits::COST_WEIGHT;
+
 /// What a search is for, and how far it is.
 #[derive(Clone, Copy)]
 pub(crate) struct Goal<'a> {
@@ -9,7 +11,7 @@ pub(crate) struct Goal<'a> {
     /// The legs of the states below this index are closed: each target of the last of them is
     /// settled, so that no more is asked of their states.
     pub(crate) floor: usize,
-    /// For each state what is ahead of it at least.
+    /// For each state a lower bound of the cost from it to the tail-end.
     pub(crate) bounds: &'a [u32],
 }
 
@@ -19,5 +21,5 @@ pub(crate) fn lift(goal: Goal<'_>, at: usize) -> u64
     ensures value { result ≡ lift goal.entry at }
     ensures small { result < 2 ^ 46 }
 {
-    u64::from(goal.bounds[at]) * 16384
+    u64::from(goal.bounds[at]) * COST_WEIGHT
 }

@@ -5,17 +5,19 @@
 mod arena;
 mod arrivals;
 mod bounds;
+mod forward_star;
 mod frontier;
 mod goal;
 mod labels;
+mod limits;
 mod outcome;
 mod query;
+mod roles;
 mod rounds;
 mod route;
 mod search;
-mod stands;
-mod stops;
 
+pub use limits::MOST_ROUTE_LINKS;
 pub use outcome::Outcome;
 pub use route::Route;
 pub use search::{best, best_by_rounds};

@@ -1,4 +1,4 @@
-use crate::stands::Stand;
+use crate::roles::Role;
 use cspf_db::{Request, Table};
 
 /// What a search is asked, in which table, and what a route may do at each state.
@@ -9,5 +9,5 @@ pub(crate) struct Query<'a> {
     /// The request.
     pub(crate) request: &'a Request,
     /// For each state what a route may do there.
-    pub(crate) stands: &'a [Stand],
+    pub(crate) roles: &'a [Role],
 }

@@ -4,13 +4,13 @@ ghost use Rattle.cspf_db.specs.Index.{links_of, links_from_index};
 ghost use Rattle.cspf_search.specs.Settled.{state_cmp, locals_cmp};
 ghost use Rattle.cspf_search.specs.Arena.{AreNodes, AreInLegs, IsNext, state_of, index_of, walk_of};
 ghost use Rattle.cspf_search.specs.Rounds.{CrossesBelow, IsFirst, RanksBefore, earlier_of};
-ghost use Rattle.cspf_search.specs.Frontier.{AreListed, AreStands, CrossesUpTo, IsEnd, IsNodeAt, nowhere, state_at};
+ghost use Rattle.cspf_search.specs.Frontier.{AreListed, AreRoles, CrossesUpTo, IsEnd, IsNodeAt, nowhere, state_at};
 ghost use Rattle.cspf_search.specs.Query.{IsQuery, CrossesBefore, CrossesToRow};
-ghost use Rattle.cspf_search.specs.Stops.{AreMarks, AreStops, IsStop};
+ghost use Rattle.cspf_search.specs.ForwardStars.{AreMarks, AreForwardStars, IsForwardStar};
 
 use crate::arena::Node;
+use crate::forward_star::ForwardStar;
 use crate::query::Query;
-use crate::stops::Stop;
 use cspf_db::{Link, MOST_ROUTERS, Request, Table};
 use cspf_graph::accepts;
 use std::cmp::Ordering;
@@ -111,8 +111,8 @@ fn look_at_turn(
     if marks[state + MOST_ROUTERS] {
         return;
     }
-    let stand = query.stands[state];
-    if !stand.target {
+    let role = query.roles[state];
+    if !role.target {
         return;
     }
     let from = nodes[at];
@@ -152,8 +152,8 @@ fn look_at_link(
     if is_late(best, cost, count) {
         return;
     }
-    let stand = query.stands[state - state % MOST_ROUTERS + end];
-    if !stand.inside {
+    let role = query.roles[state - state % MOST_ROUTERS + end];
+    if !role.inside {
         return;
     }
     if !accepts(&link, query.request) {
@@ -177,28 +177,28 @@ fn look_at_row(
     marks: &[bool],
     nodes: &[Node],
     at: usize,
-    stop: Stop<'_>,
+    star: ForwardStar<'_>,
     row: usize,
     best: &mut Option<Node>,
 )
     requires query { IsQuery query }
     requires arena { AreNodes nodes.now }
     requires marks { AreMarks query.table.now query.request.now nodes.now marks.now }
-    requires from { IsNodeAt query.table.now query.request.now nodes.now at stop.state }
-    requires stop { IsStop query.table.now (state_of (slice_index_or nodes.now at nowhere)) stop }
-    requires row { row < length (links_from_index query.table.now (stop.state % MOST_ROUTERS)) }
+    requires from { IsNodeAt query.table.now query.request.now nodes.now at star.state }
+    requires star { IsForwardStar query.table.now (state_of (slice_index_or nodes.now at nowhere)) star }
+    requires row { row < length (links_from_index query.table.now (star.state % MOST_ROUTERS)) }
     requires before { IsFirst nodes.now
-        (CrossesToRow query nodes.now at stop.state row) best.old }
+        (CrossesToRow query nodes.now at star.state row) best.old }
     ensures after { IsFirst nodes.now
-        (CrossesToRow query.entry nodes.now at stop.entry.state (row + 1))
+        (CrossesToRow query.entry nodes.now at star.entry.state (row + 1))
         best.new }
 {
-    let end = usize::from(stop.ends[row]);
-    if marks[stop.state - stop.state % MOST_ROUTERS + end] {
+    let end = usize::from(star.ends[row]);
+    if marks[star.state - star.state % MOST_ROUTERS + end] {
         return;
     }
-    let link = stop.links[row];
-    look_at_link(query, nodes, at, stop.state, row, link, end, best);
+    let link = star.links[row];
+    look_at_link(query, nodes, at, star.state, row, link, end, best);
 }
 
 /// Keeps the first node that the turn or a link leads to from the node at an index, if it comes
@@ -208,22 +208,22 @@ fn look_from(
     marks: &[bool],
     nodes: &[Node],
     at: usize,
-    stop: Stop<'_>,
+    star: ForwardStar<'_>,
     best: &mut Option<Node>,
 )
     requires query { IsQuery query }
     requires arena { AreNodes nodes.now }
     requires marks { AreMarks query.table.now query.request.now nodes.now marks.now }
-    requires from { IsNodeAt query.table.now query.request.now nodes.now at stop.state }
-    requires stop { IsStop query.table.now (state_of (slice_index_or nodes.now at nowhere)) stop }
+    requires from { IsNodeAt query.table.now query.request.now nodes.now at star.state }
+    requires star { IsForwardStar query.table.now (state_of (slice_index_or nodes.now at nowhere)) star }
     requires before { IsFirst nodes.now
         (CrossesBefore query nodes.now at) best.old }
     ensures after { IsFirst nodes.now
         (CrossesBefore query.entry nodes.now (at + 1)) best.new }
 {
-    look_at_turn(query, marks, nodes, at, stop.state, best);
-    for row in 0..stop.links.len() {
-        look_at_row(query, marks, nodes, at, stop, row, best);
+    look_at_turn(query, marks, nodes, at, star.state, best);
+    for row in 0..star.links.len() {
+        look_at_row(query, marks, nodes, at, star, row, best);
     }
 }
 
@@ -232,21 +232,21 @@ pub(crate) fn first(
     query: Query<'_>,
     marks: &[bool],
     nodes: &[Node],
-    stops: &[Stop<'_>],
+    stars: &[ForwardStar<'_>],
 ) -> Option<Node>
     requires query { IsQuery query }
     requires arena { AreNodes nodes.now }
     requires legs { AreInLegs query.request.now nodes.now }
     requires marks { AreMarks query.table.now query.request.now nodes.now marks.now }
-    requires stops { AreStops query.table.now nodes.now stops.now }
+    requires stars { AreForwardStars query.table.now nodes.now stars.now }
     ensures { IsFirst nodes.now
         (CrossesBefore query.entry nodes.now (length nodes.now))
         result }
 {
     let mut best = None;
     for at in 0..nodes.len() {
-        let stop = stops[at];
-        look_from(query, marks, nodes, at, stop, &mut best);
+        let star = stars[at];
+        look_from(query, marks, nodes, at, star, &mut best);
     }
     best
 }

@@ -1,3 +1,4 @@
+ghost use Rattle.cspf_search.specs.declared.limits.TheConstants.{MOST_ROUTE_LINKS};
 ghost use Rattle.std.specs.Prelude.{◌≡◌, ◌<◌, ◌≤◌, ◌^◌, ◌↔◌, IsTrue, length, map, nat_eq};
 ghost use Rattle.std.specs.List.{list_any, IsDistinct};
 ghost use Rattle.cspf_db.specs.Walks.{cost_of};
@@ -7,7 +8,7 @@ use cspf_addr::Addr;
 use cspf_db::Link;
 use std::marker::Model;
 
-/// An explicit route: 1 to 8,184 links, each from where the one before ended. Only the search makes
+/// An explicit route: 1 to `MOST_ROUTE_LINKS` links, each from where the one before ended. Only the search makes
 /// one.
 #[derive(Debug, Drop)]
 pub struct Route {
@@ -44,7 +45,7 @@ impl Route {
     pub fn links(&self) -> &[Link]
         ensures value { result.now ≡ self.now }
         ensures some { 0 < length self.now }
-        ensures most { length self.now ≤ 8184 }
+        ensures most { length self.now ≤ MOST_ROUTE_LINKS }
         ensures linked { AreLinked self.now }
     {
         self.links.as_slice()

@@ -1,3 +1,4 @@
+ghost use Rattle.cspf_search.specs.declared.limits.TheConstants.{MOST_LEGS, MOST_ROUTE_LINKS};
 ghost use Rattle.std.specs.Prelude.{◌≡◌, ◌+◌, ◌*◌, ◌<◌, ◌≤◌, ℕ, None, List, ◌∷◌, [], IfOk, IfSome, IfNone, length, nat_eq};
 ghost use Rattle.std.specs.List.{AllByRecursion, IsDistinct};
 ghost use Rattle.cspf_db.specs.declared.link.Link.{Link as Linked};
@@ -8,21 +9,21 @@ ghost use Rattle.cspf_search.specs.States.{State, end_state};
 ghost use Rattle.cspf_search.specs.Settled.{AreSettled, IsStuck};
 ghost use Rattle.cspf_search.specs.Arena.{AreNodes, AreInLegs, labels_of, root_of, walk_at, walks};
 ghost use Rattle.cspf_db.specs.Index.{links_of};
-ghost use Rattle.cspf_search.specs.Frontier.{AreListed, AreStands, IsEnd};
+ghost use Rattle.cspf_search.specs.Frontier.{AreListed, AreRoles, IsEnd};
 ghost use Rattle.cspf_search.specs.Query.{IsQuery, CrossesBefore};
-ghost use Rattle.cspf_search.specs.Stops.{AreMarks, AreStops};
+ghost use Rattle.cspf_search.specs.ForwardStars.{AreMarks, AreForwardStars};
 ghost use Rattle.cspf_search.specs.Routes.{AreLinked};
 ghost use Rattle.cspf_search.specs.Rounds.{CrossesBelow, IsFirst, IsFirstOf};
 
 use crate::arena::{Node, index_of, links_to};
 use crate::bounds::bounds;
+use crate::forward_star::{ForwardStar, star_of};
 use crate::frontier::expand;
 use crate::goal::Goal;
 use crate::labels::{OPEN, SETTLED, least, node_of};
 use crate::query::Query;
+use crate::roles::{raised, roles};
 use crate::rounds::first;
-use crate::stands::{raised, stands};
-use crate::stops::{Stop, stop_of};
 use crate::{Outcome, Route};
 use cspf_db::{MOST_ROUTERS, Request, Table, counted_routers};
 use std::alloc::{AllocError, Global};
@@ -50,13 +51,13 @@ fn next(
     legs: usize,
     marks: &[bool],
     nodes: &[Node],
-    stops: &[Stop<'_>],
+    stars: &[ForwardStar<'_>],
 ) -> Option<Node>
     requires query { IsQuery query }
     requires arena { AreNodes nodes.now }
     requires legs { AreInLegs query.request.now nodes.now }
     requires marks { AreMarks query.table.now query.request.now nodes.now marks.now }
-    requires stops { AreStops query.table.now nodes.now stops.now }
+    requires stars { AreForwardStars query.table.now nodes.now stars.now }
     requires count { legs ≡ length query.request.now.hops + 1 }
     ensures some { IfSome result
         (IsFirstOf nodes.now (CrossesBefore query.entry nodes.now (length nodes.now))) }
@@ -66,7 +67,7 @@ fn next(
     if index_of(nodes, legs, query.request.to).is_some() {
         return None;
     }
-    first(query, marks, nodes, stops)
+    first(query, marks, nodes, stars)
 }
 
 /// The nodes that are settled when the tail-end is in the last of the legs, or when nothing leads
@@ -79,7 +80,7 @@ fn settled(
 ) -> Result<Vec<Node>, AllocError>
     requires known { IsRouterOf table.now request.now.from }
     requires count { legs ≡ length request.now.hops + 1 }
-    requires most { legs ≤ 8 }
+    requires most { legs ≤ MOST_LEGS }
     ensures arena { IfOk result (λ nodes. AreNodes nodes.items) }
     ensures few { IfOk result (λ nodes. length nodes.items ≤ legs * MOST_ROUTERS) }
     ensures settled { IfOk result (λ nodes.
@@ -88,22 +89,22 @@ fn settled(
         → IsStuck table.now request.now (labels_of nodes.items)) }
 {
     listed(table);
-    let stands = stands(alloc, table, request, legs)?;
+    let roles = roles(alloc, table, request, legs)?;
     let query = Query {
         table,
         request,
-        stands: &stands,
+        roles: &roles,
     };
     let mut nodes = rooted(alloc, request)?;
-    let root = stop_of(table, &nodes[0]);
-    let mut stops = Vec::from_slice(alloc, &[root])?;
+    let root = star_of(table, &nodes[0]);
+    let mut stars = Vec::from_slice(alloc, &[root])?;
     let mut marks = Vec::from_elem(alloc, false, legs * MOST_ROUTERS)?;
     marks[root.state] = true;
-    while let Some(node) = next(query, legs, &marks, &nodes, &stops) {
-        let stop = stop_of(table, &node);
+    while let Some(node) = next(query, legs, &marks, &nodes, &stars) {
+        let star = star_of(table, &node);
         nodes.extend_from_slice(&[node])?;
-        stops.extend_from_slice(&[stop])?;
-        marks[stop.state] = true;
+        stars.extend_from_slice(&[star])?;
+        marks[star.state] = true;
     }
     Ok(nodes)
 }
@@ -113,7 +114,7 @@ fn route_to(alloc: Global, nodes: &[Node], at: usize) -> Result<Route, AllocErro
     requires arena { AreNodes nodes.now }
     requires within { at < length nodes.now }
     requires some { 0 < length (walk_at (walks nodes.now) at) }
-    requires most { length (walk_at (walks nodes.now) at) ≤ 8184 }
+    requires most { length (walk_at (walks nodes.now) at) ≤ MOST_ROUTE_LINKS }
     requires linked { AreLinked (walk_at (walks nodes.now) at) }
     ensures { IfOk result (λ route. route ≡ walk_at (walks nodes.now) at) }
 {
@@ -148,7 +149,7 @@ fn reached(
     requires from { IsEnd table.now request.now.from from }
     requires to { IsEnd table.now request.now.to to }
     requires count { legs ≡ length request.now.hops + 1 }
-    requires most { legs ≤ 8 }
+    requires most { legs ≤ MOST_LEGS }
     ensures arena { IfOk result (λ nodes. AreNodes nodes.items) }
     ensures few { IfOk result (λ nodes. length nodes.items ≤ legs * MOST_ROUTERS) }
     ensures settled { IfOk result (λ nodes.
@@ -157,11 +158,11 @@ fn reached(
         → IsStuck table.now request.now (labels_of nodes.items)) }
 {
     listed(table);
-    let stands = stands(alloc, table, request, legs)?;
+    let roles = roles(alloc, table, request, legs)?;
     let query = Query {
         table,
         request,
-        stands: &stands,
+        roles: &roles,
     };
     let bounds = bounds(alloc, query, legs)?;
     let mut goal = Goal {
@@ -183,7 +184,7 @@ fn reached(
         }
         labels[at] = SETTLED;
         expand(query, &nodes, &mut labels, &mut heap, goal, index, at)?;
-        goal.floor = raised(&stands, &labels, goal.floor, at);
+        goal.floor = raised(&roles, &labels, goal.floor, at);
     }
     Ok(nodes)
 }
@@ -198,7 +199,7 @@ fn answer(
 ) -> Result<Outcome, AllocError>
     requires ends { HasEnds table.now request.now }
     requires count { legs ≡ length request.now.hops + 1 }
-    requires most { legs ≤ 8 }
+    requires most { legs ≤ MOST_LEGS }
     requires arena { AreNodes nodes.now }
     requires few { length nodes.now ≤ legs * MOST_ROUTERS }
     requires settled { AreSettled table.now request.now (labels_of nodes.now) }

@@ -13,7 +13,7 @@ use Rattle.cspf_serve.specs.declared.solve.solver.Solver.{Solver}
 use Rattle.cspf_serve.specs.declared.solve.summary.Summary.{Summary}
 use Rattle.cspf_serve.specs.declared.solve.error.SolveError.{SolveError}
 use Rattle.cspf_serve.specs.declared.solve.error.SolveError.TheVariants as solve_error
-use Rattle.cspf_serve.specs.ErrorNames.{solve_error_of}
+use Rattle.cspf_rows.specs.ReadFaults.{stream_fault_of}
 use Rattle.cspf_serve.specs.Script.{RunState, start, at_next_row, IsRowAnswered, AreAnswered, IsRun, is_too_many, last_line, summary_of}
 use Rattle.cspf_serve.specs.OutputAtError.{IsBegunByRows, IsNextText, IsOutputAtError}
 use Rattle.cspf_serve.specs.SolverStates.{Keeps, AreFew, IsCut, IsEndCut}
@@ -191,13 +191,13 @@ by_rows (Some all) (Some rows) old mid new solver read written going most kept =
   Appends-kept old mid new going.out going.text kept,
 )
 
-memory_or_read : (fault : RecordError) (all : Option Rows) (old new : Option (List ℕ)) → IsHaltedByRows all old new → IsHalted all old new (solve_error_of fault)
+memory_or_read : (fault : RecordError) (all : Option Rows) (old new : Option (List ℕ)) → IsHaltedByRows all old new → IsHalted all old new (stream_fault_of solve_error.Memory solve_error.Read fault)
 memory_or_read fault.Memory all old new h = h
 memory_or_read fault.Device all old new h = h
 
 -- a read of a record failed
 pub stops_at_read : (all left : Option (List (List (List ℕ)))) (old new : Option (List ℕ)) (solver : Solver) (read written : ℕ) (why : RecordError) (error : SolveError)
-    → IsGoing all left old new solver read written → read ≤ 1000000 → error ≡ solve_error_of why → IsHalted all old new error
+    → IsGoing all left old new solver read written → read ≤ 1000000 → error ≡ stream_fault_of solve_error.Memory solve_error.Read why → IsHalted all old new error
 stops_at_read all left old new solver read written why error going most is =
     rw is (memory_or_read why all old new (by_rows all left old new new solver read written going most (Keeps-refl new)))
 

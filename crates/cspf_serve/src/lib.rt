@@ -23,6 +23,7 @@ mod streams;
 
 pub use batch::{lines_of_a_script, run_batch};
 pub use batch_refusal::BatchRefusal;
+pub use cspf_publish::MOST_ASKERS;
 pub use cspf_work::{
     Answers, Gate, Live, MOST_REQUESTS, NoGate, ServeError, answer_all, answer_latest, run_live,
 };

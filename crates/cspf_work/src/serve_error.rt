@@ -1,3 +1,7 @@
+ghost use Rattle.std.specs.Prelude.{◌≡◌};
+ghost use Rattle.cspf_work.specs.AskingErrors.{serve_error_of};
+ghost use Rattle.cspf_work.specs.declared.serve_error.ServeError.TheVariants as serve_error;
+
 use cspf_publish::AskError;
 use std::alloc::AllocError;
 use thiserror::Error;
@@ -37,10 +41,7 @@ pub enum ServeError {
 }
 
 impl From<AllocError> for ServeError {
-    ghost use Rattle.std.specs.Prelude.{◌≡◌};
-    ghost use Rattle.cspf_work.specs.declared.serve_error.ServeError.TheVariants.{Memory};
-
-    ghost from_gives = { λ _ error. error ≡ Memory };
+    ghost from_gives = { λ _ error. error ≡ serve_error.Memory };
 
     fn from(_refused: AllocError) -> ServeError {
         ServeError::Memory
@@ -48,9 +49,6 @@ impl From<AllocError> for ServeError {
 }
 
 impl From<AskError> for ServeError {
-    ghost use Rattle.std.specs.Prelude.{◌≡◌};
-    ghost use Rattle.cspf_work.specs.AskingErrors.{serve_error_of};
-
     ghost from_gives = { λ fault error. error ≡ serve_error_of fault };
 
     fn from(fault: AskError) -> ServeError {

@@ -2,6 +2,7 @@
 ghost use Rattle.std.specs.Prelude.{◌<◌, ◌≤◌, IfSome};
 
 use clap::{Arg, ArgAction, ArgMatches, Command, Error, value_parser};
+use cspf_serve::MOST_ASKERS;
 use std::alloc::{AllocError, Global};
 
 /// The command that answers the rows of standard input.
@@ -162,7 +163,7 @@ fn workers<'a>(alloc: Global) -> Arg<'a> {
     Arg::new(alloc, WORKERS)
         .long(WORKERS)
         .value_name("N")
-        .value_parser(value_parser!(u8).range(1..=64))
+        .value_parser(value_parser!(u8).range(1..=MOST_ASKERS as i64))
         .default_value("1")
         .action(ArgAction::Set)
         .help("How many workers answer, 1 to 64")
@@ -170,14 +171,14 @@ fn workers<'a>(alloc: Global) -> Arg<'a> {
 
 /// How many workers the words ask for.
 pub fn workers_of(words: &ArgMatches<'_>) -> Option<usize>
-    ensures { IfSome result (λ workers. (0 < workers) × (workers ≤ 64)) }
+    ensures { IfSome result (λ workers. (0 < workers) × (workers ≤ MOST_ASKERS)) }
 {
-    let workers = words.get_one::<u8>(WORKERS)?;
-    if workers == 0 || workers > 64 {
+    let workers = words.get_one::<u8>(WORKERS)? as usize;
+    if workers == 0 || workers > MOST_ASKERS {
         // Never: the option is read within these bounds.
         return None;
     }
-    Some(workers as usize)
+    Some(workers)
 }
 
 /// An option that has to name a file.

@@ -12,7 +12,7 @@ mod command_line;
 use clap::ArgMatches;
 use clap::error::ErrorKind;
 use command_line::{ACCEPT_TORN, BATCH, JOURNAL, LIVE, REQUESTS, UPDATES, parse, workers_of};
-use cspf_serve::{NoGate, RunError, SolveError, run_batch, run_live_rows, run_solve};
+use cspf_serve::{MOST_ASKERS, NoGate, RunError, SolveError, run_batch, run_live_rows, run_solve};
 use std::alloc::AllocError;
 use std::fs::{File, OpenOptions};
 use std::io::{BufWriter, Read, Write};
@@ -73,7 +73,7 @@ fn batch<T: Threads + Wait + Sync>(
     workers: usize,
     accept_torn: bool,
 ) -> Result<u8, Stopped>
-    requires { (0 < workers) × (workers ≤ 64) }
+    requires { (0 < workers) × (workers ≤ MOST_ASKERS) }
 {
     let alloc = rt.alloc();
     let mut out = BufWriter::new(alloc, io::writer(rt))?;
@@ -103,7 +103,7 @@ fn live<T: Threads + Wait + Sync>(
     journal: &str,
     workers: usize,
 ) -> Result<u8, Stopped>
-    requires { (0 < workers) × (workers ≤ 64) }
+    requires { (0 < workers) × (workers ≤ MOST_ASKERS) }
 {
     let alloc = rt.alloc();
     let mut out = BufWriter::new(alloc, io::writer(rt))?;

@@ -49,20 +49,7 @@ for_each f P holds q says =
 found : (rows : List Link) (to : ℕ) → HaveOwnKeys rows → router 1 ≢ to → AreFound rows to
 found rows to apart two_ends = record {
   database = (database_of rows, rows_listed rows apart);
-  request = λ hops. (
-    made (asked_fields to hops) (lit< tt) two_ends,
-    record {
-      id = refl;
-      from = refl;
-      to = refl;
-      setup = refl;
-      bandwidth = refl;
-      exclude_any = refl;
-      include_any = refl;
-      include_all = refl;
-      hops = refl;
-    },
-  );
+  request = λ hops. let q : Request = made (asked_fields to hops) (lit< tt) two_ends in (q, (requests_said q (asked_fields to hops)).1 refl);
 }
 
 -- the first network can be met

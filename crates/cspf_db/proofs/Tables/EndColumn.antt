@@ -4,9 +4,9 @@ use Rattle.std.specs.List.{between, insert, remove as without}
 use Rattle.std.proofs.lemmas.List.{length-map, map-append, map-set, take-map, drop-map}
 use Rattle.std.proofs.lemmas.List.Elements.{All-append, All-nil, All-cons, All-take, All-drop, All-set}
 use Rattle.cspf_db.specs.declared.link.Link.{Link}
-use Rattle.cspf_db.specs.Tables.Rows.{AreEndsOf, AreBeside, IsPlaceOf}
+use Rattle.cspf_db.specs.Tables.Rows.{AreEndsOf, IsEndColumn, IsPlaceOf}
 
--- there is an end beside each row
+-- there are as many ends as rows
 pub length-ends : (rows : List Link) (routers ends : List ℕ) → AreEndsOf rows routers ends → length ends ≡ length rows
 length-ends rows routers ends are =
     sym (length-map ends (λ e. slice_index routers e)) ∙ ap length are.each ∙ length-map rows (λ (l : Link). l.to)
@@ -30,11 +30,11 @@ all_without : {A : Type 0} (P : A → Type 0) (xs : List A) (i : ℕ) → All P 
 all_without P xs i all = All-append P (take i xs) (drop (suc i) xs) (All-take P i xs all) (All-drop P (suc i) xs all)
 
 -- rows and ends that change together
-module _ (rows : List Link) (routers ends : List ℕ) (are : AreBeside rows routers ends) where
+module _ (rows : List Link) (routers ends : List ℕ) (are : IsEndColumn rows routers ends) where
   -- a row that is put
   module _ (l : Link) (end : ℕ) (from : Contains routers l.from) (within : end < length routers) (found : slice_index routers end ≡ l.to) where
     -- over another
-    put_over : (at : ℕ) → AreBeside (slice_set rows at l) routers (slice_set ends at end)
+    put_over : (at : ℕ) → IsEndColumn (slice_set rows at l) routers (slice_set ends at end)
     put_over at = record {
       froms = All-set (λ (m : Link). Contains routers m.from) rows at l from are.froms;
       ends = record {
@@ -45,7 +45,7 @@ module _ (rows : List Link) (routers ends : List ℕ) (are : AreBeside rows rout
     }
 
     -- between others
-    put_between : (at : ℕ) → AreBeside (insert rows at l) routers (insert ends at end)
+    put_between : (at : ℕ) → IsEndColumn (insert rows at l) routers (insert ends at end)
     put_between at = record {
       froms = all_insert (λ (m : Link). Contains routers m.from) rows at l from are.froms;
       ends = record {
@@ -56,15 +56,15 @@ module _ (rows : List Link) (routers ends : List ℕ) (are : AreBeside rows rout
     }
 
     -- at the place of a search
-    pub beside_put : (place : Result ℕ ℕ) (new_rows : List Link) (new_ends : List ℕ) → IfOk place (λ at. new_rows ≡ slice_set rows at l) → IfErr place (λ at. new_rows ≡ insert rows at l)
-        → IfOk place (λ at. new_ends ≡ slice_set ends at end) → IfErr place (λ at. new_ends ≡ insert ends at end) → AreBeside new_rows routers new_ends
-    beside_put (Ok at) new_rows new_ends over between over_end between_end =
-        subst (λ es. AreBeside new_rows routers es) (sym over_end) (subst (λ rs. AreBeside rs routers (slice_set ends at end)) (sym over) (put_over at))
-    beside_put (Err at) new_rows new_ends over between over_end between_end =
-        subst (λ es. AreBeside new_rows routers es) (sym between_end) (subst (λ rs. AreBeside rs routers (insert ends at end)) (sym between) (put_between at))
+    pub column_put : (place : Result ℕ ℕ) (new_rows : List Link) (new_ends : List ℕ) → IfOk place (λ at. new_rows ≡ slice_set rows at l) → IfErr place (λ at. new_rows ≡ insert rows at l)
+        → IfOk place (λ at. new_ends ≡ slice_set ends at end) → IfErr place (λ at. new_ends ≡ insert ends at end) → IsEndColumn new_rows routers new_ends
+    column_put (Ok at) new_rows new_ends over between over_end between_end =
+        subst (λ es. IsEndColumn new_rows routers es) (sym over_end) (subst (λ rs. IsEndColumn rs routers (slice_set ends at end)) (sym over) (put_over at))
+    column_put (Err at) new_rows new_ends over between over_end between_end =
+        subst (λ es. IsEndColumn new_rows routers es) (sym between_end) (subst (λ rs. IsEndColumn rs routers (insert ends at end)) (sym between) (put_between at))
 
   -- a row that is taken out
-  taken_out : (at : ℕ) → AreBeside (without rows at) routers (without ends at)
+  taken_out : (at : ℕ) → IsEndColumn (without rows at) routers (without ends at)
   taken_out at = record {
     froms = all_without (λ (m : Link). Contains routers m.from) rows at are.froms;
     ends = record {
@@ -75,12 +75,12 @@ module _ (rows : List Link) (routers ends : List ℕ) (are : AreBeside rows rout
   }
 
   -- where a search finds one
-  pub beside_remove : (place : Option ℕ) (new_rows : List Link) (new_ends : List ℕ) → IfSome place (λ at. new_rows ≡ without rows at) → IfNone place (new_rows ≡ rows)
-      → IfSome place (λ at. new_ends ≡ without ends at) → IfNone place (new_ends ≡ ends) → AreBeside new_rows routers new_ends
-  beside_remove (Some at) new_rows new_ends out same out_end same_end =
-      subst (λ es. AreBeside new_rows routers es) (sym out_end) (subst (λ rs. AreBeside rs routers (without ends at)) (sym out) (taken_out at))
-  beside_remove None new_rows new_ends out same out_end same_end =
-      subst (λ es. AreBeside new_rows routers es) (sym same_end) (subst (λ rs. AreBeside rs routers ends) (sym same) are)
+  pub column_remove : (place : Option ℕ) (new_rows : List Link) (new_ends : List ℕ) → IfSome place (λ at. new_rows ≡ without rows at) → IfNone place (new_rows ≡ rows)
+      → IfSome place (λ at. new_ends ≡ without ends at) → IfNone place (new_ends ≡ ends) → IsEndColumn new_rows routers new_ends
+  column_remove (Some at) new_rows new_ends out same out_end same_end =
+      subst (λ es. IsEndColumn new_rows routers es) (sym out_end) (subst (λ rs. IsEndColumn rs routers (without ends at)) (sym out) (taken_out at))
+  column_remove None new_rows new_ends out same out_end same_end =
+      subst (λ es. IsEndColumn new_rows routers es) (sym same_end) (subst (λ rs. IsEndColumn rs routers ends) (sym same) are)
 
 -- a place within the rows is one within the ends
 pub within_ends : (rows : List Link) (routers ends : List ℕ) → AreEndsOf rows routers ends → (place : Result ℕ ℕ) → IfOk place (λ at. at < length rows) → IfOk place (λ at. at < length ends)

@@ -15,12 +15,12 @@ use Rattle.std.specs.Ordering.{eq_by_cmp}
 use Rattle.cspf_db.specs.Index.{with_nothing, router_list}
 use Rattle.cspf_db.specs.Changes.{key_changed, link_left, after_change, after_changes}
 use Rattle.cspf_db.specs.Tables.CountedEnds.{AnyEndsAt, HasListedEnds, any_from, any_to, is_end_of}
-use Rattle.cspf_db.specs.Tables.Rows.{database_of, AreRising, AreByKey, AreBeside, ArePlacesIn}
+use Rattle.cspf_db.specs.Tables.Rows.{database_of, AreRising, AreByKey, IsEndColumn, ArePlacesIn}
 use Rattle.cspf_db.proofs.Tables.SortedEntries.{both, both_first, both_second, test_from_true, true_from_test}
 use Rattle.cspf_db.proofs.Databases.LinksOfRows.{link_at-database_of, row-find, rows_listed}
 use Rattle.cspf_db.proofs.Databases.ChangedRows.{link_at-after_change}
 use Rattle.cspf_db.proofs.Tables.RowOrder.{own_keys}
-use Rattle.cspf_db.proofs.Tables.RouterColumn.{to_router, router_list-beside}
+use Rattle.cspf_db.proofs.Tables.RouterColumn.{to_router, router_list-column}
 use Rattle.cspf_db.proofs.Tables.RouterPlaces.{moved_ends}
 use Rattle.cspf_db.proofs.Tables.OwnedPrefixes.{Contains-filter}
 
@@ -93,7 +93,7 @@ end_from rows router passes =
     ] refl passes
 
 -- the routers that are ends of rows, with the ends moved to their places
-module _ (rows : List Link) (routers ends : List ℕ) (are : AreBeside rows routers ends) where
+module _ (rows : List Link) (routers ends : List ℕ) (are : IsEndColumn rows routers ends) where
   -- each row's ends are kept
   froms_kept : All (λ l. Contains (filter (is_end_of rows) routers) l.from) rows
   froms_kept k d h = Contains-filter (is_end_of rows) routers (get_or rows k d).from (are.froms k d h) (from_passes rows k d h)
@@ -101,18 +101,18 @@ module _ (rows : List Link) (routers ends : List ℕ) (are : AreBeside rows rout
   tos_kept : All (λ l. Contains (filter (is_end_of rows) routers) l.to) rows
   tos_kept k d h = Contains-filter (is_end_of rows) routers (get_or rows k d).to (to_router rows routers ends are.ends k d h) (to_passes rows k d h)
 
-  -- they are beside the rows
-  pub beside_kept : (places : List ℕ) → ArePlacesIn (filter (is_end_of rows) routers) routers places → AreBeside rows (filter (is_end_of rows) routers) (map (λ e. get_or places e 0) ends)
-  beside_kept places placed =
+  -- the column of ends in a list of them
+  pub column_kept : (places : List ℕ) → ArePlacesIn (filter (is_end_of rows) routers) routers places → IsEndColumn rows (filter (is_end_of rows) routers) (map (λ e. get_or places e 0) ends)
+  column_kept places placed =
       let among : All (Contains (filter (is_end_of rows) routers)) (map (λ e. get_or routers e 0) ends) =
       subst (All (Contains (filter (is_end_of rows) routers))) (sym are.ends.each) (All-map (Contains (filter (is_end_of rows) routers)) (λ (l : Link). l.to) rows tos_kept) in
       let moved = moved_ends (filter (is_end_of rows) routers) routers places ends are.ends.within among placed in
       record { froms = froms_kept; ends = record { within = moved.0; each = moved.1 ∙ are.ends.each } }
 
-  -- where they are beside the rows, they are the list of routers
-  pub router_list-kept : (kept moved : List ℕ) → AreByKey rows → AreRising routers → kept ≡ filter (is_end_of rows) routers → AreBeside rows kept moved → kept ≡ router_list (database_of rows)
-  router_list-kept kept moved by_key rising is beside =
-      router_list-beside rows kept moved beside (subst (All (AnyEndsAt rows)) (sym is) (λ k d h. end_from rows _ (filter_passes (is_end_of rows) routers k d h))) by_key
+  -- where a column of ends is in a list of them, they are the list of routers
+  pub router_list-kept : (kept moved : List ℕ) → AreByKey rows → AreRising routers → kept ≡ filter (is_end_of rows) routers → IsEndColumn rows kept moved → kept ≡ router_list (database_of rows)
+  router_list-kept kept moved by_key rising is column =
+      router_list-column rows kept moved column (subst (All (AnyEndsAt rows)) (sym is) (λ k d h. end_from rows _ (filter_passes (is_end_of rows) routers k d h))) by_key
       (subst AreRising (sym is) (rising_filter (is_end_of rows) routers rising))
 
 -- links between listed routers stay so
@@ -130,7 +130,7 @@ module _ (routers : List ℕ) where
       (All-tail (HasListedEnds routers) c cs all) k l is
 
   -- so the rows after changes run between listed routers
-  pub rows_listed_after : (rows new : List Link) (ends : List ℕ) (cs : List Change) → AreBeside rows routers ends → AreByKey new → database_of new ≡ after_changes (database_of rows) cs
+  pub rows_listed_after : (rows new : List Link) (ends : List ℕ) (cs : List Change) → IsEndColumn rows routers ends → AreByKey new → database_of new ≡ after_changes (database_of rows) cs
       → All (HasListedEnds routers) cs → All (λ l. HasListedEnds routers (Put l)) new
   rows_listed_after rows new ends cs are by_key made all k d h =
       let l : Link = get_or new k d in

@@ -14,7 +14,7 @@ use Rattle.cspf_db.specs.declared.link.Link.{Link}
 use Rattle.cspf_db.specs.Database.{EndsAt, ends_of}
 use Rattle.cspf_db.specs.Index.{with_nothing, numbers_in, router_list}
 use Rattle.cspf_db.specs.Tables.CountedEnds.{AnyEndsAt}
-use Rattle.cspf_db.specs.Tables.Rows.{database_of, AreRising, AreByKey, AreEndsOf, AreBeside}
+use Rattle.cspf_db.specs.Tables.Rows.{database_of, AreRising, AreByKey, AreEndsOf, IsEndColumn}
 use Rattle.cspf_db.proofs.Tables.SortedEntries.{test_from_true, entries-from_entries}
 use Rattle.cspf_db.proofs.Tables.RowOrder.{own_keys}
 use Rattle.cspf_db.proofs.Databases.LinksOfRows.{rows_listed, rows_keyed}
@@ -50,7 +50,7 @@ to_router rows routers ends are k l h =
     subst (Contains routers) found (Contains-get_or routers (get_or ends k 0) 0 (are.within k 0 within))
 
 -- the routers are the ends of rows, and each is one
-module _ (rows : List Link) (routers ends : List ℕ) (are : AreBeside rows routers ends) (stay : All (AnyEndsAt rows) routers) where
+module _ (rows : List Link) (routers ends : List ℕ) (are : IsEndColumn rows routers ends) (stay : All (AnyEndsAt rows) routers) where
   -- an end of a row is among the routers
   among : (q k : ℕ) (l : Link) → k < length rows → get_or rows k l ≡ l → EndsAt q l → Contains routers q
   among q k l h is (inl from) = subst (Contains routers) (ap (λ (m : Link). m.from) is ∙ from) (are.froms k l h)
@@ -65,8 +65,8 @@ module _ (rows : List Link) (routers ends : List ℕ) (are : AreBeside rows rout
       list_any-from_Contains (eq_by_cmp_equiv nat_cmp_total) q routers (among q some.0 some.1 some.2 some.3 (end_at q some.1 some.4)))
 
   -- so they are the list of routers
-  pub router_list-beside : AreByKey rows → AreRising routers → routers ≡ router_list (database_of rows)
-  router_list-beside by_key rising =
+  pub router_list-column : AreByKey rows → AreRising routers → routers ≡ router_list (database_of rows)
+  router_list-column by_key rising =
       router_list-entries rows routers by_key (sym (entries-from_entries nat_cmp_total (map with_nothing routers) (test_from_true _ rising)) ∙ ap entries (numbers_alike routers (ends_of rows) same_members))
 
 -- a router that a row runs from is in the list
@@ -79,9 +79,9 @@ pub to_among : (rows : List Link) (at : ℕ) (d : Link) → AreByKey rows → at
 to_among rows at d by_key h =
     (Contains-router_list (database_of rows) (rows_keyed rows) (get_or rows at d).to).1 (get_or rows at d, (rows_listed rows (own_keys rows by_key)).each at d h, inr refl)
 
--- the list of routers is beside the rows
-pub beside_table : (rows : List Link) (routers ends : List ℕ) → AreByKey rows → routers ≡ router_list (database_of rows) → AreEndsOf rows routers ends → AreBeside rows routers ends
-beside_table rows routers ends by_key all are = record {
+-- the ends of a table are its column of ends
+pub column_table : (rows : List Link) (routers ends : List ℕ) → AreByKey rows → routers ≡ router_list (database_of rows) → AreEndsOf rows routers ends → IsEndColumn rows routers ends
+column_table rows routers ends by_key all are = record {
   froms = λ k d h. subst (λ rs. Contains rs (get_or rows k d).from) (sym all) (from_among rows k d by_key h);
   ends = are;
 }

@@ -12,7 +12,7 @@ use Rattle.cspf_db.specs.declared.batch.Change.{Change}
 use Rattle.cspf_db.specs.declared.batch.Change.TheVariants.{Put, Remove}
 use Rattle.cspf_db.specs.Tables.CountedEnds.{HasListedEnds, any_to}
 use Rattle.cspf_db.specs.Index.{with_nothing}
-use Rattle.cspf_db.specs.Tables.Rows.{AreRising, AreEndsOf, AreBeside, IsPlaceOf, ArePlacesIn}
+use Rattle.cspf_db.specs.Tables.Rows.{AreRising, AreEndsOf, IsEndColumn, IsPlaceOf, ArePlacesIn}
 use Rattle.cspf_db.proofs.Tables.SortedEntries.{test_from_true, rises}
 
 -- a list has what stood in it before one more was put in
@@ -76,10 +76,10 @@ moved_ends others routers places (e ∷ ends) within among are =
 pub ends_kept : (others routers ends : List ℕ) → All (λ e. e < length routers) ends → All (Contains others) routers → All (Contains others) (map (λ e. slice_index routers e) ends)
 ends_kept others routers ends within kept = All-map (Contains others) (λ e. slice_index routers e) ends (λ k d h. kept (get_or ends k d) 0 (within k d h))
 
--- rows are beside more routers too
-pub beside_more : (rows : List Link) (routers ends others moved : List ℕ) → AreBeside rows routers ends → All (Contains others) routers → All (λ e. e < length others) moved
-    → map (λ e. slice_index others e) moved ≡ map (λ e. slice_index routers e) ends → AreBeside rows others moved
-beside_more rows routers ends others moved are kept within same = record {
+-- the column of ends in a list of more routers
+pub column_more : (rows : List Link) (routers ends others moved : List ℕ) → IsEndColumn rows routers ends → All (Contains others) routers → All (λ e. e < length others) moved
+    → map (λ e. slice_index others e) moved ≡ map (λ e. slice_index routers e) ends → IsEndColumn rows others moved
+column_more rows routers ends others moved are kept within same = record {
   froms = All-weaker (λ (l : Link). Contains routers l.from) (λ (l : Link). Contains others l.from) (λ l. All-contains (Contains others) routers l.from kept) rows are.froms;
   ends = record { within = within; each = same ∙ are.ends.each };
 }

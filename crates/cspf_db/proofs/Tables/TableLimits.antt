@@ -1,12 +1,12 @@
 -- Rows are within their limits after changes that leave few enough.
-use Rattle.std.proofs.Common.{◌≡◌, ◌≤◌, List, Vec, ap, arith}
+use Rattle.std.proofs.Common.{◌≡◌, ◌≤◌, ℕ, List, Vec, ap, arith}
 use Rattle.std.specs.Vec.{vec_capacity}
 use Rattle.std.specs.declared.alloc.Global.{Global}
 use Rattle.cspf_db.specs.declared.link.Link.{Link}
 use Rattle.cspf_db.specs.declared.batch.Change.{Change}
-use Rattle.cspf_db.specs.Database.{link_count, router_count}
+use Rattle.cspf_db.specs.Database.{Database, link_count, router_count}
 use Rattle.cspf_db.specs.Changes.{after_changes}
-use Rattle.cspf_db.specs.Tables.Rows.{AreRows, AreByKey, database_of}
+use Rattle.cspf_db.specs.Tables.Rows.{AreRows, AreRowsWithEnds, IsEndColumn, AreByKey, database_of}
 use Rattle.cspf_db.proofs.Databases.EndCounts.{link_count-database_of}
 use Rattle.cspf_db.proofs.Tables.RowOrder.{own_keys}
 
@@ -18,4 +18,18 @@ still_rows old new cs rows links routers made by_key room = record {
   most = omega (arith, link_count-database_of new.items (own_keys new.items by_key), ap link_count made, links);
   routers = omega (arith, ap router_count made, routers);
   room = room;
+}
+
+-- and with the column of ends
+pub still_rows_with_ends : (routers : List ℕ) (old new : Vec Link Global) (ends new_ends : Vec ℕ Global) (d : Database) → AreRowsWithEnds old routers ends → link_count d ≤ 16384
+    → database_of new.items ≡ d → AreByKey new.items → 20480 ≤ vec_capacity new → 20480 ≤ vec_capacity new_ends → IsEndColumn new.items routers new_ends.items
+    → AreRowsWithEnds new routers new_ends
+still_rows_with_ends routers old new ends new_ends d rows links made by_key room room_for_ends column = record {
+  by_key = by_key;
+  most = omega (arith, link_count-database_of new.items (own_keys new.items by_key), ap link_count made, links);
+  room = room;
+  room_for_ends = room_for_ends;
+  rising = rows.rising;
+  few = rows.few;
+  column = column;
 }

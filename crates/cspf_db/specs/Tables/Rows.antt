@@ -56,10 +56,22 @@ ArePlacesIn others routers places =
     (at : ℕ) → at < length routers → Contains others (slice_index routers at)
     → IsPlaceOf others (slice_index routers at) (slice_index places at)
 
--- the routers have both ends of each row, those that it runs to at the given indices
-pub record AreBeside (links : List Link) (routers : List ℕ) (indices : List ℕ) : Type 0 where
+-- the indices are the column of ends of the rows, and where each row begins is one of the routers too
+pub record IsEndColumn (links : List Link) (routers : List ℕ) (indices : List ℕ) : Type 0 where
   pub froms : All (λ l. Contains routers l.from) links
   pub ends : AreEndsOf links routers indices
+
+-- Rows that changes are made to, with the column of ends: they are in order of the key, there are no
+-- more than a table may have, there is room for a batch more, and their ends are in a list of routers
+-- that also has room for those of a batch.
+pub record AreRowsWithEnds (links : Vec Link Global) (routers : List ℕ) (indices : Vec ℕ Global) : Type 0 where
+  pub by_key : AreByKey links.items
+  pub most : length links.items ≤ MOST_LINKS
+  pub room : ROOM_FOR_LINKS ≤ vec_capacity links
+  pub room_for_ends : ROOM_FOR_LINKS ≤ vec_capacity indices
+  pub rising : AreRising routers
+  pub few : length routers ≤ ROOM_FOR_ROUTERS
+  pub column : IsEndColumn links.items routers indices.items
 
 -- rows, with their routers and their ends
 pub record AreParts (links : Vec Link Global) (names : Vec ℕ Global) (indices : Vec ℕ Global) : Type 0 where

@@ -9,6 +9,7 @@ ghost use Rattle.cspf_db.specs.declared.link.Link.{Link as Linked};
 ghost use Rattle.cspf_db.specs.declared.batch.Change.{Change as Changed};
 ghost use Rattle.cspf_db.specs.Changes.{after_change, after_changes};
 ghost use Rattle.cspf_db.specs.Tables.CountedEnds.{HasListedEnds};
+ghost use Rattle.cspf_db.specs.Tables.MergeSteps.{AreMergedBelow, IsMergedUpTo};
 ghost use Rattle.cspf_db.specs.Tables.Rows.{database_of, AreRising, AreByKey, AreEndsOf, IsPlaceOf};
 ghost use Rattle.cspf_db.specs.declared.limits.TheConstants.{MOST_LINKS, ROOM_FOR_LINKS, ROOM_FOR_ROUTERS};
 
@@ -19,16 +20,6 @@ use crate::{Change, Link};
 use cspf_addr::Addr;
 use std::cmp::Ordering;
 
-/// Puts the link behind the others. There is room, so this takes no memory and can't fail.
-fn push_within(merged: &mut Vec<Link>, link: Link)
-    requires { vec_len merged.old < vec_capacity merged.old }
-    ensures items { merged.new.items ≡ merged.old.items ++ link ∷ [] }
-    ensures len { vec_len merged.new ≡ vec_len merged.old + 1 }
-    ensures capacity { vec_capacity merged.old ≤ vec_capacity merged.new }
-{
-    let _ = merged.push(link);
-}
-
 /// Copies the rows behind the others. There is room, so this takes no memory and can't fail.
 fn copy_within(merged: &mut Vec<Link>, rows: &[Link])
     requires { vec_len merged.old + length rows.now ≤ vec_capacity merged.old }
@@ -37,15 +28,6 @@ fn copy_within(merged: &mut Vec<Link>, rows: &[Link])
     ensures capacity { vec_capacity merged.old ≤ vec_capacity merged.new }
 {
     let _ = merged.extend_from_slice(rows);
-}
-
-/// Puts an index behind the others. There is room, so this takes no memory and can't fail.
-fn push_end(merged: &mut Vec<u16>, end: u16)
-    requires { vec_len merged.old < vec_capacity merged.old }
-    ensures items { merged.new.items ≡ merged.old.items ++ end ∷ [] }
-    ensures capacity { vec_capacity merged.old ≤ vec_capacity merged.new }
-{
-    let _ = merged.push(end);
 }
 
 /// Copies the indices behind the others. There is room, so this takes no memory and can't fail.
@@ -110,19 +92,10 @@ fn merge_put(
     link: Link,
     end: u16,
 ) -> Option<usize>
-    requires by_key { AreByKey rows.now }
-    requires joined { AreByKey (merged.old.items ++ drop at rows.now) }
-    requires bound { at ≤ length rows.now }
-    requires room { vec_len merged.old + (length rows.now - at) < vec_capacity merged.old }
+    requires merged { AreMergedBelow rows.now at merged.old merged_ends.old }
     requires many { length ends.now ≡ length rows.now }
     requires many_merged { vec_len merged_ends.old ≡ vec_len merged.old }
-    requires room_for_ends { vec_len merged.old + (length rows.now - at) < vec_capacity merged_ends.old }
-    ensures bound { IfSome result (λ next. next ≤ length rows.now) }
-    ensures changed { IfSome result (λ next. database_of (merged.new.items ++ drop next rows.now)
-        ≡ after_change (database_of (merged.old.items ++ drop at rows.now)) (Change.Put link)) }
-    ensures joined { IfSome result (λ next. AreByKey (merged.new.items ++ drop next rows.now)) }
-    ensures longer { IfSome result (λ next. vec_len merged.new + (length rows.now - next)
-        ≤ vec_len merged.old + (length rows.now - at) + 1) }
+    ensures step { IfSome result (IsMergedUpTo (Change.Put link) rows.now at merged.old merged.new) }
     ensures capacity { vec_capacity merged.old ≤ vec_capacity merged.new }
     ensures capacity_of_ends { vec_capacity merged_ends.old ≤ vec_capacity merged_ends.new }
     ensures ends { (routers : List ℕ) → AreEndsOf rows.now routers ends.now
@@ -133,8 +106,8 @@ fn merge_put(
         Ok(next) => {
             copy_within(merged, &rows[at..next]);
             copy_ends(merged_ends, &ends[at..next]);
-            push_within(merged, link);
-            push_end(merged_ends, end);
+            merged.push_reserved(link);
+            merged_ends.push_reserved(end);
             Some(next + 1)
         }
         Err(next) => {
@@ -143,8 +116,8 @@ fn merge_put(
             if !end_below(merged, link.from, link.local) {
                 return None;
             }
-            push_within(merged, link);
-            push_end(merged_ends, end);
+            merged.push_reserved(link);
+            merged_ends.push_reserved(end);
             Some(next)
         }
     }
@@ -161,20 +134,10 @@ fn merge_removal(
     from: Addr,
     local: Addr,
 ) -> Option<usize>
-    requires by_key { AreByKey rows.now }
-    requires joined { AreByKey (merged.old.items ++ drop at rows.now) }
-    requires bound { at ≤ length rows.now }
-    requires room { vec_len merged.old + (length rows.now - at) < vec_capacity merged.old }
+    requires merged { AreMergedBelow rows.now at merged.old merged_ends.old }
     requires many { length ends.now ≡ length rows.now }
     requires many_merged { vec_len merged_ends.old ≡ vec_len merged.old }
-    requires room_for_ends { vec_len merged.old + (length rows.now - at) < vec_capacity merged_ends.old }
-    ensures bound { IfSome result (λ next. next ≤ length rows.now) }
-    ensures changed { IfSome result (λ next. database_of (merged.new.items ++ drop next rows.now)
-        ≡ after_change (database_of (merged.old.items ++ drop at rows.now))
-        (Change.Remove from local)) }
-    ensures joined { IfSome result (λ next. AreByKey (merged.new.items ++ drop next rows.now)) }
-    ensures longer { IfSome result (λ next. vec_len merged.new + (length rows.now - next)
-        ≤ vec_len merged.old + (length rows.now - at) + 1) }
+    ensures step { IfSome result (IsMergedUpTo (Change.Remove from local) rows.now at merged.old merged.new) }
     ensures capacity { vec_capacity merged.old ≤ vec_capacity merged.new }
     ensures capacity_of_ends { vec_capacity merged_ends.old ≤ vec_capacity merged_ends.new }
     ensures ends { (routers : List ℕ) → AreEndsOf rows.now routers ends.now
@@ -199,25 +162,16 @@ fn merge_one(
     at: usize,
     change: &Change,
 ) -> Option<usize>
-    requires by_key { AreByKey rows.now }
-    requires joined { AreByKey (merged.old.items ++ drop at rows.now) }
-    requires bound { at ≤ length rows.now }
-    requires room { vec_len merged.old + (length rows.now - at) < vec_capacity merged.old }
-    requires room_for_ends { vec_len merged.old + (length rows.now - at) < vec_capacity merged_ends.old }
+    requires merged { AreMergedBelow rows.now at merged.old merged_ends.old }
     requires rising { AreRising routers.now }
     requires few { length routers.now ≤ ROOM_FOR_ROUTERS }
     requires known { HasListedEnds routers.now change.now }
     requires ends { AreEndsOf rows.now routers.now ends.now }
-    requires merged { AreEndsOf merged.old.items routers.now merged_ends.old.items }
-    ensures bound { IfSome result (λ next. next ≤ length rows.now) }
-    ensures changed { IfSome result (λ next. database_of (merged.new.items ++ drop next rows.now)
-        ≡ after_change (database_of (merged.old.items ++ drop at rows.now)) change.now) }
-    ensures joined { IfSome result (λ next. AreByKey (merged.new.items ++ drop next rows.now)) }
-    ensures longer { IfSome result (λ next. vec_len merged.new + (length rows.now - next)
-        ≤ vec_len merged.old + (length rows.now - at) + 1) }
+    requires ends_merged { AreEndsOf merged.old.items routers.now merged_ends.old.items }
+    ensures step { IfSome result (IsMergedUpTo change.now rows.now at merged.old merged.new) }
     ensures capacity { vec_capacity merged.old ≤ vec_capacity merged.new }
     ensures capacity_of_ends { vec_capacity merged_ends.old ≤ vec_capacity merged_ends.new }
-    ensures merged { AreEndsOf merged.new.items routers.now merged_ends.new.items }
+    ensures ends { AreEndsOf merged.new.items routers.now merged_ends.new.items }
 {
     match change {
         Change::Put(link) => {
@@ -230,7 +184,7 @@ fn merge_one(
     }
 }
 
-/// Merges the changes into the rows, with the ends beside them. It is false where the changes aren't
+/// Merges the changes into the rows, with the column of ends. It is false where the changes aren't
 /// in order of the key.
 pub fn merge(
     merged: &mut Vec<Link>,
@@ -284,16 +238,6 @@ fn list_order(order: &mut [((Addr, Addr), u16)], changes: &[Change])
     }
 }
 
-/// Puts a change behind the others. There is room, so this takes no memory and can't fail.
-fn push_change(sorted: &mut Vec<Change>, change: Change)
-    requires { vec_len sorted.old < vec_capacity sorted.old }
-    ensures items { sorted.new.items ≡ sorted.old.items ++ change ∷ [] }
-    ensures len { vec_len sorted.new ≡ vec_len sorted.old + 1 }
-    ensures capacity { vec_capacity sorted.old ≤ vec_capacity sorted.new }
-{
-    let _ = sorted.push(change);
-}
-
 /// Copies the changes in the order in which their indices stand.
 fn copy_changes(sorted: &mut Vec<Change>, order: &[((Addr, Addr), u16)], changes: &[Change])
     requires within { All (λ place. place.1 < length changes.now) order.now }
@@ -304,7 +248,7 @@ fn copy_changes(sorted: &mut Vec<Change>, order: &[((Addr, Addr), u16)], changes
 {
     sorted.clear();
     for place in order {
-        push_change(sorted, changes[place.1 as usize]);
+        sorted.push_reserved(changes[place.1 as usize]);
     }
 }
 

@@ -4,23 +4,13 @@ ghost use Rattle.std.specs.Prelude.{◌≡◌, ℕ, ◌+◌, ◌<◌, ◌≤◌,
 ghost use Rattle.std.specs.Vec.{vec_capacity};
 ghost use Rattle.std.specs.List.{list_any};
 ghost use Rattle.cspf_db.specs.Tables.CountedEnds.{any_to, is_end_of};
-ghost use Rattle.cspf_db.specs.Tables.Rows.{AreRising, AreByKey, AreBeside, ArePlacesIn};
+ghost use Rattle.cspf_db.specs.Tables.Rows.{AreRising, AreByKey, IsEndColumn, ArePlacesIn};
 
 use crate::Link;
 use crate::limits::ROOM_FOR_ROUTERS;
 use crate::table::router_list::index_among;
 use crate::table::table_rows::begins;
 use cspf_addr::Addr;
-
-/// Puts an index behind the others. There is room, so this takes no memory and can't fail.
-fn push_within(places: &mut Vec<u16>, place: u16)
-    requires { vec_len places.old < vec_capacity places.old }
-    ensures items { places.new.items ≡ places.old.items ++ place ∷ [] }
-    ensures len { vec_len places.new ≡ vec_len places.old + 1 }
-    ensures capacity { vec_capacity places.old ≤ vec_capacity places.new }
-{
-    let _ = places.push(place);
-}
 
 /// Lists where the routers are in a list that has them all.
 pub fn list_places(places: &mut Vec<u16>, routers: &[Addr], others: &[Addr])
@@ -34,7 +24,7 @@ pub fn list_places(places: &mut Vec<u16>, routers: &[Addr], others: &[Addr])
 {
     places.clear();
     for router in routers {
-        push_within(places, index_among(others, *router));
+        places.push_reserved(index_among(others, *router));
     }
 }
 
@@ -82,9 +72,9 @@ fn keep_one(kept: &mut Vec<Addr>, places: &mut Vec<u16>, router: Addr, stays: bo
     ensures capacity { vec_capacity kept.old ≤ vec_capacity kept.new }
     ensures capacity_of_places { vec_capacity places.old ≤ vec_capacity places.new }
 {
-    push_within(places, kept.len() as u16);
+    places.push_reserved(kept.len() as u16);
     if stays {
-        let _ = kept.push(router);
+        kept.push_reserved(router);
     }
 }
 
@@ -117,33 +107,6 @@ fn keep_marked(
     }
 }
 
-/// Keeps the routers that are ends of rows, with room for marks.
-fn keep_ends_in(
-    marked: &mut [bool],
-    kept: &mut Vec<Addr>,
-    places: &mut Vec<u16>,
-    routers: &[Addr],
-    ends: &[u16],
-    rows: &[Link],
-)
-    requires none { All (λ mark. mark ≡ false) marked.old }
-    requires enough { length marked.old ≡ ROOM_FOR_ROUTERS }
-    requires by_key { AreByKey rows.now }
-    requires rising { AreRising routers.now }
-    requires few { length routers.now ≤ ROOM_FOR_ROUTERS }
-    requires beside { AreBeside rows.now routers.now ends.now }
-    requires room { ROOM_FOR_ROUTERS ≤ vec_capacity kept.old }
-    requires room_for_places { ROOM_FOR_ROUTERS ≤ vec_capacity places.old }
-    ensures kept { kept.new.items ≡ filter (is_end_of rows.now) routers.now }
-    ensures placed { ArePlacesIn kept.new.items routers.now places.new.items }
-    ensures len { vec_len places.new ≡ length routers.now }
-    ensures capacity { vec_capacity kept.old ≤ vec_capacity kept.new }
-    ensures capacity_of_places { vec_capacity places.old ≤ vec_capacity places.new }
-{
-    mark_ends(marked, ends);
-    keep_marked(kept, places, marked, routers, rows);
-}
-
 /// Keeps the routers that are ends of rows, and lists the places of each among them.
 pub fn keep_ends(
     kept: &mut Vec<Addr>,
@@ -155,7 +118,7 @@ pub fn keep_ends(
     requires by_key { AreByKey rows.now }
     requires rising { AreRising routers.now }
     requires few { length routers.now ≤ ROOM_FOR_ROUTERS }
-    requires beside { AreBeside rows.now routers.now ends.now }
+    requires column { IsEndColumn rows.now routers.now ends.now }
     requires room { ROOM_FOR_ROUTERS ≤ vec_capacity kept.old }
     requires room_for_places { ROOM_FOR_ROUTERS ≤ vec_capacity places.old }
     ensures kept { kept.new.items ≡ filter (is_end_of rows.now) routers.now }
@@ -165,5 +128,6 @@ pub fn keep_ends(
     ensures capacity_of_places { vec_capacity places.old ≤ vec_capacity places.new }
 {
     let mut marked = [false; ROOM_FOR_ROUTERS];
-    keep_ends_in(&mut marked, kept, places, routers, ends, rows);
+    mark_ends(&mut marked, ends);
+    keep_marked(kept, places, &marked, routers, rows);
 }

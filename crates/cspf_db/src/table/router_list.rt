@@ -9,6 +9,7 @@ ghost use Rattle.cspf_db.specs.Tables.Rows.{AreRising, IsPlaceOf};
 ghost use Rattle.cspf_db.specs.declared.limits.TheConstants.{ROOM_FOR_ROUTERS};
 
 use crate::Change;
+use crate::table::insertion::insert_within;
 use cspf_addr::Addr;
 use std::cmp::Ordering;
 
@@ -32,17 +33,6 @@ pub fn is_among(routers: &[Addr], router: Addr) -> bool
     ensures { result ≡ true → Contains routers.now router }
 {
     search(routers, router).is_ok()
-}
-
-/// Puts the router in at an index. There is room, so this takes no memory and can't fail.
-fn insert_within(routers: &mut Vec<Addr>, at: usize, router: Addr)
-    requires bound { at ≤ vec_len routers.old }
-    requires room { vec_len routers.old < vec_capacity routers.old }
-    ensures items { routers.new.items ≡ insert routers.old.items at router }
-    ensures len { vec_len routers.new ≡ vec_len routers.old + 1 }
-    ensures capacity { vec_capacity routers.old ≤ vec_capacity routers.new }
-{
-    let _ = routers.insert(at, router);
 }
 
 /// Adds a router, if it isn't there.

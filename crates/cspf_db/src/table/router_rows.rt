@@ -59,16 +59,6 @@ fn span_near(rows: &[Link], at: usize, router: Addr) -> (usize, usize)
     }
 }
 
-/// Puts a span behind the others. There is room, so this takes no memory and can't fail.
-fn push_within(spans: &mut Vec<(u16, u16)>, span: (u16, u16))
-    requires { vec_len spans.old < vec_capacity spans.old }
-    ensures items { spans.new.items ≡ spans.old.items ++ span ∷ [] }
-    ensures len { vec_len spans.new ≡ vec_len spans.old + 1 }
-    ensures capacity { vec_capacity spans.old ≤ vec_capacity spans.new }
-{
-    let _ = spans.push(span);
-}
-
 /// Lists where the rows from each router begin and end. Where the routers rise, this passes over
 /// the rows once.
 pub fn list_spans(spans: &mut Vec<(u16, u16)>, routers: &[Addr], rows: &[Link])
@@ -83,7 +73,7 @@ pub fn list_spans(spans: &mut Vec<(u16, u16)>, routers: &[Addr], rows: &[Link])
     let mut at = 0;
     for router in routers {
         let (first, end) = span_near(rows, at, *router);
-        push_within(spans, (first as u16, end as u16));
+        spans.push_reserved((first as u16, end as u16));
         at = end;
     }
 }

@@ -1,4 +1,4 @@
-//! Changes of rows, with the ends beside them mended as each row changes.
+//! Changes of rows, with the column of ends changed as each row changes.
 ghost use Rattle.std.specs.Prelude.{count_by, ◌≡◌, ℕ, ◌+◌, ◌<◌, ◌≤◌, true, All, filter, length, slice_set, vec_len, IfOk, IfErr, IfSome, IfNone};
 ghost use Rattle.std.specs.Vec.{vec_capacity};
 ghost use Rattle.std.specs.List.{insert, remove as without};
@@ -7,10 +7,12 @@ ghost use Rattle.cspf_db.specs.Tables.CountedEnds.{HasListedEnds};
 ghost use Rattle.cspf_db.specs.Database.{link_count, router_count};
 ghost use Rattle.cspf_db.specs.Refusals.{AreOnceEach};
 ghost use Rattle.cspf_db.specs.Tables.RowsLeft.{adds_link, removes_link, puts_link};
-ghost use Rattle.cspf_db.specs.Tables.Rows.{database_of, AreRising, AreByKey, AreBeside, AreParts};
+ghost use Rattle.cspf_db.specs.Tables.Rows.{database_of, AreParts, AreRowsWithEnds};
+ghost use Rattle.cspf_db.specs.Tables.RowChanges.{AreChangesFor};
 ghost use Rattle.cspf_db.specs.declared.limits.TheConstants.{MOST_CHANGES, MOST_LINKS, MOST_ROUTERS, ROOM_FOR_LINKS, ROOM_FOR_ROUTERS};
 
 use crate::table::check::{count_removed, is_removal};
+use crate::table::insertion::insert_within;
 use crate::table::router_list::index_among;
 use crate::table::scratch::Scratch;
 use crate::table::table_rows::{put, remove};
@@ -18,7 +20,7 @@ use crate::table::tally::Tally;
 use crate::{Change, Link};
 use cspf_addr::Addr;
 
-/// Puts the end beside the row that was put over another, or between others. There is room, so
+/// Puts the end of the row that was put over another, or between others. There is room, so
 /// this takes no memory and can't fail.
 fn put_end(ends: &mut Vec<u16>, place: Result<usize, usize>, end: u16)
     requires within { IfOk place (λ at. at < length ends.old.items) }
@@ -30,13 +32,11 @@ fn put_end(ends: &mut Vec<u16>, place: Result<usize, usize>, end: u16)
 {
     match place {
         Ok(at) => ends[at] = end,
-        Err(at) => {
-            let _ = ends.insert(at, end);
-        }
+        Err(at) => insert_within(ends, at, end),
     }
 }
 
-/// Takes out the end beside the row that was taken out, if one was.
+/// Takes out the end of the row that was taken out, if one was.
 fn remove_end(ends: &mut Vec<u16>, place: Option<usize>)
     requires { IfSome place (λ at. at < length ends.old.items) }
     ensures out { IfSome place (λ at. ends.new.items ≡ without ends.old.items at) }
@@ -50,21 +50,12 @@ fn remove_end(ends: &mut Vec<u16>, place: Option<usize>)
 
 /// Makes one change. The rows are never more than a table may have.
 fn change_one(rows: &mut Vec<Link>, ends: &mut Vec<u16>, routers: &[Addr], change: &Change)
-    requires by_key { AreByKey rows.old.items }
+    requires rows { AreRowsWithEnds rows.old routers.now ends.old }
     requires fits { link_count (after_change (database_of rows.old.items) change.now) ≤ MOST_LINKS }
-    requires room { vec_len rows.old < vec_capacity rows.old }
-    requires room_for_ends { vec_len rows.old < vec_capacity ends.old }
-    requires rising { AreRising routers.now }
-    requires few { length routers.now ≤ ROOM_FOR_ROUTERS }
     requires known { HasListedEnds routers.now change.now }
-    requires beside { AreBeside rows.old.items routers.now ends.old.items }
     ensures changed { database_of rows.new.items
         ≡ after_change (database_of rows.old.items) change.now }
-    ensures by_key { AreByKey rows.new.items }
-    ensures most { vec_len rows.new ≤ MOST_LINKS }
-    ensures capacity { vec_capacity rows.old ≤ vec_capacity rows.new }
-    ensures capacity_of_ends { vec_capacity ends.old ≤ vec_capacity ends.new }
-    ensures beside { AreBeside rows.new.items routers.now ends.new.items }
+    ensures rows { AreRowsWithEnds rows.new routers.now ends.new }
 {
     match change {
         Change::Put(link) => {
@@ -81,21 +72,11 @@ fn change_one(rows: &mut Vec<Link>, ends: &mut Vec<u16>, routers: &[Addr], chang
 
 /// Makes the removals among the changes.
 fn remove_rows(rows: &mut Vec<Link>, ends: &mut Vec<u16>, routers: &[Addr], changes: &[Change])
-    requires by_key { AreByKey rows.old.items }
-    requires most { vec_len rows.old ≤ MOST_LINKS }
-    requires room { ROOM_FOR_LINKS ≤ vec_capacity rows.old }
-    requires room_for_ends { ROOM_FOR_LINKS ≤ vec_capacity ends.old }
-    requires rising { AreRising routers.now }
-    requires few { length routers.now ≤ ROOM_FOR_ROUTERS }
+    requires rows { AreRowsWithEnds rows.old routers.now ends.old }
     requires known { All (HasListedEnds routers.now) changes.now }
-    requires beside { AreBeside rows.old.items routers.now ends.old.items }
     ensures changed { database_of rows.new.items
         ≡ after_changes (database_of rows.old.items) (filter removes_link changes.now) }
-    ensures by_key { AreByKey rows.new.items }
-    ensures most { vec_len rows.new ≤ MOST_LINKS }
-    ensures capacity { vec_capacity rows.old ≤ vec_capacity rows.new }
-    ensures capacity_of_ends { vec_capacity ends.old ≤ vec_capacity ends.new }
-    ensures beside { AreBeside rows.new.items routers.now ends.new.items }
+    ensures rows { AreRowsWithEnds rows.new routers.now ends.new }
 {
     for change in changes {
         if is_removal(change) {
@@ -106,23 +87,13 @@ fn remove_rows(rows: &mut Vec<Link>, ends: &mut Vec<u16>, routers: &[Addr], chan
 
 /// Makes the puts among the changes, where there is room for all of them.
 fn put_rows(rows: &mut Vec<Link>, ends: &mut Vec<u16>, routers: &[Addr], changes: &[Change])
-    requires by_key { AreByKey rows.old.items }
-    requires most { vec_len rows.old ≤ MOST_LINKS }
+    requires rows { AreRowsWithEnds rows.old routers.now ends.old }
     requires fits { link_count
         (after_changes (database_of rows.old.items) (filter puts_link changes.now)) ≤ MOST_LINKS }
-    requires room { ROOM_FOR_LINKS ≤ vec_capacity rows.old }
-    requires room_for_ends { ROOM_FOR_LINKS ≤ vec_capacity ends.old }
-    requires rising { AreRising routers.now }
-    requires few { length routers.now ≤ ROOM_FOR_ROUTERS }
     requires known { All (HasListedEnds routers.now) changes.now }
-    requires beside { AreBeside rows.old.items routers.now ends.old.items }
     ensures changed { database_of rows.new.items
         ≡ after_changes (database_of rows.old.items) (filter puts_link changes.now) }
-    ensures by_key { AreByKey rows.new.items }
-    ensures most { vec_len rows.new ≤ MOST_LINKS }
-    ensures capacity { vec_capacity rows.old ≤ vec_capacity rows.new }
-    ensures capacity_of_ends { vec_capacity ends.old ≤ vec_capacity ends.new }
-    ensures beside { AreBeside rows.new.items routers.now ends.new.items }
+    ensures rows { AreRowsWithEnds rows.new routers.now ends.new }
 {
     for change in changes {
         if !is_removal(change) {
@@ -134,23 +105,11 @@ fn put_rows(rows: &mut Vec<Link>, ends: &mut Vec<u16>, routers: &[Addr], changes
 /// Makes changes on keys of their own one by one, the removals first, so that the rows are never more
 /// than a table may have. They put links between known routers alone.
 pub fn change_rows(rows: &mut Vec<Link>, ends: &mut Vec<u16>, routers: &[Addr], changes: &[Change])
-    requires by_key { AreByKey rows.old.items }
-    requires most { vec_len rows.old ≤ MOST_LINKS }
-    requires once { AreOnceEach changes.now }
-    requires links { link_count (after_changes (database_of rows.old.items) changes.now) ≤ MOST_LINKS }
-    requires room { ROOM_FOR_LINKS ≤ vec_capacity rows.old }
-    requires room_for_ends { ROOM_FOR_LINKS ≤ vec_capacity ends.old }
-    requires rising { AreRising routers.now }
-    requires few { length routers.now ≤ ROOM_FOR_ROUTERS }
-    requires known { All (HasListedEnds routers.now) changes.now }
-    requires beside { AreBeside rows.old.items routers.now ends.old.items }
+    requires rows { AreRowsWithEnds rows.old routers.now ends.old }
+    requires changes { AreChangesFor (database_of rows.old.items) routers.now changes.now }
     ensures changed { database_of rows.new.items
         ≡ after_changes (database_of rows.old.items) changes.now }
-    ensures by_key { AreByKey rows.new.items }
-    ensures most { vec_len rows.new ≤ MOST_LINKS }
-    ensures capacity { vec_capacity rows.old ≤ vec_capacity rows.new }
-    ensures capacity_of_ends { vec_capacity ends.old ≤ vec_capacity ends.new }
-    ensures beside { AreBeside rows.new.items routers.now ends.new.items }
+    ensures rows { AreRowsWithEnds rows.new routers.now ends.new }
 {
     remove_rows(rows, ends, routers, changes);
     put_rows(rows, ends, routers, changes);
@@ -168,7 +127,7 @@ fn move_few(added: usize, changes: &[Change]) -> bool
     added + count_removed(changes) <= FEW
 }
 
-/// Makes changes on keys of their own, with the ends beside the rows. They put links between listed
+/// Makes changes on keys of their own, with the column of ends. They put links between listed
 /// routers alone.
 fn change_with_ends(
     rows: &mut Vec<Link>,
@@ -178,24 +137,13 @@ fn change_with_ends(
     changes: &[Change],
     added: usize,
 )
-    requires by_key { AreByKey rows.old.items }
-    requires most { vec_len rows.old ≤ MOST_LINKS }
+    requires rows { AreRowsWithEnds rows.old routers.now ends.old }
     requires short { length changes.now ≤ MOST_CHANGES }
     requires added { added ≡ count_by (adds_link (database_of rows.old.items)) changes.now }
-    requires once { AreOnceEach changes.now }
-    requires links { link_count (after_changes (database_of rows.old.items) changes.now) ≤ MOST_LINKS }
-    requires room { ROOM_FOR_LINKS ≤ vec_capacity rows.old }
-    requires room_for_ends { ROOM_FOR_LINKS ≤ vec_capacity ends.old }
-    requires rising { AreRising routers.now }
-    requires few { length routers.now ≤ ROOM_FOR_ROUTERS }
-    requires known { All (HasListedEnds routers.now) changes.now }
-    requires beside { AreBeside rows.old.items routers.now ends.old.items }
+    requires changes { AreChangesFor (database_of rows.old.items) routers.now changes.now }
     ensures changed { database_of rows.new.items
         ≡ after_changes (database_of rows.old.items) changes.now }
-    ensures by_key { AreByKey rows.new.items }
-    ensures room { ROOM_FOR_LINKS ≤ vec_capacity rows.new }
-    ensures room_for_ends { ROOM_FOR_LINKS ≤ vec_capacity ends.new }
-    ensures beside { AreBeside rows.new.items routers.now ends.new.items }
+    ensures rows { AreRowsWithEnds rows.new routers.now ends.new }
 {
     if move_few(added, changes) {
         change_rows(rows, ends, routers, changes);

@@ -42,7 +42,8 @@ impl Scratch {
     ghost use Rattle.cspf_db.specs.Database.{link_count};
     ghost use Rattle.cspf_db.specs.Changes.{after_changes};
     ghost use Rattle.cspf_db.specs.Tables.CountedEnds.{HasListedEnds};
-    ghost use Rattle.cspf_db.specs.Tables.Rows.{database_of, AreRising, AreByKey, AreBeside, AreEndsOf, AreRoutersOf};
+    ghost use Rattle.cspf_db.specs.Tables.Rows.{database_of, AreRising, AreByKey, IsEndColumn, AreEndsOf, AreRoutersOf, AreRowsWithEnds};
+    ghost use Rattle.cspf_db.specs.Tables.RowChanges.{AreChangesFor};
     ghost use Rattle.cspf_db.specs.Refusals.{AreOnceEach};
 
     /// Room for the rows of a full table and a batch.
@@ -56,8 +57,8 @@ impl Scratch {
         })
     }
 
-    /// Makes changes on keys of their own, however many rows they move, with the ends beside the
-    /// rows. They put links between listed routers alone. It takes no memory.
+    /// Makes changes on keys of their own, however many rows they move, with the
+    /// column of ends. They put links between listed routers alone. It takes no memory.
     pub fn change(
         &mut self,
         rows: &mut Vec<Link>,
@@ -65,23 +66,12 @@ impl Scratch {
         routers: &[Addr],
         changes: &[Change],
     )
-        requires by_key { AreByKey rows.old.items }
-        requires most { vec_len rows.old ≤ MOST_LINKS }
+        requires rows { AreRowsWithEnds rows.old routers.now ends.old }
         requires short { length changes.now ≤ MOST_CHANGES }
-        requires once { AreOnceEach changes.now }
-        requires links { link_count (after_changes (database_of rows.old.items) changes.now) ≤ MOST_LINKS }
-        requires room { ROOM_FOR_LINKS ≤ vec_capacity rows.old }
-        requires room_for_ends { ROOM_FOR_LINKS ≤ vec_capacity ends.old }
-        requires rising { AreRising routers.now }
-        requires few { length routers.now ≤ ROOM_FOR_ROUTERS }
-        requires known { All (HasListedEnds routers.now) changes.now }
-        requires beside { AreBeside rows.old.items routers.now ends.old.items }
+        requires changes { AreChangesFor (database_of rows.old.items) routers.now changes.now }
         ensures changed { database_of rows.new.items
             ≡ after_changes (database_of rows.old.items) changes.now }
-        ensures by_key { AreByKey rows.new.items }
-        ensures room { ROOM_FOR_LINKS ≤ vec_capacity rows.new }
-        ensures room_for_ends { ROOM_FOR_LINKS ≤ vec_capacity ends.new }
-        ensures ends { AreEndsOf rows.new.items routers.now ends.new.items }
+        ensures rows { AreRowsWithEnds rows.new routers.now ends.new }
     {
         sort_changes(&mut self.sorted, changes);
         self.merged.clear();
@@ -142,7 +132,7 @@ impl Scratch {
         requires rising { AreRising routers.old.items }
         requires few { vec_len routers.old ≤ ROOM_FOR_ROUTERS }
         requires room { ROOM_FOR_ROUTERS ≤ vec_capacity routers.old }
-        requires beside { AreBeside rows.now routers.old.items ends.old.items }
+        requires column { IsEndColumn rows.now routers.old.items ends.old.items }
         ensures routers { AreRoutersOf rows.now routers.new }
         ensures ends { AreEndsOf rows.now routers.new.items ends.new.items }
         ensures capacity_of_ends { vec_capacity ends.old ≤ vec_capacity ends.new }

@@ -9,6 +9,7 @@ ghost use Rattle.cspf_db.specs.Changes.{after_change};
 ghost use Rattle.cspf_db.specs.Tables.Rows.{database_of, AreByKey};
 ghost use Rattle.cspf_db.specs.Tables.CountedEnds.{any_from};
 
+use crate::table::insertion::insert_within;
 use crate::{Change, Link};
 use cspf_addr::{Addr, Prefix};
 use std::cmp::Ordering;
@@ -111,17 +112,6 @@ pub fn any_rising_within(rows: &[Link], prefix: Prefix) -> bool
     }
     let (first, last) = (rows[0].local, rows[rows.len() - 1].local);
     may_cover(prefix, first, last) && any_within(rows, prefix)
-}
-
-/// Puts the link in at an index. There is room, so this takes no memory and can't fail.
-fn insert_within(rows: &mut Vec<Link>, at: usize, link: Link)
-    requires bound { at ≤ vec_len rows.old }
-    requires room { vec_len rows.old < vec_capacity rows.old }
-    ensures items { rows.new.items ≡ insert rows.old.items at link }
-    ensures len { vec_len rows.new ≡ vec_len rows.old + 1 }
-    ensures capacity { vec_capacity rows.old ≤ vec_capacity rows.new }
-{
-    let _ = rows.insert(at, link);
 }
 
 /// Puts the link in place of the row with its key, or between the lower keys and the higher ones,

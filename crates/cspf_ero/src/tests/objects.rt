@@ -138,9 +138,9 @@ fn each_value_of_each_byte(rt: HostRuntime) -> Result<(), Fail> {
     Ok(())
 }
 
-/// The first bytes of an object decide: what comes behind the first bytes changes nothing but the length.
+/// What comes behind the first `FIRST_BYTES` of an object changes nothing of what is answered.
 #[test]
-fn fronts_of_long_objects(rt: HostRuntime) -> Result<(), Fail> {
+fn first_bytes_of_long_objects(rt: HostRuntime) -> Result<(), Fail> {
     let mut bytes = [0; FIRST_BYTES];
     let (header, body) = bytes.split_at_mut(4);
     header.copy_from_slice(b"\xff\xc4\x14\x01");

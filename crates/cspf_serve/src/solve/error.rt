@@ -1,3 +1,7 @@
+ghost use Rattle.std.specs.Prelude.{◌≡◌};
+ghost use Rattle.cspf_rows.specs.ReadFaults.{stream_fault_of};
+ghost use Rattle.cspf_serve.specs.declared.solve.error.SolveError.TheVariants as solve_error;
+
 use cspf_rows::RecordError;
 use std::alloc::AllocError;
 use thiserror::Error;
@@ -20,10 +24,7 @@ pub enum SolveError {
 }
 
 impl From<AllocError> for SolveError {
-    ghost use Rattle.std.specs.Prelude.{◌≡◌};
-    ghost use Rattle.cspf_serve.specs.declared.solve.error.SolveError.TheVariants.{Memory};
-
-    ghost from_gives = { λ _ error. error ≡ Memory };
+    ghost from_gives = { λ _ error. error ≡ solve_error.Memory };
 
     fn from(_refused: AllocError) -> SolveError {
         SolveError::Memory
@@ -31,10 +32,7 @@ impl From<AllocError> for SolveError {
 }
 
 impl From<RecordError> for SolveError {
-    ghost use Rattle.std.specs.Prelude.{◌≡◌};
-    ghost use Rattle.cspf_serve.specs.ErrorNames.{solve_error_of};
-
-    ghost from_gives = { λ fault error. error ≡ solve_error_of fault };
+    ghost from_gives = { λ fault error. error ≡ stream_fault_of solve_error.Memory solve_error.Read fault };
 
     fn from(fault: RecordError) -> SolveError {
         match fault {

@@ -1,3 +1,7 @@
+ghost use Rattle.std.specs.Prelude.{◌≡◌};
+ghost use Rattle.cspf_serve.specs.declared.streams.error.RunError.TheVariants as run_error;
+ghost use Rattle.cspf_serve.specs.declared.streams.early_end.EarlyEnd.TheVariants as early_end;
+
 use crate::RunError;
 use std::alloc::AllocError;
 
@@ -11,11 +15,7 @@ pub(crate) enum EarlyEnd {
 }
 
 impl From<AllocError> for EarlyEnd {
-    ghost use Rattle.std.specs.Prelude.{◌≡◌};
-    ghost use Rattle.cspf_serve.specs.declared.streams.error.RunError.TheVariants.{Memory};
-    ghost use Rattle.cspf_serve.specs.declared.streams.early_end.EarlyEnd.TheVariants.{Failed};
-
-    ghost from_gives = { λ _ end. end ≡ Failed Memory };
+    ghost from_gives = { λ _ end. end ≡ early_end.Failed run_error.Memory };
 
     fn from(_refused: AllocError) -> EarlyEnd {
         EarlyEnd::Failed(RunError::Memory)
@@ -23,10 +23,7 @@ impl From<AllocError> for EarlyEnd {
 }
 
 impl From<RunError> for EarlyEnd {
-    ghost use Rattle.std.specs.Prelude.{◌≡◌};
-    ghost use Rattle.cspf_serve.specs.declared.streams.early_end.EarlyEnd.TheVariants.{Failed};
-
-    ghost from_gives = { λ error end. end ≡ Failed error };
+    ghost from_gives = { λ error end. end ≡ early_end.Failed error };
 
     fn from(error: RunError) -> EarlyEnd {
         EarlyEnd::Failed(error)

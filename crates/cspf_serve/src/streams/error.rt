@@ -1,3 +1,7 @@
+ghost use Rattle.std.specs.Prelude.{◌≡◌};
+ghost use Rattle.cspf_serve.specs.ErrorNames.{run_error_of};
+ghost use Rattle.cspf_serve.specs.declared.streams.error.RunError.TheVariants as run_error;
+
 use crate::ServeError;
 use cspf_publish::OpenError;
 use std::alloc::AllocError;
@@ -21,10 +25,7 @@ pub enum RunError {
 }
 
 impl From<AllocError> for RunError {
-    ghost use Rattle.std.specs.Prelude.{◌≡◌};
-    ghost use Rattle.cspf_serve.specs.declared.streams.error.RunError.TheVariants.{Memory};
-
-    ghost from_gives = { λ _ error. error ≡ Memory };
+    ghost from_gives = { λ _ error. error ≡ run_error.Memory };
 
     fn from(_refused: AllocError) -> RunError {
         RunError::Memory
@@ -32,9 +33,6 @@ impl From<AllocError> for RunError {
 }
 
 impl From<OpenError> for RunError {
-    ghost use Rattle.std.specs.Prelude.{◌≡◌};
-    ghost use Rattle.cspf_serve.specs.ErrorNames.{run_error_of};
-
     ghost from_gives = { λ refused error. error ≡ run_error_of refused };
 
     fn from(refused: OpenError) -> RunError {
@@ -47,10 +45,7 @@ impl From<OpenError> for RunError {
 }
 
 impl From<ServeError> for RunError {
-    ghost use Rattle.std.specs.Prelude.{◌≡◌};
-    ghost use Rattle.cspf_serve.specs.declared.streams.error.RunError.TheVariants.{Serve};
-
-    ghost from_gives = { λ fault error. error ≡ Serve fault };
+    ghost from_gives = { λ fault error. error ≡ run_error.Serve fault };
 
     fn from(fault: ServeError) -> RunError {
         RunError::Serve(fault)

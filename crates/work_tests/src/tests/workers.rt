@@ -6,7 +6,7 @@ use cspf_addr::{Addr, Hops, Mask};
 use cspf_db::{Batch, Change, Link, Request};
 use cspf_publish::{Answer, ApplyError, Asker, Publisher, open};
 use cspf_search::Outcome;
-use cspf_serve::{Answers, Gate, Live, NoGate, answer_all, run_live};
+use cspf_serve::{Answers, Gate, Live, NoGate, answer_all, answer_latest, run_live};
 use std::alloc::{AllocError, Global};
 use std::io::Write;
 use std::process::Abort;
@@ -327,6 +327,24 @@ fn in_order(rt: HostRuntime) -> Result<(), Fail> {
     for (index, answer) in answers.list.iter().enumerate() {
         assert!(rt; is_in_order(index, answer), "{index}");
     }
+    Ok(())
+}
+
+/// Two workers answer at the last version, which their askers learn.
+#[test]
+fn at_the_last_version(rt: HostRuntime) -> Result<(), Fail> {
+    let batch = link_batch(rt.alloc(), 1)?;
+    let all = requests(rt.alloc(), 2)?;
+    let (mut publisher, askers) = opened(&rt, rt.alloc(), Vec::<u8>::new(rt.alloc()), 2);
+    assert!(rt; publisher.apply(&rt, rt.alloc(), &batch) == Ok(1));
+    let asked = all.as_slice();
+    let answered = answer_latest(&rt, rt.alloc(), &mut publisher, askers, asked, &NoGate);
+    publisher.close(&rt);
+    let Ok(answers) = answered else {
+        panic!(rt; "not answered")
+    };
+    assert!(rt; answers.list.len() == 2 && are_of_the_link(&answers.list));
+    assert!(rt; answers.askers.len() == 2 && are_at_version_1(&answers.askers));
     Ok(())
 }
 

@@ -1,4 +1,4 @@
-use Rattle.cspf_rows.proofs.Refusing.{rows_refused, refused_once}
+use Rattle.cspf_rows.proofs.RowRefusalLemmas.{rows_refused, refused_once}
 use Rattle.cspf_rows.proofs.laws.rows_are_refused.Goals as goal
 
 pub returns : goal.returns

@@ -10,4 +10,4 @@ returns c = λ bytes found.
     let within : count ≤ length bytes = omega (arith, size, c.min-count.ensures) in
     c.read_ero_front.ensures bytes (omega (arith, size))
     (front_taken (length bytes) count bytes refl (omega (arith, size, c.min-count.ensures))
-    ∙ sym (front_placed count bytes c.decode_front.new.front (replicate 64 0) _ (omega (arith, c.min-count.ensures)) within (c.decode_front.ensures bytes found)))
+    ∙ sym (front_placed count bytes c.decode_first_bytes.new.front (replicate 64 0) _ (omega (arith, c.min-count.ensures)) within (c.decode_first_bytes.ensures bytes found)))

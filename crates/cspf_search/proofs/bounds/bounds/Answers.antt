@@ -1,5 +1,5 @@
 use Rattle.std.proofs.Common.{◌≡◌, [], ◌+◌, ◌*◌, ◌∙◌, length, replicate, arith}
-use Rattle.cspf_search.proofs.Ahead.{zero_bounds, zeros_at}
+use Rattle.cspf_search.proofs.LegBounds.{zero_bounds, zeros_at}
 use Rattle.cspf_search.proofs.Arrived.{no_arrivals}
 use Rattle.cspf_search.proofs.Slices.{written_back}
 use Rattle.cspf_search.proofs.bounds.bounds.Goals as goal

@@ -1,7 +1,7 @@
 use Rattle.std.proofs.Common.{◌≡◌, ℕ, ◌+◌, ◌-◌, ◌*◌, ◌<◌, ◌≤◌, length, drop, length-drop, arith}
 use Rattle.std.proofs.lemmas.List.{take_all}
 use Rattle.cspf_search.specs.Bounds.{bound_at}
-use Rattle.cspf_search.proofs.Ahead.{one_leg_more, zeros_below}
+use Rattle.cspf_search.proofs.LegBounds.{one_leg_more, zeros_below}
 use Rattle.cspf_search.proofs.bounds.set_legs.Goals as goal
 
 pub loop-leg-preserved : goal.loop-leg-preserved

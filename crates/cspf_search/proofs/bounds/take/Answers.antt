@@ -1,4 +1,4 @@
-use Rattle.cspf_search.proofs.Ahead.{one_router_more}
+use Rattle.cspf_search.proofs.LegBounds.{one_router_more}
 use Rattle.cspf_search.proofs.bounds.take.Goals as goal
 
 pub returns-then-near-to-clause-ring : goal.returns-then-near-to-clause-ring

@@ -2,7 +2,7 @@ use Rattle.std.proofs.Common.{◌≡◌, ◌+◌, ◌-◌, inl, inr, subst, sym,
 use Rattle.cspf_search.specs.Arrivals.{arrival_at}
 use Rattle.cspf_search.specs.Bounds.{IsPassed}
 use Rattle.cspf_search.proofs.Arrived.{follows_none, follows_step}
-use Rattle.cspf_search.proofs.Ahead.{falls_on, passed_on}
+use Rattle.cspf_search.proofs.LegBounds.{falls_on, passed_on}
 use Rattle.cspf_search.proofs.bounds.walk.Goals as goal
 
 pub loop-at-preserved : goal.loop-at-preserved

@@ -4,7 +4,7 @@ use Rattle.std.proofs.lemmas.Option.{slice_get_within}
 use Rattle.std.proofs.lemmas.Result.{on_ok_weaker}
 use Rattle.cspf_db.specs.Index.{links_from_index}
 use Rattle.cspf_search.specs.declared.labels.Label.{Label}
-use Rattle.cspf_search.specs.declared.stands.Stand.{Stand}
+use Rattle.cspf_search.specs.declared.roles.Role.{Role}
 use Rattle.cspf_search.specs.Frontier.{nowhere, rank_of, label_at}
 use Rattle.cspf_search.proofs.Expanded.{link_index}
 use Rattle.cspf_search.proofs.Heaps.{rank_read}
@@ -54,21 +54,21 @@ returns-then-key-last-clause-after c =
     small c.requires.row c.args.end c.requires.end c.requires.before
     (inr (omega (arith, read, c.if-key-last.true, c.requires.source.rank, c.from.ensures, c.requires.metric, c.lift.ensures.value)))
 
-pub returns-then-not-stand-clause-after : goal.returns-then-not-stand-clause-after
-returns-then-not-stand-clause-after c =
+pub returns-then-not-role-clause-after : goal.returns-then-not-role-clause-after
+returns-then-not-role-clause-after c =
     let d = c.args.query.table.now in
     let q = c.args.query.request.now in
     let nodes = c.args.source.nodes.now in
     let small : c.args.link.now.metric < 2 ^ 32 = omega (arith, c.requires.metric) in
     let index = link_index d q nodes c.args.source.at c.args.source.state c.requires.source.node c.args.row c.args.link.now c.requires.row c.args.end c.requires.end c.requires.query.listed.few in
-    let no_stand : Stand = record { inside = false; target = false } in
+    let no_role : Role = record { inside = false; target = false } in
     let told = link_told d q nodes c.requires.source.arena c.requires.query.listed c.args.source.at c.args.source.state c.requires.source.node c.args.goal c.requires.behind c.args.labels.now (heap_items c.args.heap.now) c.args.row c.args.link.now
     small c.requires.row c.args.end c.requires.end c.requires.before
-    (slice_index_or c.args.query.stands.now (c.args.source.state - c.args.source.state % 1024 + c.args.end) no_stand)
-    (c.requires.query.stands.each (c.args.source.state - c.args.source.state % 1024 + c.args.end) no_stand index) in
+    (slice_index_or c.args.query.roles.now (c.args.source.state - c.args.source.state % 1024 + c.args.end) no_role)
+    (c.requires.query.roles.each (c.args.source.state - c.args.source.state % 1024 + c.args.end) no_role index) in
     link_off d q nodes c.requires.source.arena c.requires.query.listed c.args.source.at c.args.source.state c.requires.source.node c.args.goal c.requires.behind c.args.labels.now (heap_items c.args.heap.now) c.args.row c.args.link.now
     small c.requires.row c.args.end c.requires.end c.requires.before
-    (λ admitted inside. false≢true (sym (not-true _ c.if-not-stand.true) ∙ told.1 inside))
+    (λ admitted inside. false≢true (sym (not-true _ c.if-not-role.true) ∙ told.1 inside))
 
 pub returns-then-not-accepts-clause-after : goal.returns-then-not-accepts-clause-after
 returns-then-not-accepts-clause-after c =
@@ -121,16 +121,16 @@ returns-clause-after c =
     let index = link_index d q nodes c.args.source.at c.args.source.state c.requires.source.node c.args.row c.args.link.now c.requires.row c.args.end c.requires.end c.requires.query.listed.few in
     let blank : Label = record { rank = 0; parent = 0; place = 0; row = 0 } in
     let read = rank_read c.args.labels.now (c.args.source.state - c.args.source.state % 1024 + c.args.end) blank (omega (arith, index.low, c.requires.before.many)) in
-    let no_stand : Stand = record { inside = false; target = false } in
+    let no_role : Role = record { inside = false; target = false } in
     let told = link_told d q nodes c.requires.source.arena c.requires.query.listed c.args.source.at c.args.source.state c.requires.source.node c.args.goal c.requires.behind c.args.labels.now (heap_items c.args.heap.now) c.args.row c.args.link.now
     small c.requires.row c.args.end c.requires.end c.requires.before
-    (slice_index_or c.args.query.stands.now (c.args.source.state - c.args.source.state % 1024 + c.args.end) no_stand)
-    (c.requires.query.stands.each (c.args.source.state - c.args.source.state % 1024 + c.args.end) no_stand index) in
+    (slice_index_or c.args.query.roles.now (c.args.source.state - c.args.source.state % 1024 + c.args.end) no_role)
+    (c.requires.query.roles.each (c.args.source.state - c.args.source.state % 1024 + c.args.end) no_role index) in
     let le : c.args.source.rank + c.from.result * 16384 + 1 ≤ (label_at c.args.labels.now (c.args.source.state - c.args.source.state % 1024 + c.args.end)).rank =
     omega (arith, read, c.if-new-kept.false) in
     on_ok_weaker c.offer.result
     (link_taken d q nodes c.requires.source.arena c.requires.query.listed c.args.source.at c.args.source.state c.requires.source.node c.args.goal c.requires.behind c.args.labels.now (heap_items c.args.heap.now) c.args.row c.args.link.now
     small c.requires.row c.args.end c.requires.end c.requires.before label refl refl refl rank
-    (c.if-not-accepts.ensures.0 refl) (told.0 (not-false _ c.if-not-stand.false)) le (c.args.source.rank + c.from.result * 16384 + 1 + c.lift.result) c.offer.new.labels
+    (c.if-not-accepts.ensures.0 refl) (told.0 (not-false _ c.if-not-role.false)) le (c.args.source.rank + c.from.result * 16384 + 1 + c.lift.result) c.offer.new.labels
     (heap_items c.offer.new.heap) (ap (λ n. c.args.source.rank + c.from.result * 16384 + 1 + n) c.lift.ensures.value))
     c.offer.ensures.first

@@ -2,7 +2,7 @@ use Rattle.std.proofs.Common.{◌+◌, ◌/◌, ◌%◌, ◌<◌, ◌≤◌, inl
 use Rattle.std.proofs.lemmas.Bool.{false≢true, not-true, not-false}
 use Rattle.std.proofs.lemmas.Result.{on_ok_weaker}
 use Rattle.cspf_search.specs.declared.labels.Label.{Label}
-use Rattle.cspf_search.specs.declared.stands.Stand.{Stand}
+use Rattle.cspf_search.specs.declared.roles.Role.{Role}
 use Rattle.cspf_search.specs.Frontier.{label_at}
 use Rattle.cspf_search.proofs.Expanded.{turn_index}
 use Rattle.cspf_search.proofs.Heaps.{rank_read}
@@ -14,12 +14,12 @@ returns-then-state-len-clause-after c =
     turn_off c.args.query.table.now c.args.query.request.now c.args.source.nodes.now c.requires.source.arena c.requires.query.listed c.args.source.at c.args.source.state c.requires.source.node c.args.goal c.requires.behind c.args.labels.now
     (heap_items c.args.heap.now) c.requires.before (λ h target. omega (arith, c.len.ensures.value))
 
-pub returns-then-not-stand-clause-after : goal.returns-then-not-stand-clause-after
-returns-then-not-stand-clause-after c =
-    let no_stand : Stand = record { inside = false; target = false } in
-    let told = c.requires.query.stands.each c.args.source.state no_stand c.requires.source.node.index in
+pub returns-then-not-role-clause-after : goal.returns-then-not-role-clause-after
+returns-then-not-role-clause-after c =
+    let no_role : Role = record { inside = false; target = false } in
+    let told = c.requires.query.roles.each c.args.source.state no_role c.requires.source.node.index in
     turn_off c.args.query.table.now c.args.query.request.now c.args.source.nodes.now c.requires.source.arena c.requires.query.listed c.args.source.at c.args.source.state c.requires.source.node c.args.goal c.requires.behind c.args.labels.now
-    (heap_items c.args.heap.now) c.requires.before (λ h target. false≢true (sym (not-true _ c.if-not-stand.true) ∙ told.target.1 target))
+    (heap_items c.args.heap.now) c.requires.before (λ h target. false≢true (sym (not-true _ c.if-not-role.true) ∙ told.target.1 target))
 
 pub returns-then-rank-kept-clause-after : goal.returns-then-rank-kept-clause-after
 returns-then-rank-kept-clause-after c =
@@ -55,14 +55,14 @@ pub returns-clause-after : goal.returns-clause-after
 returns-clause-after c =
     let h : c.args.source.state / 1024 < length c.args.query.request.now.hops = omega (arith, c.len.ensures.value) in
     let label : Label = record { rank = c.args.source.rank; parent = c.args.source.at; place = c.args.source.state % 1024; row = 65535 } in
-    let no_stand : Stand = record { inside = false; target = false } in
-    let told = c.requires.query.stands.each c.args.source.state no_stand c.requires.source.node.index in
+    let no_role : Role = record { inside = false; target = false } in
+    let told = c.requires.query.roles.each c.args.source.state no_role c.requires.source.node.index in
     let index = turn_index c.args.query.table.now c.args.query.request.now c.args.source.nodes.now c.args.source.at c.args.source.state c.requires.source.node h in
     let blank : Label = record { rank = 0; parent = 0; place = 0; row = 0 } in
     let read = rank_read c.args.labels.now (c.args.source.state + 1024) blank (omega (arith, index.low, c.requires.before.many)) in
     let le : c.args.source.rank ≤ (label_at c.args.labels.now (c.args.source.state + 1024)).rank = omega (arith, read, c.if-rank-kept.false) in
     on_ok_weaker c.offer.result
     (turn_taken c.args.query.table.now c.args.query.request.now c.args.source.nodes.now c.requires.source.arena c.requires.query.listed c.args.source.at c.args.source.state c.requires.source.node c.args.goal c.requires.behind c.args.labels.now
-    (heap_items c.args.heap.now) c.requires.before label refl refl refl c.requires.source.rank h (told.target.0 (not-false _ c.if-not-stand.false)) le (c.args.source.rank + c.lift.result) c.offer.new.labels
+    (heap_items c.args.heap.now) c.requires.before label refl refl refl c.requires.source.rank h (told.target.0 (not-false _ c.if-not-role.false)) le (c.args.source.rank + c.lift.result) c.offer.new.labels
     (heap_items c.offer.new.heap) (ap (λ n. c.args.source.rank + n) c.lift.ensures.value))
     c.offer.ensures.first

@@ -3,7 +3,7 @@ use Rattle.std.proofs.lemmas.Bool.{false≢true, not-true, not-false}
 use Rattle.std.proofs.lemmas.List.{get_or_read}
 use Rattle.std.proofs.lemmas.Option.{slice_get_read}
 use Rattle.cspf_search.specs.declared.arena.Node.{Node}
-use Rattle.cspf_search.specs.declared.stands.Stand.{Stand}
+use Rattle.cspf_search.specs.declared.roles.Role.{Role}
 use Rattle.cspf_search.specs.Arena.{IsNext}
 use Rattle.cspf_search.specs.Frontier.{nowhere}
 use Rattle.cspf_search.proofs.Expanded.{link_index}
@@ -28,19 +28,19 @@ returns-then-is_late c =
           c.args.end c.requires.end c.requires.query.listed.few c.requires.before small c.index-nodes-at.result from c.from.result c.from.ensures (c.if-is_late.ensures.0 refl);
     }
 
-pub returns-then-not-stand : goal.returns-then-not-stand
-returns-then-not-stand c =
+pub returns-then-not-role : goal.returns-then-not-role
+returns-then-not-role c =
     let d = c.args.query.table.now in
     let q = c.args.query.request.now in
     let nodes = c.args.nodes.now in
     let index = link_index d q nodes c.args.at c.args.state c.requires.from c.args.row c.args.link c.requires.row c.args.end c.requires.end c.requires.query.listed.few in
-    let no_stand : Stand = record { inside = false; target = false } in
-    let told = c.requires.query.stands.each (c.args.state - c.args.state % 1024 + c.args.end) no_stand index in
+    let no_role : Role = record { inside = false; target = false } in
+    let told = c.requires.query.roles.each (c.args.state - c.args.state % 1024 + c.args.end) no_role index in
     record {
       after =
           no_link d q nodes c.requires.arena c.args.at c.args.state c.requires.from c.args.best.now c.args.row c.args.link c.requires.row
           c.args.end c.requires.end c.requires.query.listed.few c.requires.before
-          (λ admitted inside. false≢true (sym (not-true _ c.if-not-stand.true) ∙ told.inside.1 inside));
+          (λ admitted inside. false≢true (sym (not-true _ c.if-not-role.true) ∙ told.inside.1 inside));
     }
 
 pub returns-then-not-accepts : goal.returns-then-not-accepts
@@ -65,13 +65,13 @@ returns c =
     let nodes = c.args.nodes.now in
     let small : c.args.link.metric < 2 ^ 32 = omega arith in
     let index = link_index d q nodes c.args.at c.args.state c.requires.from c.args.row c.args.link c.requires.row c.args.end c.requires.end c.requires.query.listed.few in
-    let no_stand : Stand = record { inside = false; target = false } in
-    let told = c.requires.query.stands.each (c.args.state - c.args.state % 1024 + c.args.end) no_stand index in
+    let no_role : Role = record { inside = false; target = false } in
+    let told = c.requires.query.roles.each (c.args.state - c.args.state % 1024 + c.args.end) no_role index in
     let from = get_or_read nodes c.args.at c.index-nodes-at.result c.requires.from.within c.index-nodes-at.is nowhere in
     record {
       after =
           rw c.keep.ensures
           (link_kept d q nodes c.requires.arena c.args.at c.args.state c.requires.from c.args.best.now c.args.row c.args.link c.requires.row c.args.end c.requires.end
-          c.requires.query.listed.few c.requires.before small c.requires.left (c.if-not-accepts.ensures.0 refl) (told.inside.0 (not-false _ c.if-not-stand.false))
+          c.requires.query.listed.few c.requires.before small c.requires.left (c.if-not-accepts.ensures.0 refl) (told.inside.0 (not-false _ c.if-not-role.false))
           c.index-nodes-at.result from c.from.result c.from.ensures);
     }

@@ -1,7 +1,7 @@
 use Rattle.std.proofs.Common.{◌+◌, ◌/◌, ◌<◌, false, length, sym, ◌∙◌, arith}
 use Rattle.std.proofs.lemmas.Bool.{false≢true, not-true, not-false}
 use Rattle.std.proofs.lemmas.List.{get_or_read}
-use Rattle.cspf_search.specs.declared.stands.Stand.{Stand}
+use Rattle.cspf_search.specs.declared.roles.Role.{Role}
 use Rattle.cspf_search.specs.Frontier.{nowhere}
 use Rattle.cspf_search.proofs.Expanded.{turn_index}
 use Rattle.cspf_search.proofs.Looked.{no_turn, turn_settled, turn_kept}
@@ -27,14 +27,14 @@ returns-then-marks-state c =
           (sym (c.requires.marks.each (c.args.state + 1024) false index) ∙ c.if-marks-state.true);
     }
 
-pub returns-then-not-stand : goal.returns-then-not-stand
-returns-then-not-stand c =
-    let no_stand : Stand = record { inside = false; target = false } in
-    let told = c.requires.query.stands.each c.args.state no_stand c.requires.from.index in
+pub returns-then-not-role : goal.returns-then-not-role
+returns-then-not-role c =
+    let no_role : Role = record { inside = false; target = false } in
+    let told = c.requires.query.roles.each c.args.state no_role c.requires.from.index in
     record {
       after =
           no_turn c.args.query.table.now c.args.query.request.now c.args.nodes.now c.requires.arena c.args.at c.args.state c.requires.from c.args.best.now c.requires.before
-          (λ h target. false≢true (sym (not-true _ c.if-not-stand.true) ∙ told.target.1 target));
+          (λ h target. false≢true (sym (not-true _ c.if-not-role.true) ∙ told.target.1 target));
     }
 
 pub returns : goal.returns
@@ -44,13 +44,13 @@ returns c =
     let nodes = c.args.nodes.now in
     let h : c.args.state / 1024 < length c.args.query.request.now.hops = omega (arith, c.len.ensures.value) in
     let index = turn_index d q nodes c.args.at c.args.state c.requires.from h in
-    let no_stand : Stand = record { inside = false; target = false } in
-    let told = c.requires.query.stands.each c.args.state no_stand c.requires.from.index in
+    let no_role : Role = record { inside = false; target = false } in
+    let told = c.requires.query.roles.each c.args.state no_role c.requires.from.index in
     let from = get_or_read nodes c.args.at c.index-nodes-at.result c.requires.from.within c.index-nodes-at.is nowhere in
     record {
       after =
           rw c.keep.ensures
           (turn_kept d q nodes c.requires.arena c.args.at c.args.state c.requires.from c.args.best.now c.requires.before h
-          (told.target.0 (not-false _ c.if-not-stand.false)) (sym (c.requires.marks.each (c.args.state + 1024) false index) ∙ c.if-marks-state.false)
+          (told.target.0 (not-false _ c.if-not-role.false)) (sym (c.requires.marks.each (c.args.state + 1024) false index) ∙ c.if-marks-state.false)
           c.index-nodes-at.result from);
     }

@@ -125,7 +125,7 @@ loop-at-preserved c =
     let put =
     written_back c.loop-at.labels.len c.expand-in-Some.new.labels c.deref_mut-in-Some.result.now (set c.loop-at.labels.items c.in-Some.at (record { rank = 0; parent = 0; place = 0; row = 0 }))
     c.expand-in-Some.auto.labels c.deref_mut-in-Some.ensures.value (c.loop-at.labels.ok.0 ∙ sym (length-set c.loop-at.labels.items c.in-Some.at (record { rank = 0; parent = 0; place = 0; row = 0 }))) in
-    let told = c.in_ok-stands.ensures in
+    let told = c.in_ok-roles.ensures in
     let choice = rw (c.deref-in-Some-3.ensures.value, c.deref-in-Some-4.ensures.value) at c.raised.ensures in
     let on : AreLabels c.args.table.now c.args.request.now (c.loop-at.nodes.items ++ (c.node_of-node.result ∷ []))
     (CrossesBelow c.args.table.now c.args.request.now (c.loop-at.nodes.items ++ (c.node_of-node.result ∷ [])) (links_of c.args.table.now) (length (c.loop-at.nodes.items ++ (c.node_of-node.result ∷ []))))
@@ -149,11 +149,11 @@ loop-at-preserved c =
         settled = new.1;
         left = still_left _ _ _ _ _ _ asked _ _ _ before _ _ least _ is c.if-at-goal.false;
         floor =
-            floor_on _ _ _ _ _ _ asked _ _ _ before _ _ least _ is c.in_ok-stands.stands.items told c.raised.result (CrossesBelow d c.args.request.now (nodes ++ (node ∷ [])) (links_of d) (length (nodes ++ (node ∷ []))))
+            floor_on _ _ _ _ _ _ asked _ _ _ before _ _ least _ is c.in_ok-roles.roles.items told c.raised.result (CrossesBelow d c.args.request.now (nodes ++ (node ∷ [])) (links_of d) (length (nodes ++ (node ∷ []))))
             (with_items (with_item c.loop-at.labels c.in-Some.at (record { rank = 0; parent = 0; place = 0; row = 0 })) c.expand-in-Some.new.labels).items (heap_items c.expand-in-Some.new.heap)
             on c.if-at-goal.false choice;
         labelled =
-            labels_on _ _ _ _ _ _ asked _ _ _ before _ _ least _ is c.in_ok-stands.stands.items told c.raised.result (CrossesBelow d c.args.request.now (nodes ++ (node ∷ [])) (links_of d) (length (nodes ++ (node ∷ []))))
+            labels_on _ _ _ _ _ _ asked _ _ _ before _ _ least _ is c.in_ok-roles.roles.items told c.raised.result (CrossesBelow d c.args.request.now (nodes ++ (node ∷ [])) (links_of d) (length (nodes ++ (node ∷ []))))
             (with_items (with_item c.loop-at.labels c.in-Some.at (record { rank = 0; parent = 0; place = 0; row = 0 })) c.expand-in-Some.new.labels).items (heap_items c.expand-in-Some.new.heap)
             on choice;
       };

@@ -4,13 +4,13 @@ use Rattle.cspf_db.specs.Database.{IsRouterOf}
 use Rattle.cspf_db.specs.Index.{links_of}
 use Rattle.cspf_search.specs.declared.arena.Node.{Node}
 use Rattle.cspf_search.specs.Arena.{root_of, state_of}
-use Rattle.cspf_search.specs.Stops.{IsStop}
+use Rattle.cspf_search.specs.ForwardStars.{IsForwardStar}
 use Rattle.cspf_search.proofs.Grown.{root_nodes, root_settled, nodes_in_legs, nothing_crosses}
-use Rattle.cspf_search.proofs.Marked.{no_stops, no_marks, stop_index, stops_push, marks_push, after, new_router, new_leg}
+use Rattle.cspf_search.proofs.Marked.{no_stars, no_marks, star_index, stars_push, marks_push, after, new_router, new_leg}
 use Rattle.cspf_search.proofs.search.settled.Goals as goal
 
-pub stop_of-root-requires-clause-known : goal.stop_of-root-requires-clause-known
-stop_of-root-requires-clause-known c =
+pub star_of-root-requires-clause-known : goal.star_of-root-requires-clause-known
+star_of-root-requires-clause-known c =
     let root : c.index.result.now ≡ root_of c.args.request.now = rw c.in_ok-nodes.ensures at c.index.ensures in
     subst (λ (n : Node). IsRouterOf c.args.table.now n.router) (sym root) c.requires.known
 
@@ -18,19 +18,19 @@ pub loop-node-init : goal.loop-node-init
 loop-node-init c =
     let d = c.args.table.now in
     let q = c.args.request.now in
-    let stop = c.stop_of-root.result in
+    let star = c.star_of-root.result in
     let root : c.index.result.now ≡ root_of c.args.request.now = rw c.in_ok-nodes.ensures at c.index.ensures in
-    let is = subst (λ (n : Node). IsStop c.args.table.now (state_of n) c.stop_of-root.result) root c.stop_of-root.ensures in
+    let is = subst (λ (n : Node). IsForwardStar c.args.table.now (state_of n) c.star_of-root.result) root c.star_of-root.ensures in
     let marks : c.in_ok-marks.marks.items ≡ replicate (c.args.legs * 1024) false = c.in_ok-marks.ensures.items_if_clones_equal (λ y e. e) in
-    rw (c.in_ok-nodes.ensures, c.in_ok-stops.ensures.items, marks)
+    rw (c.in_ok-nodes.ensures, c.in_ok-stars.ensures.items, marks)
     (record {
       arena = root_nodes q;
       few = omega arith;
       settled = root_settled d q;
-      stops = stops_push d [] [] (no_stops d) (root_of q) stop is;
+      stars = stars_push d [] [] (no_stars d) (root_of q) star is;
       marks =
           marks_push d q c.listed.ensures.listed [] (root_of q) (λ i j e low high. absurd (omega arith)) (root_nodes q).apart (replicate (c.args.legs * 1024) false)
-          (no_marks d q (c.args.legs * 1024) (ap (λ n. n * 1024) c.requires.count)) stop is (record { low = omega arith; high = omega arith });
+          (no_marks d q (c.args.legs * 1024) (ap (λ n. n * 1024) c.requires.count)) star is (record { low = omega arith; high = omega arith });
     })
 
 pub next-requires-clause-legs : goal.next-requires-clause-legs
@@ -38,15 +38,15 @@ next-requires-clause-legs c =
     rw c.deref-in-loop-node-2.ensures.value
     (nodes_in_legs c.args.table.now c.args.request.now c.loop-node.nodes.items c.loop-node.invariant.arena.apart c.loop-node.invariant.settled)
 
-pub stop_of-stop-requires-clause-known : goal.stop_of-stop-requires-clause-known
-stop_of-stop-requires-clause-known c =
+pub star_of-star-requires-clause-known : goal.star_of-star-requires-clause-known
+star_of-star-requires-clause-known c =
     let first = rw c.deref-in-loop-node-2.ensures.value at c.in-Some.ensures.some in
     let before = c.loop-node.invariant in
     new_router c.args.table.now c.args.request.now c.listed.ensures.links c.requires.known c.listed.ensures.few (omega arith) c.loop-node.nodes.items before.arena before.settled
     c.in-Some.node first
 
-pub stop_of-stop-requires-clause-most : goal.stop_of-stop-requires-clause-most
-stop_of-stop-requires-clause-most c =
+pub star_of-star-requires-clause-most : goal.star_of-star-requires-clause-most
+star_of-star-requires-clause-most c =
     let first = rw c.deref-in-loop-node-2.ensures.value at c.in-Some.ensures.some in
     let before = c.loop-node.invariant in
     let leg =
@@ -61,7 +61,7 @@ index_mut-requires-in-Some c =
     let leg =
     new_leg c.args.table.now c.args.request.now c.listed.ensures.links c.requires.known c.listed.ensures.few (omega arith) c.loop-node.nodes.items before.arena before.settled
     c.in-Some.node first in
-    let index = stop_index c.args.table.now c.args.request.now c.in-Some.node c.stop_of-stop.result leg c.stop_of-stop.ensures in
+    let index = star_index c.args.table.now c.args.request.now c.in-Some.node c.star_of-star.result leg c.star_of-star.ensures in
     omega (arith, index.low, before.marks.many, c.loop-node.marks.ok.0)
 
 pub loop-node-smaller : goal.loop-node-smaller
@@ -79,7 +79,7 @@ loop-node-preserved c =
     let q = c.args.request.now in
     let nodes = c.loop-node.nodes.items in
     let node = c.in-Some.node in
-    let stop = c.stop_of-stop.result in
+    let star = c.star_of-star.result in
     let first = rw c.deref-in-loop-node-2.ensures.value at c.in-Some.ensures.some in
     let before = c.loop-node.invariant in
     let new =
@@ -91,8 +91,8 @@ loop-node-preserved c =
       arena = new.0;
       few = omega (arith, new.2, length_push c.loop-node.nodes.items c.in-Some.node);
       settled = new.1;
-      stops = stops_push d nodes c.loop-node.stops.items before.stops node stop c.stop_of-stop.ensures;
-      marks = marks_push d q c.listed.ensures.listed nodes node before.arena.apart new.0.apart c.loop-node.marks.items before.marks stop c.stop_of-stop.ensures leg;
+      stars = stars_push d nodes c.loop-node.stars.items before.stars node star c.star_of-star.ensures;
+      marks = marks_push d q c.listed.ensures.listed nodes node before.arena.apart new.0.apart c.loop-node.marks.items before.marks star c.star_of-star.ensures leg;
     })
 
 pub returns-clause-whole : goal.returns-clause-whole

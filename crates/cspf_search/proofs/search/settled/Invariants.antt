@@ -1,7 +1,7 @@
 use Rattle.std.proofs.Common.{◌*◌, ◌-◌, ◌≤◌, length}
 use Rattle.cspf_search.specs.Settled.{AreSettled}
 use Rattle.cspf_search.specs.Arena.{AreNodes, labels_of}
-use Rattle.cspf_search.specs.Stops.{AreStops, AreMarks}
+use Rattle.cspf_search.specs.ForwardStars.{AreForwardStars, AreMarks}
 use Rattle.cspf_search.proofs.search.settled.Given as goal
 
 abbrev pub invariant-loop-node : goal.invariant-loop-node
@@ -9,7 +9,7 @@ invariant-loop-node l = record {
   arena : AreNodes l.nodes.items;
   few : length l.nodes.items ≤ l.legs * 1024;
   settled : AreSettled l.table l.request (labels_of l.nodes.items);
-  stops : AreStops l.table l.nodes.items l.stops.items;
+  stars : AreForwardStars l.table l.nodes.items l.stars.items;
   marks : AreMarks l.table l.request l.nodes.items l.marks.items;
 }
 

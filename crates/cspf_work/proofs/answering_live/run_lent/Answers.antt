@@ -19,21 +19,15 @@ tell_each-requires g c =
 
 pub returns-in-None-clause-askers : goal.returns-in-None-clause-askers
 returns-in-None-clause-askers g c =
-    same_through c.args.askers.items c.finish-askers.result.0.items c.tell_each.new.askers.items
-    (c.finish-askers.ensures.askers c.args.askers.items c.run_beside-done.ensures.run)
-    c.tell_each.ensures.askers
+    same_through _ _ _ (c.finish-askers.ensures.askers c.args.askers.items c.run_beside-done.ensures.run) c.tell_each.ensures.askers
 
 pub returns-in-Some-clause-askers : goal.returns-in-Some-clause-askers
 returns-in-Some-clause-askers g c =
-    same_through c.args.askers.items c.finish-askers.result.0.items c.tell_each.new.askers.items
-    (c.finish-askers.ensures.askers c.args.askers.items c.run_beside-done.ensures.run)
-    c.tell_each.ensures.askers
+    same_through _ _ _ (c.finish-askers.ensures.askers c.args.askers.items c.run_beside-done.ensures.run) c.tell_each.ensures.askers
 
 pub returns-in-Err-clause-askers : goal.returns-in-Err-clause-askers
 returns-in-Err-clause-askers g c =
-    same_through c.args.askers.items c.finish-askers.result.0.items c.tell_each.new.askers.items
-    (c.finish-askers.ensures.askers c.args.askers.items c.run_beside-done.ensures.run)
-    c.tell_each.ensures.askers
+    same_through _ _ _ (c.finish-askers.ensures.askers c.args.askers.items c.run_beside-done.ensures.run) c.tell_each.ensures.askers
 
 pub returns-in-None-clause-answers : goal.returns-in-None-clause-answers
 returns-in-None-clause-answers g c =

@@ -10,9 +10,9 @@ pub loop-place-preserved : goal.loop-place-preserved
 loop-place-preserved c =
     let within = subst (IsPlace c.args.changes.now) (sym c.place-item.is) (c.requires.within c.loop-place.place-index c.place-item.result c.loop-place-test.true) in
     record {
-      each = λ d. c.push_change.ensures.items ∙ copied_more c.args.changes.now c.args.order.now c.loop-place.place-index c.place-item.result c.index-changes-place.result d c.loop-place.sorted.items c.loop-place-test.true c.place-item.is within c.index-changes-place.is (c.loop-place.invariant.each d);
-      len = omega (arith, c.push_change.ensures.len, c.loop-place.invariant.len);
-      capacity = omega (arith, c.push_change.ensures.capacity, c.loop-place.invariant.capacity);
+      each = λ d. c.push_reserved.ensures.items ∙ copied_more c.args.changes.now c.args.order.now c.loop-place.place-index c.place-item.result c.index-changes-place.result d c.loop-place.sorted.items c.loop-place-test.true c.place-item.is within c.index-changes-place.is (c.loop-place.invariant.each d);
+      len = omega (arith, c.push_reserved.ensures.len, c.loop-place.invariant.len);
+      capacity = omega (arith, c.push_reserved.ensures.capacity, c.loop-place.invariant.capacity);
     }
 
 pub returns-clause-each : goal.returns-clause-each

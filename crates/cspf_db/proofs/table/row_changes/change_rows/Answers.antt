@@ -10,9 +10,9 @@ pub put_rows-requires-clause-fits : goal.put_rows-requires-clause-fits
 put_rows-requires-clause-fits c =
     let changes = c.args.changes.now in
     omega
-    (arith, c.requires.links, ap link_count (ap (λ d. after_changes d (filter puts_link changes)) c.remove_rows.ensures.changed ∙ removals_first (database_of c.args.rows.now.items) changes c.requires.once))
+    (arith, c.requires.changes.links, ap link_count (ap (λ d. after_changes d (filter puts_link changes)) c.remove_rows.ensures.changed ∙ removals_first (database_of c.args.rows.now.items) changes c.requires.changes.once))
 
 pub returns-clause-changed : goal.returns-clause-changed
 returns-clause-changed c =
     let changes = c.args.changes.now in
-    c.put_rows.ensures.changed ∙ ap (λ d. after_changes d (filter puts_link changes)) c.remove_rows.ensures.changed ∙ removals_first (database_of c.args.rows.now.items) changes c.requires.once
+    c.put_rows.ensures.changed ∙ ap (λ d. after_changes d (filter puts_link changes)) c.remove_rows.ensures.changed ∙ removals_first (database_of c.args.rows.now.items) changes c.requires.changes.once

@@ -9,4 +9,4 @@ pub change_one-requires-clause-fits : goal.change_one-requires-clause-fits
 change_one-requires-clause-fits c =
     let rows = c.loop-change.rows.items in
     omega
-    (arith, removal_count (database_of rows) c.change-item.result (sym c.is_removal.ensures ∙ c.if-is_removal.true), link_count-database_of rows (own_keys rows c.loop-change.invariant.by_key), c.loop-change.invariant.most)
+    (arith, removal_count (database_of rows) c.change-item.result (sym c.is_removal.ensures ∙ c.if-is_removal.true), link_count-database_of rows (own_keys rows c.loop-change.invariant.rows.by_key), c.loop-change.invariant.rows.most)

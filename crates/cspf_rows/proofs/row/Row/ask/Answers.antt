@@ -1,7 +1,7 @@
 use Rattle.std.proofs.Common.{arith}
 use Rattle.std.proofs.lemmas.Grind.{common_steps}
 use Rattle.cspf_rows.specs.Rows.{ask_row_of}
-use Rattle.cspf_rows.proofs.Made.{ask-request}
+use Rattle.cspf_rows.proofs.AttributeLemmas.{ask-request}
 use Rattle.cspf_rows.proofs.row.Row.ask.Goals as goal
 
 pub returns-in-Ok : goal.returns-in-Ok

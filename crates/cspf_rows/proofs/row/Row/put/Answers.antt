@@ -1,7 +1,7 @@
 use Rattle.std.proofs.Common.{arith, refl}
 use Rattle.std.proofs.lemmas.Grind.{common_steps}
 use Rattle.cspf_rows.specs.Rows.{put_row_of}
-use Rattle.cspf_rows.proofs.Made.{put-link}
+use Rattle.cspf_rows.proofs.AttributeLemmas.{put-link}
 use Rattle.cspf_rows.proofs.row.Row.put.Goals as goal
 
 pub returns-in-Ok : goal.returns-in-Ok

@@ -22,9 +22,7 @@ pub returns-then-not-branch-clause-whole : goal.returns-then-not-branch-clause-w
 returns-then-not-branch-clause-whole g c =
     IfOk-weaker c.finish.result _ _
     (λ summary ended.
-    ends (rows_left g.R.Read.remaining c.args.rows.now) (rows_left g.R.Read.remaining c.loop-read.rows) (rows_left g.R.Read.remaining c.next_record.new.rows)
-    (g.W.Write.contents c.args.writer.now) (g.W.Write.contents c.loop-read.writer) (g.W.Write.contents c.finish.new.writer)
-    c.loop-read.solver c.loop-read._read c.loop-read.written _ (fields_of c.next_record.new.fields) summary
+    ends _ _ (rows_left g.R.Read.remaining c.next_record.new.rows) _ _ _ _ _ _ _ (fields_of c.next_record.new.fields) summary
     c.loop-read.invariant.going (omega arith) (λ e. cc e) (rw c.if-not-branch.true at c.in_ok-next_record.ensures.row) ended)
     c.finish.ensures.ended
 
@@ -32,9 +30,7 @@ pub returns-then-not-branch-clause-stopped : goal.returns-then-not-branch-clause
 returns-then-not-branch-clause-stopped g c =
     IfErr-weaker c.finish.result _ _
     (λ error cut.
-    stops_at_end (rows_left g.R.Read.remaining c.args.rows.now) (rows_left g.R.Read.remaining c.loop-read.rows) (rows_left g.R.Read.remaining c.next_record.new.rows)
-    (g.W.Write.contents c.args.writer.now) (g.W.Write.contents c.loop-read.writer) (g.W.Write.contents c.finish.new.writer)
-    c.loop-read.solver c.loop-read._read c.loop-read.written _ (fields_of c.next_record.new.fields) error
+    stops_at_end _ _ (rows_left g.R.Read.remaining c.next_record.new.rows) _ _ _ _ _ _ _ (fields_of c.next_record.new.fields) error
     c.loop-read.invariant.going (omega arith) (λ e. cc e) (rw c.if-not-branch.true at c.in_ok-next_record.ensures.row) cut)
     c.finish.ensures.stopped
 
@@ -72,22 +68,16 @@ finish-requires-2-clause-few g c =
 
 pub returns-clause-whole : goal.returns-clause-whole
 returns-clause-whole g c =
-    let all_read : c.loop-read._read ≡ 1000000 = omega arith in
     IfOk-weaker c.finish-2.result _ _
     (λ summary ended.
-    ends (rows_left g.R.Read.remaining c.args.rows.now) (rows_left g.R.Read.remaining c.loop-read.rows) (rows_left g.R.Read.remaining c.next_record-2.new.rows)
-    (g.W.Write.contents c.args.writer.now) (g.W.Write.contents c.loop-read.writer) (g.W.Write.contents c.finish-2.new.writer)
-    c.loop-read.solver c.loop-read._read c.loop-read.written c.in_ok-too_many.too_many (fields_of c.next_record-2.new.fields) summary
-    c.loop-read.invariant.going (omega arith) (λ e. all_read) c.in_ok-too_many.ensures.row ended)
+    ends _ _ (rows_left g.R.Read.remaining c.next_record-2.new.rows) _ _ _ _ _ _ _ (fields_of c.next_record-2.new.fields) summary
+    c.loop-read.invariant.going (omega arith) (λ e. omega arith) c.in_ok-too_many.ensures.row ended)
     c.finish-2.ensures.ended
 
 pub returns-clause-stopped : goal.returns-clause-stopped
 returns-clause-stopped g c =
-    let all_read : c.loop-read._read ≡ 1000000 = omega arith in
     IfErr-weaker c.finish-2.result _ _
     (λ error cut.
-    stops_at_end (rows_left g.R.Read.remaining c.args.rows.now) (rows_left g.R.Read.remaining c.loop-read.rows) (rows_left g.R.Read.remaining c.next_record-2.new.rows)
-    (g.W.Write.contents c.args.writer.now) (g.W.Write.contents c.loop-read.writer) (g.W.Write.contents c.finish-2.new.writer)
-    c.loop-read.solver c.loop-read._read c.loop-read.written c.in_ok-too_many.too_many (fields_of c.next_record-2.new.fields) error
-    c.loop-read.invariant.going (omega arith) (λ e. all_read) c.in_ok-too_many.ensures.row cut)
+    stops_at_end _ _ (rows_left g.R.Read.remaining c.next_record-2.new.rows) _ _ _ _ _ _ _ (fields_of c.next_record-2.new.fields) error
+    c.loop-read.invariant.going (omega arith) (λ e. omega arith) c.in_ok-too_many.ensures.row cut)
     c.finish-2.ensures.stopped

@@ -5,16 +5,31 @@ use Rattle.cspf_db.specs.declared.link.Link.{Link}
 use Rattle.cspf_db.specs.Tables.CountedEnds.{HasListedEnds}
 use Rattle.cspf_db.specs.Tables.Rows.{database_of}
 use Rattle.cspf_db.proofs.Databases.ChangedRows.{after_changes-permuted}
+use Rattle.cspf_db.proofs.Tables.RemainingRouters.{rows_listed_after}
+use Rattle.cspf_db.proofs.Tables.TableLimits.{still_rows_with_ends}
 use Rattle.cspf_db.proofs.table.scratch.Scratch.change.Goals as goal
 
 pub returns-clause-changed : goal.returns-clause-changed
 returns-clause-changed c =
     let made = rw (c.deref.ensures.value, c.deref-3.ensures.value) at (c.merge.ensures.changed c.if-not-merge.false) in
     ap (λ (v : Vec Link Global). database_of v.items) c.swap.ensures.x_after ∙ made
-    ∙ after_changes-permuted c.args.changes.now _ c.sort_changes.ensures.permutation c.requires.once (database_of c.args.rows.now.items)
+    ∙ after_changes-permuted c.args.changes.now _ c.sort_changes.ensures.permutation c.requires.changes.once (database_of c.args.rows.now.items)
 
 pub merge-requires-clause-short : goal.merge-requires-clause-short
 merge-requires-clause-short c = rw c.deref-3.ensures.value (omega (arith, length_permutation _ _ c.sort_changes.ensures.permutation, c.requires.short))
 
 pub merge-requires-clause-known : goal.merge-requires-clause-known
-merge-requires-clause-known c = rw c.deref-3.ensures.value (All-permutation (HasListedEnds c.args.routers.now) _ _ c.sort_changes.ensures.permutation c.requires.known)
+merge-requires-clause-known c = rw c.deref-3.ensures.value (All-permutation (HasListedEnds c.args.routers.now) _ _ c.sort_changes.ensures.permutation c.requires.changes.known)
+
+pub returns-clause-rows : goal.returns-clause-rows
+returns-clause-rows c =
+    let old = c.requires.rows in
+    let made = rw (c.deref.ensures.value, c.deref-3.ensures.value) at (c.merge.ensures.changed c.if-not-merge.false) ∙ after_changes-permuted c.args.changes.now _ c.sort_changes.ensures.permutation c.requires.changes.once (database_of c.args.rows.now.items) in
+    let by_key = c.merge.ensures.by_key c.if-not-merge.false in
+    let ends = c.merge.ensures.ends c.if-not-merge.false in
+    let listed = rows_listed_after c.args.routers.now _ c.merge.new.merged.items _ c.args.changes.now old.column by_key made c.requires.changes.known in
+    rw (c.swap.ensures.x_after, c.swap-2.ensures.x_after)
+    (still_rows_with_ends c.args.routers.now c.args.rows.now _ c.args.ends.now _ _ old c.requires.changes.links made by_key
+    (omega (arith, c.args.self.now.room, c.clear.ensures.capacity, c.merge.ensures.capacity, c.sort_changes.ensures.capacity))
+    (omega (arith, c.args.self.now.room_for_ends, c.clear-2.ensures.capacity, c.merge.ensures.capacity_of_ends))
+    (record { froms = λ k d h. (listed k d h).0; ends = ends }))

@@ -1,0 +1,25 @@
+-- Private: one step of a merge of rows and changes.
+use Rattle.std.specs.Prelude.{◌≡◌, ◌<◌, ◌≤◌, ◌+◌, ◌-◌, ◌++◌, ℕ, List, drop, length, vec_len, Vec}
+use Rattle.std.specs.Vec.{vec_capacity}
+use Rattle.std.specs.declared.alloc.Global.{Global}
+use Rattle.cspf_db.specs.declared.link.Link.{Link}
+use Rattle.cspf_db.specs.declared.batch.Change.{Change}
+use Rattle.cspf_db.specs.Changes.{after_change}
+use Rattle.cspf_db.specs.Tables.Rows.{database_of, AreByKey}
+
+-- The rows below an index are merged: with those from it on they are in order of the key, and there is
+-- capacity for all of those, their ends and one more.
+pub record AreMergedBelow (rows : List Link) (at : ℕ) (merged : Vec Link Global) (merged_ends : Vec ℕ Global) : Type 0 where
+  pub by_key : AreByKey rows
+  pub joined : AreByKey (merged.items ++ drop at rows)
+  pub bound : at ≤ length rows
+  pub capacity : vec_len merged + (length rows - at) < vec_capacity merged
+  pub capacity_of_ends : vec_len merged + (length rows - at) < vec_capacity merged_ends
+
+-- A change is merged, and now the rows below another index are: with those from it on they are what the
+-- change makes of the rows that were merged with those from the first index on, and at most one more.
+pub record IsMergedUpTo (change : Change) (rows : List Link) (at : ℕ) (old new : Vec Link Global) (next : ℕ) : Type 0 where
+  pub bound : next ≤ length rows
+  pub changed : database_of (new.items ++ drop next rows) ≡ after_change (database_of (old.items ++ drop at rows)) change
+  pub joined : AreByKey (new.items ++ drop next rows)
+  pub longer : vec_len new + (length rows - next) ≤ vec_len old + (length rows - at) + 1

@@ -1,0 +1,15 @@
+-- Private: which changes can be made to rows.
+use Rattle.std.specs.Prelude.{◌≤◌, ℕ, List, All}
+use Rattle.cspf_db.specs.declared.batch.Change.{Change}
+use Rattle.cspf_db.specs.declared.limits.TheConstants.{MOST_LINKS}
+use Rattle.cspf_db.specs.Database.{Database, link_count}
+use Rattle.cspf_db.specs.Changes.{after_changes}
+use Rattle.cspf_db.specs.Refusals.{AreOnceEach}
+use Rattle.cspf_db.specs.Tables.CountedEnds.{HasListedEnds}
+
+-- the changes are on keys of their own, put links between listed routers alone, and leave no more
+-- links than a table may have
+pub record AreChangesFor (d : Database) (routers : List ℕ) (changes : List Change) : Type 0 where
+  pub once : AreOnceEach changes
+  pub links : link_count (after_changes d changes) ≤ MOST_LINKS
+  pub known : All (HasListedEnds routers) changes

@@ -1,0 +1,164 @@
+-- The bounds of the routers in a leg.
+use Rattle.std.proofs.Common.{◌≡◌, ◌≢◌, ◌⊎◌, inl, inr, ℕ, ◌+◌, ◌*◌, ◌/◌, ◌%◌, ◌^◌, ◌<◌, ◌≤◌, min, Bool, true, false, IsTrue, Some, List, drop, length, replicate, set, slice_get, slice_index, slice_index_or, refl, sym, ap, subst, ◌∙◌, arith, length-set}
+use Rattle.std.proofs.lemmas.Bool.{cases_lt}
+use Rattle.std.proofs.lemmas.List.{get_or_past, get_or-drop, get_or-replicate, length-replicate, get_or-set_other}
+use Rattle.cspf_db.specs.declared.request.Request.{Request}
+use Rattle.cspf_db.specs.Database.{Database, AreLinksOf}
+use Rattle.cspf_db.specs.Targets.{IsTarget}
+use Rattle.cspf_db.specs.Index.{links_of, links_from_index, router_list}
+use Rattle.cspf_search.specs.declared.arrivals.Arrival.{Arrival}
+use Rattle.cspf_search.specs.declared.roles.Role.{Role}
+use Rattle.cspf_search.specs.Frontier.{AreListed, AreRoles, IsStateIndex, nothing}
+use Rattle.cspf_search.specs.Arrivals.{AreArrivals, Follows, arrival_at, pointer_at}
+use Rattle.cspf_search.specs.Bounds.{AreBounds, Falls, IsLeg, IsLower, IsPassed, IsRing, bound_at, is_done}
+use Rattle.cspf_search.proofs.Arrived.{arrived}
+use Rattle.cspf_search.proofs.Ranks.{same_or_not}
+
+pub falls_on : (a b c : List ℕ) (x y z : List Bool) → Falls a b x y → Falls b c y z → Falls a c x z
+falls_on a b c x y z first second = record {
+  near = second.near ∙ first.near;
+  done = second.done ∙ first.done;
+  lower = λ i. omega (arith, first.lower i, second.lower i);
+  kept = λ i e. let late = second.kept i e in let early = first.kept i late.0 in (early.0, late.1 ∙ early.1);
+}
+
+pub passed_on : (d : Database) (q : Request) (base : ℕ) (near new : List ℕ) (a : Arrival) → IsLower near new → IsPassed d q base near a → IsPassed d q base new a
+passed_on d q base near new a low passed = λ l row admitted. omega (arith, low a.from, passed l row admitted)
+
+-- the links that arrive at one router more are all looked at
+module _ (d : Database) (q : Request) (links : AreLinksOf d (links_of d)) (arrivals : List Arrival) (last : List ℕ) (are : AreArrivals d arrivals last) (to base : ℕ)
+    (old new : List ℕ) (before after : List Bool) (ring : IsRing d q old before) (falls : Falls old new before after)
+    (passed : (n : ℕ) → Follows arrivals (pointer_at last to) n → IsPassed d q base new (arrival_at arrivals n)) (same : bound_at new to ≡ base) where
+  pub one_router_more : IsRing d q new (set after to true)
+  one_router_more = record {
+    many = falls.near ∙ ring.many;
+    marks = length-set after to true ∙ falls.done ∙ ring.marks;
+    links = λ u w on l admissible from end.
+        elim (same_or_not w to) [
+          | inl here ↦
+              let x = arrived d links arrivals last are l admissible.link u w from end in
+              let n = x.2.0 in
+              let met = x.2.1 in
+              let there = subst (λ v. Follows arrivals (pointer_at last v) n) here met.follows in
+              let row : slice_get (links_from_index d (arrival_at arrivals n).from) (arrival_at arrivals n).row ≡ Some l =
+              ap (λ i. slice_get (links_from_index d (arrival_at arrivals n).from) i) met.row ∙ ap (λ i. slice_get (links_from_index d i) x.0) met.from ∙ x.1 in
+              let low = passed n there l row admissible.admitted in
+              let at : bound_at new (arrival_at arrivals n).from ≡ bound_at new u = ap (bound_at new) met.from in
+              let is : bound_at new w ≡ bound_at new to = ap (bound_at new) here in
+              omega (arith, low, at, is, same)
+          | inr ne ↦
+              let kept = falls.kept w (sym (get_or-set_other after to w true false ne) ∙ on) in
+              omega (arith, ring.links u w kept.0 l admissible from end, falls.lower u, kept.1)
+        ];
+  }
+
+-- a leg from its ring
+pub leg_of_ring : (d : Database) (q : Request) (leg : ℕ) (near : List ℕ) (done : List Bool) (edge : ℕ) → AreListed d → IsRing d q near done
+    → ((w : ℕ) → w < 1024 → is_done done w ≡ false → edge ≤ bound_at near w)
+    → (ahead : List ℕ) → ((p : ℕ) → p < length (router_list d) → IsTarget d q (leg + 1) (slice_index (router_list d) p) → bound_at near p ≤ bound_at ahead p)
+    → IsLeg d q leg near edge ahead
+leg_of_ring d q leg near done edge listed ring least ahead targets = record {
+  many = ring.many;
+  links = λ u w l admissible from to.
+      elim (is_done done w) as (λ b. is_done done w ≡ b → min (bound_at near u) edge ≤ min (bound_at near w) edge + l.metric) [
+        | true ↦ λ e. omega (arith, ring.links u w e l admissible from to)
+        | false ↦ λ e. omega (arith, least w (omega (arith, to.within, listed.few)) e)
+      ] refl;
+  targets = λ p h target. omega (arith, targets p h target);
+}
+
+-- the roles tell the targets
+pub told_target : (d : Database) (q : Request) (roles : List Role) (leg p : ℕ) → AreListed d → AreRoles d q roles → leg ≤ length q.hops → p < length (router_list d)
+    → IsTarget d q (leg + 1) (slice_index (router_list d) p) → IsTrue (slice_index_or roles (leg * 1024 + p) nothing).target
+told_target d q roles leg p listed are within h target =
+    let few : p < 1024 = omega (arith, h, listed.few) in
+    let at_leg : (leg * 1024 + p) / 1024 ≡ leg = omega (arith, few) in
+    let at_place : (leg * 1024 + p) % 1024 ≡ p = omega (arith, few) in
+    let index : IsStateIndex d q (leg * 1024 + p) = record { low = omega (arith, few, within); place = rw at_place h } in
+    (are.each (leg * 1024 + p) nothing index).target.1 (rw (at_leg, at_place) target)
+
+-- all bounds are 0
+pub zero_bounds : (d : Database) (q : Request) (bounds : List ℕ) → length bounds ≡ (length q.hops + 1) * 1024 → ((i : ℕ) → bound_at bounds i ≡ 0) → AreBounds d q bounds
+zero_bounds d q bounds many zeros = record {
+  many = many;
+  small = λ i. omega (arith, zeros i);
+  links = λ i j ix jx same l admissible from to. omega (arith, zeros i);
+  turns = λ i ix within target. omega (arith, zeros i);
+  last = λ i ix is_last target. zeros i;
+}
+
+pub zeros_at : (count i : ℕ) → bound_at (replicate count 0) i ≡ 0
+zeros_at count i =
+    let zero : ℕ = 0 in
+    elim (cases_lt i count) [
+      | inl lt ↦ get_or-replicate count i zero zero lt
+      | inr past ↦ get_or_past (replicate count zero) i zero (omega (arith, past, length-replicate count zero))
+    ]
+
+-- one leg more, from the last back
+module _ (d : Database) (q : Request) (leg : ℕ) (within : leg ≤ length q.hops) (old new near : List ℕ) (edge : ℕ) (small : edge < 2 ^ 32) (before : AreBounds d q old)
+    (zeros : (i : ℕ) → i < (leg + 1) * 1024 → bound_at old i ≡ 0) (is : IsLeg d q leg near edge (drop (leg * 1024 + 1024) old)) (long : length new ≡ length old)
+    (here : (p : ℕ) → p < 1024 → bound_at new (leg * 1024 + p) ≡ min (bound_at near p) edge)
+    (others : (i : ℕ) → (i < leg * 1024) ⊎ (leg * 1024 + 1024 ≤ i) → bound_at new i ≡ bound_at old i) where
+  in_leg : (i : ℕ) → i / 1024 ≡ leg → bound_at new i ≡ min (bound_at near (i % 1024)) edge
+  in_leg i same =
+      let whole : leg * 1024 + i % 1024 ≡ i = omega (arith, same) in
+      ap (bound_at new) (sym whole) ∙ here (i % 1024) (omega arith)
+
+  off_leg : (i : ℕ) → i / 1024 ≢ leg → bound_at new i ≡ bound_at old i
+  off_leg i ne =
+      elim (cases_lt i (leg * 1024)) [
+        | inl lt ↦ others i (inl lt)
+        | inr ge ↦
+            elim (cases_lt i (leg * 1024 + 1024)) [
+              | inl lt ↦ let same : i / 1024 ≡ leg = omega (arith, ge, lt) in absurd (ne same)
+              | inr past ↦ others i (inr past)
+            ]
+      ]
+
+  behind_leg : (i : ℕ) → i / 1024 ≡ leg → bound_at (drop (leg * 1024 + 1024) old) (i % 1024) ≡ bound_at old (i + 1024)
+  behind_leg i same =
+      let whole : leg * 1024 + 1024 + i % 1024 ≡ i + 1024 = omega (arith, same) in
+      get_or-drop (leg * 1024 + 1024) old (i % 1024) 0 ∙ ap (bound_at old) whole
+
+  target_ahead : (i : ℕ) → IsStateIndex d q i → i / 1024 ≡ leg → IsTarget d q (i / 1024 + 1) (slice_index (router_list d) (i % 1024))
+      → bound_at new i ≤ bound_at old (i + 1024)
+  target_ahead i ix same target =
+      let low = is.targets (i % 1024) ix.place (subst (λ k. IsTarget d q (k + 1) (slice_index (router_list d) (i % 1024))) same target) in
+      omega (arith, low, in_leg i same, behind_leg i same)
+
+  pub one_leg_more : AreBounds d q new
+  one_leg_more = record {
+    many = long ∙ before.many;
+    small = λ i.
+        elim (same_or_not (i / 1024) leg) [
+          | inl same ↦ omega (arith, in_leg i same, small)
+          | inr ne ↦ omega (arith, off_leg i ne, before.small i)
+        ];
+    links = λ i j ix jx same l admissible from to.
+        elim (same_or_not (i / 1024) leg) [
+          | inl at ↦
+              let ends = is.links (i % 1024) (j % 1024) l admissible (record { within = ix.place; is = sym from }) (record { within = jx.place; is = sym to }) in
+              omega (arith, in_leg i at, in_leg j (sym same ∙ at), ends)
+          | inr ne ↦ omega (arith, off_leg i ne, off_leg j (λ e. ne (same ∙ e)), before.links i j ix jx same l admissible from to)
+        ];
+    turns = λ i ix below target.
+        elim (same_or_not (i / 1024) leg) [
+          | inl at ↦ omega (arith, target_ahead i ix at target, others (i + 1024) (inr (omega (arith, at))))
+          | inr ne ↦
+              elim (same_or_not (i / 1024 + 1) leg) [
+                | inl next ↦ omega (arith, off_leg i ne, zeros i (omega (arith, next)))
+                | inr far ↦ omega (arith, off_leg i ne, off_leg (i + 1024) (λ e. far (omega (arith, e))), before.turns i ix below target)
+              ]
+        ];
+    last = λ i ix is_last target.
+        elim (same_or_not (i / 1024) leg) [
+          | inl at ↦
+              let past : bound_at old (i + 1024) ≡ 0 = get_or_past old (i + 1024) 0 (omega (arith, is_last, before.many)) in
+              omega (arith, target_ahead i ix at target, past)
+          | inr ne ↦ off_leg i ne ∙ before.last i ix is_last target
+        ];
+  }
+
+  pub zeros_below : (i : ℕ) → i < leg * 1024 → bound_at new i ≡ 0
+  zeros_below i low = others i (inl low) ∙ zeros i (omega (arith, low))

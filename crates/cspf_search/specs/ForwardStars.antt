@@ -1,0 +1,32 @@
+-- Private words of the search by rounds: where the settled nodes stand, and which states are settled.
+use Rattle.std.specs.Prelude.{◌≡◌, ℕ, ◌+◌, ◌*◌, ◌%◌, ◌<◌, Bool, is_some, List, All, length, map, slice_index, slice_index_or}
+use Rattle.cspf_db.specs.declared.limits.TheConstants.{MOST_ROUTERS}
+use Rattle.cspf_db.specs.declared.request.Request.{Request}
+use Rattle.cspf_db.specs.Database.{Database}
+use Rattle.cspf_db.specs.Index.{router_list, links_from_index}
+use Rattle.cspf_search.specs.declared.arena.Node.{Node}
+use Rattle.cspf_search.specs.declared.forward_star.ForwardStar.{ForwardStar}
+use Rattle.cspf_search.specs.States.{State}
+use Rattle.cspf_search.specs.Arena.{state_of, index_of}
+use Rattle.cspf_search.specs.Frontier.{state_at, IsStateIndex, nowhere}
+
+-- the index of a state, and the links from its router with the index of the router at the end of each
+pub record IsForwardStar (d : Database) (s : State) (star : ForwardStar) : Type 0 where
+  pub state : s ≡ state_at d star.state
+  pub place : star.state % MOST_ROUTERS < length (router_list d)
+  pub links : star.links.now ≡ links_from_index d (star.state % MOST_ROUTERS)
+  pub within : All (λ end. end < length (router_list d)) star.ends.now
+  pub each : map (λ end. slice_index (router_list d) end) star.ends.now
+      ≡ map (λ l. l.to) (links_from_index d (star.state % MOST_ROUTERS))
+
+-- so it is for each node
+pub record AreForwardStars (d : Database) (nodes : List Node) (stars : List ForwardStar) : Type 0 where
+  pub many : length stars ≡ length nodes
+  pub each : (i : ℕ) (e : ForwardStar) → i < length nodes
+      → IsForwardStar d (state_of (slice_index_or nodes i nowhere)) (slice_index_or stars i e)
+
+-- the states where a node stands are marked, and no others
+pub record AreMarks (d : Database) (q : Request) (nodes : List Node) (marks : List Bool) : Type 0 where
+  pub many : length marks ≡ (length q.hops + 1) * MOST_ROUTERS
+  pub each : (i : ℕ) (e : Bool) → IsStateIndex d q i
+      → slice_index_or marks i e ≡ is_some (index_of nodes (state_at d i))

@@ -1,0 +1,38 @@
+ghost use Rattle.cspf_search.specs.declared.limits.TheConstants.{MOST_LEGS};
+ghost use Rattle.std.specs.Prelude.{◌≡◌, ◌*◌, ◌<◌, ◌≤◌};
+ghost use Rattle.cspf_db.specs.Database.{IsRouterOf};
+ghost use Rattle.cspf_search.specs.Arena.{state_of};
+ghost use Rattle.cspf_search.specs.Frontier.{AreListed};
+ghost use Rattle.cspf_search.specs.ForwardStars.{IsForwardStar};
+
+use crate::arena::Node;
+use cspf_db::{Link, MOST_ROUTERS, Table};
+
+/// The forward star of a settled node: its state, and the links from its router.
+#[derive(Clone, Copy)]
+pub(crate) struct ForwardStar<'a> {
+    /// The index of its state.
+    pub(crate) state: usize,
+    /// The links from its router.
+    pub(crate) links: &'a [Link],
+    /// Beside them where the router that each runs to is in the list of routers.
+    pub(crate) ends: &'a [u16],
+}
+
+/// The forward star of a node.
+pub(crate) fn star_of<'a>(table: &'a Table, node: &Node) -> ForwardStar<'a>
+    requires listed { AreListed table.now }
+    requires known { IsRouterOf table.now node.now.router }
+    requires from_one { 1 ≤ node.now.leg }
+    requires most { node.now.leg ≤ MOST_LEGS }
+    ensures { IsForwardStar table.now (state_of node.now) result }
+{
+    let Some(place) = table.place_of(node.router) else {
+        unreachable!();
+    };
+    ForwardStar {
+        state: (node.leg - 1) * MOST_ROUTERS + place,
+        links: table.out_at(place),
+        ends: table.ends_at(place),
+    }
+}

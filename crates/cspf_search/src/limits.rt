@@ -1,0 +1,12 @@
+//! How long a route is at most, and how cost and links are weighed against each other.
+use cspf_addr::MOST_HOPS;
+
+/// How many legs a route has at most: one to each hop, and one to the tail-end.
+pub(crate) const MOST_LEGS: usize = MOST_HOPS + 1;
+
+/// How many links a route has at most: in each leg fewer than a database has routers.
+pub const MOST_ROUTE_LINKS: usize = 8184;
+
+/// How much one of cost weighs in a rank, where a link weighs one: no walk of a search has as many
+/// links.
+pub(crate) const COST_WEIGHT: u64 = 16384;
