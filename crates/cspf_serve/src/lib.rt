@@ -25,7 +25,8 @@ pub use batch::{lines_of_a_script, run_batch};
 pub use batch_refusal::BatchRefusal;
 pub use cspf_publish::MOST_ASKERS;
 pub use cspf_work::{
-    Answers, Gate, Live, MOST_REQUESTS, NoGate, ServeError, answer_all, answer_latest, run_live,
+    Answers, Drawer, Gate, Live, MOST_REQUESTS, NoGate, ServeError, answer_all, answer_latest,
+    run_live,
 };
 pub use live::run_live_rows;
 pub use solve::{SolveError, Summary, rows_have_one_reply, run_solve, stops_at_a_prefix};

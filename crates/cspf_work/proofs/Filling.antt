@@ -7,16 +7,15 @@ use Rattle.std.proofs.lemmas.Bool.Decides.{nat_tests}
 use Rattle.std.proofs.lemmas.List.Elements.{All-push, All-nil, All-cons, All-head, All-tail}
 use Rattle.std.proofs.lemmas.Grind.{flat_map-append}
 use Rattle.std.proofs.lemmas.List.{map-append}
-use Rattle.std.proofs.lemmas.List.Sums.{sum_by-append, sum_by-cons}
+use Rattle.std.proofs.lemmas.List.Sums.{sum_by-append, sum_by-cons, sum_by_push}
 use Rattle.std.proofs.lemmas.Option.{slice_get_within, slice_get-map, slice_get-get_or, slice_get_read}
 use Rattle.cspf_publish.specs.declared.answer.Answer.{Answer}
 use Rattle.cspf_work.specs.declared.serve_error.ServeError.{ServeError}
 use Rattle.cspf_work.specs.declared.serve_error.ServeError.TheVariants.{Memory, Missing, Twice}
 use Rattle.cspf_work.specs.declared.worker.Reply.{Reply}
-use Rattle.cspf_work.specs.Served.{times, once_below}
+use Rattle.cspf_draw.specs.EachOnce.{times, once_below}
 use Rattle.cspf_work.specs.Working.{indexes}
 use Rattle.cspf_work.specs.Collected.{AreFilled, IsPlaced, IsTwice, IsCollectError, times_in}
-use Rattle.cspf_work.proofs.Shares.{times-push}
 
 slice_get-set_same : {X : Type 0} (xs : List X) (i : ℕ) (v : X) → i < length xs → slice_get (slice_set xs i v) i ≡ Some v
 slice_get-set_same [] i v less = absurd (omega arith)
@@ -34,8 +33,12 @@ pub indexes-append : (xs ys : List Reply) → indexes (xs ++ ys) ≡ indexes xs 
 indexes-append [] ys = refl
 indexes-append (x ∷ xs) ys = ap (λ l. x.index ∷ l) (indexes-append xs ys)
 
-times-append : (x : ℕ) (xs ys : List ℕ) → times x (xs ++ ys) ≡ times x xs + times x ys
+pub times-append : (x : ℕ) (xs ys : List ℕ) → times x (xs ++ ys) ≡ times x xs + times x ys
 times-append x xs ys = sum_by-append (λ y. cond (eqb y x) 1 0) xs ys
+
+-- a number once more at the end
+pub times-push : (x : ℕ) (xs : List ℕ) (y : ℕ) → times x (xs ++ y ∷ []) ≡ times x xs + cond (eqb y x) 1 0
+times-push x xs y = sum_by_push (λ z. cond (eqb z x) 1 0) xs y
 
 times-indexes-push : (x : ℕ) (done : List Reply) (r : Reply) → times x (indexes (done ++ r ∷ [])) ≡ times x (indexes done) + cond (eqb r.index x) 1 0
 times-indexes-push x done r = ap (times x) (indexes-append done (r ∷ [])) ∙ times-push x (indexes done) r.index

@@ -1,25 +1,21 @@
 -- What all workers answered, put together.
-use Rattle.std.proofs.Common.{◌≡◌, ℕ, zero, suc, ◌+◌, ◌<◌, ◌≤◌, ◌%◌, cond, ltb, leb, ◌&&◌, List, [], ◌∷◌, length, map, Option, Some, None, get_or, All, IsNone, Vec, inl, inr, refl, sym, ap, ◌∙◌, subst, arith, slice_get}
+use Rattle.std.proofs.Common.{◌≡◌, ℕ, zero, suc, ◌<◌, ◌≤◌, List, [], ◌∷◌, length, map, Option, Some, None, get_or, All, Vec, refl, sym, ap, ◌∙◌, subst, arith, slice_get}
 use Rattle.std.specs.Global.{Global}
 use Rattle.std.specs.Option.{option_map}
 use Rattle.std.specs.List.Sorted.{IsNonDecreasingBy}
-use Rattle.std.proofs.lemmas.Bool.Decides.{nat_tests}
 use Rattle.std.proofs.lemmas.List.{length-map}
 use Rattle.std.proofs.lemmas.List.Elements.{All-map}
 use Rattle.std.proofs.lemmas.List.Sorted.{IsNonDecreasingBy-from_default, IsNonDecreasingBy-short}
-use Rattle.std.proofs.lemmas.List.Sums.{sum_by-cons}
-use Rattle.std.proofs.lemmas.Nat.{mod_below}
 use Rattle.std.proofs.lemmas.Option.{slice_get_within, slice_get-map, get_or_from_slice_get}
 use Rattle.cspf_db.specs.declared.request.Request.{Request}
+use Rattle.cspf_draw.specs.DrawnNumbers.{CounterId}
 use Rattle.cspf_publish.specs.declared.answer.Answer.{Answer}
 use Rattle.cspf_publish.specs.KnownBatches.{KnownBatches}
-use Rattle.cspf_work.specs.declared.serve_error.ServeError.{ServeError}
 use Rattle.cspf_work.specs.declared.worker.Reply.{Reply}
 use Rattle.cspf_work.specs.declared.worker.Worker.{Worker}
-use Rattle.cspf_work.specs.Served.{IsAnswerWithin, IsServed, IsServedAt, AreAnsweredByWorkers, HoldEachOnce, IsFaultOfWorker, once_below, times, version_at}
-use Rattle.cspf_work.specs.Working.{IsDone, HasDone, AreRun, AreShare, indexes, share_times}
-use Rattle.cspf_work.proofs.Running.{at_place}
-use Rattle.cspf_work.specs.Collected.{IsPlaced, IsCollectError, times_in}
+use Rattle.cspf_work.specs.Served.{IsAnswerWithin, IsServed, IsServedAt, AreAnsweredByWorkers, HoldEachOnce, version_at}
+use Rattle.cspf_work.specs.Working.{IsDone, HasDone, AreRun, indexes}
+use Rattle.cspf_work.specs.Collected.{IsPlaced}
 
 version_at_placed : (list : List Answer) (r : Reply) → IsPlaced list r → version_at list r.index ≡ r.answer.version
 version_at_placed list r at = subst (λ (o : Option Answer). Rattle.std.specs.Option.unwrap_or (option_map (λ (a : Answer). a.version) o) 0 ≡ r.answer.version) (sym at) refl
@@ -68,17 +64,17 @@ pub record AreCollected (workers : List Worker) (lists : List (Vec Reply Global)
   pub drawn_are : map (λ v. v.items) drawn ≡ map (λ l. indexes l.items) lists
   pub placed : All (λ (l : Vec Reply Global). All (IsPlaced list) l.items) lists
 
-drawn_by : (workers : List Worker) (lists : List (Vec Reply Global)) (list : List Answer) (drawn : List (Vec ℕ Global)) → AreCollected workers lists list drawn
+pub drawn_by : (workers : List Worker) (lists : List (Vec Reply Global)) (list : List Answer) (drawn : List (Vec ℕ Global)) → AreCollected workers lists list drawn
     → map (λ (v : Vec ℕ Global). v.items) drawn ≡ map (λ (w : Worker). indexes w.done.items) workers
 drawn_by workers lists list drawn is =
     is.drawn_are ∙ ap (map (λ (l : Vec Reply Global). indexes l.items)) is.lists_are ∙ map-map (λ (w : Worker). w.done) (λ (l : Vec Reply Global). indexes l.items) workers
 
-served_place : (requests : List Request) (before : List KnownBatches) (workers : List Worker) (lists : List (Vec Reply Global)) (list : List Answer) (drawn : List (Vec ℕ Global))
-    → AreRun requests before workers → AreCollected workers lists list drawn
+served_place : (counter : CounterId) (requests : List Request) (before : List KnownBatches) (workers : List Worker) (lists : List (Vec Reply Global)) (list : List Answer) (drawn : List (Vec ℕ Global))
+    → AreRun counter requests before workers → AreCollected workers lists list drawn
     → (i : ℕ) (old new : KnownBatches) (ix : Vec ℕ Global) (o : Option Worker) → slice_get workers i ≡ o
     → slice_get before i ≡ Some old → option_map (λ (w : Worker). w.asker) o ≡ Some new → Some ix.items ≡ option_map (λ (w : Worker). indexes w.done.items) o
     → IsServed requests list old.batches new.batches ix.items
-served_place requests before workers lists list drawn run is i old new ix (Some w) here at there drew =
+served_place counter requests before workers lists list drawn run is i old new ix (Some w) here at there drew =
     let asker : w.asker ≡ new = cc there in
     let same : ix.items ≡ indexes w.done.items = cc drew in
     let listed : slice_get lists i ≡ Some w.done =
@@ -89,72 +85,20 @@ served_place requests before workers lists list drawn run is i old new ix (Some 
     subst (λ (k : KnownBatches). IsServed requests list old.batches k.batches ix.items) asker
     (subst (λ (xs : List ℕ). IsServed requests list old.batches w.asker.batches xs) (sym same)
     (served_by requests list old w (run.each i old w at here).done placed))
-served_place requests before workers lists list drawn run is i old new ix None here at there drew = absurd (cc there)
+served_place counter requests before workers lists list drawn run is i old new ix None here at there drew = absurd (cc there)
 
-pub answered : (requests : List Request) (before : List KnownBatches) (workers : List Worker) (lists : List (Vec Reply Global)) (list : List Answer) (drawn : List (Vec ℕ Global)) (after : List KnownBatches)
+pub answered : (counter : CounterId) (requests : List Request) (before : List KnownBatches) (workers : List Worker) (lists : List (Vec Reply Global)) (list : List Answer) (drawn : List (Vec ℕ Global)) (after : List KnownBatches)
     → after ≡ map (λ w. w.asker) workers → AreCollected workers lists list drawn → length list ≡ length requests → HoldEachOnce (length requests) drawn
-    → AreRun requests before workers → AreAnsweredByWorkers requests before after list drawn
-answered requests before workers lists list drawn after askers is count once run =
+    → AreRun counter requests before workers → AreAnsweredByWorkers requests before after list drawn
+answered counter requests before workers lists list drawn after askers is count once run =
     let drew = drawn_by workers lists list drawn is in
     record {
       count = count;
       lists = sym (length-map drawn (λ (v : Vec ℕ Global). v.items)) ∙ ap length drew ∙ length-map workers (λ (w : Worker). indexes w.done.items) ∙ run.count;
       once = once;
       served = λ i old new ix at there drawn_at.
-          served_place requests before workers lists list drawn run is i old new ix (slice_get workers i) refl at
+          served_place counter requests before workers lists list drawn run is i old new ix (slice_get workers i) refl at
           (sym (slice_get-map (λ (w : Worker). w.asker) workers i) ∙ ap (λ (l : List KnownBatches). slice_get l i) (sym askers) ∙ there)
           (sym (ap (option_map (λ (v : Vec ℕ Global). v.items)) drawn_at) ∙ sym (slice_get-map (λ (v : Vec ℕ Global). v.items) drawn i)
           ∙ ap (λ (l : List (List ℕ)). slice_get l i) drew ∙ slice_get-map (λ (w : Worker). indexes w.done.items) workers i);
     }
-
-share_sum : (x count bound first : ℕ) (lists : List (Vec Reply Global))
-    → ((i : ℕ) (l : Vec Reply Global) → slice_get lists i ≡ Some l → times x (indexes l.items) ≡ share_times (first + i) count bound x)
-    → times_in x lists ≡ cond (ltb x bound && (leb first (x % count) && ltb (x % count) (first + length lists))) 1 0
-share_sum x count bound first [] each = grind (arith, nat_tests)
-share_sum x count bound first (l ∷ ls) each =
-    let here : times x (indexes l.items) ≡ share_times first count bound x = each 0 l refl ∙ ap (λ n. share_times n count bound x) (omega arith) in
-    let rest = share_sum x count bound (first + 1) ls (λ i m at. each (suc i) m at ∙ ap (λ n. share_times n count bound x) (omega arith)) in
-    sum_by-cons (λ (v : Vec Reply Global). times x (indexes v.items)) l ls ∙ ap (λ n. n + times_in x ls) here
-    ∙ ap (λ n. share_times first count bound x + n) rest ∙ share_step (x % count) x bound first (length ls) count
-  where
-    share_step : (r x bound first n count : ℕ) → share_times first count bound x + cond (ltb x bound && (leb (first + 1) (x % count) && ltb (x % count) (first + 1 + n))) 1 0 ≡ cond (ltb x bound && (leb first (x % count) && ltb (x % count) (first + suc n))) 1 0
-    share_step r x bound first n count = grind (arith, nat_tests)
-
-share_of : (requests : List Request) (before : List KnownBatches) (workers : List Worker) → AreRun requests before workers → All (λ (w : Worker). IsNone w.fault) workers
-    → (i : ℕ) (l : Vec Reply Global) (o : Option Worker) → slice_get workers i ≡ o → option_map (λ (w : Worker). w.done) o ≡ Some l → AreShare i (length before) (length requests) (indexes l.items)
-share_of requests before workers run none i l None here at = absurd (cc at)
-share_of requests before workers run none i l (Some w) here at =
-    let less = slice_get_within workers i w here in
-    let same : get_or workers i w ≡ w = get_or_from_slice_get workers i w w here in
-    let known = at_place before i (let e = run.count in omega arith) in
-    let share = (run.each i known.0 w known.1 here).share (subst (λ (v : Worker). IsNone v.fault) same (none i w less)) in
-    let list : w.done ≡ l = cc at in
-    subst (λ (v : Vec Reply Global). AreShare i (length before) (length requests) (indexes v.items)) list share
-
--- with fixed shares each index stands once
-pub shares_once : (requests : List Request) (before : List KnownBatches) (workers : List Worker) (lists : List (Vec Reply Global))
-    → 0 < length workers → lists ≡ map (λ w. w.done) workers → All (λ (w : Worker). IsNone w.fault) workers → AreRun requests before workers
-    → (x : ℕ) → times_in x lists ≡ once_below (length requests) x
-shares_once requests before workers lists some same none run x =
-    let count = run.count in
-    let long : length lists ≡ length before = ap length same ∙ length-map workers (λ (w : Worker). w.done) ∙ count in
-    let below = mod_below x (length before) (omega arith) in
-    let sum = share_sum x (length before) (length requests) 0 lists (λ i l at.
-    share_of requests before workers run none i l (slice_get workers i) refl
-    (sym (slice_get-map (λ (w : Worker). w.done) workers i) ∙ ap (λ (v : List (Vec Reply Global)). slice_get v i) (sym same) ∙ at) x ∙ ap (λ n. share_times n (length before) (length requests) x) (omega arith)) in
-    grind (arith, nat_tests)
-
--- so no request is left out and none is answered twice
-pub only_memory : (requests : List Request) (before : List KnownBatches) (workers : List Worker) (lists : List (Vec Reply Global)) (e : ServeError)
-    → 0 < length workers → lists ≡ map (λ w. w.done) workers → All (λ (w : Worker). IsNone w.fault) workers → IsCollectError (length requests) lists e
-    → AreRun requests before workers → IsFaultOfWorker e
-only_memory requests before workers lists e some same none (inl memory) run = inl memory
-only_memory requests before workers lists e some same none (inr (inl missing)) run =
-    let once = shares_once requests before workers lists some same none run missing.0 in
-    let inside = missing.2 in
-    let never = missing.3 in
-    absurd (grind (arith, nat_tests))
-only_memory requests before workers lists e some same none (inr (inr twice)) run =
-    let once = shares_once requests before workers lists some same none run twice.0 in
-    let more = twice.2 in
-    absurd (grind (arith, nat_tests))

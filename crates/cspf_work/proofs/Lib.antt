@@ -1,8 +1,8 @@
 -- The lemmas of this crate's proofs.
 pub mod Asked
-pub mod Shares
 pub mod Filling
 pub mod Running
+pub mod Draws
 pub mod StrayVersions
 pub mod Joining
 pub mod Applying

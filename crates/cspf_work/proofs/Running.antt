@@ -1,15 +1,17 @@
 -- What all workers did, one by one.
-use Rattle.std.proofs.Common.{◌≡◌, ℕ, zero, suc, ◌<◌, List, [], ◌∷◌, ◌++◌, All, IfSome, take, length, map, Option, Some, None, get_or, refl, sym, ap, ◌∙◌, subst, arith, slice_get}
+use Rattle.std.proofs.Common.{◌≡◌, ℕ, zero, suc, ◌<◌, List, [], ◌∷◌, ◌++◌, All, IfSome, IsNone, take, length, map, Option, Some, None, get_or, refl, sym, ap, ◌∙◌, subst, arith, slice_get}
 use Rattle.std.specs.Option.{option_map}
 use Rattle.std.proofs.lemmas.List.{length-map}
+use Rattle.std.proofs.lemmas.List.Elements.{All-map}
 use Rattle.std.proofs.lemmas.Option.{slice_get_within, slice_get-map, slice_get-get_or, get_or_from_slice_get}
 use Rattle.cspf_db.specs.declared.request.Request.{Request}
+use Rattle.cspf_draw.specs.DrawnNumbers.{CounterId, DrawnNumbers}
 use Rattle.cspf_publish.specs.KnownBatches.{KnownBatches}
 use Rattle.cspf_work.specs.declared.worker.Worker.{Worker}
 use Rattle.std.proofs.Math.Seq.{take-append_seam}
 use Rattle.cspf_work.specs.declared.worker.Reply.{Reply}
 use Rattle.cspf_work.specs.Served.{AreSameAskers, IsFaultOfWorker, KnowsNoLess}
-use Rattle.cspf_work.specs.Working.{IsRun, AreRun}
+use Rattle.cspf_work.specs.Working.{HasDrawnAll, IsRun, AreRun}
 
 -- the element at a place inside
 pub at_place : {X : Type 0} (xs : List X) (i : ℕ) → i < length xs → (x : X) × (slice_get xs i ≡ Some x)
@@ -18,46 +20,53 @@ at_place (x ∷ xs) zero less = (x, refl)
 at_place (x ∷ xs) (suc i) less = at_place xs i (omega arith)
 
 -- what each worker did, by its place
-abbrev pub AreRunByPlace : List Request → List Worker → List Worker → Type 0
-AreRunByPlace requests old new = (i : ℕ) (d : Worker) → i < length old → IsRun i (length old) requests (get_or old i d).asker (get_or new i d)
+abbrev pub AreRunByPlace : CounterId → List Request → List Worker → List Worker → Type 0
+AreRunByPlace counter requests old new = (i : ℕ) (d : Worker) → i < length old → IsRun counter requests (get_or old i d).asker (get_or new i d)
 
-run_at : (requests : List Request) (old new : List Worker) → AreRunByPlace requests old new → (i : ℕ) (known : KnownBatches) (after : Worker) (o : Option Worker)
-    → slice_get old i ≡ o → option_map (λ (w : Worker). w.asker) o ≡ Some known → slice_get new i ≡ Some after → IsRun i (length old) requests known after
-run_at requests old new run i known after (Some w) at is there =
+run_at : (counter : CounterId) (requests : List Request) (old new : List Worker) → AreRunByPlace counter requests old new → (i : ℕ) (known : KnownBatches) (after : Worker) (o : Option Worker)
+    → slice_get old i ≡ o → option_map (λ (w : Worker). w.asker) o ≡ Some known → slice_get new i ≡ Some after → IsRun counter requests known after
+run_at counter requests old new run i known after (Some w) at is there =
     let less = slice_get_within old i w at in
     let before : (get_or old i after).asker ≡ known = ap (λ (v : Worker). v.asker) (get_or_from_slice_get old i w after at) ∙ cc is in
-    subst (λ (v : Worker). IsRun i (length old) requests known v) (get_or_from_slice_get new i after after there)
-    (subst (λ (k : KnownBatches). IsRun i (length old) requests k (get_or new i after)) before (run i after less))
-run_at requests old new run i known after None at is there = absurd (cc is)
+    subst (λ (v : Worker). IsRun counter requests known v) (get_or_from_slice_get new i after after there)
+    (subst (λ (k : KnownBatches). IsRun counter requests k (get_or new i after)) before (run i after less))
+run_at counter requests old new run i known after None at is there = absurd (cc is)
 
-pub run_each : (requests : List Request) (old new : List Worker) → length new ≡ length old → AreRunByPlace requests old new → AreRun requests (map (λ w. w.asker) old) new
-run_each requests old new same run =
-    let count : length (map (λ (w : Worker). w.asker) old) ≡ length old = length-map old (λ (w : Worker). w.asker) in
-    record {
-      count = same ∙ sym count;
-      each = λ i known after at there.
-          subst (λ n. IsRun i n requests known after) (sym count)
-          (run_at requests old new run i known after (slice_get old i) refl (sym (slice_get-map (λ (w : Worker). w.asker) old i) ∙ at) there);
-    }
+pub run_each : (counter : CounterId) (requests : List Request) (old new : List Worker) → length new ≡ length old → AreRunByPlace counter requests old new → AreRun counter requests (map (λ w. w.asker) old) new
+run_each counter requests old new same run = record {
+  count = same ∙ sym (length-map old (λ (w : Worker). w.asker));
+  each = λ i known after at there. run_at counter requests old new run i known after (slice_get old i) refl (sym (slice_get-map (λ (w : Worker). w.asker) old i) ∙ at) there;
+}
 
 -- one worker's part
-run_of : (requests : List Request) (before : List KnownBatches) (workers : List Worker) → AreRun requests before workers → (i : ℕ) (d : Worker) → i < length workers
-    → (known : KnownBatches) × IsRun i (length before) requests known (get_or workers i d)
-run_of requests before workers run i d less =
+run_of : (counter : CounterId) (requests : List Request) (before : List KnownBatches) (workers : List Worker) → AreRun counter requests before workers → (i : ℕ) (d : Worker) → i < length workers
+    → (known : KnownBatches) × IsRun counter requests known (get_or workers i d)
+run_of counter requests before workers run i d less =
     let known = at_place before i (let e = run.count in omega arith) in
     (known.0, run.each i known.0 (get_or workers i d) known.1 (slice_get-get_or workers i d less))
 
-pub run_faults : (requests : List Request) (before : List KnownBatches) (workers : List Worker) → AreRun requests before workers → All (λ (w : Worker). IfSome w.fault IsFaultOfWorker) workers
-run_faults requests before workers run i d less = (run_of requests before workers run i d less).1.fault
+pub run_faults : (counter : CounterId) (requests : List Request) (before : List KnownBatches) (workers : List Worker) → AreRun counter requests before workers → All (λ (w : Worker). IfSome w.fault IsFaultOfWorker) workers
+run_faults counter requests before workers run i d less = (run_of counter requests before workers run i d less).1.fault
 
-pub run_inside : (requests : List Request) (before : List KnownBatches) (workers : List Worker) → AreRun requests before workers
+pub run_inside : (counter : CounterId) (requests : List Request) (before : List KnownBatches) (workers : List Worker) → AreRun counter requests before workers
     → All (λ (w : Worker). All (λ (r : Reply). r.index < length requests) w.done.items) workers
-run_inside requests before workers run i d less k e inside = ((run_of requests before workers run i d less).1.done.done k e inside).inside
+run_inside counter requests before workers run i d less k e inside = ((run_of counter requests before workers run i d less).1.done.done k e inside).inside
+
+-- whose drawers are all of this counter
+pub run_counters : (counter : CounterId) (requests : List Request) (before : List KnownBatches) (workers : List Worker) → AreRun counter requests before workers
+    → All (λ (d : DrawnNumbers). d.counter ≡ counter) (map (λ (w : Worker). w.drawer) workers)
+run_counters counter requests before workers run =
+    All-map (λ (d : DrawnNumbers). d.counter ≡ counter) (λ (w : Worker). w.drawer) workers (λ i d less. (run_of counter requests before workers run i d less).1.counter)
+
+-- and who have drawn all, where none has a fault
+pub run_drawn : (counter : CounterId) (requests : List Request) (before : List KnownBatches) (workers : List Worker) → AreRun counter requests before workers
+    → All (λ (w : Worker). IsNone w.fault) workers → All (λ (w : Worker). HasDrawnAll (length requests) w) workers
+run_drawn counter requests before workers run none i d less = (run_of counter requests before workers run i d less).1.drawn (none i d less)
 
 -- each asker knows no less than before
-pub run_askers : (requests : List Request) (before : List KnownBatches) (workers : List Worker) (after : List KnownBatches)
-    → after ≡ map (λ w. w.asker) workers → AreRun requests before workers → AreSameAskers before after
-run_askers requests before workers after askers run = record {
+pub run_askers : (counter : CounterId) (requests : List Request) (before : List KnownBatches) (workers : List Worker) (after : List KnownBatches)
+    → after ≡ map (λ w. w.asker) workers → AreRun counter requests before workers → AreSameAskers before after
+run_askers counter requests before workers after askers run = record {
   count = ap length askers ∙ length-map workers (λ (w : Worker). w.asker) ∙ run.count;
   each = λ i old new at there.
       asker_at i old new (slice_get workers i) refl at (sym (slice_get-map (λ (w : Worker). w.asker) workers i) ∙ ap (λ (l : List KnownBatches). slice_get l i) (sym askers) ∙ there);
@@ -68,5 +77,13 @@ run_askers requests before workers after askers run = record {
     asker_at i old new None here at there = absurd (cc there)
 
 -- what a slice of a whole list leaves there
-pub written_back : {X : Type 0} (new rest : List X) (n : ℕ) → n ≡ length new → take n (new ++ rest) ≡ new
+written_back : {X : Type 0} (new rest : List X) (n : ℕ) → n ≡ length new → take n (new ++ rest) ≡ new
 written_back new rest n long = ap (λ m. take m (new ++ rest)) long ∙ take-append_seam new rest
+
+-- workers that were lent as a slice
+pub run_written_back : (counter : CounterId) (requests : List Request) (before : List KnownBatches) (workers lent new rest : List Worker) (n : ℕ)
+    → map (λ w. w.asker) workers ≡ before → lent ≡ workers → n ≡ length workers → AreRun counter requests (map (λ w. w.asker) lent) new → AreRun counter requests before (take n (new ++ rest))
+run_written_back counter requests before workers lent new rest n askers same long run =
+    let of_all : AreRun counter requests before new = subst (λ (all : List KnownBatches). AreRun counter requests all new) (ap (map (λ (w : Worker). w.asker)) same ∙ askers) run in
+    let count : n ≡ length new = (let each = of_all.count in let all = ap length askers in let map_long = length-map workers (λ (w : Worker). w.asker) in omega arith) in
+    subst (λ (all : List Worker). AreRun counter requests before all) (sym (written_back new rest n count)) of_all

@@ -14,7 +14,8 @@ use Rattle.cspf_publish.specs.declared.answer.Answer.{Answer}
 use Rattle.cspf_publish.specs.Answers.{IsAnswerAfter}
 use Rattle.cspf_publish.specs.Histories.{BeginsWith}
 use Rattle.cspf_publish.specs.KnownBatches.{KnownBatches}
-use Rattle.cspf_work.specs.Served.{IsAnswerWithin, IsServed, IsServedAt, AreAnsweredByWorkers, AreAnswersWithin, AreSameAskers, KnowsNoLess, once_below, times}
+use Rattle.cspf_draw.specs.EachOnce.{once_below, times}
+use Rattle.cspf_work.specs.Served.{IsAnswerWithin, IsServed, IsServedAt, AreAnsweredByWorkers, AreAnswersWithin, AreSameAskers, KnowsNoLess}
 use Rattle.cspf_work.proofs.Asked.{within_later, take_begins, knows_through}
 use Rattle.cspf_work.proofs.Running.{at_place}
 

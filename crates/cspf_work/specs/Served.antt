@@ -1,9 +1,10 @@
 -- What workers answer: which answers are right, and who answered what.
-use Rattle.std.specs.Prelude.{◌≡◌, ℕ, ◌<◌, ◌≤◌, ◌⊎◌, ◌==◌, if◌then◌else◌, nat_lt, List, length, take, Some, slice_get, unwrap_or, option_map, All, count_by, sum_by, Vec}
+use Rattle.std.specs.Prelude.{◌≡◌, ℕ, ◌<◌, ◌≤◌, ◌⊎◌, List, length, take, Some, slice_get, unwrap_or, option_map, All, sum_by, Vec}
 use Rattle.std.specs.Global.{Global}
 use Rattle.std.specs.List.Sorted.{IsNonDecreasingBy}
 use Rattle.cspf_db.specs.Numbered.{NumberedChanges}
 use Rattle.cspf_db.specs.declared.request.Request.{Request}
+use Rattle.cspf_draw.specs.EachOnce.{times, once_below}
 use Rattle.cspf_publish.specs.declared.answer.Answer.{Answer}
 use Rattle.cspf_publish.specs.Answers.{IsAnswerAfter}
 use Rattle.cspf_publish.specs.Histories.{BeginsWith}
@@ -48,14 +49,6 @@ pub record KnowsNoLess (old new : KnownBatches) : Type 0 where
 pub record AreSameAskers (before after : List KnownBatches) : Type 0 where
   pub count : length after ≡ length before
   pub each : (worker : ℕ) (old new : KnownBatches) → slice_get before worker ≡ Some old → slice_get after worker ≡ Some new → KnowsNoLess old new
-
--- how often a number stands in a list
-abbrev pub times : ℕ → List ℕ → ℕ
-times x xs = count_by (λ y. y == x) xs
-
--- once for a number below the bound, and never for another
-abbrev pub once_below : ℕ → ℕ → ℕ
-once_below bound x = if nat_lt x bound then 1 else 0
 
 -- the lists together hold each number below the bound once, and no other
 abbrev pub HoldEachOnce : ℕ → List (Vec ℕ Global) → Type 0

@@ -1,13 +1,15 @@
 -- Private: what a worker has done so far.
-use Rattle.std.specs.Prelude.{◌≡◌, ℕ, ◌<◌, ◌≤◌, ◌%◌, ◌==◌, ◌&&◌, if◌then◌else◌, nat_lt, List, [], length, map, Some, None, slice_get, IfSome, IsNone, All, vec_capacity}
-use Rattle.std.specs.List.Sorted.{IsNonDecreasingBy}
+use Rattle.std.specs.Prelude.{◌≡◌, ℕ, ◌<◌, ◌≤◌, ◌++◌, List, [], ◌∷◌, length, map, flat_map, Some, None, slice_get, IfSome, IsNone, All, vec_capacity}
+use Rattle.std.specs.List.Sorted.{IsNonDecreasingBy, IsStrictlyIncreasing}
 use Rattle.cspf_db.specs.Numbered.{NumberedChanges}
 use Rattle.cspf_db.specs.declared.request.Request.{Request}
+use Rattle.cspf_draw.specs.DrawnNumbers.{CounterId, DrawnNumbers}
 use Rattle.cspf_publish.specs.KnownBatches.{KnownBatches}
 use Rattle.cspf_work.specs.declared.pool.Room.{Room}
 use Rattle.cspf_work.specs.declared.worker.Reply.{Reply}
+use Rattle.cspf_work.specs.declared.worker.Results.{Results}
 use Rattle.cspf_work.specs.declared.worker.Worker.{Worker}
-use Rattle.cspf_work.specs.Served.{IsAnswerWithin, KnowsNoLess, IsFaultOfWorker, times}
+use Rattle.cspf_work.specs.Served.{IsAnswerWithin, KnowsNoLess, IsFaultOfWorker}
 
 -- the indexes of the requests that were answered
 abbrev pub indexes : List Reply → List ℕ
@@ -26,33 +28,48 @@ pub record HasDone (requests : List Request) (before : KnownBatches) (w : Worker
   pub done : All (IsDone requests before.batches w.asker.batches) w.done.items
   pub versions : IsNonDecreasingBy (λ r. r.answer.version) w.done.items
 
--- how often an index below the bound stands in the share of a worker of so many
-abbrev pub share_times : ℕ → ℕ → ℕ → ℕ → ℕ
-share_times worker count bound x = if nat_lt x bound && (x % count == worker) then 1 else 0
+-- what a worker drew are the indexes that it answered, and one last number, at least the bound
+abbrev pub HasDrawnAll : ℕ → Worker → Type 0
+HasDrawnAll bound w = (last : ℕ) × (bound ≤ last) × (w.drawer.drawn ≡ indexes w.done.items ++ last ∷ [])
 
--- the indexes are those below the bound that fall to this worker of so many, each once
-abbrev pub AreShare : ℕ → ℕ → ℕ → List ℕ → Type 0
-AreShare worker count bound xs = (x : ℕ) → times x xs ≡ share_times worker count bound x
-
--- a worker that has asked nothing
-pub record IsIdle (w : Worker) : Type 0 where
+-- a worker that has drawn nothing from this counter and asked nothing
+pub record IsIdle (id : CounterId) (w : Worker) : Type 0 where
   pub done : w.done.items ≡ []
   pub fault : w.fault ≡ None
+  pub drawn : w.drawer.drawn ≡ []
+  pub counter : w.drawer.counter ≡ id
 
--- what a worker of so many did whose asker knew these batches before
-pub record IsRun (worker count : ℕ) (requests : List Request) (before : KnownBatches) (after : Worker) : Type 0 where
+-- what a worker did whose asker knew these batches before
+pub record IsRun (id : CounterId) (requests : List Request) (before : KnownBatches) (after : Worker) : Type 0 where
   pub done : HasDone requests before after
-  pub share : IsNone after.fault → AreShare worker count (length requests) (indexes after.done.items)
+  pub counter : after.drawer.counter ≡ id
+  pub drawn : IsNone after.fault → HasDrawnAll (length requests) after
   pub fault : IfSome after.fault IsFaultOfWorker
 
 -- what all workers did whose askers knew these batches before
-pub record AreRun (requests : List Request) (before : List KnownBatches) (workers : List Worker) : Type 0 where
+pub record AreRun (id : CounterId) (requests : List Request) (before : List KnownBatches) (workers : List Worker) : Type 0 where
   pub count : length workers ≡ length before
-  pub each : (worker : ℕ) (known : KnownBatches) (after : Worker) → slice_get before worker ≡ Some known → slice_get workers worker ≡ Some after → IsRun worker (length before) requests known after
+  pub each : (worker : ℕ) (known : KnownBatches) (after : Worker) → slice_get before worker ≡ Some known → slice_get workers worker ≡ Some after → IsRun id requests known after
+
+-- all numbers that workers drew
+abbrev pub all_drawn : List Worker → List ℕ
+all_drawn workers = flat_map (λ (d : DrawnNumbers). d.drawn) (map (λ w. w.drawer) workers)
+
+-- what is left when these workers are done, whose askers knew these batches before and who drew these numbers
+pub record AreResults (id : CounterId) (requests : List Request) (before : List KnownBatches) (numbers : List ℕ) (results : Results) (workers : List Worker) : Type 0 where
+  pub run : AreRun id requests before workers
+  pub askers : results.askers.items ≡ map (λ w. w.asker) workers
+  pub lists : results.lists.items ≡ map (λ w. w.done) workers
+  pub drawn : numbers ≡ all_drawn workers
+  pub rising : All (λ (d : DrawnNumbers). IsStrictlyIncreasing d.drawn) (map (λ w. w.drawer) workers)
+  pub fault : IfSome results.fault IsFaultOfWorker
+  pub none : IsNone results.fault → All (λ w. IsNone w.fault) workers
 
 -- there is room for what is left when so many workers are done, and nothing is there yet
 pub record IsRoomFor (count : ℕ) (room : Room) : Type 0 where
   pub no_askers : room.askers.items ≡ []
+  pub no_drawers : room.drawers.items ≡ []
   pub no_lists : room.lists.items ≡ []
   pub askers : count ≤ vec_capacity room.askers
+  pub drawers : count ≤ vec_capacity room.drawers
   pub lists : count ≤ vec_capacity room.lists

@@ -1,17 +1,20 @@
-ghost use Rattle.std.specs.Prelude.{◌<◌, ◌≤◌, length, IfOk, IfErr, vec_len};
+ghost use Rattle.std.specs.Prelude.{◌<◌, ◌≤◌, length, All, IfOk, IfErr, vec_len};
+ghost use Rattle.std.specs.List.Sorted.{IsStrictlyIncreasing};
 ghost use Rattle.cspf_work.specs.Served.{AreAnsweredByWorkers, AreSameAskers, IsFaultOfWorker};
 
 use crate::finishing::{Collected, finish};
 use crate::pool::{room_for, run_workers};
 use crate::{Answers, Gate, MOST_REQUESTS, ServeError};
 use cspf_db::Request;
+use cspf_draw::Counter;
 use cspf_publish::{Asker, MOST_ASKERS};
 use std::alloc::Global;
 use std::thread::Threads;
 
-/// Answers requests by one worker for each asker: request i, from 0, falls to worker i mod n. All
-/// workers run at once, each in a thread of its own; where no thread can be made they run one after
-/// the other.
+/// Answers requests by one worker for each asker. A worker draws the index of a request, answers it
+/// and draws the next, as long as there is one: each index is drawn once, and those of a worker rise.
+/// All workers run at once, each in a thread of its own; where no thread can be made they run one
+/// after the other.
 ///
 /// All askers are handed back in order, after an error too. They then know no less than before. Of
 /// several workers' faults the first worker's is answered.
@@ -26,16 +29,22 @@ pub fn answer_all<G: Gate + Sync, R: Threads + Sync>(
     requires requests { length requests.now ≤ MOST_REQUESTS }
     ensures answers { IfOk result (λ all. AreAnsweredByWorkers requests.now
         askers.items all.askers.items all.list.items all.drawn.items) }
+    ensures rising { IfOk result (λ all. All (λ v. IsStrictlyIncreasing v.items) all.drawn.items) }
     ensures askers { IfOk result (λ all. AreSameAskers askers.items all.askers.items) }
-    // With fixed shares no request is left out and none is answered twice.
+    // Each index is drawn once, so no request is left out and none is answered twice.
     ensures error { IfErr result (λ e. IsFaultOfWorker e.0) }
     ensures back { IfErr result (λ e. AreSameAskers askers.items e.1.items) }
 {
+    let Ok((counter, first)) = Counter::open(alloc, requests.len() as u64) else {
+        return Err((ServeError::Memory, askers));
+    };
     let Ok((workers, room)) = room_for(alloc, askers.len()) else {
         return Err((ServeError::Memory, askers));
     };
-    let done = run_workers(rt, alloc, requests, gate, askers, workers);
-    let (askers, collected) = finish(alloc, done, room, requests);
+    let (results, last) = run_workers(
+        rt, alloc, &counter, first, requests, gate, askers, workers, room,
+    );
+    let (askers, collected) = finish(alloc, counter, last, results, requests);
     match collected {
         Ok(Collected { list, drawn }) => Ok(Answers {
             list,

@@ -1,16 +1,19 @@
-ghost use Rattle.std.specs.Prelude.{◌≡◌, ◌⊎◌, ◌<◌, ◌≤◌, [], length, map, All, IfOk, IfErr, vec_len, vec_capacity};
+ghost use Rattle.std.specs.Prelude.{◌≡◌, ◌⊎◌, ◌<◌, ◌≤◌, [], List, length, map, All, IfOk, IfErr, vec_len, vec_capacity};
+ghost use Rattle.std.specs.List.Sorted.{IsStrictlyIncreasing};
 ghost use Rattle.cspf_publish.specs.Histories.{BeginsWith};
 ghost use Rattle.cspf_work.specs.Served.{AreAnsweredByWorkers, AreAnswersWithin, AreSameAskers, IsFaultOfWorker, IsUnaccounted};
 ghost use Rattle.cspf_work.specs.Applied.{IsAppliedUpTo, IsAppliedInPart};
-ghost use Rattle.cspf_work.specs.Working.{AreRun, IsIdle};
+ghost use Rattle.cspf_work.specs.declared.worker.Worker.{Worker as OneWorker};
+ghost use Rattle.cspf_work.specs.Working.{AreRun, AreResults, IsIdle, IsRoomFor};
 
 use crate::askers::tell_each;
 use crate::finishing::{Collected, finish};
-use crate::pool::{employ, room_for, run_all};
+use crate::pool::{Room, dismiss, employ, room_for, run_all};
 use crate::strays::first_stray;
-use crate::worker::Worker;
+use crate::worker::{Results, Worker};
 use crate::{Gate, Live, MOST_REQUESTS, ServeError};
 use cspf_db::{Batch, Request};
+use cspf_draw::{Counter, FirstSeat, LastSeat, MOST_DRAWERS};
 use cspf_publish::{ApplyError, Asker, MOST_ASKERS, Publisher};
 use std::alloc::Global;
 use std::io::Write;
@@ -44,21 +47,23 @@ fn apply_and_run<W: Write, G: Gate + Sync, R: Threads + Wait + Sync>(
     alloc: Global,
     batches: &[Batch],
     publisher: &mut Publisher<W>,
+    counter: &Counter,
     requests: &[Request],
     gate: &G,
-    workers: &mut [Worker],
+    workers: &mut [Worker<'_>],
 ) -> (u32, Option<ApplyError>)
-    requires share { (0 < length workers.old) × (length workers.old ≤ MOST_ASKERS)
-        × (length requests.now ≤ MOST_REQUESTS) }
-    requires idle { All IsIdle workers.old }
-    ensures run { AreRun requests.now (map (λ w. w.asker) workers.old) workers.new }
+    requires some { 0 < length workers.old }
+    requires requests { counter.now.requests ≡ length requests.now }
+    requires idle { All (IsIdle counter.now) workers.old }
+    ensures run { AreRun counter.now requests.now (map (λ w. w.asker) workers.old) workers.new }
     ensures applied { IsAppliedUpTo W.contents publisher.old publisher.new batches.now result.0 result.1 }
 {
     let mut answer = ||
-        requires { (0 < length workers.now) × (length workers.now ≤ MOST_ASKERS)
-            × (length requests.now ≤ MOST_REQUESTS) × All IsIdle workers.now }
-        ensures { AreRun requests.entry.now (map (λ w. w.asker) workers.entry.now) workers.exit.now }
-    { run_all(rt, alloc, requests, gate, workers) };
+        requires { (0 < length workers.now) × (counter.now.requests ≡ length requests.now)
+            × All (IsIdle counter.now) workers.now }
+        ensures { AreRun counter.entry.now requests.entry.now (map (λ w. w.asker) workers.entry.now)
+            workers.exit.now }
+    { run_all(rt, alloc, counter, requests, gate, workers) };
     let mut apply = || -> (u32, Option<ApplyError>)
         ensures { IsAppliedUpTo W.contents publisher.entry.now publisher.exit.now batches.entry.now
             result.0 result.1 }
@@ -66,28 +71,40 @@ fn apply_and_run<W: Write, G: Gate + Sync, R: Threads + Wait + Sync>(
     thread::join_mut(rt, &mut answer, &mut apply).1
 }
 
-/// The workers of askers after they have answered their shares while this thread applied batches.
-fn run_beside<W: Write, G: Gate + Sync, R: Threads + Wait + Sync>(
+/// What is left of the workers of askers after they have answered all requests while this thread
+/// applied batches.
+fn run_beside<'a, W: Write, G: Gate + Sync, R: Threads + Wait + Sync>(
     rt: &R,
     alloc: Global,
     batches: &[Batch],
     publisher: &mut Publisher<W>,
+    counter: &'a Counter,
+    first: FirstSeat,
     requests: &[Request],
     gate: &G,
     askers: Vec<Asker>,
-    room: Vec<Worker>,
-) -> (Vec<Worker>, u32, Option<ApplyError>)
-    requires askers { (0 < vec_len askers) × (vec_len askers ≤ MOST_ASKERS) }
-    requires requests { length requests.now ≤ MOST_REQUESTS }
-    requires room { (room.items ≡ []) × (vec_len askers ≤ vec_capacity room) }
-    ensures run { AreRun requests.now askers.items result.0.items }
+    workers: Vec<Worker<'a>>,
+    room: Room<'a>,
+) -> (Results, LastSeat, u32, Option<ApplyError>)
+    requires counter { (first.counter ≡ counter.now) × (counter.now.requests ≡ length requests.now) }
+    requires askers { (0 < vec_len askers) × (vec_len askers ≤ first.shares)
+        × (first.shares ≡ MOST_DRAWERS) }
+    requires workers { (workers.items ≡ []) × (vec_len askers ≤ vec_capacity workers) }
+    requires room { IsRoomFor (vec_len askers) room }
+    ensures counter { result.1.counter ≡ counter.now }
+    ensures results { (workers : List OneWorker)
+        × AreResults counter.now requests.now askers.items result.1.drawn result.0 workers }
     ensures applied { IsAppliedUpTo W.contents publisher.old publisher.new batches.now
-        result.1 result.2 }
+        result.2 result.3 }
 {
-    let mut workers = employ(alloc, askers, room);
+    let mut first = first;
+    let mut workers = employ(alloc, counter, &mut first, askers, workers);
     let all = workers.as_mut_slice();
-    let (applied, fault) = apply_and_run(rt, alloc, batches, publisher, requests, gate, all);
-    (workers, applied, fault)
+    let (applied, fault) = apply_and_run(
+        rt, alloc, batches, publisher, counter, requests, gate, all,
+    );
+    let (results, last) = dismiss(counter, first, workers, room);
+    (results, last, applied, fault)
 }
 
 /// What `run_live` does while the publisher is lent to it.
@@ -109,6 +126,8 @@ fn run_lent<W: Write, G: Gate + Sync, R: Threads + Wait + Sync>(
     ensures askers { AreSameAskers askers.items result.0.items }
     ensures answers { IfOk result.1 (λ all. AreAnsweredByWorkers requests.now
         askers.items result.0.items all.0.list.items all.0.drawn.items) }
+    ensures rising { IfOk result.1 (λ all.
+        All (λ v. IsStrictlyIncreasing v.items) all.0.drawn.items) }
     ensures published { IfOk result.1 (λ all.
         AreAnswersWithin publisher.new.batches requests.now all.0.list.items) }
     ensures told { IfOk result.1 (λ all.
@@ -121,13 +140,16 @@ fn run_lent<W: Write, G: Gate + Sync, R: Threads + Wait + Sync>(
         IsFaultOfWorker e
         ⊎ IsUnaccounted (length requests.now) (length publisher.new.batches) e) }
 {
+    let Ok((counter, first)) = Counter::open(alloc, requests.len() as u64) else {
+        return (askers, Err(ServeError::Memory));
+    };
     let Ok((workers, room)) = room_for(alloc, askers.len()) else {
         return (askers, Err(ServeError::Memory));
     };
-    let (done, applied, fault) = run_beside(
-        rt, alloc, batches, publisher, requests, gate, askers, workers,
+    let (results, last, applied, fault) = run_beside(
+        rt, alloc, batches, publisher, &counter, first, requests, gate, askers, workers, room,
     );
-    let (mut askers, collected) = finish(alloc, done, room, requests);
+    let (mut askers, collected) = finish(alloc, counter, last, results, requests);
     tell_each(publisher, &mut askers);
     match collected {
         Ok(collected) => match first_stray(collected.list.as_slice(), 0, publisher.version()) {
@@ -159,6 +181,7 @@ pub fn run_live<W: Write, G: Gate + Sync, R: Threads + Wait + Sync>(
     requires requests { length requests.now ≤ MOST_REQUESTS }
     ensures answers { IfOk result (λ live. AreAnsweredByWorkers requests.now
         askers.items live.askers.items live.list.items live.drawn.items) }
+    ensures rising { IfOk result (λ live. All (λ v. IsStrictlyIncreasing v.items) live.drawn.items) }
     ensures published { IfOk result (λ live.
         AreAnswersWithin live.publisher.batches requests.now live.list.items) }
     ensures askers { IfOk result (λ live. AreSameAskers askers.items live.askers.items) }

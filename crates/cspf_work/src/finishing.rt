@@ -1,13 +1,15 @@
-ghost use Rattle.std.specs.Prelude.{◌<◌, List, IfOk, IfErr, vec_len};
+ghost use Rattle.std.specs.Prelude.{◌≡◌, ◌<◌, List, All, IfOk, IfErr, vec_len};
+ghost use Rattle.std.specs.List.Sorted.{IsStrictlyIncreasing};
 ghost use Rattle.cspf_publish.specs.KnownBatches.{KnownBatches};
+ghost use Rattle.cspf_work.specs.declared.worker.Worker.{Worker};
 ghost use Rattle.cspf_work.specs.Served.{AreAnsweredByWorkers, AreSameAskers, IsFaultOfWorker};
-ghost use Rattle.cspf_work.specs.Working.{IsRoomFor, AreRun};
+ghost use Rattle.cspf_work.specs.Working.{AreResults};
 
 use crate::ServeError;
 use crate::collecting::collect;
-use crate::pool::{Room, dismiss};
-use crate::worker::Worker;
+use crate::worker::Results;
 use cspf_db::Request;
+use cspf_draw::{Counter, LastSeat};
 use cspf_publish::{Answer, Asker};
 use std::alloc::Global;
 
@@ -18,24 +20,33 @@ pub(crate) struct Collected {
     pub(crate) drawn: Vec<Vec<usize>>,
 }
 
-/// The askers of workers that are done, and what the workers answered.
+/// The askers of workers that are done, and what the workers answered. The counter is closed.
 pub(crate) fn finish(
     alloc: Global,
-    workers: Vec<Worker>,
-    room: Room,
+    counter: Counter,
+    last: LastSeat,
+    results: Results,
     requests: &[Request],
 ) -> (Vec<Asker>, Result<Collected, ServeError>)
-    requires some { 0 < vec_len workers }
-    requires room { IsRoomFor (vec_len workers) room }
-    requires run { (before : List KnownBatches) × AreRun requests.now before workers.items }
-    ensures askers { (before : List KnownBatches) → AreRun requests.now before workers.items
+    requires counter { last.counter ≡ counter }
+    requires some { 0 < vec_len results.askers }
+    requires results { (before : List KnownBatches) × (workers : List Worker)
+        × AreResults counter requests.now before last.drawn results workers }
+    ensures askers { (before : List KnownBatches) (workers : List Worker)
+        → AreResults counter requests.now before last.drawn results workers
         → AreSameAskers before result.0.items }
-    ensures answers { IfOk result.1 (λ all. (before : List KnownBatches)
-        → AreRun requests.now before workers.items
+    ensures answers { IfOk result.1 (λ all. (before : List KnownBatches) (workers : List Worker)
+        → AreResults counter requests.now before last.drawn results workers
         → AreAnsweredByWorkers requests.now before result.0.items all.list.items all.drawn.items) }
+    ensures rising { IfOk result.1 (λ all. All (λ v. IsStrictlyIncreasing v.items) all.drawn.items) }
     ensures error { IfErr result.1 IsFaultOfWorker }
 {
-    let (askers, lists, fault) = dismiss(workers, room);
+    let _word = counter.close(last);
+    let Results {
+        askers,
+        lists,
+        fault,
+    } = results;
     if let Some(error) = fault {
         return (askers, Err(error));
     }

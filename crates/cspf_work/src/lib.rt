@@ -1,6 +1,8 @@
 //! Workers, each with an asker in a thread of its own, answer many requests at once, beside a
 //! publisher that applies batches or without one.
 //!
+//! Each worker draws the indexes of its requests from one word, by `cspf_draw`.
+//!
 //! `specs/Served.antt` says which answers are right and who answered what, `specs/Applied.antt` what
 //! batches leave that are applied up to the first that is refused, and `specs/AskingErrors.antt`
 //! which error of a worker's ask is answered under which name.
@@ -26,6 +28,7 @@ pub use answering::answer_all;
 pub use answering_latest::answer_latest;
 pub use answering_live::run_live;
 pub use answers::Answers;
+pub use cspf_draw::Drawer;
 pub use gate::{Gate, NoGate};
 pub use limits::MOST_REQUESTS;
 pub use live::Live;

@@ -1,12 +1,11 @@
 ghost use Rattle.std.specs.Prelude.{◌≡◌, ◌+◌, ◌<◌, ◌≤◌, ◌++◌, [], ◌∷◌, length, OnOk, IfErr, IfSome, IsNone};
 ghost use Rattle.cspf_publish.specs.KnownBatches.{KnownBatches};
 ghost use Rattle.cspf_work.specs.Served.{IsFaultOfWorker};
-ghost use Rattle.cspf_work.specs.Working.{HasDone, AreShare, IsIdle, indexes};
+ghost use Rattle.cspf_work.specs.Working.{HasDone, HasDrawnAll, IsIdle, indexes};
 
 use crate::worker::{Reply, Worker};
-use crate::{Gate, MOST_REQUESTS, ServeError};
+use crate::{Gate, ServeError};
 use cspf_db::Request;
-use cspf_publish::MOST_ASKERS;
 use std::alloc::Global;
 
 /// Asks one request, and keeps its answer.
@@ -16,12 +15,13 @@ fn serve_one<G: Gate>(
     index: usize,
     requests: &[Request],
     gate: &G,
-    worker: &mut Worker,
+    worker: &mut Worker<'_>,
 ) -> Result<(), ServeError>
     requires { index < length requests.now }
     ensures done { (before : KnownBatches) → HasDone requests.now before worker.old
         → HasDone requests.now before worker.new }
     ensures fault { worker.new.fault ≡ worker.old.fault }
+    ensures drawer { worker.new.drawer ≡ worker.old.drawer }
     ensures next { OnOk result (indexes worker.new.done.items
         ≡ indexes worker.old.done.items ++ index ∷ []) }
     ensures error { IfErr result IsFaultOfWorker }
@@ -37,30 +37,30 @@ fn serve_one<G: Gate>(
     Ok(())
 }
 
-/// Answers the share of a worker of so many: the requests number, number + count and so on, up to
-/// the first fault.
+/// Answers the requests at the indexes that the worker draws, up to a number that is no request's, or
+/// up to the first fault.
 pub(crate) fn serve<G: Gate>(
     alloc: Global,
     number: usize,
-    count: usize,
     requests: &[Request],
     gate: &G,
-    worker: &mut Worker,
+    worker: &mut Worker<'_>,
 )
-    requires share { (number < count) × (count ≤ MOST_ASKERS)
-        × (length requests.now ≤ MOST_REQUESTS) }
-    requires idle { IsIdle worker.old }
+    requires requests { worker.old.drawer.counter.requests ≡ length requests.now }
+    requires idle { IsIdle worker.old.drawer.counter worker.old }
     ensures done { HasDone requests.now worker.old.asker worker.new }
-    ensures share { IsNone worker.new.fault
-        → AreShare number count (length requests.now) (indexes worker.new.done.items) }
+    ensures counter { worker.new.drawer.counter ≡ worker.old.drawer.counter }
+    ensures drawn { IsNone worker.new.fault → HasDrawnAll (length requests.now) worker.new }
     ensures error { IfSome worker.new.fault IsFaultOfWorker }
 {
-    let mut index = number;
-    while index < requests.len() {
-        if let Err(fault) = serve_one(alloc, number, index, requests, gate, worker) {
+    while worker.drawer.left() != 0 {
+        let index = worker.drawer.draw();
+        if index >= requests.len() as u64 {
+            return;
+        }
+        if let Err(fault) = serve_one(alloc, number, index as usize, requests, gate, worker) {
             worker.fault = Some(fault);
             return;
         }
-        index += count;
     }
 }

@@ -1,4 +1,5 @@
 use crate::ServeError;
+use cspf_draw::Drawer;
 use cspf_publish::{Answer, Asker};
 
 /// An answer, and the index of its request.
@@ -8,10 +9,20 @@ pub(crate) struct Reply {
     pub(crate) answer: Answer,
 }
 
-/// An asker at work: what it answered, in the order of its asks, and what stopped it.
+/// An asker at work: who draws the indexes of its requests, what it answered, in the order of its
+/// asks, and what stopped it.
 #[derive(Drop)]
-pub(crate) struct Worker {
+pub(crate) struct Worker<'a> {
     pub(crate) asker: Asker,
+    pub(crate) drawer: Drawer<'a>,
     pub(crate) done: Vec<Reply>,
+    pub(crate) fault: Option<ServeError>,
+}
+
+/// What is left when workers are done: the askers, what each worker answered, and the first fault.
+#[derive(Drop)]
+pub(crate) struct Results {
+    pub(crate) askers: Vec<Asker>,
+    pub(crate) lists: Vec<Vec<Reply>>,
     pub(crate) fault: Option<ServeError>,
 }

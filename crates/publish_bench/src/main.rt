@@ -3,11 +3,15 @@
 //! The first LOAD batches of the journal make the network. Each further one is timed by itself:
 //! `apply CHANGES MICROSECONDS`. Then the requests are answered from a plain table on one thread,
 //! `plain ANSWERS MICROSECONDS`, and by 1, 2 and 4 askers at once, each of which asks all of them
-//! while the further batches are published: `askers COUNT ANSWERS PUBLISHED MICROSECONDS`. The
-//! journal of the publisher keeps nothing. `bench/run` makes the files and reads the lines.
+//! while the further batches are published: `askers COUNT ANSWERS PUBLISHED MICROSECONDS`. Last the
+//! requests are divided among 1, 2 and 4 workers: in fixed shares, where of n each asks every nth,
+//! `shares COUNT ANSWERS MICROSECONDS`, and by draws, as `answer_all` does, `draws COUNT ANSWERS
+//! MICROSECONDS`. The journal of the publisher keeps nothing. `bench/run` makes the files and reads
+//! the lines.
 #![tactic(auto)]
 
 mod published;
+mod workers;
 
 use cspf_db::{Batch, Request, Table};
 use cspf_rows::{read_journal, read_requests};
@@ -20,6 +24,7 @@ use std::sync::Wait;
 use std::thread::Threads;
 use std::time::Instant;
 use std::{env, io};
+use workers::time_workers;
 
 /// The numbers of askers that are timed.
 const ASKERS: [usize; 3] = [1, 2, 4];
@@ -64,6 +69,10 @@ fn time_all<R: AllocGlobal + Clock + Print + Threads + Wait + Sync>(
     time_plain(rt, first, requests)?;
     for count in ASKERS {
         time_askers(rt, first, more, requests, count)?;
+    }
+    for count in ASKERS {
+        time_workers(rt, first, requests, count, false)?;
+        time_workers(rt, first, requests, count, true)?;
     }
     Ok(())
 }

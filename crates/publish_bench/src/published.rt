@@ -13,7 +13,7 @@ const THREADS: usize = 4;
 
 /// A journal that keeps nothing.
 #[derive(Drop)]
-struct Nothing;
+pub(crate) struct Nothing;
 
 impl Write for Nothing {
     fn write(&mut self, buf: &[u8]) -> io::Result<usize> {
@@ -33,7 +33,7 @@ struct Seat {
 }
 
 /// Applies batches, and counts those that are published.
-fn apply_all<R: Wait>(
+pub(crate) fn apply_all<R: Wait>(
     rt: &R,
     alloc: Global,
     batches: &[Batch],

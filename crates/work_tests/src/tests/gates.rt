@@ -2,7 +2,7 @@ ghost use Rattle.std.specs.Prelude.{◌<◌, ◌≤◌};
 ghost use Rattle.cspf_publish.specs.declared.limits.TheConstants.{MOST_ASKERS};
 
 use super::workers::{
-    Counts, answered_with_a_link, link_batch, opened, requests, run_and_close, zeros,
+    Counts, answered_with_a_link, link_batch, opened, requests, run_and_close, wait_for, zeros,
 };
 use cspf_serve::{Gate, run_batch, run_live_rows};
 use std::alloc::{AllocError, Global};
@@ -83,13 +83,17 @@ fn at_once_in_a_live_run(rt: HostRuntime) -> Result<(), Fail> {
     Ok(())
 }
 
-/// Notes what each worker tells, in its order, as hexadecimal digits: 1, 3 and 5 for reaching the
-/// requests 0, 1 and 2, and 2, 4 and 6 for having their answers.
+/// Notes what each worker tells, in its order, as hexadecimal digits: 1, 3, 5 and 7 for reaching the
+/// requests 0 to 3, and 2, 4, 6 and 8 for having their answers. Holds request 0 until the others are
+/// answered.
 #[derive(Drop)]
 struct Notes {
     words: Vec<AtomicU64>,
     /// What is told of a worker that isn't there.
     others: AtomicU64,
+    /// How many of the requests 1 to 3 are answered.
+    answered: AtomicU64,
+    faults: AtomicU64,
 }
 
 impl Notes {
@@ -97,6 +101,8 @@ impl Notes {
         Ok(Notes {
             words: zeros(alloc, workers)?,
             others: AtomicU64::new(0),
+            answered: AtomicU64::new(0),
+            faults: AtomicU64::new(0),
         })
     }
 
@@ -106,13 +112,14 @@ impl Notes {
         word.store(noted.wrapping_mul(16).wrapping_add(digit), Ordering::SeqCst);
     }
 
-    /// Whether worker 0 asks the requests 0 and 2 one after the other, and worker 1 the request 1.
-    fn are_of_three_requests(&self) -> bool {
+    /// Whether one worker asks request 0, and the other meanwhile the requests 1, 2 and 3.
+    fn are_of_four_requests(&self) -> bool {
         match self.words.as_slice() {
             [first, second] => {
-                first.load(Ordering::SeqCst) == 0x1256
-                    && second.load(Ordering::SeqCst) == 0x34
+                let noted = (first.load(Ordering::SeqCst), second.load(Ordering::SeqCst));
+                (noted == (0x12, 0x345678) || noted == (0x345678, 0x12))
                     && self.others.load(Ordering::SeqCst) == 0
+                    && self.faults.load(Ordering::SeqCst) == 0
             }
             _ => false,
         }
@@ -122,31 +129,51 @@ impl Notes {
 impl Gate for Notes {
     fn reached(&self, worker: usize, index: usize) {
         self.note(worker, (index as u64).wrapping_mul(2).wrapping_add(1));
+        if index == 0 {
+            wait_for(&self.answered, 3, &self.faults);
+        }
     }
 
     fn answered(&self, worker: usize, index: usize) {
         self.note(worker, (index as u64).wrapping_mul(2).wrapping_add(2));
+        if index != 0 {
+            self.answered.fetch_add(1, Ordering::SeqCst);
+        }
     }
+}
+
+/// Whether one worker drew 0, and the other 1, 2 and 3.
+fn are_zero_and_the_others(drawn: &[Vec<usize>]) -> bool {
+    let [first, second] = drawn else {
+        return false;
+    };
+    let (zero, others) = if first.len() == 1 {
+        (first, second)
+    } else {
+        (second, first)
+    };
+    zero.as_slice() == [0].as_slice() && others.as_slice() == [1, 2, 3].as_slice()
 }
 
 #[test]
 fn what_workers_tell(rt: HostRuntime) -> Result<(), Fail> {
-    let all = requests(rt.alloc(), 3)?;
+    let all = requests(rt.alloc(), 4)?;
     let notes = Notes::new(rt.alloc(), 2)?;
     let answers = answered_with_a_link(&rt, rt.alloc(), 2, all.as_slice(), &notes)?;
-    assert!(rt; answers.list.len() == 3 && notes.are_of_three_requests());
+    assert!(rt; answers.list.len() == 4 && notes.are_of_four_requests());
+    assert!(rt; are_zero_and_the_others(&answers.drawn));
     Ok(())
 }
 
 #[test]
 fn what_live_workers_tell(rt: HostRuntime) -> Result<(), Fail> {
     let batch = link_batch(rt.alloc(), 1)?;
-    let all = requests(rt.alloc(), 3)?;
+    let all = requests(rt.alloc(), 4)?;
     let notes = Notes::new(rt.alloc(), 2)?;
     let (publisher, askers) = opened(&rt, rt.alloc(), Vec::<u8>::new(rt.alloc()), 2);
     let asked = all.as_slice();
     let left = run_and_close(&rt, rt.alloc(), publisher, askers, &[batch], asked, &notes);
-    assert!(rt; left.list.len() == 3 && left.applied == 1 && notes.are_of_three_requests());
+    assert!(rt; left.list.len() == 4 && left.applied == 1 && notes.are_of_four_requests());
     Ok(())
 }
 
@@ -154,7 +181,7 @@ fn what_live_workers_tell(rt: HostRuntime) -> Result<(), Fail> {
 fn what_workers_tell_of_rows(rt: HostRuntime) -> Result<(), Fail> {
     let notes = Notes::new(rt.alloc(), 2)?;
     assert!(rt;
-        answers(&rt, rt.alloc(), Run::Batch, 3, 2, &notes)? && notes.are_of_three_requests()
+        answers(&rt, rt.alloc(), Run::Batch, 4, 2, &notes)? && notes.are_of_four_requests()
     );
     Ok(())
 }
@@ -162,8 +189,6 @@ fn what_workers_tell_of_rows(rt: HostRuntime) -> Result<(), Fail> {
 #[test]
 fn what_live_workers_tell_of_rows(rt: HostRuntime) -> Result<(), Fail> {
     let notes = Notes::new(rt.alloc(), 2)?;
-    assert!(rt;
-        answers(&rt, rt.alloc(), Run::Live, 3, 2, &notes)? && notes.are_of_three_requests()
-    );
+    assert!(rt; answers(&rt, rt.alloc(), Run::Live, 4, 2, &notes)? && notes.are_of_four_requests());
     Ok(())
 }

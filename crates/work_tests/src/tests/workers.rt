@@ -6,7 +6,7 @@ use cspf_addr::{Addr, Hops, Mask};
 use cspf_db::{Batch, Change, Link, Request};
 use cspf_publish::{Answer, ApplyError, Asker, Publisher, open};
 use cspf_search::Outcome;
-use cspf_serve::{Answers, Gate, Live, NoGate, answer_all, answer_latest, run_live};
+use cspf_serve::{Answers, Gate, Live, NoGate, ServeError, answer_all, answer_latest, run_live};
 use std::alloc::{AllocError, Global};
 use std::io::Write;
 use std::process::Abort;
@@ -222,7 +222,7 @@ fn is_one_each(answers: &Answers, count: usize) -> bool {
         && answers.drawn.len() == count
         && answers.askers.len() == count
         && are_of_the_link(&answers.list)
-        && are_drawn_by_number(&answers.drawn)
+        && have_one_each(&answers.drawn)
         && are_at_version_1(&answers.askers)
 }
 
@@ -235,10 +235,10 @@ fn are_of_the_link(list: &[Answer]) -> bool {
     true
 }
 
-/// Whether each worker drew the index of its own number.
-fn are_drawn_by_number(drawn: &[Vec<usize>]) -> bool {
-    for (worker, indexes) in drawn.iter().enumerate() {
-        if indexes.as_slice() != [worker].as_slice() {
+/// Whether each worker drew one index.
+fn have_one_each(drawn: &[Vec<usize>]) -> bool {
+    for indexes in drawn {
+        if indexes.len() != 1 {
             return false;
         }
     }
@@ -288,6 +288,32 @@ fn no_requests(rt: HostRuntime) -> Result<(), Fail> {
     assert!(rt; answers.list.is_empty() && answers.askers.len() == 3 && answers.drawn.len() == 3);
     for indexes in &answers.drawn {
         assert!(rt; indexes.is_empty());
+    }
+    Ok(())
+}
+
+/// One request is answered by one of as many workers as there may be.
+#[test]
+fn one_request_and_64_workers(rt: HostRuntime) -> Result<(), Fail> {
+    let one = requests(rt.alloc(), 1)?;
+    let answers = answered_with_a_link(&rt, rt.alloc(), 64, one.as_slice(), &NoGate)?;
+    assert!(rt; answers.list.len() == 1 && answers.drawn.len() == 64);
+    let drew = answers.drawn.iter().filter(|indexes| !indexes.is_empty());
+    assert_eq!(rt; drew.count(), 1);
+    Ok(())
+}
+
+/// Two workers answer 100 requests. Where memory is refused to one of them, as by `rt try --test
+/// --fail-alloc N`, the other draws on, the call answers `Memory`, and both askers come back.
+#[test]
+fn two_workers_and_refused_memory(rt: HostRuntime) -> Result<(), Fail> {
+    let all = requests(rt.alloc(), 100)?;
+    let (publisher, askers) = opened(&rt, rt.alloc(), Vec::<u8>::new(rt.alloc()), 2);
+    let answered = answer_all(&rt, rt.alloc(), askers, all.as_slice(), &NoGate);
+    publisher.close(&rt);
+    match answered {
+        Ok(answers) => assert!(rt; answers.askers.len() == 2 && answers.list.len() == 100),
+        Err((error, askers)) => assert!(rt; error == ServeError::Memory && askers.len() == 2),
     }
     Ok(())
 }

@@ -13,29 +13,35 @@ use Rattle.cspf_work.proofs.answering_live.run_lent.Goals as goal
 
 pub tell_each-requires : goal.tell_each-requires
 tell_each-requires g c =
-    sources_kept c.args.publisher.now.source c.run_beside-done.new.publisher.source c.args.askers.items c.finish-askers.result.0.items
-    c.run_beside-done.ensures.applied.source c.requires.source
-    (c.finish-askers.ensures.askers c.args.askers.items c.run_beside-done.ensures.run)
+    sources_kept c.args.publisher.now.source c.run_beside-results.new.publisher.source c.args.askers.items c.finish-askers.result.0.items
+    c.run_beside-results.ensures.applied.source c.requires.source
+    (c.finish-askers.ensures.askers c.args.askers.items c.run_beside-results.ensures.results.0 c.run_beside-results.ensures.results.1)
 
 pub returns-in-None-clause-askers : goal.returns-in-None-clause-askers
 returns-in-None-clause-askers g c =
-    same_through _ _ _ (c.finish-askers.ensures.askers c.args.askers.items c.run_beside-done.ensures.run) c.tell_each.ensures.askers
+    same_through _ _ _
+    (c.finish-askers.ensures.askers c.args.askers.items c.run_beside-results.ensures.results.0 c.run_beside-results.ensures.results.1)
+    c.tell_each.ensures.askers
 
 pub returns-in-Some-clause-askers : goal.returns-in-Some-clause-askers
 returns-in-Some-clause-askers g c =
-    same_through _ _ _ (c.finish-askers.ensures.askers c.args.askers.items c.run_beside-done.ensures.run) c.tell_each.ensures.askers
+    same_through _ _ _
+    (c.finish-askers.ensures.askers c.args.askers.items c.run_beside-results.ensures.results.0 c.run_beside-results.ensures.results.1)
+    c.tell_each.ensures.askers
 
 pub returns-in-Err-clause-askers : goal.returns-in-Err-clause-askers
 returns-in-Err-clause-askers g c =
-    same_through _ _ _ (c.finish-askers.ensures.askers c.args.askers.items c.run_beside-done.ensures.run) c.tell_each.ensures.askers
+    same_through _ _ _
+    (c.finish-askers.ensures.askers c.args.askers.items c.run_beside-results.ensures.results.0 c.run_beside-results.ensures.results.1)
+    c.tell_each.ensures.askers
 
 pub returns-in-None-clause-answers : goal.returns-in-None-clause-answers
 returns-in-None-clause-answers g c =
-    let same : AreSameAskers c.args.askers.items c.finish-askers.result.0.items = (c.finish-askers.ensures.askers c.args.askers.items c.run_beside-done.ensures.run) in
+    let same : AreSameAskers c.args.askers.items c.finish-askers.result.0.items = (c.finish-askers.ensures.askers c.args.askers.items c.run_beside-results.ensures.results.0 c.run_beside-results.ensures.results.1) in
     (answered_later c.args.requests.now c.args.askers.items c.finish-askers.result.0.items c.tell_each.new.askers.items c.in-Ok-collected.collected.list.items c.in-Ok-collected.collected.drawn.items
     (same.count) c.tell_each.ensures.askers
     (IfOk-at_ok _ c.in-Ok-collected.is c.finish-askers.ensures.answers c.args.askers.items
-    c.run_beside-done.ensures.run))
+    c.run_beside-results.ensures.results.0 c.run_beside-results.ensures.results.1))
 
 pub returns-in-None-clause-told : goal.returns-in-None-clause-told
 returns-in-None-clause-told g c =
@@ -43,7 +49,7 @@ returns-in-None-clause-told g c =
 
 pub returns-in-None-clause-published : goal.returns-in-None-clause-published
 returns-in-None-clause-published g c =
-    let same : AreSameAskers c.args.askers.items c.finish-askers.result.0.items = (c.finish-askers.ensures.askers c.args.askers.items c.run_beside-done.ensures.run) in
+    let same : AreSameAskers c.args.askers.items c.finish-askers.result.0.items = (c.finish-askers.ensures.askers c.args.askers.items c.run_beside-results.ensures.results.0 c.run_beside-results.ensures.results.1) in
     let told : All (λ (a : KnownBatches). BeginsWith a.batches c.tell_each.new.publisher.batches) c.tell_each.new.askers.items =
     subst (λ (p : PublisherState g.row.W.Denot). All (λ (a : KnownBatches). BeginsWith a.batches p.batches) c.tell_each.new.askers.items) (sym c.tell_each.ensures.same) c.tell_each.ensures.told in
     let items : c.as_slice.result.now ≡ c.in-Ok-collected.collected.list.items = search rules in
@@ -57,7 +63,7 @@ returns-in-None-clause-published g c =
     (answered_later c.args.requests.now c.args.askers.items c.finish-askers.result.0.items c.tell_each.new.askers.items c.in-Ok-collected.collected.list.items c.in-Ok-collected.collected.drawn.items
     (same.count) c.tell_each.ensures.askers
     (IfOk-at_ok _ c.in-Ok-collected.is c.finish-askers.ensures.answers c.args.askers.items
-    c.run_beside-done.ensures.run))
+    c.run_beside-results.ensures.results.0 c.run_beside-results.ensures.results.1))
 
 pub returns-in-Some-clause-error : goal.returns-in-Some-clause-error
 returns-in-Some-clause-error g c =
@@ -66,7 +72,7 @@ returns-in-Some-clause-error g c =
     let version : c.version.result ≡ length c.tell_each.new.publisher.batches = search rules in
     let answered : AreAnsweredByWorkers c.args.requests.now c.args.askers.items c.finish-askers.result.0.items list c.in-Ok-collected.collected.drawn.items =
     IfOk-at_ok _ c.in-Ok-collected.is c.finish-askers.ensures.answers c.args.askers.items
-    c.run_beside-done.ensures.run in
+    c.run_beside-results.ensures.results.0 c.run_beside-results.ensures.results.1 in
     inr (subst (λ (n : ℕ). IsUnaccounted (length c.args.requests.now) n c.in-Some.error) version
     (unaccounted_of list (length c.args.requests.now) c.version.result c.in-Some.error answered.count
     (subst (λ (l : List Answer). IsFirstStray l (λ v. (0 ≤ v) × (v ≤ c.version.result)) c.in-Some.error) items c.in-Some.ensures.some)))

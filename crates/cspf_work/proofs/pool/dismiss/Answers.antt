@@ -1,30 +1,26 @@
-use Rattle.std.proofs.Common.{rules, ◌++◌, [], ◌∷◌, List, Vec, IfSome, IsNone, sym, ap, ◌∙◌, arith}
-use Rattle.std.specs.Global.{Global}
-use Rattle.std.specs.Vec.Iter.{into_iter_items}
-use Rattle.std.proofs.lemmas.List.{map-append}
-use Rattle.std.proofs.lemmas.List.Elements.{All-push}
-use Rattle.cspf_publish.specs.KnownBatches.{KnownBatches}
-use Rattle.cspf_work.specs.declared.worker.Reply.{Reply}
-use Rattle.cspf_work.specs.declared.worker.Worker.{Worker}
-use Rattle.cspf_work.specs.Served.{IsFaultOfWorker}
-use Rattle.cspf_work.proofs.Filling.{left_step, left_next}
+use Rattle.std.proofs.Common.{◌≡◌, ◌∙◌, List, All, ap, sym, subst, flat_map}
+use Rattle.std.specs.List.Sorted.{IsStrictlyIncreasing}
+use Rattle.cspf_draw.specs.DrawnNumbers.{DrawnNumbers}
+use Rattle.cspf_work.proofs.Running.{run_faults, run_counters}
 use Rattle.cspf_work.proofs.pool.dismiss.Goals as goal
 
-pub loop-worker-preserved-then-is_none : goal.loop-worker-preserved-then-is_none
-loop-worker-preserved-then-is_none c = record {
-  left =
-      left_step c.loop-worker.yielded c.in-Some.worker (into_iter_items c.loop-worker.worker-iterator) (into_iter_items c.next.new.self) c.args.workers.items c.loop-worker.invariant.left
-      c.in-Some.ensures.steps.0;
-  askers =
-      c.push_reserved.ensures.items ∙ ap (λ (l : List KnownBatches). l ++ c.in-Some.worker.asker ∷ []) c.loop-worker.invariant.askers
-      ∙ sym (map-append (λ (w : Worker). w.asker) c.loop-worker.yielded (c.in-Some.worker ∷ []));
-  lists =
-      c.push_reserved-in-loop-worker.ensures.items ∙ ap (λ (l : List (Vec Reply Global)). l ++ c.in-Some.worker.done ∷ []) c.loop-worker.invariant.lists
-      ∙ sym (map-append (λ (w : Worker). w.done) c.loop-worker.yielded (c.in-Some.worker ∷ []));
-  fault =
-      left_next (λ (w : Worker). IfSome w.fault IsFaultOfWorker) c.loop-worker.yielded c.in-Some.worker (into_iter_items c.loop-worker.worker-iterator) (into_iter_items c.next.new.self)
-      c.args.workers.items c.loop-worker.invariant.left c.in-Some.ensures.steps.0 c.requires.faults;
-  none = λ none. All-push (λ (w : Worker). IsNone w.fault) c.loop-worker.yielded c.in-Some.worker (c.loop-worker.invariant.none (search rules)) none;
-  askers_room = (let room = c.loop-worker.invariant.askers_room in let more = c.push_reserved.ensures.capacity in omega arith);
-  lists_room = (let room = c.loop-worker.invariant.lists_room in let more = c.push_reserved-in-loop-worker.ensures.capacity in omega arith);
+pub part-results-requires-clause-faults : goal.part-results-requires-clause-faults
+part-results-requires-clause-faults c = run_faults c.args.counter.now c.requires.run.0 c.requires.run.1 c.args.workers.items c.requires.run.2
+
+pub returns-clause-results : goal.returns-clause-results
+returns-clause-results c = λ requests before run. record {
+  run = run;
+  askers = c.part-results.ensures.askers;
+  lists = c.part-results.ensures.lists;
+  drawn = c.join-last.ensures.drawn ∙ ap (λ (ds : List DrawnNumbers). flat_map (λ (d : DrawnNumbers). d.drawn) ds) c.part-results.ensures.drawers;
+  rising = subst (λ (ds : List DrawnNumbers). All (λ (d : DrawnNumbers). IsStrictlyIncreasing d.drawn) ds) c.part-results.ensures.drawers c.join-last.ensures.rising;
+  fault = c.part-results.ensures.fault;
+  none = c.part-results.ensures.none;
 }
+
+pub join-last-requires-clause-counter : goal.join-last-requires-clause-counter
+join-last-requires-clause-counter c = (
+  c.requires.counter,
+  subst (λ (ds : List DrawnNumbers). All (λ (d : DrawnNumbers). d.counter ≡ c.args.counter.now) ds) (sym c.part-results.ensures.drawers)
+      (run_counters c.args.counter.now c.requires.run.0 c.requires.run.1 c.args.workers.items c.requires.run.2),
+)

@@ -1,4 +1,5 @@
-use Rattle.std.proofs.Common.{rules, length, get_or, subst}
+use Rattle.std.proofs.Common.{rules, ◌≡◌, get_or, subst}
+use Rattle.cspf_draw.specs.DrawnNumbers.{CounterId}
 use Rattle.cspf_work.specs.declared.worker.Worker.{Worker}
 use Rattle.cspf_work.specs.Working.{IsRun}
 use Rattle.cspf_work.proofs.Running.{run_each}
@@ -6,8 +7,10 @@ use Rattle.cspf_work.proofs.pool.run_all.Goals as goal
 
 pub returns : goal.returns
 returns g c =
-    run_each c.args.requests.now c.args.workers.now c.for_each_mut.new.s (search rules) (λ i d less.
+    run_each c.args.counter.now c.args.requests.now c.args.workers.now c.for_each_mut.new.s (search rules) (λ i d less.
     let call = (c.for_each_mut.ensures i d less).1 in
-    let run : IsRun i (length c.args.workers.now) c.args.requests.now call.argument.now.asker call.after_call.now = search rules in
-    subst (λ (w : Worker). IsRun i (length c.args.workers.now) c.args.requests.now w.asker (get_or c.for_each_mut.new.s i d)) call.argument_is
-    (subst (λ (w : Worker). IsRun i (length c.args.workers.now) c.args.requests.now call.argument.now.asker w) call.left run))
+    let run : IsRun call.argument.now.drawer.counter c.args.requests.now call.argument.now.asker call.after_call.now = search rules in
+    let counter : (get_or c.args.workers.now i d).drawer.counter ≡ c.args.counter.now = (c.requires.idle i d less).counter in
+    subst (λ (k : CounterId). IsRun k c.args.requests.now (get_or c.args.workers.now i d).asker (get_or c.for_each_mut.new.s i d)) counter
+    (subst (λ (w : Worker). IsRun w.drawer.counter c.args.requests.now w.asker (get_or c.for_each_mut.new.s i d)) call.argument_is
+    (subst (λ (w : Worker). IsRun call.argument.now.drawer.counter c.args.requests.now call.argument.now.asker w) call.left run)))

@@ -1,15 +1,14 @@
-use Rattle.std.proofs.Common.{length, ◌-◌, ◌≡◌, ◌+◌, ◌<◌, ◌%◌, None}
-use Rattle.cspf_work.specs.Working.{HasDone, AreShare, indexes}
+use Rattle.std.proofs.Common.{◌≡◌, None}
+use Rattle.cspf_work.specs.Working.{HasDone, indexes}
 use Rattle.cspf_work.proofs.serving.serve.Given as goal
 
-abbrev pub invariant-loop-index : goal.invariant-loop-index
-invariant-loop-index g l = record {
+abbrev pub invariant-loop-alloc : goal.invariant-loop-alloc
+invariant-loop-alloc g l = record {
   done : HasDone l.requests l.initial.worker.asker l.worker;
   fault : l.worker.fault ≡ None;
-  share : AreShare l.number l.count l.index (indexes l.worker.done.items);
-  rest : l.index % l.count ≡ l.number;
-  near : l.index < length l.requests + l.count;
+  counter : l.worker.drawer.counter ≡ l.initial.worker.drawer.counter;
+  drawn : l.worker.drawer.drawn ≡ indexes l.worker.done.items;
 }
 
-abbrev pub decreases-loop-index : goal.decreases-loop-index
-decreases-loop-index g l = length l.requests - l.index
+abbrev pub decreases-loop-alloc : goal.decreases-loop-alloc
+decreases-loop-alloc g l = l.worker.drawer.left

@@ -1,0 +1,9 @@
+use Rattle.std.proofs.Common.{◌≡◌, ◌+◌, vec_len}
+use Rattle.cspf_draw.proofs.tests.drawers_of.Given as goal
+
+abbrev pub invariant-loop : goal.invariant-loop
+invariant-loop l = record {
+  counter : l.first.counter ≡ l.counter-2;
+  shares : l.first.shares + l.counter ≡ l.initial.first.shares;
+  count : vec_len l.all ≡ l.counter;
+}

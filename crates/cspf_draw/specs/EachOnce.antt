@@ -1,0 +1,14 @@
+-- Lists that hold each number below a bound once.
+use Rattle.std.specs.Prelude.{◌≡◌, ℕ, ◌==◌, if◌then◌else◌, nat_lt, List, count_by}
+
+-- how often a number stands in a list
+abbrev pub times : ℕ → List ℕ → ℕ
+times x xs = count_by (λ y. y == x) xs
+
+-- once for a number below the bound, and never for another
+abbrev pub once_below : ℕ → ℕ → ℕ
+once_below bound x = if nat_lt x bound then 1 else 0
+
+-- the list holds each number below the bound once, and no other
+abbrev pub HoldsEachOnce : ℕ → List ℕ → Type 0
+HoldsEachOnce bound xs = (x : ℕ) → times x xs ≡ once_below bound x

@@ -1,0 +1,5 @@
+-- The definitions of this crate.
+pub mod EachOnce
+pub mod DrawnNumbers
+pub mod SeatDraws
+pub mod DrawRule

@@ -1,0 +1,37 @@
+-- Private: what a seat at the word has drawn and may still draw, and how steps change that.
+use Rattle.std.specs.Prelude.{◌≡◌, ℕ, ◌+◌, ◌*◌, ◌-◌, List, [], ◌∷◌, ◌++◌, length}
+use Rattle.std.specs.List.Sorted.{IsStrictlyIncreasing}
+use Rattle.cspf_draw.specs.declared.limits.TheConstants.{MOST_DRAWERS}
+use Rattle.cspf_draw.specs.declared.seat_draws.SeatDraws.{SeatDraws}
+
+abbrev pub seat_draws : List ℕ → ℕ → ℕ → SeatDraws
+seat_draws drawn left share = record { drawn = drawn; left = left; share = share }
+
+-- the first seat for so many requests: enough for all drawers, each of which may draw once more than there are requests
+abbrev pub all_draws : ℕ → SeatDraws
+all_draws requests = seat_draws [] (MOST_DRAWERS * (requests + 1)) (requests + 1)
+
+-- a seat after a draw
+abbrev pub with_number : SeatDraws → ℕ → SeatDraws
+with_number v number = seat_draws (v.drawn ++ number ∷ []) (v.left - 1) v.share
+
+-- a seat that gave one share away
+abbrev pub one_share_less : SeatDraws → SeatDraws
+one_share_less v = seat_draws v.drawn (v.left - v.share) v.share
+
+-- and the new seat that has it
+abbrev pub one_share : SeatDraws → SeatDraws
+one_share v = seat_draws [] v.share v.share
+
+-- a seat that takes over the list and the draws of another
+abbrev pub both_seats : SeatDraws → SeatDraws → SeatDraws
+both_seats v w = seat_draws (v.drawn ++ w.drawn) (v.left + w.left) v.share
+
+-- the other, which has none
+abbrev pub spent_seat : SeatDraws
+spent_seat = seat_draws [] 0 0
+
+-- a drawer's seat, which had one draw more than there are requests
+pub record IsDrawer (requests : ℕ) (v : SeatDraws) : Type 0 where
+  pub all : length v.drawn + v.left ≡ requests + 1
+  pub rising : IsStrictlyIncreasing v.drawn

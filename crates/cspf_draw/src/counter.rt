@@ -1,0 +1,97 @@
+//! The word from which numbers are drawn.
+ghost use Rattle.std.specs.Prelude.{◌≡◌, ◌+◌, ◌<◌, ◌≤◌, [], All, IfOk, vec_len, flat_map};
+ghost use Rattle.std.specs.List.Sorted.{IsStrictlyIncreasing};
+ghost use Rattle.cspf_draw.specs.EachOnce.{HoldsEachOnce};
+
+use crate::draw_rule::{DrawRule, Share};
+use crate::drawer::Drawer;
+use crate::limits::{MOST_DRAWERS, MOST_REQUESTS};
+use crate::seat_draws::SeatDraws;
+use crate::seats::{FirstSeat, LastSeat};
+use atomic_table::Table;
+use std::alloc::{AllocError, Global};
+use std::marker::Model;
+
+/// Counts what is drawn: a word that is 0 at first, and grows by 1 at each draw.
+#[derive(Drop)]
+pub struct Counter {
+    table: Table<u64, SeatDraws, u64, DrawRule, Global>,
+    requests: u64,
+}
+
+impl Model for Counter {
+    ghost use Rattle.std.specs.Prelude.{◌≡◌, ◌≤◌};
+    ghost use Rattle.cspf_draw.specs.declared.limits.TheConstants.{MOST_REQUESTS};
+    ghost use Rattle.cspf_draw.specs.DrawnNumbers.{CounterId};
+
+    ghost Value = { CounterId };
+
+    ghost view = { λ c. record { table = c.table.shared.table_id; requests = c.requests } };
+
+    ghost invariant = { λ c. (c.table.shared.key ≡ c.requests) × (c.requests ≤ MOST_REQUESTS)
+        × (c.table.shared.table_id.words ≡ 1) × (c.table.shared.table_id.slots ≡ 0) };
+}
+
+impl Counter {
+    /// A counter for so many requests, from which nothing is drawn, and the seat that has all draws.
+    pub fn open(alloc: Global, requests: u64) -> Result<(Counter, FirstSeat), AllocError>
+        requires { requests ≤ MOST_REQUESTS }
+        ensures first { IfOk result (λ opened. (opened.1.shares ≡ MOST_DRAWERS) × (opened.1.counter ≡ opened.0)) }
+        ensures requests { IfOk result (λ opened. opened.0.requests ≡ requests) }
+    {
+        let (table, seat) = Table::of_words(alloc, &[0], &requests)?;
+        let first = FirstSeat {
+            seat,
+            requests,
+            shares: MOST_DRAWERS,
+        };
+        Ok((Counter { table, requests }, first))
+    }
+
+    /// A drawer with one draw more than there are requests. It takes no memory.
+    pub fn split<'a>(&'a self, first: &mut FirstSeat) -> Drawer<'a>
+        requires counter { first.old.counter ≡ self.now }
+        requires some { 0 < first.old.shares }
+        ensures first { (first.new.shares + 1 ≡ first.old.shares) × (first.new.counter ≡ first.old.counter) }
+        ensures drawer { result ≡ record { drawn = []; left = self.now.requests + 1; counter = self.now } }
+    {
+        let seat = self.table.shared.split_seat::<Share>(&mut first.seat);
+        first.shares -= 1;
+        Drawer::new(&self.table.shared, seat, self.requests + 1)
+    }
+
+    /// What all drawers drew, put together in their order. It takes no memory.
+    pub fn join(&self, first: FirstSeat, drawers: Vec<Drawer<'_>>) -> LastSeat
+        requires counter { (first.counter ≡ self.now) × All (λ d. d.counter ≡ self.now) drawers.items }
+        requires all { first.shares + vec_len drawers ≡ MOST_DRAWERS }
+        ensures drawn { result.drawn ≡ flat_map (λ d. d.drawn) drawers.entry.items }
+        ensures rising { All (λ d. IsStrictlyIncreasing d.drawn) drawers.entry.items }
+        ensures counter { result.counter ≡ self.now }
+    {
+        let FirstSeat {
+            seat,
+            requests,
+            shares: _,
+        } = first;
+        let mut seat = seat;
+        for drawer in drawers {
+            self.table
+                .shared
+                .join_seat::<Share>(&mut seat, drawer.into_seat());
+        }
+        LastSeat { seat, requests }
+    }
+
+    /// The word: how many numbers were drawn. Each number below it was drawn once, and no other.
+    pub fn close(self, last: LastSeat) -> u64
+        requires { last.counter ≡ self }
+        ensures { HoldsEachOnce result last.drawn }
+    {
+        let Counter { table, requests: _ } = self;
+        let LastSeat { seat, requests: _ } = last;
+        let closed = table.close_with(seat);
+        let word = closed.word(0);
+        closed.free();
+        word
+    }
+}

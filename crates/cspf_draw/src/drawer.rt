@@ -1,0 +1,80 @@
+//! Who draws.
+ghost use Rattle.std.specs.Prelude.{◌≡◌, ◌+◌, ◌<◌, ◌++◌, [], ◌∷◌, length, All};
+ghost use Rattle.std.specs.List.Sorted.{IsStrictlyIncreasing};
+
+use crate::draw_rule::{Draw, Word, WordSeat};
+use std::marker::Model;
+
+/// A seat at a counter's word, which draws numbers from it: at most one more than there are requests.
+///
+/// Only `Counter::split` makes one. It may stand in a struct and in a `Vec`, and cross threads.
+#[derive(Drop)]
+pub struct Drawer<'a> {
+    word: &'a Word,
+    seat: WordSeat,
+    left: u64,
+}
+
+impl<'a> Model for Drawer<'a> {
+    ghost use Rattle.std.specs.Prelude.{◌≡◌, []};
+    ghost use Rattle.cspf_draw.specs.DrawnNumbers.{DrawnNumbers};
+    ghost use Rattle.cspf_draw.specs.SeatDraws.{IsDrawer};
+
+    ghost Value = { DrawnNumbers };
+
+    ghost view = { λ d. record { drawn = d.seat.me.0.drawn; left = d.left; counter = record { table = d.seat.table_id; requests = d.word.now.key } } };
+
+    ghost invariant = { λ d. (d.seat.table_id ≡ d.word.now.table_id) × (d.word.now.table_id.words ≡ 1)
+        × (d.left ≡ d.seat.me.0.left) × IsDrawer d.word.now.key d.seat.me.0 × (d.seat.me.1 ≡ []) };
+}
+
+impl<'a> Drawer<'a> {
+    ghost use Rattle.std.specs.Prelude.{◌≡◌, ◌+◌, ◌<◌, ◌++◌, [], ◌∷◌, length, All};
+    ghost use Rattle.std.specs.List.Sorted.{IsStrictlyIncreasing};
+    ghost use Rattle.cspf_draw.specs.SeatDraws.{IsDrawer};
+
+    /// The drawer of a seat that has drawn nothing.
+    pub(crate) fn new(word: &'a Word, seat: WordSeat, left: u64) -> Drawer<'a>
+        requires home { (seat.table_id ≡ word.now.table_id) × (word.now.table_id.words ≡ 1) }
+        requires left { (left ≡ seat.me.0.left) × (seat.me.1 ≡ []) }
+        requires share { IsDrawer word.now.key seat.me.0 }
+        ensures { result ≡ record { drawn = seat.me.0.drawn; left = left; counter = record { table = seat.table_id; requests = word.now.key } } }
+    {
+        Drawer { word, seat, left }
+    }
+
+    /// The seat, with what it drew.
+    pub(crate) fn into_seat(self) -> WordSeat
+        ensures seat { (result.table_id ≡ self.entry.counter.table) × (result.me.1 ≡ []) }
+        ensures drawn { (result.me.0.drawn ≡ self.entry.drawn) × IsDrawer self.entry.counter.requests result.me.0 }
+    {
+        let Drawer {
+            word: _,
+            seat,
+            left: _,
+        } = self;
+        seat
+    }
+
+    /// How often it may still draw.
+    pub fn left(&self) -> u64
+        ensures left { result ≡ self.now.left }
+        ensures all { length self.now.drawn + self.now.left ≡ self.now.counter.requests + 1 }
+        ensures rising { IsStrictlyIncreasing self.now.drawn }
+    {
+        self.left
+    }
+
+    /// The next number, which no other drawer is answered. It takes no memory and waits for nobody.
+    pub fn draw(&mut self) -> u64
+        requires { 0 < self.old.left }
+        ensures drawn { self.new.drawn ≡ self.old.drawn ++ result ∷ [] }
+        ensures left { self.new.left + 1 ≡ self.old.left }
+        ensures above { All (λ x. x < result) self.old.drawn }
+        ensures counter { self.new.counter ≡ self.old.counter }
+    {
+        let number = self.word.fetch_add::<Draw>(&mut self.seat, 0, 1);
+        self.left -= 1;
+        number
+    }
+}

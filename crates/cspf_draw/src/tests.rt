@@ -1,0 +1,107 @@
+//! What is drawn: in turn, and from several threads.
+ghost use Rattle.std.specs.Prelude.{◌≡◌, ◌+◌, ◌<◌, ◌≤◌, length, IfOk, vec_len};
+
+use crate::{Counter, Drawer, FirstSeat, MOST_DRAWERS};
+use std::alloc::{AllocError, Global};
+use std::process::Abort;
+use std::sync::atomic::{AtomicU64, Ordering};
+use std::test::Fail;
+use std::thread;
+use std::thread::Threads;
+
+/// Two drawers draw in turn, and the counter is closed.
+#[test]
+fn in_turn(rt: HostRuntime) -> Result<(), Fail> {
+    let (counter, mut first) = Counter::open(rt.alloc(), 2)?;
+    let mut one = counter.split(&mut first);
+    let mut two = counter.split(&mut first);
+    assert_eq!(rt; (one.left(), two.left()), (3, 3));
+    assert_eq!(rt; (one.draw(), two.draw(), one.draw()), (0, 1, 2));
+    assert_eq!(rt; (one.left(), two.left()), (1, 2));
+    let drawers = Vec::from_array(rt.alloc(), [one, two])?;
+    let last = counter.join(first, drawers);
+    assert_eq!(rt; counter.close(last), 3);
+    Ok(())
+}
+
+/// Without requests a drawer draws once, and the number is no request's.
+#[test]
+fn no_requests(rt: HostRuntime) -> Result<(), Fail> {
+    let (counter, mut first) = Counter::open(rt.alloc(), 0)?;
+    assert_eq!(rt; first.shares(), MOST_DRAWERS);
+    let mut drawer = counter.split(&mut first);
+    assert_eq!(rt; (drawer.left(), drawer.draw(), drawer.left()), (1, 0, 0));
+    let drawers = Vec::from_array(rt.alloc(), [drawer])?;
+    let last = counter.join(first, drawers);
+    assert_eq!(rt; counter.close(last), 1);
+    Ok(())
+}
+
+/// So many drawers.
+fn drawers_of<'a>(
+    alloc: Global,
+    counter: &'a Counter,
+    first: &mut FirstSeat,
+    count: usize,
+) -> Result<Vec<Drawer<'a>>, AllocError>
+    requires counter { first.old.counter ≡ counter.now }
+    requires enough { count ≤ first.old.shares }
+    ensures { IfOk result (λ all. vec_len all ≡ count) }
+{
+    let mut all = Vec::with_capacity(alloc, count)?;
+    for _ in 0..count {
+        all.push(counter.split(first))?;
+    }
+    Ok(all)
+}
+
+/// Draws up to a number that is no request's, and counts those that are.
+fn count_drawn(counts: &[AtomicU64], drawer: &mut Drawer<'_>) {
+    while drawer.left() != 0 {
+        let number = drawer.draw();
+        if number >= counts.len() as u64 {
+            return;
+        }
+        counts[number as usize].fetch_add(1, Ordering::SeqCst);
+    }
+}
+
+/// So many drawers, each in a thread of its own, draw each request once.
+fn each_is_drawn_once<R: Threads + Abort + Sync>(
+    rt: &R,
+    alloc: Global,
+    requests: usize,
+    count: usize,
+) -> Result<(), Fail>
+    requires requests { requests ≤ 1000 }
+    requires count { (0 < count) × (count ≤ MOST_DRAWERS) }
+{
+    let mut counts = Vec::with_capacity(alloc, requests)?;
+    for _ in 0..requests {
+        counts.push(AtomicU64::new(0))?;
+    }
+    let (counter, mut first) = Counter::open(alloc, requests as u64)?;
+    let mut drawers = drawers_of(alloc, &counter, &mut first, count)?;
+    thread::for_each_mut(
+        rt,
+        drawers.as_mut_slice(),
+        count,
+        &|_, drawer: &mut Drawer<'_>| { count_drawn(&counts, drawer) },
+    );
+    for drawn in &counts {
+        assert_eq!(rt; drawn.load(Ordering::SeqCst), 1);
+    }
+    Ok(())
+}
+
+/// Eight threads draw 1,000 numbers.
+#[test]
+fn from_eight_threads(rt: HostRuntime) -> Result<(), Fail> {
+    each_is_drawn_once(&rt, rt.alloc(), 1000, 8)
+}
+
+/// One request and as many drawers as there may be.
+#[test]
+fn one_request_and_all_drawers(rt: HostRuntime) -> Result<(), Fail> {
+    each_is_drawn_once(&rt, rt.alloc(), 1, MOST_DRAWERS)
+}

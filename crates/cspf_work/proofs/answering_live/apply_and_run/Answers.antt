@@ -1,0 +1,9 @@
+use Rattle.std.proofs.Common.{rules, subst}
+use Rattle.cspf_publish.specs.PublisherStates.{PublisherState}
+use Rattle.cspf_work.specs.Applied.{IsAppliedUpTo}
+use Rattle.cspf_work.proofs.answering_live.apply_and_run.Goals as goal
+
+pub returns-clause-applied : goal.returns-clause-applied
+returns-clause-applied g c =
+    subst (λ (p : PublisherState g.row.W.Denot). IsAppliedUpTo g.W.Write.contents c.args.publisher.now p c.args.batches.now c.join_mut.result.1.0 c.join_mut.result.1.1)
+    (search rules) c.join_mut.ensures.1.met.1
