@@ -22,7 +22,7 @@ use std::marker::Model;
 pub(crate) type ReplicaReader = Reader<Replica, SeatView, ReplicaRule>;
 
 /// Asks, and knows the batches up to the last version that it saw or learnt of. One thread uses it
-/// at a time, and it may be moved to another thread. Its calls are wait-free.
+/// at a time, and it may be moved to another thread. Its calls wait for nobody.
 #[derive(Drop)]
 pub struct Asker {
     reader: ReplicaReader,

@@ -1,11 +1,11 @@
 //! Published copies of the database: one publisher applies batches, and askers in threads of their
 //! own are answered from the last published version without waiting.
 //!
-//! Its calls are linearizable: a batch takes effect at one step, the swap of two replicas of the
-//! table, and an ask takes effect at one step, the entering of a replica. `specs/Histories.antt` says which lists of batches may be
-//! published, `specs/KnownBatches.antt` what a publisher, an asker or a told token knows of one,
-//! and `specs/ReplicaRule.antt` the rule that holds between any two steps, and what each kind of
-//! step does.
+//! A batch takes effect at one step, the swap of two replicas of the table, and an ask at one step,
+//! the entering of a replica. `specs/Histories.antt` says which lists of batches may be published,
+//! `specs/KnownBatches.antt` what a publisher, an asker or a told token knows of one, and
+//! `specs/ReplicaRule.antt` the rule that holds between any two steps, and what each kind of step
+//! does.
 #![tactic(auto)]
 
 mod answer;

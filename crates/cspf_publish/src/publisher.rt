@@ -91,7 +91,7 @@ impl<W: Write> Publisher<W> {
         self.replicas.version()
     }
 
-    /// Tells what is published. It is wait-free.
+    /// Tells what is published. It waits for nobody.
     pub fn tell(&mut self) -> Told
         ensures batches { result.batches ≡ self.old.batches }
         ensures source { result.source ≡ self.old.source }
