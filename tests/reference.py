@@ -1,80 +1,269 @@
-"""The reply to a request, from the formats' own words: all that the proved program is compared with.
+"""What `routed` writes, from the formats' own words (docs/FORMATS.md): all that the proved program is compared with.
 
-Small and slow on purpose. Walks are kept whole, and ordered as docs/FORMATS.md says: by cost, then
-by the number of links, then by their local addresses as numbers from the first on.
+Small and slow on purpose; nothing in it is taken from the program. Streams are text whose characters are
+bytes (latin-1). What isn't accepted is raised as Refused, whose text is the words of the refusal.
 """
 import heapq
+import re
+
+MOST_ROWS = 1_000_000  # of a stream
+MOST_VERSIONS = 1_000_000
+MOST_CHANGES = 4_096  # of a batch
+MOST_LINKS = 16_384  # of a database
+MOST_ROUTERS = 1_024
+MOST_HOPS = 7
+
+OCTET = "(?:25[0-5]|2[0-4][0-9]|1[0-9][0-9]|[1-9]?[0-9])"
+ADDRESS = rf"{OCTET}(?:\.{OCTET}){{3}}"
+DECIMAL = "0|[1-9][0-9]*"
+QUOTED = '"([^"]*(?:""[^"]*)*)(?:"|\\Z)'
+FIELD = re.compile(rf"(?:{QUOTED})?([^,\r\n]*)")
+BYTE_ORDER_MARK = "\xef\xbb\xbf"
 
 
-def number(text):
+class Refused(Exception):
+    """Its text is the words of the refusal."""
+
+
+# ---- rows
+
+
+def records(stream):
+    """The rows of a stream, each a list of fields.
+
+    A row ends at a line feed or a carriage return, and an empty line is no row."""
+    at = len(BYTE_ORDER_MARK) if stream.startswith(BYTE_ORDER_MARK) else 0
+    while at < len(stream):
+        if stream[at] in "\r\n":
+            at += 1
+            continue
+        fields = []
+        while True:
+            field, at = field_from(stream, at)
+            fields.append(field)
+            if stream[at:at + 1] != ",":
+                break
+            at += 1
+        yield fields
+        at += 1
+
+
+def field_from(stream, at):
+    """The field that begins there, and where it ends.
+
+    A quote at its front opens a part in quotes, in which commas and line ends are part of the field and
+    two quotes are one. It runs to the next single quote, or to the end of the stream. What stands behind
+    it belongs to the field as it is, as does a quote anywhere else."""
+    found = FIELD.match(stream, at)
+    return (found[1] or "").replace('""', '"') + found[2], found.end()
+
+
+def number(fields, field, bits):
+    """Decimal digits without leading zeros, below 2^bits."""
+    digits = fields[field - 1]
+    if not re.fullmatch(DECIMAL, digits) or len(digits) > 20 or int(digits) >= 2 ** bits:
+        raise Refused(f"number {field}")
+    return int(digits)
+
+
+def priority(fields, field):
+    setup = number(fields, field, 32)
+    if setup > 7:
+        raise Refused("priority")
+    return setup
+
+
+def mask(fields, field):
+    if not re.fullmatch("0x[0-9A-Fa-f]{1,8}", fields[field - 1]):
+        raise Refused(f"mask {field}")
+    return int(fields[field - 1], 16)
+
+
+def address(fields, field):
+    if not re.fullmatch(ADDRESS, fields[field - 1]):
+        raise Refused(f"address {field}")
+    return address_number(fields[field - 1])
+
+
+def address_number(text):
     a, b, c, d = map(int, text.split("."))
     return ((a * 256 + b) * 256 + c) * 256 + d
 
 
-def covers(prefix, bits, address):
-    return prefix >> (32 - bits) == address >> (32 - bits)
+def address_text(value):
+    return ".".join(str(value >> shift & 255) for shift in (24, 16, 8, 0))
 
 
-def hops_of(field):
-    """Pairs of a prefix (address, bits) and whether the hop is loose."""
-    if field.startswith("ero:"):
-        data = bytes.fromhex(field[4:])[4:]
-        parts = [data[at:at + 8] for at in range(0, len(data), 8)]
-        return [((int.from_bytes(part[2:6], "big"), part[6]), part[0] >= 128) for part in parts]
-    hops = []
-    for part in field.split():
-        prefix, bits = part[:-1].split("/")
-        hops.append(((number(prefix), int(bits)), part[-1] == "l"))
-    return hops
+def put(fields):
+    link = {
+        "from": address(fields, 2), "local": address(fields, 3),
+        "to": address(fields, 4), "remote": address(fields, 5),
+        "metric": number(fields, 6, 32), "group": mask(fields, 7),
+        "free": [number(fields, field, 64) for field in range(8, 16)],
+    }
+    if link["from"] == link["to"]:
+        raise Refused("self-link")
+    return link
+
+
+def drop(fields):
+    return {"from": address(fields, 2), "local": address(fields, 3)}
+
+
+def end(fields):
+    return {"number": number(fields, 2, 32), "count": number(fields, 3, 32)}
+
+
+def ask(fields):
+    request = {
+        "id": number(fields, 2, 64), "from": address(fields, 3), "to": address(fields, 4),
+        "setup": priority(fields, 5), "bandwidth": number(fields, 6, 64),
+        "exclude_any": mask(fields, 7), "include_any": mask(fields, 8), "include_all": mask(fields, 9),
+        "hops": hops(fields[9]),
+    }
+    if request["from"] == request["to"]:
+        raise Refused("same-ends")
+    return request
+
+
+def row(fields):
+    """The kind of a row, and what it says. Its fields are read from left to right, and the first bad one is named."""
+    kinds = {"put": (put, 15), "drop": (drop, 3), "end": (end, 3), "ask": (ask, 10)}
+    if fields[0] not in kinds:
+        raise Refused("kind")
+    read, count = kinds[fields[0]]
+    if len(fields) != count:
+        raise Refused("fields")
+    return fields[0], read(fields)
+
+
+# ---- hops: each an address, the length of its prefix, and whether it is loose
+
+
+def hops(field):
+    if field == "":
+        return []
+    if not field.startswith("ero:"):
+        return hop_list(field)
+    digits = field[4:]
+    if not re.fullmatch("(?:[0-9A-Fa-f]{2})*", digits):
+        raise Refused("hops hex")
+    return hops_of_object(bytes.fromhex(digits))
+
+
+def hop_list(text):
+    """Each space cuts, so two in a row have an empty part between them, which is no hop."""
+    parts = text.split(" ")
+    if len(parts) > MOST_HOPS:
+        raise Refused("hops count")
+    return [hop(part, place) for place, part in enumerate(parts, 1)]
+
+
+def hop(text, place):
+    found = re.fullmatch(rf"({ADDRESS})/({DECIMAL})([sl])", text)
+    if not found or len(found[2]) > 2 or int(found[2]) > 32:
+        raise Refused(f"hops {place}")
+    return address_number(found[1]), int(found[2]), found[3] == "l"
+
+
+def hops_of_object(data):
+    """The hops of a route object: a header, and subobjects of 8 bytes."""
+    if len(data) < 4:
+        raise Refused("hops ero short")
+    if int.from_bytes(data[:2], "big") != len(data) or len(data) % 4 != 0:
+        raise Refused("hops ero length")
+    if data[2] != 20 or data[3] != 1:
+        raise Refused("hops ero class")
+    if len(data) == 4:
+        raise Refused("hops ero empty")
+    found, at = [], 4
+    while at < len(data):
+        if len(found) == MOST_HOPS:
+            raise Refused("hops ero count")
+        found.append(hop_of_subobject(data[at:at + 8]))
+        at += 8
+    return found
+
+
+def hop_of_subobject(data):
+    """The bit L above the type, the length, the address, the length of the prefix, and padding."""
+    if data[0] & 127 != 1:
+        raise Refused("hops ero unsupported")
+    if len(data) < 8 or data[1] != 8:
+        raise Refused("hops ero sublength")
+    if data[6] > 32:
+        raise Refused("hops ero prefix-length")
+    return int.from_bytes(data[2:6], "big"), data[6], data[0] >= 128
+
+
+def covers(prefix, bits, value):
+    return prefix >> (32 - bits) == value >> (32 - bits)
+
+
+# ---- the database
 
 
 class Network:
-    """Links by their keys, as put and drop rows leave them."""
+    """Links by their keys, the router and the local address."""
 
-    def __init__(self):
-        self.links = {}
+    def __init__(self, links=()):
+        self.links = dict(links)
 
-    def change(self, fields):
-        key = (number(fields[1]), number(fields[2]))
-        if fields[0] == "drop":
-            del self.links[key]
-        else:
-            self.links[key] = {
-                "from": key[0], "local": key[1], "to": number(fields[3]), "remote": number(fields[4]),
-                "metric": int(fields[5]), "group": int(fields[6], 16), "free": list(map(int, fields[7:15])),
-            }
+    def after(self, changes):
+        """The network after a batch, a list of put and drop rows. The first refusal that applies is raised."""
+        keys = [(change["from"], change["local"]) for _, change in changes]
+        if len(keys) > MOST_CHANGES:
+            raise Refused("long")
+        seen = set()
+        for place, key in enumerate(keys, 1):
+            if key in seen:
+                raise Refused(f"duplicate {place}")
+            seen.add(key)
+        for place, key in enumerate(keys, 1):
+            if changes[place - 1][0] == "drop" and key not in self.links:
+                raise Refused(f"absent {place}")
+        result = Network(self.links)
+        for key, (kind, change) in zip(keys, changes):
+            if kind == "put":
+                result.links[key] = change
+            else:
+                del result.links[key]
+        if len(result.links) > MOST_LINKS:
+            raise Refused("full")
+        if len(result.routers()) > MOST_ROUTERS:
+            raise Refused("routers")
+        return result
 
     def routers(self):
-        return {end for link in self.links.values() for end in (link["from"], link["to"])}
+        return {router for link in self.links.values() for router in (link["from"], link["to"])}
 
-    def owners(self, prefix):
-        own = {router for router in self.routers() if covers(*prefix, router)}
-        return own | {link["from"] for link in self.links.values() if covers(*prefix, link["local"])}
+    def owners(self, prefix, bits):
+        """The routers with an address that the prefix covers: their own, or the local one of any link from them."""
+        own = {router for router in self.routers() if covers(prefix, bits, router)}
+        return own | {link["from"] for link in self.links.values() if covers(prefix, bits, link["local"])}
 
-    def least(self, fields):
-        """The links of the least route, None where there is none."""
-        start, end, setup, bandwidth = number(fields[2]), number(fields[3]), int(fields[4]), int(fields[5])
-        exclude, any_of, all_of = (int(field, 16) for field in fields[6:9])
-        hops = hops_of(fields[9])
-        targets = [{start}] + [self.owners(prefix) for prefix, _ in hops] + [{end}]
-        loose = [True] + [is_loose for _, is_loose in hops] + [True]
-        links = [
-            link for link in self.links.values()
-            if not link["group"] & exclude and (not any_of or link["group"] & any_of)
-            and link["group"] & all_of == all_of and link["free"][setup] >= bandwidth
-        ]
+    def least(self, request):
+        """The links of the least route, None where there is none.
+
+        Walks are kept whole, and ordered by cost, then by the number of links, then by their local
+        addresses as numbers from the first on. In leg i a walk is on its way to hop i; the last leg ends
+        at the tail-end."""
+        targets = [{request["from"]}, *(self.owners(prefix, bits) for prefix, bits, _ in request["hops"]), {request["to"]}]
+        loose = [True, *(is_loose for _, _, is_loose in request["hops"]), True]
+        last = len(targets) - 1
         out = {}
-        for link in links:
-            out.setdefault(link["from"], []).append(link)
-        heap, settled, drawn = [(0, 0, 1, (), 0, start, ())], set(), 0
+        for link in self.links.values():
+            if admissible(link, request):
+                out.setdefault(link["from"], []).append(link)
+        heap, settled, drawn = [(0, 0, 1, (), 0, request["from"], ())], set(), 0
         while heap:
             cost, count, leg, locals_, _, router, walk = heapq.heappop(heap)
             if (leg, router) in settled:
                 continue
             settled.add((leg, router))
-            if leg == len(hops) + 1 and router == end:
+            if leg == last and router == request["to"]:
                 return walk
-            if leg <= len(hops) and router in targets[leg]:
+            if leg < last and router in targets[leg]:
                 drawn += 1
                 heapq.heappush(heap, (cost, count, leg + 1, locals_, drawn, router, walk))
             for link in out.get(router, []):
@@ -84,21 +273,235 @@ class Network:
                     heapq.heappush(heap, (cost + link["metric"], count + 1, leg, locals_ + (link["local"],), drawn, to, walk + (link,)))
         return None
 
-    def reply(self, version, row):
-        """The reply line to an ask row, without its line feed."""
-        fields = row.strip("\n").split(",")
-        head = f"ask {fields[1]} v{version}"
+    def answer(self, version, request):
+        """The reply line, without its line feed."""
+        head = f"ask {request['id']} v{version}"
         routers = self.routers()
-        if number(fields[2]) not in routers:
+        if request["from"] not in routers:
             return f"{head} unknown-from"
-        if number(fields[3]) not in routers:
+        if request["to"] not in routers:
             return f"{head} unknown-to"
-        walk = self.least(fields)
+        walk = self.least(request)
         if walk is None:
             return f"{head} none"
-        stops = [walk[0]["from"]] + [link["to"] for link in walk]
+        stops = [request["from"], *(link["to"] for link in walk)]
         again = "no" if len(set(stops)) == len(stops) else "yes"
-        parts = b"".join(bytes([1, 8]) + link["remote"].to_bytes(4, "big") + bytes([32, 0]) for link in walk)
-        ero = ((4 + len(parts)).to_bytes(2, "big") + bytes([20, 1]) + parts).hex()
         cost = sum(link["metric"] for link in walk)
-        return f"{head} route cost={cost} hops={len(walk)} again={again} ero={ero}"
+        return f"{head} route cost={cost} hops={len(walk)} again={again} ero={object_of(walk)}"
+
+    def change(self, fields):
+        """A put or drop row takes effect at once."""
+        self.links = self.after([row(fields)]).links
+
+    def reply(self, version, text):
+        """The reply line to the text of an ask row."""
+        return self.answer(version, row(next(records(text)))[1])
+
+
+def admissible(link, request):
+    """The three affinity tests, and the bandwidth at the setup priority."""
+    if link["group"] & request["exclude_any"]:
+        return False
+    if request["include_any"] and not link["group"] & request["include_any"]:
+        return False
+    if link["group"] & request["include_all"] != request["include_all"]:
+        return False
+    return link["free"][request["setup"]] >= request["bandwidth"]
+
+
+def object_of(walk):
+    """The object of a route: a strict subobject of prefix length 32 for each link, with its remote address."""
+    parts = b"".join(bytes([1, 8, *link["remote"].to_bytes(4, "big"), 32, 0]) for link in walk)
+    return ((4 + len(parts)).to_bytes(2, "big") + bytes([20, 1]) + parts).hex()
+
+
+# ---- runs: each gives its status and its lines
+
+
+def solve(rows):
+    network, version, changes, lines, refused = Network(), 0, [], [], False
+    for place, fields in enumerate(records(rows), 1):
+        if place > MOST_ROWS:
+            return 2, [*lines, "too many rows"]
+        try:
+            kind, content = row(fields)
+        except Refused as words:
+            lines.append(f"row {place} refused: {words}")
+            refused = True
+            continue
+        if kind == "ask":
+            lines.append(network.answer(version, content))
+        elif kind != "end":
+            changes.append((kind, content))
+        else:
+            try:
+                network = ended(network, version, changes, content)
+                version += 1
+                lines.append(f"version {version}")
+            except Refused as words:
+                lines.append(f"batch {content['number']} refused: {words}")
+                refused = True
+            changes = []
+    if changes:
+        lines.append(f"unended {len(changes)}")
+    return 2 if refused or changes else 0, lines
+
+
+def ended(network, version, changes, content):
+    """The network after an end row."""
+    if version == MOST_VERSIONS:
+        raise Refused("exhausted")
+    if content["number"] != version + 1:
+        raise Refused(f"expected {version + 1}")
+    if content["count"] != len(changes):
+        raise Refused(f"counted {len(changes)}")
+    return network.after(changes)
+
+
+def journal_rows(journal):
+    """The rows of a journal, None for a refused one."""
+    rows = []
+    for place, fields in enumerate(records(journal), 1):
+        if place > MOST_ROWS:
+            raise Refused("too many rows")
+        try:
+            rows.append(row(fields))
+        except Refused:
+            rows.append(None)
+    return rows
+
+
+def whole_batches(journal, accept_torn=False):
+    """The longest front of a journal's rows that is whole batches numbered from 1. It is torn where a row stands behind that."""
+    rows, batches, changes, front = journal_rows(journal), [], [], 0
+    for place, found in enumerate(rows, 1):
+        if found and found[0] in ("put", "drop"):
+            changes.append(found)
+        elif found == ("end", {"number": len(batches) + 1, "count": len(changes)}):
+            batches.append(changes)
+            changes, front = [], place
+        else:
+            break
+    if front < len(rows) and not accept_torn:
+        raise Refused(f"journal torn after {len(batches)}")
+    return batches
+
+
+def requests_of(stream):
+    """The requests of a stream, up to its first bad row."""
+    requests = []
+    for place, fields in enumerate(records(stream), 1):
+        if place > MOST_ROWS:
+            raise Refused("too many rows")
+        try:
+            kind, content = row(fields)
+            if kind != "ask":
+                raise Refused("kind")
+        except Refused as words:
+            raise Refused(f"request row {place} refused: {words}")
+        requests.append(content)
+    return requests
+
+
+def publish(batches):
+    """The networks from version 0 on, and the line of the first batch that doesn't fit, if any does not."""
+    networks = [Network()]
+    for place, changes in enumerate(batches, 1):
+        try:
+            networks.append(networks[-1].after(changes))
+        except Refused as words:
+            return networks, f"batch {place} refused: {words}"
+    return networks, None
+
+
+def batch(journal, requests, accept_torn=False):
+    try:
+        batches, asked = whole_batches(journal, accept_torn), requests_of(requests)
+    except Refused as line:
+        return 2, [str(line)]
+    networks, fault = publish(batches)
+    last = len(networks) - 1
+    versions = [f"version {version}" for version in range(1, last + 1)]
+    if fault:
+        return 2, [*versions, fault]
+    return 0, [*versions, *(networks[last].answer(last, request) for request in asked)]
+
+
+def live(updates, requests, named):
+    """A run by one worker, and the journal that it writes.
+
+    `named` has the version that each reply names. Any is right that is published and not below the one
+    before; in place of another the nearest right one is taken, so that its reply differs."""
+    try:
+        batches, asked = whole_batches(updates), requests_of(requests)
+    except Refused as line:
+        return 2, [str(line)], ""
+    networks, fault = publish(batches)
+    last, version, replies = len(networks) - 1, 0, []
+    for place, request in enumerate(asked):
+        version = max(version, min(last, named[place] if place < len(named) else last))
+        replies.append(networks[version].answer(version, request))
+    journal = "".join(batch_text(place, changes) for place, changes in enumerate(batches[:last], 1))
+    return 2 if fault else 0, [*replies, f"applied {last}", *([fault] if fault else [])], journal
+
+
+def batch_text(place, changes):
+    """The lines of a batch in a journal."""
+    rows = []
+    for kind, change in changes:
+        fields = [kind, address_text(change["from"]), address_text(change["local"])]
+        if kind == "put":
+            fields += [address_text(change["to"]), address_text(change["remote"]), change["metric"], f"0x{change['group']:08x}", *change["free"]]
+        rows.append(",".join(map(str, fields)))
+    return "".join(f"{line}\n" for line in [*rows, f"end,{place},{len(changes)}"])
+
+
+# ---- the judgement of reply lines
+
+
+def audit(journal, requests, replies):
+    """The journal, its batches, the requests, their ids and the replies are taken in this order."""
+    try:
+        networks, fault = publish(whole_batches(journal))
+        if fault:
+            raise Refused(fault)
+        asked = {}
+        for place, request in enumerate(requests_of(requests), 1):
+            if request["id"] in asked:
+                raise Refused(f"request row {place} refused: same-id")
+            asked[request["id"]] = request
+        lines = replies.split("\n")
+        if lines[-1] == "":
+            lines.pop()
+        if len(lines) > MOST_ROWS:
+            raise Refused("too many rows")
+    except Refused as line:
+        return 2, [str(line)]
+    good, faults, named = 0, [], set()
+    for place, line in enumerate(lines, 1):
+        if line.split(" ")[0] in ("version", "applied", "batch"):
+            continue
+        try:
+            judge(line, networks, asked, named)
+            good += 1
+        except Refused as words:
+            faults.append(f"line {place} {words}")
+    faults += [f"request {name} unanswered" for name in asked if name not in named]
+    return 2 if faults else 0, [*faults, f"good={good} faults={len(faults)}"]
+
+
+def judge(line, networks, asked, named):
+    """Refuses a reply line by the first fault that applies. `named` are the ids of the lines before it, and gets its id."""
+    found = re.match(rf"ask ({DECIMAL}) v({DECIMAL}) ", line)
+    if not found or len(found[1]) > 20 or int(found[1]) >= 2 ** 64 or len(found[2]) > 10 or int(found[2]) >= 2 ** 32:
+        raise Refused("unread")
+    name, version, doubled = int(found[1]), int(found[2]), int(found[1]) in named
+    named.add(name)
+    if name not in asked:
+        raise Refused("foreign")
+    if doubled:
+        raise Refused("doubled")
+    if version >= len(networks):
+        raise Refused("no-version")
+    if line != networks[version].answer(version, asked[name]):
+        raise Refused("altered")

@@ -1,5 +1,5 @@
 -- Small networks, and which of their walks are routes.
-use Rattle.std.specs.Prelude.{◌≡◌, ◌≢◌, ℕ, ◌+◌, ◌*◌, Bool, true, false, List, [], ◌∷◌, replicate, refl}
+use Rattle.std.specs.Prelude.{◌≡◌, ◌≢◌, ℕ, ◌+◌, ◌*◌, Bool, true, false, List, [], ◌∷◌, eqb, replicate, refl}
 use Rattle.std.specs.declared.cmp.Ordering.TheVariants.{Less}
 use Rattle.std.proofs.lemmas.Bool.{eqb-false}
 use Rattle.cspf_addr.specs.declared.hop.Hop.{Hop}
@@ -56,52 +56,45 @@ abbrev pub hop : ℕ → ℕ → Bool → Hop
 hop first length loose =
     record { prefix = record { address = first; length = length }; loose = loose }
 
+-- a link of the metric between two routers with the addresses 10.0.n.x and 10.0.n.y there
+abbrev pub link_by : (from to metric n x y : ℕ) → eqb from to ≡ false → Link
+link_by from to metric n x y apart =
+    link from (address 10 0 n x) to (address 10 0 n y) metric 1000 (eqb-false from to apart)
+
 -- First network: from 1.1.1.1 the ways to 4.4.4.4 lead to 10.9.0.1 first, straight or by 3.3.3.3 or
--- by 10.9.0.2. from 1.1.1.1 to 3.3.3.3, of metric 1
-abbrev pub from_1_to_3 : Link
-from_1_to_3 =
-    link (router 1) (address 10 0 1 1) (router 3) (address 10 0 1 3) 1 1000
-    (eqb-false (router 1) (router 3) refl)
-
--- from 1.1.1.1 to 10.9.0.1, of metric 10
+-- by 10.9.0.2. from 1.1.1.1 to 10.9.0.1, of metric 10
 abbrev pub from_1_to_inner_1 : Link
-from_1_to_inner_1 =
-    link (router 1) (address 10 0 2 1) (inner 1) (address 10 0 2 2) 10 1000
-    (eqb-false (router 1) (inner 1) refl)
-
--- from 1.1.1.1 to 10.9.0.2, of metric 2
-abbrev pub from_1_to_inner_2 : Link
-from_1_to_inner_2 =
-    link (router 1) (address 10 0 3 1) (inner 2) (address 10 0 3 2) 2 1000
-    (eqb-false (router 1) (inner 2) refl)
-
--- from 3.3.3.3 to 10.9.0.1, of metric 1
-abbrev pub from_3_to_inner_1 : Link
-from_3_to_inner_1 =
-    link (router 3) (address 10 0 4 3) (inner 1) (address 10 0 4 1) 1 1000
-    (eqb-false (router 3) (inner 1) refl)
+from_1_to_inner_1 = link_by (router 1) (inner 1) 10 2 1 2 refl
 
 -- from 10.9.0.1 to 4.4.4.4, of metric 1
 abbrev pub from_inner_1_to_4 : Link
-from_inner_1_to_4 =
-    link (inner 1) (address 10 0 5 1) (router 4) (address 10 0 5 4) 1 1000
-    (eqb-false (inner 1) (router 4) refl)
+from_inner_1_to_4 = link_by (inner 1) (router 4) 1 5 1 4 refl
+
+-- from 1.1.1.1 to 3.3.3.3, of metric 1
+abbrev pub from_1_to_3 : Link
+from_1_to_3 = link_by (router 1) (router 3) 1 1 1 3 refl
+
+-- from 3.3.3.3 to 10.9.0.1, of metric 1
+abbrev pub from_3_to_inner_1 : Link
+from_3_to_inner_1 = link_by (router 3) (inner 1) 1 4 3 1 refl
+
+-- the way by 3.3.3.3
+abbrev pub way_outside : List Link
+way_outside = from_1_to_3 ∷ from_3_to_inner_1 ∷ from_inner_1_to_4 ∷ []
+
+-- from 1.1.1.1 to 10.9.0.2, of metric 2
+abbrev pub from_1_to_inner_2 : Link
+from_1_to_inner_2 = link_by (router 1) (inner 2) 2 3 1 2 refl
 
 -- from 10.9.0.2 to 10.9.0.1, of metric 3
 abbrev pub from_inner_2_to_inner_1 : Link
-from_inner_2_to_inner_1 =
-    link (inner 2) (address 10 0 6 2) (inner 1) (address 10 0 6 1) 3 1000
-    (eqb-false (inner 2) (inner 1) refl)
+from_inner_2_to_inner_1 = link_by (inner 2) (inner 1) 3 6 2 1 refl
 
 -- the links of the first network
 abbrev pub six_links : List Link
 six_links =
     from_1_to_3 ∷ from_1_to_inner_1 ∷ from_1_to_inner_2 ∷ from_3_to_inner_1
     ∷ from_inner_1_to_4 ∷ from_inner_2_to_inner_1 ∷ []
-
--- the way by 3.3.3.3
-abbrev pub way_outside : List Link
-way_outside = from_1_to_3 ∷ from_3_to_inner_1 ∷ from_inner_1_to_4 ∷ []
 
 -- the way by 10.9.0.2
 abbrev pub way_inside : List Link
@@ -122,15 +115,11 @@ first_router_hop = hop (router 1) 32 false
 -- Second network: from 1.1.1.1 a way leads by 2.2.2.2 to 3.3.3.3. A further link from 2.2.2.2 has
 -- no bandwidth left. from 1.1.1.1 to 2.2.2.2
 abbrev pub from_1_to_2 : Link
-from_1_to_2 =
-    link (router 1) (address 10 0 12 1) (router 2) (address 10 0 12 2) 10 1000
-    (eqb-false (router 1) (router 2) refl)
+from_1_to_2 = link_by (router 1) (router 2) 10 12 1 2 refl
 
 -- from 2.2.2.2 to 3.3.3.3
 abbrev pub from_2_to_3 : Link
-from_2_to_3 =
-    link (router 2) (address 10 0 23 2) (router 3) (address 10 0 23 3) 10 1000
-    (eqb-false (router 2) (router 3) refl)
+from_2_to_3 = link_by (router 2) (router 3) 10 23 2 3 refl
 
 -- from 2.2.2.2 by 172.16.0.2 to 4.4.4.4, with no bandwidth
 abbrev pub from_2_to_4 : Link

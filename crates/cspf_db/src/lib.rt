@@ -24,6 +24,4 @@ pub use request::{Request, RequestError};
 pub use table::Table;
 
 #[cfg(test)]
-mod table_tests;
-#[cfg(test)]
 mod tests;

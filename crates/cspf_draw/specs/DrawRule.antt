@@ -10,7 +10,7 @@ use Rattle.cspf_draw.specs.SeatDraws.{with_number}
 abbrev pub word_of : State ℕ SeatDraws → ℕ
 word_of s = slice_index s.words 0
 
--- With so many requests: each number below the word stands in one seat's list, once, and no other number stands in
+-- With a number of requests: each number below the word stands in one seat's list, once, and no other number stands in
 -- any. The word and all draws that are left add up to the draws of all drawers, so the word never wraps.
 pub record HoldsBetweenSteps (requests : ℕ) (s : State ℕ SeatDraws) : Type 0 where
   pub one_word : length s.words ≡ 1

@@ -7,7 +7,7 @@ use Rattle.cspf_draw.specs.declared.seat_draws.SeatDraws.{SeatDraws}
 abbrev pub seat_draws : List ℕ → ℕ → ℕ → SeatDraws
 seat_draws drawn left share = record { drawn = drawn; left = left; share = share }
 
--- the first seat for so many requests: enough for all drawers, each of which may draw once more than there are requests
+-- the first seat for a number of requests: enough for all drawers, each of which may draw once more than there are requests
 abbrev pub all_draws : ℕ → SeatDraws
 all_draws requests = seat_draws [] (MOST_DRAWERS * (requests + 1)) (requests + 1)
 

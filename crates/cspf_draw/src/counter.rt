@@ -33,7 +33,7 @@ impl Model for Counter {
 }
 
 impl Counter {
-    /// A counter for so many requests, from which nothing is drawn, and the seat that has all draws.
+    /// A counter for requests, from which nothing is drawn, and the seat that has all draws.
     pub fn open(alloc: Global, requests: u64) -> Result<(Counter, FirstSeat), AllocError>
         requires { requests ≤ MOST_REQUESTS }
         ensures first { IfOk result (λ opened. (opened.1.shares ≡ MOST_DRAWERS) × (opened.1.counter ≡ opened.0)) }

@@ -37,7 +37,7 @@ fn no_requests(rt: HostRuntime) -> Result<(), Fail> {
     Ok(())
 }
 
-/// So many drawers.
+/// A number of drawers.
 fn drawers_of<'a>(
     alloc: Global,
     counter: &'a Counter,
@@ -66,7 +66,7 @@ fn count_drawn(counts: &[AtomicU64], drawer: &mut Drawer<'_>) {
     }
 }
 
-/// So many drawers, each in a thread of its own, draw each request once.
+/// Drawers, each in a thread of its own, draw each request once.
 fn each_is_drawn_once<R: Threads + Abort + Sync>(
     rt: &R,
     alloc: Global,

@@ -5,3 +5,4 @@ pub mod Subobjects
 pub mod Spelling
 pub mod RoutesRead
 pub mod FirstBytes
+pub mod HeadReading

@@ -1,4 +1,5 @@
 ghost use Rattle.cspf_ero.specs.Laws.{AreObjectsRead, SpellsOneHopList, AreRoutesReadBack};
+ghost use Rattle.cspf_ero.specs.ReplyHead.{HasOneHead};
 
 /// Law: bytes are read as hops exactly where they are an object that spells them, and they spell
 /// one list of hops at most.
@@ -10,4 +11,9 @@ pub fn objects_are_read()
 /// Law: the object that is written for a route of 1 to 7 links is read as its hops.
 pub fn routes_are_read_back()
     ensures { AreRoutesReadBack }
+{}
+
+/// Law: a line begins with one id and version at most.
+pub fn one_head()
+    ensures { HasOneHead }
 {}

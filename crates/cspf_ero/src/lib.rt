@@ -1,18 +1,21 @@
 //! EXPLICIT_ROUTE objects as bytes, and the lines that answer requests.
 //!
 //! `specs/Objects.antt` defines which bytes spell which hops and what is written for a route,
-//! `specs/Reading.antt` what is read or the first refusal, and `specs/ReplyLine.antt` the lines.
+//! `specs/Reading.antt` what is read or the first refusal, `specs/ReplyLine.antt` the lines, and
+//! `specs/ReplyHead.antt` what a line begins with.
 //! Reading takes no memory.
 #![tactic(auto)]
 
 mod ero_error;
+mod head;
 mod laws;
 mod reader;
 mod reply;
 mod writer;
 
 pub use ero_error::EroError;
-pub use laws::{objects_are_read, routes_are_read_back};
+pub use head::{Head, reply_head};
+pub use laws::{objects_are_read, one_head, routes_are_read_back};
 pub use reader::{FIRST_BYTES, read_ero, read_ero_front};
 pub use reply::reply_line;
 pub use writer::write_ero;

@@ -1,2 +1,3 @@
+mod heads;
 mod objects;
 mod replies;

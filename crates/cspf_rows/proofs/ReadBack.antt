@@ -4,9 +4,9 @@ use Rattle.std.proofs.lemmas.List.{length-map}
 use Rattle.std.specs.Fmt.{decimal}
 use Rattle.csv.specs.Records.{field_at}
 use Rattle.cspf_addr.specs.AddressText.{address_text}
-use Rattle.cspf_addr.specs.HopLists.{AreHopListsReadBack}
+use Rattle.cspf_addr.specs.HopLists.{AreHopListsReadBack, hops_text}
 use Rattle.cspf_rows.specs.declared.row.Row.TheVariants as row
-use Rattle.cspf_rows.specs.Says.{SpellsNumber, SpellsAddress}
+use Rattle.cspf_rows.specs.Says.{SpellsNumber, SpellsAddress, SpellsHops}
 use Rattle.cspf_rows.specs.Written.{put_fields, drop_fields, end_fields, ask_fields, ArePutsReadBack, AreDropsReadBack, AreEndsReadBack, AreAsksReadBack}
 use Rattle.cspf_rows.specs.FieldTexts.{AreTextsRead}
 use Rattle.cspf_rows.proofs.HopTexts.{no_object}
@@ -61,16 +61,5 @@ ends_read_back texts number count small_number small_count =
 pub asks_read_back : AreTextsRead → AreHopListsReadBack → AreAsksReadBack
 unfolding field_at
 asks_read_back texts hop_lists request exclude_any include_any include_all range exclude_mask any_mask all_mask =
-    row_of-said texts (ask_fields request exclude_any include_any include_all) (row.Ask request) (record {
-      count = refl;
-      kind = refl;
-      id = number_written request.id range.id;
-      from = address_written request.from range.from;
-      to = address_written request.to range.to;
-      setup = number_written request.setup request.priority;
-      bandwidth = number_written request.bandwidth range.bandwidth;
-      exclude_any = exclude_mask;
-      include_any = any_mask;
-      include_all = all_mask;
-      hops = inl (record { other = no_object texts.numbers request.hops; read = hop_lists request.hops range.few range.hops });
-    })
+    let hops : SpellsHops (hops_text request.hops) request.hops = inl (record { other = no_object texts.numbers request.hops; read = hop_lists request.hops range.few range.hops }) in
+    row_of-said texts (ask_fields request exclude_any include_any include_all) (row.Ask request) (search (number_written, address_written, range.id, range.from, range.to, range.bandwidth, request.priority, exclude_mask, any_mask, all_mask, hops))

@@ -32,26 +32,15 @@ eight_items (a ∷ b ∷ c ∷ d ∷ e ∷ f ∷ g ∷ []) n = absurd (omega (ar
 eight_items (a ∷ b ∷ c ∷ d ∷ e ∷ f ∷ g ∷ h ∷ []) n = refl
 eight_items (a ∷ b ∷ c ∷ d ∷ e ∷ f ∷ g ∷ h ∷ i ∷ rest) n = absurd (omega (arith, n))
 
+-- what a field spells is read
+ruleset fields_said = (number_at-spelled, small_number_at-spelled, priority_at-spelled, address_at-spelled, mask_at-spelled)
+
 -- a record that says a put is read as it
 put_row_of-said : AreTextsRead → (fields : List (List ℕ)) (link : Link) → SaysPut fields link → put_row_of fields ≡ Ok (row.Put link)
 unfolding put_row_of
 put_row_of-said texts fields link s =
-    rw (
-      address_at-spelled texts fields 2 link.from s.from,
-      address_at-spelled texts fields 3 link.local s.local,
-      address_at-spelled texts fields 4 link.to s.to,
-      address_at-spelled texts fields 5 link.remote s.remote,
-      small_number_at-spelled texts fields 6 link.metric s.metric,
-      mask_at-spelled texts fields 7 link.group s.group,
-      number_at-spelled texts fields 8 (slice_index link.free 0) s.free_0,
-      number_at-spelled texts fields 9 (slice_index link.free 1) s.free_1,
-      number_at-spelled texts fields 10 (slice_index link.free 2) s.free_2,
-      number_at-spelled texts fields 11 (slice_index link.free 3) s.free_3,
-      number_at-spelled texts fields 12 (slice_index link.free 4) s.free_4,
-      number_at-spelled texts fields 13 (slice_index link.free 5) s.free_5,
-      number_at-spelled texts fields 14 (slice_index link.free 6) s.free_6,
-      number_at-spelled texts fields 15 (slice_index link.free 7) s.free_7,
-    ) (put-link texts.links link _ refl (record { from = refl; local = refl; to = refl; remote = refl; metric = refl; group = refl; free = eight_items link.free link.eight }))
+    simp (fields_said, texts, s.from, s.local, s.to, s.remote, s.metric, s.group, s.free_0, s.free_1, s.free_2, s.free_3, s.free_4, s.free_5, s.free_6, s.free_7)
+    (put-link texts.links link _ refl (record { from = refl; local = refl; to = refl; remote = refl; metric = refl; group = refl; free = eight_items link.free link.eight }))
 
 drop_row_of-said : AreTextsRead → (fields : List (List ℕ)) (from local : ℕ) → SaysRemove fields from local → drop_row_of fields ≡ Ok (row.Remove from local)
 unfolding drop_row_of
@@ -65,17 +54,7 @@ end_row_of-said texts fields number count s =
 ask_row_of-said : AreTextsRead → (fields : List (List ℕ)) (request : Request) → SaysAsk fields request → ask_row_of fields ≡ Ok (row.Ask request)
 unfolding ask_row_of
 ask_row_of-said texts fields request s =
-    rw (
-      number_at-spelled texts fields 2 request.id s.id,
-      address_at-spelled texts fields 3 request.from s.from,
-      address_at-spelled texts fields 4 request.to s.to,
-      priority_at-spelled texts fields 5 request.setup s.setup,
-      number_at-spelled texts fields 6 request.bandwidth s.bandwidth,
-      mask_at-spelled texts fields 7 request.exclude_any s.exclude_any,
-      mask_at-spelled texts fields 8 request.include_any s.include_any,
-      mask_at-spelled texts fields 9 request.include_all s.include_all,
-      hops_at-spelled texts fields 10 request.hops s.hops,
-    ) (ask-fields request)
+    simp (fields_said, texts, s.id, s.from, s.to, s.setup, s.bandwidth, s.exclude_any, s.include_any, s.include_all, hops_at-spelled texts fields 10 request.hops s.hops) (ask-fields request)
 
 -- a record that says a row is read as it
 pub row_of-said : AreTextsRead → (fields : List (List ℕ)) (r : Row) → Says fields r → row_of fields ≡ Ok r

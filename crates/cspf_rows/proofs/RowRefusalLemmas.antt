@@ -16,7 +16,7 @@ use Rattle.cspf_addr.specs.ResultSteps.{◌>>=◌}
 use Rattle.cspf_rows.specs.FieldValues.{field, number_at, small_number_at, priority_at, address_at, mask_at, hops_at}
 use Rattle.cspf_rows.specs.FieldTexts.{AreTextsRead}
 use Rattle.cspf_rows.specs.Says.{SpellsNumber, SpellsAddress}
-use Rattle.cspf_rows.specs.RowRefusals.{Kind, put_kind, drop_kind, end_kind, ask_kind, address, number, small_number, priority, mask, hops, word_of, sorts_of, SpellsSort, IsFieldRefused, AreEndsRefused, AreFieldsRefused, IsRefusedAs, IsRefused, AreRowsRefused, IsRefusedOnce}
+use Rattle.cspf_rows.specs.RowRefusals.{Kind, put_kind, drop_kind, end_kind, ask_kind, address, number, small_number, priority, mask, hops, word_of, sorts_of, SpellsSort, IsFieldRefused, SpellOneAddress, AreEndsRefused, AreFieldsRefused, IsRefusedAs, IsRefused, AreRowsRefused, IsRefusedOnce}
 use Rattle.cspf_rows.specs.Rows.{put_between, put, ask_between, ask, put_row_of, drop_row_of, end_row_of, ask_row_of, of_count, row_of}
 use Rattle.cspf_rows.proofs.HopRefusalLemmas.{mapped_error, fault_told, told_fault}
 use Rattle.cspf_rows.proofs.AttributeLemmas.{put-self, ask-same}
@@ -164,39 +164,43 @@ step (Err found) f sort rest e = (
   ],
 )
 
+-- two fields that are read as addresses spell one address exactly where these are one
+one_address : AreTextsRead → (fields : List (List ℕ)) (place other : ℕ) (a b : ℕ) → address_at fields place ≡ Ok a → address_at fields other ≡ Ok b
+    → (a ≡ b) ↔ SpellOneAddress (field fields place) (field fields other)
+one_address texts fields place other a b first second = (
+  λ same. (a, spelled-address_at texts fields place a first, spelled-address_at texts fields other a (second ∙ ap Ok (sym same))),
+  λ (n, one, two). same_value _ a n first (address_at-spelled texts fields place n one) ∙ sym (same_value _ b n second (address_at-spelled texts fields other n two)),
+)
+
 -- the two ends of a link
 put_ends : AreTextsRead → (fields : List (List ℕ)) (link : LinkFields) (eight : length link.free ≡ 8) → address_at fields 2 ≡ Ok link.from → address_at fields 4 ≡ Ok link.to
     → (e : RowError) → (put link eight ≡ Err e) ↔ AreEndsRefused put_kind fields e
 unfolding put
-put_ends texts fields link eight from to e = (self (ℕ_discrete link.from link.to), λ why. put-self link eight (same_ends why) ∙ ap Err (sym why.0))
+put_ends texts fields link eight from to e = (self (ℕ_discrete link.from link.to), λ why. put-self link eight (one.1 why.1) ∙ ap Err (sym why.0))
   where
-    self : (ends : Dec (link.from ≡ link.to)) → put_between link eight ends ≡ Err e → AreEndsRefused put_kind fields e
-    self (yes one) same = (cc, (link.from, spelled-address_at texts fields 2 link.from from, spelled-address_at texts fields 4 link.from (to ∙ ap Ok (sym one))))
-    self (no apart) same = absurd (cc)
+    one : (link.from ≡ link.to) ↔ SpellOneAddress (field fields 2) (field fields 4)
+    one = one_address texts fields 2 4 link.from link.to from to
 
-    same_ends : AreEndsRefused put_kind fields e → link.from ≡ link.to
-    same_ends (is, (n, first, second)) =
-        same_value _ link.from n from (address_at-spelled texts fields 2 n first)
-        ∙ sym (same_value _ link.to n to (address_at-spelled texts fields 4 n second))
+    self : (ends : Dec (link.from ≡ link.to)) → put_between link eight ends ≡ Err e → AreEndsRefused put_kind fields e
+    self (yes same) refused = (cc, one.0 same)
+    self (no apart) refused = absurd (cc)
 
 -- the two ends of a request, whose priority is one
 ask_ends : AreTextsRead → (fields : List (List ℕ)) (request : RequestFields) → address_at fields 3 ≡ Ok request.from → address_at fields 4 ≡ Ok request.to → priority_at fields 5 ≡ Ok request.setup
     → (e : RowError) → (ask request ≡ Err e) ↔ AreEndsRefused ask_kind fields e
 unfolding ask
-ask_ends texts fields request from to setup e = (one (dec_le (suc request.setup) 8) (ℕ_discrete request.from request.to), λ why. ask-same request low (same_ends why) ∙ ap Err (sym why.0))
+ask_ends texts fields request from to setup e = (same_ends (dec_le (suc request.setup) 8) (ℕ_discrete request.from request.to), λ why. ask-same request low (one.1 why.1) ∙ ap Err (sym why.0))
   where
     low : request.setup < 8
     low = (spelled-priority_at texts fields 5 request.setup setup).small
 
-    one : (below : Dec (request.setup < 8)) (ends : Dec (request.from ≡ request.to)) → ask_between request below ends ≡ Err e → AreEndsRefused ask_kind fields e
-    one (no above) ends same = absurd (above low)
-    one (yes below) (yes ends) same = (cc, (request.from, spelled-address_at texts fields 3 request.from from, spelled-address_at texts fields 4 request.from (to ∙ ap Ok (sym ends))))
-    one (yes below) (no apart) same = absurd (cc)
+    one : (request.from ≡ request.to) ↔ SpellOneAddress (field fields 3) (field fields 4)
+    one = one_address texts fields 3 4 request.from request.to from to
 
-    same_ends : AreEndsRefused ask_kind fields e → request.from ≡ request.to
-    same_ends (is, (n, first, second)) =
-        same_value _ request.from n from (address_at-spelled texts fields 3 n first)
-        ∙ sym (same_value _ request.to n to (address_at-spelled texts fields 4 n second))
+    same_ends : (below : Dec (request.setup < 8)) (ends : Dec (request.from ≡ request.to)) → ask_between request below ends ≡ Err e → AreEndsRefused ask_kind fields e
+    same_ends (no above) ends refused = absurd (above low)
+    same_ends (yes below) (yes same) refused = (cc, one.0 same)
+    same_ends (yes below) (no apart) refused = absurd (cc)
 
 -- what is read is no refusal
 read_whole : (r : Row) (e : RowError) → (Ok r ≡ Err e) ↔ ⊥

@@ -24,10 +24,7 @@ impl From<RecordError> for ReadError {
     ghost from_gives = { λ error fault. fault ≡ stream_fault_of read_error.Memory read_error.Device error };
 
     fn from(error: RecordError) -> ReadError {
-        match error {
-            RecordError::Memory => ReadError::Memory,
-            RecordError::Device => ReadError::Device,
-        }
+        error.of_stream(ReadError::Memory, ReadError::Device)
     }
 }
 

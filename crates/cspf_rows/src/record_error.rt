@@ -1,5 +1,6 @@
 ghost use Rattle.std.specs.Prelude.{◌≡◌};
 ghost use Rattle.csv.specs.Reading.{error_kind};
+ghost use Rattle.cspf_rows.specs.ReadFaults.{stream_fault_of};
 ghost use Rattle.cspf_rows.specs.RecordFaults.{fault_of};
 
 use csv::ErrorKind;
@@ -14,6 +15,18 @@ pub enum RecordError {
     /// A read failed.
     #[error("a read failed")]
     Device,
+}
+
+impl RecordError {
+    /// The fault of a stream that tells refused memory by `memory`, and a failed read by `device`.
+    pub(crate) fn of_stream<E: Copy>(self, memory: E, device: E) -> E
+        ensures { result ≡ stream_fault_of memory device self }
+    {
+        match self {
+            RecordError::Memory => memory,
+            RecordError::Device => device,
+        }
+    }
 }
 
 impl From<csv::Error> for RecordError {

@@ -39,10 +39,7 @@ impl From<RecordError> for RequestsError {
     ghost from_gives = { λ error fault. fault ≡ stream_fault_of requests_error.Memory requests_error.Device error };
 
     fn from(error: RecordError) -> RequestsError {
-        match error {
-            RecordError::Memory => RequestsError::Memory,
-            RecordError::Device => RequestsError::Device,
-        }
+        error.of_stream(RequestsError::Memory, RequestsError::Device)
     }
 }
 

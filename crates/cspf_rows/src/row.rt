@@ -110,26 +110,17 @@ impl Row {
     fn ask(fields: &ByteRecord) -> Result<Row, RowError>
         ensures { result ≡ ask_row_of (fields_of fields.now) }
     {
-        let id = number(fields, 2)?;
-        let from = address(fields, 3)?;
-        let to = address(fields, 4)?;
-        let setup = priority(fields, 5)?;
-        let bandwidth = number(fields, 6)?;
-        let exclude_any = mask(fields, 7)?;
-        let include_any = mask(fields, 8)?;
-        let include_all = mask(fields, 9)?;
-        let hops = hops(fields, 10)?;
         fields_of_links_and_requests();
         let asked = Request::new(
-            id,
-            from,
-            to,
-            setup,
-            bandwidth,
-            exclude_any,
-            include_any,
-            include_all,
-            hops,
+            number(fields, 2)?,
+            address(fields, 3)?,
+            address(fields, 4)?,
+            priority(fields, 5)?,
+            number(fields, 6)?,
+            mask(fields, 7)?,
+            mask(fields, 8)?,
+            mask(fields, 9)?,
+            hops(fields, 10)?,
         );
         match asked {
             Ok(request) => Ok(Row::Ask(request)),

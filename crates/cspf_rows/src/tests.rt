@@ -1,5 +1,7 @@
+mod cuts;
 mod ends;
 mod journals;
+mod memory;
 mod output;
 mod records;
 mod requests;

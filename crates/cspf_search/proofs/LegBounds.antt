@@ -1,67 +1,66 @@
 -- The bounds of the routers in a leg.
-use Rattle.std.proofs.Common.{◌≡◌, ◌≢◌, ◌⊎◌, inl, inr, ℕ, ◌+◌, ◌*◌, ◌/◌, ◌%◌, ◌^◌, ◌<◌, ◌≤◌, min, Bool, true, false, IsTrue, Some, List, drop, length, replicate, set, slice_get, slice_index, slice_index_or, refl, sym, ap, subst, ◌∙◌, arith, length-set}
-use Rattle.std.proofs.lemmas.Bool.{cases_lt}
+use Rattle.std.proofs.Common.{◌≡◌, ◌≢◌, ◌⊎◌, inl, inr, ℕ, ◌+◌, ◌*◌, ◌/◌, ◌%◌, ◌^◌, ◌<◌, ◌≤◌, min, true, false, IsTrue, Some, List, drop, length, replicate, set, slice_get, slice_index, slice_index_or, refl, sym, ap, subst, ◌∙◌, arith}
+use Rattle.std.proofs.lemmas.Bool.{cases_lt, false≢true}
 use Rattle.std.proofs.lemmas.List.{get_or_past, get_or-drop, get_or-replicate, length-replicate, get_or-set_other}
 use Rattle.cspf_db.specs.declared.request.Request.{Request}
 use Rattle.cspf_db.specs.Database.{Database, AreLinksOf}
 use Rattle.cspf_db.specs.Targets.{IsTarget}
 use Rattle.cspf_db.specs.Index.{links_of, links_from_index, router_list}
 use Rattle.cspf_search.specs.declared.arrivals.Arrival.{Arrival}
+use Rattle.cspf_search.specs.declared.ring.Ring.{Ring}
 use Rattle.cspf_search.specs.declared.roles.Role.{Role}
 use Rattle.cspf_search.specs.Frontier.{AreListed, AreRoles, IsStateIndex, nothing}
 use Rattle.cspf_search.specs.Arrivals.{AreArrivals, Follows, arrival_at, pointer_at}
-use Rattle.cspf_search.specs.Bounds.{AreBounds, Falls, IsLeg, IsLower, IsPassed, IsRing, bound_at, is_done}
+use Rattle.cspf_search.specs.Bounds.{AreBounds, Falls, IsLeg, IsLower, IsPassed, IsRing, AreLooked, bound_at, is_done}
 use Rattle.cspf_search.proofs.Arrived.{arrived}
 use Rattle.cspf_search.proofs.Ranks.{same_or_not}
 
-pub falls_on : (a b c : List ℕ) (x y z : List Bool) → Falls a b x y → Falls b c y z → Falls a c x z
-falls_on a b c x y z first second = record {
-  near = second.near ∙ first.near;
-  done = second.done ∙ first.done;
+pub falls_on : (a b c : Ring) → Falls a b → Falls b c → Falls a c
+falls_on a b c first second = record {
   lower = λ i. omega (arith, first.lower i, second.lower i);
   kept = λ i e. let late = second.kept i e in let early = first.kept i late.0 in (early.0, late.1 ∙ early.1);
 }
 
-pub passed_on : (d : Database) (q : Request) (base : ℕ) (near new : List ℕ) (a : Arrival) → IsLower near new → IsPassed d q base near a → IsPassed d q base new a
-passed_on d q base near new a low passed = λ l row admitted. omega (arith, low a.from, passed l row admitted)
+pub passed_on : (d : Database) (q : Request) (base : ℕ) (old new : Ring) (a : Arrival) → IsLower old new → IsPassed d q base old a → IsPassed d q base new a
+passed_on d q base old new a low passed = λ l row admitted. omega (arith, low a.from, passed l row admitted)
+
+-- where nothing is done nothing was looked at
+pub none_done : (d : Database) (q : Request) (ring : Ring) → ((w : ℕ) → is_done ring w ≡ false) → IsRing d q ring
+none_done d q ring none u w on l admissible from to = absurd (false≢true (sym (none w) ∙ on))
 
 -- the links that arrive at one router more are all looked at
 module _ (d : Database) (q : Request) (links : AreLinksOf d (links_of d)) (arrivals : List Arrival) (last : List ℕ) (are : AreArrivals d arrivals last) (to base : ℕ)
-    (old new : List ℕ) (before after : List Bool) (ring : IsRing d q old before) (falls : Falls old new before after)
-    (passed : (n : ℕ) → Follows arrivals (pointer_at last to) n → IsPassed d q base new (arrival_at arrivals n)) (same : bound_at new to ≡ base) where
-  pub one_router_more : IsRing d q new (set after to true)
-  one_router_more = record {
-    many = falls.near ∙ ring.many;
-    marks = length-set after to true ∙ falls.done ∙ ring.marks;
-    links = λ u w on l admissible from end.
-        elim (same_or_not w to) [
-          | inl here ↦
-              let x = arrived d links arrivals last are l admissible.link u w from end in
-              let n = x.2.0 in
-              let met = x.2.1 in
-              let there = subst (λ v. Follows arrivals (pointer_at last v) n) here met.follows in
-              let row : slice_get (links_from_index d (arrival_at arrivals n).from) (arrival_at arrivals n).row ≡ Some l =
-              ap (λ i. slice_get (links_from_index d (arrival_at arrivals n).from) i) met.row ∙ ap (λ i. slice_get (links_from_index d i) x.0) met.from ∙ x.1 in
-              let low = passed n there l row admissible.admitted in
-              let at : bound_at new (arrival_at arrivals n).from ≡ bound_at new u = ap (bound_at new) met.from in
-              let is : bound_at new w ≡ bound_at new to = ap (bound_at new) here in
-              omega (arith, low, at, is, same)
-          | inr ne ↦
-              let kept = falls.kept w (sym (get_or-set_other after to w true false ne) ∙ on) in
-              omega (arith, ring.links u w kept.0 l admissible from end, falls.lower u, kept.1)
-        ];
-  }
+    (old new : Ring) (ring : IsRing d q old) (falls : Falls old new)
+    (passed : (n : ℕ) → Follows arrivals (pointer_at last to) n → IsPassed d q base new (arrival_at arrivals n)) (same : bound_at new.near.items to ≡ base) where
+  pub one_router_more : AreLooked d q new.near.items (set new.done.items to true)
+  one_router_more u w on l admissible from end =
+      elim (same_or_not w to) [
+        | inl here ↦
+            let x = arrived d links arrivals last are l admissible.link u w from end in
+            let n = x.2.0 in
+            let met = x.2.1 in
+            let there = subst (λ v. Follows arrivals (pointer_at last v) n) here met.follows in
+            let row : slice_get (links_from_index d (arrival_at arrivals n).from) (arrival_at arrivals n).row ≡ Some l =
+            ap (λ i. slice_get (links_from_index d (arrival_at arrivals n).from) i) met.row ∙ ap (λ i. slice_get (links_from_index d i) x.0) met.from ∙ x.1 in
+            let low = passed n there l row admissible.admitted in
+            let at : bound_at new.near.items (arrival_at arrivals n).from ≡ bound_at new.near.items u = ap (bound_at new.near.items) met.from in
+            let is : bound_at new.near.items w ≡ bound_at new.near.items to = ap (bound_at new.near.items) here in
+            omega (arith, low, at, is, same)
+        | inr ne ↦
+            let kept = falls.kept w (sym (get_or-set_other new.done.items to w true false ne) ∙ on) in
+            omega (arith, ring u w kept.0 l admissible from end, falls.lower u, kept.1)
+      ]
 
 -- a leg from its ring
-pub leg_of_ring : (d : Database) (q : Request) (leg : ℕ) (near : List ℕ) (done : List Bool) (edge : ℕ) → AreListed d → IsRing d q near done
-    → ((w : ℕ) → w < 1024 → is_done done w ≡ false → edge ≤ bound_at near w)
-    → (ahead : List ℕ) → ((p : ℕ) → p < length (router_list d) → IsTarget d q (leg + 1) (slice_index (router_list d) p) → bound_at near p ≤ bound_at ahead p)
-    → IsLeg d q leg near edge ahead
-leg_of_ring d q leg near done edge listed ring least ahead targets = record {
-  many = ring.many;
+pub leg_of_ring : (d : Database) (q : Request) (leg : ℕ) (ring : Ring) (edge : ℕ) → AreListed d → IsRing d q ring
+    → ((w : ℕ) → w < 1024 → is_done ring w ≡ false → edge ≤ bound_at ring.near.items w) → (ahead : List ℕ)
+    → ((p : ℕ) → p < length (router_list d) → IsTarget d q (leg + 1) (slice_index (router_list d) p) → bound_at ring.near.items p ≤ bound_at ahead p)
+    → IsLeg d q leg ring.near.items edge ahead
+leg_of_ring d q leg ring edge listed links least ahead targets = record {
   links = λ u w l admissible from to.
-      elim (is_done done w) as (λ b. is_done done w ≡ b → min (bound_at near u) edge ≤ min (bound_at near w) edge + l.metric) [
-        | true ↦ λ e. omega (arith, ring.links u w e l admissible from to)
+      let near = ring.near.items in
+      elim (is_done ring w) as (λ b. is_done ring w ≡ b → min (bound_at near u) edge ≤ min (bound_at near w) edge + l.metric) [
+        | true ↦ λ e. omega (arith, links u w e l admissible from to)
         | false ↦ λ e. omega (arith, least w (omega (arith, to.within, listed.few)) e)
       ] refl;
   targets = λ p h target. omega (arith, targets p h target);

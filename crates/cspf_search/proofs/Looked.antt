@@ -14,14 +14,17 @@ use Rattle.cspf_db.specs.Walks.{cost_of}
 use Rattle.cspf_db.specs.Index.{links_of, links_from_index, router_list}
 use Rattle.cspf_search.specs.declared.arena.Node.{Node}
 use Rattle.cspf_search.specs.declared.forward_star.ForwardStar.{ForwardStar}
+use Rattle.cspf_search.specs.declared.rounds.Look.{Look}
 use Rattle.cspf_search.specs.States.{State}
 use Rattle.cspf_search.specs.Settled.{state_cmp}
-use Rattle.cspf_search.specs.Arena.{walk_of, index_of, AreNodes, IsNext}
+use Rattle.cspf_search.specs.Arena.{state_of, walk_of, index_of, AreNodes, IsNext}
 use Rattle.cspf_search.specs.Rounds.{CrossesBy, Turns, CrossesBelow, IsFirst, RanksBefore, earlier_of}
 use Rattle.cspf_search.specs.Frontier.{state_at, nowhere, node_by, IsNodeAt, IsEnd, CrossesUpTo}
 use Rattle.cspf_search.specs.ForwardStars.{IsForwardStar}
+use Rattle.cspf_search.specs.Query.{CrossesToRow}
+use Rattle.cspf_search.specs.RoundSteps.{IsLook}
 use Rattle.cspf_search.proofs.Backs.{by_next, by_first, turned_first}
-use Rattle.cspf_search.proofs.Expanded.{there, leg, turn_state, turn_only, turn_passes, turn_within, turn_left, turn_right, turn_cases, link_state, link_only, link_passes, link_left, link_right, link_cases}
+use Rattle.cspf_search.proofs.Expanded.{there, leg, turn_state, turn_only, turn_passes, turn_within, turn_left, turn_right, turn_cases, link_index, link_state, link_only, link_passes, link_left, link_right, link_cases}
 use Rattle.cspf_search.proofs.Firsts.{first_both, first_same, left_first}
 use Rattle.cspf_search.proofs.Taken.{end_of_row}
 
@@ -164,3 +167,32 @@ module _ (d : Database) (q : Request) (nodes : List Node) (are : AreNodes nodes)
         (first_both nodes (CrossesUpTo d q nodes at (state % 1024) row) (CrossesBy d q nodes at l) (CrossesUpTo d q nodes at (state % 1024) (row + 1))
         (link_left d q nodes at state is row l here end ends few) (link_right d q nodes at state is row l here end ends few)
         (link_cases d q nodes at state is row l here end ends few) a (Some (node_by at (slice_index_or nodes at nowhere) (Some l))) before first)
+
+-- a row, by the index of the router at its end
+module _ (look : Look) (is : IsLook look) (row : ℕ) (within : row < length (links_from_index look.query.table.now (look.star.state % 1024))) (end : ℕ)
+    (at : end ≡ slice_index look.star.ends.now row) where
+  pub row_link : (l : Link) × (slice_get (links_from_index look.query.table.now (look.star.state % 1024)) row ≡ Some l)
+  row_link = some_at (links_from_index look.query.table.now (look.star.state % 1024)) row within
+
+  pub row_is_end : IsEnd look.query.table.now row_link.0.to end
+  row_is_end = row_end look.query.table.now (state_of (slice_index_or look.nodes.now look.at nowhere)) look.star is.star row row_link.0 within row_link.1 end at
+
+  -- the mark of the state there
+  row_mark : slice_index_or look.marks.now (look.star.state - look.star.state % 1024 + end) false
+      ≡ is_some (index_of look.nodes.now (state_at look.query.table.now (look.star.state - look.star.state % 1024 + end)))
+  row_mark =
+      is.marks.each (look.star.state - look.star.state % 1024 + end) false
+      (link_index look.query.table.now look.query.request.now look.nodes.now look.at look.star.state is.from row row_link.0 row_link.1 end row_is_end is.query.listed.few)
+
+  -- where something is settled there the first stays
+  pub row_settled : slice_index_or look.marks.now (look.star.state - look.star.state % 1024 + end) false ≡ true → (a : Option Node)
+      → IsFirst look.nodes.now (CrossesToRow look.query look.nodes.now look.at look.star.state row) a
+      → IsFirst look.nodes.now (CrossesToRow look.query look.nodes.now look.at look.star.state (row + 1)) a
+  row_settled marked a before =
+      link_settled look.query.table.now look.query.request.now look.nodes.now is.arena look.at look.star.state is.from a row row_link.0 row_link.1 end row_is_end is.query.listed.few before
+      (sym row_mark ∙ marked)
+
+  -- or nothing is
+  pub row_left : slice_index_or look.marks.now (look.star.state - look.star.state % 1024 + end) false ≡ false
+      → index_of look.nodes.now (state_at look.query.table.now (look.star.state - look.star.state % 1024 + end)) ≡ None
+  row_left unmarked = open_at _ (sym row_mark ∙ unmarked)

@@ -1,6 +1,7 @@
 -- What is offered to one state keeps the labels of all.
 use Rattle.std.proofs.Common.{◌≡◌, ◌≢◌, ◌⊎◌, inl, inr, ℕ, ◌+◌, ◌^◌, ◌<◌, ◌≤◌, List, [], ◌∷◌, None, length, set, refl, sym, ap, subst, ◌∙◌, arith, length-set}
-use Rattle.std.specs.List.{Contains}
+use Rattle.std.specs.BinaryHeap.{IsHeap}
+use Rattle.std.specs.List.{All, Contains}
 use Rattle.std.specs.Ordering.{is_gt}
 use Rattle.std.proofs.lemmas.Cmp.{upto, tied_itself}
 use Rattle.std.proofs.lemmas.List.{get_or-set_same, get_or-set_other}
@@ -15,7 +16,7 @@ use Rattle.cspf_search.specs.declared.labels.Label.{Label}
 use Rattle.cspf_search.specs.States.{State}
 use Rattle.cspf_search.specs.Settled.{IsNoLater}
 use Rattle.cspf_search.specs.Arena.{walk_of, state_of, index_of, AreNodes, IsNext}
-use Rattle.cspf_search.specs.Frontier.{state_at, IsStateIndex, AreListed, node_of, rank_of, walk_rank, no_rank, lift, IsBeyond, IsReached, IsLabel, is_settled, is_reached, is_unreached, Key, key_at, label_at, IsKey, AreLabels, IsOffer, AreTied, Gains, StaysAt, GoesTo}
+use Rattle.cspf_search.specs.Frontier.{state_at, IsStateIndex, AreListed, node_of, rank_of, walk_rank, no_rank, lift, IsBeyond, IsReached, IsLabel, is_settled, is_reached, is_unreached, Key, key_at, label_at, key_cmp, no_label, IsKey, AreLabels, IsOffer, AreTied, Gains, StaysAt, GoesTo}
 use Rattle.cspf_search.proofs.Orders.{walks_total}
 use Rattle.cspf_search.proofs.Ranks.{same_or_not, before_by_rank, before_by_locals, locals_turned, rank_parts, rank_is, walk_short, links_short, rank_small, lift_small, beyond_lower, state_apart}
 
@@ -25,6 +26,53 @@ lowered cap lower ahead w h (inr b) = inr (beyond_lower cap lower ahead w h b)
 
 no_later_itself : (w : List Link) → IsNoLater w w
 no_later_itself w = ap is_gt (tied_itself walks_total w)
+
+-- a label that stands for a walk stands for it among walks of another kind too, where it is first there
+reached_on : (d : Database) (nodes : List Node) (P R : List Link → State → Type 0) (cap lower ahead : ℕ) (t : State) (label : Label) → IsReached d nodes P cap ahead t label
+    → ((w : List Link) (t : State) → P w t → R w t) → ((w : List Link) → R w t → IsNoLater (walk_of nodes (node_of d nodes label)) w ⊎ IsBeyond lower ahead w)
+    → IsReached d nodes R lower ahead t label
+reached_on d nodes P R cap lower ahead t label r up first = record {
+  place = r.place;
+  parent = r.parent;
+  rank = r.rank;
+  state = r.state;
+  next = r.next;
+  passes = up _ _ r.passes;
+  first = first;
+}
+
+-- labels of which that of one state is set
+pub labels_set : (d : Database) (q : Request) (old nodes : List Node) (P R : List Link → State → Type 0) (goal : Goal) (labels : List Label) (old_keys keys : List Key)
+    → AreLabels d q old P goal labels old_keys → (i : ℕ) → IsStateIndex d q i → (label : Label)
+    → IsLabel d nodes R (label_at (set labels i label) goal.at).rank (lift goal i) (state_at d i) label
+    → ((j : ℕ) → IsStateIndex d q j → goal.floor ≤ j → j ≢ i → IsLabel d nodes R (label_at (set labels i label) goal.at).rank (lift goal j) (state_at d j) (label_at labels j))
+    → IsHeap key_cmp keys → All (IsKey d q goal) keys → (0 < label.rank → Contains keys (key_at (label.rank + lift goal i) i))
+    → ((j : ℕ) → goal.floor ≤ j → j ≢ i → Contains old_keys (key_at ((label_at labels j).rank + lift goal j) j) → Contains keys (key_at ((label_at labels j).rank + lift goal j) j))
+    → AreLabels d q nodes R goal (set labels i label) keys
+labels_set d q old nodes P R goal labels old_keys keys are i index label is others ordered keyed waits still =
+    let here : label_at (set labels i label) i ≡ label = get_or-set_same labels i label _ (omega (arith, are.many, index.low)) in
+    let there : (j : ℕ) → j ≢ i → label_at (set labels i label) j ≡ label_at labels j = λ j ne. get_or-set_other labels i j label _ ne in
+    record {
+      small = are.small;
+      bounds = are.bounds;
+      whole = are.whole;
+      many = length-set labels i label ∙ are.many;
+      each = λ j jx behind.
+          elim (same_or_not j i) [
+            | inl same ↦ rw (same, here) is
+            | inr ne ↦ rw (there j ne) (others j jx behind ne)
+          ];
+      ordered = ordered;
+      keyed = keyed;
+      waiting = λ j jx behind some most.
+          elim (same_or_not j i) [
+            | inl same ↦ rw (same, here) (waits (omega (arith, some, ap (λ (l : Label). l.rank) (ap (label_at (set labels i label)) same ∙ here))))
+            | inr ne ↦
+                let e = there j ne in
+                let rank = ap (λ (l : Label). l.rank) e in
+                rw e (still j behind ne (are.waiting j jx behind (omega (arith, rank, some)) (omega (arith, rank, most))))
+          ];
+    }
 
 -- a walk that a label doesn't have to be before: it is behind the cap, or no earlier than the label's
 abbrev pub IsLost : Database → List Node → (List Link → State → Type 0) → ℕ → ℕ → State → Label → List Link → Type 0
@@ -52,19 +100,12 @@ module _ (d : Database) (q : Request) (nodes : List Node) (are : AreNodes nodes)
   other : (j : ℕ) → IsStateIndex d q j → j ≢ i → (lower : ℕ) → lower ≤ cap → (label : Label) → IsLabel d nodes P cap (lift goal j) (state_at d j) label
       → IsLabel d nodes R lower (lift goal j) (state_at d j) label
   other j jx ne lower h label (is_settled k none e) = is_settled k none e
-  other j jx ne lower h label (is_reached left r) = is_reached left (record {
-    place = r.place;
-    parent = r.parent;
-    rank = r.rank;
-    state = r.state;
-    next = r.next;
-    passes = from_left _ _ r.passes;
-    first = λ w p.
-        elim (cases w (state_at d j) p) [
-          | inl old ↦ lowered cap lower (lift goal j) w h (r.first w old)
-          | inr new ↦ absurd (ne (state_apart d q listed j i jx index (only w (state_at d j) new).0))
-        ];
-  })
+  other j jx ne lower h label (is_reached left r) =
+      is_reached left (reached_on d nodes P R cap lower (lift goal j) (state_at d j) label r from_left (λ w p.
+      elim (cases w (state_at d j) p) [
+        | inl old ↦ lowered cap lower (lift goal j) w h (r.first w old)
+        | inr new ↦ absurd (ne (state_apart d q listed j i jx index (only w (state_at d j) new).0))
+      ]))
   other j jx ne lower h label (is_unreached left none first) = is_unreached left none (λ w p.
       elim (cases w (state_at d j) p) [
         | inl old ↦ beyond_lower cap lower (lift goal j) w h (first w old)
@@ -74,24 +115,17 @@ module _ (d : Database) (q : Request) (nodes : List Node) (are : AreNodes nodes)
   stays : (label : Label) → IsLabel d nodes P cap (lift goal i) (state_at d i) label → (Q x (state_at d i) → IsLost d nodes P cap (lift goal i) (state_at d i) label x)
       → IsLabel d nodes R cap (lift goal i) (state_at d i) label
   stays label (is_settled k none e) lost = is_settled k none e
-  stays label (is_reached left r) lost = is_reached left (record {
-    place = r.place;
-    parent = r.parent;
-    rank = r.rank;
-    state = r.state;
-    next = r.next;
-    passes = from_left _ _ r.passes;
-    first = λ w p.
-        elim (cases w (state_at d i) p) [
-          | inl old ↦ r.first w old
-          | inr new ↦
-              let same = (only w (state_at d i) new).1 in
-              elim (lost (subst (λ v. Q v (state_at d i)) same new)) [
-                | inl beyond ↦ inr (subst (IsBeyond cap (lift goal i)) (sym same) beyond)
-                | inr late ↦ inl (subst (IsNoLater (walk_of nodes (node_of d nodes label))) (sym same) (late.1 r))
-              ]
-        ];
-  })
+  stays label (is_reached left r) lost =
+      is_reached left (reached_on d nodes P R cap cap (lift goal i) (state_at d i) label r from_left (λ w p.
+      elim (cases w (state_at d i) p) [
+        | inl old ↦ r.first w old
+        | inr new ↦
+            let same = (only w (state_at d i) new).1 in
+            elim (lost (subst (λ v. Q v (state_at d i)) same new)) [
+              | inl beyond ↦ inr (subst (IsBeyond cap (lift goal i)) (sym same) beyond)
+              | inr late ↦ inl (subst (IsNoLater (walk_of nodes (node_of d nodes label))) (sym same) (late.1 r))
+            ]
+      ]))
   stays label (is_unreached left none first) lost = is_unreached left none (λ w p.
       elim (cases w (state_at d i) p) [
         | inl old ↦ first w old
@@ -120,41 +154,34 @@ module _ (d : Database) (q : Request) (nodes : List Node) (are : AreNodes nodes)
     waiting = before.waiting;
   }
 
+  becomes : (old label : Label) (lower : ℕ) → IsBetter d nodes P cap (lift goal i) (state_at d i) old label x → Q x (state_at d i) → index_of nodes (state_at d i) ≡ None
+      → ((w : List Link) → P w (state_at d i) → IsNoLater x w ⊎ IsBeyond lower (lift goal i) w) → IsLabel d nodes R lower (lift goal i) (state_at d i) label
+  becomes old label lower better passes left first =
+      is_reached left (record {
+        place = better.offer.place;
+        parent = better.offer.parent;
+        rank = better.rank;
+        state = better.state;
+        next = better.offer.next;
+        passes = from_right _ _ (subst (λ v. Q v (state_at d i)) (sym better.walk) passes);
+        first = λ w p.
+            elim (cases w (state_at d i) p) [
+              | inl was ↦ rw better.walk (first w was)
+              | inr new ↦ inl (rw (better.walk, (only w (state_at d i) new).1) (no_later_itself x))
+            ];
+      })
+
   gets : (old label : Label) (lower : ℕ) → lower ≤ cap → IsLabel d nodes P cap (lift goal i) (state_at d i) old → IsBetter d nodes P cap (lift goal i) (state_at d i) old label x → Q x (state_at d i)
       → IsLabel d nodes R lower (lift goal i) (state_at d i) label
   gets old label lower h (is_settled k none e) better passes = absurd (omega (arith, better.rank, better.no_more))
   gets old label lower h (is_reached left r) better passes =
-      is_reached left (record {
-        place = better.offer.place;
-        parent = better.offer.parent;
-        rank = better.rank;
-        state = better.state;
-        next = better.offer.next;
-        passes = from_right _ _ (subst (λ v. Q v (state_at d i)) (sym better.walk) passes);
-        first = λ w p.
-            elim (cases w (state_at d i) p) [
-              | inl was ↦
-                  elim (r.first w was) [
-                    | inl late ↦ inl (rw better.walk (upto walks_total x (walk_of nodes (node_of d nodes old)) w (better.first r) late))
-                    | inr beyond ↦ inr (beyond_lower cap lower (lift goal i) w h beyond)
-                  ]
-              | inr new ↦ inl (rw (better.walk, (only w (state_at d i) new).1) (no_later_itself x))
-            ];
-      })
+      becomes old label lower better passes left (λ w was.
+      elim (r.first w was) [
+        | inl late ↦ inl (upto walks_total x (walk_of nodes (node_of d nodes old)) w (better.first r) late)
+        | inr beyond ↦ inr (beyond_lower cap lower (lift goal i) w h beyond)
+      ])
   gets old label lower h (is_unreached left none first) better passes =
-      is_reached left (record {
-        place = better.offer.place;
-        parent = better.offer.parent;
-        rank = better.rank;
-        state = better.state;
-        next = better.offer.next;
-        passes = from_right _ _ (subst (λ v. Q v (state_at d i)) (sym better.walk) passes);
-        first = λ w p.
-            elim (cases w (state_at d i) p) [
-              | inl was ↦ inr (beyond_lower cap lower (lift goal i) w h (first w was))
-              | inr new ↦ inl (rw (better.walk, (only w (state_at d i) new).1) (no_later_itself x))
-            ];
-      })
+      becomes old label lower better passes left (λ w was. inr (beyond_lower cap lower (lift goal i) w h (first w was)))
 
   -- what is better becomes the label
   pub labels_change : (label : Label) (key : ℕ) (new_keys : List Key) → key ≡ label.rank + lift goal i → IsBetter d nodes P cap (lift goal i) (state_at d i) (label_at labels i) label x → Q x (state_at d i)
@@ -162,45 +189,28 @@ module _ (d : Database) (q : Request) (nodes : List Node) (are : AreNodes nodes)
   labels_change label key new_keys is_key better passes gains =
       let within : i < length labels = omega (arith, before.many, index.low) in
       let here : label_at (set labels i label) i ≡ label = get_or-set_same labels i label _ within in
-      let there : (j : ℕ) → j ≢ i → label_at (set labels i label) j ≡ label_at labels j = λ j ne. get_or-set_other labels i j label _ ne in
       let lower : (label_at (set labels i label) goal.at).rank ≤ cap =
       elim (same_or_not goal.at i) [
         | inl same ↦ rw (same, here) better.no_more
-        | inr ne ↦ let e = ap (λ (l : Label). l.rank) (there goal.at ne) in omega (arith, e)
+        | inr ne ↦ let e = ap (λ (l : Label). l.rank) (get_or-set_other labels i goal.at label no_label ne) in omega (arith, e)
       ] in
-      let moved : (k : Key) → Contains keys k → Contains new_keys k =
-      λ k h. Contains-permutation (key_at key i ∷ keys) new_keys k gains.moved (Contains-append_right (key_at key i ∷ []) keys k h) in
-      record {
-        small = before.small;
-        bounds = before.bounds;
-        whole = before.whole;
-        many = length-set labels i label ∙ before.many;
-        each = λ j jx behind.
-            elim (same_or_not j i) [
-              | inl same ↦
-                  rw (same, here)
-                  (gets (label_at labels i) label (label_at (set labels i label) goal.at).rank lower (before.each i index open_leg) better passes)
-              | inr ne ↦ rw (there j ne) (other j jx ne (label_at (set labels i label) goal.at).rank lower (label_at labels j) (before.each j jx behind))
-            ];
-        ordered = gains.kept before.ordered;
-        keyed =
-            All-permutation (IsKey d q goal) (key_at key i ∷ keys) new_keys gains.moved
-            (All-cons (IsKey d q goal) (key_at key i) keys
-            (record {
-              some = omega (arith, is_key, better.rank);
-              most = omega (arith, is_key, better.rank, rank_small nodes are (node_of d nodes label) better.offer.next, lift_small goal i (before.small i));
-              index = index;
-            })
-            before.keyed);
-        waiting = λ j jx behind some most.
-            elim (same_or_not j i) [
-              | inl same ↦ rw (same, here, ← is_key) (Contains-permutation (key_at key i ∷ keys) new_keys (key_at key i) gains.moved (0, omega arith, refl))
-              | inr ne ↦
-                  let e = there j ne in
-                  let rank = ap (λ (l : Label). l.rank) e in
-                  rw e (moved (key_at ((label_at labels j).rank + lift goal j) j) (before.waiting j jx behind (omega (arith, rank)) (omega (arith, rank))))
-            ];
-      }
+      let key_most = rank_small nodes are (node_of d nodes label) better.offer.next in
+      labels_set d q nodes nodes P R goal labels keys new_keys before i index label
+      (gets (label_at labels i) label (label_at (set labels i label) goal.at).rank lower (before.each i index open_leg) better passes)
+      (λ j jx behind ne. other j jx ne (label_at (set labels i label) goal.at).rank lower (label_at labels j) (before.each j jx behind))
+      (gains.kept before.ordered)
+      (All-permutation (IsKey d q goal) (key_at key i ∷ keys) new_keys gains.moved
+      (All-cons (IsKey d q goal) (key_at key i) keys
+      (record {
+        some = omega (arith, is_key, better.rank);
+        most = omega (arith, is_key, better.rank, key_most, lift_small goal i (before.small i));
+        index = index;
+      })
+      before.keyed))
+      (λ some. rw (← is_key) (Contains-permutation (key_at key i ∷ keys) new_keys (key_at key i) gains.moved (0, omega arith, refl)))
+      (λ j behind ne was.
+      let k = key_at ((label_at labels j).rank + lift goal j) j in
+      Contains-permutation (key_at key i ∷ keys) new_keys k gains.moved (Contains-append_right (key_at key i ∷ []) keys k was))
 
   -- what an offer leaves
   pub labels_offered : (label : Label) (key : ℕ) (new : List Label) (new_keys : List Key) → key ≡ label.rank + lift goal i → IsOffer d nodes label → label.rank ≡ rank_of (node_of d nodes label)
@@ -272,15 +282,7 @@ tied_label d nodes are P cap ahead t old label (is_unreached left none first) of
 label_same : (d : Database) (nodes : List Node) (P R : List Link → State → Type 0) → ((w : List Link) (t : State) → P w t → R w t)
     → ((w : List Link) (t : State) → R w t → P w t) → (cap ahead : ℕ) (t : State) (label : Label) → IsLabel d nodes P cap ahead t label → IsLabel d nodes R cap ahead t label
 label_same d nodes P R up down most ahead t label (is_settled k none e) = is_settled k none e
-label_same d nodes P R up down most ahead t label (is_reached left r) = is_reached left (record {
-  place = r.place;
-  parent = r.parent;
-  rank = r.rank;
-  state = r.state;
-  next = r.next;
-  passes = up _ _ r.passes;
-  first = λ w p. r.first w (down w t p);
-})
+label_same d nodes P R up down most ahead t label (is_reached left r) = is_reached left (reached_on d nodes P R most most ahead t label r up (λ w p. r.first w (down w t p)))
 label_same d nodes P R up down most ahead t label (is_unreached left none first) = is_unreached left none (λ w p. first w (down w t p))
 
 -- labels for one kind are labels for a kind that has the same walks

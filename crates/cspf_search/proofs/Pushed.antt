@@ -1,7 +1,7 @@
 -- What one node more changes of what leads on, and of labels.
-use Rattle.std.proofs.Common.{◌≡◌, ◌≢◌, inl, inr, ℕ, ◌+◌, ◌<◌, Some, None, List, [], ◌∷◌, ◌++◌, length, set, slice_get, slice_index_or, refl, sym, ap, subst, ◌∙◌, arith, length-set}
+use Rattle.std.proofs.Common.{◌≡◌, ◌≢◌, inl, inr, ℕ, ◌+◌, ◌<◌, Some, None, List, [], ◌∷◌, ◌++◌, length, set, slice_get, slice_index_or, refl, sym, ap, subst, ◌∙◌, arith}
 use Rattle.std.proofs.lemmas.Bool.{cases_lt}
-use Rattle.std.proofs.lemmas.List.{get_or_append_left, get_or_push, length_push, get_or-set_same, get_or-set_other}
+use Rattle.std.proofs.lemmas.List.{get_or_append_left, get_or_push, length_push, get_or-set_other}
 use Rattle.std.proofs.lemmas.List.Quantifiers.{position-Some}
 use Rattle.std.proofs.lemmas.Option.{slice_get-get_or}
 use Rattle.cspf_db.specs.declared.link.Link.{Link}
@@ -16,10 +16,11 @@ use Rattle.cspf_search.specs.States.{State}
 use Rattle.cspf_search.specs.Settled.{IsNoLater}
 use Rattle.cspf_search.specs.Arena.{walk_of, state_of, same_state, index_of, IsNext}
 use Rattle.cspf_search.specs.Rounds.{CrossesFrom, CrossesBelow}
-use Rattle.cspf_search.specs.Frontier.{state_at, AreListed, nowhere, node_of, rank_of, IsLabel, is_settled, is_reached, is_unreached, Key, key_at, label_at, lift, AreLabels, IsLeast}
+use Rattle.cspf_search.specs.Frontier.{state_at, AreListed, nowhere, node_of, rank_of, IsLabel, is_settled, is_reached, is_unreached, Key, key_at, label_at, lift, no_label, AreLabels, IsLeast}
 use Rattle.cspf_search.proofs.Labelled.{walk_at-old, walk_of-old, same_state-true, index_at}
 use Rattle.cspf_search.proofs.Few.{AreApart}
-use Rattle.cspf_search.proofs.Ranks.{same_or_not, state_apart}
+use Rattle.cspf_search.proofs.Offered.{labels_set}
+use Rattle.cspf_search.proofs.Ranks.{state_apart}
 
 module _ (nodes : List Node) (n : Node) (before : AreApart nodes) (apart : AreApart (nodes ++ (n ∷ []))) where
   get_old : (i : ℕ) → i < length nodes → slice_get (nodes ++ (n ∷ [])) i ≡ slice_get nodes i
@@ -175,33 +176,15 @@ module _ (nodes : List Node) (n : Node) (before : AreApart nodes) (apart : AreAp
         → state_of n ≡ state_at d i → goal.at ≢ i → (label : Label) → label.rank ≡ 0
         → AreLabels d q (nodes ++ (n ∷ [])) (CrossesBelow d q (nodes ++ (n ∷ [])) (links_of d) (length nodes)) goal (set labels i label) left
     labels_settle listed goal labels keys are i left least state off label none =
-        let within : i < length labels = omega (arith, are.many, least.index.low) in
-        let here : label_at (set labels i label) i ≡ label = get_or-set_same labels i label _ within in
-        let there : (j : ℕ) → j ≢ i → label_at (set labels i label) j ≡ label_at labels j = λ j ne. get_or-set_other labels i j label _ ne in
-        record {
-          small = are.small;
-          bounds = are.bounds;
-          whole = are.whole;
-          many = length-set labels i label ∙ are.many;
-          each = λ j jx behind.
-              elim (same_or_not j i) [
-                | inl same ↦ rw (same, here) (is_settled (length nodes) none (ap (index_of (nodes ++ (n ∷ []))) (sym state) ∙ index_new))
-                | inr ne ↦
-                    rw (there j ne, there goal.at off)
-                    (label_old (label_at labels goal.at).rank (lift goal j) (state_at d j) (λ e. ne (state_apart d q listed j i jx least.index (e ∙ state))) (label_at labels j) (are.each j jx behind))
-              ];
-          ordered = least.ordered;
-          keyed = least.keyed;
-          waiting = λ j jx behind some most.
-              elim (same_or_not j i) [
-                | inl same ↦ absurd (let e : (label_at (set labels i label) j).rank ≡ 0 = rw (same, here) none in omega arith)
-                | inr ne ↦
-                    let e = there j ne in
-                    let rank = ap (λ (l : Label). l.rank) e in
-                    let was = are.waiting j jx behind (omega (arith, rank)) (omega (arith, rank)) in
-                    elim (least.others (key_at ((label_at labels j).rank + lift goal j) j) was (record { behind = behind; same = refl })) [
-                      | inl same ↦ absurd (ne same)
-                      | inr stays ↦ rw e stays
-                    ]
-              ];
-        }
+        let cap_there : label_at (set labels i label) goal.at ≡ label_at labels goal.at = get_or-set_other labels i goal.at label no_label off in
+        labels_set d q nodes (nodes ++ (n ∷ [])) (CrossesBelow d q nodes (links_of d) (length nodes)) (CrossesBelow d q (nodes ++ (n ∷ [])) (links_of d) (length nodes)) goal labels keys left are i
+        least.index label (is_settled (length nodes) none (ap (index_of (nodes ++ (n ∷ []))) (sym state) ∙ index_new))
+        (λ j jx behind ne.
+        rw cap_there
+        (label_old (label_at labels goal.at).rank (lift goal j) (state_at d j) (λ e. ne (state_apart d q listed j i jx least.index (e ∙ state))) (label_at labels j) (are.each j jx behind)))
+        least.ordered least.keyed (λ some. absurd (omega (arith, some, none)))
+        (λ j behind ne was.
+        elim (least.others (key_at ((label_at labels j).rank + lift goal j) j) was (record { behind = behind; same = refl })) [
+          | inl same ↦ absurd (ne same)
+          | inr stays ↦ stays
+        ])

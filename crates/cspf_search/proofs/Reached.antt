@@ -1,8 +1,8 @@
 -- What each round of the search from a heap keeps, and what it has at its end.
-use Rattle.std.proofs.Common.{◌≡◌, ◌⊎◌, inl, inr, ℕ, zero, suc, ◌+◌, ◌-◌, ◌*◌, ◌/◌, ◌%◌, ◌≤◌, Some, None, option_map, List, [], ◌∷◌, ◌++◌, length, set, slice_get, slice_index, refl, sym, ap, subst, ◌∙◌, arith}
+use Rattle.std.proofs.Common.{◌≡◌, ◌⊎◌, inl, inr, ℕ, zero, suc, ◌+◌, ◌-◌, ◌*◌, ◌/◌, ◌%◌, ◌≤◌, Some, None, option_map, List, [], ◌∷◌, ◌++◌, length, set, slice_get, slice_index, slice_index_or, refl, sym, ap, subst, ◌∙◌, arith}
 use Rattle.std.specs.List.{Contains}
 use Rattle.std.proofs.lemmas.Bool.{cases_lt}
-use Rattle.std.proofs.lemmas.List.{get_or_push, length_push}
+use Rattle.std.proofs.lemmas.List.{get_or_push, get_or_read, length_push}
 use Rattle.std.proofs.lemmas.List.Elements.{All-weaker, Contains-get_or}
 use Rattle.cspf_db.specs.declared.link.Link.{Link}
 use Rattle.cspf_db.specs.declared.request.Request.{Request}
@@ -18,7 +18,7 @@ use Rattle.cspf_search.specs.Settled.{Labels, AreSettled, IsClosed, IsStuck}
 use Rattle.cspf_search.specs.Arena.{walk_at, walks, state_of, index_of, labels_of, AreNodes, root_of}
 use Rattle.cspf_search.specs.Rounds.{CrossesBelow}
 use Rattle.cspf_search.specs.Bounds.{AreBounds}
-use Rattle.cspf_search.specs.Frontier.{state_at, IsStateIndex, AreListed, AreRoles, IsRaised, nothing, IsEnd, IsNodeAt, nowhere, node_of, IsReached, Key, label_at, lift, IsKey, IsLive, AreLabels, IsLeast, IsFloor}
+use Rattle.cspf_search.specs.Frontier.{state_at, IsStateIndex, AreListed, AreRoles, IsRaised, nothing, IsEnd, IsNodeAt, nowhere, node_of, IsReached, Key, label_at, no_label, lift, IsKey, IsLive, AreLabels, IsLeast, IsFloor}
 use Rattle.cspf_search.proofs.Few.{HasFewRouters}
 use Rattle.cspf_search.proofs.Cuts.{last_target}
 use Rattle.cspf_search.proofs.Labelled.{open_index}
@@ -46,6 +46,23 @@ pub record IsUnderWay (d : Database) (q : Request) (goal : Goal) (nodes : List N
   pub left : index_of nodes (state_at d goal.at) ≡ None
   pub floor : IsFloor d q (labels_of nodes) goal
   pub labelled : AreLabels d q nodes (CrossesBelow d q nodes (links_of d) (length nodes)) goal labels keys
+
+-- the least key, and the node that its label stands for
+pub record IsTaken (d : Database) (q : Request) (legs from to : ℕ) (goal : Goal) (nodes : List Node) (labels : List Label) (keys : List Key) (i : ℕ) (rest : List Key) (node : Node) : Type 0 where
+  pub asked : IsAsked d q legs from to goal
+  pub before : IsUnderWay d q goal nodes labels keys
+  pub least : IsLeast d q goal labels keys i rest
+  pub is : node ≡ node_of d nodes (label_at labels i)
+
+pub taken : (d : Database) (q : Request) (legs from to : ℕ) (goal : Goal) (nodes : List Node) (labels : List Label) (keys : List Key) (i : ℕ) (rest : List Key) (node : Node)
+    → IsAsked d q legs from to goal → IsUnderWay d q goal nodes labels keys → IsLeast d q goal labels keys i rest → (label : Label) → label ≡ slice_index_or labels i label
+    → node ≡ node_of d nodes label → IsTaken d q legs from to goal nodes labels keys i rest node
+taken d q legs from to goal nodes labels keys i rest node asked before least label at is = record {
+  asked = asked;
+  before = before;
+  least = least;
+  is = is ∙ ap (node_of d nodes) (get_or_read labels i label (omega (arith, least.index.low, before.labelled.many)) at no_label);
+}
 
 module _ (d : Database) (q : Request) (legs from to : ℕ) (goal : Goal) (asked : IsAsked d q legs from to goal) where
   known : IsRouterOf d q.from

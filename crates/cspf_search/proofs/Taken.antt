@@ -1,5 +1,5 @@
 -- The labels after a turn or a link was offered, or passed over.
-use Rattle.std.proofs.Common.{◌≡◌, ◌⊎◌, inl, inr, ℕ, ◌+◌, ◌-◌, ◌*◌, ◌/◌, ◌%◌, ◌^◌, ◌<◌, ◌≤◌, ◌↔◌, IsTrue, nat_eq, Some, None, List, [], ◌∷◌, ◌++◌, length, map, slice_get, slice_index, slice_index_or, sym, ap, subst, ◌∙◌, arith}
+use Rattle.std.proofs.Common.{◌≡◌, ◌⊎◌, inl, inr, ℕ, ◌+◌, ◌-◌, ◌*◌, ◌/◌, ◌%◌, ◌^◌, ◌<◌, ◌≤◌, ◌↔◌, IsTrue, nat_eq, Option, Some, None, List, [], ◌∷◌, ◌++◌, length, map, slice_get, slice_index, slice_index_or, refl, sym, ap, subst, ◌∙◌, arith}
 use Rattle.std.specs.List.{All}
 use Rattle.std.proofs.lemmas.List.{get_or-map, length-map}
 use Rattle.std.proofs.lemmas.Option.{slice_get_past}
@@ -11,12 +11,15 @@ use Rattle.cspf_db.specs.Targets.{IsTarget, IsInside}
 use Rattle.cspf_db.specs.Index.{links_of, links_from_index, router_list}
 use Rattle.cspf_search.specs.declared.arena.Node.{Node}
 use Rattle.cspf_search.specs.declared.goal.Goal.{Goal}
+use Rattle.cspf_search.specs.declared.edge.Edge.{Edge}
+use Rattle.cspf_search.specs.declared.frontier.Source.{Source}
 use Rattle.cspf_search.specs.declared.labels.Label.{Label}
 use Rattle.cspf_search.specs.declared.roles.Role.{Role}
 use Rattle.cspf_search.specs.States.{State}
-use Rattle.cspf_search.specs.Arena.{walk_at, walks, walk_of, state_of, AreNodes, IsNext}
+use Rattle.cspf_search.specs.Arena.{walk_at, walks, walk_of, state_of, index_of, AreNodes, IsNext}
 use Rattle.cspf_search.specs.Rounds.{CrossesBy, Turns, CrossesBelow}
-use Rattle.cspf_search.specs.Frontier.{state_at, AreListed, nowhere, node_by, node_of, rank_of, IsNodeAt, IsEnd, IsOffer, AreTied, StaysAt, GoesTo, Key, label_at, lift, AreLabels, IsRole, CrossesUpTo}
+use Rattle.cspf_search.specs.Source.{IsEdge, IsSource}
+use Rattle.cspf_search.specs.Frontier.{state_at, IsStateIndex, AreListed, nowhere, node_by, node_of, rank_of, IsNodeAt, IsEnd, IsOffer, AreTied, StaysAt, GoesTo, Key, label_at, lift, AreLabels, IsRole, CrossesUpTo}
 use Rattle.cspf_search.proofs.Ranks.{lift_small}
 use Rattle.cspf_search.proofs.Backs.{turned_next, by_next}
 use Rattle.cspf_search.proofs.Offered.{labels_stay, labels_offered, labels_same, lost_by_rank, tied_label, left_open, IsLost}
@@ -36,10 +39,73 @@ end_of_row d ends links within each i l end h is at =
       is = ap (λ e. slice_index (router_list d) e) at ∙ sym left ∙ ap (λ ns. slice_index_or ns i 0) each ∙ right ∙ ap (λ (l : Link). l.to) (sym is);
     }
 
-module _ (d : Database) (q : Request) (nodes : List Node) (are : AreNodes nodes) (listed : AreListed d) (at state : ℕ) (is : IsNodeAt d q nodes at state) (goal : Goal)
-    (open_leg : goal.floor ≤ state) (labels : List Label) (keys : List Key) where
-  pub few_rows : length (links_from_index d (state % 1024)) ≤ 16384
-  few_rows = omega (arith, listed.room, filter_short (λ l. nat_eq l.from (slice_index (router_list d) (state % 1024))) (links_of d))
+-- no router has more links than the database
+pub few_rows : (d : Database) → AreListed d → (place : ℕ) → length (links_from_index d place) ≤ 16384
+few_rows d listed place = omega (arith, listed.room, filter_short (λ l. nat_eq l.from (slice_index (router_list d) place)) (links_of d))
+
+module _ (source : Source) (of : IsSource source) (labels : List Label) (keys : List Key) where
+  abbrev pub d : Database
+  d = source.query.table.now
+
+  abbrev pub q : Request
+  q = source.query.request.now
+
+  abbrev pub nodes : List Node
+  nodes = source.nodes.now
+
+  abbrev pub at : ℕ
+  at = source.at
+
+  abbrev pub state : ℕ
+  state = source.state
+
+  abbrev pub goal : Goal
+  goal = source.goal
+
+  are : AreNodes nodes
+  are = of.arena
+
+  listed : AreListed d
+  listed = of.query.listed
+
+  is : IsNodeAt d q nodes at state
+  is = of.node
+
+  open_leg : goal.floor ≤ state
+  open_leg = of.behind
+
+  -- a label of this source, of what a link leads to, or the turn where there is none
+  module _ (label : Label) (by : Option Link) (parent : label.parent ≡ at) (place : label.place ≡ state % 1024)
+      (here : slice_get (links_from_index d (state % 1024)) label.row ≡ by) (next : IsNext nodes (node_by at (slice_index_or nodes at nowhere) by))
+      (rank : label.rank ≡ rank_of (node_by at (slice_index_or nodes at nowhere) by)) where
+    label_node : node_of d nodes label ≡ node_by at (slice_index_or nodes at nowhere) by
+    label_node = rw (parent, place) (ap (node_by at (slice_index_or nodes at nowhere)) here)
+
+    label_offer : IsOffer d nodes label
+    label_offer = record {
+      place = rw place is.index.place;
+      parent = rw parent is.within;
+      next = subst (IsNext nodes) (sym label_node) next;
+    }
+
+    label_rank : label.rank ≡ rank_of (node_of d nodes label)
+    label_rank = rank ∙ ap rank_of (sym label_node)
+
+    label_tied : (P : List Link → State → Type 0) → AreLabels d q nodes P goal labels keys → (i : ℕ) → IsStateIndex d q i → goal.floor ≤ i → label.rank ≡ (label_at labels i).rank
+        → AreTied d nodes (label_at labels i) label
+    label_tied P before i index low tie =
+        tied_label d nodes are P (label_at labels goal.at).rank (lift goal i) (state_at d i) (label_at labels i) label (before.each i index low) label_offer label_rank tie
+
+    label_taken : (P Q R : List Link → State → Type 0) → ((w : List Link) (t : State) → P w t → R w t) → ((w : List Link) (t : State) → Q w t → R w t)
+        → ((w : List Link) (t : State) → R w t → P w t ⊎ Q w t) → AreLabels d q nodes P goal labels keys → (i : ℕ) → IsStateIndex d q i → goal.floor ≤ i → (x : List Link)
+        → ((w : List Link) (t : State) → Q w t → (t ≡ state_at d i) × (w ≡ x)) → state_of (node_by at (slice_index_or nodes at nowhere) by) ≡ state_at d i
+        → walk_of nodes (node_by at (slice_index_or nodes at nowhere) by) ≡ x → label.rank ≤ (label_at labels i).rank → (index_of nodes (state_at d i) ≡ None → Q x (state_at d i))
+        → (key : ℕ) (new : List Label) (new_keys : List Key) → key ≡ label.rank + lift goal i
+        → StaysAt d nodes i label labels new keys new_keys ⊎ GoesTo d nodes i label key labels new keys new_keys → AreLabels d q nodes R goal new new_keys
+    label_taken P Q R from_left from_right cases before i index low x only state_is walk le passes key new new_keys is_key choice =
+        let left = left_open d nodes P (label_at labels goal.at).rank (lift goal i) (state_at d i) (label_at labels i) (before.each i index low) (omega (arith, le, rank)) in
+        labels_offered d q nodes are listed P Q R from_left from_right cases goal labels keys before i index low x only label key new new_keys is_key label_offer label_rank
+        (ap state_of label_node ∙ state_is) (ap (walk_of nodes) label_node ∙ walk) le (passes left) choice
 
   module _ (before : AreLabels d q nodes (CrossesBelow d q nodes (links_of d) at) goal labels keys) where
     -- no turn: nothing changes
@@ -67,41 +133,42 @@ module _ (d : Database) (q : Request) (nodes : List Node) (are : AreNodes nodes)
 
     module _ (label : Label) (parent : label.parent ≡ at) (place : label.place ≡ state % 1024) (row : label.row ≡ 65535)
         (rank : label.rank ≡ rank_of (slice_index_or nodes at nowhere)) where
-      turn_node : node_of d nodes label ≡ node_by at (slice_index_or nodes at nowhere) None
-      turn_node =
-          rw (parent, place, row) (ap (node_by at (slice_index_or nodes at nowhere)) (slice_get_past (links_from_index d (state % 1024)) 65535 (omega (arith, few_rows))))
+      past : slice_get (links_from_index d (state % 1024)) label.row ≡ None
+      past = rw row (slice_get_past (links_from_index d (state % 1024)) 65535 (omega (arith, few_rows d listed (state % 1024))))
 
       pub turn_offer : IsOffer d nodes label
-      turn_offer = record {
-        place = rw place is.index.place;
-        parent = rw parent is.within;
-        next = subst (IsNext nodes) (sym turn_node) turned;
-      }
-
-      turn_rank : label.rank ≡ rank_of (node_of d nodes label)
-      turn_rank = rank ∙ ap rank_of (sym turn_node)
+      turn_offer = label_offer label None parent place past turned rank
 
       pub turn_tied : state / 1024 < length q.hops → label.rank ≡ (label_at labels (state + 1024)).rank → AreTied d nodes (label_at labels (state + 1024)) label
       turn_tied h tie =
-          tied_label d nodes are (CrossesBelow d q nodes (links_of d) at) (label_at labels goal.at).rank (lift goal (state + 1024)) (state_at d (state + 1024)) (label_at labels (state + 1024)) label
-          (before.each (state + 1024) (turn_index d q nodes at state is h) (omega (arith, open_leg))) turn_offer turn_rank tie
+          label_tied label None parent place past turned rank (CrossesBelow d q nodes (links_of d) at) before (state + 1024) (turn_index d q nodes at state is h) (omega (arith, open_leg)) tie
 
       pub turn_taken : state / 1024 < length q.hops → IsTarget d q (state / 1024 + 1) (slice_index (router_list d) (state % 1024))
           → label.rank ≤ (label_at labels (state + 1024)).rank → (key : ℕ) (new : List Label) (new_keys : List Key) → key ≡ label.rank + lift goal (state + 1024)
           → StaysAt d nodes (state + 1024) label labels new keys new_keys ⊎ GoesTo d nodes (state + 1024) label key labels new keys new_keys
           → AreLabels d q nodes (CrossesUpTo d q nodes at (state % 1024) 0) goal new new_keys
       turn_taken h target le key new new_keys is_key choice =
-          let index = turn_index d q nodes at state is h in
-          let left =
-          left_open d nodes (CrossesBelow d q nodes (links_of d) at) (label_at labels goal.at).rank (lift goal (state + 1024)) (state_at d (state + 1024)) (label_at labels (state + 1024)) (before.each (state + 1024) index (omega (arith, open_leg)))
-          (omega (arith, le, rank)) in
-          labels_offered d q nodes are listed (CrossesBelow d q nodes (links_of d) at) (Turns d q nodes at) (CrossesUpTo d q nodes at (state % 1024) 0)
-          (turn_left d q nodes at state is) (turn_right d q nodes at state is) (turn_cases d q nodes at state is) goal labels keys before (state + 1024) index (omega (arith, open_leg))
-          (walk_at (walks nodes) at) (turn_only d q nodes at state is) label key new new_keys is_key turn_offer turn_rank (ap state_of turn_node ∙ turn_state d q nodes at state is)
-          (ap (walk_of nodes) turn_node ∙ sym (are.grown at nowhere is.within)) le (turn_passes d q nodes at state is h target left) choice
+          label_taken label None parent place past turned rank (CrossesBelow d q nodes (links_of d) at) (Turns d q nodes at) (CrossesUpTo d q nodes at (state % 1024) 0)
+          (turn_left d q nodes at state is) (turn_right d q nodes at state is) (turn_cases d q nodes at state is) before (state + 1024) (turn_index d q nodes at state is h) (omega (arith, open_leg))
+          (walk_at (walks nodes) at) (turn_only d q nodes at state is) (turn_state d q nodes at state is) (sym (are.grown at nowhere is.within)) le (turn_passes d q nodes at state is h target) key new new_keys is_key choice
 
-  module _ (row : ℕ) (l : Link) (small : l.metric < 2 ^ 32) (here : slice_get (links_from_index d (state % 1024)) row ≡ Some l) (end : ℕ) (ends : IsEnd d l.to end)
-      (before : AreLabels d q nodes (CrossesUpTo d q nodes at (state % 1024) row) goal labels keys) where
+  module _ (edge : Edge) (small : edge.link.now.metric < 2 ^ 32) (is_edge : IsEdge d (state % 1024) edge)
+      (before : AreLabels d q nodes (CrossesUpTo d q nodes at (state % 1024) edge.row) goal labels keys) where
+    abbrev pub row : ℕ
+    row = edge.row
+
+    abbrev pub l : Link
+    l = edge.link.now
+
+    abbrev pub end : ℕ
+    end = edge.end
+
+    here : slice_get (links_from_index d (state % 1024)) row ≡ Some l
+    here = is_edge.row
+
+    ends : IsEnd d l.to end
+    ends = is_edge.end
+
     along : IsNext nodes (node_by at (slice_index_or nodes at nowhere) (Some l))
     along = by_next d q nodes are at is.within (slice_index_or nodes at nowhere) (there d q nodes at state is) l small
 
@@ -142,40 +209,27 @@ module _ (d : Database) (q : Request) (nodes : List Node) (are : AreNodes nodes)
 
     module _ (label : Label) (parent : label.parent ≡ at) (place : label.place ≡ state % 1024) (at_row : label.row ≡ row)
         (rank : label.rank ≡ rank_of (slice_index_or nodes at nowhere) + l.metric * 16384 + 1) where
-      link_node : node_of d nodes label ≡ node_by at (slice_index_or nodes at nowhere) (Some l)
-      link_node = rw (parent, place, at_row) (ap (node_by at (slice_index_or nodes at nowhere)) here)
+      there_is : slice_get (links_from_index d (state % 1024)) label.row ≡ Some l
+      there_is = rw at_row here
+
+      link_rank : label.rank ≡ rank_of (node_by at (slice_index_or nodes at nowhere) (Some l))
+      link_rank = omega (arith, rank)
 
       pub link_offer : IsOffer d nodes label
-      link_offer = record {
-        place = rw place is.index.place;
-        parent = rw parent is.within;
-        next = subst (IsNext nodes) (sym link_node) along;
-      }
-
-      link_rank : label.rank ≡ rank_of (node_of d nodes label)
-      link_rank =
-          let n : Node = node_by at (slice_index_or nodes at nowhere) (Some l) in
-          let e : label.rank ≡ rank_of n = omega (arith, rank) in
-          e ∙ ap rank_of (sym link_node)
+      link_offer = label_offer label (Some l) parent place there_is along link_rank
 
       pub link_tied : label.rank ≡ (label_at labels (state - state % 1024 + end)).rank → AreTied d nodes (label_at labels (state - state % 1024 + end)) label
       link_tied tie =
-          tied_label d nodes are (CrossesUpTo d q nodes at (state % 1024) row) (label_at labels goal.at).rank (lift goal (state - state % 1024 + end)) (state_at d (state - state % 1024 + end))
-          (label_at labels (state - state % 1024 + end)) label
-          (before.each (state - state % 1024 + end) (link_index d q nodes at state is row l here end ends listed.few) (omega (arith, open_leg, before.whole))) link_offer link_rank tie
+          label_tied label (Some l) parent place there_is along link_rank (CrossesUpTo d q nodes at (state % 1024) row) before (state - state % 1024 + end)
+          (link_index d q nodes at state is row l here end ends listed.few) (omega (arith, open_leg, before.whole)) tie
 
       pub link_taken : IsAdmitted q l → IsInside d q (state / 1024 + 1) l.to → label.rank ≤ (label_at labels (state - state % 1024 + end)).rank
           → (key : ℕ) (new : List Label) (new_keys : List Key) → key ≡ label.rank + lift goal (state - state % 1024 + end)
           → StaysAt d nodes (state - state % 1024 + end) label labels new keys new_keys ⊎ GoesTo d nodes (state - state % 1024 + end) label key labels new keys new_keys
           → AreLabels d q nodes (CrossesUpTo d q nodes at (state % 1024) (row + 1)) goal new new_keys
       link_taken admitted inside le key new new_keys is_key choice =
-          let index = link_index d q nodes at state is row l here end ends listed.few in
-          let left =
-          left_open d nodes (CrossesUpTo d q nodes at (state % 1024) row) (label_at labels goal.at).rank (lift goal (state - state % 1024 + end)) (state_at d (state - state % 1024 + end))
-          (label_at labels (state - state % 1024 + end)) (before.each (state - state % 1024 + end) index (omega (arith, open_leg, before.whole))) (omega (arith, le, rank)) in
-          labels_offered d q nodes are listed (CrossesUpTo d q nodes at (state % 1024) row) (CrossesBy d q nodes at l) (CrossesUpTo d q nodes at (state % 1024) (row + 1))
+          label_taken label (Some l) parent place there_is along link_rank (CrossesUpTo d q nodes at (state % 1024) row) (CrossesBy d q nodes at l) (CrossesUpTo d q nodes at (state % 1024) (row + 1))
           (link_left d q nodes at state is row l here end ends listed.few) (link_right d q nodes at state is row l here end ends listed.few)
-          (link_cases d q nodes at state is row l here end ends listed.few) goal labels keys before (state - state % 1024 + end) index (omega (arith, open_leg, before.whole))
-          (walk_at (walks nodes) at ++ (l ∷ [])) (link_only d q nodes at state is row l here end ends listed.few) label key new new_keys is_key link_offer link_rank
-          (ap state_of link_node ∙ link_state d q nodes at state is row l here end ends listed.few) (ap (walk_of nodes) link_node) le
-          (link_passes d q nodes at state is row l here end ends listed.few admitted inside left) choice
+          (link_cases d q nodes at state is row l here end ends listed.few) before (state - state % 1024 + end) (link_index d q nodes at state is row l here end ends listed.few)
+          (omega (arith, open_leg, before.whole)) (walk_at (walks nodes) at ++ (l ∷ [])) (link_only d q nodes at state is row l here end ends listed.few)
+          (link_state d q nodes at state is row l here end ends listed.few) refl le (link_passes d q nodes at state is row l here end ends listed.few admitted inside) key new new_keys is_key choice

@@ -8,6 +8,7 @@ use Rattle.cspf_db.specs.Admissible.{IsAdmissible, IsAdmitted}
 use Rattle.cspf_db.specs.Targets.{IsTarget}
 use Rattle.cspf_db.specs.Index.{router_list, links_from_index}
 use Rattle.cspf_search.specs.declared.arrivals.Arrival.{Arrival}
+use Rattle.cspf_search.specs.declared.ring.Ring.{Ring}
 use Rattle.cspf_search.specs.Frontier.{IsEnd, IsStateIndex}
 
 -- the bound of the state at an index
@@ -30,38 +31,37 @@ pub record AreBounds (d : Database) (q : Request) (bounds : List ℕ) : Type 0 w
 -- The bound of each router from a leg on, as far as an edge, where these are the bounds of its targets
 -- behind it: so it is for the lower of the two.
 pub record IsLeg (d : Database) (q : Request) (leg : ℕ) (near : List ℕ) (edge : ℕ) (ahead : List ℕ) : Type 0 where
-  pub many : length near ≡ MOST_ROUTERS
   pub links : (u w : ℕ) (l : Link) → IsAdmissible d q l → IsEnd d l.from u → IsEnd d l.to w
       → min (bound_at near u) edge ≤ min (bound_at near w) edge + l.metric
   pub targets : (p : ℕ) → p < length (router_list d)
       → IsTarget d q (leg + 1) (slice_index (router_list d) p) → min (bound_at near p) edge ≤ bound_at ahead p
 
 -- whether the links that arrive at a router were all looked at
-abbrev pub is_done : List Bool → ℕ → Bool
-is_done done w = slice_index_or done w false
+abbrev pub is_done : Ring → ℕ → Bool
+is_done ring w = slice_index_or ring.done.items w false
 
--- No admissible link that arrives at a router that is done lowers the bound by more than its
--- metric.
-pub record IsRing (d : Database) (q : Request) (near : List ℕ) (done : List Bool) : Type 0 where
-  pub many : length near ≡ MOST_ROUTERS
-  pub marks : length done ≡ MOST_ROUTERS
-  pub links : (u w : ℕ) → is_done done w ≡ true → (l : Link) → IsAdmissible d q l
-      → IsEnd d l.from u → IsEnd d l.to w → bound_at near u ≤ bound_at near w + l.metric
+-- no admissible link that arrives at a router that is marked lowers the bound by more than its metric
+abbrev pub AreLooked : Database → Request → List ℕ → List Bool → Type 0
+AreLooked d q near marks =
+    (u w : ℕ) → slice_index_or marks w false ≡ true → (l : Link) → IsAdmissible d q l → IsEnd d l.from u → IsEnd d l.to w
+    → bound_at near u ≤ bound_at near w + l.metric
+
+-- so it is of the routers that are done
+abbrev pub IsRing : Database → Request → Ring → Type 0
+IsRing d q ring = AreLooked d q ring.near.items ring.done.items
 
 -- the bound is nowhere more than before
-abbrev pub IsLower : List ℕ → List ℕ → Type 0
-IsLower old new = (i : ℕ) → bound_at new i ≤ bound_at old i
+abbrev pub IsLower : Ring → Ring → Type 0
+IsLower old new = (i : ℕ) → bound_at new.near.items i ≤ bound_at old.near.items i
 
 -- The bound is nowhere more than before, and where it is less the router isn't done.
-pub record Falls (old new : List ℕ) (before after : List Bool) : Type 0 where
-  pub near : length new ≡ length old
-  pub done : length after ≡ length before
+pub record Falls (old new : Ring) : Type 0 where
   pub lower : IsLower old new
-  pub kept : (i : ℕ) → is_done after i ≡ true
-      → (is_done before i ≡ true) × (bound_at new i ≡ bound_at old i)
+  pub kept : (i : ℕ) → is_done new i ≡ true
+      → (is_done old i ≡ true) × (bound_at new.near.items i ≡ bound_at old.near.items i)
 
 -- the bound of the router that an admitted link arrives from is no more than by that link
-abbrev pub IsPassed : Database → Request → ℕ → List ℕ → Arrival → Type 0
-IsPassed d q base near a =
+abbrev pub IsPassed : Database → Request → ℕ → Ring → Arrival → Type 0
+IsPassed d q base ring a =
     (l : Link) → slice_get (links_from_index d a.from) a.row ≡ Some l → IsAdmitted q l
-    → bound_at near a.from ≤ base + l.metric
+    → bound_at ring.near.items a.from ≤ base + l.metric

@@ -8,6 +8,8 @@ pub mod Rounds
 pub mod Frontier
 pub mod ForwardStars
 pub mod Query
+pub mod Searched
+pub mod RoundSteps
 pub mod Arrivals
 pub mod Backward
 pub mod Source

@@ -1,8 +1,10 @@
 -- Private words of the search: what it is asked, and what leads on in it.
-use Rattle.std.specs.Prelude.{ℕ, ◌%◌, List}
+use Rattle.std.specs.Prelude.{◌≡◌, ℕ, ◌+◌, ◌%◌, ◌≤◌, List, length, nat_eq}
+use Rattle.std.specs.List.{AllByRecursion, IsDistinct}
+use Rattle.cspf_search.specs.declared.limits.TheConstants.{MOST_LEGS}
 use Rattle.cspf_db.specs.declared.limits.TheConstants.{MOST_ROUTERS}
 use Rattle.cspf_db.specs.declared.link.Link.{Link}
-use Rattle.cspf_db.specs.Database.{AreLinksOf}
+use Rattle.cspf_db.specs.Database.{AreLinksOf, IsRouterOf}
 use Rattle.cspf_db.specs.Index.{links_of}
 use Rattle.cspf_search.specs.declared.arena.Node.{Node}
 use Rattle.cspf_search.specs.declared.query.Query.{Query}
@@ -14,6 +16,10 @@ use Rattle.cspf_search.specs.Frontier.{AreListed, AreRoles, CrossesUpTo}
 pub record IsQuery (query : Query) : Type 0 where
   pub listed : AreListed query.table.now
   pub links : AreLinksOf query.table.now (links_of query.table.now)
+  pub few : (routers : List ℕ) → IsDistinct nat_eq routers → AllByRecursion (IsRouterOf query.table.now) routers
+      → length routers ≤ MOST_ROUTERS
+  pub count : query.legs ≡ length query.request.now.hops + 1
+  pub most : query.legs ≤ MOST_LEGS
   pub roles : AreRoles query.table.now query.request.now query.roles.now
 
 -- the walks that lead on from the nodes before an index

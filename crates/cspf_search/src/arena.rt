@@ -1,9 +1,11 @@
 ghost use Rattle.std.specs.Prelude.{◌≡◌, ◌<◌, IfOk, length};
-ghost use Rattle.cspf_search.specs.Arena.{AreNodes, index_of, walk_at, walks};
+ghost use Rattle.cspf_search.specs.Settled.{locals_cmp};
+ghost use Rattle.cspf_search.specs.Arena.{AreNodes, IsNext, index_of, walk_at, walk_of, walks};
 
 use cspf_addr::Addr;
 use cspf_db::Link;
 use std::alloc::{AllocError, Global};
+use std::cmp::Ordering;
 
 /// A walk that the search has settled where it stands, by its last link and the node of the walk
 /// before that link.
@@ -46,4 +48,31 @@ pub(crate) fn links_to(alloc: Global, nodes: &[Node], at: usize) -> Result<Vec<L
     }
     links.reverse();
     Ok(links)
+}
+
+/// How the local addresses of two walks of as many links compare, from the first link on. What they
+/// have in common from there on isn't looked at.
+pub(crate) fn locals(nodes: &[Node], a: &Node, b: &Node) -> Ordering
+    requires arena { AreNodes nodes.now }
+    requires first { IsNext nodes.now a.now }
+    requires second { IsNext nodes.now b.now }
+    requires as_many { a.now.links ≡ b.now.links }
+    ensures { result ≡ locals_cmp (walk_of nodes.now a.now) (walk_of nodes.now b.now) }
+{
+    let count = a.links;
+    let mut found = Ordering::Equal;
+    let mut x = a;
+    let mut y = b;
+    for _step in 0..count {
+        let (Some(l), Some(m)) = (&x.by, &y.by) else {
+            unreachable!();
+        };
+        found = l.local.cmp(&m.local).then(found);
+        if x.parent == y.parent {
+            return found;
+        }
+        x = &nodes[x.parent];
+        y = &nodes[y.parent];
+    }
+    found
 }

@@ -1,4 +1,3 @@
-ghost use Rattle.cspf_search.specs.declared.limits.TheConstants.{MOST_LEGS};
 ghost use Rattle.std.specs.Prelude.{◌≡◌, ◌+◌, ◌*◌, ◌<◌, ◌≤◌, ◌⊎◌, ℕ, min, false, IsTrue, IfOk, IfSome, OnOk, length, slice_index_or};
 ghost use Rattle.cspf_search.specs.declared.roles.Role.{Role as Stood};
 ghost use Rattle.cspf_search.specs.Query.{IsQuery};
@@ -8,12 +7,12 @@ ghost use Rattle.cspf_search.specs.Bounds.{AreBounds, Falls, IsLeg, IsLower, IsP
 
 use crate::arrivals::{Arrival, list};
 use crate::query::Query;
+use crate::ring::Ring;
 use crate::roles::Role;
 use cspf_db::MOST_ROUTERS;
 use cspf_graph::accepts;
 use std::alloc::{AllocError, Global};
 use std::cmp::Reverse;
-use std::collections::BinaryHeap;
 
 /// How many routers the backward search settles in the last leg at most.
 const RING: usize = 32;
@@ -32,163 +31,87 @@ struct Backward<'a> {
     last: &'a [u32],
 }
 
-/// The bound of a router that waits, and its index in the list of routers.
-type Waiting = Reverse<(u32, u16)>;
-
-/// Lowers the bound of the router at an index, which then waits, if this is less.
-fn lower(
-    near: &mut [u32],
-    done: &mut [bool],
-    heap: &mut BinaryHeap<Waiting, Global>,
-    from: u16,
-    ahead: u32,
-) -> Result<(), AllocError>
-    requires near { length near.old ≡ MOST_ROUTERS }
-    requires done { length done.old ≡ MOST_ROUTERS }
-    requires within { from < MOST_ROUTERS }
-    ensures falls { OnOk result (Falls near.old near.new done.old done.new) }
-    ensures low { OnOk result (bound_at near.new from ≤ ahead) }
-{
-    let at = usize::from(from);
-    if near[at] <= ahead {
-        return Ok(());
-    }
-    near[at] = ahead;
-    done[at] = false;
-    heap.push(Reverse((ahead, from)))?;
-    Ok(())
-}
-
 /// Lowers the bound of the router that a link arrives from, if the request admits the link.
-fn pass(
-    query: Query<'_>,
-    arrival: Arrival,
-    base: u32,
-    near: &mut [u32],
-    done: &mut [bool],
-    heap: &mut BinaryHeap<Waiting, Global>,
-) -> Result<(), AllocError>
+fn pass(query: Query<'_>, arrival: Arrival, base: u32, ring: &mut Ring) -> Result<(), AllocError>
     requires query { IsQuery query }
     requires row { IsRow query.table.now arrival }
-    requires near { length near.old ≡ MOST_ROUTERS }
-    requires done { length done.old ≡ MOST_ROUTERS }
-    ensures falls { OnOk result (Falls near.old near.new done.old done.new) }
-    ensures passed { OnOk result (IsPassed query.entry.table.now query.entry.request.now base near.new arrival) }
+    ensures falls { OnOk result (Falls ring.old ring.new) }
+    ensures passed { OnOk result (IsPassed query.entry.table.now query.entry.request.now base ring.new arrival) }
 {
     let link = &query.table.out_at(usize::from(arrival.from))[usize::from(arrival.row)];
     if !accepts(link, query.request) {
         return Ok(());
     }
-    let ahead = base.saturating_add(link.metric);
-    lower(near, done, heap, arrival.from, ahead)
+    ring.lower(arrival.from, base.saturating_add(link.metric))
 }
 
 /// Lowers the bounds of the routers that links arrive from at the router at an index, which has
 /// this bound.
-fn walk(
-    search: Backward<'_>,
-    to: usize,
-    base: u32,
-    near: &mut [u32],
-    done: &mut [bool],
-    heap: &mut BinaryHeap<Waiting, Global>,
-) -> Result<(), AllocError>
+fn walk(search: Backward<'_>, to: usize, base: u32, ring: &mut Ring) -> Result<(), AllocError>
     requires search { IsBackward search }
     requires within { to < MOST_ROUTERS }
-    requires near { length near.old ≡ MOST_ROUTERS }
-    requires done { length done.old ≡ MOST_ROUTERS }
-    ensures falls { OnOk result (Falls near.old near.new done.old done.new) }
+    ensures falls { OnOk result (Falls ring.old ring.new) }
     ensures passed { OnOk result ((n : ℕ) → Follows search.entry.arrivals.now (pointer_at search.entry.last.now to) n
-        → IsPassed search.entry.query.table.now search.entry.query.request.now base near.new (arrival_at search.entry.arrivals.now n)) }
+        → IsPassed search.entry.query.table.now search.entry.query.request.now base ring.new (arrival_at search.entry.arrivals.now n)) }
 {
     let mut at = search.last[to] as usize;
     while at > 0 {
         let arrival = search.arrivals[at - 1];
-        pass(search.query, arrival, base, near, done, heap)?;
+        pass(search.query, arrival, base, ring)?;
         at = arrival.before as usize;
     }
     Ok(())
 }
 
 /// Looks at all links that arrive at the router at an index.
-fn take(
-    search: Backward<'_>,
-    to: usize,
-    near: &mut [u32],
-    done: &mut [bool],
-    heap: &mut BinaryHeap<Waiting, Global>,
-) -> Result<(), AllocError>
+fn take(search: Backward<'_>, to: usize, ring: &mut Ring) -> Result<(), AllocError>
     requires search { IsBackward search }
     requires within { to < MOST_ROUTERS }
-    requires ring { IsRing search.query.table.now search.query.request.now near.old done.old }
-    ensures ring { OnOk result (IsRing search.entry.query.table.now search.entry.query.request.now near.new done.new) }
-    ensures lower { OnOk result (IsLower near.old near.new) }
+    requires ring { IsRing search.query.table.now search.query.request.now ring.old }
+    ensures ring { OnOk result (IsRing search.entry.query.table.now search.entry.query.request.now ring.new) }
+    ensures lower { OnOk result (IsLower ring.old ring.new) }
 {
-    let base = near[to];
-    walk(search, to, base, near, done, heap)?;
-    if near[to] == base {
-        done[to] = true;
+    let base = ring.near[to];
+    walk(search, to, base, ring)?;
+    if ring.near[to] == base {
+        ring.done[to] = true;
     }
     Ok(())
-}
-
-/// The index of the router that waits with the least bound, if one waits.
-fn nearest(near: &[u32], done: &[bool], heap: &mut BinaryHeap<Waiting, Global>) -> Option<usize>
-    requires near { length near.now ≡ MOST_ROUTERS }
-    requires done { length done.now ≡ MOST_ROUTERS }
-    ensures { IfSome result (λ at. at < MOST_ROUTERS) }
-{
-    while let Some(Reverse((ahead, at))) = heap.pop() {
-        let at = usize::from(at);
-        if at < MOST_ROUTERS && !done[at] && near[at] == ahead {
-            return Some(at);
-        }
-    }
-    None
 }
 
 /// Settles the routers that wait, nearest first, up to a count, whose bounds are less than this.
-fn grow(
-    search: Backward<'_>,
-    most: usize,
-    top: u32,
-    near: &mut [u32],
-    done: &mut [bool],
-    heap: &mut BinaryHeap<Waiting, Global>,
-) -> Result<(), AllocError>
+fn grow(search: Backward<'_>, most: usize, top: u32, ring: &mut Ring) -> Result<(), AllocError>
     requires search { IsBackward search }
-    requires ring { IsRing search.query.table.now search.query.request.now near.old done.old }
-    ensures ring { OnOk result (IsRing search.entry.query.table.now search.entry.query.request.now near.new done.new) }
-    ensures lower { OnOk result (IsLower near.old near.new) }
+    requires ring { IsRing search.query.table.now search.query.request.now ring.old }
+    ensures ring { OnOk result (IsRing search.entry.query.table.now search.entry.query.request.now ring.new) }
+    ensures lower { OnOk result (IsLower ring.old ring.new) }
 {
     for _taken in 0..most {
-        let Some(to) = nearest(near, done, heap) else {
+        let Some(to) = ring.nearest() else {
             return Ok(());
         };
-        if near[to] >= top {
+        if ring.near[to] >= top {
             return Ok(());
         }
-        take(search, to, near, done, heap)?;
+        take(search, to, ring)?;
     }
     Ok(())
 }
 
-/// Has the targets of a leg wait, each with its bound in the next leg, which is nothing in
-/// the last one. The states of the leg begin at an index. It answers from where on it is no use to
-/// look further: where there are more targets than are taken, from the farthest of them on.
-fn begin(
-    roles: &[Role],
-    first: usize,
-    ahead: &[u32],
-    near: &mut [u32],
-    heap: &mut BinaryHeap<Waiting, Global>,
-) -> Result<u32, AllocError>
+/// Begins a leg: nothing is done, and its targets wait, each with its bound in the next leg, which
+/// is nothing in the last one. The states of the leg begin at an index. It answers from where on it
+/// is no use to look further: where there are more targets than are taken, from the farthest of them
+/// on.
+fn begin(roles: &[Role], first: usize, ahead: &[u32], ring: &mut Ring) -> Result<u32, AllocError>
     requires within { first + MOST_ROUTERS ≤ length roles.now }
-    requires near { length near.old ≡ MOST_ROUTERS }
-    ensures { OnOk result ((p : ℕ) (e : Stood) → p < MOST_ROUTERS
+    ensures none { OnOk result ((w : ℕ) → is_done ring.new w ≡ false) }
+    ensures targets { OnOk result ((p : ℕ) (e : Stood) → p < MOST_ROUTERS
         → IsTrue (slice_index_or roles.now (first + p) e).target
-        → bound_at near.new p ≤ bound_at ahead.now p) }
+        → bound_at ring.new.near.items p ≤ bound_at ahead.now p) }
 {
+    ring.near.fill(u32::MAX);
+    ring.done.fill(false);
+    ring.heap.clear();
     let mut top = 0;
     for place in 0..MOST_ROUTERS {
         if roles[first + place].target {
@@ -196,58 +119,39 @@ fn begin(
                 Some(bound) => *bound,
                 None => 0,
             };
-            near[place] = least;
-            heap.push(Reverse((least, place as u16)))?;
+            ring.near[place] = least;
+            ring.heap.push(Reverse((least, place as u16)))?;
             top = least.max(top);
         }
     }
-    Ok(if heap.len() > WIDE { top } else { u32::MAX })
-}
-
-/// The least bound of a router that isn't done.
-fn edge(near: &[u32], done: &[bool]) -> u32
-    requires near { length near.now ≡ MOST_ROUTERS }
-    requires done { length done.now ≡ MOST_ROUTERS }
-    ensures { (w : ℕ) → w < MOST_ROUTERS → is_done done.now w ≡ false
-        → result ≤ bound_at near.now w }
-{
-    let mut least = u32::MAX;
-    for place in 0..MOST_ROUTERS {
-        if !done[place] && near[place] < least {
-            least = near[place];
-        }
-    }
-    least
+    Ok(if ring.heap.len() > WIDE {
+        top
+    } else {
+        u32::MAX
+    })
 }
 
 /// Finds the bound of each router from a leg on, as far as an edge, where it is known of the next
 /// leg.
 fn leg_edge(
     search: Backward<'_>,
-    leg: usize,
+    leg_index: usize,
     ahead: &[u32],
-    near: &mut [u32],
-    done: &mut [bool],
-    heap: &mut BinaryHeap<Waiting, Global>,
+    ring: &mut Ring,
 ) -> Result<u32, AllocError>
     requires search { IsBackward search }
-    requires leg { leg ≤ length search.query.request.now.hops }
-    requires near { length near.old ≡ MOST_ROUTERS }
-    requires done { length done.old ≡ MOST_ROUTERS }
+    requires leg { leg_index ≤ length search.query.request.now.hops }
     ensures { IfOk result (λ edge.
-        IsLeg search.entry.query.table.now search.entry.query.request.now leg near.new edge ahead.now) }
+        IsLeg search.entry.query.table.now search.entry.query.request.now leg_index ring.new.near.items edge ahead.now) }
 {
-    near.fill(u32::MAX);
-    done.fill(false);
-    heap.clear();
-    let top = begin(search.query.roles, leg * MOST_ROUTERS, ahead, near, heap)?;
-    let most = if leg < search.query.request.hops.len() {
+    let top = begin(search.query.roles, leg_index * MOST_ROUTERS, ahead, ring)?;
+    let most = if leg_index < search.query.request.hops.len() {
         WIDE
     } else {
         RING
     };
-    grow(search, most, top, near, done, heap)?;
-    Ok(edge(near, done))
+    grow(search, most, top, ring)?;
+    Ok(ring.edge())
 }
 
 /// Sets the bound of each router in a leg, as far as its edge. The states of the leg begin at an
@@ -266,51 +170,39 @@ fn set_leg(bounds: &mut [u32], first: usize, near: &[u32], edge: u32)
 }
 
 /// Sets the bound of each router in each leg, from the last leg back to the first.
-fn set_legs(
-    search: Backward<'_>,
-    near: &mut [u32],
-    done: &mut [bool],
-    heap: &mut BinaryHeap<Waiting, Global>,
-    bounds: &mut [u32],
-) -> Result<(), AllocError>
+fn set_legs(search: Backward<'_>, ring: &mut Ring, bounds: &mut [u32]) -> Result<(), AllocError>
     requires search { IsBackward search }
-    requires near { length near.old ≡ MOST_ROUTERS }
-    requires done { length done.old ≡ MOST_ROUTERS }
     requires bounds { AreBounds search.query.table.now search.query.request.now bounds.old }
     requires zeros { (i : ℕ) → bound_at bounds.old i ≡ 0 }
     ensures { OnOk result (AreBounds search.entry.query.table.now search.entry.query.request.now bounds.new) }
 {
-    let mut leg = search.query.request.hops.len() + 1;
-    while leg > 0 {
-        leg -= 1;
-        let ahead = &bounds[leg * MOST_ROUTERS + MOST_ROUTERS..];
-        let edge = leg_edge(search, leg, ahead, near, done, heap)?;
-        set_leg(bounds, leg * MOST_ROUTERS, near, edge);
+    let mut leg_index = search.query.request.hops.len() + 1;
+    while leg_index > 0 {
+        leg_index -= 1;
+        let ahead = &bounds[leg_index * MOST_ROUTERS + MOST_ROUTERS..];
+        let edge = leg_edge(search, leg_index, ahead, ring)?;
+        set_leg(bounds, leg_index * MOST_ROUTERS, &ring.near, edge);
     }
     Ok(())
 }
 
 /// For each state a lower bound of the cost from it to the tail-end, which is close to it near the
 /// targets of its leg.
-pub(crate) fn bounds(alloc: Global, query: Query<'_>, legs: usize) -> Result<Vec<u32>, AllocError>
+pub(crate) fn bounds(alloc: Global, query: Query<'_>) -> Result<Vec<u32>, AllocError>
     requires query { IsQuery query }
-    requires count { legs ≡ length query.request.now.hops + 1 }
-    requires most { legs ≤ MOST_LEGS }
     ensures { IfOk result (λ bounds. AreBounds query.entry.table.now query.entry.request.now bounds.items) }
 {
     let links = query.table.links();
     let mut arrivals = Vec::with_capacity(alloc, links.len())?;
     let mut last = Vec::from_elem(alloc, 0u32, MOST_ROUTERS)?;
     list(query.table, &mut arrivals, &mut last)?;
-    let mut near = Vec::from_elem(alloc, 0u32, MOST_ROUTERS)?;
-    let mut done = Vec::from_elem(alloc, false, MOST_ROUTERS)?;
-    let mut heap = BinaryHeap::new(alloc);
-    let mut bounds = Vec::from_elem(alloc, 0u32, legs * MOST_ROUTERS)?;
+    let mut ring = Ring::new(alloc)?;
+    let mut bounds = Vec::from_elem(alloc, 0u32, query.legs * MOST_ROUTERS)?;
     let search = Backward {
         query,
         arrivals: &arrivals,
         last: &last,
     };
-    set_legs(search, &mut near, &mut done, &mut heap, &mut bounds)?;
+    set_legs(search, &mut ring, &mut bounds)?;
     Ok(bounds)
 }

@@ -5,16 +5,16 @@ ghost use Rattle.cspf_db.specs.Index.{links_of, links_from_index};
 ghost use Rattle.cspf_search.specs.Arena.{AreNodes, AreInLegs};
 ghost use Rattle.cspf_search.specs.Rounds.{CrossesBelow};
 ghost use Rattle.cspf_search.specs.Frontier.{AreLabels, AreListed, AreRoles, AreTied, CrossesUpTo, GoesTo, IsEnd, IsNodeAt, IsOffer, IsStateIndex, StaysAt, label_at, nowhere, rank_of};
-ghost use Rattle.cspf_search.specs.Source.{IsSource};
-ghost use Rattle.cspf_search.specs.Query.{IsQuery, CrossesBefore, CrossesToRow};
+ghost use Rattle.cspf_search.specs.Source.{AreBefore, AreUpToRow, IsEdge, IsSource};
+ghost use Rattle.cspf_search.specs.Query.{IsQuery, CrossesBefore};
 
-use crate::arena::Node;
+use crate::arena::{Node, locals};
+use crate::edge::Edge;
 use crate::goal::{Goal, lift};
 use crate::labels::{Label, Waiting, node_of, put};
 use crate::limits::COST_WEIGHT;
 use crate::query::Query;
-use crate::rounds::locals;
-use cspf_db::{Link, MOST_ROUTERS, Request, Table};
+use cspf_db::{MOST_ROUTERS, Table};
 use cspf_graph::accepts;
 use std::alloc::{AllocError, Global};
 use std::collections::BinaryHeap;
@@ -25,6 +25,8 @@ const TURN: u16 = u16::MAX;
 /// A settled node that the search goes on from.
 #[derive(Clone, Copy)]
 struct Source<'a> {
+    query: Query<'a>,
+    goal: Goal<'a>,
     /// The settled nodes.
     nodes: &'a [Node],
     /// The index of this one among them.
@@ -68,26 +70,18 @@ fn offer(
     put(labels, heap, index, label, key)
 }
 
-/// Offers what the turn to the next leg leads to from the node at an index.
+/// Offers what the turn to the next leg leads to.
 fn offer_turn(
-    query: Query<'_>,
     source: Source<'_>,
-    goal: Goal<'_>,
     labels: &mut [Label],
     heap: &mut BinaryHeap<Waiting, Global>,
 ) -> Result<(), AllocError>
-    requires query { IsQuery query }
-    requires source { IsSource query source }
-    requires goal { IsStateIndex query.table.now query.request.now goal.at }
-    requires behind { goal.floor ≤ source.state }
-    requires before { AreLabels query.table.now query.request.now source.nodes.now
-        (CrossesBefore query source.nodes.now source.at)
-        goal labels.old (heap_items heap.old) }
-    ensures after { OnOk result (AreLabels query.entry.table.now query.entry.request.now source.entry.nodes.now
-        (CrossesToRow query.entry source.entry.nodes.now source.entry.at source.entry.state 0)
-        goal.entry labels.new (heap_items heap.new)) }
+    requires source { IsSource source }
+    requires before { AreBefore source labels.old (heap_items heap.old) }
+    ensures after { OnOk result (AreUpToRow source.entry 0 labels.new (heap_items heap.new)) }
     ensures few { OnOk result (heap_len heap.new ≤ heap_len heap.old + 1) }
 {
+    let (query, goal) = (source.query, source.goal);
     let (state, rank) = (source.state, source.rank);
     if state / MOST_ROUTERS >= query.request.hops.len() {
         return Ok(());
@@ -115,37 +109,24 @@ fn offer_turn(
     offer(query.table, source.nodes, labels, heap, index, label, key)
 }
 
-/// Offers what a link leads to from the node at an index.
+/// Offers what a link leads to.
 fn offer_link(
-    query: Query<'_>,
     source: Source<'_>,
-    goal: Goal<'_>,
+    edge: Edge<'_>,
     labels: &mut [Label],
     heap: &mut BinaryHeap<Waiting, Global>,
-    row: usize,
-    link: &Link,
-    metric: u32,
-    end: usize,
 ) -> Result<(), AllocError>
-    requires query { IsQuery query }
-    requires source { IsSource query source }
-    requires goal { IsStateIndex query.table.now query.request.now goal.at }
-    requires behind { goal.floor ≤ source.state }
-    requires row { slice_get (links_from_index query.table.now (source.state % MOST_ROUTERS)) row ≡ Some link.now }
-    requires metric { metric ≡ link.now.metric }
-    requires end { IsEnd query.table.now link.now.to end }
-    requires before { AreLabels query.table.now query.request.now source.nodes.now
-        (CrossesToRow query source.nodes.now source.at source.state row)
-        goal labels.old (heap_items heap.old) }
-    ensures after { OnOk result (AreLabels query.entry.table.now query.entry.request.now source.entry.nodes.now
-        (CrossesToRow query.entry source.entry.nodes.now source.entry.at source.entry.state (row + 1))
-        goal.entry labels.new (heap_items heap.new)) }
+    requires source { IsSource source }
+    requires edge { IsEdge source.query.table.now (source.state % MOST_ROUTERS) edge }
+    requires before { AreUpToRow source edge.row labels.old (heap_items heap.old) }
+    ensures after { OnOk result (AreUpToRow source.entry (edge.entry.row + 1) labels.new (heap_items heap.new)) }
     ensures few { OnOk result (heap_len heap.new ≤ heap_len heap.old + 1) }
 {
+    let (query, goal) = (source.query, source.goal);
     let (state, rank) = (source.state, source.rank);
     let place = state % MOST_ROUTERS;
-    let index = state - place + end;
-    let new = rank + u64::from(metric) * COST_WEIGHT + 1;
+    let index = state - place + edge.end;
+    let new = rank + u64::from(edge.metric) * COST_WEIGHT + 1;
     let kept = labels[index];
     if new > kept.rank {
         return Ok(());
@@ -159,14 +140,14 @@ fn offer_link(
     if !role.inside {
         return Ok(());
     }
-    if !accepts(link, query.request) {
+    if !accepts(edge.link, query.request) {
         return Ok(());
     }
     let label = Label {
         rank: new,
         parent: source.at as u16,
         place: place as u16,
-        row: row as u16,
+        row: edge.row as u16,
     };
     offer(query.table, source.nodes, labels, heap, index, label, key)
 }
@@ -196,28 +177,26 @@ pub(crate) fn expand(
 {
     let rank = nodes[at].cost * COST_WEIGHT + nodes[at].links as u64 + 1;
     let source = Source {
+        query,
+        goal,
         nodes,
         at,
         state,
         rank,
     };
-    offer_turn(query, source, goal, labels, heap)?;
+    offer_turn(source, labels, heap)?;
     let links = query.table.out_at(state % MOST_ROUTERS);
     let ends = query.table.ends_at(state % MOST_ROUTERS);
     for row in 0..links.len() {
         let link = &links[row];
         let end = ends[row];
-        offer_link(
-            query,
-            source,
-            goal,
-            labels,
-            heap,
+        let edge = Edge {
             row,
             link,
-            link.metric,
-            usize::from(end),
-        )?;
+            metric: link.metric,
+            end: usize::from(end),
+        };
+        offer_link(source, edge, labels, heap)?;
     }
     Ok(())
 }

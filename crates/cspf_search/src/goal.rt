@@ -1,4 +1,5 @@
-ghost use Rattle.std.specs.Prelude.{◌≡◌, ◌^◌, ◌<◌, length, slice_index_or};
+ghost use Rattle.cspf_search.specs.declared.limits.TheConstants.{MOST_LIFT};
+ghost use Rattle.std.specs.Prelude.{◌≡◌, ◌<◌, ◌≤◌, length, slice_index_or};
 ghost use Rattle.cspf_search.specs.Frontier.{lift};
 
 use crate::limits::COST_WEIGHT;
@@ -19,7 +20,7 @@ pub(crate) struct Goal<'a> {
 pub(crate) fn lift(goal: Goal<'_>, at: usize) -> u64
     requires within { at < length goal.bounds.now }
     ensures value { result ≡ lift goal.entry at }
-    ensures small { result < 2 ^ 46 }
+    ensures small { result ≤ MOST_LIFT }
 {
     u64::from(goal.bounds[at]) * COST_WEIGHT
 }

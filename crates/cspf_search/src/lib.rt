@@ -5,6 +5,7 @@
 mod arena;
 mod arrivals;
 mod bounds;
+mod edge;
 mod forward_star;
 mod frontier;
 mod goal;
@@ -12,6 +13,7 @@ mod labels;
 mod limits;
 mod outcome;
 mod query;
+mod ring;
 mod roles;
 mod rounds;
 mod route;

@@ -10,3 +10,6 @@ pub const MOST_ROUTE_LINKS: usize = 8184;
 /// How much one of cost weighs in a rank, where a link weighs one: no walk of a search has as many
 /// links.
 pub(crate) const COST_WEIGHT: u64 = 16384;
+
+/// How much the key of a state is above its rank at most: the weight of the greatest bound.
+pub(crate) const MOST_LIFT: u64 = 4_294_967_295 * COST_WEIGHT;

@@ -8,6 +8,8 @@ pub(crate) struct Query<'a> {
     pub(crate) table: &'a Table,
     /// The request.
     pub(crate) request: &'a Request,
+    /// How many legs a route has.
+    pub(crate) legs: usize,
     /// For each state what a route may do there.
     pub(crate) roles: &'a [Role],
 }

@@ -83,8 +83,8 @@ fn set_roles(table: &Table, request: &Request, routers: &[Addr], roles: &mut [Ro
     requires before { AreRolesUpTo table.now request.now place 0 roles.old }
     ensures after { AreRolesUpTo table.now request.now (place + 1) 0 roles.new }
 {
-    for leg in 0..request.hops.len() + 1 {
-        let at = leg * MOST_ROUTERS + place;
+    for leg_index in 0..request.hops.len() + 1 {
+        let at = leg_index * MOST_ROUTERS + place;
         roles[at] = make_role(table, request, routers, roles, at);
     }
 }

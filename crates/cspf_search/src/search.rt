@@ -1,29 +1,29 @@
-ghost use Rattle.cspf_search.specs.declared.limits.TheConstants.{MOST_LEGS, MOST_ROUTE_LINKS};
+ghost use Rattle.cspf_search.specs.declared.limits.TheConstants.{MOST_ROUTE_LINKS};
 ghost use Rattle.std.specs.Prelude.{◌≡◌, ◌+◌, ◌*◌, ◌<◌, ◌≤◌, ℕ, None, List, ◌∷◌, [], IfOk, IfSome, IfNone, length, nat_eq};
 ghost use Rattle.std.specs.List.{AllByRecursion, IsDistinct};
 ghost use Rattle.cspf_db.specs.declared.link.Link.{Link as Linked};
 ghost use Rattle.cspf_db.specs.Best.{HasEnds, IsBestAnswer};
 ghost use Rattle.cspf_db.specs.Database.{AreLinksOf, IsRouterOf};
 ghost use Rattle.cspf_search.specs.Outcome.{answer_of};
-ghost use Rattle.cspf_search.specs.States.{State, end_state};
-ghost use Rattle.cspf_search.specs.Settled.{AreSettled, IsStuck};
-ghost use Rattle.cspf_search.specs.Arena.{AreNodes, AreInLegs, labels_of, root_of, walk_at, walks};
+ghost use Rattle.cspf_search.specs.States.{end_state};
+ghost use Rattle.cspf_search.specs.Arena.{AreNodes, labels_of, root_of, walk_at, walks};
 ghost use Rattle.cspf_db.specs.Index.{links_of};
-ghost use Rattle.cspf_search.specs.Frontier.{AreListed, AreRoles, IsEnd};
+ghost use Rattle.cspf_search.specs.Frontier.{AreListed, IsEnd};
 ghost use Rattle.cspf_search.specs.Query.{IsQuery, CrossesBefore};
-ghost use Rattle.cspf_search.specs.ForwardStars.{AreMarks, AreForwardStars};
 ghost use Rattle.cspf_search.specs.Routes.{AreLinked};
-ghost use Rattle.cspf_search.specs.Rounds.{CrossesBelow, IsFirst, IsFirstOf};
+ghost use Rattle.cspf_search.specs.Rounds.{IsFirst, IsFirstOf};
+ghost use Rattle.cspf_search.specs.RoundSteps.{IsRound};
+ghost use Rattle.cspf_search.specs.Searched.{IsSearched};
 
 use crate::arena::{Node, index_of, links_to};
 use crate::bounds::bounds;
-use crate::forward_star::{ForwardStar, star_of};
+use crate::forward_star::star_of;
 use crate::frontier::expand;
 use crate::goal::Goal;
 use crate::labels::{OPEN, SETTLED, least, node_of};
 use crate::query::Query;
 use crate::roles::{raised, roles};
-use crate::rounds::first;
+use crate::rounds::{Round, first};
 use crate::{Outcome, Route};
 use cspf_db::{MOST_ROUTERS, Request, Table, counted_routers};
 use std::alloc::{AllocError, Global};
@@ -46,62 +46,38 @@ fn rooted(alloc: Global, request: &Request) -> Result<Vec<Node>, AllocError>
 
 /// The node to settle next, unless the tail-end is settled in the last of the legs or nothing leads
 /// on.
-fn next(
-    query: Query<'_>,
-    legs: usize,
-    marks: &[bool],
-    nodes: &[Node],
-    stars: &[ForwardStar<'_>],
-) -> Option<Node>
-    requires query { IsQuery query }
-    requires arena { AreNodes nodes.now }
-    requires legs { AreInLegs query.request.now nodes.now }
-    requires marks { AreMarks query.table.now query.request.now nodes.now marks.now }
-    requires stars { AreForwardStars query.table.now nodes.now stars.now }
-    requires count { legs ≡ length query.request.now.hops + 1 }
+fn next(round: Round<'_>) -> Option<Node>
+    requires round { IsRound round }
     ensures some { IfSome result
-        (IsFirstOf nodes.now (CrossesBefore query.entry nodes.now (length nodes.now))) }
-    ensures none { IfNone result (labels_of nodes.now (end_state query.entry.request.now) ≡ None
-        → IsFirst nodes.now (CrossesBefore query.entry nodes.now (length nodes.now)) None) }
+        (IsFirstOf round.entry.nodes.now (CrossesBefore round.entry.query round.entry.nodes.now (length round.entry.nodes.now))) }
+    ensures none { IfNone result (labels_of round.entry.nodes.now (end_state round.entry.query.request.now) ≡ None
+        → IsFirst round.entry.nodes.now (CrossesBefore round.entry.query round.entry.nodes.now (length round.entry.nodes.now)) None) }
 {
-    if index_of(nodes, legs, query.request.to).is_some() {
+    if index_of(round.nodes, round.query.legs, round.query.request.to).is_some() {
         return None;
     }
-    first(query, marks, nodes, stars)
+    first(round)
 }
 
 /// The nodes that are settled when the tail-end is in the last of the legs, or when nothing leads
 /// on.
-fn settled(
-    alloc: Global,
-    table: &Table,
-    request: &Request,
-    legs: usize,
-) -> Result<Vec<Node>, AllocError>
-    requires known { IsRouterOf table.now request.now.from }
-    requires count { legs ≡ length request.now.hops + 1 }
-    requires most { legs ≤ MOST_LEGS }
-    ensures arena { IfOk result (λ nodes. AreNodes nodes.items) }
-    ensures few { IfOk result (λ nodes. length nodes.items ≤ legs * MOST_ROUTERS) }
-    ensures settled { IfOk result (λ nodes.
-        AreSettled table.now request.now (labels_of nodes.items)) }
-    ensures whole { IfOk result (λ nodes. labels_of nodes.items (end_state request.now) ≡ None
-        → IsStuck table.now request.now (labels_of nodes.items)) }
+fn settled(alloc: Global, query: Query<'_>) -> Result<Vec<Node>, AllocError>
+    requires query { IsQuery query }
+    requires known { IsRouterOf query.table.now query.request.now.from }
+    ensures { IfOk result (λ nodes. IsSearched query.entry.table.now query.entry.request.now nodes.items) }
 {
-    listed(table);
-    let roles = roles(alloc, table, request, legs)?;
-    let query = Query {
-        table,
-        request,
-        roles: &roles,
-    };
-    let mut nodes = rooted(alloc, request)?;
-    let root = star_of(table, &nodes[0]);
+    let mut nodes = rooted(alloc, query.request)?;
+    let root = star_of(query.table, &nodes[0]);
     let mut stars = Vec::from_slice(alloc, &[root])?;
-    let mut marks = Vec::from_elem(alloc, false, legs * MOST_ROUTERS)?;
+    let mut marks = Vec::from_elem(alloc, false, query.legs * MOST_ROUTERS)?;
     marks[root.state] = true;
-    while let Some(node) = next(query, legs, &marks, &nodes, &stars) {
-        let star = star_of(table, &node);
+    while let Some(node) = next(Round {
+        query,
+        nodes: &nodes,
+        stars: &stars,
+        marks: &marks,
+    }) {
+        let star = star_of(query.table, &node);
         nodes.extend_from_slice(&[node])?;
         stars.extend_from_slice(&[star])?;
         marks[star.state] = true;
@@ -136,47 +112,26 @@ fn listed(table: &Table)
     let _routers = table.routers();
 }
 
-/// The nodes that are settled when the tail-end is in the last of the legs, or when nothing leads
-/// on, from a heap. The head-end and the tail-end are told by their index in the list of routers.
-fn reached(
-    alloc: Global,
-    table: &Table,
-    request: &Request,
-    legs: usize,
-    from: usize,
-    to: usize,
-) -> Result<Vec<Node>, AllocError>
-    requires from { IsEnd table.now request.now.from from }
-    requires to { IsEnd table.now request.now.to to }
-    requires count { legs ≡ length request.now.hops + 1 }
-    requires most { legs ≤ MOST_LEGS }
-    ensures arena { IfOk result (λ nodes. AreNodes nodes.items) }
-    ensures few { IfOk result (λ nodes. length nodes.items ≤ legs * MOST_ROUTERS) }
-    ensures settled { IfOk result (λ nodes.
-        AreSettled table.now request.now (labels_of nodes.items)) }
-    ensures whole { IfOk result (λ nodes. labels_of nodes.items (end_state request.now) ≡ None
-        → IsStuck table.now request.now (labels_of nodes.items)) }
+/// The same from a heap. The head-end and the tail-end are told by their index in the list of routers.
+fn reached(alloc: Global, query: Query<'_>, from: usize, to: usize) -> Result<Vec<Node>, AllocError>
+    requires query { IsQuery query }
+    requires from { IsEnd query.table.now query.request.now.from from }
+    requires to { IsEnd query.table.now query.request.now.to to }
+    ensures { IfOk result (λ nodes. IsSearched query.entry.table.now query.entry.request.now nodes.items) }
 {
-    listed(table);
-    let roles = roles(alloc, table, request, legs)?;
-    let query = Query {
-        table,
-        request,
-        roles: &roles,
-    };
-    let bounds = bounds(alloc, query, legs)?;
+    let bounds = bounds(alloc, query)?;
     let mut goal = Goal {
-        at: (legs - 1) * MOST_ROUTERS + to,
+        at: (query.legs - 1) * MOST_ROUTERS + to,
         floor: 0,
         bounds: &bounds,
     };
-    let mut nodes = rooted(alloc, request)?;
-    let mut labels = Vec::from_elem(alloc, OPEN, legs * MOST_ROUTERS)?;
+    let mut nodes = rooted(alloc, query.request)?;
+    let mut labels = Vec::from_elem(alloc, OPEN, query.legs * MOST_ROUTERS)?;
     labels[from] = SETTLED;
     let mut heap = BinaryHeap::new(alloc);
     expand(query, &nodes, &mut labels, &mut heap, goal, 0, from)?;
-    while let Some(at) = least(table, request, goal, &labels, &mut heap) {
-        let node = node_of(table, &nodes, &labels[at]);
+    while let Some(at) = least(query.table, query.request, goal, &labels, &mut heap) {
+        let node = node_of(query.table, &nodes, &labels[at]);
         let index = nodes.len();
         nodes.extend_from_slice(&[node])?;
         if at == goal.at {
@@ -184,31 +139,20 @@ fn reached(
         }
         labels[at] = SETTLED;
         expand(query, &nodes, &mut labels, &mut heap, goal, index, at)?;
-        goal.floor = raised(&roles, &labels, goal.floor, at);
+        goal.floor = raised(query.roles, &labels, goal.floor, at);
     }
     Ok(nodes)
 }
 
 /// The outcome that the settled nodes give.
-fn answer(
-    alloc: Global,
-    table: &Table,
-    request: &Request,
-    legs: usize,
-    nodes: &[Node],
-) -> Result<Outcome, AllocError>
-    requires ends { HasEnds table.now request.now }
-    requires count { legs ≡ length request.now.hops + 1 }
-    requires most { legs ≤ MOST_LEGS }
-    requires arena { AreNodes nodes.now }
-    requires few { length nodes.now ≤ legs * MOST_ROUTERS }
-    requires settled { AreSettled table.now request.now (labels_of nodes.now) }
-    requires whole { labels_of nodes.now (end_state request.now) ≡ None
-        → IsStuck table.now request.now (labels_of nodes.now) }
+fn answer(alloc: Global, query: Query<'_>, nodes: &[Node]) -> Result<Outcome, AllocError>
+    requires query { IsQuery query }
+    requires ends { HasEnds query.table.now query.request.now }
+    requires searched { IsSearched query.table.now query.request.now nodes.now }
     ensures { IfOk result (λ outcome.
-        IsBestAnswer table.now request.now (answer_of outcome)) }
+        IsBestAnswer query.entry.table.now query.entry.request.now (answer_of outcome)) }
 {
-    let Some(at) = index_of(nodes, legs, request.to) else {
+    let Some(at) = index_of(nodes, query.legs, query.request.to) else {
         return Ok(Outcome::NoRoute);
     };
     Ok(Outcome::Route(route_to(alloc, nodes, at)?))
@@ -230,8 +174,15 @@ pub fn best(alloc: Global, table: &Table, request: &Request) -> Result<Outcome, 
         return Ok(Outcome::UnknownTo);
     };
     let legs = request.hops.len() + 1;
-    let nodes = reached(alloc, table, request, legs, from, to)?;
-    answer(alloc, table, request, legs, &nodes)
+    let roles = roles(alloc, table, request, legs)?;
+    let query = Query {
+        table,
+        request,
+        legs,
+        roles: &roles,
+    };
+    let nodes = reached(alloc, query, from, to)?;
+    answer(alloc, query, &nodes)
 }
 
 /// The same answer as `best` gives, by a slower and plainer search: round by round it settles the
@@ -244,6 +195,7 @@ pub fn best_by_rounds(
     ensures { IfOk result (λ outcome.
         IsBestAnswer table.now request.now (answer_of outcome)) }
 {
+    listed(table);
     if !table.has_router(request.from) {
         return Ok(Outcome::UnknownFrom);
     }
@@ -251,6 +203,13 @@ pub fn best_by_rounds(
         return Ok(Outcome::UnknownTo);
     }
     let legs = request.hops.len() + 1;
-    let nodes = settled(alloc, table, request, legs)?;
-    answer(alloc, table, request, legs, &nodes)
+    let roles = roles(alloc, table, request, legs)?;
+    let query = Query {
+        table,
+        request,
+        legs,
+        roles: &roles,
+    };
+    let nodes = settled(alloc, query)?;
+    answer(alloc, query, &nodes)
 }

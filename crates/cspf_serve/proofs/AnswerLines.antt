@@ -1,5 +1,5 @@
 -- The lines of answers are the replies to their requests.
-use Rattle.std.proofs.Common.{◌≡◌, ℕ, suc, ◌≤◌, All, Option, Some, List, [], ◌∷◌, ◌++◌, take, length, get_or, slice_get, refl, sym, ap, ◌∙◌, subst, append_assoc, append-nil, arith}
+use Rattle.std.proofs.Common.{◌≡◌, ℕ, suc, All, Option, Some, List, [], ◌∷◌, ◌++◌, take, length, slice_get, refl, sym, ap, ◌∙◌, subst, append_assoc, append-nil, arith}
 use Rattle.std.proofs.KnownBytes.{Appends-trans}
 use Rattle.logbook.specs.Pages.{Book}
 use Rattle.cspf_db.specs.declared.request.Request.{Request}

@@ -1,7 +1,7 @@
 -- The lines of a live run, and what its journal holds.
-use Rattle.std.proofs.Common.{◌≡◌, ℕ, ◌+◌, ◌<◌, ◌≤◌, false, Option, Some, None, IfSome, Result, Ok, Err, IfOk, List, [], ◌++◌, take, get_or, length, slice_get, inl, inr, refl, sym, ap, ◌∙◌, subst, append_assoc, arith, true}
+use Rattle.std.proofs.Common.{◌≡◌, ℕ, ◌+◌, ◌<◌, ◌≤◌, false, Option, Some, None, IfSome, Result, Ok, Err, IfOk, IfErr, List, [], ◌++◌, take, get_or, length, slice_get, inl, inr, refl, sym, ap, ◌∙◌, subst, append_assoc, arith, true}
 use Rattle.std.proofs.KnownBytes.{Appends-nil, Appends-trans}
-use Rattle.std.proofs.lemmas.List.{length-take-le}
+use Rattle.std.proofs.lemmas.List.{length-map, length-take-le}
 use Rattle.std.proofs.lemmas.Bool.{cases_lt}
 use Rattle.std.proofs.lemmas.Option.{slice_get_within, get_or_from_slice_get}
 use Rattle.std.specs.Io.KnownBytes.{Appends}
@@ -19,6 +19,10 @@ use Rattle.cspf_publish.specs.declared.errors.ApplyError.TheVariants as error
 use Rattle.cspf_rows.specs.BatchText.{batch_text}
 use Rattle.cspf_rows.specs.Journal.{AreNumberedFrom}
 use Rattle.cspf_rows.specs.Records.{rows_of}
+use Rattle.cspf_rows.specs.Rows.{row_of}
+use Rattle.cspf_rows.specs.declared.row.Row.{Row}
+use Rattle.cspf_rows.specs.declared.row.Row.TheVariants as row
+use Rattle.cspf_rows.specs.declared.row_error.RowError.{RowError}
 use Rattle.cspf_work.specs.Served.{AreAnswersWithin}
 use Rattle.cspf_work.specs.Applied.{AreApplied, IsAppliedUpTo, IsEndOfApplying}
 use Rattle.cspf_serve.specs.AnswerLines.{AreAnswerLines}
@@ -30,6 +34,8 @@ use Rattle.cspf_serve.specs.declared.streams.early_end.EarlyEnd.TheVariants as e
 use Rattle.cspf_serve.specs.LiveRun.{IsWhyNot, begun_text, IsEndOfLiveRun, AreAnsweredLive, AreInputsRefused, IsLiveRun}
 use Rattle.cspf_serve.specs.LiveLines.{IsFaultShown, AreLiveLines}
 use Rattle.cspf_serve.specs.LiveWords.{applied_line}
+use Rattle.cspf_serve.specs.RunFaults.{IsRunFault, IsLiveFault}
+use Rattle.cspf_serve.specs.LineTexts.{line_text}
 use Rattle.cspf_serve.proofs.AnswerLines.{replies_within}
 use Rattle.cspf_serve.proofs.BatchLines.{numbers_of}
 use Rattle.cspf_serve.proofs.PublishedLines.{number_at}
@@ -165,4 +171,19 @@ live_refused None requests s (Ok status) old new held refused two written = tt
 live_refused (Some kept) None s (Ok status) old new held refused two written = tt
 live_refused (Some kept) (Some asked) (early_end.Failed error) (Ok status) old new held refused two written = absurd written
 live_refused (Some kept) (Some asked) (early_end.Refused line) (Ok status) old new held refused two written =
-    (line.items, [], inl (refused, refl, two), written, Appends-nil held)
+    (line_text line, [], inl (refused, refl, two), written, Appends-nil held)
+
+-- a request of those that the stream asks for is one of the stream
+pub live_fault : (requests : Option (List ℕ)) (qs : List Request) (r : Result ℕ RunError) → IfSome requests (λ bytes. AreRequestsOf (rows_of bytes) qs)
+    → IfErr r (IsRunFault (λ index version. (index < length qs) × (0 < version))) → IfErr r (IsLiveFault requests)
+live_fault requests qs (Ok status) asked fault = tt
+live_fault requests qs (Err e) asked (inl stream) = inl stream
+live_fault requests qs (Err e) asked (inr (inl opening)) = inr (inl opening)
+live_fault requests qs (Err e) asked (inr (inr (inl worker))) = inr (inr (inl worker))
+live_fault None qs (Err e) asked (inr (inr (inr stray))) = inr (inr (inr (stray.0, stray.1, stray.2, (tt, stray.3.1))))
+live_fault (Some bytes) qs (Err e) asked (inr (inr (inr stray))) =
+    let below = stray.3.0 in
+    let same = ap length asked.asked in
+    let rows = length-map (rows_of bytes) row_of in
+    let asks = length-map {B = Result Row RowError} qs (λ (q : Request). Ok (row.Ask q)) in
+    inr (inr (inr (stray.0, stray.1, stray.2, (omega (arith, below, same, rows, asks), stray.3.1))))

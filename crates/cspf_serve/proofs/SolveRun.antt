@@ -28,7 +28,7 @@ IsCutInto None done left = Unit {0}
 IsCutInto (Some all) done None = ⊥
 IsCutInto (Some all) done (Some left) = all ≡ done ++ left
 
--- a run that has read some rows, and written so many bytes
+-- a run that has read some rows, and written some bytes
 pub record IsGoing (all left : Option (List (List (List ℕ)))) (old new : Option (List ℕ)) (solver : Solver) (read written : ℕ) : Type 0 where
   pub done : List (List (List ℕ))
   pub state : RunState
@@ -153,7 +153,7 @@ run_ended all done out s too_many summary answered read counts = record {
   counts = rw read.1 counts;
 }
 
-pub ends : (all left next : Option (List (List (List ℕ)))) (old mid new : Option (List ℕ)) (solver : Solver) (read written : ℕ) (too_many : Bool) (fields : List (List ℕ)) (summary : Summary)
+ends : (all left next : Option (List (List (List ℕ)))) (old mid new : Option (List ℕ)) (solver : Solver) (read written : ℕ) (too_many : Bool) (fields : List (List ℕ)) (summary : Summary)
     → IsGoing all left old mid solver read written → read ≤ 1000000 → (too_many ≡ true → read ≡ 1000000) → Takes left next too_many fields
     → IsEnded solver too_many mid new summary → IsWritten all old new summary
 ends None left next old mid new solver read written too_many fields summary going most full takes ended = tt
@@ -256,7 +256,7 @@ end_next done left state None true fields read count full takes = absurd takes
 end_next done left state (Some rest) true fields read count full takes = rw takes (inr (count ∙ full refl, refl))
 
 -- the last line stopped
-pub stops_at_end : (all left next : Option (List (List (List ℕ)))) (old mid new : Option (List ℕ)) (solver : Solver) (read written : ℕ) (too_many : Bool) (fields : List (List ℕ)) (error : SolveError)
+stops_at_end : (all left next : Option (List (List (List ℕ)))) (old mid new : Option (List ℕ)) (solver : Solver) (read written : ℕ) (too_many : Bool) (fields : List (List ℕ)) (error : SolveError)
     → IsGoing all left old mid solver read written → read ≤ 1000000 → (too_many ≡ true → read ≡ 1000000) → Takes left next too_many fields
     → ((s : RunState) → Keeps solver s → IsEndCut (last_line too_many s.changes) mid new written error) → IsHalted all old new error
 stops_at_end all left next old mid new solver read written too_many fields solve_error.Memory going most full takes cut =
@@ -268,6 +268,22 @@ stops_at_end (Some all) (Some rows) next old mid new solver read written too_man
     let c = cut going.state going.kept in
     cut_off all going.done rows old mid new going.state going.out (last_line too_many going.state.changes) c.0 written n going.split
     (omega (arith, going.count, most)) going.answered (end_next going.done rows going.state next too_many fields read going.count full takes) c.1 going.text c.2 going.size c.3
+
+-- ---- what the last line comes to
+
+pub run_ends : (all left next : Option (List (List (List ℕ)))) (old mid new : Option (List ℕ)) (solver : Solver) (read written : ℕ) (too_many : Bool) (fields : List (List ℕ)) (r : Result Summary SolveError)
+    → IsGoing all left old mid solver read written → read ≤ 1000000 → (too_many ≡ true → read ≡ 1000000) → Takes left next too_many fields
+    → IfOk r (λ summary. IsEnded solver too_many mid new summary) → IfOk r (λ summary. IsWritten all old new summary)
+run_ends all left next old mid new solver read written too_many fields (Err error) going most full takes ended = tt
+run_ends all left next old mid new solver read written too_many fields (Ok summary) going most full takes ended =
+    ends all left next old mid new solver read written too_many fields summary going most full takes ended
+
+pub run_stops : (all left next : Option (List (List (List ℕ)))) (old mid new : Option (List ℕ)) (solver : Solver) (read written : ℕ) (too_many : Bool) (fields : List (List ℕ)) (r : Result Summary SolveError)
+    → IsGoing all left old mid solver read written → read ≤ 1000000 → (too_many ≡ true → read ≡ 1000000) → Takes left next too_many fields
+    → IfErr r (λ error. (s : RunState) → Keeps solver s → IsEndCut (last_line too_many s.changes) mid new written error) → IfErr r (λ error. IsHalted all old new error)
+run_stops all left next old mid new solver read written too_many fields (Ok summary) going most full takes cut = tt
+run_stops all left next old mid new solver read written too_many fields (Err error) going most full takes cut =
+    stops_at_end all left next old mid new solver read written too_many fields error going most full takes cut
 
 -- a row or a last line that stops isn't a read that fails
 pub row_not_read : (s : RunState) (fields : List (List ℕ)) (old new : Option (List ℕ)) (written : ℕ) (error : SolveError)

@@ -1,5 +1,5 @@
 -- Private: the lines of answers.
-use Rattle.std.specs.Prelude.{◌≡◌, ℕ, List, [], ◌∷◌, ◌++◌, length, Some, slice_get}
+use Rattle.std.specs.Prelude.{◌≡◌, ℕ, List, [], ◌∷◌, ◌++◌}
 use Rattle.cspf_ero.specs.ReplyLine.{IsReply}
 use Rattle.cspf_search.specs.Outcome.{answer_of}
 use Rattle.cspf_publish.specs.declared.answer.Answer.{Answer}

@@ -26,7 +26,7 @@ use Rattle.cspf_serve.specs.Lines.{version_line, refused_batch_line, too_many_li
 abbrev pub Records : Type 0
 Records = List (List (List ℕ))
 
--- the line of a journal that has so many batches, and rows behind them
+-- the line of a journal that has this many batches, and rows behind them
 abbrev pub torn_line : ℕ → List ℕ
 torn_line count = codes "journal torn after " ++ decimal count ++ codes "\n"
 

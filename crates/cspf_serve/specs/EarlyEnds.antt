@@ -1,5 +1,5 @@
 -- Private: what is said where a run over a journal ends early.
-use Rattle.std.specs.Prelude.{◌≡◌, ℕ, ◌⊎◌, Option, List, [], ◌∷◌, ◌++◌}
+use Rattle.std.specs.Prelude.{◌≡◌, ℕ, ◌⊎◌, Bool, Option, List, [], ◌∷◌, ◌++◌}
 use Rattle.std.specs.Io.KnownBytes.{Appends}
 use Rattle.cspf_db.specs.Numbered.{NumberedChanges}
 use Rattle.cspf_publish.specs.PublisherStates.{PublisherState, IsStopped}
@@ -13,12 +13,15 @@ use Rattle.cspf_serve.specs.declared.batch_refusal.BatchRefusal.TheVariants as r
 use Rattle.cspf_serve.specs.declared.streams.error.RunError.{RunError}
 use Rattle.cspf_serve.specs.declared.streams.error.RunError.TheVariants.{Memory, Device}
 use Rattle.cspf_serve.specs.Lines.{refused_batch_line, too_many_line}
+use Rattle.cspf_serve.specs.LineTexts.{line_text}
+use Rattle.cspf_db.specs.declared.request.Request.{Request}
+use Rattle.cspf_serve.specs.BatchRun.{Records, AreBatchesOf, IsJournalRefused, AreRequestsRefused, AreAccepted, IsOneUnfit}
 use Rattle.cspf_serve.specs.declared.streams.early_end.EarlyEnd.{EarlyEnd}
 use Rattle.cspf_serve.specs.declared.streams.early_end.EarlyEnd.TheVariants as early_end
 
 -- where something is refused, this holds of the line that says so
 abbrev pub IfRefused : EarlyEnd → (List ℕ → Type 0) → Type 0
-IfRefused (early_end.Refused line) Holds = Holds line.items
+IfRefused (early_end.Refused line) Holds = Holds (line_text line)
 IfRefused (early_end.Failed error) Holds = Unit {0}
 
 -- where memory is refused or a device fails, this holds of the error
@@ -28,12 +31,12 @@ IfFailed (early_end.Failed error) Holds = Holds error
 
 -- the line was written by which something is refused
 abbrev pub IsRefusalWritten : EarlyEnd → Option (List ℕ) → Option (List ℕ) → Type 0
-IsRefusalWritten (early_end.Refused line) old new = Appends old new line.items
+IsRefusalWritten (early_end.Refused line) old new = Appends old new (line_text line)
 IsRefusalWritten (early_end.Failed error) old new = ⊥
 
 -- the error that ends a run: the line of what is refused isn't written, or the error was there before
 abbrev pub IsLastError : EarlyEnd → RunError → Type 0
-IsLastError (early_end.Refused line) e = e ≡ Device
+IsLastError (early_end.Refused line) e = (e ≡ Memory) ⊎ (e ≡ Device)
 IsLastError (early_end.Failed error) e = e ≡ error
 
 -- lines were written of which this holds
@@ -88,3 +91,14 @@ IsRequestsError requests_error.Device e = e ≡ Device
 IsRequestsError requests_error.TooManyRows e = ⊥
 IsRequestsError (requests_error.Bad row why) e = ⊥
 IsRequestsError (requests_error.NotAsk row) e = ⊥
+
+-- the records of a journal or those of requests are refused by this line, the journal first
+abbrev pub AreStreamsRefused : Bool → Records → Records → List ℕ → Type 0
+AreStreamsRefused accept_torn journal requests line =
+    IsJournalRefused accept_torn journal line
+    ⊎ ((batches : List NumberedChanges) × AreBatchesOf accept_torn journal batches × AreRequestsRefused requests line)
+
+-- what batches and requests are answered, and the status: all is accepted, or else a batch is refused
+abbrev pub AreAnsweredInTurn : List NumberedChanges → List Request → List ℕ → ℕ → Type 0
+AreAnsweredInTurn batches requests lines status =
+    (AreAccepted batches requests lines × (status ≡ 0)) ⊎ (IsOneUnfit batches lines × (status ≡ 2))

@@ -12,6 +12,7 @@ pub mod BatchLaws
 pub mod EarlyEnds
 pub mod AnswerLines
 pub mod LiveWords
+pub mod LineTexts
 pub mod LiveRun
 pub mod LiveLines
 pub mod RunFaults

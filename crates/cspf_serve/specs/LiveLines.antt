@@ -5,6 +5,8 @@ use Rattle.cspf_publish.specs.declared.answer.Answer.{Answer}
 use Rattle.cspf_publish.specs.declared.errors.ApplyError.{ApplyError}
 use Rattle.cspf_serve.specs.AnswerLines.{AreAnswerLines}
 use Rattle.cspf_serve.specs.LiveWords.{applied_line, unpublished_line}
+use Rattle.cspf_serve.specs.declared.line.Line.{Line}
+use Rattle.cspf_serve.specs.LineTexts.{line_text}
 
 -- the line of the batch that was refused, if any, and the status
 abbrev pub IsFaultShown : Option NumberedChanges → Option ApplyError → List ℕ → ℕ → Type 0
@@ -17,3 +19,12 @@ abbrev pub AreLiveLines : List Answer → List NumberedChanges → ℕ → Optio
 AreLiveLines answers batches applied fault status lines =
     (replies : List ℕ) × (last : List ℕ) × AreAnswerLines answers replies
     × IsFaultShown (slice_get batches applied) fault last status × (lines ≡ replies ++ applied_line applied ++ last)
+
+-- the text of the last line, if there is one, and the status with it
+abbrev pub last_text : Option Line → List ℕ
+last_text None = []
+last_text (Some line) = line_text line
+
+abbrev pub last_status : Option Line → ℕ
+last_status None = 0
+last_status (Some line) = 2

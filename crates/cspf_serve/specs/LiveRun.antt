@@ -12,7 +12,7 @@ use Rattle.cspf_rows.specs.BatchText.{batch_text}
 use Rattle.cspf_serve.specs.BatchRun.{Records, IsReplyTo, AreBatchesOf, IsJournalRefused, AreRequestsOf, AreRequestsRefused}
 use Rattle.cspf_serve.specs.LiveWords.{applied_line, unpublished_line}
 
--- a request is answered by this line, at a version that was published: in the database of so many
+-- a request is answered by this line, at a version that was published: in the database of its
 -- first batches
 abbrev pub IsReplyWithin : List NumberedChanges → Request → List ℕ → Type 0
 IsReplyWithin published q line =
@@ -51,7 +51,7 @@ IsEndOfLiveRun batches applied line text status =
     × IsWhyNot (take applied batches) next why × (line ≡ unpublished_line next.number why)
     × (text ≡ begun_text next why) × (status ≡ 2))
 
--- The first batches are published, so many of them. The requests are answered at versions of these,
+-- Some first batches are published. The requests are answered at versions of these,
 -- then comes how many they are, and then why the next one isn't published, unless there is none.
 -- The journal holds the texts of those that are published, and after a fault of its own the
 -- beginning of one more.

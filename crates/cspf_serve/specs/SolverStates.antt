@@ -32,7 +32,7 @@ pub record AreFew (solver : Solver) : Type 0 where
   pub refused : solver.refused ≤ MOST_ROWS
 
 -- Where the answer to a row stops: nothing is written where memory was refused, and a prefix of the
--- line, but not all of it, where the write failed. Before the row so many bytes were written.
+-- line, but not all of it, where the write failed. Before the row these bytes were written.
 abbrev pub IsCut : RunState → Result Row RowError → Option (List ℕ) → Option (List ℕ) → ℕ → SolveError → Type 0
 IsCut s row old new before error.Memory = known.Keeps old new
 IsCut s row old new before error.Read = ⊥

@@ -14,9 +14,10 @@
 //! The workers are those of `cspf_work`, whose names stand here too.
 #![tactic(auto)]
 
+mod apply_words;
 mod batch;
 mod batch_refusal;
-mod lines;
+mod line;
 mod live;
 mod solve;
 mod streams;

@@ -4,7 +4,6 @@
 pub(crate) mod early_end;
 mod error;
 pub(crate) mod input;
-mod lines;
 pub(crate) mod opening;
 pub(crate) mod output;
 pub(crate) mod replies;

@@ -1,5 +1,5 @@
 -- What all workers did, one by one.
-use Rattle.std.proofs.Common.{◌≡◌, ℕ, zero, suc, ◌<◌, List, [], ◌∷◌, ◌++◌, All, IfSome, IsNone, take, length, map, Option, Some, None, get_or, refl, sym, ap, ◌∙◌, subst, arith, slice_get}
+use Rattle.std.proofs.Common.{rules, vec_len, ◌≡◌, ℕ, zero, suc, ◌<◌, List, [], ◌∷◌, ◌++◌, All, IfSome, IsNone, take, length, map, Option, Some, None, get_or, refl, sym, ap, ◌∙◌, subst, arith, slice_get}
 use Rattle.std.specs.Option.{option_map}
 use Rattle.std.proofs.lemmas.List.{length-map}
 use Rattle.std.proofs.lemmas.List.Elements.{All-map}
@@ -10,8 +10,9 @@ use Rattle.cspf_publish.specs.KnownBatches.{KnownBatches}
 use Rattle.cspf_work.specs.declared.worker.Worker.{Worker}
 use Rattle.std.proofs.Math.Seq.{take-append_seam}
 use Rattle.cspf_work.specs.declared.worker.Reply.{Reply}
+use Rattle.cspf_work.specs.declared.worker.Results.{Results}
 use Rattle.cspf_work.specs.Served.{AreSameAskers, IsFaultOfWorker, KnowsNoLess}
-use Rattle.cspf_work.specs.Working.{HasDrawnAll, IsRun, AreRun}
+use Rattle.cspf_work.specs.Working.{HasDrawnAll, IsRun, AreReady, AreResults, AreRun, AreLeft}
 
 -- the element at a place inside
 pub at_place : {X : Type 0} (xs : List X) (i : ℕ) → i < length xs → (x : X) × (slice_get xs i ≡ Some x)
@@ -82,8 +83,45 @@ written_back new rest n long = ap (λ m. take m (new ++ rest)) long ∙ take-app
 
 -- workers that were lent as a slice
 pub run_written_back : (counter : CounterId) (requests : List Request) (before : List KnownBatches) (workers lent new rest : List Worker) (n : ℕ)
-    → map (λ w. w.asker) workers ≡ before → lent ≡ workers → n ≡ length workers → AreRun counter requests (map (λ w. w.asker) lent) new → AreRun counter requests before (take n (new ++ rest))
-run_written_back counter requests before workers lent new rest n askers same long run =
-    let of_all : AreRun counter requests before new = subst (λ (all : List KnownBatches). AreRun counter requests all new) (ap (map (λ (w : Worker). w.asker)) same ∙ askers) run in
-    let count : n ≡ length new = (let each = of_all.count in let all = ap length askers in let map_long = length-map workers (λ (w : Worker). w.asker) in omega arith) in
+    → lent ≡ workers → n ≡ length workers → AreReady counter requests before workers
+    → (AreReady counter requests before lent → AreRun counter requests before new) → AreRun counter requests before (take n (new ++ rest))
+run_written_back counter requests before workers lent new rest n same long ready run =
+    let of_all : AreRun counter requests before new = run (subst (λ (all : List Worker). AreReady counter requests before all) (sym same) ready) in
+    let count : n ≡ length new = (let each = of_all.count in let all = ap length ready.askers in let map_long = length-map workers (λ (w : Worker). w.asker) in omega arith) in
     subst (λ (all : List Worker). AreRun counter requests before all) (sym (written_back new rest n count)) of_all
+
+-- what is left of workers whose counter is this one
+pub results_of : (own id : CounterId) (requests : List Request) (before : List KnownBatches) (idle : List Worker) (numbers : List ℕ) (results : Results)
+    → own ≡ id → AreReady id requests before idle → AreLeft own requests idle numbers results
+    → (workers : List Worker) × AreResults id requests before numbers results workers
+results_of own id requests before idle numbers results same ready run =
+    subst (λ (k : CounterId). (workers : List Worker) × AreResults k requests before numbers results workers) same
+    (run before (subst (λ (k : CounterId). AreReady k requests before idle) (sym same) ready))
+
+-- and what their askers knew
+pub left_of : (own id : CounterId) (requests : List Request) (before : List KnownBatches) (idle : List Worker) (numbers : List ℕ) (results : Results)
+    → own ≡ id → AreReady id requests before idle → AreLeft own requests idle numbers results
+    → (known : List KnownBatches) × (workers : List Worker) × AreResults id requests known numbers results workers
+left_of own id requests before idle numbers results same ready run =
+    let is = results_of own id requests before idle numbers results same ready run in
+    (before, is.0, is.1)
+
+-- and there are some
+pub some_left : (own id : CounterId) (requests : List Request) (before : List KnownBatches) (idle : List Worker) (numbers : List ℕ) (results : Results)
+    → own ≡ id → AreReady id requests before idle → AreLeft own requests idle numbers results → 0 < length before → 0 < vec_len results.askers
+some_left own id requests before idle numbers results same ready run some =
+    let is = results_of own id requests before idle numbers results same ready run in
+    let count = is.1.run.count in
+    let askers = ap length is.1.askers in
+    let all = length-map is.0 (λ (w : Worker). w.asker) in
+    let some_askers : 0 < length results.askers.items = omega arith in
+    search rules
+
+-- what holds of all that may be left holds of what their askers knew
+pub of_results : (P : List KnownBatches → Type 0) (own id : CounterId) (requests : List Request) (before : List KnownBatches) (idle : List Worker) (numbers : List ℕ) (results : Results)
+    → own ≡ id → AreReady id requests before idle → AreLeft own requests idle numbers results
+    → ((known : List KnownBatches) (workers : List Worker) → AreResults id requests known numbers results workers → P known)
+    → P before
+of_results P own id requests before idle numbers results same ready run each =
+    let is = results_of own id requests before idle numbers results same ready run in
+    each before is.0 is.1

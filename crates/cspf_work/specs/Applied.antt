@@ -16,13 +16,13 @@ pub record AreApplied {W : Type 0} (contents : W → Option (List ℕ)) (before 
   pub none : length batches ≡ 0 → after ≡ before
   pub going : 0 < length batches → after.stopped ≡ false
 
--- why no more than so many batches were applied: there are no more, or the next one was refused
+-- why no more than these batches were applied: there are no more, or the next one was refused
 abbrev pub IsEndOfApplying : {W : Type 0} → (W → Option (List ℕ)) → PublisherState W → PublisherState W → List NumberedChanges → ℕ → Option ApplyError → Type 0
 IsEndOfApplying contents before after batches applied None = (applied ≡ length batches) × (after ≡ before)
 IsEndOfApplying contents before after batches applied (Some e) =
     (next : NumberedChanges) × (slice_get batches applied ≡ Some next) × IsApplyError contents before after next e
 
--- The first of these batches were published, so many of them, and then the next one was refused, unless there was none.
+-- Some first ones of these batches were published, and then the next one was refused, unless there was none.
 pub record IsAppliedUpTo {W : Type 0} (contents : W → Option (List ℕ)) (before after : PublisherState W) (batches : List NumberedChanges) (applied : ℕ) (fault : Option ApplyError) : Type 0 where
   pub inside : applied ≤ length batches
   pub source : after.source ≡ before.source

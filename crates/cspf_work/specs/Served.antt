@@ -69,7 +69,7 @@ pub record AreAnsweredByWorkers (requests : List Request) (before after : List K
 pub record AreAnswersWithin (batches : List NumberedChanges) (requests : List Request) (list : List Answer) : Type 0 where
   pub each : (index : ℕ) (q : Request) (a : Answer) → slice_get requests index ≡ Some q → slice_get list index ≡ Some a → IsAnswerWithin batches q a
 
--- the answer of one of so many requests is of a version above this one
+-- the answer of one of the requests is of a version above this one
 abbrev pub IsUnaccounted : ℕ → ℕ → ServeError → Type 0
 IsUnaccounted requests published e =
     (index : ℕ) × (version : ℕ) × (e ≡ Unaccounted index version) × (index < requests) × (published < version)

@@ -5,7 +5,7 @@ use Rattle.cspf_db.specs.Numbered.{NumberedChanges}
 use Rattle.cspf_db.specs.declared.request.Request.{Request}
 use Rattle.cspf_draw.specs.DrawnNumbers.{CounterId, DrawnNumbers}
 use Rattle.cspf_publish.specs.KnownBatches.{KnownBatches}
-use Rattle.cspf_work.specs.declared.pool.Room.{Room}
+use Rattle.cspf_work.specs.declared.crew.Room.{Room}
 use Rattle.cspf_work.specs.declared.worker.Reply.{Reply}
 use Rattle.cspf_work.specs.declared.worker.Results.{Results}
 use Rattle.cspf_work.specs.declared.worker.Worker.{Worker}
@@ -39,6 +39,13 @@ pub record IsIdle (id : CounterId) (w : Worker) : Type 0 where
   pub drawn : w.drawer.drawn ≡ []
   pub counter : w.drawer.counter ≡ id
 
+-- some workers that have drawn nothing and asked nothing, at a counter for these requests, and what their askers know
+pub record AreReady (id : CounterId) (requests : List Request) (before : List KnownBatches) (workers : List Worker) : Type 0 where
+  pub count : id.requests ≡ length requests
+  pub some : 0 < length workers
+  pub askers : map (λ w. w.asker) workers ≡ before
+  pub idle : All (IsIdle id) workers
+
 -- what a worker did whose asker knew these batches before
 pub record IsRun (id : CounterId) (requests : List Request) (before : KnownBatches) (after : Worker) : Type 0 where
   pub done : HasDone requests before after
@@ -65,7 +72,17 @@ pub record AreResults (id : CounterId) (requests : List Request) (before : List 
   pub fault : IfSome results.fault IsFaultOfWorker
   pub none : IsNone results.fault → All (λ w. IsNone w.fault) workers
 
--- there is room for what is left when so many workers are done, and nothing is there yet
+-- workers are ready, whatever their askers know
+abbrev pub CanBegin : CounterId → List Request → List Worker → Type 0
+CanBegin id requests workers = (before : List KnownBatches) × AreReady id requests before workers
+
+-- what is left of workers that were ready, once they are done
+abbrev pub AreLeft : CounterId → List Request → List Worker → List ℕ → Results → Type 0
+AreLeft id requests idle numbers results =
+    (before : List KnownBatches) → AreReady id requests before idle
+    → (workers : List Worker) × AreResults id requests before numbers results workers
+
+-- there is room for what is left when this many workers are done, and nothing is there yet
 pub record IsRoomFor (count : ℕ) (room : Room) : Type 0 where
   pub no_askers : room.askers.items ≡ []
   pub no_drawers : room.drawers.items ≡ []

@@ -2,8 +2,9 @@ ghost use Rattle.std.specs.Prelude.{◌<◌, ◌≤◌, length, All, IfOk, IfErr
 ghost use Rattle.std.specs.List.Sorted.{IsStrictlyIncreasing};
 ghost use Rattle.cspf_work.specs.Served.{AreAnsweredByWorkers, AreSameAskers, IsFaultOfWorker};
 
+use crate::crew::employ;
 use crate::finishing::{Collected, finish};
-use crate::pool::{room_for, run_workers};
+use crate::pool::run_workers;
 use crate::{Answers, Gate, MOST_REQUESTS, ServeError};
 use cspf_db::Request;
 use cspf_draw::Counter;
@@ -38,12 +39,11 @@ pub fn answer_all<G: Gate + Sync, R: Threads + Sync>(
     let Ok((counter, first)) = Counter::open(alloc, requests.len() as u64) else {
         return Err((ServeError::Memory, askers));
     };
-    let Ok((workers, room)) = room_for(alloc, askers.len()) else {
-        return Err((ServeError::Memory, askers));
+    let crew = match employ(alloc, &counter, first, askers) {
+        Ok(crew) => crew,
+        Err(askers) => return Err((ServeError::Memory, askers)),
     };
-    let (results, last) = run_workers(
-        rt, alloc, &counter, first, requests, gate, askers, workers, room,
-    );
+    let (results, last) = run_workers(rt, alloc, requests, gate, crew);
     let (askers, collected) = finish(alloc, counter, last, results, requests);
     match collected {
         Ok(Collected { list, drawn }) => Ok(Answers {

@@ -1,19 +1,22 @@
-ghost use Rattle.std.specs.Prelude.{◌≡◌, ◌⊎◌, ◌<◌, ◌≤◌, [], List, length, map, All, IfOk, IfErr, vec_len, vec_capacity};
+ghost use Rattle.std.specs.Prelude.{◌⊎◌, ◌<◌, ◌≤◌, ◌≡◌, List, length, All, IfOk, IfErr, vec_len};
 ghost use Rattle.std.specs.List.Sorted.{IsStrictlyIncreasing};
+ghost use Rattle.cspf_draw.specs.DrawnNumbers.{CounterId};
 ghost use Rattle.cspf_publish.specs.Histories.{BeginsWith};
+ghost use Rattle.cspf_publish.specs.KnownBatches.{KnownBatches};
 ghost use Rattle.cspf_work.specs.Served.{AreAnsweredByWorkers, AreAnswersWithin, AreSameAskers, IsFaultOfWorker, IsUnaccounted};
 ghost use Rattle.cspf_work.specs.Applied.{IsAppliedUpTo, IsAppliedInPart};
 ghost use Rattle.cspf_work.specs.declared.worker.Worker.{Worker as OneWorker};
-ghost use Rattle.cspf_work.specs.Working.{AreRun, AreResults, IsIdle, IsRoomFor};
+ghost use Rattle.cspf_work.specs.Working.{AreReady, AreRun, AreLeft, CanBegin};
 
 use crate::askers::tell_each;
+use crate::crew::{Crew, dismiss, employ};
 use crate::finishing::{Collected, finish};
-use crate::pool::{Room, dismiss, employ, room_for, run_all};
+use crate::pool::run_all;
 use crate::strays::first_stray;
 use crate::worker::{Results, Worker};
 use crate::{Gate, Live, MOST_REQUESTS, ServeError};
 use cspf_db::{Batch, Request};
-use cspf_draw::{Counter, FirstSeat, LastSeat, MOST_DRAWERS};
+use cspf_draw::{Counter, LastSeat};
 use cspf_publish::{ApplyError, Asker, MOST_ASKERS, Publisher};
 use std::alloc::Global;
 use std::io::Write;
@@ -45,25 +48,25 @@ fn apply_all<W: Write, R: Wait>(
 fn apply_and_run<W: Write, G: Gate + Sync, R: Threads + Wait + Sync>(
     rt: &R,
     alloc: Global,
-    batches: &[Batch],
-    publisher: &mut Publisher<W>,
-    counter: &Counter,
     requests: &[Request],
     gate: &G,
     workers: &mut [Worker<'_>],
+    batches: &[Batch],
+    publisher: &mut Publisher<W>,
 ) -> (u32, Option<ApplyError>)
-    requires some { 0 < length workers.old }
-    requires requests { counter.now.requests ≡ length requests.now }
-    requires idle { All (IsIdle counter.now) workers.old }
-    ensures run { AreRun counter.now requests.now (map (λ w. w.asker) workers.old) workers.new }
+    requires { (id : CounterId) × (before : List KnownBatches)
+        × AreReady id requests.now before workers.old }
+    ensures run { (id : CounterId) (before : List KnownBatches)
+        → AreReady id requests.now before workers.old → AreRun id requests.now before workers.new }
     ensures applied { IsAppliedUpTo W.contents publisher.old publisher.new batches.now result.0 result.1 }
 {
     let mut answer = ||
-        requires { (0 < length workers.now) × (counter.now.requests ≡ length requests.now)
-            × All (IsIdle counter.now) workers.now }
-        ensures { AreRun counter.entry.now requests.entry.now (map (λ w. w.asker) workers.entry.now)
-            workers.exit.now }
-    { run_all(rt, alloc, counter, requests, gate, workers) };
+        requires { (id : CounterId) × (before : List KnownBatches)
+            × AreReady id requests.now before workers.now }
+        ensures { (id : CounterId) (before : List KnownBatches)
+            → AreReady id requests.entry.now before workers.entry.now
+            → AreRun id requests.entry.now before workers.exit.now }
+    { run_all(rt, alloc, requests, gate, workers) };
     let mut apply = || -> (u32, Option<ApplyError>)
         ensures { IsAppliedUpTo W.contents publisher.entry.now publisher.exit.now batches.entry.now
             result.0 result.1 }
@@ -71,39 +74,27 @@ fn apply_and_run<W: Write, G: Gate + Sync, R: Threads + Wait + Sync>(
     thread::join_mut(rt, &mut answer, &mut apply).1
 }
 
-/// What is left of the workers of askers after they have answered all requests while this thread
-/// applied batches.
-fn run_beside<'a, W: Write, G: Gate + Sync, R: Threads + Wait + Sync>(
+/// What is left of workers after they have answered all requests while this thread applied batches.
+fn run_beside<W: Write, G: Gate + Sync, R: Threads + Wait + Sync>(
     rt: &R,
     alloc: Global,
     batches: &[Batch],
     publisher: &mut Publisher<W>,
-    counter: &'a Counter,
-    first: FirstSeat,
     requests: &[Request],
     gate: &G,
-    askers: Vec<Asker>,
-    workers: Vec<Worker<'a>>,
-    room: Room<'a>,
+    crew: Crew<'_>,
 ) -> (Results, LastSeat, u32, Option<ApplyError>)
-    requires counter { (first.counter ≡ counter.now) × (counter.now.requests ≡ length requests.now) }
-    requires askers { (0 < vec_len askers) × (vec_len askers ≤ first.shares)
-        × (first.shares ≡ MOST_DRAWERS) }
-    requires workers { (workers.items ≡ []) × (vec_len askers ≤ vec_capacity workers) }
-    requires room { IsRoomFor (vec_len askers) room }
-    ensures counter { result.1.counter ≡ counter.now }
-    ensures results { (workers : List OneWorker)
-        × AreResults counter.now requests.now askers.items result.1.drawn result.0 workers }
+    requires { CanBegin crew.counter.now requests.now crew.workers.items }
+    ensures counter { result.1.counter ≡ crew.entry.counter.now }
+    ensures results { AreLeft crew.entry.counter.now requests.now crew.entry.workers.items
+        result.1.drawn result.0 }
     ensures applied { IsAppliedUpTo W.contents publisher.old publisher.new batches.now
         result.2 result.3 }
 {
-    let mut first = first;
-    let mut workers = employ(alloc, counter, &mut first, askers, workers);
-    let all = workers.as_mut_slice();
-    let (applied, fault) = apply_and_run(
-        rt, alloc, batches, publisher, counter, requests, gate, all,
-    );
-    let (results, last) = dismiss(counter, first, workers, room);
+    let mut crew = crew;
+    let workers = crew.workers.as_mut_slice();
+    let (applied, fault) = apply_and_run(rt, alloc, requests, gate, workers, batches, publisher);
+    let (results, last) = dismiss(crew);
     (results, last, applied, fault)
 }
 
@@ -143,11 +134,12 @@ fn run_lent<W: Write, G: Gate + Sync, R: Threads + Wait + Sync>(
     let Ok((counter, first)) = Counter::open(alloc, requests.len() as u64) else {
         return (askers, Err(ServeError::Memory));
     };
-    let Ok((workers, room)) = room_for(alloc, askers.len()) else {
-        return (askers, Err(ServeError::Memory));
+    let crew = match employ(alloc, &counter, first, askers) {
+        Ok(crew) => crew,
+        Err(askers) => return (askers, Err(ServeError::Memory)),
     };
     let (results, last, applied, fault) = run_beside(
-        rt, alloc, batches, publisher, &counter, first, requests, gate, askers, workers, room,
+        rt, alloc, batches, publisher, requests, gate, crew,
     );
     let (mut askers, collected) = finish(alloc, counter, last, results, requests);
     tell_each(publisher, &mut askers);

@@ -111,7 +111,7 @@ fn answers_of(alloc: Global, slots: Vec<Option<Answer>>) -> Result<Vec<Answer>, 
     Ok(list)
 }
 
-/// The answers of so many requests in the requests' order, and the indexes that each worker
+/// The answers of `count` requests in the requests' order, and the indexes that each worker
 /// answered in the order of its asks. Each request has to have one answer.
 pub(crate) fn collect(
     alloc: Global,

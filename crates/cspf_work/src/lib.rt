@@ -14,6 +14,7 @@ mod answering_live;
 mod answers;
 mod askers;
 mod collecting;
+mod crew;
 mod finishing;
 mod gate;
 mod limits;

@@ -29,6 +29,9 @@ pub const ACCEPT_TORN: &str = "accept-torn";
 /// The option that says how many workers answer.
 pub const WORKERS: &str = "workers";
 
+/// The flag by which a run that stops says why.
+pub const EXPLAIN: &str = "explain";
+
 /// What `routed --version` says behind the name.
 const VERSION: &str = "0.1.0";
 
@@ -63,8 +66,13 @@ Lines of standard output, each when it is known:
   ask ID vV route ..         a request is answered at version V; also none, unknown-from, unknown-to
   row N refused: ..          and batch N refused: .., unended K, too many rows
 
+A row has no limit of length but memory. Standard output has to be blocking. Where its reader goes,
+as in routed solve | head -1, the status is 3. A file that reaches a limit of its size (ulimit -f)
+ends the program by the signal XFSZ, and with status 3 after trap '' XFSZ in the shell.
+
 Status: 0 where all was accepted, 1 where the command line was refused, 2 where a row or a batch was
-refused or there were more than 1,000,000 rows, 3 where memory was refused or a device failed.
+refused or there were more than 1,000,000 rows, 3 where memory was refused or a device failed: then
+the last line of standard error is routed: stopped, and with --explain the line before it says why.
 
 Example: the rows
   put,1.1.1.1,10.0.12.1,2.2.2.2,10.0.12.2,10,0x1,5,5,5,5,5,5,5,5
@@ -88,8 +96,13 @@ Lines of standard output:
   batch N refused: ..        a batch doesn't fit, and nothing is answered
   too many rows              a file has more than 1,000,000 rows
 
+Names of files are UTF-8. A row has no limit of length but memory. Standard output has to be
+blocking. A file as standard output that reaches a limit of a file's size (ulimit -f) ends the
+program by the signal XFSZ, and with status 3 after trap '' XFSZ in the shell.
+
 Status: 0 where all was accepted, 1 where the command line was refused, 2 where the journal, a row
-or a batch was refused, 3 where memory was refused or a file or another device failed.";
+or a batch was refused, 3 where memory was refused or a file or another device failed: then the last
+line of standard error is routed: stopped, and with --explain the line before it says why.";
 
 /// What help says below the options of `live`.
 const LIVE_HELP: &str = "\
@@ -107,15 +120,25 @@ Lines of standard output:
   request row N refused: ..  a row of the requests can't be read, or asks for nothing
   too many rows              a file has more than 1,000,000 rows
 
+Requests that are answered before the first batch is published are answered at version 0, at which
+there is no router. Updates or requests that are refused leave an empty journal. A journal that
+reaches a limit of a file's size (ulimit -f) is refused as on a full device: journal W.
+
+Names of files are UTF-8. A row has no limit of length but memory. Standard output has to be
+blocking. A file as standard output that reaches a limit of a file's size ends the program by the
+signal XFSZ, and with status 3 after trap '' XFSZ in the shell.
+
 Status: 0 where all was accepted, 1 where the command line was refused, 2 where the updates, a row
 or a batch was refused, 3 where memory was refused, a file or another device failed, or the journal
-is there already.";
+is there already: then the last line of standard error is routed: stopped, and with --explain the
+line before it says why.";
 
 /// The command that the words of the command line name.
 pub fn parse<'a>(alloc: Global, words: &'a [String]) -> Result<ArgMatches<'a>, Error> {
     let solve = Command::new(alloc, SOLVE)
         .about(ABOUT_SOLVE)
-        .after_help(HELP);
+        .after_help(HELP)
+        .arg(explain(alloc))?;
     let routed = Command::new(alloc, "routed")
         .about(ABOUT)
         .version(VERSION)
@@ -141,7 +164,8 @@ fn batch<'a>(alloc: Global) -> Result<Command<'a>, AllocError> {
         .arg(journal)?
         .arg(requests)?
         .arg(workers(alloc))?
-        .arg(accept_torn)
+        .arg(accept_torn)?
+        .arg(explain(alloc))
 }
 
 /// The command `live` with its options.
@@ -155,7 +179,16 @@ fn live<'a>(alloc: Global) -> Result<Command<'a>, AllocError> {
         .arg(updates)?
         .arg(requests)?
         .arg(journal)?
-        .arg(workers(alloc))
+        .arg(workers(alloc))?
+        .arg(explain(alloc))
+}
+
+/// The flag by which a run that stops says why.
+fn explain<'a>(alloc: Global) -> Arg<'a> {
+    Arg::new(alloc, EXPLAIN)
+        .long(EXPLAIN)
+        .action(ArgAction::SetTrue)
+        .help("Say on standard error why a run stops")
 }
 
 /// The option that says how many workers answer.

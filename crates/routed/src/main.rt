@@ -8,18 +8,25 @@
 ghost use Rattle.std.specs.Prelude.{◌<◌, ◌≤◌};
 
 mod command_line;
+mod limited;
+mod noted;
+mod stopped;
 
 use clap::ArgMatches;
 use clap::error::ErrorKind;
-use command_line::{ACCEPT_TORN, BATCH, JOURNAL, LIVE, REQUESTS, UPDATES, parse, workers_of};
-use cspf_serve::{MOST_ASKERS, NoGate, RunError, SolveError, run_batch, run_live_rows, run_solve};
-use std::alloc::AllocError;
+use command_line::{
+    ACCEPT_TORN, BATCH, EXPLAIN, JOURNAL, LIVE, REQUESTS, UPDATES, parse, workers_of,
+};
+use cspf_serve::{MOST_ASKERS, NoGate, run_batch, run_live_rows, run_solve};
+use limited::Limited;
+use noted::{Action, Noted};
 use std::fs::{File, OpenOptions};
-use std::io::{BufWriter, Read, Write};
+use std::io::{BufWriter, Printer, Write};
 use std::process::ExitCode;
 use std::sync::Wait;
 use std::thread::Threads;
 use std::{env, io};
+use stopped::Stopped;
 
 /// The command line was refused.
 const REFUSED: u8 = 1;
@@ -27,40 +34,60 @@ const REFUSED: u8 = 1;
 /// Memory was refused, or a device failed.
 const STOPPED: u8 = 3;
 
-/// Memory was refused, or a device failed.
-struct Stopped;
+/// Standard input, as `--explain` names it.
+const INPUT: &str = "standard input";
 
-impl From<AllocError> for Stopped {
-    fn from(_refused: AllocError) -> Stopped {
-        Stopped
+/// Standard output, as `--explain` names it.
+const OUTPUT: &str = "standard output";
+
+/// Standard output, behind a buffer.
+fn output(rt: &HostRuntime) -> Result<Noted<BufWriter<Printer<'_, HostRuntime>>>, Stopped> {
+    match BufWriter::new(rt.alloc(), io::writer(rt)) {
+        Ok(writer) => Ok(Noted::new(OUTPUT, writer)),
+        Err(_) => Err(Stopped::Memory),
     }
 }
 
-impl From<io::Error> for Stopped {
-    fn from(_fault: io::Error) -> Stopped {
-        Stopped
+/// A file to read, which the option of this name gives.
+fn opened(rt: &HostRuntime, option: &'static str, path: &str) -> Result<Noted<File>, Stopped> {
+    match File::open(rt, path) {
+        Ok(file) => Ok(Noted::new(option, file)),
+        Err(error) => Err(Stopped::by(option, Action::Open, error)),
     }
 }
 
-impl From<SolveError> for Stopped {
-    fn from(_fault: SolveError) -> Stopped {
-        Stopped
+/// A journal to write, which isn't there yet.
+fn created(rt: &HostRuntime, path: &str) -> Result<Noted<Limited<File>>, Stopped> {
+    let made = OpenOptions::new()
+        .write(true)
+        .create_new(true)
+        .open(rt, path);
+    match made {
+        Ok(file) => Ok(Noted::new(JOURNAL, Limited::new(rt, file))),
+        Err(error) => Err(Stopped::by(JOURNAL, Action::Open, error)),
     }
 }
 
-impl From<RunError> for Stopped {
-    fn from(_fault: RunError) -> Stopped {
-        Stopped
+/// Flushes a writer.
+fn flush<W: Write>(writer: &mut Noted<W>) -> Result<(), Stopped> {
+    match writer.flush() {
+        Ok(()) => Ok(()),
+        Err(error) => Err(Stopped::by(writer.name(), Action::Flush, error)),
     }
 }
 
-/// Answers the rows that the reader gives on standard output. What was written before a fault stays
+/// Answers the rows of standard input on standard output. What was written before a fault stays
 /// written.
-fn solve<R: Read + Drop>(rt: &HostRuntime, reader: R) -> Result<u8, Stopped> {
-    let mut out = io::writer(rt);
-    let summary = run_solve(rt.alloc(), reader, &mut out)?;
-    out.flush()?;
-    Ok(summary.status())
+fn solve(rt: &HostRuntime) -> Result<u8, Stopped> {
+    let mut reader = Noted::new(INPUT, rt.reader());
+    let mut out = Noted::new(OUTPUT, io::writer(rt));
+    match run_solve(rt.alloc(), &mut reader, &mut out) {
+        Ok(summary) => {
+            flush(&mut out)?;
+            Ok(summary.status())
+        }
+        Err(error) => Err(Stopped::solving(error, reader.fault(), out.fault())),
+    }
 }
 
 /// Applies the batches of a journal and answers requests on standard output. The files are opened
@@ -75,22 +102,22 @@ fn batch<T: Threads + Wait + Sync>(
 ) -> Result<u8, Stopped>
     requires { (0 < workers) × (workers ≤ MOST_ASKERS) }
 {
-    let alloc = rt.alloc();
-    let mut out = BufWriter::new(alloc, io::writer(rt))?;
-    let journal = File::open(rt, journal)?;
-    let requests = File::open(rt, requests)?;
+    let mut out = output(rt)?;
+    let mut journal = opened(rt, JOURNAL, journal)?;
+    let mut requests = opened(rt, REQUESTS, requests)?;
     let ran = run_batch(
         handle,
-        alloc,
-        journal,
-        requests,
+        rt.alloc(),
+        &mut journal,
+        &mut requests,
         &mut out,
         workers,
         accept_torn,
         &NoGate,
     );
-    out.flush()?;
-    Ok(ran?)
+    flush(&mut out)?;
+    let noted = journal.fault().or(requests.fault()).or(out.fault());
+    ran.map_err(|error| Stopped::running(error, noted))
 }
 
 /// Applies updates to a new journal and answers requests on standard output. The files are opened
@@ -105,21 +132,26 @@ fn live<T: Threads + Wait + Sync>(
 ) -> Result<u8, Stopped>
     requires { (0 < workers) × (workers ≤ MOST_ASKERS) }
 {
-    let alloc = rt.alloc();
-    let mut out = BufWriter::new(alloc, io::writer(rt))?;
-    let updates = File::open(rt, updates)?;
-    let requests = File::open(rt, requests)?;
-    let journal = OpenOptions::new()
-        .write(true)
-        .create_new(true)
-        .open(rt, journal)?;
-    let (ran, mut journal) = run_live_rows(
-        handle, alloc, updates, requests, journal, &mut out, workers, &NoGate,
+    let mut out = output(rt)?;
+    let mut updates = opened(rt, UPDATES, updates)?;
+    let mut requests = opened(rt, REQUESTS, requests)?;
+    let mut journal = created(rt, journal)?;
+    let (ran, _journal) = run_live_rows(
+        handle,
+        rt.alloc(),
+        &mut updates,
+        &mut requests,
+        &mut journal,
+        &mut out,
+        workers,
+        &NoGate,
     );
-    let kept = journal.flush();
-    out.flush()?;
+    let kept = flush(&mut journal);
+    flush(&mut out)?;
     kept?;
-    Ok(ran?)
+    // A write to the journal that fails refuses a batch, and stops nothing.
+    let noted = updates.fault().or(requests.fault()).or(out.fault());
+    ran.map_err(|error| Stopped::running(error, noted))
 }
 
 /// Does what the words of `batch` ask for.
@@ -161,20 +193,31 @@ fn obey_live<T: Threads + Wait + Sync>(
     live(rt, handle, updates, requests, journal, workers)
 }
 
-/// Does what a command line that was accepted asks for.
+/// Does what a command line that was accepted asks for, and says why it stops where it is to.
 fn obey<T: Threads + Wait + Sync>(
     rt: &HostRuntime,
     handle: &T,
     matches: &ArgMatches<'_>,
 ) -> Result<u8, Stopped> {
-    match matches.subcommand() {
-        Some((BATCH, words)) => obey_batch(rt, handle, words),
-        Some((LIVE, words)) => obey_live(rt, handle, words),
-        _ => solve(rt, rt.reader()),
+    let Some((name, words)) = matches.subcommand() else {
+        // Never: a command has to be given.
+        return Ok(REFUSED);
+    };
+    let ran = match name {
+        BATCH => obey_batch(rt, handle, words),
+        LIVE => obey_live(rt, handle, words),
+        _ => solve(rt),
+    };
+    if let Err(stopped) = &ran {
+        if words.get_flag(EXPLAIN) {
+            let _ = eprintln!(rt; "routed: {stopped}");
+        }
     }
+    ran
 }
 
-/// Does what the words of the command line ask for.
+/// Does what the words of the command line ask for. Where standard error is closed, nobody is told
+/// why they are refused.
 fn run<T: Threads + Wait + Sync>(
     rt: &HostRuntime,
     handle: &T,
@@ -184,9 +227,9 @@ fn run<T: Threads + Wait + Sync>(
         Ok(matches) => obey(rt, handle, &matches),
         Err(fault) => {
             if fault.kind() == ErrorKind::OutOfMemory {
-                return Err(Stopped);
+                return Err(Stopped::Memory);
             }
-            rt.eprint(fault)?;
+            let _ = rt.eprint(fault);
             Ok(REFUSED)
         }
     }
@@ -201,9 +244,9 @@ fn start<T: Threads + Wait + Sync>(rt: &HostRuntime, handle: &T) -> Result<u8, S
         }
         Err(fault) => {
             if fault.kind() == io::ErrorKind::OutOfMemory {
-                return Err(Stopped);
+                return Err(Stopped::Memory);
             }
-            eprintln!(rt; "routed: the command line is no text")?;
+            let _ = eprintln!(rt; "routed: the command line is no text");
             Ok(REFUSED)
         }
     }
@@ -212,7 +255,7 @@ fn start<T: Threads + Wait + Sync>(rt: &HostRuntime, handle: &T) -> Result<u8, S
 fn main(rt: HostRuntime) -> ExitCode {
     match start(&rt, &rt) {
         Ok(status) => ExitCode::from(status),
-        Err(Stopped) => {
+        Err(_) => {
             let _ = eprintln!(rt; "routed: stopped");
             ExitCode::from(STOPPED)
         }

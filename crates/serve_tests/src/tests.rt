@@ -1,6 +1,7 @@
 mod batches;
 mod limits;
 mod live_rows;
+mod memory;
 mod scripts;
 
 use std::alloc::{AllocError, Global};
@@ -30,7 +31,7 @@ fn bytes_of(alloc: Global, script: &[u8]) -> Result<Vec<u8>, AllocError> {
     Ok(bytes)
 }
 
-/// Gives its text so many times, so many bytes a read at most, and fails behind so many.
+/// Gives its text a number of times, a few bytes a read, and fails behind a number of bytes.
 #[derive(Drop)]
 struct Pieces<'a> {
     text: &'a [u8],
@@ -40,7 +41,7 @@ struct Pieces<'a> {
     last: usize,
 }
 
-/// The text once, so many bytes a read, with a fault behind so many.
+/// The text once, a few bytes a read, with a fault behind some bytes.
 fn in_pieces(text: &[u8], width: usize, last: usize) -> Pieces<'_> {
     Pieces {
         text,
@@ -51,7 +52,7 @@ fn in_pieces(text: &[u8], width: usize, last: usize) -> Pieces<'_> {
     }
 }
 
-/// So many copies of a row.
+/// A number of copies of a row.
 fn copies(text: &[u8], left: u32) -> Pieces<'_> {
     Pieces {
         text,
@@ -80,7 +81,7 @@ impl<'a> Read for Pieces<'a> {
     }
 }
 
-/// Takes so many bytes a write, and fails once it holds as many as it may.
+/// Takes a few bytes a write, and fails once it holds as many as it may.
 #[derive(Drop)]
 struct Narrow {
     held: Vec<u8>,

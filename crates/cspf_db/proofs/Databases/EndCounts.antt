@@ -244,7 +244,7 @@ module _ (rows : List Link) (cs : List Change) (apart : HaveOwnKeys rows) (once 
       ∙ ap set.len
       (sym (with_ends-append set.empty (rows_left rows cs) (links_put cs) ∙ with_ends-empty (rows_after rows cs)))
 
-  -- where the changes bring few routers to those of the rows, there are no more than so many more
+  -- where the changes bring few routers to those of the rows, there are no more than those more
   pub router_count-brought : (routers : List ℕ) (most : ℕ) → All (λ r. set.contains (set.from_list {R = nat_cmp} (ends_of rows)) r ≡ true) routers → BringsAtMost routers cs most
       → router_count (after_changes (database_of rows) cs) ≤ router_count (database_of rows) + most
   router_count-brought routers most inside brings =

@@ -1,6 +1,7 @@
 -- One step of a merge of rows and changes.
-use Rattle.std.proofs.Common.{◌≡◌, ℕ, suc, ◌+◌, ◌-◌, ◌<◌, ◌≤◌, nat_lt, true, false, List, [], ◌∷◌, ◌++◌, length, map, drop, get_or, slice_set, refl, sym, ap, subst, ◌∙◌, append_assoc, add-one, length-append, length-drop, arith}
-use Rattle.std.specs.Ordering.{is_lt, is_eq}
+use mathlib.Core.Bool.{true≢false}
+use Rattle.std.proofs.Common.{◌≡◌, ℕ, suc, ◌+◌, ◌-◌, ◌<◌, ◌≤◌, nat_lt, true, false, List, [], ◌∷◌, ◌++◌, length, map, drop, get_or, slice_set, refl, sym, ap, subst, ◌∙◌, append_assoc, add-one, append-nil, length-append, length-drop, ◌≢◌, All, arith}
+use Rattle.std.specs.Ordering.{is_lt, is_eq, eq_by_cmp}
 use Rattle.std.specs.declared.cmp.Ordering.{Ordering}
 use Rattle.std.specs.declared.cmp.Ordering.TheVariants.{Less, Equal, Greater}
 use Rattle.std.specs.List.{HoldsAt, AllWithin, between, insert, remove as without}
@@ -8,17 +9,22 @@ use Rattle.std.specs.FinMap.{entries}
 use Rattle.std.proofs.lemmas.Bool.Decides.{nat_tests}
 use Rattle.std.proofs.lemmas.List.{take-append-drop, drop-drop, drop_more, set_at, take_at, drop_at, get_or_at, get_or_append_left, get_or-append_right, get_or-drop, get_or_default, length_push}
 use Rattle.cspf_db.specs.declared.link.Link.{Link}
+use Rattle.std.proofs.lemmas.List.Edits.{length-between, get_or-between}
+use Rattle.cspf_db.specs.declared.batch.Change.{Change}
 use Rattle.cspf_db.specs.declared.batch.Change.TheVariants.{Put, Remove}
 use Rattle.cspf_db.specs.Database.{Key, key_of, key_cmp}
-use Rattle.cspf_db.specs.Changes.{after_change}
+use Rattle.cspf_db.specs.Changes.{after_change, key_changed}
+use Rattle.cspf_db.specs.Tables.MergeSteps.{EndsBelow}
+use Rattle.cspf_db.specs.Tables.RowsLeft.{links_put}
 use Rattle.cspf_db.specs.Tables.Rows.{entry_of, database_of, AreByKey}
-use Rattle.cspf_db.proofs.Databases.Keys.{keys_total}
+use Rattle.cspf_db.proofs.Databases.Keys.{keys_total, key_itself}
+use Rattle.cspf_db.proofs.Databases.FoundLinks.{link_at-no_row}
 use Rattle.cspf_db.proofs.Tables.SortedEntries.{turned_greater, turned_less, test_from_true, rises}
-use Rattle.cspf_db.proofs.Databases.OneChange.{database-without}
-use Rattle.cspf_db.proofs.Tables.RowOrder.{own_keys, entries-hit, entries-gap, by_key-without}
+use Rattle.cspf_db.proofs.Databases.OneChange.{database-without, after_change-absent}
+use Rattle.cspf_db.proofs.Tables.RowOrder.{own_keys, entries-hit, entries-gap, by_key-entries, database_of-entries, by_key-without}
 
 -- rows that are copied stand before the others still
-pub copied : (old rows : List Link) (at next : ℕ) → at ≤ next → (old ++ between at next rows) ++ drop next rows ≡ old ++ drop at rows
+copied : (old rows : List Link) (at next : ℕ) → at ≤ next → (old ++ between at next rows) ++ drop next rows ≡ old ++ drop at rows
 copied old rows at next le =
     let e : next ≡ at + (next - at) = omega arith in
     append_assoc old (between at next rows) (drop next rows)
@@ -55,7 +61,7 @@ some_row [] next h = absurd (omega arith)
 some_row (l ∷ rows) next h = l
 
 -- where the next row has its key, a link is put over it
-pub entries-over : (old rows : List Link) (at next : ℕ) (l : Link) → AreByKey (old ++ drop at rows) → at ≤ next → next < length rows → HoldsAt (λ m. key_of m ≡ key_of l) rows next
+entries-over : (old rows : List Link) (at next : ℕ) (l : Link) → AreByKey (old ++ drop at rows) → at ≤ next → next < length rows → HoldsAt (λ m. key_of m ≡ key_of l) rows next
     → entries (after_change (database_of (old ++ drop at rows)) (Put l)).links ≡ map entry_of (((old ++ between at next rows) ++ l ∷ []) ++ drop (next + 1) rows)
 entries-over old rows at next l by_key le h has =
     let out : List Link = old ++ between at next rows in
@@ -81,8 +87,16 @@ below_key out rest k by_key last i d lo h =
           subst (λ n. key_cmp (key_of (get_or (out ++ rest) n d)) k ≡ Less) (sym same) at_end
     ] refl
 
+-- the rows that are left are above a key where they are in their own list
+above_copied : (out rows : List Link) (next : ℕ) (k : Key) → AllWithin (λ m. key_cmp (key_of m) k ≡ Greater) rows next (length rows)
+    → AllWithin (λ m. key_cmp (key_of m) k ≡ Greater) (out ++ drop next rows) (length out) (length (out ++ drop next rows))
+above_copied out rows next k gap i d lo h =
+    subst (λ (m : Link). key_cmp (key_of m) k ≡ Greater)
+    (sym (get_or-append_right out (drop next rows) (length out) i d refl lo ∙ get_or-drop next rows (i - length out) d))
+    (gap (next + (i - length out)) d (omega arith) (omega (arith, h, lo, length-append out (drop next rows), length-drop next rows)))
+
 -- where the next row's key is higher, a link is put before it
-pub entries-between : (old rows : List Link) (at next : ℕ) (l : Link) → AreByKey (old ++ drop at rows) → at ≤ next
+entries-between : (old rows : List Link) (at next : ℕ) (l : Link) → AreByKey (old ++ drop at rows) → at ≤ next
     → AllWithin (λ m. key_cmp (key_of m) (key_of l) ≡ Greater) rows next (length rows)
     → ((d : Link) → 0 < length (old ++ between at next rows) → key_cmp (key_of (get_or (old ++ between at next rows) (length (old ++ between at next rows) - 1) d)) (key_of l) ≡ Less)
     → entries (after_change (database_of (old ++ drop at rows)) (Put l)).links ≡ map entry_of (((old ++ between at next rows) ++ l ∷ []) ++ drop next rows)
@@ -92,17 +106,11 @@ entries-between old rows at next l by_key le gap last =
     let sorted : AreByKey (out ++ drop next rows) = subst AreByKey (sym same) by_key in
     let upto : length out ≤ length (out ++ drop next rows) = omega (arith, length-append out (drop next rows)) in
     ap (λ xs. entries (after_change (database_of xs) (Put l)).links) (sym same)
-    ∙ entries-gap (out ++ drop next rows) (length out) l sorted upto (below_key out (drop next rows) (key_of l) sorted last, above out)
+    ∙ entries-gap (out ++ drop next rows) (length out) l sorted upto (below_key out (drop next rows) (key_of l) sorted last, above_copied out rows next (key_of l) gap)
     ∙ ap (map entry_of) (insert-next out rows next l)
-  where
-    above : (out : List Link) → AllWithin (λ m. key_cmp (key_of m) (key_of l) ≡ Greater) (out ++ drop next rows) (length out) (length (out ++ drop next rows))
-    above out k d lo h =
-        subst (λ (m : Link). key_cmp (key_of m) (key_of l) ≡ Greater)
-        (sym (get_or-append_right out (drop next rows) (length out) k d refl lo ∙ get_or-drop next rows (k - length out) d))
-        (gap (next + (k - length out)) d (omega arith) (omega (arith, h, lo, length-append out (drop next rows), length-drop next rows)))
 
 -- where the next row has the key of a removal, it is left out
-pub merged_removal : (old rows : List Link) (at next : ℕ) (k : Key) → AreByKey (old ++ drop at rows) → at ≤ next → next < length rows → HoldsAt (λ m. key_of m ≡ k) rows next
+merged_removal : (old rows : List Link) (at next : ℕ) (k : Key) → AreByKey (old ++ drop at rows) → at ≤ next → next < length rows → HoldsAt (λ m. key_of m ≡ k) rows next
     → (database_of ((old ++ between at next rows) ++ drop (next + 1) rows) ≡ after_change (database_of (old ++ drop at rows)) (Remove k.0 k.1)) × AreByKey ((old ++ between at next rows) ++ drop (next + 1) rows)
 merged_removal old rows at next k by_key le h has =
     let out : List Link = old ++ between at next rows in
@@ -137,3 +145,82 @@ above_next rows next k by_key no_less no_tie i d lo h =
           let same : i ≡ next = omega (arith, upto, lo) in
           subst (λ n. key_cmp (key_of (get_or rows n d)) k ≡ Greater) (sym same) first
     ] refl
+
+-- keys that don't tie differ
+untied : (j k : Key) → eq_by_cmp key_cmp j k ≡ false → j ≢ k
+untied j k apart same =
+    let tie : eq_by_cmp key_cmp j k ≡ true = subst (λ q. eq_by_cmp key_cmp j q ≡ true) same (key_itself j) in
+    true≢false (sym tie ∙ apart)
+
+-- a change is merged where the next row has its key
+pub merged_over : (old rows : List Link) (at next : ℕ) (c : Change) → AreByKey (old ++ drop at rows) → at ≤ next → next < length rows → HoldsAt (λ m. key_of m ≡ key_changed c) rows next
+    → (database_of (((old ++ between at next rows) ++ links_put (c ∷ [])) ++ drop (next + 1) rows) ≡ after_change (database_of (old ++ drop at rows)) c)
+    × AreByKey (((old ++ between at next rows) ++ links_put (c ∷ [])) ++ drop (next + 1) rows)
+merged_over old rows at next (Put l) by_key le h has =
+    let merged = entries-over old rows at next l by_key le h has in
+    (database_of-entries _ _ merged, by_key-entries _ _ merged)
+merged_over old rows at next (Remove from local) by_key le h has =
+    subst (λ (out : List Link). (database_of (out ++ drop (next + 1) rows) ≡ after_change (database_of (old ++ drop at rows)) (Remove from local)) × AreByKey (out ++ drop (next + 1) rows))
+    (sym (append-nil (old ++ between at next rows))) (merged_removal old rows at next (from, local) by_key le h has)
+
+-- where the next row's key is higher, a removal takes out nothing
+removed_none : (old rows : List Link) (at next : ℕ) (k : Key) → AreByKey (old ++ drop at rows) → at ≤ next → AllWithin (λ m. key_cmp (key_of m) k ≡ Greater) rows next (length rows) → EndsBelow (old ++ between at next rows) k
+    → (database_of ((old ++ between at next rows) ++ drop next rows) ≡ after_change (database_of (old ++ drop at rows)) (Remove k.0 k.1)) × AreByKey ((old ++ between at next rows) ++ drop next rows)
+removed_none old rows at next k by_key le gap last =
+    let out : List Link = old ++ between at next rows in
+    let same : out ++ drop next rows ≡ old ++ drop at rows = copied old rows at next le in
+    let sorted : AreByKey (out ++ drop next rows) = subst AreByKey (sym same) by_key in
+    let none : All (λ l. key_of l ≢ k) (out ++ drop next rows) = λ i d h. apart out sorted last i d h in (
+      after_change-absent _ k.0 k.1 (link_at-no_row (out ++ drop next rows) k none) ∙ ap (λ xs. after_change (database_of xs) (Remove k.0 k.1)) same,
+      sorted,
+    )
+  where
+    apart : (out : List Link) → AreByKey (out ++ drop next rows) → EndsBelow out k → (i : ℕ) (d : Link) → i < length (out ++ drop next rows) → key_of (get_or (out ++ drop next rows) i d) ≢ k
+    apart out sorted last i d h =
+        elim (nat_lt i (length out)) as (λ b. nat_lt i (length out) ≡ b → key_of (get_or (out ++ drop next rows) i d) ≢ k) [
+          | true ↦ λ e. let before : i < length out = grind (arith, nat_tests) in
+              untied _ k (ap is_eq (below_key out (drop next rows) k sorted last i d (omega arith) before))
+          | false ↦ λ e. let behind : length out ≤ i = grind (arith, nat_tests) in
+              untied _ k (ap is_eq (above_copied out rows next k gap i d behind h))
+        ] refl
+
+-- a change is merged where the next row's key is higher
+pub merged_before : (old rows : List Link) (at next : ℕ) (c : Change) → AreByKey (old ++ drop at rows) → at ≤ next → AllWithin (λ m. key_cmp (key_of m) (key_changed c) ≡ Greater) rows next (length rows)
+    → EndsBelow (old ++ between at next rows) (key_changed c)
+    → (database_of (((old ++ between at next rows) ++ links_put (c ∷ [])) ++ drop next rows) ≡ after_change (database_of (old ++ drop at rows)) c)
+    × AreByKey (((old ++ between at next rows) ++ links_put (c ∷ [])) ++ drop next rows)
+merged_before old rows at next (Put l) by_key le gap last =
+    let merged = entries-between old rows at next l by_key le gap last in
+    (database_of-entries _ _ merged, by_key-entries _ _ merged)
+merged_before old rows at next (Remove from local) by_key le gap last =
+    subst (λ (out : List Link). (database_of (out ++ drop next rows) ≡ after_change (database_of (old ++ drop at rows)) (Remove from local)) × AreByKey (out ++ drop next rows))
+    (sym (append-nil (old ++ between at next rows))) (removed_none old rows at next (from, local) by_key le gap last)
+
+-- rows below a key that are copied behind others below it end below it
+pub copied_below : (old rows : List Link) (at next : ℕ) (k : Key) → at ≤ next → next ≤ length rows → EndsBelow old k → AllWithin (λ m. key_cmp (key_of m) k ≡ Less) rows at next
+    → EndsBelow (old ++ between at next rows) k
+copied_below old rows at next k le within last below d h =
+    let part : List Link = between at next rows in
+    let long : length (old ++ part) ≡ length old + length part = length-append old part in
+    let many : length part ≡ next - at = length-between rows at next within in
+    elim (nat_lt at next) as (λ b. nat_lt at next ≡ b → key_cmp (key_of (get_or (old ++ part) (length (old ++ part) - 1) d)) k ≡ Less) [
+      | true ↦ λ e. let some : at < next = grind (arith, nat_tests) in
+          let i : ℕ = length (old ++ part) - 1 - length old in
+          subst (λ (m : Link). key_cmp (key_of m) k ≡ Less)
+          (sym (get_or-append_right old part (length old) (length (old ++ part) - 1) d refl (omega (arith, long, many, some)) ∙ get_or-between rows at next i d (omega (arith, long, many, some))))
+          (below (at + i) d (omega arith) (omega (arith, long, many, some)))
+      | false ↦ λ e. let none : next ≤ at = grind (arith, nat_tests) in
+          let same : length (old ++ part) ≡ length old = omega (arith, long, many, none) in
+          let end : length old - 1 < length old = omega (arith, same, h) in
+          subst (λ n. key_cmp (key_of (get_or (old ++ part) (n - 1) d)) k ≡ Less) (sym same)
+          (ap (λ (m : Link). key_cmp (key_of m) k) (get_or_append_left old part d (length old - 1) end) ∙ last d (omega (arith, same, h)))
+    ] refl
+
+-- what a change puts behind rows below its key is below each higher key, and so are they
+pub put_below : (out : List Link) (c : Change) (k : Key) → EndsBelow out (key_changed c) → key_cmp (key_changed c) k ≡ Less → EndsBelow (out ++ links_put (c ∷ [])) k
+put_below out (Put l) k last less =
+    let behind : length out ≡ length (out ++ l ∷ []) - 1 = omega (arith, length_push out l) in
+    λ d h. ap (λ (m : Link). key_cmp (key_of m) k) (get_or_at out l [] d (length (out ++ l ∷ []) - 1) behind) ∙ less
+put_below out (Remove from local) k last less =
+    subst (λ (xs : List Link). EndsBelow xs k) (sym (append-nil out))
+    (λ d h. keys_total.trans (key_of (get_or out (length out - 1) d)) (from, local) k (last d h) less)

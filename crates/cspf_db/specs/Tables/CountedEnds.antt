@@ -35,7 +35,7 @@ abbrev pub HasListedEnds : List ℕ → Change → Type 0
 HasListedEnds routers (Put l) = Contains routers l.from × Contains routers l.to
 HasListedEnds routers (Remove from local) = Unit {0}
 
--- the changes bring at most so many routers that are not among these: the ends of what they put add
+-- the changes bring at most this many routers that are not among these: the ends of what they put add
 -- no more to a set that has these
 abbrev pub BringsAtMost : List ℕ → List Change → ℕ → Type 0
 BringsAtMost routers changes most =

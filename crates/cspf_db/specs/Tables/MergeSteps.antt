@@ -1,10 +1,12 @@
--- Private: one step of a merge of rows and changes.
-use Rattle.std.specs.Prelude.{◌≡◌, ◌<◌, ◌≤◌, ◌+◌, ◌-◌, ◌++◌, ℕ, List, drop, length, vec_len, Vec}
+-- Private: changes in order of the key, and one step of their merge with rows.
+use Rattle.std.specs.Prelude.{◌≡◌, ◌<◌, ◌≤◌, ◌+◌, ◌-◌, ◌++◌, ℕ, List, drop, length, slice_index_or, vec_len, Vec}
+use Rattle.std.specs.declared.cmp.Ordering.TheVariants.{Less}
 use Rattle.std.specs.Vec.{vec_capacity}
 use Rattle.std.specs.declared.alloc.Global.{Global}
 use Rattle.cspf_db.specs.declared.link.Link.{Link}
 use Rattle.cspf_db.specs.declared.batch.Change.{Change}
-use Rattle.cspf_db.specs.Changes.{after_change}
+use Rattle.cspf_db.specs.Database.{Key, key_of, key_cmp}
+use Rattle.cspf_db.specs.Changes.{after_change, key_changed}
 use Rattle.cspf_db.specs.Tables.Rows.{database_of, AreByKey}
 
 -- The rows below an index are merged: with those from it on they are in order of the key, and there is
@@ -23,3 +25,20 @@ pub record IsMergedUpTo (change : Change) (rows : List Link) (at : ℕ) (old new
   pub changed : database_of (new.items ++ drop next rows) ≡ after_change (database_of (old.items ++ drop at rows)) change
   pub joined : AreByKey (new.items ++ drop next rows)
   pub longer : vec_len new + (length rows - next) ≤ vec_len old + (length rows - at) + 1
+
+-- the last row, if there is one, is below the key
+abbrev pub EndsBelow : List Link → Key → Type 0
+EndsBelow rows k =
+    (d : Link) → 0 < length rows
+    → key_cmp (key_of (slice_index_or rows (length rows - 1) d)) k ≡ Less
+
+-- each change's key is above the one before it
+abbrev pub AreInOrder : List Change → Type 0
+AreInOrder changes =
+    (k : ℕ) (d : Change) → k + 1 < length changes
+    → key_cmp (key_changed (slice_index_or changes k d)) (key_changed (slice_index_or changes (k + 1) d)) ≡ Less
+
+-- the index of a change, beside its key
+pub record IsPlaceOfChange (changes : List Change) (place : Key × ℕ) : Type 0 where
+  pub within : place.1 < length changes
+  pub key : (d : Change) → place.0 ≡ key_changed (slice_index_or changes place.1 d)

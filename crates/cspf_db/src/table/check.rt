@@ -133,7 +133,7 @@ pub fn count_removed(changes: &[Change]) -> usize
     changes.iter().filter(|change| is_removal(change)).count()
 }
 
-/// Whether there are more than 16,384 links after the changes, of which so many add one.
+/// Whether there are more than 16,384 links after the changes, `added` of which add one.
 fn has_too_many_links(rows: &[Link], changes: &[Change], added: usize) -> bool
     requires by_key { AreByKey rows.now }
     requires most { length rows.now ≤ MOST_LINKS }
@@ -187,7 +187,7 @@ fn add_puts(routers: &mut Routers, changes: &[Change]) -> bool
     true
 }
 
-/// Whether there are more than 1,024 routers after the changes, which bring so many. Where they bring
+/// Whether there are more than 1,024 routers after the changes, which bring some. Where they bring
 /// few enough, the ends of the rows need no count.
 fn has_too_many_routers(rows: &[Link], routers: &[Addr], changes: &[Change], brought: usize) -> bool
     requires by_key { AreByKey rows.now }

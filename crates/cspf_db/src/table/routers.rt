@@ -1,4 +1,4 @@
-ghost use Rattle.std.specs.Prelude.{◌≡◌, true, ◌<◌, ◌≤◌, [], ◌∷◌};
+ghost use Rattle.std.specs.Prelude.{◌≡◌, true, ◌<◌, ◌≤◌, [], ◌∷◌, length};
 ghost use Rattle.std.specs.Bool.{OnTrue, OnFalse};
 ghost use Rattle.std.specs.FinSet as set;
 ghost use Rattle.std.specs.Ordering.{nat_cmp};
@@ -8,10 +8,13 @@ use crate::limits::MOST_ROUTERS;
 use std::marker::Model;
 
 /// How many slots there are for the places of routers.
-const SLOTS: usize = 32768;
+const SLOTS: usize = 4096;
 
-/// A set of at most 1,024 routers, kept in place as numbers. The place of each is noted at a slot that
-/// follows from its number, unless another's was noted there since.
+/// How many slots are tried for the place of a router.
+const TRIES: u32 = 16;
+
+/// A set of at most 1,024 routers, kept in place as numbers. The place of each, counted from 1, is noted
+/// at the first free one of the slots that follow from its number; 0 is a free slot.
 #[derive(Drop)]
 pub struct Routers {
     found: [u32; MOST_ROUTERS],
@@ -19,11 +22,25 @@ pub struct Routers {
     places: [u16; SLOTS],
 }
 
-/// The slot of a router with this number.
-fn slot(router: u32) -> usize
+/// The slot that is tried for a router with this number, after these other tries.
+fn slot(router: u32, others: u32) -> usize
     ensures { result < SLOTS }
 {
-    ((router.wrapping_mul(2654435761) >> 16) % SLOTS as u32) as usize
+    ((router.wrapping_mul(2654435761) >> 16).wrapping_add(others) % SLOTS as u32) as usize
+}
+
+/// Notes the place of a router at the first free one of its slots, if there is one.
+fn note(places: &mut [u16], router: u32, place: u16)
+    requires { length places.old ≡ SLOTS }
+    ensures { length places.new ≡ SLOTS }
+{
+    for others in 0..TRIES {
+        let slot = slot(router, others);
+        if places[slot] == 0 {
+            places[slot] = place;
+            return;
+        }
+    }
 }
 
 impl Model for Routers {
@@ -52,7 +69,7 @@ impl Routers {
         Routers::kept_in([0; MOST_ROUTERS], [0; SLOTS])
     }
 
-    /// No routers, with the places where they are kept. What stands there doesn't matter.
+    /// No routers, with the places where they are kept.
     fn kept_in(found: [u32; MOST_ROUTERS], places: [u16; SLOTS]) -> Self
         ensures { result ≡ set.empty }
     {
@@ -69,6 +86,9 @@ impl Routers {
         ensures full { OnFalse result (MOST_ROUTERS < set.len (set.insert self.old router)) }
         ensures few { OnTrue result (set.len self.new ≤ MOST_ROUTERS) }
     {
+        if self.has(router) {
+            return true;
+        }
         if self.found[..self.count].contains(&router) {
             return true;
         }
@@ -76,17 +96,25 @@ impl Routers {
             return false;
         }
         self.found[self.count] = router;
-        self.places[slot(router)] = self.count as u16;
         self.count += 1;
+        note(&mut self.places, router, self.count as u16);
         true
     }
 
-    /// Whether the router with this number is at the place that is noted for it.
+    /// Whether a place is noted for the router with this number. It is false for few that are found.
     fn has(&self, router: u32) -> bool
         ensures { result ≡ true → self.now ≡ set.insert self.now router }
     {
-        let place = self.places[slot(router)] as usize;
-        place < self.count && self.found[place] == router
+        for others in 0..TRIES {
+            let place = self.places[slot(router, others)] as usize;
+            if place == 0 {
+                return false;
+            }
+            if place <= self.count && self.found[place - 1] == router {
+                return true;
+            }
+        }
+        false
     }
 
     /// Whether both ends of a link are found at once, so that they need not be added.

@@ -118,7 +118,7 @@ pub fn change_rows(rows: &mut Vec<Link>, ends: &mut Vec<u16>, routers: &[Addr], 
 /// How many rows may be put between others or taken out one by one, as each moves those behind it.
 const FEW: usize = 16;
 
-/// Whether changes, of which so many add a link, put few rows between others and take few out.
+/// Whether changes, `added` of which add a link, put few rows between others and take few out.
 fn move_few(added: usize, changes: &[Change]) -> bool
     requires few { added ≤ MOST_CHANGES }
     requires short { length changes.now ≤ MOST_CHANGES }

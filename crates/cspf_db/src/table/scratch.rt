@@ -6,23 +6,24 @@ use crate::limits::{MOST_CHANGES, ROOM_FOR_LINKS, ROOM_FOR_ROUTERS};
 use crate::table::merging::{merge, sort_changes};
 use crate::table::places::{keep_ends, list_places, move_ends};
 use crate::table::router_list::add_ends;
-use crate::table::row_changes::change_rows;
 use crate::{Change, Link};
 use cspf_addr::Addr;
 use std::alloc::{AllocError, Global};
 use std::mem::swap;
 
-/// Room for the rows, their ends and the routers after changes, for the changes in order of the key, and for
-/// the places of routers.
+/// Room for the rows, their ends and the routers after changes, for the changes and their keys in order, and
+/// for the places of routers.
 #[derive(Debug, Drop)]
 pub struct Scratch {
     merged: Vec<Link>,
     ends: Vec<u16>,
+    order: Vec<((Addr, Addr), u16)>,
     sorted: Vec<Change>,
     listed: Vec<Addr>,
     places: Vec<u16>,
     ghost room: { ROOM_FOR_LINKS ≤ vec_capacity merged },
     ghost room_for_ends: { ROOM_FOR_LINKS ≤ vec_capacity ends },
+    ghost room_for_order: { MOST_CHANGES ≤ vec_capacity order },
     ghost room_for_changes: { MOST_CHANGES ≤ vec_capacity sorted },
     ghost room_for_routers: { ROOM_FOR_ROUTERS ≤ vec_capacity listed },
     ghost room_for_places: { ROOM_FOR_ROUTERS ≤ vec_capacity places },
@@ -51,6 +52,7 @@ impl Scratch {
         Ok(Scratch {
             merged: Vec::with_capacity(alloc, ROOM_FOR_LINKS)?,
             ends: Vec::with_capacity(alloc, ROOM_FOR_LINKS)?,
+            order: Vec::with_capacity(alloc, MOST_CHANGES)?,
             sorted: Vec::with_capacity(alloc, MOST_CHANGES)?,
             listed: Vec::with_capacity(alloc, ROOM_FOR_ROUTERS)?,
             places: Vec::with_capacity(alloc, ROOM_FOR_ROUTERS)?,
@@ -73,20 +75,17 @@ impl Scratch {
             ≡ after_changes (database_of rows.old.items) changes.now }
         ensures rows { AreRowsWithEnds rows.new routers.now ends.new }
     {
-        sort_changes(&mut self.sorted, changes);
+        sort_changes(&mut self.order, &mut self.sorted, changes);
         self.merged.clear();
         self.ends.clear();
-        if !merge(
+        merge(
             &mut self.merged,
             &mut self.ends,
             rows,
             ends,
             routers,
             &self.sorted,
-        ) {
-            change_rows(rows, ends, routers, changes);
-            return;
-        }
+        );
         swap(rows, &mut self.merged);
         swap(ends, &mut self.ends);
     }

@@ -96,6 +96,16 @@ pub(super) fn route_of(answer: &Result<Answer, AskError>) -> Option<(u64, u32, u
     }
 }
 
+/// Whether the answer to request 7 is that version 0 doesn't have the first router.
+pub(super) fn is_of_no_batch(answer: &Result<Answer, AskError>) -> bool {
+    match answer {
+        Ok(answer) => {
+            answer.id == 7 && answer.version == 0 && matches!(answer.outcome, Outcome::UnknownFrom)
+        }
+        Err(_) => false,
+    }
+}
+
 /// A request for a bandwidth at the highest priority, on links of any groups.
 pub(super) fn request(
     id: u64,
@@ -108,19 +118,26 @@ pub(super) fn request(
     Request::new(id, from, to, 0, bandwidth, any, any, any, Hops::none())
 }
 
-/// Takes a byte a write, until it holds as many as it may. Then it fails once, or takes none once.
-/// After that it takes all.
+/// Takes at most `width` bytes a write, until it holds `most`. Then it fails once, or takes none once.
+/// After that it takes more again.
 #[derive(Drop)]
 pub(super) struct Narrow {
     pub held: Vec<u8>,
+    pub width: usize,
     pub most: usize,
     pub fault: Option<ErrorKind>,
 }
 
 /// A writer that holds nothing.
-pub(super) fn empty_writer(alloc: Global, most: usize, fault: Option<ErrorKind>) -> Narrow {
+pub(super) fn empty_writer(
+    alloc: Global,
+    width: usize,
+    most: usize,
+    fault: Option<ErrorKind>,
+) -> Narrow {
     Narrow {
         held: Vec::new(alloc),
+        width,
         most,
         fault,
     }
@@ -128,15 +145,14 @@ pub(super) fn empty_writer(alloc: Global, most: usize, fault: Option<ErrorKind>)
 
 impl Write for Narrow {
     fn write(&mut self, buf: &[u8]) -> io::Result<usize> {
-        if self.held.len() >= self.most {
+        let room = self.most.saturating_sub(self.held.len());
+        if room == 0 {
             self.most = usize::MAX;
             return self.fault.map_or(Ok(0), |kind| Err(io::Error::from(kind)));
         }
-        let Some(&byte) = buf.first() else {
-            return Ok(0);
-        };
-        match self.held.push(byte) {
-            Ok(()) => Ok(1),
+        let taken = buf.len().min(self.width).min(room);
+        match self.held.extend_from_slice(&buf[..taken]) {
+            Ok(()) => Ok(taken),
             Err(_) => Err(io::Error::from(ErrorKind::OutOfMemory)),
         }
     }

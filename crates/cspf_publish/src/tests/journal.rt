@@ -2,12 +2,12 @@
 ghost use Rattle.std.specs.Prelude.{◌≡◌};
 
 use super::fixtures::{
-    Narrow, TEXT, apply_empty, batch_and_request, empty_writer, first_batch, opened, route_of,
+    Narrow, TEXT, apply_empty, batch_and_request, empty_writer, first_batch, is_of_no_batch,
+    opened, route_of,
 };
 use crate::{Answer, ApplyError, AskError, Asker, Publisher};
 use cspf_db::{Batch, Request};
 use cspf_rows::batch_text;
-use cspf_search::Outcome;
 use std::alloc::Global;
 use std::io::{ErrorKind, Write};
 use std::process::Abort;
@@ -37,16 +37,6 @@ fn applied_twice<R: Wait + Abort>(
     (applied, answer, publisher.close(rt))
 }
 
-/// Whether the answer to request 7 is that version 0 doesn't have the first router.
-fn is_of_no_batch(answer: &Result<Answer, AskError>) -> bool {
-    match answer {
-        Ok(answer) => {
-            answer.id == 7 && answer.version == 0 && matches!(answer.outcome, Outcome::UnknownFrom)
-        }
-        Err(_) => false,
-    }
-}
-
 /// A writer's fault after some bytes of batch 1 stops the publisher, and the empty database stays
 /// published.
 fn stops_at<R: Wait + Abort>(
@@ -64,18 +54,20 @@ fn stops_at<R: Wait + Abort>(
     assert!(rt; is_of_no_batch(&answer), "at {most}");
 }
 
-/// A writer fails, takes nothing or is interrupted after each number of bytes of a batch.
+/// A writer fails, takes nothing or is interrupted after each number of bytes of a batch, which it
+/// takes one by one or at once.
 #[test]
 fn faults_of_the_journal(rt: HostRuntime) -> Result<(), Fail> {
     let alloc = rt.alloc();
     let (first, request) = batch_and_request(alloc)?;
+    let faults = [Some(ErrorKind::Other), Some(ErrorKind::Interrupted), None];
     for most in 0..TEXT.len() {
-        let failing = empty_writer(alloc, most, Some(ErrorKind::Other));
-        stops_at(&rt, alloc, failing, &first, &request);
-        let interrupted = empty_writer(alloc, most, Some(ErrorKind::Interrupted));
-        stops_at(&rt, alloc, interrupted, &first, &request);
-        let full = empty_writer(alloc, most, None);
-        stops_at(&rt, alloc, full, &first, &request);
+        for fault in faults {
+            let slow = empty_writer(alloc, 1, most, fault);
+            stops_at(&rt, alloc, slow, &first, &request);
+            let fast = empty_writer(alloc, TEXT.len(), most, fault);
+            stops_at(&rt, alloc, fast, &first, &request);
+        }
     }
     Ok(())
 }
@@ -103,7 +95,7 @@ fn stops_at_batch_2<R: Wait>(rt: &R, alloc: Global, publisher: &mut Publisher<Na
 /// A fault in the text of batch 2 stops the publisher for good: version 1 stays published, and the
 /// journal keeps what it had by then.
 fn stops_at_version_1<R: Wait + Abort>(rt: &R, alloc: Global, first: &Batch, request: &Request) {
-    let journal = empty_writer(alloc, 105, Some(ErrorKind::Other));
+    let journal = empty_writer(alloc, 1, 105, Some(ErrorKind::Other));
     let (mut publisher, mut asker) = opened(rt, alloc, journal);
     let applied = publisher.apply(rt, alloc, first);
     let stops = stops_at_batch_2(rt, alloc, &mut publisher);
@@ -122,14 +114,18 @@ fn stopped_at_a_version(rt: HostRuntime) -> Result<(), Fail> {
     Ok(())
 }
 
-/// A writer that takes a byte at a time gets both texts.
+/// A writer that takes a byte or three at a time gets both texts.
 #[test]
 fn journal_in_pieces(rt: HostRuntime) -> Result<(), Fail> {
-    let (first, request) = batch_and_request(rt.alloc())?;
-    let journal = empty_writer(rt.alloc(), 110, None);
-    let (applied, answer, journal) = applied_twice(&rt, rt.alloc(), journal, &first, 2, &request);
-    assert!(rt; applied == (Ok(1), Ok(2)) && route_of(&answer) == Some((7, 2, 10, 1)));
-    assert!(rt; journal.held.starts_with(TEXT) && journal.held.ends_with(b"end,2,0\n"));
+    let alloc = rt.alloc();
+    let (first, request) = batch_and_request(alloc)?;
+    for width in [1, 3] {
+        let journal = empty_writer(alloc, width, usize::MAX, None);
+        let (applied, answer, journal) = applied_twice(&rt, alloc, journal, &first, 2, &request);
+        assert!(rt; applied == (Ok(1), Ok(2)) && route_of(&answer) == Some((7, 2, 10, 1)));
+        let text = journal.held;
+        assert!(rt; text.len() == 110 && text.starts_with(TEXT) && text.ends_with(b"end,2,0\n"));
+    }
     Ok(())
 }
 

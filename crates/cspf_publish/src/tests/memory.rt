@@ -1,97 +1,171 @@
-//! One allocation is refused: `rt try --test --fail-alloc N -- refused_once` refuses the Nth.
+//! A publisher and its asker while memory is refused: each call answers in full or that memory is
+//! refused, and it answers in full once there is memory again.
+ghost use Rattle.std.specs.Prelude.{◌≡◌, IfSome};
 
-use super::fixtures::{Narrow, ONE, TEXT, TWO, batch, only_link, opened, request, route_of};
+use super::fixtures::{
+    ONE, TEXT, TWO, batch, is_of_no_batch, only_link, opened, request, route_of,
+};
 use crate::{Answer, ApplyError, AskError, Asker, OpenError, Publisher, open};
-use cspf_db::{Batch, Change, Request};
-use std::alloc::{AllocError, Global};
+use cspf_db::{Batch, Change, Link, Request};
+use cspf_search::Outcome;
+use std::alloc::Global;
+use std::io;
 use std::io::Write;
 use std::process::Abort;
 use std::sync::Wait;
 use std::test::Fail;
 
-/// A journal that takes no memory while it is written.
-fn journal_with_room(alloc: Global) -> Result<Narrow, AllocError> {
-    Ok(Narrow {
-        held: Vec::with_capacity(alloc, 200)?,
-        most: 200,
-        fault: None,
-    })
+/// A journal in place, which takes no memory.
+#[derive(Drop)]
+struct InPlace {
+    text: [u8; 200],
+    held: usize,
 }
 
-/// Batch 1, and once more where memory is refused.
-fn batch_at_last(alloc: Global) -> Result<Batch, Fail> {
-    let changes = [Change::Put(only_link()?)];
-    match batch(alloc, 1, &changes) {
-        Ok(first) => Ok(first),
-        Err(_) => Ok(batch(alloc, 1, &changes)?),
+impl Write for InPlace {
+    fn write(&mut self, buf: &[u8]) -> io::Result<usize> {
+        let held = self.held.min(self.text.len());
+        let taken = buf.len().min(self.text.len() - held);
+        self.text[held..held + taken].copy_from_slice(&buf[..taken]);
+        self.held = held + taken;
+        Ok(taken)
+    }
+
+    fn flush(&mut self) -> io::Result<()> {
+        Ok(())
     }
 }
 
-/// A publisher and its one asker, opened once more where memory is refused, which gives the writer
-/// back as it was. No other error is answered.
-fn opened_at_last<R: Wait + Abort>(
-    rt: &R,
-    alloc: Global,
-    journal: Narrow,
-) -> (Publisher<Narrow>, Asker) {
-    match open(rt, alloc, journal, 1) {
+/// Whether memory is given now.
+fn has_memory(alloc: Global) -> bool {
+    match Vec::from_slice(alloc, &[1u8]) {
+        Ok(bytes) => bytes.len() == 1,
+        Err(_) => false,
+    }
+}
+
+/// A publisher over an empty journal and its one asker, or none where memory is refused for good.
+/// The error gives the journal back as it was.
+fn opened_at_last<R: Wait + Abort>(rt: &R, alloc: Global) -> Option<(Publisher<InPlace>, Asker)>
+    ensures { IfSome result (λ opened. opened.1.source ≡ opened.0.source) }
+{
+    let empty = InPlace {
+        text: [0; 200],
+        held: 0,
+    };
+    match open(rt, alloc, empty, 1) {
         Ok((publisher, mut askers)) => match askers.pop() {
-            Some(asker) => (publisher, asker),
+            Some(asker) => Some((publisher, asker)),
             None => panic!(rt; "no asker"),
         },
         Err((error, journal)) => {
-            assert!(rt; error == OpenError::Memory && journal.held.is_empty());
-            opened(rt, alloc, journal)
+            assert!(rt; error != OpenError::Askers && journal.held == 0);
+            if has_memory(alloc) {
+                Some(opened(rt, alloc, journal))
+            } else {
+                None
+            }
         }
     }
 }
 
-/// Whether a batch is published, at once, or once memory was refused and nothing was.
-fn is_published<W: Write, R: Wait>(
+/// What a publisher answers to a batch, at the second try where memory is there again.
+fn apply_at_last<W: Write, R: Wait>(
     rt: &R,
     alloc: Global,
     publisher: &mut Publisher<W>,
-    batch: &Batch,
-) -> bool {
-    let applied = publisher.apply(rt, alloc, batch);
-    if applied == Err(ApplyError::Memory) {
-        return publisher.version() == 0 && publisher.apply(rt, alloc, batch) == Ok(1);
+    first: &Batch,
+) -> Result<u32, ApplyError>
+    ensures { publisher.new.source ≡ publisher.old.source }
+{
+    let applied = publisher.apply(rt, alloc, first);
+    if applied == Err(ApplyError::Memory) && has_memory(alloc) {
+        return publisher.apply(rt, alloc, first);
     }
-    applied == Ok(1) && publisher.version() == 1
+    applied
 }
 
-/// The answer to a request, asked once more where memory is refused.
-fn asked(alloc: Global, asker: &mut Asker, request: &Request) -> Result<Answer, AskError> {
+/// Whether batch 1 is published, or memory is refused for good and it isn't.
+fn is_right(alloc: Global, applied: Result<u32, ApplyError>, version: u32) -> bool {
+    match applied {
+        Ok(1) => version == 1,
+        Err(ApplyError::Memory) => version == 0 && !has_memory(alloc),
+        _ => false,
+    }
+}
+
+/// Whether an answer is the route over the link, at version 1.
+fn is_of_the_link(answer: &Result<Answer, AskError>, link: &Link) -> bool {
+    let links = match answer {
+        Ok(answer) => match &answer.outcome {
+            Outcome::Route(route) => route.links(),
+            _ => &[],
+        },
+        Err(_) => &[],
+    };
+    links == [*link].as_slice() && route_of(answer) == Some((7, 1, 10, 1))
+}
+
+/// What an asker answers, at the second try where memory is there again.
+fn ask_at_last(alloc: Global, asker: &mut Asker, request: &Request) -> Result<Answer, AskError>
+    ensures { asker.new.source ≡ asker.old.source }
+{
     match asker.ask(alloc, request) {
-        Err(AskError::Memory) => asker.ask(alloc, request),
+        Err(AskError::Memory) if has_memory(alloc) => asker.ask(alloc, request),
         answer => answer,
     }
 }
 
-/// Each call answers, or it answers that memory is refused and then the same call answers.
-fn answers<R: Wait + Abort>(
+/// Whether the request is answered right at this version, 0 or 1, or memory is refused for good.
+fn is_answered(
+    alloc: Global,
+    answer: &Result<Answer, AskError>,
+    version: u32,
+    link: &Link,
+) -> bool {
+    if matches!(answer, Err(AskError::Memory)) {
+        return !has_memory(alloc);
+    }
+    if version == 0 {
+        is_of_no_batch(answer)
+    } else {
+        is_of_the_link(answer, link)
+    }
+}
+
+/// Publishes, tells and asks.
+fn publishes_and_answers<R: Wait + Abort>(
     rt: &R,
     alloc: Global,
-    journal: Narrow,
+    opened: (Publisher<InPlace>, Asker),
     first: &Batch,
-    request: &Request,
-) {
-    let (mut publisher, mut asker) = opened_at_last(rt, alloc, journal);
-    let published = is_published(rt, alloc, &mut publisher, first);
-    let answer = asked(alloc, &mut asker, request);
-    let journal = publisher.close(rt);
-    assert!(rt; published && route_of(&answer) == Some((7, 1, 10, 1)));
-    assert!(rt; journal.held.as_slice() == TEXT);
+    asked: (&Request, &Link),
+)
+    requires { opened.1.source ≡ opened.0.source }
+{
+    let (mut publisher, mut asker) = opened;
+    let (request, link) = asked;
+    let applied = apply_at_last(rt, alloc, &mut publisher, first);
+    let version = publisher.version();
+    let told = publisher.tell();
+    let versions = (told.version(), asker.meet(told));
+    let answer = ask_at_last(alloc, &mut asker, request);
+    let InPlace { text, held } = publisher.close(rt);
+    let wanted = if version == 0 { b"" } else { TEXT };
+    assert!(rt; is_right(alloc, applied, version) && versions == (version, version));
+    assert!(rt; is_answered(alloc, &answer, version, link) && asker.seen() == version);
+    assert!(rt; text.get(..held) == Some(wanted));
 }
 
 #[test]
-fn refused_once(rt: HostRuntime) -> Result<(), Fail> {
-    let first = batch_at_last(rt.alloc())?;
+fn publisher_while_memory_is_refused(rt: HostRuntime) -> Result<(), Fail> {
+    let link = only_link()?;
     let request = request(7, ONE, TWO, 1000)?;
-    let journal = match journal_with_room(rt.alloc()) {
-        Ok(journal) => journal,
-        Err(_) => journal_with_room(rt.alloc())?,
+    let Ok(first) = batch(rt.alloc(), 1, &[Change::Put(link)]) else {
+        return Ok(());
     };
-    answers(&rt, rt.alloc(), journal, &first, &request);
+    if let Some(opened) = opened_at_last(&rt, rt.alloc()) {
+        publishes_and_answers(&rt, rt.alloc(), opened, &first, (&request, &link));
+    }
     Ok(())
 }

@@ -154,8 +154,13 @@ fn rows_of_a_journal_are_counted(rt: HostRuntime) -> Result<(), Fail> {
 
 #[test]
 fn readers_of_journals_that_fail(rt: HostRuntime) {
-    let journal = read_journal(rt.alloc(), failing(b"end,1,0\nend,2,0\n"));
-    assert_eq!(rt; journal.err(), Some(ReadError::Device));
+    for rows in [
+        b"end,1,0\nend,2,0\n".as_slice(),
+        b"drop,1.1.1.1,0.0.0.0\nend,1,1\ndrop,1.1.1.1,0.0.0.1\nend,2,1\n".as_slice(),
+    ] {
+        let journal = read_journal(rt.alloc(), failing(rows));
+        assert_eq!(rt; journal.err(), Some(ReadError::Device), "{rows:?}");
+    }
     let torn = read_journal(rt.alloc(), failing(b"end,1,0\nfoo\n"));
     assert_eq!(rt; torn.err(), Some(ReadError::Device));
 }

@@ -94,7 +94,7 @@ fn case(line: &str) -> (&str, &[u8]) {
 }
 
 /// The words of a row's refusal, `read` where there is none.
-fn words_of(alloc: Global, read: Result<Row, RowError>) -> Result<String, AllocError> {
+pub(super) fn words_of(alloc: Global, read: Result<Row, RowError>) -> Result<String, AllocError> {
     match read {
         Ok(_) => format!(in alloc; "read"),
         Err(error) => error.to_string(alloc),
@@ -150,7 +150,7 @@ fn rows_and_refusals(rt: HostRuntime) -> Result<(), Fail> {
 }
 
 /// The row of a text of one.
-fn only_row(alloc: Global, text: &[u8]) -> Result<Result<Row, RowError>, csv::Error> {
+pub(super) fn only_row(alloc: Global, text: &[u8]) -> Result<Result<Row, RowError>, csv::Error> {
     let mut fields = ByteRecord::new(alloc);
     records(alloc, text).read_byte_record(&mut fields)?;
     Ok(Row::read(&fields))

@@ -13,13 +13,13 @@ ghost use Rattle.cspf_serve.specs.EarlyEnds.{IfRefused, IfFailed, WritesAllBut, 
 ghost use Rattle.cspf_serve.specs.RunFaults.{IsStreamFault};
 ghost use Rattle.cspf_publish.specs.declared.limits.TheConstants.{MOST_VERSIONS};
 
-use crate::lines::{refused_batch_line, version_line};
+use crate::line::Line;
 use crate::streams::early_end::EarlyEnd;
-use crate::streams::output::put;
+use crate::streams::output::put_line;
 use crate::{BatchRefusal, RunError};
 use cspf_db::{Batch, lawful_batches};
 use cspf_publish::{ApplyError, Publisher};
-use std::alloc::{AllocError, Global};
+use std::alloc::Global;
 use std::io::Write;
 use std::sync::Wait;
 
@@ -78,29 +78,26 @@ fn publish<J: Write, W: Write, R: Wait>(
 {
     match publisher.apply(rt, alloc, batch) {
         Ok(version) => {
-            let line = version_line(alloc, version)?;
-            put(&line, writer)?;
+            put_line(alloc, Line::Version { version }, writer)?;
             Ok(())
         }
-        Err(error) => Err(end_of(alloc, batch.number, error)?),
+        Err(error) => Err(end_of(batch.number, error)),
     }
 }
 
 /// How a run ends at a batch that isn't published.
-fn end_of(alloc: Global, number: u32, error: ApplyError) -> Result<EarlyEnd, AllocError>
-    ensures refused { IfOk result (λ end. IfRefused end (IsOwnFaultLine error number)) }
-    ensures failed { IfOk result (λ end. IfFailed end (IsFaultBeyond error)) }
-    // Memory is taken for a line alone.
-    ensures memory { OnErr result ((line : List ℕ) × IsOwnFaultLine error number line) }
+fn end_of(number: u32, error: ApplyError) -> EarlyEnd
+    ensures refused { IfRefused result (IsOwnFaultLine error number) }
+    ensures failed { IfFailed result (IsFaultBeyond error) }
 {
     let refusal = match error {
         ApplyError::Exhausted => BatchRefusal::Exhausted,
         ApplyError::WrongNumber { expected } => BatchRefusal::WrongNumber { expected },
         ApplyError::Refused(why) => BatchRefusal::Unfit(why),
-        ApplyError::Memory => return Ok(EarlyEnd::Failed(RunError::Memory)),
+        ApplyError::Memory => return EarlyEnd::Failed(RunError::Memory),
         ApplyError::Stopped | ApplyError::Journal { .. } => {
-            return Ok(EarlyEnd::Failed(RunError::Device));
+            return EarlyEnd::Failed(RunError::Device);
         }
     };
-    Ok(EarlyEnd::Refused(refused_batch_line(alloc, number, refusal)?))
+    EarlyEnd::Refused(Line::RefusedBatch { number, refusal })
 }

@@ -4,9 +4,9 @@ ghost use Rattle.cspf_rows.specs.Journal.{AreNumberedFrom};
 ghost use Rattle.cspf_rows.specs.Records.{rows_of};
 ghost use Rattle.cspf_serve.specs.declared.solve.summary.Summary.{Summary as Counts};
 ghost use Rattle.cspf_serve.specs.Script.{IsRun};
-ghost use Rattle.cspf_serve.specs.BatchRun.{AreAccepted, IsOneUnfit, AreAnsweredTogether, IsBatchRun};
+ghost use Rattle.cspf_serve.specs.BatchRun.{AreAccepted, IsOneUnfit, IsBatchRun};
 ghost use Rattle.cspf_serve.specs.BatchLaws.{IsCleanJournal};
-ghost use Rattle.cspf_serve.specs.EarlyEnds.{IfRefused, IfFailed, Writes, WritesAllBut};
+ghost use Rattle.cspf_serve.specs.EarlyEnds.{IfRefused, IfFailed, Writes, WritesAllBut, AreAnsweredInTurn};
 ghost use Rattle.cspf_serve.specs.RunFaults.{IsStreamFault, IsAnsweringFault, IsRunFault, IsBatchFault};
 ghost use Rattle.cspf_publish.specs.declared.limits.TheConstants.{MOST_ASKERS, MOST_VERSIONS};
 ghost use Rattle.cspf_rows.specs.declared.limits.TheConstants.{MOST_ROWS};
@@ -16,7 +16,7 @@ ghost use Rattle.cspf_work.specs.Served.{AreAnswersAfter};
 use crate::batch::laws::lines_of_a_script;
 use crate::batch::publishing::publish_all;
 use crate::streams::early_end::EarlyEnd;
-use crate::streams::input::{batches_of, requests_of};
+use crate::streams::input::{Inputs, inputs_of};
 use crate::streams::opening::open_for;
 use crate::streams::output::refuse;
 use crate::streams::replies::write_replies;
@@ -65,78 +65,18 @@ pub fn run_batch<
 {
     // Law: where nothing is refused the lines are those of a script.
     lines_of_a_script();
-    match run(
-        rt,
-        alloc,
-        journal,
-        requests,
-        writer,
-        workers,
-        accept_torn,
-        gate,
-    ) {
-        Ok(()) => Ok(0),
-        Err(end) => refuse(end, writer),
+    match inputs_of(alloc, journal, requests, accept_torn) {
+        Ok(read) => {
+            let Inputs { batches, requests } = read;
+            answer(rt, alloc, &batches, &requests, writer, workers, gate)
+        }
+        Err(end) => refuse(alloc, end, writer),
     }
 }
 
-/// Reads a journal, and answers a stream of requests by its batches.
-fn run<R: Read + Drop, Q: Read + Drop, W: Write, G: Gate + Sync, T: Threads + Wait + Sync>(
-    rt: &T,
-    alloc: Global,
-    journal: R,
-    requests: Q,
-    writer: &mut W,
-    workers: usize,
-    accept_torn: bool,
-    gate: &G,
-) -> Result<(), EarlyEnd>
-    requires workers { (0 < workers) × (workers ≤ MOST_ASKERS) }
-    ensures ok { OnOk result (IfSome (R.remaining journal) (λ kept.
-        IfSome (Q.remaining requests) (λ asked.
-        Writes (W.contents writer.old) (W.contents writer.new) (λ lines.
-        IsBatchRun accept_torn (rows_of kept) (rows_of asked) lines 0)))) }
-    ensures err { IfErr result (λ end. IfRefused end (λ line.
-        IfSome (R.remaining journal) (λ kept. IfSome (Q.remaining requests) (λ asked.
-        WritesAllBut line (W.contents writer.old) (W.contents writer.new) (λ lines.
-        IsBatchRun accept_torn (rows_of kept) (rows_of asked) lines 2))))) }
-    ensures failed { IfErr result (λ end. IfFailed end
-        (IsBatchFault accept_torn (R.remaining journal) (Q.remaining requests))) }
-{
-    let batches = batches_of(alloc, journal, accept_torn)?;
-    answer(rt, alloc, &batches, requests, writer, workers, gate)
-}
-
-/// Reads requests, and answers them by batches.
-fn answer<Q: Read + Drop, W: Write, G: Gate + Sync, T: Threads + Wait + Sync>(
-    rt: &T,
-    alloc: Global,
-    batches: &[Batch],
-    requests: Q,
-    writer: &mut W,
-    workers: usize,
-    gate: &G,
-) -> Result<(), EarlyEnd>
-    requires batches { length batches.now ≤ MOST_VERSIONS }
-    requires workers { (0 < workers) × (workers ≤ MOST_ASKERS) }
-    ensures ok { OnOk result (IfSome (Q.remaining requests) (λ asked.
-        Writes (W.contents writer.old) (W.contents writer.new) (λ lines.
-        AreAnsweredTogether batches.now (rows_of asked) lines 0))) }
-    ensures err { AreNumberedFrom 1 batches.now → IfErr result (λ end. IfRefused end (λ line.
-        IfSome (Q.remaining requests) (λ asked.
-        WritesAllBut line (W.contents writer.old) (W.contents writer.new) (λ lines.
-        AreAnsweredTogether batches.now (rows_of asked) lines 2)))) }
-    ensures failed { IfErr result (λ end. IfFailed end (IsRunFault (λ index version.
-        IfSome (Q.remaining requests) (λ asked. index < length (rows_of asked))
-        × (version ≢ length batches.now)))) }
-{
-    let requests = requests_of(alloc, requests)?;
-    publish_and_answer(rt, alloc, batches, &requests, writer, workers, gate)
-}
-
 /// Publishes batches over a journal that keeps nothing, and then answers requests at the last
-/// version.
-fn publish_and_answer<W: Write, G: Gate + Sync, T: Threads + Wait + Sync>(
+/// version. Answers the status.
+fn answer<W: Write, G: Gate + Sync, T: Threads + Wait + Sync>(
     rt: &T,
     alloc: Global,
     batches: &[Batch],
@@ -144,17 +84,15 @@ fn publish_and_answer<W: Write, G: Gate + Sync, T: Threads + Wait + Sync>(
     writer: &mut W,
     workers: usize,
     gate: &G,
-) -> Result<(), EarlyEnd>
+) -> Result<u8, RunError>
     requires batches { length batches.now ≤ MOST_VERSIONS }
     requires requests { length requests.now ≤ MOST_REQUESTS }
     requires workers { (0 < workers) × (workers ≤ MOST_ASKERS) }
-    ensures ok { OnOk result (Writes (W.contents writer.old) (W.contents writer.new)
-        (AreAccepted batches.now requests.now)) }
-    ensures err { AreNumberedFrom 1 batches.now → IfErr result (λ end. IfRefused end (λ line.
-        WritesAllBut line (W.contents writer.old) (W.contents writer.new)
-        (IsOneUnfit batches.now))) }
-    ensures failed { IfErr result (λ end. IfFailed end (IsRunFault (λ index version.
-        (index < length requests.now) × (version ≢ length batches.now)))) }
+    ensures whole { AreNumberedFrom 1 batches.now → IfOk result (λ status.
+        Writes (W.contents writer.old) (W.contents writer.new) (λ lines.
+        AreAnsweredInTurn batches.now requests.now lines status)) }
+    ensures error { IfErr result (IsRunFault (λ index version.
+        (index < length requests.now) × (version ≢ length batches.now))) }
 {
     match open_for(rt, alloc, io::sink(), workers) {
         Ok((publisher, askers)) => {
@@ -162,9 +100,12 @@ fn publish_and_answer<W: Write, G: Gate + Sync, T: Threads + Wait + Sync>(
             let lent = &mut publisher;
             let done = answer_lent(rt, alloc, lent, askers, batches, requests, writer, gate);
             publisher.close(rt);
-            done
+            match done {
+                Ok(()) => Ok(0),
+                Err(end) => refuse(alloc, end, writer),
+            }
         }
-        Err((error, _journal)) => Err(EarlyEnd::from(error)),
+        Err((error, _journal)) => Err(error),
     }
 }
 

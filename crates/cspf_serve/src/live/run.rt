@@ -5,15 +5,15 @@ ghost use Rattle.cspf_rows.specs.Journal.{AreNumberedFrom};
 ghost use Rattle.cspf_rows.specs.Records.{rows_of};
 ghost use Rattle.cspf_serve.specs.EarlyEnds.{Writes};
 ghost use Rattle.cspf_serve.specs.LiveRun.{AreAnsweredLive, IsLiveRun};
-ghost use Rattle.cspf_serve.specs.LiveLines.{AreLiveLines, IsFaultShown};
+ghost use Rattle.cspf_serve.specs.LiveLines.{AreLiveLines, IsFaultShown, last_text, last_status};
 ghost use Rattle.cspf_serve.specs.RunFaults.{IsStreamFault, IsAnsweringFault, IsRunFault, IsLiveFault};
 ghost use Rattle.cspf_publish.specs.declared.limits.TheConstants.{MOST_ASKERS, MOST_VERSIONS};
 ghost use Rattle.cspf_work.specs.declared.limits.TheConstants.{MOST_REQUESTS};
 
-use crate::live::lines::{applied_line, unpublished_line};
+use crate::line::Line;
 use crate::streams::input::{Inputs, inputs_of};
 use crate::streams::opening::open_for;
-use crate::streams::output::{put, refuse};
+use crate::streams::output::{put_line, refuse};
 use crate::streams::replies::write_replies;
 use crate::{Gate, Live, RunError, run_live};
 use cspf_db::{Batch, Request};
@@ -52,47 +52,17 @@ pub fn run_live_rows<
         × Appends (J.contents journal) (J.contents result.1) text))) }
     ensures error { IfErr result.0 (IsLiveFault (Q.remaining requests)) }
 {
-    match inputs_of(alloc, updates, requests) {
-        Ok(read) => {
-            let Inputs { batches, requests } = read;
-            answer_live(
-                rt, alloc, &batches, &requests, journal, writer, workers, gate,
-            )
-        }
-        Err(end) => (refuse(end, writer), journal),
-    }
-}
-
-/// Publishes batches over a journal while workers answer requests.
-fn answer_live<J: Write, W: Write, G: Gate + Sync, T: Threads + Wait + Sync>(
-    rt: &T,
-    alloc: Global,
-    batches: &[Batch],
-    requests: &[Request],
-    journal: J,
-    writer: &mut W,
-    workers: usize,
-    gate: &G,
-) -> (Result<u8, RunError>, J)
-    requires workers { (0 < workers) × (workers ≤ MOST_ASKERS) }
-    requires batches { length batches.now ≤ MOST_VERSIONS }
-    requires requests { length requests.now ≤ MOST_REQUESTS }
-    ensures whole { AreNumberedFrom 1 batches.now → IfOk result.0 (λ status.
-        (lines : List ℕ) × (text : List ℕ)
-        × AreAnsweredLive batches.now requests.now lines text status
-        × Appends (W.contents writer.old) (W.contents writer.new) lines
-        × Appends (J.contents journal) (J.contents result.1) text) }
-    ensures error { IfErr result.0 (IsRunFault
-        (λ index version. (index < length requests.now) × (0 < version))) }
-{
-    match open_for(rt, alloc, journal, workers) {
-        Ok((publisher, askers)) => {
-            answer_opened(
-                rt, alloc, publisher, askers, batches, requests, writer, gate,
-            )
-        }
-        Err((error, journal)) => (Err(error), journal),
-    }
+    let Inputs { batches, requests } = match inputs_of(alloc, updates, requests, false) {
+        Ok(read) => read,
+        Err(end) => return (refuse(alloc, end, writer), journal),
+    };
+    let (publisher, askers) = match open_for(rt, alloc, journal, workers) {
+        Ok(opened) => opened,
+        Err((error, journal)) => return (Err(error), journal),
+    };
+    answer_opened(
+        rt, alloc, publisher, askers, &batches, &requests, writer, gate,
+    )
 }
 
 /// Publishes batches by a new publisher while workers answer requests.
@@ -115,8 +85,8 @@ fn answer_opened<J: Write, W: Write, G: Gate + Sync, T: Threads + Wait + Sync>(
         × (text : List ℕ) × AreAnsweredLive batches.now requests.now lines text status
         × Appends (W.contents writer.old) (W.contents writer.new) lines
         × Appends (J.contents publisher.journal) (J.contents result.1) text) }
-    ensures error { IfErr result.0 (λ e. IsStreamFault e ⊎ IsAnsweringFault
-        (λ index version. (index < length requests.now) × (0 < version)) e) }
+    ensures error { IfErr result.0 (IsRunFault
+        (λ index version. (index < length requests.now) × (0 < version))) }
 {
     match run_live(rt, alloc, publisher, askers, batches, requests, gate) {
         Ok(live) => end_live(rt, alloc, live, batches, writer),
@@ -166,31 +136,28 @@ fn write_live<W: Write>(
     ensures error { IfErr result IsStreamFault }
 {
     write_replies(alloc, answers, writer)?;
-    let line = applied_line(alloc, applied)?;
-    put(&line, writer)?;
-    write_fault(alloc, batches, applied, fault, writer)
+    put_line(alloc, Line::Applied { count: applied }, writer)?;
+    match fault_line(batches, applied, fault) {
+        Some(line) => {
+            put_line(alloc, line, writer)?;
+            Ok(2)
+        }
+        None => Ok(0),
+    }
 }
 
-/// Writes the line of the batch that wasn't applied, if any, and answers the status.
-fn write_fault<W: Write>(
-    alloc: Global,
-    batches: &[Batch],
-    applied: u32,
-    fault: Option<ApplyError>,
-    writer: &mut W,
-) -> Result<u8, RunError>
-    ensures text { IfOk result (λ status. Writes (W.contents writer.old) (W.contents writer.new)
-        (λ line. IsFaultShown (slice_get batches.now applied) fault line status)) }
-    ensures error { IfErr result IsStreamFault }
+/// The line of the batch that wasn't applied, if any.
+fn fault_line(batches: &[Batch], applied: u32, fault: Option<ApplyError>) -> Option<Line>
+    ensures { IsFaultShown (slice_get batches.now applied) fault
+        (last_text result) (last_status result) }
 {
     let Some(error) = fault else {
-        return Ok(0);
+        return None;
     };
     let Some(batch) = batches.get(applied as usize) else {
         // Never: the batch behind those that were applied is the one that wasn't.
-        return Ok(0);
+        return None;
     };
-    let line = unpublished_line(alloc, batch.number, error)?;
-    put(&line, writer)?;
-    Ok(2)
+    let number = batch.number;
+    Some(Line::Unpublished { number, error })
 }

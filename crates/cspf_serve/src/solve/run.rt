@@ -71,7 +71,7 @@ fn solve_rows<R: Read, W: Write>(
     finish(alloc, too_many, solver, writer, written)
 }
 
-/// Answers a row, where so many bytes were written before, and answers how many its line has.
+/// Answers a row, behind `written` bytes, and answers how many bytes its line has.
 fn answer_row<W: Write>(
     alloc: Global,
     fields: &ByteRecord,
@@ -117,7 +117,7 @@ fn finish<W: Write>(
     Ok(solver.summary(too_many))
 }
 
-/// Writes a line, where so many bytes were written before, and answers how many it has.
+/// Writes a line, behind `written` bytes, and answers how many it has.
 fn put_line<W: Write>(line: &[u8], writer: &mut W, written: u128) -> Result<u128, SolveError>
     requires { written ≤ MOST_ROWS * 2 ^ 64 }
     ensures whole { IfOk result (λ size.

@@ -3,9 +3,7 @@ ghost use Rattle.cspf_db.specs.declared.batch.Change.{Change as Changed};
 ghost use Rattle.cspf_db.specs.Best.{Answer, IsBestAnswer};
 ghost use Rattle.cspf_ero.specs.ReplyLine.{IsReply};
 
-use crate::lines::{
-    refused_batch_line, refused_row_line, too_many_line, unended_line, version_line,
-};
+use crate::line::Line;
 use crate::{BatchRefusal, Summary};
 use cspf_db::{Batch, Change, MOST_CHANGES, Request, Table, absorbing};
 use cspf_ero::reply_line;
@@ -37,7 +35,8 @@ pub(crate) struct Solver {
 }
 
 impl Solver {
-    ghost use Rattle.cspf_serve.specs.Script.{RunState, start, at_next_row, after_change_row, after_batch, after_refused_batch, IsAccepted, IsBatchRefusal, IsRowAnswered, last_line, summary_of};
+    ghost use Rattle.cspf_serve.specs.Script.{RunState, start, at_next_row, after_change_row, after_batch, after_refused_batch, IsAccepted, IsBatchRefusal, IsEndAnswered, IsRowAnswered, last_line, summary_of};
+    ghost use Rattle.cspf_serve.specs.LineTexts.{line_text};
     ghost use Rattle.cspf_serve.specs.SolverStates.{Keeps, AreFew};
 
     /// Version 0, with no links and no open changes.
@@ -73,7 +72,11 @@ impl Solver {
             Ok(row) => self.answer_read(alloc, row),
             Err(error) => {
                 self.refused += 1;
-                refused_row_line(alloc, self.rows, *error)
+                let line = Line::RefusedRow {
+                    row: self.rows,
+                    error: *error,
+                };
+                line.bytes(alloc)
             }
         }
     }
@@ -99,10 +102,7 @@ impl Solver {
                 self.open(change)?;
                 Ok(Vec::new(alloc))
             }
-            Row::End { number, count } => match self.end(*number, *count) {
-                Ok(()) => version_line(alloc, *number),
-                Err(refusal) => refused_batch_line(alloc, *number, refusal),
-            },
+            Row::End { number, count } => self.end_line(*number, *count).bytes(alloc),
             Row::Ask(request) => {
                 self.answers += 1;
                 self.reply(alloc, request)
@@ -140,7 +140,19 @@ impl Solver {
         found
     }
 
-    /// Whether the open changes are accepted as a batch of so many changes with the number that
+    /// Ends a batch as `end` does, and answers its line.
+    fn end_line(&mut self, number: u32, count: u32) -> Line
+        requires { self.old.refused ≤ MOST_ROWS }
+        ensures { (s : RunState) → Keeps self.old s → (after : RunState) × Keeps self.new after
+            × IsEndAnswered s number count (line_text result) after }
+    {
+        match self.end(number, count) {
+            Ok(()) => Line::Version { version: number },
+            Err(refusal) => Line::RefusedBatch { number, refusal },
+        }
+    }
+
+    /// Whether the open changes are accepted as a batch with the count and the number that
     /// they have, and else the first reason why they aren't.
     #[tactic(auto, using(crate::proofs::BatchRefusals::refused))]
     fn fits(&self, count: u32) -> Result<(), BatchRefusal>
@@ -213,9 +225,9 @@ impl Solver {
             → line.items ≡ last_line too_many s.changes) }
     {
         if too_many {
-            too_many_line(alloc)
+            Line::TooManyRows.bytes(alloc)
         } else if self.count > 0 {
-            unended_line(alloc, self.count)
+            Line::Unended { count: self.count }.bytes(alloc)
         } else {
             Ok(Vec::new(alloc))
         }

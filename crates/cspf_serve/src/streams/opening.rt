@@ -8,7 +8,7 @@ use std::alloc::Global;
 use std::io::Write;
 use std::sync::Wait;
 
-/// A new publisher over a journal, and an asker for each of so many workers.
+/// A new publisher over a journal, and an asker for each worker.
 #[tactic(auto, using(crate::proofs::AnswerLines::sources_of))]
 pub(crate) fn open_for<J: Write, T: Wait>(
     rt: &T,

@@ -161,7 +161,7 @@ const RUNS: [Run; 22] = [
     ),
 ];
 
-/// Whether a run over a journal and requests, by so many workers, writes these lines and answers
+/// Whether a run over a journal and requests, by some workers, writes these lines and answers
 /// this status.
 fn is_answered<T: Threads + Wait + Sync>(
     rt: &T,
@@ -247,7 +247,7 @@ fn a_script_has_the_same_lines(rt: HostRuntime) -> Result<(), Fail> {
     Ok(())
 }
 
-/// What a run answers whose writer takes so many bytes a write and so many in all, and what the
+/// What a run answers whose writer takes few bytes a write and few in all, and what the
 /// writer holds.
 fn run_narrow<R: Read + Drop, Q: Read + Drop, T: Threads + Wait + Sync>(
     rt: &T,
@@ -283,7 +283,7 @@ fn runs_in_pieces(rt: HostRuntime) -> Result<(), Fail> {
     Ok(())
 }
 
-/// Whether a run whose journal or whose requests fail after so many bytes writes nothing.
+/// Whether a run whose journal or whose requests fail after some bytes writes nothing.
 fn stops_at_a_read<T: Threads + Wait + Sync>(
     rt: &T,
     alloc: Global,
@@ -294,7 +294,7 @@ fn stops_at_a_read<T: Threads + Wait + Sync>(
     found == Err(RunError::Device) && held.is_empty()
 }
 
-/// The journal or the requests fail after so many bytes.
+/// The journal or the requests fail after some bytes.
 #[test]
 fn faults_of_the_inputs(rt: HostRuntime) -> Result<(), Fail> {
     let journal = bytes_of(rt.alloc(), JOURNAL)?;
@@ -321,7 +321,7 @@ fn faults_of_the_inputs(rt: HostRuntime) -> Result<(), Fail> {
     Ok(())
 }
 
-/// Whether a run whose writer takes so many bytes fails, with the front of the lines written.
+/// Whether a run whose writer takes few bytes fails, with the front of the lines written.
 fn stops_at_a_write<T: Threads + Wait + Sync>(
     rt: &T,
     alloc: Global,
@@ -350,7 +350,7 @@ fn faults_of_the_lines(rt: HostRuntime) -> Result<(), Fail> {
     Ok(())
 }
 
-/// Whether so many rows of the journal are answered this line.
+/// Whether `left` rows of the journal are answered this line.
 fn is_answered_rows<T: Threads + Wait + Sync>(
     rt: &T,
     alloc: Global,

@@ -109,7 +109,7 @@ fn counts_past_what_is_kept(rt: HostRuntime) -> Result<(), Fail> {
     Ok(())
 }
 
-/// So many copies of a text.
+/// A number of copies of a text.
 fn push_copies(text: &mut String, part: &str, count: u32) -> Result<(), AllocError> {
     for _ in 0..count {
         text.push_str(part)?;

@@ -110,7 +110,7 @@ const RUNS: [Run; 14] = [
 const TEXT: &[u8] =
     b"put,1.1.1.1,10.0.12.1,2.2.2.2,10.0.12.2,10,0x00000001,1000,1000,1000,1000,1000,1000,1000,1000\nend,1,1\n";
 
-/// What a run over updates and requests, by so many workers, answers, what it writes, and what its
+/// What a run over updates and requests, by some workers, answers, what it writes, and what its
 /// journal holds.
 fn run_with<T: Threads + Wait + Sync>(
     rt: &T,
@@ -128,7 +128,7 @@ fn run_with<T: Threads + Wait + Sync>(
     (found, held, journal)
 }
 
-/// Whether a run by so many workers writes these lines and this journal, and answers this status.
+/// Whether a run by some workers writes these lines and this journal, and answers this status.
 fn is_answered<T: Threads + Wait + Sync>(
     rt: &T,
     alloc: Global,
@@ -184,7 +184,7 @@ fn answers_at_a_version(rt: HostRuntime) -> Result<(), Fail> {
     Ok(())
 }
 
-/// Whether a run of two batches over a journal that takes so many bytes writes these lines, fills
+/// Whether a run of two batches over a journal that takes `most` bytes writes these lines, fills
 /// the journal with the front of the text, and answers this status.
 fn fills_up<T: Threads + Wait + Sync>(
     rt: &T,
@@ -234,7 +234,7 @@ fn faults_of_the_journal(rt: HostRuntime) -> Result<(), Fail> {
     Ok(())
 }
 
-/// Whether a run of one batch whose writer of lines takes so many bytes fails, with the front of the
+/// Whether a run of one batch whose writer of lines takes `most` bytes fails, with the front of the
 /// line written and the batch in the journal.
 fn keeps_the_journal<T: Threads + Wait + Sync>(
     rt: &T,

@@ -10,6 +10,8 @@ use std::test::Fail;
 const RUNS: [(&[u8], &[u8], [u32; 4]); 26] = [
     // Nothing.
     (b"", b"", [0, 0, 0, 0]),
+    // Changes that no end row takes.
+    (b"P\n", b"unended 1\n", [1, 0, 0, 1]),
     // The bandwidth is exactly met.
     (
         b"P\nend,1,1\nask,7,1.1.1.1,2.2.2.2,0,1000,Z,\n",
@@ -130,8 +132,6 @@ const RUNS: [(&[u8], &[u8], [u32; 4]); 26] = [
         b"version 1\nask 7 v1 route cost=10 hops=1 again=no ero=000c140101080a000c022000\nrow 4 refused: hops count\n",
         [4, 1, 1, 1],
     ),
-    // Changes that no end row takes.
-    (b"P\n", b"unended 1\n", [1, 0, 0, 1]),
     // Each refusal of a row by its name.
     (
         b"foo\ndrop,1.1.1.1\ndrop,01.1.1.1,10.0.0.1\nend,4294967296,0\nput,1.1.1.1,10.0.12.1,1.1.1.1,10.0.12.2,10,0x123456789,F\nput,1.1.1.1,10.0.12.1,1.1.1.1,10.0.12.2,10,0x1,F\nask,1,1.1.1.1,1.1.1.1,8,x,Z,\nask,1,1.1.1.1,1.1.1.1,7,0,Z,\nask,1,1.1.1.1,2.2.2.2,7,0,Z,10.0.0.0/33l\nask,1,1.1.1.1,2.2.2.2,7,0,Z,ero:0\nask,1,1.1.1.1,2.2.2.2,7,0,Z,ero:\n",
@@ -187,7 +187,7 @@ fn run_pieces(
     (found, held)
 }
 
-/// Whether a run over a script, so many bytes a read and a write, gives these lines and counts.
+/// Whether a run over a script, in small reads and writes, gives these lines and counts.
 pub(super) fn is_answered(
     alloc: Global,
     script: &[u8],

@@ -1,9 +1,10 @@
 ghost use Rattle.std.specs.Prelude.{◌<◌, ◌≤◌};
 ghost use Rattle.cspf_publish.specs.declared.limits.TheConstants.{MOST_ASKERS};
 
-use super::workers::{
-    Counts, answered_with_a_link, link_batch, opened, requests, run_and_close, wait_for, zeros,
-};
+use super::counts::{Counts, wait_for, zeros};
+use super::fixtures::{link_batch, opened, requests};
+use super::live::run_and_close;
+use super::workers::answered_with_a_link;
 use cspf_serve::{Gate, run_batch, run_live_rows};
 use std::alloc::{AllocError, Global};
 use std::fmt::Write;
@@ -12,7 +13,7 @@ use std::sync::atomic::{AtomicU64, Ordering};
 use std::test::Fail;
 use std::thread::Threads;
 
-/// The rows of so many requests over the database without a link, and their lines.
+/// The rows of `count` requests over the database without a link, and their lines.
 fn asking(alloc: Global, count: u32) -> Result<(String, String), AllocError> {
     let mut rows = String::new(alloc);
     let mut lines = String::new(alloc);
@@ -32,7 +33,7 @@ enum Run {
     Live,
 }
 
-/// Whether a run over nothing but so many requests answers them, by this many workers, with their
+/// Whether a run over nothing but `count` requests answers them, by this many workers, with their
 /// lines.
 fn answers<G: Gate + Sync, T: Threads + Wait + Sync>(
     rt: &T,
@@ -170,9 +171,9 @@ fn what_live_workers_tell(rt: HostRuntime) -> Result<(), Fail> {
     let batch = link_batch(rt.alloc(), 1)?;
     let all = requests(rt.alloc(), 4)?;
     let notes = Notes::new(rt.alloc(), 2)?;
-    let (publisher, askers) = opened(&rt, rt.alloc(), Vec::<u8>::new(rt.alloc()), 2);
+    let opened = opened(&rt, rt.alloc(), Vec::<u8>::new(rt.alloc()), 2);
     let asked = all.as_slice();
-    let left = run_and_close(&rt, rt.alloc(), publisher, askers, &[batch], asked, &notes);
+    let left = run_and_close(&rt, rt.alloc(), opened, &[batch], asked, &notes);
     assert!(rt; left.list.len() == 4 && left.applied == 1 && notes.are_of_four_requests());
     Ok(())
 }

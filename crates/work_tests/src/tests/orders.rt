@@ -1,7 +1,9 @@
 ghost use Rattle.std.specs.Prelude.{◌<◌, ◌≤◌};
 ghost use Rattle.cspf_publish.specs.declared.limits.TheConstants.{MOST_ASKERS};
 
-use super::workers::{link_batch, opened, requests, run_and_close, wait_for};
+use super::counts::wait_for;
+use super::fixtures::{link_batch, opened, requests};
+use super::live::run_and_close;
 use cspf_publish::{Answer, ApplyError};
 use cspf_serve::{Gate, RunError, run_live_rows};
 use std::alloc::{AllocError, Global};
@@ -43,7 +45,7 @@ impl Order {
         wait_for(&self.published, 1, &self.faults);
     }
 
-    /// Whether so many asks were held, and no wait was in vain.
+    /// Whether `count` asks were held, and no wait was in vain.
     fn has_held(&self, count: u64) -> bool {
         self.faults.load(Ordering::SeqCst) == 0 && self.there.load(Ordering::SeqCst) == count
     }
@@ -110,16 +112,8 @@ fn answers_held<R: Threads + Wait + Abort + Sync>(
         held: Vec::new(alloc),
         order: &order,
     };
-    let (publisher, askers) = opened(rt, alloc, journal, 1);
-    let left = run_and_close(
-        rt,
-        alloc,
-        publisher,
-        askers,
-        &batches,
-        all.as_slice(),
-        &order,
-    );
+    let opened = opened(rt, alloc, journal, 1);
+    let left = run_and_close(rt, alloc, opened, &batches, all.as_slice(), &order);
     let stopped = left.fault == Some(ApplyError::Journal { written: 0 });
     Ok(stopped && left.version == 1 && order.has_held(2) && are_of(&left.list, versions))
 }
@@ -173,7 +167,7 @@ fn lines_at_version_1(alloc: Global) -> Result<String, AllocError> {
     Ok(lines)
 }
 
-/// What so many workers answer and write that are held until the first of two batches is published,
+/// What workers answer and write that are held until the first of two batches is published,
 /// and whether each request was held.
 fn run_held<T: Threads + Wait + Sync>(
     rt: &T,
@@ -197,7 +191,7 @@ fn run_held<T: Threads + Wait + Sync>(
     (found, lines, whole)
 }
 
-/// Whether so many workers answer these lines.
+/// Whether some workers answer these lines.
 fn is_held<T: Threads + Wait + Sync>(
     rt: &T,
     alloc: Global,

@@ -12,15 +12,15 @@ list-requires-clause-before c =
 
 pub set_legs-requires-clause-bounds : goal.set_legs-requires-clause-bounds
 set_legs-requires-clause-bounds c =
-    let zeros : c.deref_mut-4.result.now ≡ replicate (c.args.legs * 1024) 0 = c.deref_mut-4.ensures.value ∙ c.in_ok-bounds.ensures.items_if_clones_equal (λ y e. e) in
-    let long : length c.deref_mut-4.result.now ≡ (length c.args.query.request.now.hops + 1) * 1024 =
-    omega (arith, c.deref_mut-4.ensures.len, c.in_ok-bounds.ensures.len, c.requires.count) in
-    zero_bounds c.args.query.table.now c.args.query.request.now c.deref_mut-4.result.now long (λ i. rw zeros (zeros_at (c.args.legs * 1024) i))
+    let zeros : c.deref_mut-2.result.now ≡ replicate (c.args.query.legs * 1024) 0 = c.deref_mut-2.ensures.value ∙ c.in_ok-bounds.ensures.items_if_clones_equal (λ y e. e) in
+    let long : length c.deref_mut-2.result.now ≡ (length c.args.query.request.now.hops + 1) * 1024 =
+    omega (arith, c.deref_mut-2.ensures.len, c.in_ok-bounds.ensures.len, c.requires.query.count) in
+    zero_bounds c.args.query.table.now c.args.query.request.now c.deref_mut-2.result.now long (λ i. rw zeros (zeros_at (c.args.query.legs * 1024) i))
 
 pub set_legs-requires-clause-zeros : goal.set_legs-requires-clause-zeros
 set_legs-requires-clause-zeros c =
-    let zeros : c.deref_mut-4.result.now ≡ replicate (c.args.legs * 1024) 0 = c.deref_mut-4.ensures.value ∙ c.in_ok-bounds.ensures.items_if_clones_equal (λ y e. e) in
-    λ i. rw zeros (zeros_at (c.args.legs * 1024) i)
+    let zeros : c.deref_mut-2.result.now ≡ replicate (c.args.query.legs * 1024) 0 = c.deref_mut-2.ensures.value ∙ c.in_ok-bounds.ensures.items_if_clones_equal (λ y e. e) in
+    λ i. rw zeros (zeros_at (c.args.query.legs * 1024) i)
 
 pub set_legs-requires-clause-search : goal.set_legs-requires-clause-search
 set_legs-requires-clause-search c =

@@ -1,7 +1,10 @@
 use Rattle.std.proofs.Common.{arith}
 use Rattle.cspf_search.specs.Frontier.{nothing}
-use Rattle.cspf_search.proofs.LegBounds.{leg_of_ring, told_target}
+use Rattle.cspf_search.proofs.LegBounds.{leg_of_ring, none_done, told_target}
 use Rattle.cspf_search.proofs.bounds.leg_edge.Goals as goal
+
+pub grow-requires-clause-ring : goal.grow-requires-clause-ring
+grow-requires-clause-ring c = none_done c.args.search.query.table.now c.args.search.query.request.now c.begin.new.ring c.in_ok-top.ensures.none
 
 pub returns : goal.returns
 returns c =
@@ -9,7 +12,7 @@ returns c =
     let q = c.args.search.query.request.now in
     let listed = c.requires.search.query.listed in
     let said = c.in_ok-grow.ensures in
-    leg_of_ring d q c.args.leg c.grow.new.near c.grow.new.done c.edge.result listed said.ring c.edge.ensures c.args.ahead.now
+    leg_of_ring d q c.args.leg_index c.grow.new.ring c.edge.result listed said.ring c.edge.ensures c.args.ahead.now
     (λ p h target.
-    let told = told_target d q c.args.search.query.roles.now c.args.leg p listed c.requires.search.query.roles c.requires.leg h target in
-    omega (arith, said.lower p, c.in_ok-top.ensures p nothing (omega (arith, h, listed.few)) told))
+    let told = told_target d q c.args.search.query.roles.now c.args.leg_index p listed c.requires.search.query.roles c.requires.leg h target in
+    omega (arith, said.lower p, c.in_ok-top.ensures.targets p nothing (omega (arith, h, listed.few)) told))

@@ -1,8 +1,13 @@
+use Rattle.std.proofs.Common.{◌≡◌, sym, ◌∙◌, arith}
+use Rattle.std.proofs.lemmas.List.{get_or_read}
+use Rattle.cspf_search.specs.Bounds.{bound_at}
 use Rattle.cspf_search.proofs.LegBounds.{one_router_more}
 use Rattle.cspf_search.proofs.bounds.take.Goals as goal
 
-pub returns-then-near-to-clause-ring : goal.returns-then-near-to-clause-ring
-returns-then-near-to-clause-ring c =
+pub returns-then-index-base-clause-ring : goal.returns-then-index-base-clause-ring
+returns-then-index-base-clause-ring c =
     let said = c.in_ok-walk.ensures in
-    one_router_more c.args.search.query.table.now c.args.search.query.request.now c.requires.search.query.links c.args.search.arrivals.now c.args.search.last.now c.requires.search.arrivals c.args.to _ c.args.near.now c.walk.new.near
-    c.args.done.now c.walk.new.done c.requires.ring said.falls said.passed c.if-near-to.true
+    let read = get_or_read c.walk.new.ring.near.items c.args.to c.index.result.now (omega (arith, c.requires.within, c.walk.new.ring.bounds)) c.index.ensures 0 in
+    let same : bound_at c.walk.new.ring.near.items c.args.to ≡ c.index-base.result.now = sym read ∙ c.if-index-base.true in
+    one_router_more c.args.search.query.table.now c.args.search.query.request.now c.requires.search.query.links c.args.search.arrivals.now c.args.search.last.now c.requires.search.arrivals c.args.to _ c.args.ring.now
+    c.walk.new.ring c.requires.ring said.falls said.passed same

@@ -16,15 +16,15 @@ loop-at-preserved c =
     let next : c.loop-at.at ≡ c.loop-at.at - 1 + 1 = omega (arith, c.loop-at-test.true) in
     record {
       within = omega (arith, before.within, c.requires.search.arrivals.befores (c.loop-at.at - 1) (omega (arith, before.within, c.loop-at-test.true)));
-      falls = falls_on c.args.near.now c.loop-at.near c.pass.new.near c.args.done.now c.loop-at.done c.pass.new.done before.falls falls;
+      falls = falls_on c.args.ring.now c.loop-at.ring c.pass.new.ring before.falls falls;
       passed = λ n follows.
           elim (before.passed n follows) [
             | inl ahead ↦
                 elim (follows_step arrivals c.loop-at.at (c.loop-at.at - 1) n next ahead) [
-                  | inl same ↦ inr (subst (λ i. IsPassed d q c.args.base c.pass.new.near (arrival_at arrivals i)) (sym same) c.in_ok-pass.ensures.passed)
+                  | inl same ↦ inr (subst (λ i. IsPassed d q c.args.base c.pass.new.ring (arrival_at arrivals i)) (sym same) c.in_ok-pass.ensures.passed)
                   | inr rest ↦ inl rest
                 ]
-            | inr passed ↦ inr (passed_on d q c.args.base c.loop-at.near c.pass.new.near (arrival_at arrivals n) falls.lower passed)
+            | inr passed ↦ inr (passed_on d q c.args.base c.loop-at.ring c.pass.new.ring (arrival_at arrivals n) falls.lower passed)
           ];
     }
 

@@ -6,9 +6,9 @@ use Rattle.cspf_search.proofs.bounds.walk.Given as goal
 abbrev pub invariant-loop-at : goal.invariant-loop-at
 invariant-loop-at l = record {
   within : l.at ≤ length l.search.arrivals.now;
-  falls : Falls l.fn.near l.near l.fn.done l.done;
+  falls : Falls l.fn.ring l.ring;
   passed : (n : ℕ) → Follows l.search.arrivals.now (pointer_at l.search.last.now l.to) n
-      → Follows l.search.arrivals.now l.at n ⊎ IsPassed l.search.query.table.now l.search.query.request.now l.base l.near (arrival_at l.search.arrivals.now n);
+      → Follows l.search.arrivals.now l.at n ⊎ IsPassed l.search.query.table.now l.search.query.request.now l.base l.ring (arrival_at l.search.arrivals.now n);
 }
 
 abbrev pub decreases-loop-at : goal.decreases-loop-at

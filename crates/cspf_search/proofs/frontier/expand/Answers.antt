@@ -1,4 +1,5 @@
-use Rattle.std.proofs.Common.{◌≡◌, ◌+◌, ◌%◌, List, length, ap, heap_items, arith}
+use Rattle.std.proofs.Common.{◌≡◌, ◌+◌, ◌%◌, List, length, refl, ap, heap_items, arith}
+use Rattle.std.proofs.lemmas.Option.{slice_get_read}
 use Rattle.cspf_db.specs.declared.link.Link.{Link}
 use Rattle.cspf_db.specs.Index.{links_of, links_from_index}
 use Rattle.cspf_search.specs.Rounds.{CrossesBelow}
@@ -8,12 +9,17 @@ use Rattle.cspf_search.proofs.Offered.{labels_same}
 use Rattle.cspf_search.proofs.Taken.{end_of_row, few_rows}
 use Rattle.cspf_search.proofs.frontier.expand.Goals as goal
 
-pub offer_link-requires-clause-end : goal.offer_link-requires-clause-end
-offer_link-requires-clause-end c =
+pub offer_link-requires-clause-edge : goal.offer_link-requires-clause-edge
+offer_link-requires-clause-edge c =
     let links = c.out_at-links.result.now in
     let each = rw (← c.out_at-links.ensures) at c.ends_at-ends.ensures.each in
-    end_of_row c.args.query.table.now c.ends_at-ends.result.now links c.ends_at-ends.ensures.within each c.loop-row.row c.index-links-row.result c.from.result c.loop-row-test.true
-    c.index-links-row.is c.from.ensures
+    let here = slice_get_read links (length links) c.loop-row.row c.index-links-row.result refl c.loop-row-test.true c.index-links-row.is in
+    record {
+      row = rw c.out_at-links.ensures at here;
+      end =
+          end_of_row c.args.query.table.now c.ends_at-ends.result.now links c.ends_at-ends.ensures.within each c.loop-row.row c.index-links-row.result c.from.result c.loop-row-test.true
+          c.index-links-row.is c.from.ensures;
+    }
 
 pub returns-clause-after : goal.returns-clause-after
 returns-clause-after c =
@@ -28,6 +34,5 @@ returns-clause-after c =
 pub returns-clause-few : goal.returns-clause-few
 returns-clause-few c =
     let d = c.args.query.table.now in
-    let few =
-    few_rows d c.args.query.request.now c.args.nodes.now c.requires.arena c.requires.query.listed c.args.at c.args.state c.requires.from c.args.goal c.requires.behind c.args.labels.now (heap_items c.args.heap.now) in
+    let few = few_rows d c.requires.query.listed (c.args.state % 1024) in
     omega (arith, few, c.loop-row.invariant.few, ap (λ (ls : List Link). length ls) c.out_at-links.ensures)

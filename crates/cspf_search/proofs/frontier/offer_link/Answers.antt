@@ -14,123 +14,96 @@ use Rattle.cspf_search.proofs.frontier.offer_link.Goals as goal
 
 pub overflow_mul-new : goal.overflow_mul-new
 overflow_mul-new c =
-    let small : c.args.link.now.metric < 2 ^ 32 = omega (arith, c.requires.metric) in
-    omega (arith, small, c.from.ensures, c.requires.metric)
+    let small : c.args.edge.link.now.metric < 2 ^ 32 = omega (arith, c.args.edge.same) in
+    omega (arith, small, c.from.ensures, c.args.edge.same)
 
 pub overflow_add-new : goal.overflow_add-new
 overflow_add-new c =
-    let small : c.args.link.now.metric < 2 ^ 32 = omega (arith, c.requires.metric) in
+    let small : c.args.edge.link.now.metric < 2 ^ 32 = omega (arith, c.args.edge.same) in
     let room : c.args.source.rank < 2 ^ 60 = rw c.requires.source.rank (rank_at c.args.source.nodes.now c.requires.source.arena c.args.source.at c.requires.source.node.within) in
-    omega (arith, small, room, c.from.ensures, c.requires.metric)
+    omega (arith, small, room, c.from.ensures, c.args.edge.same)
 
 pub overflow_add-new-2 : goal.overflow_add-new-2
 overflow_add-new-2 c =
-    let small : c.args.link.now.metric < 2 ^ 32 = omega (arith, c.requires.metric) in
+    let small : c.args.edge.link.now.metric < 2 ^ 32 = omega (arith, c.args.edge.same) in
     let room : c.args.source.rank < 2 ^ 60 = rw c.requires.source.rank (rank_at c.args.source.nodes.now c.requires.source.arena c.args.source.at c.requires.source.node.within) in
-    omega (arith, small, room, c.from.ensures, c.requires.metric)
+    omega (arith, small, room, c.from.ensures, c.args.edge.same)
 
 pub returns-then-new-kept-clause-after : goal.returns-then-new-kept-clause-after
 returns-then-new-kept-clause-after c =
-    let d = c.args.query.table.now in
-    let q = c.args.query.request.now in
-    let nodes = c.args.source.nodes.now in
-    let small : c.args.link.now.metric < 2 ^ 32 = omega (arith, c.requires.metric) in
-    let index = link_index d q nodes c.args.source.at c.args.source.state c.requires.source.node c.args.row c.args.link.now c.requires.row c.args.end c.requires.end c.requires.query.listed.few in
+    let small : c.args.edge.link.now.metric < 2 ^ 32 = omega (arith, c.args.edge.same) in
+    let index = link_index c.args.source.query.table.now c.args.source.query.request.now c.args.source.nodes.now c.args.source.at c.args.source.state c.requires.source.node c.args.edge.row c.args.edge.link.now c.requires.edge.row c.args.edge.end c.requires.edge.end c.requires.source.query.listed.few in
     let blank : Label = record { rank = 0; parent = 0; place = 0; row = 0 } in
-    let read = rank_read c.args.labels.now (c.args.source.state - c.args.source.state % 1024 + c.args.end) blank (omega (arith, index.low, c.requires.before.many)) in
-    link_late d q nodes c.requires.source.arena c.requires.query.listed c.args.source.at c.args.source.state c.requires.source.node c.args.goal c.requires.behind c.args.labels.now (heap_items c.args.heap.now) c.args.row c.args.link.now
-    small c.requires.row c.args.end c.requires.end c.requires.before
-    (inl (omega (arith, read, c.if-new-kept.true, c.requires.source.rank, c.from.ensures, c.requires.metric)))
+    let read = rank_read c.args.labels.now (c.args.source.state - c.args.source.state % 1024 + c.args.edge.end) blank (omega (arith, index.low, c.requires.before.many)) in
+    link_late c.args.source c.requires.source c.args.labels.now (heap_items c.args.heap.now) c.args.edge small c.requires.edge c.requires.before
+    (inl (omega (arith, read, c.if-new-kept.true, c.requires.source.rank, c.from.ensures, c.args.edge.same)))
 
 pub returns-then-key-last-clause-after : goal.returns-then-key-last-clause-after
 returns-then-key-last-clause-after c =
-    let d = c.args.query.table.now in
-    let q = c.args.query.request.now in
-    let nodes = c.args.source.nodes.now in
-    let small : c.args.link.now.metric < 2 ^ 32 = omega (arith, c.requires.metric) in
+    let small : c.args.edge.link.now.metric < 2 ^ 32 = omega (arith, c.args.edge.same) in
     let blank : Label = record { rank = 0; parent = 0; place = 0; row = 0 } in
-    let read = rank_read c.args.labels.now c.args.goal.at blank (omega (arith, c.requires.goal.low, c.requires.before.many)) in
-    link_late d q nodes c.requires.source.arena c.requires.query.listed c.args.source.at c.args.source.state c.requires.source.node c.args.goal c.requires.behind c.args.labels.now (heap_items c.args.heap.now) c.args.row c.args.link.now
-    small c.requires.row c.args.end c.requires.end c.requires.before
-    (inr (omega (arith, read, c.if-key-last.true, c.requires.source.rank, c.from.ensures, c.requires.metric, c.lift.ensures.value)))
+    let read = rank_read c.args.labels.now c.args.source.goal.at blank (omega (arith, c.requires.source.goal.low, c.requires.before.many)) in
+    link_late c.args.source c.requires.source c.args.labels.now (heap_items c.args.heap.now) c.args.edge small c.requires.edge c.requires.before
+    (inr (omega (arith, read, c.if-key-last.true, c.requires.source.rank, c.from.ensures, c.args.edge.same, c.lift.ensures.value)))
 
 pub returns-then-not-role-clause-after : goal.returns-then-not-role-clause-after
 returns-then-not-role-clause-after c =
-    let d = c.args.query.table.now in
-    let q = c.args.query.request.now in
-    let nodes = c.args.source.nodes.now in
-    let small : c.args.link.now.metric < 2 ^ 32 = omega (arith, c.requires.metric) in
-    let index = link_index d q nodes c.args.source.at c.args.source.state c.requires.source.node c.args.row c.args.link.now c.requires.row c.args.end c.requires.end c.requires.query.listed.few in
+    let small : c.args.edge.link.now.metric < 2 ^ 32 = omega (arith, c.args.edge.same) in
+    let index = link_index c.args.source.query.table.now c.args.source.query.request.now c.args.source.nodes.now c.args.source.at c.args.source.state c.requires.source.node c.args.edge.row c.args.edge.link.now c.requires.edge.row c.args.edge.end c.requires.edge.end c.requires.source.query.listed.few in
     let no_role : Role = record { inside = false; target = false } in
-    let told = link_told d q nodes c.requires.source.arena c.requires.query.listed c.args.source.at c.args.source.state c.requires.source.node c.args.goal c.requires.behind c.args.labels.now (heap_items c.args.heap.now) c.args.row c.args.link.now
-    small c.requires.row c.args.end c.requires.end c.requires.before
-    (slice_index_or c.args.query.roles.now (c.args.source.state - c.args.source.state % 1024 + c.args.end) no_role)
-    (c.requires.query.roles.each (c.args.source.state - c.args.source.state % 1024 + c.args.end) no_role index) in
-    link_off d q nodes c.requires.source.arena c.requires.query.listed c.args.source.at c.args.source.state c.requires.source.node c.args.goal c.requires.behind c.args.labels.now (heap_items c.args.heap.now) c.args.row c.args.link.now
-    small c.requires.row c.args.end c.requires.end c.requires.before
+    let told = link_told c.args.source c.requires.source c.args.labels.now (heap_items c.args.heap.now) c.args.edge small c.requires.edge c.requires.before
+    (slice_index_or c.args.source.query.roles.now (c.args.source.state - c.args.source.state % 1024 + c.args.edge.end) no_role)
+    (c.requires.source.query.roles.each (c.args.source.state - c.args.source.state % 1024 + c.args.edge.end) no_role index) in
+    link_off c.args.source c.requires.source c.args.labels.now (heap_items c.args.heap.now) c.args.edge small c.requires.edge c.requires.before
     (λ admitted inside. false≢true (sym (not-true _ c.if-not-role.true) ∙ told.1 inside))
 
 pub returns-then-not-accepts-clause-after : goal.returns-then-not-accepts-clause-after
 returns-then-not-accepts-clause-after c =
-    let d = c.args.query.table.now in
-    let q = c.args.query.request.now in
-    let nodes = c.args.source.nodes.now in
-    let small : c.args.link.now.metric < 2 ^ 32 = omega (arith, c.requires.metric) in
-    link_off d q nodes c.requires.source.arena c.requires.query.listed c.args.source.at c.args.source.state c.requires.source.node c.args.goal c.requires.behind c.args.labels.now (heap_items c.args.heap.now) c.args.row c.args.link.now
-    small c.requires.row c.args.end c.requires.end c.requires.before
+    let small : c.args.edge.link.now.metric < 2 ^ 32 = omega (arith, c.args.edge.same) in
+    link_off c.args.source c.requires.source c.args.labels.now (heap_items c.args.heap.now) c.args.edge small c.requires.edge c.requires.before
     (λ admitted inside. false≢true (c.if-not-accepts.ensures.1 admitted))
 
 pub overflow_cast-label-3 : goal.overflow_cast-label-3
 overflow_cast-label-3 c =
-    let d = c.args.query.table.now in
-    let within = slice_get_within (links_from_index d (c.args.source.state % 1024)) c.args.row c.args.link.now c.requires.row in
-    let few =
-    few_rows d c.args.query.request.now c.args.source.nodes.now c.requires.source.arena c.requires.query.listed c.args.source.at c.args.source.state c.requires.source.node c.args.goal c.requires.behind c.args.labels.now (heap_items c.args.heap.now) in
+    let d = c.args.source.query.table.now in
+    let within = slice_get_within (links_from_index d (c.args.source.state % 1024)) c.args.edge.row c.args.edge.link.now c.requires.edge.row in
+    let few = few_rows d c.requires.source.query.listed (c.args.source.state % 1024) in
     omega (arith, within, few)
 
 pub offer-requires-clause-offered : goal.offer-requires-clause-offered
 offer-requires-clause-offered c =
-    let d = c.args.query.table.now in
-    let q = c.args.query.request.now in
-    let nodes = c.args.source.nodes.now in
-    let small : c.args.link.now.metric < 2 ^ 32 = omega (arith, c.requires.metric) in
-    let label : Label = record { rank = c.args.source.rank + c.from.result * 16384 + 1; parent = c.args.source.at; place = c.args.source.state % 1024; row = c.args.row } in
-    let rank : c.args.source.rank + c.from.result * 16384 + 1 ≡ rank_of (slice_index_or c.args.source.nodes.now c.args.source.at nowhere) + c.args.link.now.metric * 16384 + 1 =
-    omega (arith, c.requires.source.rank, c.from.ensures, c.requires.metric) in
-    link_offer d q nodes c.requires.source.arena c.requires.query.listed c.args.source.at c.args.source.state c.requires.source.node c.args.goal c.requires.behind c.args.labels.now (heap_items c.args.heap.now) c.args.row c.args.link.now
-    small c.requires.row c.args.end c.requires.end c.requires.before label refl refl refl rank
+    let small : c.args.edge.link.now.metric < 2 ^ 32 = omega (arith, c.args.edge.same) in
+    let label : Label = record { rank = c.args.source.rank + c.from.result * 16384 + 1; parent = c.args.source.at; place = c.args.source.state % 1024; row = c.args.edge.row } in
+    let rank : c.args.source.rank + c.from.result * 16384 + 1 ≡ rank_of (slice_index_or c.args.source.nodes.now c.args.source.at nowhere) + c.args.edge.link.now.metric * 16384 + 1 =
+    omega (arith, c.requires.source.rank, c.from.ensures, c.args.edge.same) in
+    link_offer c.args.source c.requires.source c.args.labels.now (heap_items c.args.heap.now) c.args.edge small c.requires.edge c.requires.before label refl refl refl rank
 
 pub offer-requires-clause-tied : goal.offer-requires-clause-tied
 offer-requires-clause-tied c =
-    let small : c.args.link.now.metric < 2 ^ 32 = omega (arith, c.requires.metric) in
-    let label : Label = record { rank = c.args.source.rank + c.from.result * 16384 + 1; parent = c.args.source.at; place = c.args.source.state % 1024; row = c.args.row } in
-    let rank : c.args.source.rank + c.from.result * 16384 + 1 ≡ rank_of (slice_index_or c.args.source.nodes.now c.args.source.at nowhere) + c.args.link.now.metric * 16384 + 1 =
-    omega (arith, c.requires.source.rank, c.from.ensures, c.requires.metric) in
-    link_tied c.args.query.table.now c.args.query.request.now c.args.source.nodes.now c.requires.source.arena c.requires.query.listed c.args.source.at c.args.source.state c.requires.source.node c.args.goal c.requires.behind c.args.labels.now
-    (heap_items c.args.heap.now) c.args.row c.args.link.now small c.requires.row c.args.end c.requires.end c.requires.before label refl refl refl rank
+    let small : c.args.edge.link.now.metric < 2 ^ 32 = omega (arith, c.args.edge.same) in
+    let label : Label = record { rank = c.args.source.rank + c.from.result * 16384 + 1; parent = c.args.source.at; place = c.args.source.state % 1024; row = c.args.edge.row } in
+    let rank : c.args.source.rank + c.from.result * 16384 + 1 ≡ rank_of (slice_index_or c.args.source.nodes.now c.args.source.at nowhere) + c.args.edge.link.now.metric * 16384 + 1 =
+    omega (arith, c.requires.source.rank, c.from.ensures, c.args.edge.same) in
+    link_tied c.args.source c.requires.source c.args.labels.now
+    (heap_items c.args.heap.now) c.args.edge small c.requires.edge c.requires.before label refl refl refl rank
 
 pub returns-clause-after : goal.returns-clause-after
 returns-clause-after c =
-    let d = c.args.query.table.now in
-    let q = c.args.query.request.now in
-    let nodes = c.args.source.nodes.now in
-    let small : c.args.link.now.metric < 2 ^ 32 = omega (arith, c.requires.metric) in
-    let label : Label = record { rank = c.args.source.rank + c.from.result * 16384 + 1; parent = c.args.source.at; place = c.args.source.state % 1024; row = c.args.row } in
-    let rank : c.args.source.rank + c.from.result * 16384 + 1 ≡ rank_of (slice_index_or c.args.source.nodes.now c.args.source.at nowhere) + c.args.link.now.metric * 16384 + 1 =
-    omega (arith, c.requires.source.rank, c.from.ensures, c.requires.metric) in
-    let index = link_index d q nodes c.args.source.at c.args.source.state c.requires.source.node c.args.row c.args.link.now c.requires.row c.args.end c.requires.end c.requires.query.listed.few in
+    let small : c.args.edge.link.now.metric < 2 ^ 32 = omega (arith, c.args.edge.same) in
+    let label : Label = record { rank = c.args.source.rank + c.from.result * 16384 + 1; parent = c.args.source.at; place = c.args.source.state % 1024; row = c.args.edge.row } in
+    let rank : c.args.source.rank + c.from.result * 16384 + 1 ≡ rank_of (slice_index_or c.args.source.nodes.now c.args.source.at nowhere) + c.args.edge.link.now.metric * 16384 + 1 =
+    omega (arith, c.requires.source.rank, c.from.ensures, c.args.edge.same) in
+    let index = link_index c.args.source.query.table.now c.args.source.query.request.now c.args.source.nodes.now c.args.source.at c.args.source.state c.requires.source.node c.args.edge.row c.args.edge.link.now c.requires.edge.row c.args.edge.end c.requires.edge.end c.requires.source.query.listed.few in
     let blank : Label = record { rank = 0; parent = 0; place = 0; row = 0 } in
-    let read = rank_read c.args.labels.now (c.args.source.state - c.args.source.state % 1024 + c.args.end) blank (omega (arith, index.low, c.requires.before.many)) in
+    let read = rank_read c.args.labels.now (c.args.source.state - c.args.source.state % 1024 + c.args.edge.end) blank (omega (arith, index.low, c.requires.before.many)) in
     let no_role : Role = record { inside = false; target = false } in
-    let told = link_told d q nodes c.requires.source.arena c.requires.query.listed c.args.source.at c.args.source.state c.requires.source.node c.args.goal c.requires.behind c.args.labels.now (heap_items c.args.heap.now) c.args.row c.args.link.now
-    small c.requires.row c.args.end c.requires.end c.requires.before
-    (slice_index_or c.args.query.roles.now (c.args.source.state - c.args.source.state % 1024 + c.args.end) no_role)
-    (c.requires.query.roles.each (c.args.source.state - c.args.source.state % 1024 + c.args.end) no_role index) in
-    let le : c.args.source.rank + c.from.result * 16384 + 1 ≤ (label_at c.args.labels.now (c.args.source.state - c.args.source.state % 1024 + c.args.end)).rank =
+    let told = link_told c.args.source c.requires.source c.args.labels.now (heap_items c.args.heap.now) c.args.edge small c.requires.edge c.requires.before
+    (slice_index_or c.args.source.query.roles.now (c.args.source.state - c.args.source.state % 1024 + c.args.edge.end) no_role)
+    (c.requires.source.query.roles.each (c.args.source.state - c.args.source.state % 1024 + c.args.edge.end) no_role index) in
+    let le : c.args.source.rank + c.from.result * 16384 + 1 ≤ (label_at c.args.labels.now (c.args.source.state - c.args.source.state % 1024 + c.args.edge.end)).rank =
     omega (arith, read, c.if-new-kept.false) in
     on_ok_weaker c.offer.result
-    (link_taken d q nodes c.requires.source.arena c.requires.query.listed c.args.source.at c.args.source.state c.requires.source.node c.args.goal c.requires.behind c.args.labels.now (heap_items c.args.heap.now) c.args.row c.args.link.now
-    small c.requires.row c.args.end c.requires.end c.requires.before label refl refl refl rank
+    (link_taken c.args.source c.requires.source c.args.labels.now (heap_items c.args.heap.now) c.args.edge small c.requires.edge c.requires.before label refl refl refl rank
     (c.if-not-accepts.ensures.0 refl) (told.0 (not-false _ c.if-not-role.false)) le (c.args.source.rank + c.from.result * 16384 + 1 + c.lift.result) c.offer.new.labels
     (heap_items c.offer.new.heap) (ap (λ n. c.args.source.rank + c.from.result * 16384 + 1 + n) c.lift.ensures.value))
     c.offer.ensures.first

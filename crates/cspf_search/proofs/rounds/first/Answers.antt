@@ -3,5 +3,5 @@ use Rattle.cspf_search.proofs.rounds.first.Goals as goal
 
 pub returns : goal.returns
 returns c =
-    let whole : c.loop-at.at ≡ length c.args.nodes.now = omega arith in
+    let whole : c.loop-at.at ≡ length c.args.round.nodes.now = omega arith in
     rw whole at c.loop-at.invariant

@@ -14,64 +14,64 @@ use Rattle.cspf_search.proofs.rounds.look_at_link.Goals as goal
 pub overflow_add-cost : goal.overflow_add-cost
 overflow_add-cost c =
     let small : c.args.link.metric < 2 ^ 32 = omega arith in
-    let from = get_or_read c.args.nodes.now c.args.at c.index-nodes-at.result c.requires.from.within c.index-nodes-at.is nowhere in
-    let numbered = c.requires.arena.numbered c.args.at nowhere c.requires.from.within in
-    omega (arith, small, c.from.ensures, ap (λ (n : Node). n.cost) from, numbered.small, numbered.few, c.requires.arena.most, c.requires.from.within)
+    let from = get_or_read c.args.look.nodes.now c.args.look.at c.index-nodes-look.result c.requires.look.from.within c.index-nodes-look.is nowhere in
+    let numbered = c.requires.look.arena.numbered c.args.look.at nowhere c.requires.look.from.within in
+    omega (arith, small, c.from.ensures, ap (λ (n : Node). n.cost) from, numbered.small, numbered.few, c.requires.look.arena.most, c.requires.look.from.within)
 
 pub returns-then-is_late : goal.returns-then-is_late
 returns-then-is_late c =
     let small : c.args.link.metric < 2 ^ 32 = omega arith in
-    let from = get_or_read c.args.nodes.now c.args.at c.index-nodes-at.result c.requires.from.within c.index-nodes-at.is nowhere in
+    let from = get_or_read c.args.look.nodes.now c.args.look.at c.index-nodes-look.result c.requires.look.from.within c.index-nodes-look.is nowhere in
     record {
       after =
-          link_late c.args.query.table.now c.args.query.request.now c.args.nodes.now c.requires.arena c.args.at c.args.state c.requires.from c.args.best.now c.args.row c.args.link c.requires.row
-          c.args.end c.requires.end c.requires.query.listed.few c.requires.before small c.index-nodes-at.result from c.from.result c.from.ensures (c.if-is_late.ensures.0 refl);
+          link_late c.args.look.query.table.now c.args.look.query.request.now c.args.look.nodes.now c.requires.look.arena c.args.look.at c.args.look.star.state c.requires.look.from c.args.best.now c.args.row c.args.link c.requires.row
+          c.args.end c.requires.end c.requires.look.query.listed.few c.requires.before small c.index-nodes-look.result from c.from.result c.from.ensures (c.if-is_late.ensures.0 refl);
     }
 
 pub returns-then-not-role : goal.returns-then-not-role
 returns-then-not-role c =
-    let d = c.args.query.table.now in
-    let q = c.args.query.request.now in
-    let nodes = c.args.nodes.now in
-    let index = link_index d q nodes c.args.at c.args.state c.requires.from c.args.row c.args.link c.requires.row c.args.end c.requires.end c.requires.query.listed.few in
+    let d = c.args.look.query.table.now in
+    let q = c.args.look.query.request.now in
+    let nodes = c.args.look.nodes.now in
+    let index = link_index d q nodes c.args.look.at c.args.look.star.state c.requires.look.from c.args.row c.args.link c.requires.row c.args.end c.requires.end c.requires.look.query.listed.few in
     let no_role : Role = record { inside = false; target = false } in
-    let told = c.requires.query.roles.each (c.args.state - c.args.state % 1024 + c.args.end) no_role index in
+    let told = c.requires.look.query.roles.each (c.args.look.star.state - c.args.look.star.state % 1024 + c.args.end) no_role index in
     record {
       after =
-          no_link d q nodes c.requires.arena c.args.at c.args.state c.requires.from c.args.best.now c.args.row c.args.link c.requires.row
-          c.args.end c.requires.end c.requires.query.listed.few c.requires.before
+          no_link d q nodes c.requires.look.arena c.args.look.at c.args.look.star.state c.requires.look.from c.args.best.now c.args.row c.args.link c.requires.row
+          c.args.end c.requires.end c.requires.look.query.listed.few c.requires.before
           (λ admitted inside. false≢true (sym (not-true _ c.if-not-role.true) ∙ told.inside.1 inside));
     }
 
 pub returns-then-not-accepts : goal.returns-then-not-accepts
 returns-then-not-accepts c = record {
   after =
-      no_link c.args.query.table.now c.args.query.request.now c.args.nodes.now c.requires.arena c.args.at c.args.state c.requires.from c.args.best.now c.args.row c.args.link c.requires.row
-      c.args.end c.requires.end c.requires.query.listed.few c.requires.before (λ admitted inside. false≢true (c.if-not-accepts.ensures.1 admitted));
+      no_link c.args.look.query.table.now c.args.look.query.request.now c.args.look.nodes.now c.requires.look.arena c.args.look.at c.args.look.star.state c.requires.look.from c.args.best.now c.args.row c.args.link c.requires.row
+      c.args.end c.requires.end c.requires.look.query.listed.few c.requires.before (λ admitted inside. false≢true (c.if-not-accepts.ensures.1 admitted));
 }
 
 pub keep-requires-clause-second : goal.keep-requires-clause-second
 keep-requires-clause-second c =
     let small : c.args.link.metric < 2 ^ 32 = omega arith in
-    let from = c.index-nodes-at.result in
-    let there = slice_get_read c.args.nodes.now (length c.args.nodes.now) c.args.at from refl c.requires.from.within c.index-nodes-at.is in
-    subst (λ m. IsNext c.args.nodes.now (along c.args.at c.index-nodes-at.result c.args.link m)) (sym c.from.ensures)
-    (by_next c.args.query.table.now c.args.query.request.now c.args.nodes.now c.requires.arena c.args.at c.requires.from.within from there c.args.link small)
+    let from = c.index-nodes-look.result in
+    let there = slice_get_read c.args.look.nodes.now (length c.args.look.nodes.now) c.args.look.at from refl c.requires.look.from.within c.index-nodes-look.is in
+    subst (λ m. IsNext c.args.look.nodes.now (along c.args.look.at c.index-nodes-look.result c.args.link m)) (sym c.from.ensures)
+    (by_next c.args.look.query.table.now c.args.look.query.request.now c.args.look.nodes.now c.requires.look.arena c.args.look.at c.requires.look.from.within from there c.args.link small)
 
 pub returns : goal.returns
 returns c =
-    let d = c.args.query.table.now in
-    let q = c.args.query.request.now in
-    let nodes = c.args.nodes.now in
+    let d = c.args.look.query.table.now in
+    let q = c.args.look.query.request.now in
+    let nodes = c.args.look.nodes.now in
     let small : c.args.link.metric < 2 ^ 32 = omega arith in
-    let index = link_index d q nodes c.args.at c.args.state c.requires.from c.args.row c.args.link c.requires.row c.args.end c.requires.end c.requires.query.listed.few in
+    let index = link_index d q nodes c.args.look.at c.args.look.star.state c.requires.look.from c.args.row c.args.link c.requires.row c.args.end c.requires.end c.requires.look.query.listed.few in
     let no_role : Role = record { inside = false; target = false } in
-    let told = c.requires.query.roles.each (c.args.state - c.args.state % 1024 + c.args.end) no_role index in
-    let from = get_or_read nodes c.args.at c.index-nodes-at.result c.requires.from.within c.index-nodes-at.is nowhere in
+    let told = c.requires.look.query.roles.each (c.args.look.star.state - c.args.look.star.state % 1024 + c.args.end) no_role index in
+    let from = get_or_read nodes c.args.look.at c.index-nodes-look.result c.requires.look.from.within c.index-nodes-look.is nowhere in
     record {
       after =
           rw c.keep.ensures
-          (link_kept d q nodes c.requires.arena c.args.at c.args.state c.requires.from c.args.best.now c.args.row c.args.link c.requires.row c.args.end c.requires.end
-          c.requires.query.listed.few c.requires.before small c.requires.left (c.if-not-accepts.ensures.0 refl) (told.inside.0 (not-false _ c.if-not-role.false))
-          c.index-nodes-at.result from c.from.result c.from.ensures);
+          (link_kept d q nodes c.requires.look.arena c.args.look.at c.args.look.star.state c.requires.look.from c.args.best.now c.args.row c.args.link c.requires.row c.args.end c.requires.end
+          c.requires.look.query.listed.few c.requires.before small c.requires.left (c.if-not-accepts.ensures.0 refl) (told.inside.0 (not-false _ c.if-not-role.false))
+          c.index-nodes-look.result from c.from.result c.from.ensures);
     }

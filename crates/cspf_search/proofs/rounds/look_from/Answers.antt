@@ -9,14 +9,14 @@ use Rattle.cspf_search.proofs.rounds.look_from.Goals as goal
 
 pub returns : goal.returns
 returns c =
-    let d = c.args.query.table.now in
-    let q = c.args.query.request.now in
-    let nodes = c.args.nodes.now in
-    let place = c.args.star.state % 1024 in
-    let all : c.loop-row.row ≡ length (links_from_index d (c.args.star.state % 1024)) = omega (arith, ap (λ (ls : List Link). length ls) c.requires.star.links) in
+    let d = c.args.look.query.table.now in
+    let q = c.args.look.query.request.now in
+    let nodes = c.args.look.nodes.now in
+    let place = c.args.look.star.state % 1024 in
+    let all : c.loop-row.row ≡ length (links_from_index d (c.args.look.star.state % 1024)) = omega (arith, ap (λ (ls : List Link). length ls) c.requires.look.star.links) in
     record {
       after =
-          first_same nodes (CrossesUpTo d q nodes c.args.at place (length (links_from_index d place))) (CrossesBelow d q nodes (links_of d) (c.args.at + 1))
-          (all_below d q nodes c.args.at c.args.star.state c.requires.from) (below_all d q nodes c.args.at c.args.star.state c.requires.from) c.loop-row.best
+          first_same nodes (CrossesUpTo d q nodes c.args.look.at place (length (links_from_index d place))) (CrossesBelow d q nodes (links_of d) (c.args.look.at + 1))
+          (all_below d q nodes c.args.look.at c.args.look.star.state c.requires.look.from) (below_all d q nodes c.args.look.at c.args.look.star.state c.requires.look.from) c.loop-row.best
           (rw all at c.loop-row.invariant);
     }

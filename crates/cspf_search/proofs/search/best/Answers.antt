@@ -12,5 +12,5 @@ answer-requires-clause-ends c = record {
   to = c.listed.ensures.known c.args.request.now.to c.in-Some-place_of.to (record { within = c.in-Some-place_of.ensures.bound; is = c.in-Some-place_of.ensures.some });
 }
 
-pub answer-requires-clause-whole : goal.answer-requires-clause-whole
-answer-requires-clause-whole c = rw c.deref.ensures.value c.in_ok-nodes.ensures.whole
+pub answer-requires-clause-searched : goal.answer-requires-clause-searched
+answer-requires-clause-searched c = rw c.deref-2.ensures.value c.in_ok-nodes.ensures

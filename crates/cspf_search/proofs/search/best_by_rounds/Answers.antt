@@ -11,5 +11,5 @@ settled-requires-clause-known c = c.if-not-has_router.ensures.0 refl
 pub answer-requires-clause-ends : goal.answer-requires-clause-ends
 answer-requires-clause-ends c = record { from = c.if-not-has_router.ensures.0 refl; to = c.if-not-has_router-2.ensures.0 refl }
 
-pub answer-requires-clause-whole : goal.answer-requires-clause-whole
-answer-requires-clause-whole c = rw c.deref.ensures.value c.in_ok-nodes.ensures.whole
+pub answer-requires-clause-searched : goal.answer-requires-clause-searched
+answer-requires-clause-searched c = rw c.deref-2.ensures.value c.in_ok-nodes.ensures

@@ -11,17 +11,17 @@ use Rattle.cspf_search.proofs.search.settled.Goals as goal
 
 pub star_of-root-requires-clause-known : goal.star_of-root-requires-clause-known
 star_of-root-requires-clause-known c =
-    let root : c.index.result.now ≡ root_of c.args.request.now = rw c.in_ok-nodes.ensures at c.index.ensures in
-    subst (λ (n : Node). IsRouterOf c.args.table.now n.router) (sym root) c.requires.known
+    let root : c.index.result.now ≡ root_of c.args.query.request.now = rw c.in_ok-nodes.ensures at c.index.ensures in
+    subst (λ (n : Node). IsRouterOf c.args.query.table.now n.router) (sym root) c.requires.known
 
 pub loop-node-init : goal.loop-node-init
 loop-node-init c =
-    let d = c.args.table.now in
-    let q = c.args.request.now in
+    let d = c.args.query.table.now in
+    let q = c.args.query.request.now in
     let star = c.star_of-root.result in
-    let root : c.index.result.now ≡ root_of c.args.request.now = rw c.in_ok-nodes.ensures at c.index.ensures in
-    let is = subst (λ (n : Node). IsForwardStar c.args.table.now (state_of n) c.star_of-root.result) root c.star_of-root.ensures in
-    let marks : c.in_ok-marks.marks.items ≡ replicate (c.args.legs * 1024) false = c.in_ok-marks.ensures.items_if_clones_equal (λ y e. e) in
+    let root : c.index.result.now ≡ root_of c.args.query.request.now = rw c.in_ok-nodes.ensures at c.index.ensures in
+    let is = subst (λ (n : Node). IsForwardStar c.args.query.table.now (state_of n) c.star_of-root.result) root c.star_of-root.ensures in
+    let marks : c.in_ok-marks.marks.items ≡ replicate (c.args.query.legs * 1024) false = c.in_ok-marks.ensures.items_if_clones_equal (λ y e. e) in
     rw (c.in_ok-nodes.ensures, c.in_ok-stars.ensures.items, marks)
     (record {
       arena = root_nodes q;
@@ -29,73 +29,87 @@ loop-node-init c =
       settled = root_settled d q;
       stars = stars_push d [] [] (no_stars d) (root_of q) star is;
       marks =
-          marks_push d q c.listed.ensures.listed [] (root_of q) (λ i j e low high. absurd (omega arith)) (root_nodes q).apart (replicate (c.args.legs * 1024) false)
-          (no_marks d q (c.args.legs * 1024) (ap (λ n. n * 1024) c.requires.count)) star is (record { low = omega arith; high = omega arith });
+          marks_push d q c.requires.query.listed [] (root_of q) (λ i j e low high. absurd (omega arith)) (root_nodes q).apart (replicate (c.args.query.legs * 1024) false)
+          (no_marks d q (c.args.query.legs * 1024) (ap (λ n. n * 1024) c.requires.query.count)) star is (record { low = omega arith; high = omega arith });
     })
 
-pub next-requires-clause-legs : goal.next-requires-clause-legs
-next-requires-clause-legs c =
-    rw c.deref-in-loop-node-2.ensures.value
-    (nodes_in_legs c.args.table.now c.args.request.now c.loop-node.nodes.items c.loop-node.invariant.arena.apart c.loop-node.invariant.settled)
+pub next-requires : goal.next-requires
+next-requires c =
+    let before = c.loop-node.invariant in
+    record {
+      round = record {
+        query = c.requires.query;
+        arena = rw c.deref.ensures.value before.arena;
+        legs = rw c.deref.ensures.value (nodes_in_legs c.args.query.table.now c.args.query.request.now c.loop-node.nodes.items before.arena.apart before.settled);
+        stars = rw (c.deref.ensures.value, c.deref-in-loop-node.ensures.value) before.stars;
+        marks = rw (c.deref.ensures.value, c.deref-in-loop-node-2.ensures.value) before.marks;
+      };
+    }
 
 pub star_of-star-requires-clause-known : goal.star_of-star-requires-clause-known
 star_of-star-requires-clause-known c =
-    let first = rw c.deref-in-loop-node-2.ensures.value at c.in-Some.ensures.some in
+    let first = rw c.deref.ensures.value at c.in-Some.ensures.some in
     let before = c.loop-node.invariant in
-    new_router c.args.table.now c.args.request.now c.listed.ensures.links c.requires.known c.listed.ensures.few (omega arith) c.loop-node.nodes.items before.arena before.settled
+    new_router c.args.query.table.now c.args.query.request.now c.requires.query.links c.requires.known c.requires.query.few (omega arith) c.loop-node.nodes.items before.arena before.settled
     c.in-Some.node first
 
 pub star_of-star-requires-clause-most : goal.star_of-star-requires-clause-most
 star_of-star-requires-clause-most c =
-    let first = rw c.deref-in-loop-node-2.ensures.value at c.in-Some.ensures.some in
+    let first = rw c.deref.ensures.value at c.in-Some.ensures.some in
     let before = c.loop-node.invariant in
     let leg =
-    new_leg c.args.table.now c.args.request.now c.listed.ensures.links c.requires.known c.listed.ensures.few (omega arith) c.loop-node.nodes.items before.arena before.settled
+    new_leg c.args.query.table.now c.args.query.request.now c.requires.query.links c.requires.known c.requires.query.few (omega arith) c.loop-node.nodes.items before.arena before.settled
     c.in-Some.node first in
     omega (arith, leg.high)
 
 pub index_mut-requires-in-Some : goal.index_mut-requires-in-Some
 index_mut-requires-in-Some c =
-    let first = rw c.deref-in-loop-node-2.ensures.value at c.in-Some.ensures.some in
+    let first = rw c.deref.ensures.value at c.in-Some.ensures.some in
     let before = c.loop-node.invariant in
     let leg =
-    new_leg c.args.table.now c.args.request.now c.listed.ensures.links c.requires.known c.listed.ensures.few (omega arith) c.loop-node.nodes.items before.arena before.settled
+    new_leg c.args.query.table.now c.args.query.request.now c.requires.query.links c.requires.known c.requires.query.few (omega arith) c.loop-node.nodes.items before.arena before.settled
     c.in-Some.node first in
-    let index = star_index c.args.table.now c.args.request.now c.in-Some.node c.star_of-star.result leg c.star_of-star.ensures in
+    let index = star_index c.args.query.table.now c.args.query.request.now c.in-Some.node c.star_of-star.result leg c.star_of-star.ensures in
     omega (arith, index.low, before.marks.many, c.loop-node.marks.ok.0)
 
 pub loop-node-smaller : goal.loop-node-smaller
 loop-node-smaller c =
-    let first = rw c.deref-in-loop-node-2.ensures.value at c.in-Some.ensures.some in
+    let first = rw c.deref.ensures.value at c.in-Some.ensures.some in
     let before = c.loop-node.invariant in
     let new =
-    after c.args.table.now c.args.request.now c.listed.ensures.links c.requires.known c.listed.ensures.few (omega arith) c.loop-node.nodes.items before.arena before.settled
+    after c.args.query.table.now c.args.query.request.now c.requires.query.links c.requires.known c.requires.query.few (omega arith) c.loop-node.nodes.items before.arena before.settled
     c.in-Some.node first in
     rw c.in_ok-extend_from_slice.ensures.items (omega (arith, new.2, length_push c.loop-node.nodes.items c.in-Some.node))
 
 pub loop-node-preserved : goal.loop-node-preserved
 loop-node-preserved c =
-    let d = c.args.table.now in
-    let q = c.args.request.now in
+    let d = c.args.query.table.now in
+    let q = c.args.query.request.now in
     let nodes = c.loop-node.nodes.items in
     let node = c.in-Some.node in
     let star = c.star_of-star.result in
-    let first = rw c.deref-in-loop-node-2.ensures.value at c.in-Some.ensures.some in
+    let first = rw c.deref.ensures.value at c.in-Some.ensures.some in
     let before = c.loop-node.invariant in
     let new =
-    after d q c.listed.ensures.links c.requires.known c.listed.ensures.few (omega arith) c.loop-node.nodes.items before.arena before.settled c.in-Some.node first in
+    after d q c.requires.query.links c.requires.known c.requires.query.few (omega arith) c.loop-node.nodes.items before.arena before.settled c.in-Some.node first in
     let leg =
-    new_leg d q c.listed.ensures.links c.requires.known c.listed.ensures.few (omega arith) c.loop-node.nodes.items before.arena before.settled c.in-Some.node first in
+    new_leg d q c.requires.query.links c.requires.known c.requires.query.few (omega arith) c.loop-node.nodes.items before.arena before.settled c.in-Some.node first in
     rw (c.in_ok-extend_from_slice.ensures.items, c.in_ok-extend_from_slice-2.ensures.items)
     (record {
       arena = new.0;
       few = omega (arith, new.2, length_push c.loop-node.nodes.items c.in-Some.node);
       settled = new.1;
       stars = stars_push d nodes c.loop-node.stars.items before.stars node star c.star_of-star.ensures;
-      marks = marks_push d q c.listed.ensures.listed nodes node before.arena.apart new.0.apart c.loop-node.marks.items before.marks star c.star_of-star.ensures leg;
+      marks = marks_push d q c.requires.query.listed nodes node before.arena.apart new.0.apart c.loop-node.marks.items before.marks star c.star_of-star.ensures leg;
     })
 
-pub returns-clause-whole : goal.returns-clause-whole
-returns-clause-whole c = λ left.
-    let none = rw c.deref-in-loop-node-2.ensures.value at c.in_default.ensures.none in
-    nothing_crosses c.args.table.now c.args.request.now (links_of c.args.table.now) c.listed.ensures.links c.loop-node.nodes.items c.loop-node.invariant.arena.apart (none left)
+pub returns : goal.returns
+returns c =
+    let before = c.loop-node.invariant in
+    let none = rw c.deref.ensures.value at c.in_default.ensures.none in
+    record {
+      arena = before.arena;
+      few = omega (arith, before.few, c.requires.query.count);
+      settled = before.settled;
+      whole = λ left. nothing_crosses c.args.query.table.now c.args.query.request.now (links_of c.args.query.table.now) c.requires.query.links c.loop-node.nodes.items before.arena.apart (none left);
+    }

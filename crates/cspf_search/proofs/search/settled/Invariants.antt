@@ -7,11 +7,11 @@ use Rattle.cspf_search.proofs.search.settled.Given as goal
 abbrev pub invariant-loop-node : goal.invariant-loop-node
 invariant-loop-node l = record {
   arena : AreNodes l.nodes.items;
-  few : length l.nodes.items ≤ l.legs * 1024;
-  settled : AreSettled l.table l.request (labels_of l.nodes.items);
-  stars : AreForwardStars l.table l.nodes.items l.stars.items;
-  marks : AreMarks l.table l.request l.nodes.items l.marks.items;
+  few : length l.nodes.items ≤ l.query.legs * 1024;
+  settled : AreSettled l.query.table.now l.query.request.now (labels_of l.nodes.items);
+  stars : AreForwardStars l.query.table.now l.nodes.items l.stars.items;
+  marks : AreMarks l.query.table.now l.query.request.now l.nodes.items l.marks.items;
 }
 
 abbrev pub decreases-loop-node : goal.decreases-loop-node
-decreases-loop-node l = l.legs * 1024 - length l.nodes.items
+decreases-loop-node l = l.query.legs * 1024 - length l.nodes.items

@@ -1,20 +1,19 @@
-use Rattle.std.proofs.Common.{All, map, ap, subst, ◌∙◌, sym, arith}
-use Rattle.std.proofs.lemmas.List.{take_all}
-use Rattle.cspf_db.proofs.Tables.SortedChanges.{change_of, IsPlace, within_more, listed_more}
+use Rattle.std.proofs.Common.{ap, ◌∙◌, arith}
+use Rattle.std.proofs.lemmas.List.{get_or_read, take_all}
+use Rattle.cspf_db.specs.Changes.{key_changed}
+use Rattle.cspf_db.proofs.Tables.SortedChanges.{places_more, listed_more}
 use Rattle.cspf_db.proofs.table.merging.list_order.Goals as goal
 
 pub loop-at-preserved : goal.loop-at-preserved
 loop-at-preserved c =
     let changes = c.args.changes.now in
-    let order = c.loop-at.order in
+    let before = c.loop-at.invariant in
     record {
-      within = within_more changes order c.loop-at.at c.key.result (omega arith) (omega arith) c.loop-at.invariant.within;
-      each = λ d. listed_more changes order c.loop-at.at c.key.result d (omega arith) (omega arith) (c.loop-at.invariant.each d);
+      places = rw c.push_reserved.ensures.items (places_more changes c.loop-at.order.items c.loop-at.at c.key.result c.loop-at-test.true (λ d. c.key.ensures ∙ ap key_changed (get_or_read changes c.loop-at.at c.index-changes-at.result c.loop-at-test.true c.index-changes-at.is d)) before.places);
+      each = λ d. rw c.push_reserved.ensures.items (listed_more changes c.loop-at.order.items c.loop-at.at c.key.result d c.loop-at-test.true (before.each d));
+      len = omega (arith, c.push_reserved.ensures.len, before.len);
+      capacity = omega (arith, c.push_reserved.ensures.capacity, before.capacity);
     }
 
-pub returns-clause-within : goal.returns-clause-within
-returns-clause-within c = subst (All (IsPlace c.args.changes.now)) (take_all c.loop-at.at c.loop-at.order (omega arith)) c.loop-at.invariant.within
-
 pub returns-clause-each : goal.returns-clause-each
-returns-clause-each c d =
-    ap (map (change_of c.args.changes.now d)) (sym (take_all c.loop-at.at c.loop-at.order (omega arith))) ∙ c.loop-at.invariant.each d ∙ take_all c.loop-at.at c.args.changes.now (omega arith)
+returns-clause-each c d = c.loop-at.invariant.each d ∙ take_all c.loop-at.at c.args.changes.now (omega arith)

@@ -1,10 +1,14 @@
-use Rattle.std.proofs.Common.{◌-◌, ◌≤◌, length}
+use Rattle.std.proofs.Common.{◌≡◌, ◌-◌, ◌≤◌, length}
+use Rattle.std.specs.List.{AllWithin}
+use Rattle.std.specs.declared.cmp.Ordering.TheVariants.{Less}
+use Rattle.cspf_db.specs.Database.{key_of, key_cmp}
 use Rattle.cspf_db.proofs.table.merging.step.Given as goal
 
 abbrev pub invariant-loop-next : goal.invariant-loop-next
 invariant-loop-next l = record {
   order : l.at ≤ l.next;
   bound : l.next ≤ length l.rows;
+  below : AllWithin (λ m. key_cmp (key_of m) (l.from, l.local) ≡ Less) l.rows l.at l.next;
 }
 
 abbrev pub decreases-loop-next : goal.decreases-loop-next

@@ -1,5 +1,5 @@
 use Rattle.std.proofs.Common.{rules, ◌≡◌}
-use Rattle.cspf_serve.proofs.LiveRunLines.{live_ran, live_refused}
+use Rattle.cspf_serve.proofs.LiveRunLines.{live_fault, live_ran, live_refused}
 use Rattle.cspf_serve.proofs.live.run.run_live_rows.Goals as goal
 
 pub returns-in-Err-clause-whole : goal.returns-in-Err-clause-whole
@@ -8,11 +8,18 @@ returns-in-Err-clause-whole g c =
     (g.W.Write.contents c.args.writer.now) (g.W.Write.contents c.refuse.new.writer) (g.J.Write.contents c.args.journal)
     c.in-Err.ensures.err c.refuse.ensures.status c.refuse.ensures.line
 
-pub returns-in-Ok-clause-whole : goal.returns-in-Ok-clause-whole
-returns-in-Ok-clause-whole g c =
+pub returns-clause-whole : goal.returns-clause-whole
+returns-clause-whole g c =
     let kept : c.deref.result.now ≡ c.in-Ok.read.batches.items = search rules in
-    let asked : c.deref-in-Ok.result.now ≡ c.in-Ok.read.requests.items = search rules in
+    let asked : c.deref-2.result.now ≡ c.in-Ok.read.requests.items = search rules in
+    let same : c.in-Ok-open_for.opened.0.journal ≡ c.args.journal = search rules in
     live_ran (g.R.Read.remaining c.args.updates) (g.Q.Read.remaining c.args.requests) c.in-Ok.read.batches.items c.in-Ok.read.requests.items
-    c.answer_live.result.0 (g.W.Write.contents c.args.writer.now) (g.W.Write.contents c.answer_live.new.writer)
-    (g.J.Write.contents c.args.journal) (g.J.Write.contents c.answer_live.result.1)
-    c.in-Ok.ensures.batches c.in-Ok.ensures.requests (rw (kept, asked) at c.answer_live.ensures.whole)
+    c.answer_opened.result.0 (g.W.Write.contents c.args.writer.now) (g.W.Write.contents c.answer_opened.new.writer)
+    (g.J.Write.contents c.args.journal) (g.J.Write.contents c.answer_opened.result.1)
+    c.in-Ok.ensures.batches c.in-Ok.ensures.requests (rw (kept, asked, same) at c.answer_opened.ensures.whole)
+
+pub returns-clause-error : goal.returns-clause-error
+returns-clause-error g c =
+    let asked : c.deref-2.result.now ≡ c.in-Ok.read.requests.items = search rules in
+    live_fault (g.Q.Read.remaining c.args.requests) c.in-Ok.read.requests.items c.answer_opened.result.0 c.in-Ok.ensures.requests
+    (rw asked at c.answer_opened.ensures.error)

@@ -1,8 +1,8 @@
-use Rattle.std.proofs.Common.{◌≡◌, rules, arith}
-use Rattle.std.proofs.lemmas.Result.{IfOk-weaker, IfErr-weaker, err_from_is_err_and}
+use Rattle.std.proofs.Common.{rules, arith}
+use Rattle.std.proofs.lemmas.Result.{err_from_is_err_and}
 use Rattle.csv.specs.Records.{fields_of}
 use Rattle.cspf_rows.specs.Records.{rows_left}
-use Rattle.cspf_serve.proofs.SolveRun.{begins, steps, few, ends, stops_at_row, stops_at_end}
+use Rattle.cspf_serve.proofs.SolveRun.{begins, steps, few, run_ends, run_stops, stops_at_row}
 use Rattle.cspf_serve.proofs.solve.run.solve_rows.Goals as goal
 
 pub loop-read-init : goal.loop-read-init
@@ -20,19 +20,13 @@ finish-requires-clause-few g c =
 
 pub returns-then-not-branch-clause-whole : goal.returns-then-not-branch-clause-whole
 returns-then-not-branch-clause-whole g c =
-    IfOk-weaker c.finish.result _ _
-    (λ summary ended.
-    ends _ _ (rows_left g.R.Read.remaining c.next_record.new.rows) _ _ _ _ _ _ _ (fields_of c.next_record.new.fields) summary
-    c.loop-read.invariant.going (omega arith) (λ e. cc e) (rw c.if-not-branch.true at c.in_ok-next_record.ensures.row) ended)
-    c.finish.ensures.ended
+    run_ends _ _ (rows_left g.R.Read.remaining c.next_record.new.rows) _ _ _ _ _ _ _ (fields_of c.next_record.new.fields) c.finish.result c.loop-read.invariant.going
+    (omega arith) (λ e. cc e) (rw c.if-not-branch.true at c.in_ok-next_record.ensures.row) c.finish.ensures.ended
 
 pub returns-then-not-branch-clause-stopped : goal.returns-then-not-branch-clause-stopped
 returns-then-not-branch-clause-stopped g c =
-    IfErr-weaker c.finish.result _ _
-    (λ error cut.
-    stops_at_end _ _ (rows_left g.R.Read.remaining c.next_record.new.rows) _ _ _ _ _ _ _ (fields_of c.next_record.new.fields) error
-    c.loop-read.invariant.going (omega arith) (λ e. cc e) (rw c.if-not-branch.true at c.in_ok-next_record.ensures.row) cut)
-    c.finish.ensures.stopped
+    run_stops _ _ (rows_left g.R.Read.remaining c.next_record.new.rows) _ _ _ _ _ _ _ (fields_of c.next_record.new.fields) c.finish.result c.loop-read.invariant.going
+    (omega arith) (λ e. cc e) (rw c.if-not-branch.true at c.in_ok-next_record.ensures.row) c.finish.ensures.stopped
 
 pub answer_row-requires-clause-few : goal.answer_row-requires-clause-few
 answer_row-requires-clause-few g c =
@@ -68,16 +62,10 @@ finish-requires-2-clause-few g c =
 
 pub returns-clause-whole : goal.returns-clause-whole
 returns-clause-whole g c =
-    IfOk-weaker c.finish-2.result _ _
-    (λ summary ended.
-    ends _ _ (rows_left g.R.Read.remaining c.next_record-2.new.rows) _ _ _ _ _ _ _ (fields_of c.next_record-2.new.fields) summary
-    c.loop-read.invariant.going (omega arith) (λ e. omega arith) c.in_ok-too_many.ensures.row ended)
-    c.finish-2.ensures.ended
+    run_ends _ _ (rows_left g.R.Read.remaining c.next_record-2.new.rows) _ _ _ _ _ _ _ (fields_of c.next_record-2.new.fields) c.finish-2.result c.loop-read.invariant.going
+    (omega arith) (λ e. omega arith) c.in_ok-too_many.ensures.row c.finish-2.ensures.ended
 
 pub returns-clause-stopped : goal.returns-clause-stopped
 returns-clause-stopped g c =
-    IfErr-weaker c.finish-2.result _ _
-    (λ error cut.
-    stops_at_end _ _ (rows_left g.R.Read.remaining c.next_record-2.new.rows) _ _ _ _ _ _ _ (fields_of c.next_record-2.new.fields) error
-    c.loop-read.invariant.going (omega arith) (λ e. omega arith) c.in_ok-too_many.ensures.row cut)
-    c.finish-2.ensures.stopped
+    run_stops _ _ (rows_left g.R.Read.remaining c.next_record-2.new.rows) _ _ _ _ _ _ _ (fields_of c.next_record-2.new.fields) c.finish-2.result c.loop-read.invariant.going
+    (omega arith) (λ e. omega arith) c.in_ok-too_many.ensures.row c.finish-2.ensures.stopped

@@ -8,6 +8,11 @@ returns-then-contains-clause-added c =
     rw (← c.self.view_is)
     (insert-there _ c.args.router (contains-found _ c.args.router ∙ sym c.contains.ensures.value ∙ c.if-contains.true))
 
+pub returns-then-has-clause-few : goal.returns-then-has-clause-few
+returns-then-has-clause-few c =
+    rw (← c.self.view_is, len-from_distinct _ c.self.invariant.once)
+    (omega (arith, c.self.invariant.most, c.self.invariant.room, length-take-le c.self.inside.count c.self.inside.found))
+
 pub returns-then-contains-clause-few : goal.returns-then-contains-clause-few
 returns-then-contains-clause-few c =
     rw (← c.self.view_is, len-from_distinct _ c.self.invariant.once)
@@ -24,7 +29,7 @@ invariant_of-self c =
     record {
       room =
           length-set c.self.inside.found c.self.inside.count c.args.router ∙ c.self.invariant.room;
-      slots = length-set c.self.inside.places c.slot.result c.self.inside.count ∙ c.self.invariant.slots;
+      slots = c.note.ensures;
       most = omega (arith, c.self.invariant.most);
       once =
           rw (take_more_set c.self.inside.found c.self.inside.count c.args.router within) (distinct-push _ c.args.router (sym c.contains.ensures.value ∙ c.if-contains.false) c.self.invariant.once);

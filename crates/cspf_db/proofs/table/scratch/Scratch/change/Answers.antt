@@ -11,12 +11,15 @@ use Rattle.cspf_db.proofs.table.scratch.Scratch.change.Goals as goal
 
 pub returns-clause-changed : goal.returns-clause-changed
 returns-clause-changed c =
-    let made = rw (c.deref.ensures.value, c.deref-3.ensures.value) at (c.merge.ensures.changed c.if-not-merge.false) in
+    let made = rw (c.deref.ensures.value, c.deref-3.ensures.value) at c.merge.ensures.changed in
     ap (λ (v : Vec Link Global). database_of v.items) c.swap.ensures.x_after ∙ made
     ∙ after_changes-permuted c.args.changes.now _ c.sort_changes.ensures.permutation c.requires.changes.once (database_of c.args.rows.now.items)
 
 pub merge-requires-clause-short : goal.merge-requires-clause-short
 merge-requires-clause-short c = rw c.deref-3.ensures.value (omega (arith, length_permutation _ _ c.sort_changes.ensures.permutation, c.requires.short))
+
+pub merge-requires-clause-in_order : goal.merge-requires-clause-in_order
+merge-requires-clause-in_order c = rw c.deref-3.ensures.value c.sort_changes.ensures.in_order
 
 pub merge-requires-clause-known : goal.merge-requires-clause-known
 merge-requires-clause-known c = rw c.deref-3.ensures.value (All-permutation (HasListedEnds c.args.routers.now) _ _ c.sort_changes.ensures.permutation c.requires.changes.known)
@@ -24,9 +27,9 @@ merge-requires-clause-known c = rw c.deref-3.ensures.value (All-permutation (Has
 pub returns-clause-rows : goal.returns-clause-rows
 returns-clause-rows c =
     let old = c.requires.rows in
-    let made = rw (c.deref.ensures.value, c.deref-3.ensures.value) at (c.merge.ensures.changed c.if-not-merge.false) ∙ after_changes-permuted c.args.changes.now _ c.sort_changes.ensures.permutation c.requires.changes.once (database_of c.args.rows.now.items) in
-    let by_key = c.merge.ensures.by_key c.if-not-merge.false in
-    let ends = c.merge.ensures.ends c.if-not-merge.false in
+    let made = rw (c.deref.ensures.value, c.deref-3.ensures.value) at c.merge.ensures.changed ∙ after_changes-permuted c.args.changes.now _ c.sort_changes.ensures.permutation c.requires.changes.once (database_of c.args.rows.now.items) in
+    let by_key = c.merge.ensures.by_key in
+    let ends = c.merge.ensures.ends in
     let listed = rows_listed_after c.args.routers.now _ c.merge.new.merged.items _ c.args.changes.now old.column by_key made c.requires.changes.known in
     rw (c.swap.ensures.x_after, c.swap-2.ensures.x_after)
     (still_rows_with_ends c.args.routers.now c.args.rows.now _ c.args.ends.now _ _ old c.requires.changes.links made by_key

@@ -12,10 +12,10 @@ returns-in-Ok c =
 
 pub returns-in-Err : goal.returns-in-Err
 returns-in-Err c =
-    IfOk-weaker c.refused_row_line.result _ _
+    IfOk-weaker c.bytes.result _ _
     (λ line written. λ s kept. (
       after_refused_row (at_next_row s),
       keeps_refused c.args.self.now s kept,
       rw c.in-Err.is (rw kept.rows at written, refl),
     ))
-    c.refused_row_line.ensures
+    c.bytes.ensures

@@ -1,7 +1,7 @@
-use Rattle.std.proofs.Common.{refl, inl, inr, rules}
+use Rattle.std.proofs.Common.{ℕ, List, refl, sym, subst, rules}
 use Rattle.std.proofs.lemmas.Result.{IfOk-weaker}
 use Rattle.cspf_db.specs.declared.batch.Change.TheVariants as change
-use Rattle.cspf_serve.specs.Script.{after_change_row, after_batch, after_refused_batch, after_reply}
+use Rattle.cspf_serve.specs.Script.{IsEndAnswered, after_change_row, after_reply}
 use Rattle.cspf_serve.proofs.SolverSteps.{keeps_replied}
 use Rattle.cspf_serve.proofs.solve.solver.Solver.answer_read.Goals as goal
 
@@ -19,27 +19,16 @@ returns-in_ok-open-in-Remove c = λ s kept. (
   rw c.in-Remove.is (search rules, refl),
 )
 
-pub returns-in-Ok : goal.returns-in-Ok
-returns-in-Ok c =
-    IfOk-weaker c.version_line.result _ _
+pub returns-in-End : goal.returns-in-End
+returns-in-End c =
+    IfOk-weaker c.bytes.result _ _
     (λ line written. λ s kept.
-    let ended = c.in-Ok.ensures s kept in (
-      after_batch s c.in-End.number,
+    let ended = c.end_line.ensures s kept in (
+      ended.0,
       ended.1,
-      rw c.in-End.is (inl (ended.0, written, refl)),
+      rw c.in-End.is (subst (λ (l : List ℕ). IsEndAnswered s c.in-End.number c.in-End.count l ended.0) (sym written) ended.2),
     ))
-    c.version_line.ensures
-
-pub returns-in-Err : goal.returns-in-Err
-returns-in-Err c =
-    IfOk-weaker c.refused_batch_line.result _ _
-    (λ line written. λ s kept.
-    let ended = c.in-Err.ensures s kept in (
-      after_refused_batch s,
-      ended.2,
-      rw c.in-End.is (inr (c.in-Err.refusal, ended.0, ended.1, written, refl)),
-    ))
-    c.refused_batch_line.ensures
+    c.bytes.ensures
 
 pub returns-in-Ask : goal.returns-in-Ask
 returns-in-Ask c =

@@ -1,0 +1,63 @@
+use Rattle.std.proofs.Common.{◌≡◌, length, subst, ◌∙◌, arith}
+use Rattle.std.specs.List.{AllWithin}
+use Rattle.std.specs.declared.cmp.Ordering.TheVariants.{Less, Greater}
+use Rattle.std.proofs.lemmas.List.Edits.{length-between}
+use Rattle.cspf_db.specs.Database.{key_of, key_cmp}
+use Rattle.cspf_db.specs.Changes.{key_changed}
+use Rattle.cspf_db.proofs.Tables.MergedRows.{merged_over, merged_before, copied_below, put_below}
+use Rattle.cspf_db.proofs.Tables.EndColumn.{ends_joined, ends_between}
+use Rattle.cspf_db.proofs.table.merging.merge_one.Goals as goal
+
+pub returns-then-is_at-clause-step : goal.returns-then-is_at-clause-step
+returns-then-is_at-clause-step c =
+    let within = c.is_at.ensures.within c.if-is_at.true in
+    let made = merged_over c.args.merged.now.items c.args.rows.now c.args.at c.step-next.result c.args.change.now c.requires.merged.joined c.step-next.ensures.order within (λ d. c.is_at.ensures.found c.if-is_at.true d ∙ c.key-from.ensures) in
+    record {
+      bound = omega (arith, within);
+      changed = rw (c.put_behind.ensures.items, c.extend_within.ensures.items) made.0;
+      joined = rw (c.put_behind.ensures.items, c.extend_within.ensures.items) made.1;
+      longer = omega (arith, c.step-next.ensures.order, within, c.extend_within.ensures.len, c.put_behind.ensures.longer, length-between c.args.rows.now c.args.at c.step-next.result c.step-next.ensures.bound);
+    }
+
+pub returns-then-is_at-clause-below : goal.returns-then-is_at-clause-below
+returns-then-is_at-clause-below c k less =
+    let rows = c.args.rows.now in
+    let next = c.step-next.result in
+    let copied = subst (λ q. AllWithin (λ m. key_cmp (key_of m) q ≡ Less) rows c.args.at next) c.key-from.ensures c.step-next.ensures.below in
+    rw (c.put_behind.ensures.items, c.extend_within.ensures.items)
+    (put_below _ c.args.change.now k (copied_below c.args.merged.now.items rows c.args.at next (key_changed c.args.change.now) c.step-next.ensures.order c.step-next.ensures.bound c.requires.below copied) less)
+
+pub returns-then-is_at-clause-ends : goal.returns-then-is_at-clause-ends
+returns-then-is_at-clause-ends c =
+    c.put_behind.ensures.ends
+    (rw (c.extend_within.ensures.items, c.extend_within-2.ensures.items)
+    (ends_joined c.args.merged.now.items _ c.args.routers.now c.args.merged_ends.now.items _ c.requires.ends_merged (ends_between c.args.rows.now c.args.routers.now c.args.ends.now c.args.at c.step-next.result c.requires.ends)))
+
+pub returns-clause-step : goal.returns-clause-step
+returns-clause-step c =
+    let rows = c.args.rows.now in
+    let next = c.step-next.result in
+    let copied = subst (λ q. AllWithin (λ m. key_cmp (key_of m) q ≡ Less) rows c.args.at next) c.key-from.ensures c.step-next.ensures.below in
+    let gap = subst (λ q. AllWithin (λ m. key_cmp (key_of m) q ≡ Greater) rows next (length rows)) c.key-from.ensures (c.is_at.ensures.above c.if-is_at.false) in
+    let made = merged_before c.args.merged.now.items rows c.args.at next c.args.change.now c.requires.merged.joined c.step-next.ensures.order gap
+    (copied_below c.args.merged.now.items rows c.args.at next (key_changed c.args.change.now) c.step-next.ensures.order c.step-next.ensures.bound c.requires.below copied) in
+    record {
+      bound = c.step-next.ensures.bound;
+      changed = rw (c.put_behind.ensures.items, c.extend_within.ensures.items) made.0;
+      joined = rw (c.put_behind.ensures.items, c.extend_within.ensures.items) made.1;
+      longer = omega (arith, c.step-next.ensures.order, c.step-next.ensures.bound, c.extend_within.ensures.len, c.put_behind.ensures.longer, length-between rows c.args.at next c.step-next.ensures.bound);
+    }
+
+pub returns-clause-below : goal.returns-clause-below
+returns-clause-below c k less =
+    let rows = c.args.rows.now in
+    let next = c.step-next.result in
+    let copied = subst (λ q. AllWithin (λ m. key_cmp (key_of m) q ≡ Less) rows c.args.at next) c.key-from.ensures c.step-next.ensures.below in
+    rw (c.put_behind.ensures.items, c.extend_within.ensures.items)
+    (put_below _ c.args.change.now k (copied_below c.args.merged.now.items rows c.args.at next (key_changed c.args.change.now) c.step-next.ensures.order c.step-next.ensures.bound c.requires.below copied) less)
+
+pub returns-clause-ends : goal.returns-clause-ends
+returns-clause-ends c =
+    c.put_behind.ensures.ends
+    (rw (c.extend_within.ensures.items, c.extend_within-2.ensures.items)
+    (ends_joined c.args.merged.now.items _ c.args.routers.now c.args.merged_ends.now.items _ c.requires.ends_merged (ends_between c.args.rows.now c.args.routers.now c.args.ends.now c.args.at c.step-next.result c.requires.ends)))

@@ -1,0 +1,96 @@
+//! Rows that break off at each byte.
+
+use super::rows::{only_row, words_of};
+use std::alloc::Global;
+use std::process::Abort;
+use std::test::Fail;
+
+/// Rows, and from which number of bytes on their front is refused with which words, or read.
+const ROWS: [(&[u8], &[(usize, &str)]); 5] = [
+    (
+        b"put,1.1.1.1,10.0.12.1,2.2.2.2,10.0.12.2,10,0x1,1000,1000,1000,1000,1000,1000,1000,1000",
+        &[(0, "kind"), (3, "fields"), (82, "number 15"), (83, "read")],
+    ),
+    (
+        b"drop,1.1.1.1,10.0.12.1",
+        &[(0, "kind"), (4, "fields"), (13, "address 3"), (22, "read")],
+    ),
+    (
+        b"end,1,12",
+        &[(0, "kind"), (3, "fields"), (6, "number 3"), (7, "read")],
+    ),
+    (
+        b"ask,7,1.1.1.1,2.2.2.2,0,1000,0x1,0x2,0x4,",
+        &[(0, "kind"), (3, "fields"), (41, "read")],
+    ),
+    (
+        b"ask,7,1.1.1.1,2.2.2.2,0,1000,0x1,0x2,0x4,10.9.0.0/16s 4.4.4.4/32l",
+        &[
+            (0, "kind"),
+            (3, "fields"),
+            (41, "read"),
+            (42, "hops 1"),
+            (53, "read"),
+            (54, "hops 2"),
+            (65, "read"),
+        ],
+    ),
+];
+
+/// The words for this many bytes.
+fn words_at(words: &[(usize, &'static str)], bytes: usize) -> &'static str {
+    let mut found = "";
+    for &(from, word) in words {
+        if from <= bytes {
+            found = word;
+        }
+    }
+    found
+}
+
+/// Fails where a text isn't read with these words.
+fn is_said<R: Abort>(rt: &R, alloc: Global, text: &[u8], words: &str) -> Result<(), Fail> {
+    let found = words_of(alloc, only_row(alloc, text)?)?;
+    assert!(rt; found.as_str() == words, "{text:?}: {found}");
+    Ok(())
+}
+
+#[test]
+fn rows_cut_at_each_byte(rt: HostRuntime) -> Result<(), Fail> {
+    for (row, words) in ROWS {
+        for bytes in 0..row.len() + 1 {
+            let front = row.get(..bytes).unwrap_or(&[]);
+            is_said(&rt, rt.alloc(), front, words_at(words, bytes))?;
+        }
+    }
+    Ok(())
+}
+
+/// A request whose hops are an object of 20 bytes, behind 41 bytes.
+const OBJECT: &[u8] = b"ask,7,1.1.1.1,2.2.2.2,0,1000,0x1,0x2,0x4,\
+ero:0014140181080a00000008010108040404042000";
+
+/// The words for this many hexadecimal digits of the object.
+fn words_at_digit(digits: usize) -> &'static str {
+    match digits {
+        40 => "read",
+        digits if digits % 2 == 1 => "hops hex",
+        0..=7 => "hops ero short",
+        _ => "hops ero length",
+    }
+}
+
+#[test]
+fn objects_cut_at_each_digit(rt: HostRuntime) -> Result<(), Fail> {
+    assert_eq!(rt; OBJECT.len(), 85);
+    for bytes in 41..86 {
+        let front = OBJECT.get(..bytes).unwrap_or(&[]);
+        let words = match bytes {
+            41 => "read",
+            42..=44 => "hops 1",
+            _ => words_at_digit(bytes - 45),
+        };
+        is_said(&rt, rt.alloc(), front, words)?;
+    }
+    Ok(())
+}

@@ -1,0 +1,81 @@
+ghost use Rattle.std.specs.Prelude.{◌≡◌, ◌<◌, ◌≤◌, ℕ, false, IfSome, OnOk, length};
+ghost use Rattle.cspf_db.specs.declared.limits.TheConstants.{MOST_ROUTERS};
+
+use cspf_db::MOST_ROUTERS;
+use std::alloc::{AllocError, Global};
+use std::cmp::Reverse;
+use std::collections::BinaryHeap;
+
+/// The bound of a router that waits, and its index in the list of routers.
+type Waiting = Reverse<(u32, u16)>;
+
+/// How far a search against the links is in a leg.
+#[derive(Drop)]
+pub(crate) struct Ring {
+    /// For each router the least bound of it that was found.
+    pub(crate) near: Vec<u32>,
+    /// For each router whether the links that arrive there were all looked at.
+    pub(crate) done: Vec<bool>,
+    /// The routers that wait.
+    pub(crate) heap: BinaryHeap<Waiting, Global>,
+    ghost bounds: { length near.items ≡ MOST_ROUTERS },
+    ghost marks: { length done.items ≡ MOST_ROUTERS },
+}
+
+impl Ring {
+    ghost use Rattle.cspf_search.specs.Bounds.{Falls, bound_at, is_done};
+
+    /// Nothing is done.
+    pub(crate) fn new(alloc: Global) -> Result<Self, AllocError> {
+        Ok(Ring {
+            near: Vec::from_elem(alloc, 0u32, MOST_ROUTERS)?,
+            done: Vec::from_elem(alloc, false, MOST_ROUTERS)?,
+            heap: BinaryHeap::new(alloc),
+        })
+    }
+
+    /// Lowers the bound of the router at an index, which then waits, if this is less.
+    pub(crate) fn lower(&mut self, from: u16, ahead: u32) -> Result<(), AllocError>
+        requires within { from < MOST_ROUTERS }
+        ensures falls { OnOk result (Falls self.old self.new) }
+        ensures low { OnOk result (bound_at self.new.near.items from ≤ ahead) }
+    {
+        let at = usize::from(from);
+        if self.near[at] <= ahead {
+            return Ok(());
+        }
+        self.near[at] = ahead;
+        self.done[at] = false;
+        self.heap.push(Reverse((ahead, from)))?;
+        Ok(())
+    }
+
+    /// The index of the router that waits with the least bound, if one waits.
+    pub(crate) fn nearest(&mut self) -> Option<usize>
+        ensures within { IfSome result (λ at. at < MOST_ROUTERS) }
+        ensures bounds { self.new.near ≡ self.old.near }
+        ensures marks { self.new.done ≡ self.old.done }
+    {
+        while let Some(Reverse((ahead, at))) = self.heap.pop() {
+            let at = usize::from(at);
+            if at < MOST_ROUTERS && !self.done[at] && self.near[at] == ahead {
+                return Some(at);
+            }
+        }
+        None
+    }
+
+    /// The least bound of a router that isn't done.
+    pub(crate) fn edge(&self) -> u32
+        ensures { (w : ℕ) → w < MOST_ROUTERS → is_done self.now w ≡ false
+            → result ≤ bound_at self.now.near.items w }
+    {
+        let mut least = u32::MAX;
+        for place in 0..MOST_ROUTERS {
+            if !self.done[place] && self.near[place] < least {
+                least = self.near[place];
+            }
+        }
+        least
+    }
+}

@@ -1,0 +1,70 @@
+use crate::BatchRefusal;
+use crate::apply_words::ApplyWords;
+use cspf_publish::ApplyError;
+use cspf_rows::RowError;
+use std::alloc::{AllocError, Global};
+use std::fmt;
+
+/// A line of a run, unless it is the reply to a request.
+#[derive(Clone, Copy)]
+pub(crate) enum Line {
+    /// The row with this number is refused.
+    RefusedRow { row: u32, error: RowError },
+    /// A batch is accepted, which makes this version.
+    Version { version: u32 },
+    /// The batch with this number is refused.
+    RefusedBatch { number: u32, refusal: BatchRefusal },
+    /// This many changes are taken by no batch.
+    Unended { count: u32 },
+    /// In place of rows that aren't read.
+    TooManyRows,
+    /// A journal has this many batches, and rows behind them.
+    Torn { count: usize },
+    /// The request row with this number is refused.
+    RefusedRequest { row: u32, error: RowError },
+    /// This many batches were published.
+    Applied { count: u32 },
+    /// The batch with this number isn't published.
+    Unpublished { number: u32, error: ApplyError },
+}
+
+impl fmt::Display for Line {
+    ghost use Rattle.std.specs.Prelude.{Some};
+    ghost use Rattle.cspf_serve.specs.LineTexts.{line_text};
+
+    ghost output = { λ line. Some (line_text line) };
+
+    fn fmt<W: fmt::Write>(&self, f: &mut fmt::Formatter<W>) -> fmt::Result {
+        match *self {
+            Line::RefusedRow { row, error } => write!(f, "row {row} refused: {error}\n"),
+            Line::Version { version } => write!(f, "version {version}\n"),
+            Line::RefusedBatch { number, refusal } => write!(
+                f,
+                "batch {number} refused: {refusal}\n"
+            ),
+            Line::Unended { count } => write!(f, "unended {count}\n"),
+            Line::TooManyRows => f.write_str("too many rows\n"),
+            Line::Torn { count } => write!(f, "journal torn after {count}\n"),
+            Line::RefusedRequest { row, error } => write!(
+                f,
+                "request row {row} refused: {error}\n"
+            ),
+            Line::Applied { count } => write!(f, "applied {count}\n"),
+            Line::Unpublished { number, error } => {
+                write!(f, "batch {number} refused: {}\n", ApplyWords { error })
+            }
+        }
+    }
+}
+
+impl Line {
+    ghost use Rattle.std.specs.Prelude.{◌≡◌, IfOk};
+    ghost use Rattle.cspf_serve.specs.LineTexts.{line_text};
+
+    /// Its bytes, the line feed too.
+    pub(crate) fn bytes(self, alloc: Global) -> Result<Vec<u8>, AllocError>
+        ensures { IfOk result (λ bytes. bytes.items ≡ line_text self) }
+    {
+        Ok(format!(in alloc; "{self}")?.into_bytes())
+    }
+}

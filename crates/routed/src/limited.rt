@@ -1,0 +1,57 @@
+//! A new file that stops at the process's limit of a file's size, as a full device does.
+ghost use Rattle.std.specs.Prelude.{◌≡◌};
+
+use std::io::{ErrorKind, Write};
+use std::{fs, io};
+
+/// Where the system tells a process its limits, as proc(5) has it.
+const LIMITS: &str = "/proc/self/limits";
+
+/// What begins the line of a file's size. The limit in force follows, in bytes or `unlimited`.
+const FILE_SIZE: &str = "Max file size";
+
+/// The most bytes that a file of this process may have, where the system tells it.
+fn most_bytes(rt: &HostRuntime) -> Option<u64> {
+    let limits = fs::read_to_string(rt, LIMITS).ok()?;
+    let line = limits
+        .lines()
+        .find_map(|line| line.strip_prefix(FILE_SIZE))?;
+    line.split_whitespace().next()?.parse().ok()
+}
+
+/// A writer to a new file. A write that begins at the limit of a file's size is an error, where the
+/// system's own ends the process by a signal.
+#[derive(Drop)]
+pub struct Limited<W> {
+    file: W,
+    room: u64,
+}
+
+impl<W> Limited<W> {
+    /// Nothing has been written to the file.
+    pub fn new(rt: &HostRuntime, file: W) -> Limited<W>
+        ensures { result.file ≡ file }
+    {
+        Limited {
+            file,
+            room: most_bytes(rt).unwrap_or(u64::MAX),
+        }
+    }
+}
+
+impl<W: Write> Write for Limited<W> {
+    ghost contents = { λ w. W.contents w.file };
+
+    fn write(&mut self, buf: &[u8]) -> io::Result<usize> {
+        if self.room == 0 && !buf.is_empty() {
+            return Err(io::Error::from(ErrorKind::FileTooLarge));
+        }
+        let put = self.file.write(buf)?;
+        self.room = self.room.saturating_sub(put as u64);
+        Ok(put)
+    }
+
+    fn flush(&mut self) -> io::Result<()> {
+        self.file.flush()
+    }
+}

@@ -1,0 +1,65 @@
+//! Why the program stops: what `--explain` says before its last line.
+
+use crate::noted::{Action, Fault};
+use cspf_serve::{RunError, SolveError};
+use std::alloc::AllocError;
+use std::{fmt, io};
+
+/// Why the program stops.
+#[derive(Drop)]
+pub enum Stopped {
+    /// Memory was refused.
+    Memory,
+    /// A call on a file or a stream failed.
+    Device(Fault),
+    /// Another error of `solve`.
+    Solve(SolveError),
+    /// Another error of `batch` or `live`.
+    Run(RunError),
+}
+
+impl Stopped {
+    /// This call on this device failed.
+    pub fn by(device: &'static str, action: Action, error: io::Error) -> Stopped {
+        Stopped::Device(Fault::new(device, action, error))
+    }
+
+    /// The error of `solve`, where these are the last calls on its devices that failed.
+    pub fn solving(error: SolveError, read: Option<Fault>, written: Option<Fault>) -> Stopped {
+        let noted = match &error {
+            SolveError::Memory => return Stopped::Memory,
+            SolveError::Read => read,
+            SolveError::Write { .. } => written,
+        };
+        match noted {
+            Some(fault) => Stopped::Device(fault),
+            None => Stopped::Solve(error),
+        }
+    }
+
+    /// The error of `batch` or `live`, where this is the call on a device that failed, if any.
+    pub fn running(error: RunError, noted: Option<Fault>) -> Stopped {
+        match (error, noted) {
+            (RunError::Memory, _) => Stopped::Memory,
+            (RunError::Device, Some(fault)) => Stopped::Device(fault),
+            (error, _) => Stopped::Run(error),
+        }
+    }
+}
+
+impl From<AllocError> for Stopped {
+    fn from(_refused: AllocError) -> Stopped {
+        Stopped::Memory
+    }
+}
+
+impl fmt::Display for Stopped {
+    fn fmt<W: fmt::Write>(&self, f: &mut fmt::Formatter<W>) -> fmt::Result {
+        match self {
+            Stopped::Memory => f.write_str("out of memory"),
+            Stopped::Device(fault) => write!(f, "{fault}"),
+            Stopped::Solve(error) => write!(f, "{error}"),
+            Stopped::Run(error) => write!(f, "{error}"),
+        }
+    }
+}

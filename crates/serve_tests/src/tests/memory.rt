@@ -1,0 +1,94 @@
+//! Memory is refused: each test passes with ample memory, and where any of its allocations is
+//! refused, alone or with all behind it. It then ends with the whole output and its status, or with
+//! the named refusal. Nothing but the writer is allocated for a test, so a refused one ends it.
+
+use cspf_serve::{NoGate, RunError, ServeError, SolveError, Summary, run_batch, run_solve};
+use std::alloc::Global;
+use std::sync::Wait;
+use std::thread::Threads;
+
+/// More bytes than any run here writes, so that a writer takes no memory.
+const ROOM: usize = 200;
+
+/// The link, with a row behind its batch that is cut off.
+const TORN: &[u8] =
+    b"put,1.1.1.1,10.0.12.1,2.2.2.2,10.0.12.2,10,0x1,1000,1000,1000,1000,1000,1000,1000,1000\nend,1,1\nput,2.2.2.2,10.0.1";
+
+/// A request for all of the link's bandwidth.
+const REQUEST: &[u8] = b"ask,7,1.1.1.1,2.2.2.2,0,1000,0x0,0x0,0x0,\n";
+
+/// The link and the request.
+const ONE_LINK: &[u8] =
+    b"put,1.1.1.1,10.0.12.1,2.2.2.2,10.0.12.2,10,0x1,1000,1000,1000,1000,1000,1000,1000,1000\nend,1,1\nask,7,1.1.1.1,2.2.2.2,0,1000,0x0,0x0,0x0,\n";
+
+const LINES_OF_ONE_LINK: &[u8] =
+    b"version 1\nask 7 v1 route cost=10 hops=1 again=no ero=000c140101080a000c022000\n";
+
+/// Three links, and a route that visits its tail-end twice.
+const LOOSE_HOP: &[u8] =
+    b"put,1.1.1.1,10.0.12.1,2.2.2.2,10.0.12.2,10,0x1,1000,1000,1000,1000,1000,1000,1000,1000\nput,2.2.2.2,10.0.23.2,3.3.3.3,10.0.23.3,10,0x1,1000,1000,1000,1000,1000,1000,1000,1000\nput,3.3.3.3,10.0.23.3,2.2.2.2,10.0.23.2,10,0x1,1000,1000,1000,1000,1000,1000,1000,1000\nend,1,3\nask,5,1.1.1.1,2.2.2.2,0,1,0x0,0x0,0x0,3.3.3.3/32l\n";
+
+const LINES_OF_LOOSE_HOP: &[u8] =
+    b"version 1\nask 5 v1 route cost=30 hops=3 again=yes ero=001c140101080a000c02200001080a001703200001080a0017022000\n";
+
+/// Whether a run over a script of some rows, one batch and one request, answers and writes all, or
+/// says that memory is refused, with a beginning of the lines written.
+fn ends_whole_or_refused(alloc: Global, script: &[u8], rows: u32, lines: &[u8]) -> bool {
+    let Ok(mut held) = Vec::with_capacity(alloc, ROOM) else {
+        return true;
+    };
+    let whole = Summary {
+        rows,
+        version: 1,
+        answers: 1,
+        refused: 0,
+        too_many: false,
+    };
+    match run_solve(alloc, script, &mut held) {
+        Ok(summary) => summary == whole && held.as_slice() == lines,
+        Err(error) => error == SolveError::Memory && lines.starts_with(held.as_slice()),
+    }
+}
+
+#[test]
+fn solves_one_link(rt: HostRuntime) {
+    assert!(rt; ends_whole_or_refused(rt.alloc(), ONE_LINK, 3, LINES_OF_ONE_LINK));
+}
+
+#[test]
+fn solves_a_loose_hop(rt: HostRuntime) {
+    assert!(rt; ends_whole_or_refused(rt.alloc(), LOOSE_HOP, 5, LINES_OF_LOOSE_HOP));
+}
+
+/// What a run over the torn journal and the request, by two workers, answers, and what it writes. No
+/// answer where the writer is refused.
+fn run_torn<T: Threads + Wait + Sync>(
+    rt: &T,
+    alloc: Global,
+    accept_torn: bool,
+) -> Option<(Result<u8, RunError>, Vec<u8>)> {
+    let Ok(mut held) = Vec::with_capacity(alloc, ROOM) else {
+        return None;
+    };
+    let found = run_batch(rt, alloc, TORN, REQUEST, &mut held, 2, accept_torn, &NoGate);
+    Some((found, held))
+}
+
+/// The journal is refused before the requests are read, so no worker meets the refused memory.
+#[test]
+fn refuses_a_torn_journal(rt: HostRuntime) {
+    if let Some((found, held)) = run_torn(&rt, rt.alloc(), false) {
+        let whole = found == Ok(2) && held.as_slice() == b"journal torn after 1\n".as_slice();
+        assert!(rt; whole || found == Err(RunError::Memory));
+    }
+}
+
+#[test]
+fn accepts_a_torn_journal(rt: HostRuntime) {
+    if let Some((found, held)) = run_torn(&rt, rt.alloc(), true) {
+        let whole = found == Ok(0) && held.as_slice() == LINES_OF_ONE_LINK;
+        let refused = found == Err(RunError::Memory)
+            || found == Err(RunError::Serve(ServeError::Memory));
+        assert!(rt; whole || refused);
+    }
+}

@@ -1,0 +1,85 @@
+//! A gate that counts, and waits of gates.
+
+use cspf_serve::Gate;
+use std::alloc::{AllocError, Global};
+use std::sync::atomic::{AtomicU64, Ordering};
+use std::thread;
+
+/// The turns that a gate waits before it notes a fault.
+const TURNS: u32 = 1_000_000;
+
+/// Counts what is reached and answered, by index.
+#[derive(Drop)]
+pub(crate) struct Counts {
+    reached: Vec<AtomicU64>,
+    answered: Vec<AtomicU64>,
+    /// How many requests have to be reached before any is asked.
+    all: u64,
+    came: AtomicU64,
+    faults: AtomicU64,
+}
+
+impl Counts {
+    pub(crate) fn new(alloc: Global, count: usize) -> Result<Counts, AllocError> {
+        Ok(Counts {
+            reached: zeros(alloc, count)?,
+            answered: zeros(alloc, count)?,
+            all: count as u64,
+            came: AtomicU64::new(0),
+            faults: AtomicU64::new(0),
+        })
+    }
+
+    /// Whether each index was reached once and answered once, and no wait was in vain.
+    pub(crate) fn is_whole(&self) -> bool {
+        self.faults.load(Ordering::SeqCst) == 0
+            && self.came.load(Ordering::SeqCst) == self.all
+            && are_ones(&self.reached)
+            && are_ones(&self.answered)
+    }
+}
+
+fn are_ones(counts: &[AtomicU64]) -> bool {
+    for count in counts {
+        if count.load(Ordering::SeqCst) != 1 {
+            return false;
+        }
+    }
+    true
+}
+
+pub(crate) fn zeros(alloc: Global, count: usize) -> Result<Vec<AtomicU64>, AllocError> {
+    let mut zeros = Vec::with_capacity(alloc, count)?;
+    for _ in 0..count {
+        zeros.push(AtomicU64::new(0))?;
+    }
+    Ok(zeros)
+}
+
+/// Waits until the word is no less, and notes a fault where that takes too many turns.
+pub(crate) fn wait_for(word: &AtomicU64, least: u64, faults: &AtomicU64) {
+    for _ in 0..TURNS {
+        if word.load(Ordering::SeqCst) >= least {
+            return;
+        }
+        thread::yield_now();
+    }
+    faults.fetch_add(1, Ordering::SeqCst);
+}
+
+/// Holds each request until all are reached.
+impl Gate for Counts {
+    fn reached(&self, _worker: usize, index: usize) {
+        if index < self.reached.len() {
+            self.reached[index].fetch_add(1, Ordering::SeqCst);
+        }
+        self.came.fetch_add(1, Ordering::SeqCst);
+        wait_for(&self.came, self.all, &self.faults);
+    }
+
+    fn answered(&self, _worker: usize, index: usize) {
+        if index < self.answered.len() {
+            self.answered[index].fetch_add(1, Ordering::SeqCst);
+        }
+    }
+}

@@ -1,0 +1,85 @@
+//! What the tests share: a link, batches, requests and publishers.
+ghost use Rattle.std.specs.Prelude.{◌≡◌, ◌≤◌, All, IfOk, vec_len};
+ghost use Rattle.cspf_work.specs.declared.limits.TheConstants.{MOST_REQUESTS};
+
+use cspf_addr::{Addr, Hops, Mask};
+use cspf_db::{Batch, Change, Link, LinkError, Request, RequestError};
+use cspf_publish::{Asker, Publisher, open};
+use cspf_search::Outcome;
+use std::alloc::Global;
+use std::io::Write;
+use std::process::Abort;
+use std::sync::Wait;
+use std::test::Fail;
+
+/// A link of this metric with 1,000 bytes per second unreserved, from 1.1.1.1 by 10.0.12.1 to 2.2.2.2.
+pub(crate) fn link(metric: u32) -> Result<Link, LinkError> {
+    let (from, local) = (Addr::new(0x01010101), Addr::new(0x0a000c01));
+    let (to, remote) = (Addr::new(0x02020202), Addr::new(0x0a000c02));
+    Link::new(from, local, to, remote, metric, Mask::new(1), [1000; 8])
+}
+
+/// The batch with this number that puts the link of metric 10.
+pub(crate) fn link_batch(alloc: Global, number: u32) -> Result<Batch, Fail> {
+    Ok(Batch {
+        number,
+        changes: Vec::from_slice(alloc, &[Change::Put(link(10)?)])?,
+    })
+}
+
+/// A request from 1.1.1.1, or from 9.9.9.9, to 2.2.2.2.
+pub(crate) fn request(id: u64, from: u32, bandwidth: u64) -> Result<Request, RequestError> {
+    let any = Mask::new(0);
+    Request::new(
+        id,
+        Addr::new(from),
+        Addr::new(0x02020202),
+        0,
+        bandwidth,
+        any,
+        any,
+        any,
+        Hops::none(),
+    )
+}
+
+/// The same request `count` times.
+pub(crate) fn requests(alloc: Global, count: usize) -> Result<Vec<Request>, Fail>
+    requires { count ≤ MOST_REQUESTS }
+    ensures { IfOk result (λ all. vec_len all ≡ count) }
+{
+    let one = request(7, 0x01010101, 1000)?;
+    Ok(Vec::from_elem(alloc, one, count)?)
+}
+
+pub(crate) fn cost(outcome: &Outcome) -> u64 {
+    match outcome {
+        Outcome::Route(route) => route.cost(),
+        _ => 0,
+    }
+}
+
+/// A publisher without a batch, and some askers.
+pub(crate) fn opened<W: Write + Drop, R: Wait + Abort>(
+    rt: &R,
+    alloc: Global,
+    journal: W,
+    askers: usize,
+) -> (Publisher<W>, Vec<Asker>)
+    ensures count { vec_len result.1 ≡ askers }
+    ensures source { All (λ a. a.source ≡ result.0.source) result.1.items }
+{
+    match open(rt, alloc, journal, askers) {
+        Ok(opened) => opened,
+        Err(_) => panic!(rt; "no publisher"),
+    }
+}
+
+pub(crate) fn are_at_version_1(askers: &[Asker]) -> bool {
+    for asker in askers {
+        if asker.seen() != 1 {
+            return false;
+        }
+    }
+    true
+}

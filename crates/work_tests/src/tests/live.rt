@@ -1,0 +1,204 @@
+//! Live runs: what is applied beside the workers, and what is left.
+ghost use Rattle.std.specs.Prelude.{◌≡◌, ◌<◌, ◌≤◌, length, All, vec_len};
+ghost use Rattle.cspf_publish.specs.declared.limits.TheConstants.{MOST_ASKERS};
+ghost use Rattle.cspf_work.specs.declared.limits.TheConstants.{MOST_REQUESTS};
+
+use super::counts::wait_for;
+use super::fixtures::{are_at_version_1, cost, link_batch, opened, requests};
+use cspf_db::{Batch, Request};
+use cspf_publish::{Answer, ApplyError, Asker, Publisher};
+use cspf_search::Outcome;
+use cspf_serve::{Gate, Live, NoGate, run_live};
+use std::alloc::Global;
+use std::io;
+use std::io::Write;
+use std::process::Abort;
+use std::sync::Wait;
+use std::sync::atomic::{AtomicU64, Ordering};
+use std::test::Fail;
+use std::thread::Threads;
+
+/// What a live run leaves once its publisher is closed.
+#[derive(Drop)]
+pub(crate) struct Closed<W> {
+    pub(crate) journal: W,
+    /// The published version.
+    pub(crate) version: u32,
+    pub(crate) list: Vec<Answer>,
+    pub(crate) askers: Vec<Asker>,
+    pub(crate) applied: u32,
+    pub(crate) fault: Option<ApplyError>,
+}
+
+/// Runs live, and closes the publisher.
+pub(crate) fn run_and_close<W: Write + Drop, G: Gate + Sync, R: Threads + Wait + Abort + Sync>(
+    rt: &R,
+    alloc: Global,
+    opened: (Publisher<W>, Vec<Asker>),
+    batches: &[Batch],
+    requests: &[Request],
+    gate: &G,
+) -> Closed<W>
+    requires askers { (0 < vec_len opened.1) × (vec_len opened.1 ≤ MOST_ASKERS) }
+    requires source { All (λ a. a.source ≡ opened.0.source) opened.1.items }
+    requires requests { length requests.now ≤ MOST_REQUESTS }
+{
+    let (publisher, askers) = opened;
+    let ran = run_live(rt, alloc, publisher, askers, batches, requests, gate);
+    let Ok(live) = ran else { panic!(rt; "not run") };
+    let Live {
+        publisher,
+        list,
+        drawn: _,
+        askers,
+        applied,
+        fault,
+    } = live;
+    let version = publisher.version();
+    Closed {
+        journal: publisher.close(rt),
+        version,
+        list,
+        askers,
+        applied,
+        fault,
+    }
+}
+
+/// The second request and the journal's first write wait for each other.
+#[derive(Drop)]
+struct Meeting {
+    asked: AtomicU64,
+    written: AtomicU64,
+    faults: AtomicU64,
+}
+
+impl Gate for Meeting {
+    fn reached(&self, _worker: usize, index: usize) {
+        if index == 1 {
+            self.asked.fetch_add(1, Ordering::SeqCst);
+            wait_for(&self.written, 1, &self.faults);
+        }
+    }
+
+    fn answered(&self, _worker: usize, _index: usize) {}
+}
+
+/// A journal in memory whose first write waits for the second request.
+#[derive(Drop)]
+struct MeetingJournal<'a> {
+    held: Vec<u8>,
+    meeting: &'a Meeting,
+}
+
+impl<'a> Write for MeetingJournal<'a> {
+    fn write(&mut self, buf: &[u8]) -> io::Result<usize> {
+        self.meeting.written.fetch_add(1, Ordering::SeqCst);
+        wait_for(&self.meeting.asked, 1, &self.meeting.faults);
+        self.held.write(buf)
+    }
+
+    fn flush(&mut self) -> io::Result<()> {
+        Ok(())
+    }
+}
+
+/// A batch is applied where nothing is asked.
+#[test]
+fn applies_alone(rt: HostRuntime) -> Result<(), Fail> {
+    let batch = link_batch(rt.alloc(), 1)?;
+    let opened = opened(&rt, rt.alloc(), Vec::<u8>::new(rt.alloc()), 1);
+    let left = run_and_close(&rt, rt.alloc(), opened, &[batch], &[], &NoGate);
+    assert_eq!(rt;
+        (left.journal.len(), left.version, left.applied),
+        (102, 1, 1)
+    );
+    assert!(rt; left.fault.is_none() && left.list.is_empty());
+    assert!(rt; left.askers.len() == 1 && are_at_version_1(&left.askers));
+    Ok(())
+}
+
+/// Whether a live run leaves the route of the link as the one answer, at a version from 1 to the
+/// published one.
+fn is_one_answer(list: &[Answer], version: u32) -> bool {
+    match list {
+        [answer] => {
+            answer.id == 7
+                && cost(&answer.outcome) == 10
+                && answer.version >= 1
+                && answer.version <= version
+        }
+        _ => false,
+    }
+}
+
+/// A request is answered while an empty batch with this number is applied to the database of one
+/// link: how many batches are applied, the version at the end, and why the batch is refused.
+fn applies_beside<R: Threads + Wait + Abort + Sync>(
+    rt: &R,
+    alloc: Global,
+    number: u32,
+) -> Result<(u32, u32, Option<ApplyError>), Fail> {
+    let first = link_batch(alloc, 1)?;
+    let all = requests(alloc, 1)?;
+    let next = Batch {
+        number,
+        changes: Vec::new(alloc),
+    };
+    let (mut publisher, mut askers) = opened(rt, alloc, Vec::<u8>::new(alloc), 1);
+    assert!(rt; publisher.apply(rt, alloc, &first) == Ok(1));
+    askers[0].learn(publisher.tell());
+    let left = run_and_close(
+        rt,
+        alloc,
+        (publisher, askers),
+        &[next],
+        all.as_slice(),
+        &NoGate,
+    );
+    assert!(rt; is_one_answer(&left.list, left.version));
+    Ok((left.applied, left.version, left.fault))
+}
+
+/// The next batch is applied, and one with another number is refused.
+#[test]
+fn applies_the_next(rt: HostRuntime) -> Result<(), Fail> {
+    assert_eq!(rt; applies_beside(&rt, rt.alloc(), 2)?, (1, 2, None));
+    let refused = Some(ApplyError::WrongNumber { expected: 2 });
+    assert_eq!(rt; applies_beside(&rt, rt.alloc(), 3)?, (0, 1, refused));
+    Ok(())
+}
+
+/// Whether the first of two answers is of no batch, and the second of one at most.
+fn are_around_a_batch(list: &[Answer]) -> bool {
+    match list {
+        [first, last] => {
+            first.version == 0
+                && matches!(&first.outcome, Outcome::UnknownFrom)
+                && last.version <= 1
+        }
+        _ => false,
+    }
+}
+
+/// The publisher writes a batch while a worker is between two requests.
+#[test]
+fn applies_at_once(rt: HostRuntime) -> Result<(), Fail> {
+    let batch = link_batch(rt.alloc(), 1)?;
+    let all = requests(rt.alloc(), 2)?;
+    let meeting = Meeting {
+        asked: AtomicU64::new(0),
+        written: AtomicU64::new(0),
+        faults: AtomicU64::new(0),
+    };
+    let journal = MeetingJournal {
+        held: Vec::new(rt.alloc()),
+        meeting: &meeting,
+    };
+    let opened = opened(&rt, rt.alloc(), journal, 1);
+    let asked = all.as_slice();
+    let left = run_and_close(&rt, rt.alloc(), opened, &[batch], asked, &meeting);
+    assert!(rt; left.journal.held.len() == 102 && left.applied == 1 && left.fault.is_none());
+    assert!(rt; meeting.faults.load(Ordering::SeqCst) == 0 && are_around_a_batch(&left.list));
+    Ok(())
+}

@@ -1,0 +1,270 @@
+//! Memory is refused, as by `rt try --test --fail-alloc N -- memory`: a call answers in full, or that
+//! memory is refused, and then its askers still answer. Where it is refused before, the test ends.
+ghost use Rattle.std.specs.Prelude.{◌≡◌, ◌≤◌, All, IfOk, vec_len};
+
+use super::fixtures::{link, request};
+use cspf_db::{Batch, Change, Request};
+use cspf_publish::{Answer, ApplyError, AskError, Asker, OpenError, Publisher, open};
+use cspf_search::Outcome;
+use cspf_serve::{Live, NoGate, ServeError, answer_all, run_live};
+use std::alloc::{AllocError, Global};
+use std::process::Abort;
+use std::sync::Wait;
+use std::thread::Threads;
+
+/// The texts of the batches 1 and 2.
+const TEXTS: &[u8] = b"put,1.1.1.1,10.0.12.1,2.2.2.2,10.0.12.2,10,0x00000001,\
+1000,1000,1000,1000,1000,1000,1000,1000\nend,1,1\n\
+put,1.1.1.1,10.0.12.1,2.2.2.2,10.0.12.2,20,0x00000001,\
+1000,1000,1000,1000,1000,1000,1000,1000\nend,2,1\n";
+
+/// The bytes of each of the texts.
+const TEXT: usize = 102;
+
+/// The batch with this number, 1 or 2, which puts a link of ten times that as its metric.
+fn batch<R: Abort>(rt: &R, alloc: Global, number: u32) -> Result<Batch, AllocError> {
+    let metric = if number == 1 { 10 } else { 20 };
+    let Ok(link) = link(metric) else {
+        panic!(rt; "no link")
+    };
+    Ok(Batch {
+        number,
+        changes: Vec::from_slice(alloc, &[Change::Put(link)])?,
+    })
+}
+
+/// This many requests, each with its index as its id: from 1.1.1.1 where that is even, else from
+/// 9.9.9.9.
+fn requests<R: Abort>(rt: &R, alloc: Global, count: usize) -> Result<Vec<Request>, AllocError>
+    ensures { IfOk result (λ all. vec_len all ≤ 1000) }
+{
+    let mut all = Vec::with_capacity(alloc, count)?;
+    for index in 0..count {
+        let from = if index % 2 == 0 {
+            0x01010101
+        } else {
+            0x09090909
+        };
+        match request(index as u64, from, 1000) {
+            Ok(one) => all.push(one)?,
+            Err(_) => panic!(rt; "no request"),
+        }
+    }
+    assert!(rt; all.len() == count && count <= 1000);
+    Ok(all)
+}
+
+/// A publisher without a batch whose journal takes no memory for two, and two askers.
+fn opened<R: Wait + Abort>(
+    rt: &R,
+    alloc: Global,
+) -> Result<(Publisher<Vec<u8>>, Vec<Asker>), AllocError>
+    ensures count { IfOk result (λ opened. vec_len opened.1 ≡ 2) }
+    ensures source { IfOk result (λ opened. All (λ a. a.source ≡ opened.0.source) opened.1.items) }
+{
+    let journal = Vec::with_capacity(alloc, TEXTS.len())?;
+    match open(rt, alloc, journal, 2) {
+        Ok(opened) => Ok(opened),
+        Err((error, journal)) => {
+            assert!(rt; error == OpenError::Memory && journal.is_empty());
+            Err(AllocError)
+        }
+    }
+}
+
+/// Whether this is the answer to the request with this index at the answer's version.
+fn is_right(index: usize, answer: &Answer) -> bool {
+    let right = match &answer.outcome {
+        Outcome::Route(route) => {
+            let has_cost = match answer.version {
+                1 => route.cost() == 10,
+                2 => route.cost() == 20,
+                _ => false,
+            };
+            index % 2 == 0 && has_cost && route.links().len() == 1
+        }
+        Outcome::UnknownFrom => index % 2 == 1 || answer.version == 0,
+        _ => false,
+    };
+    right && answer.id == index as u64
+}
+
+/// Whether these are the answers to `count` requests, each at one of these versions.
+fn are_right(list: &[Answer], count: usize, least: u32, most: u32) -> bool {
+    for (index, answer) in list.iter().enumerate() {
+        if !is_right(index, answer) || answer.version < least || answer.version > most {
+            return false;
+        }
+    }
+    list.len() == count
+}
+
+/// Whether two workers drew each of `count` indexes once.
+fn are_drawn_once(drawn: &[Vec<usize>], count: usize) -> bool {
+    let [first, second] = drawn else {
+        return false;
+    };
+    for index in 0..count {
+        if first.contains(&index) == second.contains(&index) {
+            return false;
+        }
+    }
+    first.len().wrapping_add(second.len()) == count
+}
+
+/// Whether an asker answers each request at this version, or that memory is refused.
+fn still_answers(alloc: Global, asker: &mut Asker, requests: &[Request], version: u32) -> bool {
+    for (index, request) in requests.iter().enumerate() {
+        let right = match asker.ask(alloc, request) {
+            Ok(answer) => is_right(index, &answer) && answer.version == version,
+            Err(error) => error == AskError::Memory,
+        };
+        if !right {
+            return false;
+        }
+    }
+    true
+}
+
+/// Whether these are two askers that still answer.
+fn still_answer(alloc: Global, askers: Vec<Asker>, requests: &[Request], version: u32) -> bool {
+    let two = askers.len() == 2;
+    for asker in askers {
+        let mut asker = asker;
+        if !still_answers(alloc, &mut asker, requests, version) {
+            return false;
+        }
+    }
+    two
+}
+
+/// Two workers answer `count` requests, once the batch is published.
+fn answers<R: Threads + Wait + Abort + Sync>(
+    rt: &R,
+    alloc: Global,
+    count: usize,
+) -> Result<(), AllocError> {
+    let (first, all) = (batch(rt, alloc, 1)?, requests(rt, alloc, count)?);
+    let (mut publisher, askers) = opened(rt, alloc)?;
+    let applied = publisher.apply(rt, alloc, &first);
+    let version = publisher.version();
+    let (right, askers) = match answer_all(rt, alloc, askers, all.as_slice(), &NoGate) {
+        Ok(answers) => {
+            let right = are_right(&answers.list, count, version, version)
+                && are_drawn_once(&answers.drawn, count);
+            (right, answers.askers)
+        }
+        Err((error, askers)) => (error == ServeError::Memory, askers),
+    };
+    let answered = still_answer(alloc, askers, all.as_slice(), version);
+    publisher.close(rt);
+    let refused = version == 0 && applied == Err(ApplyError::Memory);
+    assert!(rt; refused || version == 1 && applied == Ok(1), "published");
+    assert!(rt; right, "answered");
+    assert!(rt; answered, "answered after");
+    Ok(())
+}
+
+#[test]
+fn two_requests(rt: HostRuntime) {
+    let _before = answers(&rt, rt.alloc(), 2);
+}
+
+/// What each worker answered grows while the other asks.
+#[test]
+fn hundred_requests(rt: HostRuntime) {
+    let _before = answers(&rt, rt.alloc(), 100);
+}
+
+/// The publisher and the askers of a live run over some requests and batches, and whether it left
+/// what is right: all batches applied, or those before one that memory was refused for, and askers
+/// that know them.
+fn parts_of(
+    live: Live<Vec<u8>>,
+    count: usize,
+    batches: usize,
+) -> (bool, Publisher<Vec<u8>>, Vec<Asker>) {
+    let Live {
+        applied,
+        fault,
+        list,
+        drawn,
+        askers,
+        publisher,
+    } = live;
+    let version = publisher.version();
+    let ended = if version as usize == batches {
+        fault.is_none()
+    } else {
+        fault == Some(ApplyError::Memory)
+    };
+    let right = ended
+        && applied == version
+        && askers.iter().all(|asker| asker.seen() == version)
+        && are_right(&list, count, 0, version)
+        && are_drawn_once(&drawn, count);
+    (right, publisher, askers)
+}
+
+/// Two workers answer five requests while batches are applied.
+fn runs_live<R: Threads + Wait + Abort + Sync>(
+    rt: &R,
+    alloc: Global,
+    batches: &[Batch],
+) -> Result<(), AllocError> {
+    let all = requests(rt, alloc, 5)?;
+    let (publisher, askers) = opened(rt, alloc)?;
+    let ran = run_live(
+        rt,
+        alloc,
+        publisher,
+        askers,
+        batches,
+        all.as_slice(),
+        &NoGate,
+    );
+    let (right, publisher, askers) = match ran {
+        Ok(live) => parts_of(live, 5, batches.len()),
+        Err((error, publisher, askers)) => (error == ServeError::Memory, publisher, askers),
+    };
+    let version = publisher.version();
+    let answered = still_answer(alloc, askers, all.as_slice(), version);
+    let journal = publisher.close(rt);
+    assert!(rt; right, "run");
+    assert!(rt; answered, "answered after");
+    assert!(rt; is_journal(&journal, version), "journal");
+    Ok(())
+}
+
+/// Whether a journal has the texts of the first batches.
+fn is_journal(journal: &[u8], version: u32) -> bool {
+    match version {
+        0 => journal.is_empty(),
+        1 => journal == &TEXTS[..TEXT],
+        _ => journal == TEXTS,
+    }
+}
+
+fn runs_one_batch<R: Threads + Wait + Abort + Sync>(
+    rt: &R,
+    alloc: Global,
+) -> Result<(), AllocError> {
+    runs_live(rt, alloc, &[batch(rt, alloc, 1)?])
+}
+
+fn runs_two_batches<R: Threads + Wait + Abort + Sync>(
+    rt: &R,
+    alloc: Global,
+) -> Result<(), AllocError> {
+    runs_live(rt, alloc, &[batch(rt, alloc, 1)?, batch(rt, alloc, 2)?])
+}
+
+#[test]
+fn one_batch(rt: HostRuntime) {
+    let _before = runs_one_batch(&rt, rt.alloc());
+}
+
+#[test]
+fn two_batches(rt: HostRuntime) {
+    let _before = runs_two_batches(&rt, rt.alloc());
+}

@@ -1,0 +1,129 @@
+"""Tests of tools/draw: what a picture shows, and that all of it is inside the picture."""
+import os
+import re
+import shutil
+import subprocess
+import tempfile
+import xml.etree.ElementTree as xml
+
+HERE = os.path.dirname(os.path.abspath(__file__))
+TOP = os.path.dirname(HERE)
+SVG = "{http://www.w3.org/2000/svg}"
+FREE = ",".join(["1000"] * 8)
+
+
+def link(router, local, neighbor, remote, group="0x1", free=FREE):
+    return f"put,{router},{local},{neighbor},{remote},10,{group},{free}\n"
+
+
+PAIR = link("1.1.1.1", "10.0.0.1", "2.2.2.2", "10.0.0.2") + link("2.2.2.2", "10.0.0.2", "1.1.1.1", "10.0.0.1")
+REPLY = "ask 7 v1 route cost=10 hops=1 again=no ero=000c140101080a0000022000\n"
+
+
+def draw(rows, *words, places=None, replies=None):
+    """Status, picture and standard error of one drawing."""
+    with tempfile.TemporaryDirectory() as room:
+        given = []
+        for option, text in (("rows", rows), ("--places", places), ("--replies", replies)):
+            if text is not None:
+                path = os.path.join(room, option.strip("-"))
+                with open(path, "w") as file:
+                    file.write(text)
+                given += [path] if option == "rows" else [option, path]
+        ran = subprocess.run([os.path.join(TOP, "tools/draw"), *given, *words], capture_output=True, text=True)
+        return ran.returncode, ran.stdout, ran.stderr
+
+
+def shapes(picture, kind):
+    return [path for path in xml.fromstring(picture).iter(SVG + "path") if path.get("class") == kind]
+
+
+def names(picture):
+    return [text for text in xml.fromstring(picture).iter(SVG + "text") if text.get("class") == "name"]
+
+
+def circuits(checks):
+    _, picture, _ = draw(PAIR + "end,1,2\n")
+    checks.same("both directions are one line", (len(shapes(picture, "circuit")), len(shapes(picture, "one-way"))), (1, 0))
+    _, picture, _ = draw(PAIR + "end,1,2\ndrop,2.2.2.2,10.0.0.2\nend,2,1\n")
+    one_way = shapes(picture, "one-way")
+    checks.same("a link of one way has an arrow", [line.get("marker-end") for line in one_way], ["url(#arrow)"])
+    _, picture, _ = draw(PAIR + "end,1,2\ndrop,2.2.2.2,10.0.0.2\nend,2,1\n", "--version", "1")
+    checks.same("an older version", len(shapes(picture, "circuit")), 1)
+    _, picture, _ = draw(PAIR + "end,1,2\ndrop,2.2.2.2,10.0.0.2\n")
+    checks.same("changes behind the last end row", len(shapes(picture, "circuit")), 1)
+    twice = PAIR + PAIR.replace("10.0.0", "10.0.1")
+    _, picture, _ = draw(twice + "end,1,4\n")
+    checks.same("two circuits of one pair are apart", len({line.get("d") for line in shapes(picture, "circuit")}), 2)
+    _, picture, _ = draw(link("1.1.1.1", "10.0.0.1", "2.2.2.2", "10.0.0.2", free=",".join(["0"] * 8)) + "end,1,1\n")
+    checks.true("nothing unreserved is dotted", "stroke-dasharray:1 5" in shapes(picture, "one-way")[0].get("style"))
+
+
+def routes(checks):
+    _, picture, _ = draw(PAIR + "end,1,2\n", "--ask", "7", replies=REPLY)
+    kinds = [path.get("class") for path in xml.fromstring(picture).iter(SVG + "path") if path.get("class")]
+    checks.same("a route is on top of its circuit", kinds, ["circuit", "route"])
+    checks.true("its cost is in the legend", "ask 7 v1: cost 10, 1 links" in picture)
+    for name, replies, ask in (("no such reply", REPLY, "8"), ("no route in it", "ask 7 v1 none\n", "7"),
+                               ("a route of another network", REPLY.replace("0a000002", "0a000003"), "7"),
+                               ("another cost", REPLY.replace("cost=10", "cost=11"), "7")):
+        status, picture, said = draw(PAIR + "end,1,2\n", "--ask", ask, replies=replies)
+        checks.true(f"{name} is refused", status == 1 and picture == "" and said.startswith("draw: "), said)
+
+
+def places(checks):
+    given = "1.1.1.1 0 0 <b>&\n2.2.2.2 1 1 East\n3.3.3.3 1 1 Nowhere\n"
+    status, picture, said = draw(PAIR + "end,1,2\n", places=given)
+    checks.same("names that look like markup", [text.text for text in names(picture)], ["<b>&", "East"])
+    checks.same("a place of no router", (status, said), (0, "draw: places, line 3: the network has no router 3.3.3.3\n"))
+    status, picture, said = draw(PAIR + "end,1,2\n", places="1.1.1.1 0\n")
+    checks.true("a place with no y is refused", status == 1 and "line 1" in said, said)
+    status, picture, _ = draw("")
+    checks.true("an empty network", status == 0 and xml.fromstring(picture) is not None)
+    rows = open(os.path.join(TOP, "examples/nsfnet.journal")).read()
+    checks.same("the layout by force is the same each time", draw(rows), draw(rows))
+
+
+def is_inside(picture):
+    """Whether each name is inside the picture, by a generous width of its characters."""
+    wide = float(xml.fromstring(picture).get("viewBox").split()[2])
+    high = float(xml.fromstring(picture).get("viewBox").split()[3])
+    return all(len(text.text) * 4.6 <= float(text.get("x")) <= wide - len(text.text) * 4.6
+               and 12 <= float(text.get("y")) <= high for text in names(picture))
+
+
+def browser_says(picture):
+    """In a real browser: how many names there are, and how many reach out of the picture."""
+    browser = shutil.which("chromium")
+    with tempfile.TemporaryDirectory() as room:
+        page = os.path.join(room, "page.html")
+        with open(page, "w") as file:
+            file.write(f"<body>{picture}<script>const box = document.querySelector('svg').getBoundingClientRect();"
+                       "const names = [...document.querySelectorAll('.name')].map(n => n.getBoundingClientRect());"
+                       "const out = names.filter(n => n.left < box.left || n.right > box.right || n.top < box.top"
+                       " || n.bottom > box.bottom);document.title = names.length + ' ' + out.length;</script>")
+        ran = subprocess.run([browser, "--headless", "--no-sandbox", "--disable-gpu", "--dump-dom", f"file://{page}"],
+                             capture_output=True, text=True, timeout=120)
+        return re.findall(r"<title>(\d+ \d+)</title>", ran.stdout)[-1:]
+
+
+def examples(program, checks):
+    """The pictures of the examples' page are those that its commands draw, with each name inside."""
+    page = open(os.path.join(TOP, "examples/README.md")).read()
+    commands = re.findall(r"^    (.*tools/draw .*) > (examples/\S+\.svg)$", page, re.M)
+    checks.true("the page draws pictures", len(commands) > 2, f"{len(commands)} commands")
+    for command, path in commands:
+        command = command.replace("crates/routed/out/routed", f'"{program.path}"')
+        drawn = subprocess.run(command, shell=True, cwd=TOP, capture_output=True, text=True).stdout
+        checks.same(path, drawn, open(os.path.join(TOP, path)).read())
+        checks.true(f"{path}: each name is inside", is_inside(drawn))
+        if shutil.which("chromium"):
+            checks.same(f"{path}: in a browser", browser_says(drawn), [f"{len(names(drawn))} 0"])
+    if not shutil.which("chromium"):
+        print("skipped: pictures in a browser, since there is no chromium")
+
+
+def pictures(program, checks):
+    for part in (circuits, routes, places):
+        part(checks)
+    examples(program, checks)

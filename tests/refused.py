@@ -1,0 +1,133 @@
+"""The built program while the C library refuses its calls, each in turn: it ends whole, with a refusal that is named, or stopped."""
+import os
+import re
+import time
+from collections import Counter
+
+from refusal import COMPILER, Refuser, each
+from versions import Versions
+
+TOP = os.path.dirname(os.path.dirname(os.path.abspath(__file__)))
+ABILENE, UPDATES, REQUESTS = (os.path.join(TOP, "examples", name) for name in ("abilene.rows", "nsfnet.journal", "nsfnet.requests"))
+
+# (the kind of call, how it is refused)
+REFUSALS = [("malloc",), ("malloc", "on"), ("read",), ("read", "on"), ("read", "short"), ("read", "short", "on"), ("read", "break"),
+            ("write",), ("write", "on"), ("write", "short"), ("write", "short", "on"), ("write", "break"), ("open",), ("open", "on"),
+            ("thread",), ("thread", "on")]
+
+
+def text_of(path):
+    with open(path, encoding="ascii") as file:
+        return file.read()
+
+
+def lines_of(versions):
+    """What is answered where all batches come before all requests."""
+    last = len(versions.replies) - 1
+    return "".join(f"{line}\n" for line in [*(f"version {at}" for at in range(1, last + 1)), *versions.replies[last]]).encode()
+
+
+# What --explain says of a refused call.
+CAUSES = {
+    "malloc": rb"(routed: out of memory\n)?",  # nothing while the command line is read
+    "read": rb"routed: (standard input|journal|updates|requests): read: Input/output error \(os error 5\)\n",
+    "write": rb"routed: standard output: (write|flush): No space left on device \(os error 28\)\n",
+    "open": rb"routed: (journal|updates|requests): open: Too many open files \(os error 24\)\n",
+    "thread": rb"routed: a worker couldn't be started\n",
+    "break": rb"routed: [a-z ]*: (read|write|flush): Interrupted system call \(os error 4\)\n",
+}
+
+
+def is_stopped(ran, flags):
+    """Status 3 and the lines; where each later write is refused as well, nobody can be told."""
+    told = re.fullmatch(CAUSES["break" if "break" in flags else flags[0]] + b"routed: stopped\n", ran.err)
+    return ran.status == 3 and (told or flags == ("write", "on") and not ran.err)
+
+
+class Solve:
+    """`solve` on Abilene."""
+
+    def __init__(self, program):
+        self.words = [program.path, "solve", "--explain"]
+        rows = text_of(ABILENE).splitlines(keepends=True)
+        asks = [row for row in rows if row.startswith("ask,")]
+        self.lines = lines_of(Versions("".join(row for row in rows if row not in asks), asks))
+
+    def run(self, refuser, number, flags):
+        ran = refuser.run(self.words, flags[0], number, *flags[1:], stdin=ABILENE)
+        whole = (ran.status, ran.out, ran.err) == (0, self.lines, b"")
+        return ran, whole, whole or is_stopped(ran, flags) and self.lines.startswith(ran.out)
+
+
+class Batch:
+    """`batch` on NSFNET."""
+
+    def __init__(self, program):
+        self.words = [program.path, "batch", "--journal", UPDATES, "--requests", REQUESTS, "--workers", "3", "--explain"]
+        self.lines = lines_of(Versions(text_of(UPDATES), text_of(REQUESTS).splitlines()))
+
+    def run(self, refuser, number, flags):
+        ran = refuser.run(self.words, flags[0], number, *flags[1:])
+        whole = (ran.status, ran.out, ran.err) == (0, self.lines, b"")
+        return ran, whole, whole or is_stopped(ran, flags)
+
+
+class Live:
+    """`live` on NSFNET."""
+
+    def __init__(self, program):
+        self.words = [program.path, "live", "--updates", UPDATES, "--requests", REQUESTS, "--workers", "3", "--explain", "--journal"]
+        self.versions = Versions(text_of(UPDATES), text_of(REQUESTS).splitlines())
+
+    def run(self, refuser, number, flags):
+        journal = os.path.join(refuser.room.name, f"journal {flags} {number}")
+        ran = refuser.run([*self.words, journal], flags[0], number, *flags[1:])
+        kept = text_of(journal) if os.path.exists(journal) else ""
+        if os.path.exists(journal):
+            os.remove(journal)
+        whole = ran.status == 0 and self.ends(ran, kept, len(self.versions.texts) - 1, "")
+        named = ran.status == 2 and self.is_named(ran, kept)
+        return ran, whole, whole or named or is_stopped(ran, flags) and self.versions.recorded(kept) is not None
+
+    def ends(self, ran, kept, applied, last):
+        """Whether all requests are answered rightly, this many batches are applied and recorded, and this is the last line."""
+        lines, asked, text = ran.out.decode().splitlines(keepends=True), len(self.versions.asks), self.versions.texts[applied]
+        replies = [line.rstrip("\n") for line in lines[:asked]]
+        return (len(replies) == asked and self.versions.are_right(replies) and "".join(lines[asked:]) == f"applied {applied}\n{last}"
+                and kept == text and ran.err == b"")
+
+    def is_named(self, ran, kept):
+        """A batch that is refused by name, which has left in the journal the bytes that the line says."""
+        last = re.search(rb"(?m)^batch (\d+) refused: (memory|journal (\d+))\n\Z", ran.out)
+        if not last:
+            return False
+        applied, begun = int(last[1]) - 1, int(last[3] or 0)
+        until = len(self.versions.texts[applied]) + begun
+        is_front = kept == self.versions.texts[-1][:until]
+        return is_front and self.ends(ran, kept[:until - begun], applied, last[0].decode())
+
+
+def refused(program, checks):
+    if COMPILER is None:
+        print("refused calls: skipped, there is no C compiler")
+        return
+    refuser, tried, start = Refuser(), Counter(), time.monotonic()
+    for command in [Solve(program), Batch(program), Live(program)]:
+        for flags in REFUSALS:
+            def judge(number):
+                ran, is_whole, is_right = command.run(refuser, number, flags)
+                fault = ran.fault()
+                # nothing refused, or a byte moved in place of many: as if nothing had been
+                if fault is None and not (is_whole if ran.refused == 0 or "short" in flags else is_right):
+                    fault = f"status {ran.status}, {ran.out[-200:]}, {ran.err[-200:]}"
+                return ran.refused != 0, fault
+
+            count, faults = each(judge)
+            checks.same(f"{type(command).__name__.lower()} while calls are refused {flags}", faults, [])
+            tried[" ".join(flags)] += count
+    for flags in REFUSALS:
+        checks.true(f"calls are refused {flags}", tried[" ".join(flags)])
+    print(f"refused calls: {', '.join(f'{kind} {count}' for kind, count in tried.items())}, in {time.monotonic() - start:.0f} s")
+    for number in range(1, 4):
+        ran = refuser.run([program.path, "solve", "--none"], "write", number, "on")
+        checks.true(f"a refused command line, with write {number} refused", ran.fault() is None and ran.status in (1, 3), ran)
