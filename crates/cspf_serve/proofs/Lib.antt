@@ -11,3 +11,4 @@ pub mod ScriptOfBatches
 pub mod AnswerLines
 pub mod PublishedLines
 pub mod LiveRunLines
+pub mod AuditRunLines

@@ -1,6 +1,8 @@
 -- Private: what is said where a run over a journal ends early.
 use Rattle.std.specs.Prelude.{◌≡◌, ℕ, ◌⊎◌, Bool, Option, List, [], ◌∷◌, ◌++◌}
 use Rattle.std.specs.Io.KnownBytes.{Appends}
+use Rattle.cspf_audit.specs.declared.audit_error.AuditError.{AuditError}
+use Rattle.cspf_audit.specs.declared.audit_error.AuditError.TheVariants as audit_error
 use Rattle.cspf_db.specs.Numbered.{NumberedChanges}
 use Rattle.cspf_publish.specs.PublisherStates.{PublisherState, IsStopped}
 use Rattle.cspf_publish.specs.declared.errors.ApplyError.{ApplyError}
@@ -91,6 +93,16 @@ IsRequestsError requests_error.Device e = e ≡ Device
 IsRequestsError requests_error.TooManyRows e = ⊥
 IsRequestsError (requests_error.Bad row why) e = ⊥
 IsRequestsError (requests_error.NotAsk row) e = ⊥
+
+-- the error by which streams end a run that aren't audited: what has a line has none
+abbrev pub IsAuditFailure : AuditError → RunError → Type 0
+IsAuditFailure audit_error.Memory e = e ≡ Memory
+IsAuditFailure audit_error.Device e = e ≡ Device
+IsAuditFailure audit_error.TooManyRows e = ⊥
+IsAuditFailure (audit_error.Torn after) e = ⊥
+IsAuditFailure (audit_error.Batch number why) e = ⊥
+IsAuditFailure (audit_error.Requests why) e = IsRequestsError why e
+IsAuditFailure (audit_error.SameId row) e = ⊥
 
 -- the records of a journal or those of requests are refused by this line, the journal first
 abbrev pub AreStreamsRefused : Bool → Records → Records → List ℕ → Type 0

@@ -9,6 +9,7 @@ pub mod SolverStates
 pub mod Status
 pub mod BatchRun
 pub mod BatchLaws
+pub mod AuditRun
 pub mod EarlyEnds
 pub mod AnswerLines
 pub mod LiveWords

@@ -3,6 +3,7 @@ use Rattle.std.specs.Prelude.{ℕ, List}
 use Rattle.cspf_serve.specs.declared.line.Line.{Line}
 use Rattle.cspf_serve.specs.declared.line.Line.TheVariants as line
 use Rattle.cspf_serve.specs.Lines.{refused_row_line, version_line, refused_batch_line, unended_line, too_many_line}
+use Rattle.cspf_serve.specs.AuditRun.{fault_line, audited_line, same_id_line}
 use Rattle.cspf_serve.specs.BatchRun.{torn_line, refused_request_line}
 use Rattle.cspf_serve.specs.LiveWords.{applied_line, unpublished_line}
 
@@ -17,3 +18,6 @@ line_text (line.Torn count) = torn_line count
 line_text (line.RefusedRequest row error) = refused_request_line row error
 line_text (line.Applied count) = applied_line count
 line_text (line.Unpublished number error) = unpublished_line number error
+line_text (line.SameId row) = same_id_line row
+line_text (line.Fault fault) = fault_line fault
+line_text (line.Audited good faults) = audited_line good faults

@@ -8,13 +8,16 @@
 //! `batch` publishes the batches of a journal and answers requests: `specs/BatchRun.antt` says what
 //! both are answered, and `specs/BatchLaws.antt` when that is what one script of both is. `live`
 //! publishes batches, each written to the journal first, while workers answer requests:
-//! `specs/LiveRun.antt` defines the lines and the journal of a live run. `streams` has what these two
+//! `specs/LiveRun.antt` defines the lines and the journal of a live run. `audits` judges replies by a
+//! journal and requests: `specs/AuditRun.antt` says what is written of them. `streams` has what these
 //! share, and `specs/RunFaults.antt` says which errors end them.
 //!
-//! The workers are those of `cspf_work`, whose names stand here too.
+//! The workers are those of `cspf_work` and the audit that of `cspf_audit`; their names stand here
+//! too.
 #![tactic(auto)]
 
 mod apply_words;
+mod audits;
 mod batch;
 mod batch_refusal;
 mod line;
@@ -22,8 +25,10 @@ mod live;
 mod solve;
 mod streams;
 
+pub use audits::run_audit;
 pub use batch::{lines_of_a_script, run_batch};
 pub use batch_refusal::BatchRefusal;
+pub use cspf_audit::{Audit, AuditError, AuditFault, audit};
 pub use cspf_publish::MOST_ASKERS;
 pub use cspf_work::{
     Answers, Drawer, Gate, Live, MOST_REQUESTS, NoGate, ServeError, answer_all, answer_latest,

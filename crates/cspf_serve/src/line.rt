@@ -1,5 +1,6 @@
 use crate::BatchRefusal;
 use crate::apply_words::ApplyWords;
+use cspf_audit::AuditFault;
 use cspf_publish::ApplyError;
 use cspf_rows::RowError;
 use std::alloc::{AllocError, Global};
@@ -26,6 +27,12 @@ pub(crate) enum Line {
     Applied { count: u32 },
     /// The batch with this number isn't published.
     Unpublished { number: u32, error: ApplyError },
+    /// The request row with this number has the id of an earlier one.
+    SameId { row: u32 },
+    /// An audit found this fault.
+    Fault { fault: AuditFault },
+    /// An audit found this many good lines and faults.
+    Audited { good: u32, faults: usize },
 }
 
 impl fmt::Display for Line {
@@ -53,6 +60,9 @@ impl fmt::Display for Line {
             Line::Unpublished { number, error } => {
                 write!(f, "batch {number} refused: {}\n", ApplyWords { error })
             }
+            Line::SameId { row } => write!(f, "request row {row} refused: same-id\n"),
+            Line::Fault { fault } => write!(f, "{fault}\n"),
+            Line::Audited { good, faults } => write!(f, "good={good} faults={faults}\n"),
         }
     }
 }

@@ -14,6 +14,9 @@ pub const BATCH: &str = "batch";
 /// The command that applies a file of batches while it answers a file of requests.
 pub const LIVE: &str = "live";
 
+/// The command that audits a file of replies.
+pub const AUDIT: &str = "audit";
+
 /// The option that names the file of batches, which `live` makes.
 pub const JOURNAL: &str = "journal";
 
@@ -22,6 +25,9 @@ pub const UPDATES: &str = "updates";
 
 /// The option that names the file of requests.
 pub const REQUESTS: &str = "requests";
+
+/// The option that names the file of replies.
+pub const REPLIES: &str = "replies";
 
 /// The flag by which rows behind the batches are left out.
 pub const ACCEPT_TORN: &str = "accept-torn";
@@ -48,6 +54,9 @@ const ABOUT_BATCH: &str =
 /// What help says of `live`.
 const ABOUT_LIVE: &str =
     "Applies batches to a new journal while requests are answered on standard output";
+
+/// What help says of `audit`.
+const ABOUT_AUDIT: &str = "Judges the lines of a file of replies by a journal and requests";
 
 /// What help says below the options.
 const HELP: &str = "\
@@ -133,6 +142,37 @@ or a batch was refused, 3 where memory was refused, a file or another device fai
 is there already: then the last line of standard error is routed: stopped, and with --explain the
 line before it says why.";
 
+/// What help says below the options of `audit`.
+const AUDIT_HELP: &str = "\
+The journal and the requests are files as in batch, and no two requests have one id. The replies are
+lines as batch and live write them. Each line that begins with another word than version, applied or
+batch is judged: it has to be the reply to its request at the version that it names, byte for byte.
+
+Lines of standard output:
+  line L unread              line L doesn't begin as a reply does, with ask, an id and a version
+  line L foreign             no request has its id
+  line L doubled             an earlier line has its id
+  line L no-version          the journal has fewer batches than its version
+  line L altered             it isn't the reply to its request at its version
+  request ID unanswered      no line has the id of this request
+  good=G faults=N            the last one: G judged lines have no fault
+or one of these alone:
+  journal torn after N       rows are left behind N batches of the journal
+  batch N refused: ..        a batch of the journal doesn't fit
+  request row N refused: ..  a row of the requests can't be read, asks for nothing, or has the id of
+                             an earlier one: same-id
+  too many rows              a file has more than 1,000,000 rows or lines
+
+Every route is sought again, by a search that is plainer than that of the other commands.
+
+Names of files are UTF-8. A row or a line has no limit of length but memory. Standard output has to
+be blocking. A file as standard output that reaches a limit of a file's size (ulimit -f) ends the
+program by the signal XFSZ, and with status 3 after trap '' XFSZ in the shell.
+
+Status: 0 where there is no fault, 1 where the command line was refused, 2 where there is a fault or a
+file was refused, 3 where memory was refused or a file or another device failed: then the last line
+of standard error is routed: stopped, and with --explain the line before it says why.";
+
 /// The command that the words of the command line name.
 pub fn parse<'a>(alloc: Global, words: &'a [String]) -> Result<ArgMatches<'a>, Error> {
     let solve = Command::new(alloc, SOLVE)
@@ -146,7 +186,8 @@ pub fn parse<'a>(alloc: Global, words: &'a [String]) -> Result<ArgMatches<'a>, E
         .subcommand_required(true)
         .subcommand(solve)?
         .subcommand(batch(alloc)?)?
-        .subcommand(live(alloc)?)?;
+        .subcommand(live(alloc)?)?
+        .subcommand(audit(alloc)?)?;
     routed.try_get_matches_from(words)
 }
 
@@ -180,6 +221,20 @@ fn live<'a>(alloc: Global) -> Result<Command<'a>, AllocError> {
         .arg(requests)?
         .arg(journal)?
         .arg(workers(alloc))?
+        .arg(explain(alloc))
+}
+
+/// The command `audit` with its options.
+fn audit<'a>(alloc: Global) -> Result<Command<'a>, AllocError> {
+    let journal = file(alloc, JOURNAL, "The file of batches");
+    let requests = file(alloc, REQUESTS, "The file of requests");
+    let replies = file(alloc, REPLIES, "The file of replies");
+    Command::new(alloc, AUDIT)
+        .about(ABOUT_AUDIT)
+        .after_help(AUDIT_HELP)
+        .arg(journal)?
+        .arg(requests)?
+        .arg(replies)?
         .arg(explain(alloc))
 }
 

@@ -1,8 +1,9 @@
 //! `routed solve` answers the rows of standard input on standard output, each line when it is
 //! known. `routed batch` applies the batches of a journal, and answers a file of requests.
-//! `routed live` applies batches to a new journal while it answers a file of requests. The status
-//! is 0, or 2 where anything was refused; 1 where the command line was refused; 3 where memory was
-//! refused or a device failed.
+//! `routed live` applies batches to a new journal while it answers a file of requests. `routed audit`
+//! judges a file of replies by a journal and requests. The status is 0, or 2 where anything was
+//! refused or a fault was found; 1 where the command line was refused; 3 where memory was refused or a
+//! device failed.
 #![tactic(auto)]
 
 ghost use Rattle.std.specs.Prelude.{◌<◌, ◌≤◌};
@@ -15,9 +16,10 @@ mod stopped;
 use clap::ArgMatches;
 use clap::error::ErrorKind;
 use command_line::{
-    ACCEPT_TORN, BATCH, EXPLAIN, JOURNAL, LIVE, REQUESTS, UPDATES, parse, workers_of,
+    ACCEPT_TORN, AUDIT, BATCH, EXPLAIN, JOURNAL, LIVE, REPLIES, REQUESTS, UPDATES, parse,
+    workers_of,
 };
-use cspf_serve::{MOST_ASKERS, NoGate, run_batch, run_live_rows, run_solve};
+use cspf_serve::{MOST_ASKERS, NoGate, run_audit, run_batch, run_live_rows, run_solve};
 use limited::Limited;
 use noted::{Action, Noted};
 use std::fs::{File, OpenOptions};
@@ -154,6 +156,25 @@ fn live<T: Threads + Wait + Sync>(
     ran.map_err(|error| Stopped::running(error, noted))
 }
 
+/// Judges a file of replies by a journal and a file of requests. The files are opened before a row is
+/// read.
+fn audit(rt: &HostRuntime, journal: &str, requests: &str, replies: &str) -> Result<u8, Stopped> {
+    let mut out = output(rt)?;
+    let mut journal = opened(rt, JOURNAL, journal)?;
+    let mut requests = opened(rt, REQUESTS, requests)?;
+    let mut replies = opened(rt, REPLIES, replies)?;
+    let ran = run_audit(
+        rt.alloc(),
+        &mut journal,
+        &mut requests,
+        &mut replies,
+        &mut out,
+    );
+    flush(&mut out)?;
+    let read = journal.fault().or(requests.fault()).or(replies.fault());
+    ran.map_err(|error| Stopped::running(error, read.or(out.fault())))
+}
+
 /// Does what the words of `batch` ask for.
 fn obey_batch<T: Threads + Wait + Sync>(
     rt: &HostRuntime,
@@ -193,6 +214,17 @@ fn obey_live<T: Threads + Wait + Sync>(
     live(rt, handle, updates, requests, journal, workers)
 }
 
+/// Does what the words of `audit` ask for.
+fn obey_audit(rt: &HostRuntime, words: &ArgMatches<'_>) -> Result<u8, Stopped> {
+    let (journal, requests) = (words.get_str(JOURNAL), words.get_str(REQUESTS));
+    let (Some(journal), Some(requests), Some(replies)) = (journal, requests, words.get_str(REPLIES))
+    else {
+        // Never: the files have to be given.
+        return Ok(REFUSED);
+    };
+    audit(rt, journal, requests, replies)
+}
+
 /// Does what a command line that was accepted asks for, and says why it stops where it is to.
 fn obey<T: Threads + Wait + Sync>(
     rt: &HostRuntime,
@@ -206,6 +238,7 @@ fn obey<T: Threads + Wait + Sync>(
     let ran = match name {
         BATCH => obey_batch(rt, handle, words),
         LIVE => obey_live(rt, handle, words),
+        AUDIT => obey_audit(rt, words),
         _ => solve(rt),
     };
     if let Err(stopped) = &ran {

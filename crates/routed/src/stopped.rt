@@ -14,7 +14,7 @@ pub enum Stopped {
     Device(Fault),
     /// Another error of `solve`.
     Solve(SolveError),
-    /// Another error of `batch` or `live`.
+    /// Another error of `batch`, `live` or `audit`.
     Run(RunError),
 }
 
@@ -37,7 +37,7 @@ impl Stopped {
         }
     }
 
-    /// The error of `batch` or `live`, where this is the call on a device that failed, if any.
+    /// The error of `batch`, `live` or `audit`, where this is the call on a device that failed, if any.
     pub fn running(error: RunError, noted: Option<Fault>) -> Stopped {
         match (error, noted) {
             (RunError::Memory, _) => Stopped::Memory,

@@ -81,7 +81,7 @@ fn requests_of<R: Read + Drop>(alloc: Global, requests: R) -> Result<Vec<Request
 }
 
 /// How a run ends whose requests can't be read.
-fn requests_end_of(error: RequestsError) -> EarlyEnd
+pub(crate) fn requests_end_of(error: RequestsError) -> EarlyEnd
     ensures refused { IfRefused result (IsFaultLine error) }
     ensures failed { IfFailed result (IsRequestsError error) }
 {

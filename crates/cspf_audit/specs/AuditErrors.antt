@@ -1,0 +1,115 @@
+-- What streams are audited as, or the first reason why they aren't.
+use Rattle.std.specs.Prelude.{◌≡◌, ℕ, ◌<◌, ◌≤◌, ◌⊎◌, List, ◌∷◌, ◌++◌, length, Option, IfSome}
+use Rattle.cspf_db.specs.declared.refusal.Refusal.{Refusal}
+use Rattle.cspf_db.specs.declared.request.Request.{Request}
+use Rattle.cspf_db.specs.Numbered.{NumberedChanges}
+use Rattle.cspf_db.specs.Changes.{AreLawful, database_after}
+use Rattle.cspf_db.specs.Refusals.{IsRefusal}
+use Rattle.cspf_rows.specs.declared.limits.TheConstants.{MOST_ROWS}
+use Rattle.cspf_rows.specs.declared.journal.Rest.TheVariants as rest
+use Rattle.cspf_rows.specs.declared.requests_error.RequestsError.{RequestsError}
+use Rattle.cspf_rows.specs.declared.requests_error.RequestsError.TheVariants as requests_error
+use Rattle.cspf_rows.specs.Records.{rows_of}
+use Rattle.cspf_rows.specs.Journal.{IsJournal}
+use Rattle.cspf_rows.specs.Requests.{AreRequests, IsRequestsFault}
+use Rattle.cspf_audit.specs.declared.audit_error.AuditError.{AuditError}
+use Rattle.cspf_audit.specs.declared.audit_error.AuditError.TheVariants as error
+use Rattle.cspf_audit.specs.declared.faults.Audit.{Audit}
+use Rattle.cspf_audit.specs.Lines.{AreLines, HasTooManyLines}
+use Rattle.cspf_audit.specs.Requests.{HaveOwnIds, RepeatsId}
+use Rattle.cspf_audit.specs.Audits.{IsAudit}
+
+-- the records of a stream: each is a list of fields, which are bytes
+abbrev pub Records : Type 0
+Records = List (List (List ℕ))
+
+-- The records of a journal, of which there are at most `MOST_ROWS`, are these batches and nothing
+-- behind them, and each batch fits the database of those before it.
+pub record IsLawfulJournal (records : Records) (batches : List NumberedChanges) : Type 0 where
+  pub few : length records ≤ MOST_ROWS
+  pub journal : IsJournal records batches rest.Clean
+  pub lawful : AreLawful batches
+
+-- the first of the batches that doesn't fit has this number, and this is why
+pub record IsFirstUnfit (batches : List NumberedChanges) (number : ℕ) (why : Refusal) : Type 0 where
+  pub before : List NumberedChanges
+  pub batch : NumberedChanges
+  pub after : List NumberedChanges
+  pub split : batches ≡ before ++ (batch ∷ after)
+  pub lawful : AreLawful before
+  pub is_its : number ≡ batch.number
+  pub refused : IsRefusal (database_after before) batch why
+
+-- rows are left behind this many batches
+pub record IsTornAfter (records : Records) (count : ℕ) : Type 0 where
+  pub few : length records ≤ MOST_ROWS
+  pub batches : List NumberedChanges
+  pub journal : IsJournal records batches rest.Torn
+  pub counted : count ≡ length batches
+
+-- the batches of a journal, behind which nothing is left, have this first one that doesn't fit
+pub record IsUnlawfulJournal (records : Records) (number : ℕ) (why : Refusal) : Type 0 where
+  pub few : length records ≤ MOST_ROWS
+  pub batches : List NumberedChanges
+  pub journal : IsJournal records batches rest.Clean
+  pub unfit : IsFirstUnfit batches number why
+
+-- the records of a stream, of which there are at most `MOST_ROWS`, ask for these requests
+pub record AreAsked (records : Records) (requests : List Request) : Type 0 where
+  pub few : length records ≤ MOST_ROWS
+  pub asked : AreRequests records requests
+
+-- The audit of a journal, of requests whose ids differ, and of the lines of a text.
+pub record IsAuditOf (journal requests : Records) (text : List ℕ) (audit : Audit) : Type 0 where
+  pub batches : List NumberedChanges
+  pub asked : List Request
+  pub lines : List (List ℕ)
+  pub is_journal : IsLawfulJournal journal batches
+  pub are_asked : AreAsked requests asked
+  pub own : HaveOwnIds asked
+  pub are_lines : AreLines text lines
+  pub few : length lines ≤ MOST_ROWS
+  pub is_audit : IsAudit batches asked lines audit
+
+-- the journal is lawful
+abbrev pub HasLawfulJournal : Records → Type 0
+HasLawfulJournal journal = (batches : List NumberedChanges) × IsLawfulJournal journal batches
+
+-- the requests can be told apart by their ids
+abbrev pub HasOwnRequests : Records → Type 0
+HasOwnRequests requests = (asked : List Request) × AreAsked requests asked × HaveOwnIds asked
+
+-- a row of the requests is refused
+abbrev pub IsRowRefused : Records → RequestsError → Type 0
+IsRowRefused records requests_error.Memory = ⊥
+IsRowRefused records requests_error.Device = ⊥
+IsRowRefused records requests_error.TooManyRows = ⊥
+IsRowRefused records (requests_error.Bad row why) = IsRequestsFault records (requests_error.Bad row why)
+IsRowRefused records (requests_error.NotAsk row) = IsRequestsFault records (requests_error.NotAsk row)
+
+-- one of the streams is too long, and the ones before it are as they have to be
+abbrev pub IsOneTooLong : Records → Records → List ℕ → Type 0
+IsOneTooLong journal requests text =
+    (MOST_ROWS < length journal)
+    ⊎ (HasLawfulJournal journal
+    × (IsRequestsFault requests requests_error.TooManyRows
+    ⊎ (HasOwnRequests requests × HasTooManyLines text)))
+
+-- Why streams aren't audited: the first reason of the journal, its batches, the requests, their ids
+-- and the replies, in this order, where the bytes that it is about are known.
+abbrev pub IsAuditError : Option (List ℕ) → Option (List ℕ) → Option (List ℕ) → AuditError → Type 0
+IsAuditError journal requests replies error.Memory = Unit {0}
+IsAuditError journal requests replies error.Device = Unit {0}
+IsAuditError journal requests replies error.TooManyRows =
+    IfSome journal (λ kept. IfSome requests (λ asked. IfSome replies (λ said.
+    IsOneTooLong (rows_of kept) (rows_of asked) said)))
+IsAuditError journal requests replies (error.Torn after) =
+    IfSome journal (λ kept. IsTornAfter (rows_of kept) after)
+IsAuditError journal requests replies (error.Batch number why) =
+    IfSome journal (λ kept. IsUnlawfulJournal (rows_of kept) number why)
+IsAuditError journal requests replies (error.Requests why) =
+    IfSome journal (λ kept. IfSome requests (λ asked.
+    HasLawfulJournal (rows_of kept) × IsRowRefused (rows_of asked) why))
+IsAuditError journal requests replies (error.SameId row) =
+    IfSome journal (λ kept. IfSome requests (λ asked. HasLawfulJournal (rows_of kept)
+    × ((list : List Request) × AreAsked (rows_of asked) list × RepeatsId list row)))

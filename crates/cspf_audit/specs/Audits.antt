@@ -1,0 +1,63 @@
+-- The audit of lines and of whole streams.
+use Rattle.std.specs.Prelude.{◌≡◌, ℕ, ◌+◌, ◌⊎◌, Bool, true, false, Option, Some, None, List, [], ◌∷◌, ◌++◌}
+use Rattle.std.specs.List.{count_by}
+use Rattle.cspf_db.specs.declared.request.Request.{Request}
+use Rattle.cspf_db.specs.Numbered.{NumberedChanges}
+use Rattle.cspf_audit.specs.declared.faults.Audit.{Audit}
+use Rattle.cspf_audit.specs.declared.faults.AuditFault.{AuditFault}
+use Rattle.cspf_audit.specs.declared.faults.AuditFault.TheVariants as fault
+use Rattle.cspf_audit.specs.declared.finding.Finding.{Finding}
+use Rattle.cspf_audit.specs.declared.finding.Finding.TheVariants as finding
+use Rattle.cspf_audit.specs.Findings.{IsNamed, AreFindings}
+
+-- the fault of the line at a place, which counts from 1, by what is found of it
+abbrev pub fault_of : ℕ → Finding → Option AuditFault
+fault_of place finding.PassedOver = None
+fault_of place finding.Good = None
+fault_of place finding.Unread = Some (fault.Unread place)
+fault_of place finding.Foreign = Some (fault.Foreign place)
+fault_of place finding.Doubled = Some (fault.Doubled place)
+fault_of place finding.NoVersion = Some (fault.NoVersion place)
+fault_of place finding.Altered = Some (fault.Altered place)
+
+-- a fault in front of others, if there is one
+abbrev pub with_fault : Option AuditFault → List AuditFault → List AuditFault
+with_fault None faults = faults
+with_fault (Some f) faults = f ∷ faults
+
+-- the faults of lines, the first of which is at this place
+abbrev pub faults_from : ℕ → List Finding → List AuditFault
+faults_from place [] = []
+faults_from place (found ∷ findings) = with_fault (fault_of place found) (faults_from (place + 1) findings)
+
+-- a line with no fault that isn't passed over
+abbrev pub is_good : Finding → Bool
+is_good finding.PassedOver = false
+is_good finding.Good = true
+is_good finding.Unread = false
+is_good finding.Foreign = false
+is_good finding.Doubled = false
+is_good finding.NoVersion = false
+is_good finding.Altered = false
+
+-- how many lines are good
+abbrev pub good_count : List Finding → ℕ
+good_count findings = count_by is_good findings
+
+-- a fault for each request whose id stands in no line, in the requests' order
+abbrev pub AreUnanswered : List (List ℕ) → List Request → List AuditFault → Type 0
+AreUnanswered lines [] faults = faults ≡ []
+AreUnanswered lines (q ∷ requests) faults =
+    (IsNamed lines q.id × AreUnanswered lines requests faults)
+    ⊎ ((¬ IsNamed lines q.id)
+    × ((more : List AuditFault) × (faults ≡ fault.Unanswered q.id ∷ more) × AreUnanswered lines requests more))
+
+-- The audit of lines, by a journal's batches and requests: the faults of the lines, in their order,
+-- then the requests that no line names, and how many lines are good.
+pub record IsAudit (batches : List NumberedChanges) (requests : List Request) (lines : List (List ℕ)) (audit : Audit) : Type 0 where
+  pub findings : List Finding
+  pub unanswered : List AuditFault
+  pub found : AreFindings batches requests lines findings
+  pub left : AreUnanswered lines requests unanswered
+  pub faults : audit.faults.items ≡ faults_from 1 findings ++ unanswered
+  pub good : audit.good ≡ good_count findings

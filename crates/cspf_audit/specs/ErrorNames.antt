@@ -1,0 +1,54 @@
+-- Private: under which name a fault of a stream ends an audit, and what a journal is refused for.
+use Rattle.std.specs.Prelude.{◌≡◌, ◌≢◌, ◌<◌, ◌⊎◌, List, length}
+use Rattle.std.specs.IoError.{error_kind}
+use Rattle.std.specs.declared.io.Error.{Error}
+use Rattle.std.specs.declared.io.ErrorKind.TheVariants as kind
+use Rattle.cspf_db.specs.Numbered.{NumberedChanges}
+use Rattle.cspf_rows.specs.declared.limits.TheConstants.{MOST_ROWS}
+use Rattle.cspf_rows.specs.declared.read_error.ReadError.{ReadError}
+use Rattle.cspf_rows.specs.declared.read_error.ReadError.TheVariants as read
+use Rattle.cspf_rows.specs.declared.requests_error.RequestsError.{RequestsError}
+use Rattle.cspf_rows.specs.declared.requests_error.RequestsError.TheVariants as requests
+use Rattle.cspf_audit.specs.declared.audit_error.AuditError.{AuditError}
+use Rattle.cspf_audit.specs.declared.audit_error.AuditError.TheVariants as error
+use Rattle.cspf_audit.specs.AuditErrors.{Records, IsFirstUnfit, IsTornAfter, IsUnlawfulJournal}
+
+-- of the journal's
+abbrev pub audit_error_of : ReadError → AuditError
+audit_error_of read.Memory = error.Memory
+audit_error_of read.Device = error.Device
+audit_error_of read.TooManyRows = error.TooManyRows
+
+-- of the requests'
+abbrev pub requests_error_of : RequestsError → AuditError
+requests_error_of requests.Memory = error.Memory
+requests_error_of requests.Device = error.Device
+requests_error_of requests.TooManyRows = error.TooManyRows
+requests_error_of (requests.Bad row why) = error.Requests (requests.Bad row why)
+requests_error_of (requests.NotAsk row) = error.Requests (requests.NotAsk row)
+
+-- of the replies': refused memory keeps its name
+abbrev pub IsIoFault : Error → AuditError → Type 0
+IsIoFault why e =
+    ((error_kind why ≡ kind.OutOfMemory) × (e ≡ error.Memory))
+    ⊎ ((error_kind why ≢ kind.OutOfMemory) × (e ≡ error.Device))
+
+-- why a journal isn't lawful
+abbrev pub IsJournalFault : Records → AuditError → Type 0
+IsJournalFault records error.Memory = Unit {0}
+IsJournalFault records error.Device = Unit {0}
+IsJournalFault records error.TooManyRows = MOST_ROWS < length records
+IsJournalFault records (error.Torn after) = IsTornAfter records after
+IsJournalFault records (error.Batch number why) = IsUnlawfulJournal records number why
+IsJournalFault records (error.Requests why) = ⊥
+IsJournalFault records (error.SameId row) = ⊥
+
+-- why batches aren't lawful
+abbrev pub IsUnfitBatch : List NumberedChanges → AuditError → Type 0
+IsUnfitBatch batches error.Memory = Unit {0}
+IsUnfitBatch batches error.Device = ⊥
+IsUnfitBatch batches error.TooManyRows = ⊥
+IsUnfitBatch batches (error.Torn after) = ⊥
+IsUnfitBatch batches (error.Batch number why) = IsFirstUnfit batches number why
+IsUnfitBatch batches (error.Requests why) = ⊥
+IsUnfitBatch batches (error.SameId row) = ⊥

@@ -1,0 +1,67 @@
+-- What is found of a line, by a journal's batches, the requests and the lines before it.
+use Rattle.std.specs.Prelude.{◌≡◌, ℕ, ◌<◌, ◌≤◌, ◌⊎◌, ◌==◌, List, [], ◌∷◌, ◌++◌, Contains, Some, length, take, codes}
+use Rattle.std.specs.List.{before_first, slice_get}
+use Rattle.cspf_db.specs.declared.request.Request.{Request}
+use Rattle.cspf_db.specs.Numbered.{NumberedChanges}
+use Rattle.cspf_db.specs.Database.{Database}
+use Rattle.cspf_db.specs.Changes.{database_after}
+use Rattle.cspf_db.specs.Best.{Answer, IsBestAnswer}
+use Rattle.cspf_ero.specs.declared.head.Head.{Head}
+use Rattle.cspf_ero.specs.ReplyLine.{IsReply}
+use Rattle.cspf_ero.specs.ReplyHead.{BeginsWithHead, HasNoHead}
+use Rattle.cspf_audit.specs.declared.finding.Finding.{Finding}
+use Rattle.cspf_audit.specs.declared.finding.Finding.TheVariants as finding
+use Rattle.cspf_audit.specs.Requests.{IsAsked}
+
+-- the bytes of a line before its first space, or all where there is none
+abbrev pub first_word : List ℕ → List ℕ
+first_word line = before_first (λ byte. byte == 32) line
+
+-- the line tells of a version, of applied batches or of a refused one
+abbrev pub IsPassedOver : List ℕ → Type 0
+IsPassedOver line =
+    (first_word line ≡ codes "version")
+    ⊎ ((first_word line ≡ codes "applied") ⊎ (first_word line ≡ codes "batch"))
+
+-- one of the lines begins with this id and a version
+abbrev pub IsNamed : List (List ℕ) → ℕ → Type 0
+IsNamed lines id =
+    (line : List ℕ) × (version : ℕ) × Contains lines line
+    × BeginsWithHead line (record { id = id; version = version })
+
+-- the line, with a line feed behind it, is the reply of a best answer in a database at a version
+abbrev pub IsRightReply : Database → Request → ℕ → List ℕ → Type 0
+IsRightReply d q version line =
+    (answer : Answer) × IsBestAnswer d q answer × IsReply q.id version answer (line ++ 10 ∷ [])
+
+-- the line is the first with the id of this request, at this version
+pub record IsFirstReply (requests : List Request) (before : List (List ℕ)) (line : List ℕ) (q : Request) (version : ℕ) : Type 0 where
+  pub head : BeginsWithHead line (record { id = q.id; version = version })
+  pub asked : Contains requests q
+  pub first : ¬ IsNamed before q.id
+
+-- What is found of a line behind those before it: the first that applies.
+abbrev pub IsFinding : List NumberedChanges → List Request → List (List ℕ) → List ℕ → Finding → Type 0
+IsFinding batches requests before line finding.PassedOver = IsPassedOver line
+IsFinding batches requests before line finding.Unread = (¬ IsPassedOver line) × HasNoHead line
+IsFinding batches requests before line finding.Foreign =
+    (head : Head) × BeginsWithHead line head × ¬ IsAsked requests head.id
+IsFinding batches requests before line finding.Doubled =
+    (head : Head) × BeginsWithHead line head × IsAsked requests head.id × IsNamed before head.id
+IsFinding batches requests before line finding.NoVersion =
+    (q : Request) × (version : ℕ) × IsFirstReply requests before line q version
+    × (length batches < version)
+IsFinding batches requests before line finding.Altered =
+    (q : Request) × (version : ℕ) × IsFirstReply requests before line q version
+    × (version ≤ length batches)
+    × ¬ IsRightReply (database_after (take version batches)) q version line
+IsFinding batches requests before line finding.Good =
+    (q : Request) × (version : ℕ) × IsFirstReply requests before line q version
+    × (version ≤ length batches)
+    × IsRightReply (database_after (take version batches)) q version line
+
+-- there is a finding of each line
+pub record AreFindings (batches : List NumberedChanges) (requests : List Request) (lines : List (List ℕ)) (findings : List Finding) : Type 0 where
+  pub counted : length findings ≡ length lines
+  pub each : (index : ℕ) (line : List ℕ) (found : Finding) → slice_get lines index ≡ Some line
+      → slice_get findings index ≡ Some found → IsFinding batches requests (take index lines) line found

@@ -1,0 +1,10 @@
+-- The words of this crate's contracts.
+pub mod Lines
+pub mod Requests
+pub mod Findings
+pub mod Audits
+pub mod FaultWords
+pub mod ErrorNames
+pub mod AuditErrors
+pub mod LineReading
+pub mod Reading

@@ -1,0 +1,32 @@
+-- Private: how lines are read, one after the other.
+use Rattle.std.specs.Prelude.{◌≡◌, ◌⊎◌, ℕ, List, [], ◌∷◌, ◌++◌, Option, Some, None}
+use Rattle.cspf_audit.specs.declared.audit_error.AuditError.{AuditError}
+use Rattle.cspf_audit.specs.declared.audit_error.AuditError.TheVariants as error
+use Rattle.cspf_audit.specs.Lines.{HasNoFeed, AreLines, IsLastLine}
+
+-- memory was refused, or a read failed
+abbrev pub IsStreamFault : AuditError → Type 0
+IsStreamFault e = (e ≡ error.Memory) ⊎ (e ≡ error.Device)
+
+-- the same, or there are too many lines
+abbrev pub IsLinesFault : AuditError → Type 0
+IsLinesFault e = IsStreamFault e ⊎ (e ≡ error.TooManyRows)
+
+-- a line stands before the rest of a text
+abbrev pub IsLineBefore : List ℕ → List ℕ → List ℕ → Type 0
+IsLineBefore text line rest =
+    HasNoFeed line × ((IsLastLine text line × (rest ≡ [])) ⊎ (text ≡ line ++ 10 ∷ rest))
+
+-- a read took the first line of a text, or there was none
+abbrev pub Takes : Option (List ℕ) → Option (List ℕ) → Option (List ℕ) → Type 0
+Takes None after line = Unit {0}
+Takes (Some text) after None = text ≡ []
+Takes (Some text) None (Some line) = ⊥
+Takes (Some text) (Some rest) (Some line) = IsLineBefore text line rest
+
+-- all lines are those that were seen, and then those that are left
+abbrev pub AreSeen : Option (List ℕ) → Option (List ℕ) → List (List ℕ) → Type 0
+AreSeen None left seen = Unit {0}
+AreSeen (Some all) None seen = ⊥
+AreSeen (Some all) (Some left) seen =
+    (more : List (List ℕ)) → AreLines left more → AreLines all (seen ++ more)

@@ -1,0 +1,25 @@
+-- How replies are cut into lines.
+use Rattle.std.specs.Prelude.{◌≡◌, ◌≢◌, ◌<◌, ◌⊎◌, ℕ, List, [], ◌∷◌, ◌++◌, length}
+use Rattle.std.specs.List.{AllByRecursion}
+use Rattle.cspf_rows.specs.declared.limits.TheConstants.{MOST_ROWS}
+
+-- no byte of a line is a line feed
+abbrev pub HasNoFeed : List ℕ → Type 0
+HasNoFeed line = AllByRecursion (λ byte. byte ≢ 10) line
+
+-- a text is one last line with no line feed behind it
+abbrev pub IsLastLine : List ℕ → List ℕ → Type 0
+IsLastLine text line = (text ≡ line) × (line ≢ [])
+
+-- A text is these lines: each has a line feed behind it, but for the last, which may have none.
+-- Nothing behind the last line feed is no line.
+abbrev pub AreLines : List ℕ → List (List ℕ) → Type 0
+AreLines text [] = text ≡ []
+AreLines text (line ∷ lines) =
+    HasNoFeed line
+    × ((IsLastLine text line × (lines ≡ []))
+    ⊎ ((rest : List ℕ) × (text ≡ line ++ 10 ∷ rest) × AreLines rest lines))
+
+-- there are more than `MOST_ROWS` lines
+abbrev pub HasTooManyLines : List ℕ → Type 0
+HasTooManyLines text = (lines : List (List ℕ)) × AreLines text lines × (MOST_ROWS < length lines)

@@ -1,0 +1,109 @@
+-- Private: what the code keeps of the lines, as far as they were read and compared.
+use Rattle.std.specs.Prelude.{◌≡◌, ℕ, ◌+◌, ◌<◌, ◌≤◌, ◌⊎◌, ◌↔◌, Bool, true, false, nat_eq, if◌then◌else◌, Option, List, [], ◌∷◌, Contains, Some, None, length, take}
+use Rattle.std.specs.BTreeMap.{BTreeMap, get}
+use Rattle.std.specs.List.{slice_get, slice_set}
+use Rattle.std.specs.Ordering.{nat_cmp}
+use Rattle.cspf_db.specs.declared.request.Request.{Request}
+use Rattle.cspf_db.specs.Numbered.{NumberedChanges}
+use Rattle.cspf_db.specs.Changes.{database_after}
+use Rattle.cspf_ero.specs.declared.head.Head.{Head}
+use Rattle.cspf_ero.specs.ReplyHead.{BeginsWithHead, HasNoHead}
+use Rattle.cspf_audit.specs.declared.audit_error.AuditError.{AuditError}
+use Rattle.cspf_audit.specs.declared.audit_error.AuditError.TheVariants as error
+use Rattle.cspf_audit.specs.declared.claim.Claim.{Claim}
+use Rattle.cspf_audit.specs.declared.faults.AuditFault.{AuditFault}
+use Rattle.cspf_audit.specs.declared.faults.AuditFault.TheVariants as fault
+use Rattle.cspf_audit.specs.declared.finding.Finding.{Finding}
+use Rattle.cspf_audit.specs.declared.finding.Finding.TheVariants as finding
+use Rattle.cspf_audit.specs.declared.replay.Replay.{Replay}
+use Rattle.cspf_audit.specs.declared.replies.Replies.{Replies}
+use Rattle.cspf_audit.specs.declared.replies.Reading.{Reading}
+use Rattle.cspf_audit.specs.declared.replies.Reading.TheVariants as reading
+use Rattle.cspf_audit.specs.Requests.{RepeatsId}
+use Rattle.cspf_audit.specs.Findings.{IsPassedOver, IsNamed, IsFirstReply, IsFinding}
+
+-- the index of the first request with an id, where the first of these has this index
+abbrev pub place_from : ℕ → ℕ → List Request → Option ℕ
+place_from index id [] = None
+place_from index id (q ∷ requests) = if nat_eq q.id id then Some index else place_from (index + 1) id requests
+
+-- the index of the first request with an id
+abbrev pub place_of : ℕ → List Request → Option ℕ
+place_of id requests = place_from 0 id requests
+
+-- why requests aren't indexed by their ids
+abbrev pub IsIdFault : List Request → AuditError → Type 0
+IsIdFault requests error.Memory = Unit {0}
+IsIdFault requests error.Device = ⊥
+IsIdFault requests error.TooManyRows = ⊥
+IsIdFault requests (error.Torn after) = ⊥
+IsIdFault requests (error.Batch number refusal) = ⊥
+IsIdFault requests (error.Requests why) = ⊥
+IsIdFault requests (error.SameId row) = RepeatsId requests row
+
+-- the table has the database at its version of the batches
+pub record IsAtVersion (batches : List NumberedChanges) (replay : Replay) : Type 0 where
+  pub within : replay.version ≤ length batches
+  pub table : replay.table ≡ database_after (take replay.version batches)
+
+-- the line at the claim's index is the first with the id of the request at its index
+pub record IsClaim (requests : List Request) (last : ℕ) (lines : List (List ℕ)) (claim : Claim) : Type 0 where
+  pub line : List ℕ
+  pub q : Request
+  pub is_line : slice_get lines claim.line ≡ Some line
+  pub is_request : slice_get requests claim.request ≡ Some q
+  pub first : IsFirstReply requests (take claim.line lines) line q claim.version
+  pub within : claim.version ≤ last
+
+-- each claim is one
+abbrev pub AreClaims : List Request → ℕ → List (List ℕ) → List Claim → Type 0
+AreClaims requests last lines claims = (claim : Claim) → Contains claims claim → IsClaim requests last lines claim
+
+-- a claim is there of the line at this index
+abbrev pub IsClaimed : List Claim → ℕ → Type 0
+IsClaimed claims index = (claim : Claim) × Contains claims claim × (claim.line ≡ index)
+
+-- The finding of each line with no claim is right, and that of a line with one is `Good`, or right.
+pub record AreOpenFindings (batches : List NumberedChanges) (requests : List Request) (lines : List (List ℕ)) (claims : List Claim) (findings : List Finding) : Type 0 where
+  pub counted : length findings ≡ length lines
+  pub each : (index : ℕ) (line : List ℕ) (found : Finding) → slice_get lines index ≡ Some line
+      → slice_get findings index ≡ Some found
+      → IsFinding batches requests (take index lines) line found
+      ⊎ ((found ≡ finding.Good) × IsClaimed claims index)
+
+-- which requests lines name
+pub record AreNamed (requests : List Request) (lines : List (List ℕ)) (named : List Bool) : Type 0 where
+  pub counted : length named ≡ length requests
+  pub each : (index : ℕ) (q : Request) → slice_get requests index ≡ Some q
+      → (slice_get named index ≡ Some true) ↔ IsNamed lines q.id
+
+-- what was read of these lines
+pub record HasRead (batches : List NumberedChanges) (requests : List Request) (replies : Replies) (seen : List (List ℕ)) : Type 0 where
+  pub found : AreOpenFindings batches requests seen replies.claims.items replies.findings.items
+  pub claims : AreClaims requests (length batches) seen replies.claims.items
+  pub named : AreNamed requests seen replies.named.items
+
+-- what a line says, by the index of each request by its id and the requests that were named before
+abbrev pub IsReading : BTreeMap ℕ ℕ → ℕ → List ℕ → List Bool → List Bool → Reading → Type 0
+IsReading ids last line before after (reading.Settled finding.PassedOver) = IsPassedOver line × (after ≡ before)
+IsReading ids last line before after (reading.Settled finding.Good) = ⊥
+IsReading ids last line before after (reading.Settled finding.Unread) = (¬ IsPassedOver line) × HasNoHead line × (after ≡ before)
+IsReading ids last line before after (reading.Settled finding.Foreign) =
+    (head : Head) × BeginsWithHead line head × (get nat_cmp ids head.id ≡ None) × (after ≡ before)
+IsReading ids last line before after (reading.Settled finding.Doubled) =
+    (head : Head) × BeginsWithHead line head
+    × ((index : ℕ) × (get nat_cmp ids head.id ≡ Some index) × (slice_get before index ≡ Some true)) × (after ≡ before)
+IsReading ids last line before after (reading.Settled finding.NoVersion) =
+    (head : Head) × BeginsWithHead line head × (last < head.version)
+    × ((index : ℕ) × (get nat_cmp ids head.id ≡ Some index) × (slice_get before index ≡ Some false) × (after ≡ slice_set before index true))
+IsReading ids last line before after (reading.Settled finding.Altered) = ⊥
+IsReading ids last line before after (reading.Claims index version) =
+    (id : ℕ) × BeginsWithHead line (record { id = id; version = version }) × (version ≤ last)
+    × (get nat_cmp ids id ≡ Some index) × (slice_get before index ≡ Some false) × (after ≡ slice_set before index true)
+
+-- a fault for each request that isn't named
+abbrev pub unnamed_faults : List Request → List Bool → List AuditFault
+unnamed_faults [] named = []
+unnamed_faults (q ∷ requests) [] = []
+unnamed_faults (q ∷ requests) (true ∷ named) = unnamed_faults requests named
+unnamed_faults (q ∷ requests) (false ∷ named) = fault.Unanswered q.id ∷ unnamed_faults requests named

@@ -1,0 +1,101 @@
+ghost use Rattle.std.specs.Prelude.{◌≡◌};
+ghost use Rattle.cspf_rows.specs.declared.read_error.ReadError.{ReadError as IsReadError};
+ghost use Rattle.cspf_audit.specs.ErrorNames.{audit_error_of, requests_error_of, IsIoFault};
+ghost use Rattle.cspf_audit.specs.declared.audit_error.AuditError.TheVariants as audit_error;
+
+use cspf_db::Refusal;
+use cspf_rows::{ReadError, RequestsError};
+use std::alloc::{AllocError, AllocFailed};
+use std::io;
+use thiserror::Error;
+
+/// Why streams aren't audited: the first that applies to the journal, its batches, the requests,
+/// their ids and the replies, in this order.
+#[derive(Clone, Copy, Debug, PartialEq, Eq, Error)]
+pub enum AuditError {
+    /// Memory was refused.
+    #[error("out of memory")]
+    Memory,
+    /// A read failed.
+    #[error("a read failed")]
+    Device,
+    /// There is a row or a line past `MOST_ROWS` of one stream.
+    #[error("too many rows")]
+    TooManyRows,
+    /// Rows are left behind the batches of the journal.
+    #[error("the journal is torn after batch {after}")]
+    Torn {
+        /// The number of its batches.
+        after: u32,
+    },
+    /// A batch of the journal doesn't fit the database of those before it.
+    #[error("batch {number}: {refusal}")]
+    Batch {
+        /// Its number.
+        number: u32,
+        /// Why it doesn't fit.
+        refusal: Refusal,
+    },
+    /// A row of the requests is refused: `Bad` or `NotAsk`.
+    #[error("requests: {0}")]
+    Requests(RequestsError),
+    /// A row has the id of an earlier one.
+    #[error("row {row} of the requests has the id of an earlier row")]
+    SameId {
+        /// Which row it is, from 1 on.
+        row: u32,
+    },
+}
+
+impl From<AllocError> for AuditError {
+    ghost from_gives = { λ _ error. error ≡ audit_error.Memory };
+
+    fn from(_refused: AllocError) -> AuditError {
+        AuditError::Memory
+    }
+}
+
+impl<T: Drop> From<AllocFailed<T>> for AuditError {
+    ghost from_gives = { λ _ error. error ≡ audit_error.Memory };
+
+    fn from(_refused: AllocFailed<T>) -> AuditError {
+        AuditError::Memory
+    }
+}
+
+impl From<ReadError> for AuditError {
+    ghost from_gives = { λ why error. error ≡ audit_error_of why };
+
+    fn from(why: ReadError) -> AuditError {
+        match why {
+            ReadError::Memory => AuditError::Memory,
+            ReadError::Device => AuditError::Device,
+            ReadError::TooManyRows => AuditError::TooManyRows,
+        }
+    }
+}
+
+impl From<RequestsError> for AuditError {
+    ghost from_gives = { λ why error. error ≡ requests_error_of why };
+
+    fn from(why: RequestsError) -> AuditError {
+        match why {
+            RequestsError::Memory => AuditError::Memory,
+            RequestsError::Device => AuditError::Device,
+            RequestsError::TooManyRows => AuditError::TooManyRows,
+            RequestsError::Bad { .. } | RequestsError::NotAsk { .. } => AuditError::Requests(why),
+        }
+    }
+}
+
+impl From<io::Error> for AuditError {
+    ghost from_gives = { IsIoFault };
+
+    fn from(why: io::Error) -> AuditError {
+        if why.kind() == io::ErrorKind::OutOfMemory {
+            AuditError::Memory
+        } else {
+            AuditError::Device
+        }
+    }
+}

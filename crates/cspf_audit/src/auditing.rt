@@ -1,0 +1,74 @@
+ghost use Rattle.std.specs.Prelude.{◌≡◌, ◌≤◌, ℕ, length, IfOk, IfErr, IfSome};
+ghost use Rattle.std.specs.BTreeMap.{get};
+ghost use Rattle.std.specs.Ordering.{nat_cmp};
+ghost use Rattle.cspf_db.specs.Changes.{AreLawful};
+ghost use Rattle.cspf_rows.specs.Records.{rows_of};
+ghost use Rattle.cspf_rows.specs.declared.limits.TheConstants.{MOST_ROWS};
+ghost use Rattle.cspf_audit.specs.Audits.{IsAudit};
+ghost use Rattle.cspf_audit.specs.AuditErrors.{IsAuditOf, IsAuditError};
+ghost use Rattle.cspf_audit.specs.Requests.{HaveOwnIds};
+ghost use Rattle.cspf_audit.specs.Reading.{place_of};
+
+use crate::AuditError;
+use crate::comparing::compare_all;
+use crate::faults::Audit;
+use crate::ids::index_ids;
+use crate::journal::lawful_journal;
+use crate::lines::{Line, read_lines};
+use crate::replies::read_replies;
+use crate::reporting::report;
+use cspf_db::{Batch, Request};
+use cspf_rows::read_requests;
+use std::alloc::{AllocError, Global};
+use std::collections::BTreeMap;
+use std::io::Read;
+
+/// Audits replies: whether each line that isn't passed over is the reply to a request of a stream at
+/// the version of a journal that it names, as `best_by_rounds` finds it, and which requests have no
+/// line. Lines are passed over whose first word is `version`, `applied` or `batch`. Each stream is
+/// read whole, and refused past `MOST_ROWS` rows or lines.
+pub fn audit<R: Read + Drop, Q: Read + Drop, P: Read + Drop>(
+    alloc: Global,
+    journal: R,
+    requests: Q,
+    replies: P,
+) -> Result<Audit, AuditError>
+    ensures whole { IfOk result (λ audit. IfSome (R.remaining journal) (λ kept.
+        IfSome (Q.remaining requests) (λ asked. IfSome (P.remaining replies) (λ said.
+        IsAuditOf (rows_of kept) (rows_of asked) said audit)))) }
+    ensures err { IfErr result
+        (IsAuditError (R.remaining journal) (Q.remaining requests) (P.remaining replies)) }
+{
+    let batches = lawful_journal(alloc, journal)?;
+    let requests = read_requests(alloc, requests)?;
+    let ids = index_ids(alloc, &requests)?;
+    let lines = read_lines(alloc, replies)?;
+    Ok(audit_lines(alloc, &batches, &requests, &ids, &lines)?)
+}
+
+/// Audits lines.
+fn audit_lines(
+    alloc: Global,
+    batches: &[Batch],
+    requests: &[Request],
+    ids: &BTreeMap<u64, usize>,
+    lines: &[Line],
+) -> Result<Audit, AllocError>
+    requires lawful { AreLawful batches.now }
+    requires places { (id : ℕ) → get nat_cmp ids.now id ≡ place_of id requests.now }
+    requires own { HaveOwnIds requests.now }
+    requires most { length lines.now ≤ MOST_ROWS }
+    ensures { IfOk result (IsAudit batches.now requests.now lines.now) }
+{
+    let mut replies = read_replies(alloc, lines, requests, ids, batches.len())?;
+    replies.claims.sort_by_key(|claim| claim.version)?;
+    compare_all(
+        alloc,
+        batches,
+        requests,
+        lines,
+        &replies.claims,
+        &mut replies.findings,
+    )?;
+    report(alloc, &replies.findings, requests, &replies.named)
+}

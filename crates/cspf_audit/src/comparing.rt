@@ -1,0 +1,68 @@
+ghost use Rattle.std.specs.Prelude.{◌≡◌, ◌↔◌, IsTrue, IfOk, OnOk, ◌∷◌, ◌++◌, [], length};
+ghost use Rattle.cspf_db.specs.Changes.{AreLawful};
+ghost use Rattle.cspf_audit.specs.Findings.{IsRightReply, AreFindings};
+ghost use Rattle.cspf_audit.specs.Reading.{AreOpenFindings, AreClaims};
+
+use crate::claim::Claim;
+use crate::finding::Finding;
+use crate::lines::Line;
+use crate::replay::Replay;
+use cspf_db::{Batch, Request, Table, one_best_answer};
+use cspf_ero::reply_line;
+use cspf_search::best_by_rounds;
+use std::alloc::{AllocError, Global};
+
+/// Compares the lines that claim to be replies with the replies at their versions. A line that
+/// isn't its reply is found to be altered.
+pub(crate) fn compare_all(
+    alloc: Global,
+    batches: &[Batch],
+    requests: &[Request],
+    lines: &[Line],
+    claims: &[Claim],
+    findings: &mut [Finding],
+) -> Result<(), AllocError>
+    requires lawful { AreLawful batches.now }
+    requires claims { AreClaims requests.now (length batches.now) lines.now claims.now }
+    requires open { AreOpenFindings batches.now requests.now lines.now claims.now findings.old }
+    ensures { OnOk result (AreFindings batches.now requests.now lines.now findings.new) }
+{
+    let mut replay = Replay::new(alloc)?;
+    for claim in claims {
+        replay.go_to(alloc, batches, claim.version as usize)?;
+        let request = &requests[claim.request];
+        let line = lines[claim.line].text();
+        if !is_reply(alloc, replay.table(), request, claim.version, line)? {
+            findings[claim.line] = Finding::Altered;
+        }
+    }
+    Ok(())
+}
+
+/// Whether a line is the reply to a request in a table's database at a version.
+fn is_reply(
+    alloc: Global,
+    table: &Table,
+    request: &Request,
+    version: u32,
+    line: &[u8],
+) -> Result<bool, AllocError>
+    ensures { IfOk result (λ right. IsTrue right
+        ↔ IsRightReply table.now request.now version line.now) }
+{
+    // Law: a request has one best answer.
+    one_best_answer();
+    let outcome = best_by_rounds(alloc, table, request)?;
+    let reply = reply_line(alloc, request.id, version, &outcome)?;
+    Ok(is_line(line, &reply))
+}
+
+/// Whether bytes are a line with its line feed.
+fn is_line(line: &[u8], bytes: &[u8]) -> bool
+    ensures { IsTrue result ↔ (bytes.now ≡ line.now ++ 10 ∷ []) }
+{
+    match bytes.strip_suffix(b"\n") {
+        Some(text) => text == line,
+        None => false,
+    }
+}

@@ -1,0 +1,31 @@
+ghost use Rattle.std.specs.Prelude.{◌≡◌, ◌≤◌, ℕ, length, IfOk, IfErr, OnOk};
+ghost use Rattle.std.specs.BTreeMap.{get};
+ghost use Rattle.std.specs.Ordering.{nat_cmp};
+ghost use Rattle.cspf_rows.specs.declared.limits.TheConstants.{MOST_ROWS};
+ghost use Rattle.cspf_audit.specs.Requests.{HaveOwnIds};
+ghost use Rattle.cspf_audit.specs.Reading.{place_of, IsIdFault};
+
+use crate::AuditError;
+use cspf_db::Request;
+use std::alloc::Global;
+use std::collections::BTreeMap;
+
+/// The index of each request by its id. Two requests with one id are refused.
+pub(crate) fn index_ids(
+    alloc: Global,
+    requests: &[Request],
+) -> Result<BTreeMap<u64, usize>, AuditError>
+    requires most { length requests.now ≤ MOST_ROWS }
+    ensures places { IfOk result (λ ids. (id : ℕ) → get nat_cmp ids id ≡ place_of id requests.now) }
+    ensures own { OnOk result (HaveOwnIds requests.now) }
+    ensures err { IfErr result (IsIdFault requests.now) }
+{
+    let mut ids = BTreeMap::new(alloc);
+    for (index, request) in requests.iter().enumerate() {
+        if ids.insert(request.id, index)?.is_some() {
+            let row = index as u32 + 1;
+            return Err(AuditError::SameId { row });
+        }
+    }
+    Ok(ids)
+}

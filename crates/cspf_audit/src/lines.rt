@@ -1,0 +1,96 @@
+ghost use Rattle.std.specs.Prelude.{◌≡◌, ◌≤◌, [], length, IfOk, IfErr, OnOk, IfSome};
+ghost use Rattle.cspf_rows.specs.declared.limits.TheConstants.{MOST_ROWS};
+ghost use Rattle.std.specs.Io.BufRead.{strip_last};
+ghost use Rattle.cspf_audit.specs.Lines.{AreLines, HasTooManyLines};
+ghost use Rattle.cspf_audit.specs.LineReading.{Takes, IsStreamFault, IsLinesFault};
+
+use crate::AuditError;
+use cspf_rows::MOST_ROWS;
+use std::alloc::Global;
+use std::io::{BufRead, BufReader, Read};
+use std::marker::Model;
+
+/// The bytes of a line, its line feed aside.
+#[derive(Drop)]
+pub(crate) struct Line(Vec<u8>);
+
+impl Model for Line {
+    ghost use Rattle.std.specs.Prelude.{ℕ, List};
+
+    ghost Value = { List ℕ };
+
+    ghost view = { λ a. a.0.items };
+}
+
+impl Line {
+    /// Its bytes.
+    pub(crate) fn text(&self) -> &[u8]
+        ensures { result.now ≡ self.now }
+    {
+        self.0.as_slice()
+    }
+}
+
+/// The lines of a stream, which is read to its end, or to its line after `MOST_ROWS`, which is
+/// refused as `TooManyRows`.
+pub(crate) fn read_lines<P: Read + Drop>(alloc: Global, replies: P) -> Result<Vec<Line>, AuditError>
+    ensures whole { IfOk result (λ lines. IfSome (P.remaining replies) (λ bytes.
+        AreLines bytes lines.items)) }
+    ensures most { IfOk result (λ lines. length lines.items ≤ MOST_ROWS) }
+    ensures too_many { result ≡ Err AuditError.TooManyRows
+        → IfSome (P.remaining replies) HasTooManyLines }
+    ensures error { IfErr result IsLinesFault }
+{
+    let mut reader = BufReader::new(alloc, replies)?;
+    let mut lines = Vec::new(alloc);
+    read_all(alloc, &mut reader, &mut lines)?;
+    Ok(lines)
+}
+
+/// Reads the lines that a reader has left.
+fn read_all<B: BufRead>(
+    alloc: Global,
+    reader: &mut B,
+    lines: &mut Vec<Line>,
+) -> Result<(), AuditError>
+    requires fresh { lines.old.items ≡ [] }
+    ensures whole { OnOk result (IfSome (B.remaining reader.old) (λ bytes.
+        AreLines bytes lines.new.items)) }
+    ensures most { OnOk result (length lines.new.items ≤ MOST_ROWS) }
+    ensures too_many { result ≡ Err AuditError.TooManyRows
+        → IfSome (B.remaining reader.old) HasTooManyLines }
+    ensures error { IfErr result IsLinesFault }
+{
+    for _read in 0..MOST_ROWS {
+        match next_line(alloc, reader)? {
+            Some(line) => lines.push(line)?,
+            None => return Ok(()),
+        }
+    }
+    match next_line(alloc, reader)? {
+        Some(_) => return Err(AuditError::TooManyRows),
+        None => Ok(()),
+    }
+}
+
+/// Reads the next line, if there is one.
+fn next_line<B: BufRead>(alloc: Global, reader: &mut B) -> Result<Option<Line>, AuditError>
+    ensures takes { IfOk result (Takes (B.remaining reader.old) (B.remaining reader.new)) }
+    ensures error { IfErr result IsStreamFault }
+{
+    let mut text = Vec::new(alloc);
+    if reader.read_until(b'\n', &mut text)? == 0 {
+        return Ok(None);
+    }
+    cut_feed(&mut text);
+    Ok(Some(Line(text)))
+}
+
+/// Takes a line feed off the end of a line.
+fn cut_feed(text: &mut Vec<u8>)
+    ensures { text.new.items ≡ strip_last 10 text.old.items }
+{
+    if text.last() == Some(&b'\n') {
+        text.pop();
+    }
+}

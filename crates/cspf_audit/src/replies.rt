@@ -1,0 +1,124 @@
+ghost use Rattle.std.specs.Prelude.{◌≡◌, ◌++◌, ◌∷◌, [], ◌<◌, ℕ, List, length, Some, OnOk, IfOk};
+ghost use Rattle.std.specs.BTreeMap.{get};
+ghost use Rattle.std.specs.Ordering.{nat_cmp};
+ghost use Rattle.cspf_db.specs.Numbered.{NumberedChanges};
+ghost use Rattle.cspf_db.specs.declared.request.Request.{Request as AsRequest};
+ghost use Rattle.cspf_audit.specs.Requests.{HaveOwnIds};
+ghost use Rattle.cspf_audit.specs.Reading.{place_of, HasRead, IsReading};
+
+use crate::claim::Claim;
+use crate::finding::Finding;
+use crate::lines::Line;
+use crate::words::is_passed_over;
+use cspf_db::Request;
+use cspf_ero::{one_head, reply_head};
+use std::alloc::{AllocError, Global};
+use std::collections::BTreeMap;
+
+/// What the lines of replies say, as far as they were read.
+#[derive(Drop)]
+pub(crate) struct Replies {
+    /// What is found of each line. Lines that claim to be replies count as good.
+    pub(crate) findings: Vec<Finding>,
+    /// The lines that claim to be replies.
+    pub(crate) claims: Vec<Claim>,
+    /// Whether a line has the id of the request at each index.
+    pub(crate) named: Vec<bool>,
+}
+
+/// What a line says before its words are compared.
+#[derive(Clone, Copy)]
+enum Reading {
+    /// There is nothing to compare.
+    Settled(Finding),
+    /// It claims to be the reply to the request at an index, at a version.
+    Claims(usize, u32),
+}
+
+/// Reads lines that reply to requests, with the index of each request by its id, at versions up to
+/// the last one.
+pub(crate) fn read_replies(
+    alloc: Global,
+    lines: &[Line],
+    requests: &[Request],
+    ids: &BTreeMap<u64, usize>,
+    last: usize,
+) -> Result<Replies, AllocError>
+    requires places { (id : ℕ) → get nat_cmp ids.now id ≡ place_of id requests.now }
+    requires own { HaveOwnIds requests.now }
+    ensures { IfOk result (λ replies. (batches : List NumberedChanges) → length batches ≡ last
+        → HasRead batches requests.now replies lines.now) }
+{
+    let named = vec![in alloc; false; requests.len()]?;
+    let mut replies = Replies {
+        findings: Vec::new(alloc),
+        claims: Vec::new(alloc),
+        named,
+    };
+    for line in lines {
+        replies.take(line.text(), ids, last)?;
+    }
+    Ok(replies)
+}
+
+impl Replies {
+    /// Takes the next line.
+    fn take(
+        &mut self,
+        line: &[u8],
+        ids: &BTreeMap<u64, usize>,
+        last: usize,
+    ) -> Result<(), AllocError>
+        requires within { (id index : ℕ) → get nat_cmp ids.now id ≡ Some index
+            → index < length self.old.named.items }
+        ensures length { OnOk result (length self.new.named.items ≡ length self.old.named.items) }
+        ensures read { OnOk result ((batches : List NumberedChanges) (requests : List AsRequest)
+            (seen : List (List ℕ)) → length batches ≡ last → HaveOwnIds requests
+            → ((id : ℕ) → get nat_cmp ids.now id ≡ place_of id requests)
+            → HasRead batches requests self.old seen
+            → HasRead batches requests self.new (seen ++ line.now ∷ [])) }
+    {
+        // Law: a line begins with one id and version at most.
+        one_head();
+        let at = self.findings.len();
+        let finding = match read_reply(line, ids, last, &mut self.named) {
+            Reading::Settled(finding) => finding,
+            Reading::Claims(request, version) => {
+                self.claims.push(Claim {
+                    line: at,
+                    request,
+                    version,
+                })?;
+                Finding::Good
+            }
+        };
+        self.findings.push(finding)?;
+        Ok(())
+    }
+}
+
+/// What a line says, and marks the request that it names.
+fn read_reply(line: &[u8], ids: &BTreeMap<u64, usize>, last: usize, named: &mut [bool]) -> Reading
+    requires within { (id index : ℕ) → get nat_cmp ids.now id ≡ Some index
+        → index < length named.old }
+    ensures says { IsReading ids.now last line.now named.old named.new result }
+    ensures length { length named.new ≡ length named.old }
+{
+    if is_passed_over(line) {
+        return Reading::Settled(Finding::PassedOver);
+    }
+    let Some(head) = reply_head(line) else {
+        return Reading::Settled(Finding::Unread);
+    };
+    let Some(request) = ids.get(&head.id).copied() else {
+        return Reading::Settled(Finding::Foreign);
+    };
+    if named[request] {
+        return Reading::Settled(Finding::Doubled);
+    }
+    named[request] = true;
+    if head.version as usize > last {
+        return Reading::Settled(Finding::NoVersion);
+    }
+    Reading::Claims(request, head.version)
+}

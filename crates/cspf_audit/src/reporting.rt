@@ -1,0 +1,78 @@
+ghost use Rattle.std.specs.Prelude.{◌≡◌, ◌++◌, ◌≤◌, List, ℕ, length, IfOk, OnOk};
+ghost use Rattle.cspf_rows.specs.declared.limits.TheConstants.{MOST_ROWS};
+ghost use Rattle.cspf_audit.specs.Audits.{faults_from, good_count, fault_of};
+ghost use Rattle.cspf_audit.specs.Reading.{unnamed_faults};
+
+use crate::faults::{Audit, AuditFault};
+use crate::finding::Finding;
+use cspf_db::Request;
+use std::alloc::{AllocError, Global};
+
+/// The audit of lines with these findings, and of requests of which a line names these.
+pub(crate) fn report(
+    alloc: Global,
+    findings: &[Finding],
+    requests: &[Request],
+    named: &[bool],
+) -> Result<Audit, AllocError>
+    requires most { length findings.now ≤ MOST_ROWS }
+    requires each { length named.now ≡ length requests.now }
+    ensures good { IfOk result (λ audit. audit.good ≡ good_count findings.now) }
+    ensures faults { IfOk result (λ audit. audit.faults.items
+        ≡ faults_from 1 findings.now ++ unnamed_faults requests.now named.now) }
+{
+    let mut faults = Vec::new(alloc);
+    let good = report_lines(findings, &mut faults)?;
+    report_requests(requests, named, &mut faults)?;
+    Ok(Audit { good, faults })
+}
+
+/// Adds the fault of each line that has one, and counts the good lines.
+fn report_lines(findings: &[Finding], faults: &mut Vec<AuditFault>) -> Result<u32, AllocError>
+    requires most { length findings.now ≤ MOST_ROWS }
+    ensures good { IfOk result (λ good. good ≡ good_count findings.now) }
+    ensures faults { OnOk result (faults.new.items ≡ faults.old.items ++ faults_from 1 findings.now) }
+{
+    let mut good = 0;
+    for (index, finding) in findings.iter().enumerate() {
+        if *finding == Finding::Good {
+            good += 1;
+        }
+        if let Some(fault) = fault_of(index as u32 + 1, *finding) {
+            faults.push(fault)?;
+        }
+    }
+    Ok(good)
+}
+
+/// The fault of a line, by what is found of it.
+fn fault_of(line: u32, finding: Finding) -> Option<AuditFault>
+    ensures { result ≡ fault_of line finding }
+{
+    match finding {
+        Finding::PassedOver | Finding::Good => None,
+        Finding::Unread => Some(AuditFault::Unread { line }),
+        Finding::Foreign => Some(AuditFault::Foreign { line }),
+        Finding::Doubled => Some(AuditFault::Doubled { line }),
+        Finding::NoVersion => Some(AuditFault::NoVersion { line }),
+        Finding::Altered => Some(AuditFault::Altered { line }),
+    }
+}
+
+/// Adds each request that no line names.
+fn report_requests(
+    requests: &[Request],
+    named: &[bool],
+    faults: &mut Vec<AuditFault>,
+) -> Result<(), AllocError>
+    requires each { length named.now ≡ length requests.now }
+    ensures { OnOk result (faults.new.items
+        ≡ faults.old.items ++ unnamed_faults requests.now named.now) }
+{
+    for (index, request) in requests.iter().enumerate() {
+        if !named[index] {
+            faults.push(AuditFault::Unanswered { id: request.id })?;
+        }
+    }
+    Ok(())
+}
