@@ -1,11 +1,11 @@
 #!/usr/bin/env python3
 """Compares the built program with tests/reference.py on streams whose bytes were changed.
 
-    tests/changed.py [--program FILE] [--changed N] [--seed S] [--jobs J] [--audit]
+    tests/changed.py [--program FILE] [--changed N] [--seed S] [--jobs J]
     tests/changed.py --wrong [--changed N] [--seed S]
 
 N streams are drawn and changed: scripts, journals and requests (with and without --accept-torn), updates of
-a live run by one worker, and objects as hops. Beside these each worked row, journal and object is cut at each
+a live run by one worker, what an audit reads, and objects as hops. Beside these each worked row, journal and object is cut at each
 byte, each value of a worked row is met at its edges, each field in quotes, each byte as each other one, and
 limits are met and passed. Lines, status and journal have to be those of the reference. Each
 difference is printed with its seed and number, and its streams are kept in a folder, together with the
@@ -157,10 +157,10 @@ def replies(draw, journal, requests):
     return "".join(f"{line}\n" for line in [*lines, f"applied {len(networks) - 1}"])
 
 
-def drawn_run(seed, number, audits=False):
+def drawn_run(seed, number):
     draw = random.Random(f"{seed}.{number}")
     name = f"seed {seed}, number {number}"
-    kind = draw.choices(["script", "batch", "live", "object", "audit"], [50, 25, 10, 15, 20 if audits else 0])[0]
+    kind = draw.choices(["script", "batch", "live", "object", "audit"], [50, 25, 10, 15, 20])[0]
     if kind == "script":
         text, names = changes.changed(draw, *base(draw, SCRIPTS, changes.script))
         return Run("solve", [text], [], names, name)
@@ -169,13 +169,13 @@ def drawn_run(seed, number, audits=False):
     if kind == "audit":
         texts = [changes.journal(draw), changes.requests(draw)]
         texts.append(replies(draw, *texts))
-        places = [[2], [2], [2], [2], [0], [1], [0, 1, 2]]
+        places = [[2], [2], [2], [2], [0], [1], [0, 1], [0, 1, 2]]
     else:
         texts = base(draw, JOURNALS, changes.journal, changes.requests)
         places = [[0], [0], [1], [0, 1]]
     names, words = [], []
     for at in draw.choice(places):
-        texts[at], more = changes.changed(draw, texts[at])
+        texts[at], more = changes.changed(draw, texts[at], changes.OF_REPLIES if at == 2 else changes.USUAL)
         names += more
     if kind == "batch":
         words = draw.choice([[], ["--accept-torn"]]) + draw.choice([[], [], [], ["--workers", "3"]])
@@ -325,7 +325,7 @@ def report(program, run, found, wanted):
 def tried(task):
     """The kind of a run, its changes, and the words of its difference, if it differs."""
     seed, number = task
-    run = STATE["fixed"][number] if seed is None else drawn_run(seed, number, STATE["audits"])
+    run = STATE["fixed"][number] if seed is None else drawn_run(seed, number)
     differs = compared(STATE["program"], run)
     return run.command, run.changes, report(STATE["program"], run, *differs) if differs else None
 
@@ -333,10 +333,10 @@ def tried(task):
 STATE = {}
 
 
-def program_differs(path, count, seed, jobs, audits):
+def program_differs(path, count, seed, jobs):
     """Whether the program differs anywhere. Prints each difference, and then what was tried."""
     room = tempfile.mkdtemp(prefix="changed-", dir="/dev/shm" if os.access("/dev/shm", os.W_OK) else None)
-    STATE.update(program=Program(path, room), fixed=[*limit_runs(), *cut_runs(), *edge_runs(), *byte_runs()], audits=audits)
+    STATE.update(program=Program(path, room), fixed=[*limit_runs(), *cut_runs(), *edge_runs(), *byte_runs()])
     tasks = [(None, number) for number in range(len(STATE["fixed"]))] + [(seed, number) for number in range(count)]
     commands, kinds, differ = collections.Counter(), collections.Counter(), 0
     try:
@@ -370,10 +370,10 @@ def untold(rules, runs, told):
     return list(left)
 
 
-def wrong_programs_pass(count, seed, audits):
+def wrong_programs_pass(count, seed):
     """Whether any wrong program isn't told apart. Prints where each was."""
-    told, rules = {}, wrong.RULES + (wrong.AUDITS if audits else [])
-    left = untold(rules, (drawn_run(seed, number, audits) for number in range(count)), told) + untold(wrong.LIMITS, limit_runs(), told)
+    told = {}
+    left = untold(wrong.RULES, (drawn_run(seed, number) for number in range(count)), told) + untold(wrong.LIMITS, limit_runs(), told)
     for name in left:
         print(f"NOT TOLD APART: a program that {name}")
     print(f"wrong: {len(told)} programs told apart, {len(left)} not; " + "; ".join(f"{name}: {place}" for name, place in told.items()))
@@ -383,15 +383,14 @@ def wrong_programs_pass(count, seed, audits):
 def main():
     words = argparse.ArgumentParser(description=__doc__, formatter_class=argparse.RawDescriptionHelpFormatter)
     words.add_argument("--program", default=os.path.join(os.path.dirname(HERE), "crates/routed/out/routed"))
-    words.add_argument("--changed", type=int, default=20_000, metavar="N")
+    words.add_argument("--changed", type=int, default=24_000, metavar="N")
     words.add_argument("--seed", type=int, default=1)
     words.add_argument("--jobs", type=int, default=4)
-    words.add_argument("--audit", action="store_true")
     words.add_argument("--wrong", action="store_true")
     given = words.parse_args()
     if given.wrong:
-        sys.exit(wrong_programs_pass(given.changed, given.seed, given.audit))
-    sys.exit(program_differs(os.path.abspath(given.program), given.changed, given.seed, given.jobs, given.audit))
+        sys.exit(wrong_programs_pass(given.changed, given.seed))
+    sys.exit(program_differs(os.path.abspath(given.program), given.changed, given.seed, given.jobs))
 
 
 if __name__ == "__main__":

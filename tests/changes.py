@@ -74,6 +74,24 @@ def journal(draw):
     return stream_of(rows)
 
 
+def updates(draw, batches, routers=12):
+    """Batches that fit, one after the other, on a larger network."""
+    keys, rows = set(), []
+    for number in range(1, batches + 1):
+        changes = {}
+        for _ in range(6):
+            start, end = draw.sample(range(routers), 2)
+            key = f"10.0.0.{start},172.16.0.{draw.randrange(4)}"
+            free = ",".join(str(draw.choice([0, 5, 10])) for _ in range(8))
+            changes[key] = f"put,{key},10.0.0.{end},192.168.0.{end},{draw.randrange(1, 9)},0x{draw.randrange(8):08x},{free}"
+        for key in draw.sample(sorted(keys), min(2, len(keys))):
+            changes[key] = f"drop,{key}"
+        keys -= changes.keys()
+        keys |= {key for key, row in changes.items() if row.startswith("put")}
+        rows += [*changes.values(), f"end,{number},{len(changes)}"]
+    return stream_of(rows)
+
+
 def requests(draw):
     return stream_of(ask_rows(draw) + ask_rows(draw, draw.choice([4, 4, 4, 4, 0])))
 
@@ -86,7 +104,7 @@ SINGLE = [
 ]
 LINES = [
     "", "", "\r", " ", "#", "# a comment", "#,", ",", ",,", '"', '""', '"",', "foo", "put", "drop", "end", "ask", "PUT", "put ", "end,1,0", "end,2,0",
-    "drop,10.0.0.1,172.16.0.1", "\0", "\xef\xbb\xbf", "version 1", ",put", "," * 20,
+    "drop,10.0.0.1,172.16.0.1", "\0", "\xef\xbb\xbf", "version 1", ",put", "," * 20, "applied", "batch 1 refused: full", "versions", "ask 7 v1",
 ]
 NUMBERS = [
     "", "0", "00", "01", "7", "8", "07", "32", "33", "255", "256", "4294967295", "4294967296", "18446744073709551615", "18446744073709551616",
@@ -271,11 +289,27 @@ def byte_order_mark(draw, text):
     return draw.choice(["\xef\xbb\xbf", "\xef\xbb\xbf", "\xef\xbb", "\xef", "\xef\xbb\xbf\xef\xbb\xbf", "\n\xef\xbb\xbf", "\xff\xfe", '\xef\xbb\xbf"']) + text
 
 
+@of_lines
+def reply_retold(draw, lines, at):
+    """A reply line with another id, version or outcome, in its place or before it, as a run might have written it."""
+    told = [place for place, line in enumerate(lines) if re.match("ask [0-9]+ v[0-9]+ ", line)]
+    if told:
+        at = draw.choice(told)
+        _, name, version, rest = lines[at].split(" ", 3)
+        other = lines[draw.choice(told)]
+        lines[at:at + draw.choice([0, 1, 1])] = [draw.choice([
+            f"ask {draw.randrange(9)} {version} {rest}", f"ask {name} v{draw.randrange(5)} {rest}", f"ask {name} v{int(version[1:]) + draw.choice([1, 1, 4])} {rest}",
+            f"ask {name} {version} {draw.choice(['none', 'unknown-from', 'unknown-to', rest.upper(), rest + ' '])}",
+            f"ask {name} {version} {other.split(' ', 3)[3]}", lines[at].replace("again=no", "again=yes"), lines[at].replace("again=yes", "again=no"),
+        ])]
+
+
 USUAL = [
     byte_changed, byte_dropped, byte_doubled, byte_added, field_dropped, field_doubled, field_emptied, fields_swapped, field_quoted, value_at_its_edge,
     value_at_its_edge, hops_repeated, lines_joined, line_cut, line_parted, line_dropped, line_doubled, lines_swapped, line_added, stream_cut,
     last_line_feed_dropped, line_ends_changed, byte_order_mark,
 ]
+OF_REPLIES = USUAL + [reply_retold] * 12
 
 
 def counts_mended(text):
@@ -289,11 +323,11 @@ def counts_mended(text):
     return "\n".join(lines)
 
 
-def changed(draw, text):
+def changed(draw, text, usual=USUAL):
     """The text after one to three changes, and their names."""
     names = []
     for _ in range(draw.choice([1, 1, 1, 2, 3])):
-        change = field_of_a_megabyte if draw.random() < 0.002 else draw.choice(USUAL)
+        change = field_of_a_megabyte if draw.random() < 0.002 else draw.choice(usual)
         if text:
             text = change(draw, text)
             names.append(change.__name__)

@@ -10,6 +10,7 @@ from versions import Versions
 TOP = os.path.dirname(os.path.dirname(os.path.abspath(__file__)))
 ABSENT, FOLDER, FULL = (f"{text}\n".encode() for text in (
     "No such file or directory (os error 2)", "Is a directory (os error 21)", "No space left on device (os error 28)"))
+AUDITED = ("journal", "requests", "replies")
 
 
 def explained(program, checks):
@@ -25,6 +26,8 @@ def explained(program, checks):
             (["live", "--updates", null, "--requests", absent, "--journal", journal], b"requests: open: " + ABSENT),
             (["live", "--updates", null, "--requests", null, "--journal", room], b"journal: open: File exists (os error 17)\n"),
             (["live", "--updates", room, "--requests", null, "--journal", journal], b"updates: read: " + FOLDER),
+            *((["audit", *(word for other in AUDITED for word in (f"--{other}", path if other == name else null))], name.encode() + said)
+              for name in AUDITED for path, said in ((absent, b": open: " + ABSENT), (room, b": read: " + FOLDER))),
         ]:
             checks.same(f"a stop that isn't explained: {words}", program.run(words), (3, b"", b"routed: stopped\n"))
             if os.path.exists(journal):
@@ -43,11 +46,13 @@ def streams(program, checks):
     rows = os.path.join(TOP, "examples/abilene.rows")
     batch = [program.path, "batch", "--explain", *(word for kind in ("journal", "requests")
                                                    for word in (f"--{kind}", os.path.join(TOP, f"examples/nsfnet.{kind}")))]
+    audit = [program.path, "audit", "--explain", *(word for name in AUDITED for word in (f"--{name}", os.devnull))]
     folder = os.open(TOP, os.O_RDONLY)
     with open("/dev/full", "wb") as full, open(rows, "rb") as source:
         for name, words, stdin, line in [
             ("standard output is full", [program.path, "solve", "--explain"], source, b"standard output: write: " + FULL),
             ("standard output of a batch is full", batch, subprocess.DEVNULL, b"standard output: flush: " + FULL),
+            ("standard output of an audit is full", audit, subprocess.DEVNULL, b"standard output: flush: " + FULL),
         ]:
             ran = subprocess.run(words, stdin=stdin, stdout=full, stderr=subprocess.PIPE)
             checks.same(f"explained: {name}", (ran.returncode, ran.stderr), (3, b"routed: " + line + b"routed: stopped\n"))
@@ -84,7 +89,7 @@ def limited(program, checks, room):
 
 def closed(program, checks):
     """Help and a refused command line have the status 1, also where nobody can be told."""
-    for words in [["--help"], ["live", "--help"], ["--version"], [], ["solve", "--none"], ["batch"], ["live", "--workers", "65"]]:
+    for words in [["--help"], ["live", "--help"], ["audit", "--help"], ["--version"], [], ["solve", "--none"], ["batch"], ["live", "--workers", "65"], ["audit"]]:
         told = program.run(words)
         checks.true(f"status 1 and words: {words}", told[0] == 1 and told[1] == b"" and told[2], told)
         ran = subprocess.run(["sh", "-c", 'exec "$@" 2>&-', "sh", program.path, *words], capture_output=True)

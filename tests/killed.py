@@ -5,6 +5,7 @@ import subprocess
 import tempfile
 import time
 
+import changes
 from refusal import COMPILER, Refuser
 from versions import Versions
 
@@ -13,24 +14,9 @@ BATCHES, KILLS, ROUTERS = 200, 100, 12
 
 def network():
     """The updates of 200 batches on a small network, and requests."""
-    draw, links, rows = random.Random(5), {}, []
-    for number in range(1, BATCHES + 1):
-        changes = {}
-        for _ in range(6):
-            a, b = draw.sample(range(ROUTERS), 2)
-            key = f"10.0.0.{a},172.16.0.{draw.randrange(4)}"
-            free = ",".join(str(draw.choice([0, 5, 10])) for _ in range(8))
-            changes[key] = f"put,{key},10.0.0.{b},192.168.0.{b},{draw.randrange(1, 9)},0x{draw.randrange(8):08x},{free}\n"
-        for key in draw.sample(sorted(links), min(2, len(links))):
-            changes[key] = f"drop,{key}\n"
-        for key, row in changes.items():
-            if row.startswith("put"):
-                links[key] = row
-            else:
-                del links[key]
-        rows += [*changes.values(), f"end,{number},{len(changes)}\n"]
+    draw = random.Random(5)
     asks = [f"ask,{at},10.0.0.{at},10.0.0.{(at * 5 + 1) % ROUTERS},{at % 8},{draw.choice([0, 5])},0x0,0x0,0x0," for at in range(ROUTERS)]
-    return "".join(rows), asks
+    return changes.updates(draw, BATCHES, ROUTERS), asks
 
 
 def killed(program, checks):

@@ -4,6 +4,7 @@ import re
 import time
 from collections import Counter
 
+import reference
 from refusal import COMPILER, Refuser, each
 from versions import Versions
 
@@ -30,9 +31,9 @@ def lines_of(versions):
 # What --explain says of a refused call.
 CAUSES = {
     "malloc": rb"(routed: out of memory\n)?",  # nothing while the command line is read
-    "read": rb"routed: (standard input|journal|updates|requests): read: Input/output error \(os error 5\)\n",
+    "read": rb"routed: (standard input|journal|updates|requests|replies): read: Input/output error \(os error 5\)\n",
     "write": rb"routed: standard output: (write|flush): No space left on device \(os error 28\)\n",
-    "open": rb"routed: (journal|updates|requests): open: Too many open files \(os error 24\)\n",
+    "open": rb"routed: (journal|updates|requests|replies): open: Too many open files \(os error 24\)\n",
     "thread": rb"routed: a worker couldn't be started\n",
     "break": rb"routed: [a-z ]*: (read|write|flush): Interrupted system call \(os error 4\)\n",
 }
@@ -107,12 +108,33 @@ class Live:
         return is_front and self.ends(ran, kept[:until - begun], applied, last[0].decode())
 
 
+class Audit:
+    """`audit` on NSFNET, of a reply at each version, one of which is altered, one said twice and one left out."""
+
+    def __init__(self, program, room):
+        updates, requests = text_of(UPDATES), text_of(REQUESTS)
+        versions = Versions(updates, requests.splitlines())
+        lines = [versions.replies[at % len(versions.replies)][at] for at in range(len(versions.asks))]
+        replies = "".join(f"{line}\n" for line in [*lines[:3], lines[3].replace("again=no", "again=yes"), lines[0], *lines[4:-1], "version 4"])
+        path = os.path.join(room, "replies")
+        with open(path, "w", encoding="ascii") as file:
+            file.write(replies)
+        self.words = [program.path, "audit", "--journal", UPDATES, "--requests", REQUESTS, "--replies", path, "--explain"]
+        self.status, lines = reference.audit(updates, requests, replies)
+        self.lines = "".join(f"{line}\n" for line in lines).encode()
+
+    def run(self, refuser, number, flags):
+        ran = refuser.run(self.words, flags[0], number, *flags[1:])
+        whole = (ran.status, ran.out, ran.err) == (self.status, self.lines, b"")
+        return ran, whole, whole or is_stopped(ran, flags)
+
+
 def refused(program, checks):
     if COMPILER is None:
         print("refused calls: skipped, there is no C compiler")
         return
     refuser, tried, start = Refuser(), Counter(), time.monotonic()
-    for command in [Solve(program), Batch(program), Live(program)]:
+    for command in [Solve(program), Batch(program), Live(program), Audit(program, refuser.room.name)]:
         for flags in REFUSALS:
             def judge(number):
                 ran, is_whole, is_right = command.run(refuser, number, flags)

@@ -340,6 +340,58 @@ def leaves_unanswered_requests_out(it):
     it.audit = rebound(it.audit, "if name not in named", "if False")
 
 
+def forgets_what_is_said_of_routers_met_again(it):
+    it.judge = rebound(it.judge, "line != networks[version].answer(version, asked[name])",
+                       're.sub(" again=(yes|no)", "", line) != re.sub(" again=(yes|no)", "", networks[version].answer(version, asked[name]))')
+
+
+def reads_ids_above_the_greatest(it):
+    it.judge = rebound(it.judge, "2 ** 64", "10 ** 20")
+
+
+def names_a_version_before_a_doubled_line(it):
+    right = it.judge
+
+    def judge(line, networks, asked, named):
+        found = re.match("ask [0-9]+ v([0-9]+) ", line)
+        try:
+            right(line, networks, asked, named)
+        except it.Refused as words:
+            raise it.Refused("no-version" if str(words) == "doubled" and int(found[1]) >= len(networks) else words)
+    it.judge = judge
+
+
+def counts_a_good_line_too_many(it):
+    it.audit = rebound(it.audit, "good, faults, named = 0,", "good, faults, named = 1,")
+
+
+def counts_places_without_lines_that_are_passed_over(it):
+    right = it.audit
+
+    def audit(journal, requests, replies):
+        lines = replies.split("\n")
+        return right(journal, requests, "\n".join(line for line in lines if line.split(" ")[0] not in ("version", "applied", "batch")))
+    it.audit = audit
+
+
+def reads_no_last_reply_without_a_line_feed(it):
+    right = it.audit
+    it.audit = lambda journal, requests, replies: right(journal, requests, replies[:replies.rfind("\n") + 1])
+
+
+def looks_at_requests_before_batches(it):
+    right = it.audit
+
+    def audit(journal, requests, replies):
+        try:
+            it.whole_batches(journal)
+            it.requests_of(requests)
+        except it.Refused as line:
+            return 2, [str(line)]
+        return right(journal, requests, replies)
+    it.audit = audit
+
+
 def rebound(function, old, new):
     """A function whose source has other words in one place."""
     source = inspect.getsource(function)
@@ -349,10 +401,6 @@ def rebound(function, old, new):
     return names[function.__name__]
 
 
-AUDITS = [
-    calls_every_line_good, names_a_doubled_line_before_a_foreign_one, judges_at_the_last_version, judges_no_version_past_the_last,
-    takes_a_later_line_of_an_id, judges_other_lines_of_a_run, takes_two_requests_of_one_id, leaves_unanswered_requests_out,
-]
 LIMITS = [takes_one_link_too_many, takes_one_link_too_few, takes_one_router_too_many, takes_one_router_too_few, takes_one_change_too_many, takes_one_change_too_few]
 RULES = [
     reads_leading_zeros, reads_addresses_with_leading_zeros, reads_quotes_as_bytes, drops_what_stands_behind_quotes, ends_quotes_at_the_first,
@@ -362,5 +410,9 @@ RULES = [
     names_a_bad_hop_before_too_many, reads_eight_hops, looks_at_sublengths_before_types, refuses_padding, looks_at_the_class_before_the_length,
     keeps_changes_after_a_refused_end_row, names_the_count_before_the_number, takes_a_batch_of_a_wrong_count, takes_torn_journals,
     refuses_torn_journals_that_are_accepted, looks_at_requests_before_the_journal, ends_well_after_refusals, looks_at_bandwidth_at_priority_0,
-    fits_no_link_to_an_empty_include_any, goes_by_local_addresses_alone,
+    fits_no_link_to_an_empty_include_any, goes_by_local_addresses_alone, calls_every_line_good, names_a_doubled_line_before_a_foreign_one,
+    judges_at_the_last_version, judges_no_version_past_the_last, takes_a_later_line_of_an_id, judges_other_lines_of_a_run,
+    takes_two_requests_of_one_id, leaves_unanswered_requests_out, forgets_what_is_said_of_routers_met_again, names_a_version_before_a_doubled_line,
+    counts_a_good_line_too_many, counts_places_without_lines_that_are_passed_over, reads_no_last_reply_without_a_line_feed,
+    looks_at_requests_before_batches, reads_ids_above_the_greatest,
 ]
