@@ -36,8 +36,8 @@ def killed(program, checks):
             found.append(judge(program, checks, versions, journal, paths[1], at))
     torn = sum(is_torn for _, is_torn in found)
     lengths = len({length for length, _ in found})
-    # one write for each batch leaves few torn journals; writes of one byte leave many
-    checks.true("the kills are spread over the run", lengths > KILLS // 2 and (torn > KILLS // 5 or refuser is None), (lengths, torn))
+    # one write for each batch leaves few torn journals, and few lengths where the machine is busy; writes of one byte leave many
+    checks.true("the kills are spread over the run", refuser is None or lengths > KILLS // 3 and torn > KILLS // 5, (lengths, torn))
     print(f"killed: {KILLS} live runs, {lengths} lengths of journals, {torn} torn, in {time.monotonic() - start:.0f} s")
 
 
