@@ -33,7 +33,7 @@ class Versions:
         return True
 
     def recorded(self, journal):
-        """How many whole batches a journal of this run holds, None where it isn't a beginning of the updates."""
+        """How many whole batches a journal of this run holds, the last line feed aside, None where it isn't a beginning of the updates."""
         if not self.texts[-1].startswith(journal):
             return None
-        return sum(len(text) <= len(journal) for text in self.texts) - 1
+        return sum(len(text.rstrip("\n")) <= len(journal) for text in self.texts) - 1
