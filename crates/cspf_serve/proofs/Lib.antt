@@ -9,6 +9,7 @@ pub mod OutputPrefix
 pub mod BatchLines
 pub mod ScriptOfBatches
 pub mod AnswerLines
+pub mod PartLines
 pub mod PublishedLines
 pub mod LiveRunLines
 pub mod AuditRunLines

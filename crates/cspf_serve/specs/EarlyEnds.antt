@@ -1,5 +1,5 @@
 -- Private: what is said where a run over a journal ends early.
-use Rattle.std.specs.Prelude.{◌≡◌, ℕ, ◌⊎◌, Bool, Option, List, [], ◌∷◌, ◌++◌}
+use Rattle.std.specs.Prelude.{◌≡◌, ℕ, ◌+◌, ◌^◌, ◌<◌, ◌⊎◌, Bool, Option, List, [], ◌∷◌, ◌++◌}
 use Rattle.std.specs.Io.KnownBytes.{Appends}
 use Rattle.cspf_audit.specs.declared.audit_error.AuditError.{AuditError}
 use Rattle.cspf_audit.specs.declared.audit_error.AuditError.TheVariants as audit_error
@@ -11,6 +11,8 @@ use Rattle.cspf_rows.specs.declared.read_error.ReadError.{ReadError}
 use Rattle.cspf_rows.specs.declared.read_error.ReadError.TheVariants as read_error
 use Rattle.cspf_rows.specs.declared.requests_error.RequestsError.{RequestsError}
 use Rattle.cspf_rows.specs.declared.requests_error.RequestsError.TheVariants as requests_error
+use Rattle.cspf_work.specs.declared.serve_error.ServeError.{ServeError}
+use Rattle.cspf_work.specs.declared.serve_error.ServeError.TheVariants as serve_error
 use Rattle.cspf_serve.specs.declared.batch_refusal.BatchRefusal.TheVariants as refusal
 use Rattle.cspf_serve.specs.declared.streams.error.RunError.{RunError}
 use Rattle.cspf_serve.specs.declared.streams.error.RunError.TheVariants.{Memory, Device}
@@ -114,3 +116,13 @@ AreStreamsRefused accept_torn journal requests line =
 abbrev pub AreAnsweredInTurn : List NumberedChanges → List Request → List ℕ → ℕ → Type 0
 AreAnsweredInTurn batches requests lines status =
     (AreAccepted batches requests lines × (status ≡ 0)) ⊎ (IsOneUnfit batches lines × (status ≡ 2))
+
+-- the error of a part of a list of requests, with the index of a request in the whole list
+abbrev pub IsErrorOfPart : ℕ → ServeError → ServeError → Type 0
+IsErrorOfPart first serve_error.Memory e = e ≡ serve_error.Memory
+IsErrorOfPart first serve_error.NoEntry e = e ≡ serve_error.NoEntry
+IsErrorOfPart first serve_error.NoWorker e = e ≡ serve_error.NoWorker
+IsErrorOfPart first (serve_error.Missing index) e = e ≡ serve_error.Missing index
+IsErrorOfPart first (serve_error.Twice index) e = e ≡ serve_error.Twice index
+IsErrorOfPart first (serve_error.Unaccounted index version) e =
+    first + index < 2 ^ 64 → e ≡ serve_error.Unaccounted (first + index) version

@@ -1,5 +1,6 @@
 //! The batches of a journal are published, and then the requests of a stream are answered.
 
+mod answering;
 mod laws;
 mod publishing;
 mod run;

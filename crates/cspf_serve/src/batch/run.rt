@@ -11,18 +11,17 @@ ghost use Rattle.cspf_serve.specs.RunFaults.{IsStreamFault, IsAnsweringFault, Is
 ghost use Rattle.cspf_publish.specs.declared.limits.TheConstants.{MOST_ASKERS, MOST_VERSIONS};
 ghost use Rattle.cspf_rows.specs.declared.limits.TheConstants.{MOST_ROWS};
 ghost use Rattle.cspf_work.specs.declared.limits.TheConstants.{MOST_REQUESTS};
-ghost use Rattle.cspf_work.specs.Served.{AreAnswersAfter};
 
+use crate::batch::answering::answer_in_parts;
 use crate::batch::laws::lines_of_a_script;
 use crate::batch::publishing::publish_all;
 use crate::streams::early_end::EarlyEnd;
 use crate::streams::input::{Inputs, inputs_of};
 use crate::streams::opening::open_for;
 use crate::streams::output::refuse;
-use crate::streams::replies::write_replies;
-use crate::{Answers, Gate, RunError, answer_latest};
+use crate::{Gate, RunError};
 use cspf_db::{Batch, Request};
-use cspf_publish::{Answer, Asker, Publisher};
+use cspf_publish::{Asker, Publisher};
 use std::alloc::Global;
 use std::io;
 use std::io::{Read, Write};
@@ -135,30 +134,6 @@ fn answer_lent<J: Write, W: Write, G: Gate + Sync, T: Threads + Wait + Sync>(
         × (version ≢ length batches.now)) e)) }
 {
     publish_all(rt, alloc, batches, publisher, writer)?;
-    let list = latest_answers(rt, alloc, publisher, askers, requests, gate)?;
-    write_replies(alloc, list.as_slice(), writer)?;
+    answer_in_parts(rt, alloc, publisher, askers, requests, writer, gate)?;
     Ok(())
-}
-
-/// Answers requests at the last published version.
-fn latest_answers<J: Write, G: Gate + Sync, T: Threads + Sync>(
-    rt: &T,
-    alloc: Global,
-    publisher: &mut Publisher<J>,
-    askers: Vec<Asker>,
-    requests: &[Request],
-    gate: &G,
-) -> Result<Vec<Answer>, RunError>
-    requires askers { (0 < vec_len askers) × (vec_len askers ≤ MOST_ASKERS) }
-    requires source { All (λ a. a.source ≡ publisher.old.source) askers.items }
-    requires requests { length requests.now ≤ MOST_REQUESTS }
-    ensures answers { IfOk result (λ list.
-        AreAnswersAfter publisher.old.batches requests.now list.items) }
-    ensures error { IfErr result (IsAnsweringFault (λ index version.
-        (index < length requests.now) × (version ≢ length publisher.old.batches))) }
-{
-    match answer_latest(rt, alloc, publisher, askers, requests, gate) {
-        Ok(Answers { list, .. }) => Ok(list),
-        Err((error, _askers)) => Err(RunError::from(error)),
-    }
 }

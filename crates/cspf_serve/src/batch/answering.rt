@@ -1,0 +1,115 @@
+ghost use Rattle.std.specs.Prelude.{◌≡◌, ◌≢◌, ◌+◌, ◌<◌, ◌≤◌, ◌⊎◌, length, drop, All, IfOk, IfErr, OnOk, vec_len};
+ghost use Rattle.cspf_db.specs.Changes.{database_after};
+ghost use Rattle.cspf_publish.specs.declared.limits.TheConstants.{MOST_ASKERS};
+ghost use Rattle.cspf_serve.specs.BatchRun.{AreReplies};
+ghost use Rattle.cspf_serve.specs.EarlyEnds.{Writes, IsErrorOfPart};
+ghost use Rattle.cspf_serve.specs.RunFaults.{IsStreamFault, IsAnsweringFault};
+ghost use Rattle.cspf_work.specs.declared.limits.TheConstants.{MOST_REQUESTS};
+
+use crate::streams::replies::write_replies;
+use crate::{Answers, Gate, RunError, ServeError, answer_latest};
+use cspf_db::Request;
+use cspf_publish::{Asker, Publisher};
+use std::alloc::Global;
+use std::io::Write;
+use std::thread::Threads;
+
+/// How many requests are answered before their lines are written, so that no more answers are kept.
+const MOST_AT_ONCE: usize = 65_536;
+
+/// The gate of a part of a list of requests. It sees their indexes in the whole list.
+#[derive(Drop)]
+struct PartGate<'a, G> {
+    gate: &'a G,
+    /// The index of the part's first request.
+    first: usize,
+}
+
+impl<G: Gate> Gate for PartGate<'_, G> {
+    fn reached(&self, worker: usize, index: usize) {
+        self.gate.reached(worker, self.first.saturating_add(index));
+    }
+
+    fn answered(&self, worker: usize, index: usize) {
+        self.gate.answered(worker, self.first.saturating_add(index));
+    }
+}
+
+/// Answers requests at the last published version and writes their lines, a part of them at a time.
+pub(crate) fn answer_in_parts<J: Write, W: Write, G: Gate + Sync, T: Threads + Sync>(
+    rt: &T,
+    alloc: Global,
+    publisher: &mut Publisher<J>,
+    askers: Vec<Asker>,
+    requests: &[Request],
+    writer: &mut W,
+    gate: &G,
+) -> Result<(), RunError>
+    requires askers { (0 < vec_len askers) × (vec_len askers ≤ MOST_ASKERS) }
+    requires source { All (λ a. a.source ≡ publisher.old.source) askers.items }
+    requires requests { length requests.now ≤ MOST_REQUESTS }
+    ensures text { OnOk result (Writes (W.contents writer.old) (W.contents writer.new)
+        (AreReplies (database_after publisher.old.batches) (length publisher.old.batches)
+        requests.now)) }
+    ensures error { IfErr result (λ e. IsStreamFault e ⊎ IsAnsweringFault (λ index version.
+        (index < length requests.now) × (version ≢ length publisher.old.batches)) e) }
+{
+    let mut askers = askers;
+    let mut first = 0;
+    while first < requests.len() {
+        let end = requests.len().min(first + MOST_AT_ONCE);
+        let asked = &requests[..end];
+        askers = answer_from(rt, alloc, publisher, askers, asked, first, writer, gate)?;
+        first = end;
+    }
+    Ok(())
+}
+
+/// Answers the requests from this index on, writes their lines, and hands the askers back.
+fn answer_from<J: Write, W: Write, G: Gate + Sync, T: Threads + Sync>(
+    rt: &T,
+    alloc: Global,
+    publisher: &mut Publisher<J>,
+    askers: Vec<Asker>,
+    requests: &[Request],
+    first: usize,
+    writer: &mut W,
+    gate: &G,
+) -> Result<Vec<Asker>, RunError>
+    requires askers { (0 < vec_len askers) × (vec_len askers ≤ MOST_ASKERS) }
+    requires source { All (λ a. a.source ≡ publisher.old.source) askers.items }
+    requires requests { length requests.now ≤ MOST_REQUESTS }
+    requires first { first ≤ length requests.now }
+    ensures same { publisher.new ≡ publisher.old }
+    ensures count { IfOk result (λ back. vec_len back ≡ vec_len askers) }
+    ensures source { IfOk result (λ back. All (λ a. a.source ≡ publisher.old.source) back.items) }
+    ensures text { OnOk result (Writes (W.contents writer.old) (W.contents writer.new)
+        (AreReplies (database_after publisher.old.batches) (length publisher.old.batches)
+        (drop first requests.now))) }
+    ensures error { IfErr result (λ e. IsStreamFault e ⊎ IsAnsweringFault (λ index version.
+        (first ≤ index) × (index < length requests.now)
+        × (version ≢ length publisher.old.batches)) e) }
+{
+    let part = PartGate { gate, first };
+    match answer_latest(rt, alloc, publisher, askers, &requests[first..], &part) {
+        Ok(Answers { list, askers, .. }) => {
+            write_replies(alloc, list.as_slice(), writer)?;
+            Ok(askers)
+        }
+        Err((error, _askers)) => Err(RunError::from(error_of_list(part.first, error))),
+    }
+}
+
+/// The error of a part whose first request has this index, with the index of a request in the whole
+/// list.
+fn error_of_list(first: usize, error: ServeError) -> ServeError
+    ensures { IsErrorOfPart first error result }
+{
+    match error {
+        ServeError::Unaccounted { index, version } => ServeError::Unaccounted {
+            index: first.saturating_add(index),
+            version,
+        },
+        _ => error,
+    }
+}
