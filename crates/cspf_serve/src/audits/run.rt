@@ -1,7 +1,7 @@
-ghost use Rattle.std.specs.Prelude.{◌≡◌, IfOk, IfErr, OnOk};
+ghost use Rattle.std.specs.Prelude.{◌≡◌, ℕ, List, IfOk, IfErr, OnOk};
 ghost use Rattle.std.specs.Io.KnownBytes.{Appends};
 ghost use Rattle.cspf_serve.specs.AuditRun.{IsAuditErrorLine, IsAuditRun, audit_lines, audit_status};
-ghost use Rattle.cspf_serve.specs.EarlyEnds.{IfRefused, IfFailed, IsAuditFailure, Writes};
+ghost use Rattle.cspf_serve.specs.EarlyEnds.{IfRefused, IfFailed, IsAuditFailure};
 ghost use Rattle.cspf_serve.specs.RunFaults.{IsStreamFault};
 
 use crate::line::Line;
@@ -24,9 +24,9 @@ pub fn run_audit<R: Read + Drop, Q: Read + Drop, P: Read + Drop, W: Write>(
     replies: P,
     writer: &mut W,
 ) -> Result<u8, RunError>
-    ensures whole { IfOk result (λ status. Writes (W.contents writer.old) (W.contents writer.new)
-        (λ lines. IsAuditRun (R.remaining journal) (Q.remaining requests) (P.remaining replies)
-        lines status)) }
+    ensures whole { IfOk result (λ status. (lines : List ℕ)
+        × IsAuditRun (R.remaining journal) (Q.remaining requests) (P.remaining replies) lines status
+        × Appends (W.contents writer.old) (W.contents writer.new) lines) }
     ensures error { IfErr result IsStreamFault }
 {
     match audit(alloc, journal, requests, replies) {
