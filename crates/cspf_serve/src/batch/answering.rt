@@ -15,7 +15,7 @@ use std::io::Write;
 use std::thread::Threads;
 
 /// How many requests are answered before their lines are written, so that no more answers are kept.
-const MOST_AT_ONCE: usize = 65_536;
+const MOST_AT_ONCE: usize = 32_768;
 
 /// The gate of a part of a list of requests. It sees their indexes in the whole list.
 #[derive(Drop)]

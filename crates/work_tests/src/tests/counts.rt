@@ -39,7 +39,7 @@ impl Counts {
     }
 }
 
-fn are_ones(counts: &[AtomicU64]) -> bool {
+pub(crate) fn are_ones(counts: &[AtomicU64]) -> bool {
     for count in counts {
         if count.load(Ordering::SeqCst) != 1 {
             return false;

@@ -1,7 +1,7 @@
 ghost use Rattle.std.specs.Prelude.{◌<◌, ◌≤◌};
 ghost use Rattle.cspf_publish.specs.declared.limits.TheConstants.{MOST_ASKERS};
 
-use super::counts::{Counts, wait_for, zeros};
+use super::counts::{Counts, are_ones, wait_for, zeros};
 use super::fixtures::{link_batch, opened, requests};
 use super::live::run_and_close;
 use super::workers::answered_with_a_link;
@@ -81,6 +81,54 @@ fn at_once_in_a_live_run(rt: HostRuntime) -> Result<(), Fail> {
     assert!(rt; answers(&rt, rt.alloc(), Run::Live, 2, 2, &two)? && two.is_whole());
     let all = Counts::new(rt.alloc(), 64)?;
     assert!(rt; answers(&rt, rt.alloc(), Run::Live, 64, 64, &all)? && all.is_whole());
+    Ok(())
+}
+
+/// Counts how often each index is told, and waits for nobody.
+#[derive(Drop)]
+struct Tally {
+    reached: Vec<AtomicU64>,
+    answered: Vec<AtomicU64>,
+    /// How often an index is told that no request has.
+    others: AtomicU64,
+}
+
+impl Tally {
+    fn new(alloc: Global, count: usize) -> Result<Tally, AllocError> {
+        Ok(Tally {
+            reached: zeros(alloc, count)?,
+            answered: zeros(alloc, count)?,
+            others: AtomicU64::new(0),
+        })
+    }
+
+    /// Whether each index is told once before its ask and once after it.
+    fn is_whole(&self) -> bool {
+        are_ones(&self.reached)
+            && are_ones(&self.answered)
+            && self.others.load(Ordering::SeqCst) == 0
+    }
+}
+
+impl Gate for Tally {
+    fn reached(&self, _worker: usize, index: usize) {
+        let word = self.reached.get(index).unwrap_or(&self.others);
+        word.fetch_add(1, Ordering::SeqCst);
+    }
+
+    fn answered(&self, _worker: usize, index: usize) {
+        let word = self.answered.get(index).unwrap_or(&self.others);
+        word.fetch_add(1, Ordering::SeqCst);
+    }
+}
+
+/// More requests than are answered before lines are written: the gate is told each by its index
+/// among all of them.
+#[test]
+fn what_workers_tell_of_many_rows(rt: HostRuntime) -> Result<(), Fail> {
+    let count: u32 = 32_768 * 2 + 3;
+    let tally = Tally::new(rt.alloc(), count as usize)?;
+    assert!(rt; answers(&rt, rt.alloc(), Run::Batch, count, 3, &tally)? && tally.is_whole());
     Ok(())
 }
 
