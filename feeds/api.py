@@ -1,0 +1,86 @@
+"""The OSPF API of a router (FRR's `ospfd -a`): one connection for requests and one, which the router makes, for events."""
+import random
+import socket
+import struct
+
+HEADER = struct.Struct(">BBHI")  # version, kind, bytes of the body, number
+VERSION = 1
+REGISTER_EVENT, SYNC_LSDB = 3, 4
+REPLY, LSA_UPDATE, LSA_DELETE = 10, 12, 13
+# Router LSAs (type 1) and area-local opaque LSAs (type 10), of any origin, of all areas.
+FILTER = struct.pack(">HBB", 1 << 0 | 1 << 9, 2, 0)
+PATIENCE = 2  # seconds for a connection to come about
+
+
+class ApiError(Exception):
+    """Why the connection can't go on."""
+
+
+def pair_of_sockets(address):
+    """A socket and a listening one on the port above it: the router connects back to that."""
+    for port in random.sample(range(50000, 60000, 2), 100):  # those of a connection that ended can't be had for a minute
+        asking, listening = socket.socket(), socket.socket()
+        try:
+            for made, number in ((asking, port), (listening, port + 1)):
+                made.setsockopt(socket.SOL_SOCKET, socket.SO_REUSEADDR, 1)
+                made.settimeout(PATIENCE)
+                made.bind((address, number))
+            listening.listen(1)
+            return asking, listening
+        except OSError:
+            asking.close()
+            listening.close()
+    raise ApiError(f"no two ports next to each other are free at {address}")
+
+
+def address_towards(router, port):
+    """The address of this machine that the router sees."""
+    with socket.socket(socket.AF_INET, socket.SOCK_DGRAM) as probe:
+        probe.connect((router, port))
+        return probe.getsockname()[0]
+
+
+class Api:
+    """A connection that has asked for the LSAs and for each change of them."""
+
+    def __init__(self, router, port):
+        self.sockets, self.unread = [], {}
+        asking, listening = pair_of_sockets(address_towards(router, port))
+        self.sockets = [asking]
+        try:
+            asking.connect((router, port))
+            hearing, peer = listening.accept()
+            self.sockets.append(hearing)
+            if peer[0] != asking.getpeername()[0]:
+                raise ApiError(f"{peer[0]} connected back, and not the router")
+            for number, kind in enumerate((REGISTER_EVENT, SYNC_LSDB), 1):
+                asking.sendall(HEADER.pack(VERSION, kind, len(FILTER), number) + FILTER)
+        except (OSError, ApiError):
+            self.close()
+            raise
+        finally:
+            listening.close()
+        self.unread = {made: b"" for made in self.sockets}
+
+    def close(self):
+        for made in self.sockets:
+            made.close()
+
+    def messages(self, made):
+        """The whole messages that one of the sockets has: the kind and the body of each."""
+        data = made.recv(1 << 16)
+        if not data:
+            raise ApiError("the router closed the connection")
+        data, found = self.unread[made] + data, []
+        while len(data) >= HEADER.size:
+            version, kind, length, _ = HEADER.unpack_from(data)
+            if version != VERSION:
+                raise ApiError(f"a message of version {version}")
+            if len(data) < HEADER.size + length:
+                break
+            body, data = data[HEADER.size:HEADER.size + length], data[HEADER.size + length:]
+            if kind == REPLY and body[:1] not in (b"\0", b""):
+                raise ApiError(f"the router refused a request, code {body[0] - 256}")
+            found.append((kind, body))
+        self.unread[made] = data
+        return found

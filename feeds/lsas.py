@@ -1,0 +1,171 @@
+"""The LSAs that rows are made of: router LSAs (RFC 2328 A.4.2) and traffic engineering LSAs (RFC 3630 2)."""
+import math
+import socket
+import struct
+from collections import namedtuple
+
+ROUTER_LSA, AREA_OPAQUE_LSA = 1, 10
+TE_OPAQUE, LINK_TLV = 1, 2
+POINT_TO_POINT = 1  # in both kinds of LSA
+MAX_AGE = 3600
+ABSENT = "absent"
+LSA_HEADER = struct.Struct(">HBB4s4siHH")  # age, options, type, id, router, sequence number, checksum, length
+BEFORE_LSA = 12  # bytes of a message's body: address of an interface, area, is it the router's own, padding
+# What ospfd announces where nothing is configured for a circuit of so many Gbit/s, since the bits a
+# second are counted in 32 bits.
+WRAPPED = {(speed * 10**9 % 2**32) / 8: speed for speed in (10, 25, 40, 50, 100, 200, 400, 800)}
+
+Lsa = namedtuple("Lsa", "sequence content")  # the content is None where it can't be read
+TeLink = namedtuple("TeLink", "kind neighbor local remote metric group free most")
+
+
+def dotted(data):
+    return socket.inet_ntoa(data[:4])
+
+
+def rank(key):
+    """Orders keys of links as numbers."""
+    return tuple(socket.inet_aton(part) for part in key)
+
+
+def tlvs(data):
+    """Types and values, each padded to four bytes (RFC 3630 2.3.2)."""
+    while data:
+        kind, length = struct.unpack_from(">HH", data)
+        if len(data) < 4 + length:
+            raise struct.error("a value that is cut")
+        yield kind, data[4:4 + length]
+        data = data[4 + (length + 3) // 4 * 4:]
+
+
+def te_link(body):
+    """The link of a TE LSA, empty where it has none."""
+    values = next((value for kind, value in tlvs(body) if kind == LINK_TLV), None)
+    if values is None:
+        return ()
+    of = dict(tlvs(values))
+
+    def value(kind, form):
+        return struct.unpack_from(form, of[kind]) if kind in of else (None,)
+
+    def address(kind):
+        raw = value(kind, "4s")[0]
+        return dotted(raw) if raw not in (None, bytes(4)) else None
+
+    return TeLink(value(1, "B")[0], address(2), address(3), address(4), value(5, ">I")[0],
+                  value(9, ">I")[0] or 0, value(8, ">8f") if 8 in of else None, value(6, ">f")[0])
+
+
+def adjacencies(body):
+    """The point-to-point links of a router LSA: the neighbor and the cost by the local address."""
+    count, at, found = struct.unpack_from(">H", body, 2)[0], 4, {}
+    for _ in range(count):
+        neighbor, local, kind, metrics, cost = struct.unpack_from(">4s4sBBH", body, at)
+        at += 12 + 4 * metrics
+        if kind == POINT_TO_POINT:
+            found[dotted(local)] = (dotted(neighbor), cost)
+    return found
+
+
+def whole(rate):
+    """Bytes per second, rounded down; None for what is no rate of a row."""
+    return math.floor(rate) if 0 <= rate < 2**64 else None
+
+
+class Lsdb:
+    """The LSAs of a router that are needed, and the rows of the links that they show."""
+
+    def __init__(self):
+        self.lsas = {}  # by area, type, id and router
+        self.before = {}  # contents at the last look, of the LSAs that something came for since
+        self.looked = {}, {}, {}  # what that look found
+
+    def take(self, body, is_removal):
+        """One event; whether anything changed."""
+        if len(body) < BEFORE_LSA + LSA_HEADER.size:
+            return False
+        area, lsa = dotted(body[4:8]), body[BEFORE_LSA:]
+        age, _, kind, number, router, sequence, _, length = LSA_HEADER.unpack_from(lsa)
+        if kind != ROUTER_LSA and (kind != AREA_OPAQUE_LSA or number[0] != TE_OPAQUE):
+            return False
+        key = (area, kind, number, dotted(router))
+        had = self.lsas.get(key)
+        self.before.setdefault(key, had.content if had else ABSENT)
+        if is_removal or age & 0x7fff >= MAX_AGE:
+            if had is None or had.sequence > sequence:  # the removal of an older instance
+                return False
+            del self.lsas[key]
+            return True
+        try:
+            read = adjacencies if kind == ROUTER_LSA else te_link
+            content = read(lsa[LSA_HEADER.size:length])
+        except struct.error:
+            content = None
+        self.lsas[key] = Lsa(sequence, content)
+        return had is None or had.content != content
+
+    def network(self):
+        """As `look` says. LSAs that were only refreshed need no new look."""
+        now = {key: self.lsas[key].content if key in self.lsas else ABSENT for key in self.before}
+        if now != self.before:
+            self.looked = self.look()
+        self.before = {}
+        return self.looked
+
+    def look(self):
+        """Rows of links by their keys, what is left out by its reason, and bandwidths that look wrapped."""
+        up, links, left = {}, [], {}
+        for (area, kind, number, router), lsa in self.lsas.items():
+            if lsa.content is None:
+                which = "router LSA" if kind == ROUTER_LSA else f"TE LSA {dotted(number)}"
+                left.setdefault("an LSA that can't be read", []).append((router, which))
+            elif kind == ROUTER_LSA:
+                up[area, router] = lsa.content
+            elif lsa.content:
+                links.append((area, router, lsa.content, lsa.content.local or f"TE LSA {dotted(number)}"))
+        made, wrapped = {}, {}
+        for area, router, link, name in links:
+            why = why_not(up, area, router, link)
+            if why:
+                left.setdefault(why, []).append((router, name))
+                continue
+            made.setdefault((router, name), set()).add(row_of(router, link, up[area, router][name][1]))
+            if link.most in WRAPPED:
+                wrapped[router, name] = link.most
+        announced = {(area, router, name) for area, router, _, name in links}
+        for (area, router), locals_up in up.items():
+            for local in locals_up:
+                if (area, router, local) not in announced:
+                    left.setdefault("no TE LSA", []).append((router, local))
+        for key in [key for key, rows in made.items() if len(rows) > 1]:
+            del made[key]
+            left.setdefault("two TE LSAs that differ", []).append(key)
+        return {key: rows.pop() for key, rows in made.items()}, left, wrapped
+
+
+def why_not(up, area, router, link):
+    """Why a TE LSA makes no row, None where it makes one."""
+    if link.kind != POINT_TO_POINT:
+        return "not point-to-point"
+    if not link.local or not link.remote or not link.neighbor:
+        return "no addresses"
+    if (area, router) not in up:
+        return "no router LSA"
+    if link.local not in up[area, router]:
+        return "no adjacency"
+    if up[area, router][link.local][0] != link.neighbor:
+        return "an adjacency with another router"
+    if link.neighbor == router:
+        return "a link to itself"
+    if up.get((area, link.neighbor), {}).get(link.remote, (None,))[0] != router:
+        return "no adjacency back"
+    if link.free is None:
+        return "no unreserved bandwidth"
+    if None in map(whole, link.free):
+        return "an unreserved bandwidth that is no number of a row"
+    return None
+
+
+def row_of(router, link, cost):
+    free = ",".join(str(whole(rate)) for rate in link.free)
+    return f"put,{router},{link.local},{link.neighbor},{link.remote},{link.metric or cost},0x{link.group:08x},{free}"

@@ -1,0 +1,588 @@
+"""Tests of feeds/ospf: the rows that it makes of a router's LSAs, played by an OSPF API made here."""
+import os
+import re
+import select
+import signal
+import socket
+import struct
+import subprocess
+import sys
+import time
+
+HERE = os.path.dirname(os.path.abspath(__file__))
+TOP = os.path.dirname(HERE)
+FEED = os.path.join(TOP, "feeds/ospf")
+NAN, INFINITE = float("nan"), float("inf")
+A, B, C = "1.1.1.1", "2.2.2.2", "3.3.3.3"
+A_B, B_A = "10.0.0.0", "10.0.0.1"  # addresses of the circuit between A and B; the first ends in .0
+B_C, C_B = "10.0.0.2", "10.0.0.3"
+PATIENCE = 10  # seconds that a test waits for what has to come
+QUIET = 0.6  # seconds in which nothing may come, three times what changes are collected for
+
+
+def raw(address):
+    return socket.inet_aton(address)
+
+
+def lsa(kind, number, router, body, sequence=1, age=1):
+    return struct.pack(">HBB4s4sIHH", age, 2, kind, raw(number), raw(router), 0x80000000 + sequence, 0, 20 + len(body)) + body
+
+
+def router_lsa(router, *links, **more):
+    """Links as (neighbor, local, cost); a stub network and a link with a metric of its own kind of service stand first."""
+    parts = [struct.pack(">4s4sBBH", raw("10.9.9.0"), raw("255.255.255.0"), 3, 1, 10) + bytes(4)]
+    parts += [struct.pack(">4s4sBBH", raw(neighbor), raw(local), 1, 0, cost) for neighbor, local, cost in links]
+    return lsa(1, router, router, struct.pack(">HH", 0, len(parts)) + b"".join(parts), **more)
+
+
+def tlv(kind, data):
+    return struct.pack(">HH", kind, len(data)) + data + bytes(-len(data) % 4)
+
+
+def te_lsa(router, local, neighbor, remote, number="1.0.0.2", kind=1, metric=7, group=None, free=1000.0, most=2000.0, **more):
+    """A TE LSA of a link; what is None is left out."""
+    free = [free] * 8 if isinstance(free, float) else free
+    values = [(1, ">B", kind), (2, "4s", neighbor and raw(neighbor)), (3, "4s", local and raw(local)),
+              (4, "4s", remote and raw(remote)), (5, ">I", metric), (6, ">f", most), (9, ">I", group)]
+    link = b"".join(tlv(at, struct.pack(form, value)) for at, form, value in values if value is not None)
+    link += tlv(8, struct.pack(">8f", *free)) if free else b""
+    return lsa(10, number, router, tlv(1, raw("9.9.9.9")) + tlv(2, link), **more)
+
+
+def message(kind, body):
+    return struct.pack(">BBHI", 1, kind, len(body), 2) + body
+
+
+def update(*lsas, area="0.0.0.0"):
+    return b"".join(message(12, bytes(4) + raw(area) + bytes(4) + each) for each in lsas)
+
+
+def removal(*lsas):
+    return b"".join(message(13, bytes(12) + each) for each in lsas)
+
+
+def row(router, local, neighbor, remote, metric=7, group=0, free=1000):
+    free = ",".join(map(str, free if isinstance(free, list) else [free] * 8))
+    return f"put,{router},{local},{neighbor},{remote},{metric},0x{group:08x},{free}"
+
+
+ROUTERS = router_lsa(A, (B, A_B, 300)), router_lsa(B, (A, B_A, 5))
+PAIR = update(*ROUTERS, te_lsa(A, A_B, B, B_A), te_lsa(B, B_A, A, A_B))
+PAIR_ROWS = [row(A, A_B, B, B_A), row(B, B_A, A, A_B)]
+
+
+class Router:
+    """An OSPF API: takes a connection, connects back, and sends what it is told."""
+
+    def __init__(self):
+        self.listening = socket.create_server(("127.0.0.1", 0))
+        self.listening.settimeout(PATIENCE)
+        self.port = self.listening.getsockname()[1]
+
+    def accept(self):
+        self.asking, peer = self.listening.accept()
+        self.hearing = socket.create_connection((peer[0], peer[1] + 1))
+        self.asking.settimeout(PATIENCE)
+        self.requests = self.take(24)
+        self.asking.sendall(message(10, bytes(4)) * 2)
+
+    def take(self, count):
+        data = b""
+        while len(data) < count and (more := self.asking.recv(count - len(data))):
+            data += more
+        return data
+
+    def send(self, data):
+        self.hearing.sendall(data)
+
+    def hang_up(self):
+        self.asking.close()
+        self.hearing.close()
+
+
+class Feed:
+    """A feed at work, whose program is the test."""
+
+    def __init__(self, router, *words, command=()):
+        self.process = subprocess.Popen([FEED, "--port", str(router.port), *words, *command], stdin=subprocess.PIPE,
+                                        stdout=subprocess.PIPE, stderr=subprocess.PIPE, bufsize=0)
+        self.unread = b""
+        router.accept()
+
+    def line(self, patience=PATIENCE):
+        """The next line, None where none comes in time."""
+        end = time.monotonic() + patience
+        while b"\n" not in self.unread:
+            if not select.select([self.process.stdout], [], [], max(0.0, end - time.monotonic()))[0]:
+                return None
+            data = os.read(self.process.stdout.fileno(), 1 << 16)
+            if not data:
+                return None
+            self.unread += data
+        line, self.unread = self.unread.split(b"\n", 1)
+        return line.decode()
+
+    def batch(self, answer=None):
+        """The rows of the next batch without its end row, and the number; the answer by default accepts it."""
+        rows = []
+        while (line := self.line()) is not None and not line.startswith("end,"):
+            rows.append(line)
+        if line is None:
+            raise AssertionError(f"no batch, {rows[:3]}")
+        _, number, count = line.split(",")
+        if int(count) != len(rows):
+            raise AssertionError(f"a count of {count} for {len(rows)} rows")
+        self.say(answer or f"version {number}")
+        return rows, int(number)
+
+    def say(self, text):
+        self.process.stdin.write(f"{text}\n".encode())
+
+    def is_quiet(self):
+        return self.line(QUIET) is None
+
+    def rest(self, quiet=QUIET):
+        """The changes of all batches, until nothing comes for a while."""
+        rows = []
+        while (line := self.line(quiet)) is not None:
+            self.unread = line.encode() + b"\n" + self.unread
+            rows += self.batch()[0]
+        return rows
+
+    def end(self):
+        """Ends the feed; what it said on standard error."""
+        self.process.send_signal(signal.SIGTERM)
+        said = self.process.communicate()[1].decode()
+        return said if self.process.returncode in (0, 1) else f"status {self.process.returncode}\n{said}"
+
+
+def fed(*plays, bare=(), words=()):
+    """The batches that come of plays of messages one after another, and what is said. Those of the indexes in
+    `bare` are waited for as what shouldn't come."""
+    router = Router()
+    feed = Feed(router, *words)
+    found = []
+    for at, play in enumerate(plays):
+        router.send(play)
+        found.append(feed.rest() if at in bare else feed.batch()[0])
+    said = feed.end()
+    router.hang_up()
+    return found, said
+
+
+def columns(checks):
+    """What each column of a row is taken from."""
+    router = Router()
+    feed = Feed(router)
+    checks.same("what is asked for: events and LSAs of types 1 and 10", router.requests,
+                bytes.fromhex("01030004 00000001 02010200 01040004 00000002 02010200"))
+    router.send(PAIR)
+    checks.same("the router is the advertising one, and an address may end in .0", feed.batch(), (PAIR_ROWS, 1))
+    router.send(update(te_lsa(A, A_B, B, B_A, metric=None, sequence=2)))
+    checks.same("without a metric: the whole cost of the router LSA", feed.batch(), ([row(A, A_B, B, B_A, metric=300)], 2))
+    router.send(update(te_lsa(A, A_B, B, B_A, metric=0, sequence=3, group=0x80000001)))
+    checks.same("a metric of 0 is none; the group", feed.batch(), ([row(A, A_B, B, B_A, metric=300, group=0x80000001)], 3))
+    free = [0.0, 0.75, 1.5, 16777217.9, 33333333.3, 1.25e9, 2.0**63, 3.0]
+    router.send(update(te_lsa(A, A_B, B, B_A, free=free, sequence=4)))
+    checks.same("bandwidths are rounded down", feed.batch(),
+                ([row(A, A_B, B, B_A, free=[0, 0, 1, 16777218, 33333334, 1250000000, 2**63, 3])], 4))
+    checks.same("nothing is said of it", feed.end(), "")
+
+
+def left_out(checks):
+    """Links that make no row, and the reason that is said."""
+    back = te_lsa(B, B_A, A, A_B)
+    for why, name, *lsas in [
+            ("no TE LSA", f"{A} {A_B}"),
+            ("no unreserved bandwidth", f"{A} {A_B}", te_lsa(A, A_B, B, B_A, free=None)),
+            *[("an unreserved bandwidth that is no number of a row", f"{A} {A_B}", te_lsa(A, A_B, B, B_A, free=[1.0] * 7 + [bad]))
+              for bad in (NAN, INFINITE, -INFINITE, -1.0, -0.5, 2.0**64)],
+            ("not point-to-point", f"{A} {A_B}", te_lsa(A, A_B, B, B_A, kind=2)),
+            ("no addresses", f"{A} TE LSA 1.0.0.2", te_lsa(A, None, B, B_A)),
+            ("no addresses", f"{A} {A_B}", te_lsa(A, A_B, B, None)),
+            ("no addresses", f"{A} {A_B}", te_lsa(A, A_B, B, "0.0.0.0")),
+            ("no adjacency", f"{A} 10.7.7.7", te_lsa(A, "10.7.7.7", B, B_A)),
+            ("no adjacency back", f"{A} {A_B}", te_lsa(A, A_B, B, "10.7.7.7")),
+            ("no router LSA", f"{C} 10.7.7.7", te_lsa(C, "10.7.7.7", B, B_A), te_lsa(A, A_B, B, B_A)),
+            ("an adjacency with another router", f"{A} {A_B}", te_lsa(A, A_B, C, B_A)),
+            ("a link to itself", f"{A} {A_B}", router_lsa(A, (A, A_B, 1), sequence=2), te_lsa(A, A_B, A, A_B)),
+            ("two TE LSAs that differ", f"{A} {A_B}", te_lsa(A, A_B, B, B_A), te_lsa(A, A_B, B, B_A, number="1.0.0.3", metric=8)),
+            ("an LSA that can't be read", f"{A} TE LSA 1.0.0.2", te_lsa(A, A_B, B, B_A)[:-4]),
+            ("an LSA that can't be read", f"{A} TE LSA 1.0.0.2", lsa(10, "1.0.0.2", A, tlv(2, tlv(3, raw(A_B)) + b"\0\4\0\7abc"))),
+            ("an LSA that can't be read", f"{A} TE LSA 1.0.0.2", lsa(10, "1.0.0.2", A, tlv(2, tlv(8, bytes(28))))),
+            ("an LSA that can't be read", f"{A} router LSA", lsa(1, A, A, b"\0\0\0\2" + bytes(12), sequence=2))]:
+        wanted = [] if "router LSA" in name or why == "a link to itself" else PAIR_ROWS[why != "no router LSA":]
+        (rows,), said = fed(update(*ROUTERS, *lsas, back), bare=() if wanted else (0,), words=("--verbose",))
+        checks.same(f"left out: {why}: {name}", (rows, f"ospf: left out, {why}: {name}\n" in said), (wanted, True))
+        checks.true(f"counted: {why}", re.search(rf"^ospf: {len(wanted)} links; left out: .*{re.escape(why)} \d", said, re.M), said)
+    found, said = fed(update(lsa(10, "1.0.0.1", A, tlv(1, raw(A)))) + PAIR, words=("--verbose",))
+    checks.same("a TE LSA of a router's address alone is nothing", (found[0], said.splitlines()[-1:]), (PAIR_ROWS, ["ospf: 2 links; left out: none"]))
+    twice = te_lsa(A, A_B, B, B_A), te_lsa(A, A_B, B, B_A, number="1.0.0.3")
+    checks.same("two TE LSAs of one link that agree", fed(update(*ROUTERS, *twice, back))[0], [PAIR_ROWS])
+    checks.same("an area of its own: no adjacency there", fed(PAIR, update(te_lsa(A, A_B, B, B_A), area="0.0.0.1"), bare=(1,))[0],
+                [PAIR_ROWS, []])
+
+
+def wrapped(checks):
+    """A default bandwidth that lost its high bits is put as announced, and said once."""
+    found, said = fed(update(*ROUTERS, te_lsa(A, A_B, B, B_A, free=176258176.0, most=176258176.0)), update(te_lsa(B, B_A, A, A_B)))
+    checks.same("a wrapped default is put as announced", found, [[row(A, A_B, B, B_A, free=176258176)], [row(B, B_A, A, A_B)]])
+    checks.same("and said once", said, f"ospf: {A} {A_B}: its bandwidth of 176258176 bytes per second looks like the default of "
+                "a circuit of 10 Gbit/s, counted in 32 bits; it is put as announced\n")
+
+
+def changes(checks):
+    """What comes and goes: neighbors that die, links that come up, runs of changes."""
+    alone = router_lsa(B, sequence=2)
+    found, _ = fed(PAIR, update(alone), update(router_lsa(B, (A, B_A, 5), sequence=3)))
+    checks.same("TE LSAs outlive an adjacency, and rows don't", found,
+                [PAIR_ROWS, [f"drop,{A},{A_B}", f"drop,{B},{B_A}"], PAIR_ROWS])
+    found, _ = fed(update(*ROUTERS, te_lsa(B, B_A, A, A_B)), update(te_lsa(A, A_B, B, B_A)))
+    checks.same("a link that comes up has no row before its bandwidth is told", found, [PAIR_ROWS[1:], PAIR_ROWS[:1]])
+    old, new = te_lsa(A, A_B, B, B_A), te_lsa(A, A_B, B, B_A, metric=9, sequence=2)
+    found, _ = fed(PAIR, removal(old) + update(new))
+    checks.same("a removal and the new instance are one change", found[1], [row(A, A_B, B, B_A, metric=9)])
+    found, _ = fed(PAIR, update(new), removal(old), removal(new), bare=(2,))
+    checks.same("the removal of an older instance removes nothing", found[1:], [[row(A, A_B, B, B_A, metric=9)], [], [f"drop,{A},{A_B}"]])
+    found, _ = fed(PAIR, update(te_lsa(A, A_B, B, B_A, sequence=2, age=3600)))
+    checks.same("an LSA at its maximum age is gone", found[1], [f"drop,{A},{A_B}"])
+    found, _ = fed(PAIR, update(te_lsa(A, A_B, B, B_A, sequence=2, metric=9, age=0x8000)))
+    checks.same("an LSA that doesn't age is there", found[1], [row(A, A_B, B, B_A, metric=9)])
+    found, _ = fed(PAIR, update(te_lsa(A, A_B, B, B_A, sequence=2, age=0)), bare=(1,))
+    checks.same("an LSA that is only refreshed", found[1], [])
+    taken = [te_lsa(A, A_B, B, B_A, free=[90.0] * (n + 1) + [1000.0] * (7 - n), sequence=2 + n) for n in range(8)]
+    router = Router()
+    feed = Feed(router)
+    router.send(PAIR)
+    feed.batch()
+    began = time.monotonic()
+    for each in taken:
+        router.send(update(each))
+        time.sleep(0.015)
+    checks.same("eight changes of bandwidth are one batch", feed.batch(), ([row(A, A_B, B, B_A, free=90)], 2))
+    took = time.monotonic() - began
+    checks.true("which is written soon", 0.15 < took < 1.5, f"{took:.2f} s")
+    feed.end()
+
+
+def runs(checks):
+    """Events that come one right after the other are one change, but put a batch off by a second at most."""
+    old, new = te_lsa(A, A_B, B, B_A), te_lsa(A, A_B, B, B_A, metric=9)
+    found = []
+    for _ in range(3):  # this machine may be late itself
+        router = Router()
+        feed = Feed(router)
+        router.send(PAIR)
+        feed.batch()
+        for _ in range(100):
+            router.send(update(new) + removal(new))
+            time.sleep(0.004)
+        router.send(update(new))
+        found.append(feed.rest())
+        feed.end()
+        if found[-1] == [row(A, A_B, B, B_A, metric=9)]:
+            break
+    checks.same("a removal is not cut from the new instance", found[-1], [row(A, A_B, B, B_A, metric=9)])
+    router = Router()
+    feed = Feed(router)
+    router.send(PAIR)
+    feed.batch()
+    began = time.monotonic()
+    while (line := feed.line(0.004)) is None and time.monotonic() < began + 4:
+        router.send(update(old) + update(new))
+    took = time.monotonic() - began
+    checks.true("a router that never rests", line is not None and took < 2.5, f"{line} after {took:.2f} s")
+    feed.end()
+
+
+def streams(checks):
+    """Messages in pieces, of other kinds, and connections that aren't the API's."""
+    router = Router()
+    feed = Feed(router)
+    other = [lsa(2, "10.0.0.0", A, bytes(8)), lsa(5, "10.0.0.0", A, bytes(16)), lsa(10, "4.0.0.0", A, bytes(8)), lsa(11, "1.0.0.1", A, bytes(8))]
+    data = message(18, bytes(8)) + update(*other) + message(12, b"short") + message(99, b"") + PAIR
+    for at in range(0, len(data), 7):
+        router.send(data[at:at + 7])
+    checks.same("pieces of 7 bytes, and messages and LSAs of other kinds", feed.batch(), (PAIR_ROWS, 1))
+    router.send(PAIR[:30])
+    checks.true("half a message is waited for", feed.is_quiet())
+    router.hang_up()
+    checks.same("a connection that is closed drops nothing", (feed.is_quiet(), feed.process.poll()), (True, None))
+    checks.true("and that is said", f"port {router.port}: the router closed the connection; what was put stays\n" in feed.end())
+    for name, data in [("a message of another version", b"\2" + message(12, b"")[1:]), ("a request that is refused", message(10, b"\xff\0\0\0"))]:
+        router = Router()
+        feed = Feed(router)
+        router.send(data)
+        router.accept()
+        checks.true(f"{name} ends the connection, and a new one is made", feed.is_quiet() and "what was put stays" in feed.end())
+
+
+def anew(checks):
+    """A router that starts anew has nothing at first: what was there is held for a time."""
+    router = Router()
+    feed = Feed(router, "--hold", "2")
+    router.send(PAIR)
+    feed.batch()
+    router.hang_up()
+    router.accept()
+    back = time.monotonic()
+    checks.true("nothing is dropped at first", feed.is_quiet())
+    router.send(update(*ROUTERS, te_lsa(A, A_B, B, B_A, metric=9)))
+    checks.same("what is there again is put as it is", feed.batch(), ([row(A, A_B, B, B_A, metric=9)], 2))
+    found = feed.batch()
+    took = time.monotonic() - back
+    checks.same("what doesn't come back is dropped", found, ([f"drop,{B},{B_A}"], 3))
+    checks.true("when it was held for its time since the last came back", 2.4 < took < 5, f"{took:.2f} s")
+    router.send(removal(te_lsa(A, A_B, B, B_A, metric=9)))
+    checks.same("after that nothing is held", feed.batch(), ([f"drop,{A},{A_B}"], 4))
+    router.send(PAIR)
+    checks.same("links", feed.batch()[0], PAIR_ROWS)
+    router.hang_up()
+    router.accept()
+    router.send(PAIR)
+    time.sleep(QUIET)
+    router.send(removal(te_lsa(A, A_B, B, B_A)))
+    checks.same("that came back and then go are dropped at once", feed.line(1), f"drop,{A},{A_B}")
+    feed.end()
+
+
+def refusals(checks):
+    """The lines that come back: one batch at a time, numbered by them, and what a refused one leads to."""
+    chain = update(router_lsa(A, (B, A_B, 1)), router_lsa(B, (A, B_A, 1), (C, B_C, 1)), router_lsa(C, (B, C_B, 1)),
+                   te_lsa(A, A_B, B, B_A), te_lsa(B, B_A, A, A_B), te_lsa(B, B_C, C, C_B, number="1.0.0.3"), te_lsa(C, C_B, B, B_C))
+    rows = [*PAIR_ROWS, row(B, B_C, C, C_B), row(C, C_B, B, B_C)]
+
+    def begun():
+        router = Router()
+        feed = Feed(router)
+        router.send(chain)
+        return router, feed
+
+    router, feed = begun()
+    first = [feed.line() for _ in range(5)]
+    router.send(update(te_lsa(A, A_B, B, B_A, metric=8, sequence=2)))
+    time.sleep(0.4)
+    feed.say("ask 1 v0 none")
+    checks.same("a batch", first, [*rows, "end,1,4"])
+    checks.true("is the only one before its line comes", feed.is_quiet())
+    feed.say("version 1")
+    checks.same("then comes the next", feed.batch("batch 2 refused: expected 6"), ([row(A, A_B, B, B_A, metric=8)], 2))
+    checks.same("with the number that is expected", feed.batch(), ([row(A, A_B, B, B_A, metric=8)], 6))
+    router.send(removal(te_lsa(B, B_A, A, A_B), te_lsa(C, C_B, B, B_C)))
+    gone = [f"drop,{B},{B_A}", f"drop,{C},{C_B}"]
+    checks.same("drops", feed.batch("batch 7 refused: absent 2"), (gone, 7))
+    checks.same("without the one that was at fault", feed.batch(), (gone[:1], 7))
+    checks.true("and nothing more", feed.is_quiet())
+    checks.same("what is said", feed.end(), "ospf: batch 2 refused: expected 6: going on from version 5\n"
+                f"ospf: batch 7 refused: absent 2: drop {C} {C_B}: the program doesn't have it\n")
+
+    _, feed = begun()
+    batches = [feed.batch(answer)[0] for answer in ("batch 1 refused: full", "batch 1 refused: full", "batch 1 refused: full",
+                                                    "version 1", "version 2")]
+    checks.same("halves until it is known which change doesn't fit", batches, [rows, rows[:2], rows[:1], rows[1:2], rows[2:]])
+    checks.true("which isn't tried again", feed.is_quiet())
+    checks.same("and is said", feed.end(), f"ospf: batch 1 refused: full: put {A} {A_B} is left out\n")
+
+    router, feed = begun()
+    feed.batch("row 2 refused: number 6\nbatch 1 refused: counted 3")
+    checks.same("a row that is refused is left out", feed.batch(), ([rows[0], *rows[2:]], 1))
+    router.send(removal(te_lsa(A, A_B, B, B_A)))
+    checks.same("a drop", feed.batch()[0], [f"drop,{A},{A_B}"])
+    checks.same("after which it is tried again", feed.batch()[0], rows[1:2])
+    checks.true("what is said of it", f"ospf: row 2 refused: number 6: put {B} {B_A} is left out\n" in feed.end())
+
+    for answer in ("batch 1 refused: exhausted", "too many rows"):
+        _, feed = begun()
+        feed.batch(answer)
+        status = feed.process.wait(PATIENCE)
+        checks.true(f"{answer} ends the feed", status == 1 and len(feed.end().splitlines()) == 1)
+
+
+def with_program(program, checks):
+    """Beside the real program: as a command, with asks; at its limit of routers; and many changes."""
+    ask = f"ask,7,{A},{B},0,1000,0x0,0x0,0x0,"
+    router = Router()
+    feed = Feed(router, command=(program.path, "solve"))
+    router.send(PAIR)
+    feed.say("put,1.1.1.1,10.0.0.0\nask,1,2\"")
+    end, reply = time.monotonic() + PATIENCE, None
+    while time.monotonic() < end and "none" not in (reply or "") and "route" not in (reply or ""):
+        feed.say(ask)
+        reply = feed.line()
+    checks.same("an ask is answered from what was fed", reply, "ask 7 v1 route cost=7 hops=1 again=no ero=000c140101080a0000012000")
+    router.send(removal(te_lsa(A, A_B, B, B_A)))
+    while time.monotonic() < end and reply.split()[2] == "v1":
+        feed.say(ask)
+        reply = feed.line()
+    checks.same("and after a change", reply, "ask 7 v2 none")
+    checks.same("other rows aren't passed on", feed.end(), "ospf: no ask row, and not passed on: put,1.1.1.1,10.0.0.0\n"
+                "ospf: no ask row, and not passed on: ask,1,2\"\n")
+
+    names = [f"9.0.{n >> 8}.{n & 255}" for n in range(1026)]
+    ends = [(f"10.{n >> 8}.{n & 255}.1", f"10.{n >> 8}.{n & 255}.2") for n in range(1025)]
+    links = [[] for _ in names]
+    for n, (local, remote) in enumerate(ends):
+        links[n].append((names[n + 1], local, 1))
+        links[n + 1].append((names[n], remote, 1))
+    play = update(*[router_lsa(name, *pairs) for name, pairs in zip(names, links)],
+                  *[te_lsa(names[n], local, names[n + 1], remote, number="1.0.0.1") for n, (local, remote) in enumerate(ends)],
+                  *[te_lsa(names[n + 1], remote, names[n], local, number="1.0.0.2") for n, (local, remote) in enumerate(ends)])
+    router = Router()
+    feed = Feed(router, command=(program.path, "solve"))
+    router.send(play)
+    seen, deadline = "", time.monotonic() + PATIENCE
+    # The row past the limit is tried alone at last: two links lead to the 1,025th and the 1,026th router, and two from them.
+    wanted = [f"put {names[1023]} {ends[1023][0]}", f"put {names[1024]} {ends[1023][1]}", f"put {names[1024]} {ends[1024][0]}",
+              f"put {names[1025]} {ends[1024][1]}"]
+    while time.monotonic() < deadline and not all(f": {each} is left out" in seen for each in wanted):
+        if select.select([feed.process.stderr], [], [], 0.2)[0]:
+            seen += os.read(feed.process.stderr.fileno(), 1 << 16).decode()
+    feed.end()
+    found = sorted(re.findall(r"^ospf: batch \d+ refused: routers: (put \S+ \S+) is left out$", seen, re.M))
+    checks.same("past the limit of routers the rest is put", found, sorted(wanted))
+
+
+def many(checks):
+    """More changes than a batch may have."""
+    router = Router()
+    feed = Feed(router, "--collect", "2")
+    for area in range(25):  # 200 links one way in each of 25 routers
+        here, there = f"5.0.0.{area}", f"6.0.0.{area}"
+        ends = [(f"12.{area}.{n}.1", f"12.{area}.{n}.2") for n in range(200)]
+        router.send(update(router_lsa(here, *[(there, local, 1) for local, _ in ends]),
+                           router_lsa(there, *[(here, remote, 1) for _, remote in ends]),
+                           *[te_lsa(here, local, there, remote, number=f"1.0.0.{n}") for n, (local, remote) in enumerate(ends)]))
+    checks.same("5,000 changes are two batches", [(len(rows), number) for rows, number in (feed.batch(), feed.batch())],
+                [(4096, 1), (904, 2)])
+    feed.end()
+
+
+# The lab: a circuit in each line, with its two routers, their addresses, costs and metrics of the TE LSAs, the
+# bandwidth and the group. The last has nothing configured, and a default of 10 Gbit/s that wrapped.
+LAB = [(1, 2, "10.1.12.2", "10.1.12.3", 10, 10, 125000000, 0x1), (1, 2, "10.2.12.2", "10.2.12.3", 30, 30, 1250000000, 0x2),
+       (1, 3, "10.1.13.1", "10.1.13.2", 11, 21, 125000000, 0x1), (2, 4, "10.1.24.2", "10.1.24.3", 20, 20, 125000000, 0x5),
+       (3, 4, "10.1.34.1", "10.1.34.2", 500, 500, 1250000000, 0x80000000), (3, 5, "10.1.35.2", "10.1.35.3", 10, 10, 116250000, 0x1),
+       (4, 6, "10.1.46.2", "10.1.46.3", 300, 300, 125000000, 0x3), (5, 6, "10.1.56.1", "10.1.56.2", 10, 10, 176258176, 0x0)]
+
+
+def lab_rows():
+    """The rows of the lab as it is configured, in order of their keys."""
+    rows = []
+    for one_end, other, local, remote, metric, back, free, group in LAB:
+        ends = f"10.0.0.{one_end}", f"10.0.0.{other}"
+        rows += [row(ends[0], local, ends[1], remote, metric, group, free), row(ends[1], remote, ends[0], local, back, group, free)]
+    return sorted(rows, key=lambda each: [raw(part) for part in each.split(",")[1:3]])
+
+
+def recorded():
+    """What a real router sent, part by part: seconds and messages."""
+    parts = {}
+    for line in open(os.path.join(HERE, "captures/lab.messages")):
+        if line.startswith("# "):
+            name = line[2:].split(":")[0]
+        else:
+            after, data = line.split()
+            parts.setdefault(name, []).append((float(after), bytes.fromhex(data)))
+    return parts
+
+
+def lab(checks):
+    """The recorded messages of a lab make the rows that its configuration and its events say."""
+    parts = {name: [data for _, data in messages] for name, messages in recorded().items()}
+    router = Router()
+    feed = Feed(router, "--verbose")
+    router.send(b"".join(parts["base"]))
+    checks.same("the lab as it is configured", feed.batch(), (lab_rows(), 1))
+    taken = row("10.0.0.1", "10.1.13.1", "10.0.0.3", "10.1.13.2", 11, 1, 90000000)
+    router.send(b"".join(parts["bandwidth"]))
+    checks.same("bandwidth that is taken in eight commands", feed.batch(), ([taken], 2))
+    here = row("10.0.0.2", "10.1.24.2", "10.0.0.4", "10.1.24.3", 20, 0x11, 125000000)
+    there = row("10.0.0.4", "10.1.24.3", "10.0.0.2", "10.1.24.2", 20, 0x5, 125000000)
+    router.send(b"".join(parts["group"]))
+    checks.same("a group that changes", feed.batch(), ([here], 3))
+    router.send(b"".join(parts["down"]))
+    checks.same("a circuit that goes down", feed.batch(), (["drop,10.0.0.2,10.1.24.2", "drop,10.0.0.4,10.1.24.3"], 4))
+    up = parts["up"]
+    bare = next(at for at, data in enumerate(up) if data[1] == 12 and data[20 + 3] == 10 and data[28:32] == raw("10.0.0.2"))
+    router.send(b"".join(up[:bare]))
+    checks.same("one that comes up: the end that has told its bandwidth", feed.batch(), ([there], 5))
+    router.send(b"".join(up[bare:]))
+    checks.same("and then the other", feed.batch(), ([here], 6))
+    router.hang_up()
+    router.accept()
+    again, after = [], 0.0
+    for at, data in recorded()["restart"]:
+        again += feed.rest() if at > after + 0.3 else []
+        router.send(data)
+        after = at
+    checks.same("a router that starts anew: the bandwidth and group that it has again, and no drop", sorted(again + feed.rest()),
+                [taken.replace("90000000", "125000000"), here.replace("0x00000011", "0x00000005")])
+    said = feed.end()
+    checks.true("though links were missed meanwhile", "ospf: left out, no TE LSA: 10.0.0.1 10.1.13.1\n" in said, said)
+    checks.true("and all are there at last", said.endswith("ospf: 16 links; left out: none\n"), said)
+
+    found, said = fed(*[b"".join(parts[name]) for name in ("base", "dead", "alive")], words=("--verbose",))
+    gone = [each for each in lab_rows() if each.startswith("put,10.0.0.6,") or ",10.0.0.6," in each]
+    checks.same("a router that dies without a word: its links and those to it go, though its LSAs stay", found[1],
+                [",".join(["drop", *each.split(",")[1:3]]) for each in gone])
+    checks.same("and come back with it", found[2], [re.sub("^(put,10.0.0.6,10.1.46.3,.*)0x00000003", r"\g<1>0x00000024", each) for each in gone])
+    reasons = set(re.findall(r"^ospf: left out, (.*)$", said.split("ospf: 12 links;")[1], re.M))
+    checks.same("the reasons", reasons, {"no adjacency: 10.0.0.4 10.1.46.2", "no adjacency: 10.0.0.5 10.1.56.1",
+                                         "no adjacency back: 10.0.0.6 10.1.46.3", "no adjacency back: 10.0.0.6 10.1.56.2"})
+
+
+def once(program, checks):
+    """The present network as one journal, which the program takes."""
+    def ran(data, *words):
+        router = Router()
+        process = subprocess.Popen([FEED, "--port", str(router.port), "--once", *words], stdout=subprocess.PIPE, stderr=subprocess.PIPE)
+        router.accept()
+        router.send(data)
+        out, said = process.communicate()
+        return process.returncode, out.decode(), said.decode()
+
+    base = b"".join(data for _, data in recorded()["base"])
+    status, journal, said = ran(base, "--verbose")
+    checks.same("the lab as a journal", (status, journal), (0, "\n".join([*lab_rows(), "end,1,16\n"])))
+    checks.true("what is left out is said", said.endswith("ospf: 16 links; left out: none\n"), said)
+    request = "ask,1,10.0.0.1,10.0.0.6,0,100000000,0x0,0x0,0x0,\n"
+    checks.same("and the program answers from it", program.batch(journal, request), (0, b"version 1\nask 1 v1 route cost=31 hops=3 "
+                b"again=no ero=001c140101080a010d02200001080a012303200001080a0138022000\n", b""))
+    checks.same("a network of nothing", ran(b""), (0, "", ""))
+    closed = socket.create_server(("127.0.0.1", 0))
+    port = closed.getsockname()[1]
+    closed.close()
+    ended = subprocess.run([FEED, "--port", str(port), "--once"], capture_output=True, text=True)
+    checks.same("no router", (ended.returncode, ended.stdout, ended.stderr), (1, "", "ospf: [Errno 111] Connection refused\n"))
+
+
+def words(program, checks):
+    """Words that are refused, programs that aren't there or end, and a second feed behind the first."""
+    def ran(*given):
+        return subprocess.run([FEED, *given], stdin=subprocess.DEVNULL, capture_output=True, text=True)
+
+    for given in (["--port", "0"], ["--port", "65536"], ["--collect", "-1"], ["--hold", "nan"], ["--collect", "inf"], ["--twice"]):
+        found = ran(*given)
+        checks.true(f"refused: {given}", found.returncode == 2 and found.stdout == "" and "Traceback" not in found.stderr, found)
+    for command, why in (["/nowhere/routed"], "ospf: [Errno 2] No such file or directory: '/nowhere/routed'\n"), (["true"], "ospf: the program ended\n"):
+        found = ran("--port", "9", "--", *command)
+        checks.true(f"a program that isn't there: {command}", found.returncode == 1 and found.stderr.endswith(why), found)
+    router = Router()
+    for turn in (1, 2):
+        feed = Feed(router, command=("--", program.path, "solve"))
+        router.send(PAIR)
+        time.sleep(QUIET)
+        feed.process.stdin.write(f"ask,{turn},{A},{B},0,1,0x0,0x0,0x0,".encode())
+        feed.process.stdin.close()
+        checks.same(f"feed {turn} of a router, and an ask without a line feed", feed.line(),
+                    f"ask {turn} v1 route cost=7 hops=1 again=no ero=000c140101080a0000012000")
+        feed.process.stdin = None
+        checks.same(f"feed {turn} ends by a signal", (feed.end(), feed.process.returncode), ("", 0))
+
+
+def feed(program, checks):
+    for part in (columns, left_out, wrapped, changes, runs, streams, anew, refusals, many, lab):
+        part(checks)
+    with_program(program, checks)
+    once(program, checks)
+    words(program, checks)
