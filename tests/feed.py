@@ -581,6 +581,11 @@ def words(program, checks):
 
 
 def feed(program, checks):
+    try:
+        socket.create_server(("127.0.0.1", 0)).close()
+    except OSError as fault:
+        print(f"skipped: the feed, since no socket can be had: {fault}")
+        return
     for part in (columns, left_out, wrapped, changes, runs, streams, anew, refusals, many, lab):
         part(checks)
     with_program(program, checks)
