@@ -1,5 +1,5 @@
 -- Which errors end a run over a journal, or over updates, and requests.
-use Rattle.std.specs.Prelude.{◌≡◌, ◌≢◌, ℕ, ◌<◌, ◌⊎◌, Bool, List, length, Option, IfSome}
+use Rattle.std.specs.Prelude.{◌≡◌, ℕ, ◌<◌, ◌⊎◌, Bool, List, length, Option, IfSome}
 use Rattle.cspf_db.specs.Numbered.{NumberedChanges}
 use Rattle.cspf_rows.specs.Records.{rows_of}
 use Rattle.cspf_serve.specs.declared.streams.error.RunError.{RunError}
@@ -27,12 +27,12 @@ IsAnsweringFault IsStray e =
 abbrev pub IsRunFault : (ℕ → ℕ → Type 0) → RunError → Type 0
 IsRunFault IsStray e = IsStreamFault e ⊎ (IsOpeningFault e ⊎ IsAnsweringFault IsStray e)
 
--- a request of the stream is answered at another version than the number of the journal's batches
+-- a request of the stream is answered at a version above the number of the journal's batches
 abbrev pub IsStrayInBatchRun : Bool → Option (List ℕ) → Option (List ℕ) → ℕ → ℕ → Type 0
 IsStrayInBatchRun accept_torn journal requests index version =
     IfSome requests (λ asked. index < length (rows_of asked))
     × IfSome journal (λ kept. (batches : List NumberedChanges)
-    × AreBatchesOf accept_torn (rows_of kept) batches × (version ≢ length batches))
+    × AreBatchesOf accept_torn (rows_of kept) batches × (length batches < version))
 
 -- why a run over a journal and requests ends by an error
 abbrev pub IsBatchFault : Bool → Option (List ℕ) → Option (List ℕ) → RunError → Type 0

@@ -1,5 +1,6 @@
 -- Answers at the last published version.
-use Rattle.std.proofs.Common.{◌≡◌, ◌≢◌, ℕ, ◌≤◌, ◌<◌, All, List, take, length, get_or, ap, ◌∙◌, subst, arith, Vec}
+use Rattle.std.proofs.Common.{◌≡◌, ℕ, ◌≤◌, All, List, take, length, get_or, ap, ◌∙◌, subst, arith, Vec, inl, inr}
+use Rattle.std.proofs.lemmas.Bool.{cases_lt}
 use Rattle.std.proofs.Math.Seq.{take-length}
 use Rattle.std.proofs.lemmas.Option.{slice_get_within, slice_get-get_or, get_or_from_slice_get}
 use Rattle.cspf_db.specs.declared.request.Request.{Request}
@@ -10,12 +11,11 @@ use Rattle.cspf_publish.specs.Histories.{BeginsWith}
 use Rattle.cspf_publish.specs.KnownBatches.{KnownBatches}
 use Rattle.std.specs.Global.{Global}
 use Rattle.cspf_work.specs.declared.serve_error.ServeError.{ServeError}
-use Rattle.cspf_work.specs.declared.serve_error.ServeError.TheVariants.{Unaccounted}
-use Rattle.cspf_work.specs.Served.{AreAnsweredByWorkers, AreAnswersAfter, AreAnswersWithin, AreSameAskers}
+use Rattle.cspf_work.specs.Served.{AreAnsweredByWorkers, AreAnswersAfter, AreAnswersWithin, AreSameAskers, IsUnaccounted}
 use Rattle.cspf_work.specs.Strays.{IsFirstStray}
 use Rattle.cspf_work.proofs.Asked.{begins_through}
 use Rattle.cspf_work.proofs.Running.{at_place}
-use Rattle.cspf_work.proofs.Telling.{within_published}
+use Rattle.cspf_work.proofs.Telling.{no_earlier, within_published}
 
 -- answers of one version are those of all batches that are published
 answers_at_version : (published : List NumberedChanges) (requests : List Request) (list : List Answer) (version : ℕ) → version ≡ length published
@@ -35,7 +35,7 @@ no_later : (published : List NumberedChanges) (list : List Answer) (version : �
 no_later published list version is same i d less = let one = same i d less in omega arith
 
 -- what askers were told stays known
-told_later : (published : List NumberedChanges) (before after : List KnownBatches) → AreSameAskers before after
+pub told_later : (published : List NumberedChanges) (before after : List KnownBatches) → AreSameAskers before after
     → All (λ (k : KnownBatches). BeginsWith k.batches published) before → All (λ (k : KnownBatches). BeginsWith k.batches published) after
 told_later published before after same told i d less =
     let count = same.count in
@@ -54,10 +54,15 @@ latest_answers published requests told after list drawn version is begins same a
     answers_at_version published requests list version is answered.count exact
     (within_published requests told after list drawn published same.count (told_later published told after same begins) (no_later published list version is exact) answered)
 
--- the first answer of another version is that of a request
-pub other_version : (list : List Answer) (published : List NumberedChanges) (requests version : ℕ) (e : ServeError) → version ≡ length published → length list ≡ requests
-    → IsFirstStray list (λ v. (version ≤ v) × (v ≤ version)) e
-    → (index : ℕ) × (other : ℕ) × (e ≡ Unaccounted index other) × (index < requests) × (other ≢ length published)
-other_version list published requests version e is count stray =
+-- the first answer of another version is that of a request, and of a later version
+pub later_version : (published : List NumberedChanges) (requests : List Request) (told after : List KnownBatches) (list : List Answer) (drawn : List (Vec ℕ Global)) (version : ℕ) (e : ServeError)
+    → version ≡ length published → All (λ (k : KnownBatches). BeginsWith k.batches published) told → AreSameAskers told after
+    → AreAnsweredByWorkers requests told after list drawn → IsFirstStray list (λ v. (version ≤ v) × (v ≤ version)) e → IsUnaccounted (length requests) (length published) e
+later_version published requests told after list drawn version e is begins same answered stray =
     let within = slice_get_within list stray.index stray.answer stray.there in
-    (stray.index, stray.answer.version, stray.names, omega arith, λ same. stray.stray (omega (arith, same, is), omega (arith, same, is)))
+    let count = answered.count in
+    let least = no_earlier requests told after list drawn published same.count begins answered stray.index stray.answer stray.there in
+    elim (cases_lt (length published) stray.answer.version) [
+      | inl above ↦ (stray.index, stray.answer.version, stray.names, omega arith, above)
+      | inr below ↦ absurd (stray.stray (omega arith, omega arith))
+    ]

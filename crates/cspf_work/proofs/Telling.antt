@@ -1,5 +1,5 @@
 -- What workers answered beside a publisher, once each asker has learnt what is published.
-use Rattle.std.proofs.Common.{◌≡◌, ℕ, zero, suc, ◌+◌, ◌<◌, ◌≤◌, cond, eqb, List, [], ◌∷◌, length, Some, get_or, All, Vec, inl, inr, refl, sym, ap, ◌∙◌, subst, arith, slice_get, slice_set, sum_by}
+use Rattle.std.proofs.Common.{◌≡◌, ℕ, zero, suc, ◌+◌, ◌<◌, ◌≤◌, cond, eqb, List, [], ◌∷◌, length, length-append, Option, Some, get_or, All, Vec, inl, inr, refl, sym, ap, ◌∙◌, subst, arith, slice_get, slice_set, sum_by, unwrap_or, option_map}
 use Rattle.std.specs.Global.{Global}
 use Rattle.std.proofs.lemmas.Bool.{cases_Bool, cases_lt, eqb-true, eqb-false}
 use Rattle.std.proofs.lemmas.Bool.Decides.{nat_tests}
@@ -15,7 +15,7 @@ use Rattle.cspf_publish.specs.Answers.{IsAnswerAfter}
 use Rattle.cspf_publish.specs.Histories.{BeginsWith}
 use Rattle.cspf_publish.specs.KnownBatches.{KnownBatches}
 use Rattle.cspf_draw.specs.EachOnce.{once_below, times}
-use Rattle.cspf_work.specs.Served.{IsAnswerWithin, IsServed, IsServedAt, AreAnsweredByWorkers, AreAnswersWithin, AreSameAskers, KnowsNoLess}
+use Rattle.cspf_work.specs.Served.{IsAnswerWithin, IsServed, IsServedAt, version_at, AreAnsweredByWorkers, AreAnswersWithin, AreSameAskers, KnowsNoLess}
 use Rattle.cspf_work.proofs.Asked.{within_later, take_begins, knows_through}
 use Rattle.cspf_work.proofs.Running.{at_place}
 
@@ -44,6 +44,37 @@ answered_later requests before mid after list drawn count same is = record {
       let less = slice_get_within before i old at in
       let known = at_place mid i (omega arith) in
       served_later requests list old.batches (known.0).batches new.batches ix.items ((same.each i known.0 new known.1 there).later) (is.served i old known.0 ix at known.1 drew);
+}
+
+served_at_before : (requests : List Request) (list : List Answer) (before mid after : List NumberedChanges) (i : ℕ)
+    → BeginsWith mid before → IsServedAt requests list mid after i → IsServedAt requests list before after i
+served_at_before requests list before mid after i more is = record {
+  later =
+      let long = ap length more.1 ∙ length-append before more.0 in
+      let later = is.later in
+      omega arith;
+  answer = is.answer;
+}
+
+served_before : (requests : List Request) (list : List Answer) (before mid after : List NumberedChanges) (indexes : List ℕ)
+    → BeginsWith mid before → IsServed requests list mid after indexes → IsServed requests list before after indexes
+served_before requests list before mid after indexes more is = record {
+  answers = All-weaker (IsServedAt requests list mid after) (IsServedAt requests list before after) (λ i. served_at_before requests list before mid after i more) indexes is.answers;
+  versions = is.versions;
+}
+
+-- the same where the askers knew less before
+pub answered_before : (requests : List Request) (before mid after : List KnownBatches) (list : List Answer) (drawn : List (Vec ℕ Global))
+    → AreSameAskers before mid → AreAnsweredByWorkers requests mid after list drawn → AreAnsweredByWorkers requests before after list drawn
+answered_before requests before mid after list drawn same is = record {
+  count = is.count;
+  lists = is.lists ∙ same.count;
+  once = is.once;
+  served = λ i old new ix at there drew.
+      let count = same.count in
+      let less = slice_get_within before i old at in
+      let known = at_place mid i (omega arith) in
+      served_before requests list old.batches (known.0).batches new.batches ix.items ((same.each i old known.0 at known.1).later) (is.served i known.0 new ix known.1 there drew);
 }
 
 pub same_through : (before mid after : List KnownBatches) → AreSameAskers before mid → AreSameAskers mid after → AreSameAskers before after
@@ -84,6 +115,45 @@ place_of x (y ∷ ys) some = elim (cases_Bool (eqb y x)) [
       (suc rest.0, omega arith, rest.2)
 ]
 
+-- what the worker did that answered a request
+served_there : (requests : List Request) (before after : List KnownBatches) (list : List Answer) (drawn : List (Vec ℕ Global))
+    → length after ≡ length before → AreAnsweredByWorkers requests before after list drawn → (i : ℕ) → i < length requests
+    → (worker : ℕ) × (old : KnownBatches) × (new : KnownBatches) × (slice_get before worker ≡ Some old) × (slice_get after worker ≡ Some new)
+    × IsServedAt requests list old.batches new.batches i
+served_there requests before after list drawn count is i inside =
+    let once : sum_by (λ (l : Vec ℕ Global). times i l.items) drawn ≡ 1 = is.once i ∙ (let one : once_below (length requests) i ≡ 1 = grind (arith, nat_tests) in one) in
+    let worker = list_with i drawn (omega arith) in
+    let place = place_of i worker.1.items worker.3 in
+    let less = slice_get_within drawn worker.0 worker.1 worker.2 in
+    let lists = is.lists in
+    let old = at_place before worker.0 (omega arith) in
+    let new = at_place after worker.0 (omega arith) in
+    let served = is.served worker.0 old.0 new.0 worker.1 old.1 new.1 worker.2 in (
+      worker.0,
+      old.0,
+      new.0,
+      old.1,
+      new.1,
+      subst (λ n. IsServedAt requests list old.0.batches new.0.batches n) place.2 (served.answers place.0 0 place.1),
+    )
+
+-- no answer is of fewer batches than each asker knew before
+pub no_earlier : (requests : List Request) (before after : List KnownBatches) (list : List Answer) (drawn : List (Vec ℕ Global)) (published : List NumberedChanges)
+    → length after ≡ length before → All (λ (k : KnownBatches). BeginsWith k.batches published) before → AreAnsweredByWorkers requests before after list drawn
+    → (i : ℕ) (a : Answer) → slice_get list i ≡ Some a → length published ≤ a.version
+no_earlier requests before after list drawn published count told is i a there =
+    let size = is.count in
+    let within = slice_get_within list i a there in
+    let at = served_there requests before after list drawn count is i (omega arith) in
+    let less = slice_get_within before at.0 at.1 at.3 in
+    let begins : BeginsWith at.1.batches published =
+    subst (λ (k : KnownBatches). BeginsWith k.batches published) (get_or_from_slice_get before at.0 at.1 at.1 at.3) (told at.0 at.1 less) in
+    let long = ap length begins.1 ∙ length-append published begins.0 in
+    let served : IsServedAt requests list at.1.batches at.2.batches i = at.5 in
+    let later = served.later in
+    let version : version_at list i ≡ a.version = ap (λ (o : Option Answer). unwrap_or (option_map (λ (b : Answer). b.version) o) 0) there in
+    omega (arith, later, version, long)
+
 -- an answer of no later version stays right in the first batches
 within_front : (all first : List NumberedChanges) (q : Request) (a : Answer) → BeginsWith all first → a.version ≤ length first → IsAnswerWithin all q a → IsAnswerWithin first q a
 within_front all first q a more within is = record {
@@ -96,21 +166,14 @@ within_published_at : (requests : List Request) (before after : List KnownBatche
     → length after ≡ length before → All (λ (k : KnownBatches). BeginsWith k.batches published) after → All (λ (a : Answer). a.version ≤ length published) list
     → AreAnsweredByWorkers requests before after list drawn → (i : ℕ) (q : Request) (a : Answer) → slice_get requests i ≡ Some q → slice_get list i ≡ Some a → IsAnswerWithin published q a
 within_published_at requests before after list drawn published count told accounted is i q a at there =
-    let inside = slice_get_within requests i q at in
-    let once : sum_by (λ (l : Vec ℕ Global). times i l.items) drawn ≡ 1 = is.once i ∙ (let one : once_below (length requests) i ≡ 1 = grind (arith, nat_tests) in one) in
-    let worker = list_with i drawn (omega arith) in
-    let place = place_of i worker.1.items worker.3 in
-    let less = slice_get_within drawn worker.0 worker.1 worker.2 in
-    let lists = is.lists in
-    let old = at_place before worker.0 (omega arith) in
-    let new = at_place after worker.0 (omega arith) in
-    let served = is.served worker.0 old.0 new.0 worker.1 old.1 new.1 worker.2 in
-    let here : IsServedAt requests list old.0.batches new.0.batches i = subst (λ n. IsServedAt requests list old.0.batches new.0.batches n) place.2 (served.answers place.0 0 place.1) in
-    let begins : BeginsWith new.0.batches published =
-    subst (λ (k : KnownBatches). BeginsWith k.batches published) (get_or_from_slice_get after worker.0 new.0 new.0 new.1) (told worker.0 new.0 (omega arith)) in
+    let worker = served_there requests before after list drawn count is i (slice_get_within requests i q at) in
+    let here : IsServedAt requests list worker.1.batches worker.2.batches i = worker.5 in
+    let begins : BeginsWith worker.2.batches published =
+    subst (λ (k : KnownBatches). BeginsWith k.batches published) (get_or_from_slice_get after worker.0 worker.2 worker.2 worker.4)
+    (told worker.0 worker.2 (slice_get_within after worker.0 worker.2 worker.4)) in
     let version : a.version ≤ length published =
     subst (λ (b : Answer). b.version ≤ length published) (get_or_from_slice_get list i a a there) (accounted i a (slice_get_within list i a there)) in
-    within_front new.0.batches published q a begins version (here.answer q a at there)
+    within_front worker.2.batches published q a begins version (here.answer q a at there)
 
 pub within_published : (requests : List Request) (before after : List KnownBatches) (list : List Answer) (drawn : List (Vec ℕ Global)) (published : List NumberedChanges)
     → length after ≡ length before → All (λ (k : KnownBatches). BeginsWith k.batches published) after → All (λ (a : Answer). a.version ≤ length published) list

@@ -1,9 +1,11 @@
 -- What batches leave that are applied in order, up to the first that is refused.
-use Rattle.std.specs.Prelude.{◌≡◌, ℕ, ◌<◌, ◌≤◌, ◌⊎◌, List, ◌++◌, length, take, Option, Some, None, slice_get, flat_map, false}
+use Rattle.std.specs.Prelude.{◌≡◌, ℕ, ◌<◌, ◌≤◌, ◌⊎◌, List, ◌++◌, length, take, Option, Some, None, slice_get, flat_map, All, false}
 use Rattle.std.specs.Io.KnownBytes.{Appends}
 use Rattle.cspf_db.specs.Numbered.{NumberedChanges}
 use Rattle.cspf_rows.specs.BatchText.{batch_text}
 use Rattle.cspf_publish.specs.ApplyErrors.{IsApplyError}
+use Rattle.cspf_publish.specs.Histories.{BeginsWith}
+use Rattle.cspf_publish.specs.KnownBatches.{KnownBatches}
 use Rattle.cspf_publish.specs.PublisherStates.{PublisherState}
 use Rattle.cspf_publish.specs.declared.errors.ApplyError.{ApplyError}
 
@@ -39,3 +41,8 @@ abbrev pub IsAppliedInPart : {W : Type 0} → (W → Option (List ℕ)) → Publ
 IsAppliedInPart contents before after batches =
     (after ≡ before)
     ⊎ ((applied : ℕ) × (fault : Option ApplyError) × IsAppliedUpTo contents before after batches applied fault)
+
+-- Nothing happened, neither to the publisher nor to an asker, or each asker knows what is published.
+abbrev pub AreUntouchedOrTold : {W : Type 0} → PublisherState W → PublisherState W → List KnownBatches → List KnownBatches → Type 0
+AreUntouchedOrTold before after askers back =
+    ((after ≡ before) × (back ≡ askers)) ⊎ All (λ (a : KnownBatches). BeginsWith a.batches after.batches) back

@@ -1,6 +1,7 @@
-ghost use Rattle.std.specs.Prelude.{◌≡◌, ◌≢◌, ℕ, ◌<◌, ◌≤◌, ◌⊎◌, length, All, IfOk, IfErr, vec_len};
-ghost use Rattle.cspf_work.specs.Served.{AreAnswersAfter, AreSameAskers, IsFaultOfWorker};
-ghost use Rattle.cspf_work.specs.declared.serve_error.ServeError.TheVariants.{Unaccounted as IsUnaccounted};
+ghost use Rattle.std.specs.Prelude.{◌≡◌, ◌<◌, ◌≤◌, ◌⊎◌, length, All, IfOk, IfErr, vec_len};
+ghost use Rattle.std.specs.List.Sorted.{IsStrictlyIncreasing};
+ghost use Rattle.cspf_publish.specs.Histories.{BeginsWith};
+ghost use Rattle.cspf_work.specs.Served.{AreAnsweredByWorkers, AreAnswersAfter, AreSameAskers, IsFaultOfWorker, IsUnaccounted};
 
 use crate::askers::tell_each;
 use crate::strays::first_stray;
@@ -12,10 +13,10 @@ use std::io::Write;
 use std::thread::Threads;
 
 /// Answers requests as `answer_all` does, at the last published version: each asker learns before
-/// what is published. An answer of another version is `Unaccounted`.
+/// what is published. An answer of a later version is `Unaccounted`.
 ///
 /// The askers are of the publisher's own `open`. All of them are handed back in order, after an
-/// error too.
+/// error too, and know then what is published.
 pub fn answer_latest<W: Write, G: Gate + Sync, R: Threads + Sync>(
     rt: &R,
     alloc: Global,
@@ -30,11 +31,18 @@ pub fn answer_latest<W: Write, G: Gate + Sync, R: Threads + Sync>(
     ensures same { publisher.new ≡ publisher.old }
     ensures answers { IfOk result (λ all.
         AreAnswersAfter publisher.old.batches requests.now all.list.items) }
+    ensures workers { IfOk result (λ all. AreAnsweredByWorkers requests.now
+        askers.items all.askers.items all.list.items all.drawn.items) }
+    ensures rising { IfOk result (λ all. All (λ v. IsStrictlyIncreasing v.items) all.drawn.items) }
     ensures askers { IfOk result (λ all. AreSameAskers askers.items all.askers.items) }
-    ensures error { IfErr result (λ e. IsFaultOfWorker e.0
-        ⊎ ((index : ℕ) × (version : ℕ) × (e.0 ≡ IsUnaccounted index version)
-        × (index < length requests.now) × (version ≢ length publisher.old.batches))) }
+    ensures told { IfOk result (λ all.
+        All (λ a. BeginsWith a.batches publisher.old.batches) all.askers.items) }
+    ensures error { IfErr result (λ e.
+        IsFaultOfWorker e.0
+        ⊎ IsUnaccounted (length requests.now) (length publisher.old.batches) e.0) }
     ensures back { IfErr result (λ e. AreSameAskers askers.items e.1.items) }
+    ensures back_told { IfErr result (λ e.
+        All (λ a. BeginsWith a.batches publisher.old.batches) e.1.items) }
 {
     let mut askers = askers;
     tell_each(publisher, &mut askers);

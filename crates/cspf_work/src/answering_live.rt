@@ -4,7 +4,7 @@ ghost use Rattle.cspf_draw.specs.DrawnNumbers.{CounterId};
 ghost use Rattle.cspf_publish.specs.Histories.{BeginsWith};
 ghost use Rattle.cspf_publish.specs.KnownBatches.{KnownBatches};
 ghost use Rattle.cspf_work.specs.Served.{AreAnsweredByWorkers, AreAnswersWithin, AreSameAskers, IsFaultOfWorker, IsUnaccounted};
-ghost use Rattle.cspf_work.specs.Applied.{IsAppliedUpTo, IsAppliedInPart};
+ghost use Rattle.cspf_work.specs.Applied.{IsAppliedUpTo, IsAppliedInPart, AreUntouchedOrTold};
 ghost use Rattle.cspf_work.specs.declared.worker.Worker.{Worker as OneWorker};
 ghost use Rattle.cspf_work.specs.Working.{AreReady, AreRun, AreLeft, CanBegin};
 
@@ -130,6 +130,8 @@ fn run_lent<W: Write, G: Gate + Sync, R: Threads + Wait + Sync>(
     ensures error { IfErr result.1 (λ e.
         IsFaultOfWorker e
         ⊎ IsUnaccounted (length requests.now) (length publisher.new.batches) e) }
+    ensures back_told { IfErr result.1 (λ e.
+        AreUntouchedOrTold publisher.old publisher.new askers.items result.0.items) }
 {
     let Ok((counter, first)) = Counter::open(alloc, requests.len() as u64) else {
         return (askers, Err(ServeError::Memory));
@@ -158,7 +160,8 @@ fn run_lent<W: Write, G: Gate + Sync, R: Threads + Wait + Sync>(
 ///
 /// The askers are of the publisher's own `open`. All of them are handed back in order, and so is
 /// the publisher, after an error too. Either nothing has happened then, or the batches were applied
-/// as far as they go, and a fault of the journal may have stopped the publisher.
+/// as far as they go, a fault of the journal may have stopped the publisher, and each asker has learnt
+/// what is published.
 pub fn run_live<W: Write, G: Gate + Sync, R: Threads + Wait + Sync>(
     rt: &R,
     alloc: Global,
@@ -186,6 +189,8 @@ pub fn run_live<W: Write, G: Gate + Sync, R: Threads + Wait + Sync>(
         ⊎ IsUnaccounted (length requests.now) (length e.1.batches) e.0) }
     ensures part { IfErr result (λ e. IsAppliedInPart W.contents publisher e.1 batches.now) }
     ensures back { IfErr result (λ e. AreSameAskers askers.items e.2.items) }
+    ensures back_told { IfErr result (λ e.
+        AreUntouchedOrTold publisher e.1 askers.items e.2.items) }
 {
     let mut publisher = publisher;
     let (askers, ran) = run_lent(rt, alloc, &mut publisher, askers, batches, requests, gate);

@@ -1,4 +1,4 @@
-ghost use Rattle.std.specs.Prelude.{◌≡◌, ◌≢◌, ℕ, ◌<◌, ◌⊎◌, ◌≤◌, ◌++◌, List, [], length, All, Ok, IfOk, IfErr, IfSome, OnOk, vec_len, false};
+ghost use Rattle.std.specs.Prelude.{◌≡◌, ℕ, ◌<◌, ◌⊎◌, ◌≤◌, ◌++◌, List, [], length, All, Ok, IfOk, IfErr, IfSome, OnOk, vec_len, false};
 ghost use Rattle.std.specs.Io.KnownBytes.{Appends};
 ghost use Rattle.cspf_rows.specs.Journal.{AreNumberedFrom};
 ghost use Rattle.cspf_rows.specs.Records.{rows_of};
@@ -91,7 +91,7 @@ fn answer<W: Write, G: Gate + Sync, T: Threads + Wait + Sync>(
         Writes (W.contents writer.old) (W.contents writer.new) (λ lines.
         AreAnsweredInTurn batches.now requests.now lines status)) }
     ensures error { IfErr result (IsRunFault (λ index version.
-        (index < length requests.now) × (version ≢ length batches.now))) }
+        (index < length requests.now) × (length batches.now < version))) }
 {
     match open_for(rt, alloc, io::sink(), workers) {
         Ok((publisher, askers)) => {
@@ -131,7 +131,7 @@ fn answer_lent<J: Write, W: Write, G: Gate + Sync, T: Threads + Wait + Sync>(
         (IsOneUnfit batches.now))) }
     ensures failed { IfErr result (λ end. IfFailed end (λ e. IsStreamFault e
         ⊎ IsAnsweringFault (λ index version. (index < length requests.now)
-        × (version ≢ length batches.now)) e)) }
+        × (length batches.now < version)) e)) }
 {
     publish_all(rt, alloc, batches, publisher, writer)?;
     answer_in_parts(rt, alloc, publisher, askers, requests, writer, gate)?;

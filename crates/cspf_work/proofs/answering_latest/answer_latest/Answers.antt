@@ -1,8 +1,8 @@
 use Rattle.std.proofs.Common.{rules, ◌≡◌, ◌≤◌, List, All, length, inr, subst}
 use Rattle.cspf_publish.specs.declared.answer.Answer.{Answer}
 use Rattle.cspf_work.specs.Strays.{IsFirstStray}
-use Rattle.cspf_work.proofs.LatestAnswers.{latest_answers, other_version}
-use Rattle.cspf_work.proofs.Telling.{same_through}
+use Rattle.cspf_work.proofs.LatestAnswers.{latest_answers, later_version, told_later}
+use Rattle.cspf_work.proofs.Telling.{answered_before, same_through}
 use Rattle.cspf_work.proofs.answering_latest.answer_latest.Goals as goal
 
 pub returns-in-None-clause-answers : goal.returns-in-None-clause-answers
@@ -22,7 +22,8 @@ returns-in-Some-clause-error g c =
     let list = c.in-Ok.answers.list.items in
     let version : c.version-version.result ≡ length c.args.publisher.now.batches = search rules in
     let items : c.as_slice.result.now ≡ list = search rules in
-    inr (other_version list c.args.publisher.now.batches (length c.args.requests.now) c.version-version.result c.in-Some.error version c.in-Ok.ensures.answers.count
+    inr (later_version c.args.publisher.now.batches c.args.requests.now c.tell_each.new.askers.items c.in-Ok.answers.askers.items list c.in-Ok.answers.drawn.items c.version-version.result c.in-Some.error
+    version c.tell_each.ensures.told c.in-Ok.ensures.askers c.in-Ok.ensures.answers
     (subst (λ (l : List Answer). IsFirstStray l (λ v. (c.version-version.result ≤ v) × (v ≤ c.version-version.result)) c.in-Some.error) items c.in-Some.ensures.some))
 
 pub returns-in-Some-clause-back : goal.returns-in-Some-clause-back
@@ -30,3 +31,20 @@ returns-in-Some-clause-back g c = same_through c.args.askers.items c.tell_each.n
 
 pub returns-in-Err-clause-back : goal.returns-in-Err-clause-back
 returns-in-Err-clause-back g c = same_through c.args.askers.items c.tell_each.new.askers.items c.in-Err.askers.items c.tell_each.ensures.askers c.in-Err.ensures.back
+
+pub returns-in-None-clause-workers : goal.returns-in-None-clause-workers
+returns-in-None-clause-workers g c =
+    answered_before c.args.requests.now c.args.askers.items c.tell_each.new.askers.items c.in-Ok.answers.askers.items c.in-Ok.answers.list.items c.in-Ok.answers.drawn.items
+    c.tell_each.ensures.askers c.in-Ok.ensures.answers
+
+pub returns-in-None-clause-told : goal.returns-in-None-clause-told
+returns-in-None-clause-told g c =
+    told_later c.args.publisher.now.batches c.tell_each.new.askers.items c.in-Ok.answers.askers.items c.in-Ok.ensures.askers c.tell_each.ensures.told
+
+pub returns-in-Some-clause-back_told : goal.returns-in-Some-clause-back_told
+returns-in-Some-clause-back_told g c =
+    told_later c.args.publisher.now.batches c.tell_each.new.askers.items c.in-Ok.answers.askers.items c.in-Ok.ensures.askers c.tell_each.ensures.told
+
+pub returns-in-Err-clause-back_told : goal.returns-in-Err-clause-back_told
+returns-in-Err-clause-back_told g c =
+    told_later c.args.publisher.now.batches c.tell_each.new.askers.items c.in-Err.askers.items c.in-Err.ensures.back c.tell_each.ensures.told

@@ -76,3 +76,11 @@ returns-in-Some-clause-error g c =
     inr (subst (λ (n : ℕ). IsUnaccounted (length c.args.requests.now) n c.in-Some.error) version
     (unaccounted_of list (length c.args.requests.now) c.version.result c.in-Some.error answered.count
     (subst (λ (l : List Answer). IsFirstStray l (λ v. (0 ≤ v) × (v ≤ c.version.result)) c.in-Some.error) items c.in-Some.ensures.some)))
+
+pub returns-in-Some-clause-back_told : goal.returns-in-Some-clause-back_told
+returns-in-Some-clause-back_told g c =
+    inr (subst (λ (p : PublisherState g.row.W.Denot). All (λ (a : KnownBatches). BeginsWith a.batches p.batches) c.tell_each.new.askers.items) (sym c.tell_each.ensures.same) c.tell_each.ensures.told)
+
+pub returns-in-Err-collected-clause-back_told : goal.returns-in-Err-collected-clause-back_told
+returns-in-Err-collected-clause-back_told g c =
+    inr (subst (λ (p : PublisherState g.row.W.Denot). All (λ (a : KnownBatches). BeginsWith a.batches p.batches) c.tell_each.new.askers.items) (sym c.tell_each.ensures.same) c.tell_each.ensures.told)
