@@ -14,7 +14,7 @@ use Rattle.cspf_publish.specs.KnownBatches.{KnownBatches}
 use Rattle.cspf_work.specs.declared.serve_error.ServeError.{ServeError}
 use Rattle.cspf_work.specs.declared.worker.Reply.{Reply}
 use Rattle.cspf_work.specs.declared.worker.Worker.{Worker}
-use Rattle.cspf_work.specs.Served.{IsFaultOfWorker}
+use Rattle.cspf_work.specs.declared.serve_error.ServeError.TheVariants.{Memory}
 use Rattle.cspf_work.specs.Working.{AreRun, HasDrawnAll, all_drawn, indexes}
 use Rattle.cspf_work.specs.Collected.{IsCollectError, times_in}
 use Rattle.cspf_work.proofs.Filling.{times-append, times-push}
@@ -121,8 +121,8 @@ drawn_once bound word workers some all once x = elim (cases_lt x bound) [
 
 -- so no request is left out and none is answered twice
 pub only_memory : (bound word : ℕ) (workers : List Worker) (lists : List (Vec Reply Global)) (e : ServeError) → 0 < length workers → All (IsDrawnOut bound) workers
-    → HoldsEachOnce word (all_drawn workers) → lists ≡ map (λ w. w.done) workers → IsCollectError bound lists e → IsFaultOfWorker e
-only_memory bound word workers lists e some all once same (inl memory) = inl memory
+    → HoldsEachOnce word (all_drawn workers) → lists ≡ map (λ w. w.done) workers → IsCollectError bound lists e → e ≡ Memory
+only_memory bound word workers lists e some all once same (inl memory) = memory
 only_memory bound word workers lists e some all once same (inr (inl missing)) =
     let here = ap (times_in missing.0) same ∙ drawn_once bound word workers some all once missing.0 in
     let inside = missing.2 in

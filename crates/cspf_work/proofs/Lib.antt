@@ -3,6 +3,7 @@ pub mod Asked
 pub mod Filling
 pub mod Running
 pub mod Draws
+pub mod Faults
 pub mod StrayVersions
 pub mod Joining
 pub mod Applying

@@ -1,5 +1,6 @@
 -- Private: what a worker has done so far.
-use Rattle.std.specs.Prelude.{◌≡◌, ℕ, ◌<◌, ◌≤◌, ◌++◌, List, [], ◌∷◌, length, map, flat_map, Some, None, slice_get, IfSome, IsNone, All, vec_capacity}
+use Rattle.std.specs.Prelude.{◌≡◌, ℕ, ◌<◌, ◌≤◌, ◌++◌, List, [], ◌∷◌, length, map, flat_map, Option, Some, None, slice_get, IfSome, IsNone, All, vec_capacity}
+use Rattle.core.specs.Option.{option_or}
 use Rattle.std.specs.List.Sorted.{IsNonDecreasingBy, IsStrictlyIncreasing}
 use Rattle.cspf_db.specs.Numbered.{NumberedChanges}
 use Rattle.cspf_db.specs.declared.request.Request.{Request}
@@ -9,6 +10,7 @@ use Rattle.cspf_work.specs.declared.crew.Room.{Room}
 use Rattle.cspf_work.specs.declared.worker.Reply.{Reply}
 use Rattle.cspf_work.specs.declared.worker.Results.{Results}
 use Rattle.cspf_work.specs.declared.worker.Worker.{Worker}
+use Rattle.cspf_work.specs.declared.serve_error.ServeError.{ServeError}
 use Rattle.cspf_work.specs.Served.{IsAnswerWithin, KnowsNoLess, IsFaultOfWorker}
 
 -- the indexes of the requests that were answered
@@ -62,6 +64,11 @@ pub record AreRun (id : CounterId) (requests : List Request) (before : List Know
 abbrev pub all_drawn : List Worker → List ℕ
 all_drawn workers = flat_map (λ (d : DrawnNumbers). d.drawn) (map (λ w. w.drawer) workers)
 
+-- the fault of the first of these workers that has one
+abbrev pub first_fault : List Worker → Option ServeError
+first_fault [] = None
+first_fault (w ∷ ws) = option_or w.fault (first_fault ws)
+
 -- what is left when these workers are done, whose askers knew these batches before and who drew these numbers
 pub record AreResults (id : CounterId) (requests : List Request) (before : List KnownBatches) (numbers : List ℕ) (results : Results) (workers : List Worker) : Type 0 where
   pub run : AreRun id requests before workers
@@ -71,6 +78,7 @@ pub record AreResults (id : CounterId) (requests : List Request) (before : List 
   pub rising : All (λ (d : DrawnNumbers). IsStrictlyIncreasing d.drawn) (map (λ w. w.drawer) workers)
   pub fault : IfSome results.fault IsFaultOfWorker
   pub none : IsNone results.fault → All (λ w. IsNone w.fault) workers
+  pub first : results.fault ≡ first_fault workers
 
 -- workers are ready, whatever their askers know
 abbrev pub CanBegin : CounterId → List Request → List Worker → Type 0

@@ -4,7 +4,7 @@ ghost use Rattle.cspf_db.specs.declared.request.Request.{Request as OneRequest};
 ghost use Rattle.cspf_draw.specs.declared.limits.TheConstants.{MOST_DRAWERS};
 ghost use Rattle.cspf_publish.specs.KnownBatches.{KnownBatches};
 ghost use Rattle.cspf_work.specs.Served.{IsFaultOfWorker};
-ghost use Rattle.cspf_work.specs.Working.{IsIdle, IsRoomFor, AreReady, AreRun, AreResults};
+ghost use Rattle.cspf_work.specs.Working.{IsIdle, IsRoomFor, AreReady, AreRun, AreResults, first_fault};
 
 use crate::worker::{Reply, Results, Worker};
 use cspf_draw::{Counter, Drawer, FirstSeat, LastSeat};
@@ -121,6 +121,7 @@ fn part<'a>(workers: Vec<Worker<'a>>, room: Room<'a>) -> (Results, Vec<Drawer<'a
     ensures drawers { result.1.items ≡ map (λ w. w.drawer) workers.entry.items }
     ensures fault { IfSome result.0.fault IsFaultOfWorker }
     ensures none { IsNone result.0.fault → All (λ w. IsNone w.fault) workers.entry.items }
+    ensures first { result.0.fault ≡ first_fault workers.entry.items }
 {
     let Room {
         mut askers,

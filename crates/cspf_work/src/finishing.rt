@@ -1,4 +1,4 @@
-ghost use Rattle.std.specs.Prelude.{◌≡◌, ◌<◌, List, All, IfOk, IfErr, vec_len};
+ghost use Rattle.std.specs.Prelude.{◌≡◌, ◌<◌, ◌⊎◌, List, Some, All, IfOk, IfErr, IsNone, vec_len};
 ghost use Rattle.std.specs.List.Sorted.{IsStrictlyIncreasing};
 ghost use Rattle.cspf_publish.specs.KnownBatches.{KnownBatches};
 ghost use Rattle.cspf_work.specs.declared.worker.Worker.{Worker};
@@ -40,6 +40,9 @@ pub(crate) fn finish(
         → AreAnsweredByWorkers requests.now before result.0.items all.list.items all.drawn.items) }
     ensures rising { IfOk result.1 (λ all. All (λ v. IsStrictlyIncreasing v.items) all.drawn.items) }
     ensures error { IfErr result.1 IsFaultOfWorker }
+    // A worker's fault keeps its name, and memory is refused where none has one.
+    ensures fault { IfErr result.1 (λ e. (results.fault ≡ Some e)
+        ⊎ (IsNone results.fault × (e ≡ ServeError.Memory))) }
 {
     let _word = counter.close(last);
     let Results {

@@ -16,6 +16,7 @@ returns-clause-results c = λ requests before run. record {
   rising = subst (λ (ds : List DrawnNumbers). All (λ (d : DrawnNumbers). IsStrictlyIncreasing d.drawn) ds) c.part-results.ensures.drawers c.join-last.ensures.rising;
   fault = c.part-results.ensures.fault;
   none = c.part-results.ensures.none;
+  first = c.part-results.ensures.first;
 }
 
 pub join-last-requires-clause-counter : goal.join-last-requires-clause-counter

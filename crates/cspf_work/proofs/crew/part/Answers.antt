@@ -8,6 +8,7 @@ use Rattle.cspf_publish.specs.KnownBatches.{KnownBatches}
 use Rattle.cspf_work.specs.declared.worker.Reply.{Reply}
 use Rattle.cspf_work.specs.declared.worker.Worker.{Worker}
 use Rattle.cspf_work.specs.Served.{IsFaultOfWorker}
+use Rattle.cspf_work.proofs.Faults.{first_found, first_kept}
 use Rattle.cspf_work.proofs.Filling.{left_step, left_next}
 use Rattle.cspf_work.proofs.crew.part.Goals as goal
 
@@ -29,6 +30,29 @@ loop-worker-preserved-then-is_none c = record {
       left_next (λ (w : Worker). IfSome w.fault IsFaultOfWorker) c.loop-worker.yielded c.in-Some.worker (into_iter_items c.loop-worker.worker-iterator) (into_iter_items c.next.new.self)
       c.args.workers.items c.loop-worker.invariant.left c.in-Some.ensures.steps.0 c.requires.faults;
   none = λ none. All-push (λ (w : Worker). IsNone w.fault) c.loop-worker.yielded c.in-Some.worker (c.loop-worker.invariant.none (search rules)) none;
+  first = first_found c.loop-worker.yielded c.in-Some.worker c.loop-worker.first c.loop-worker.invariant.first (search rules);
+  askers_room = (let room = c.loop-worker.invariant.askers_room in let more = c.push_reserved.ensures.capacity in omega arith);
+  drawers_room = (let room = c.loop-worker.invariant.drawers_room in let more = c.push_reserved-in-loop-worker.ensures.capacity in omega arith);
+  lists_room = (let room = c.loop-worker.invariant.lists_room in let more = c.push_reserved-in-loop-worker-2.ensures.capacity in omega arith);
+}
+
+pub loop-worker-preserved : goal.loop-worker-preserved
+loop-worker-preserved c = record {
+  left =
+      left_step c.loop-worker.yielded c.in-Some.worker (into_iter_items c.loop-worker.worker-iterator) (into_iter_items c.next.new.self) c.args.workers.items c.loop-worker.invariant.left
+      c.in-Some.ensures.steps.0;
+  askers =
+      c.push_reserved.ensures.items ∙ ap (λ (l : List KnownBatches). l ++ c.in-Some.worker.asker ∷ []) c.loop-worker.invariant.askers
+      ∙ sym (map-append (λ (w : Worker). w.asker) c.loop-worker.yielded (c.in-Some.worker ∷ []));
+  drawers =
+      c.push_reserved-in-loop-worker.ensures.items ∙ ap (λ (l : List DrawnNumbers). l ++ c.in-Some.worker.drawer ∷ []) c.loop-worker.invariant.drawers
+      ∙ sym (map-append (λ (w : Worker). w.drawer) c.loop-worker.yielded (c.in-Some.worker ∷ []));
+  lists =
+      c.push_reserved-in-loop-worker-2.ensures.items ∙ ap (λ (l : List (Vec Reply Global)). l ++ c.in-Some.worker.done ∷ []) c.loop-worker.invariant.lists
+      ∙ sym (map-append (λ (w : Worker). w.done) c.loop-worker.yielded (c.in-Some.worker ∷ []));
+  fault = c.loop-worker.invariant.fault;
+  none = search rules;
+  first = first_kept c.loop-worker.yielded c.in-Some.worker c.loop-worker.first c.loop-worker.invariant.first (search rules);
   askers_room = (let room = c.loop-worker.invariant.askers_room in let more = c.push_reserved.ensures.capacity in omega arith);
   drawers_room = (let room = c.loop-worker.invariant.drawers_room in let more = c.push_reserved-in-loop-worker.ensures.capacity in omega arith);
   lists_room = (let room = c.loop-worker.invariant.lists_room in let more = c.push_reserved-in-loop-worker-2.ensures.capacity in omega arith);

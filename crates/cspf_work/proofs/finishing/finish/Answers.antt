@@ -1,4 +1,4 @@
-use Rattle.std.proofs.Common.{rules, ◌<◌, ◌∙◌, List, length, All, Vec, ap, sym, subst, arith}
+use Rattle.std.proofs.Common.{rules, inl, inr, ◌<◌, ◌∙◌, List, length, All, Vec, ap, sym, subst, arith}
 use Rattle.std.specs.Global.{Global}
 use Rattle.std.proofs.lemmas.List.{length-map}
 use Rattle.std.proofs.lemmas.List.Elements.{All-map}
@@ -36,9 +36,21 @@ returns-in-Err-clause-error c =
     let workers = c.requires.results.1 in
     let is = c.requires.results.2 in
     let some : 0 < length workers = (let askers = ap length is.askers ∙ length-map workers (λ (w : Worker). w.asker) in let some = c.requires.some in omega arith) in
-    only_memory (length c.args.requests.now) c.close-word.result workers c.args.results.lists.items c.in-Err.error some
+    inl (only_memory (length c.args.requests.now) c.close-word.result workers c.args.results.lists.items c.in-Err.error some
     (drawn_out _ c.args.requests.now c.requires.results.0 workers is.run (is.none (search rules)))
-    (subst (HoldsEachOnce c.close-word.result) is.drawn c.close-word.ensures) is.lists c.in-Err.ensures.error
+    (subst (HoldsEachOnce c.close-word.result) is.drawn c.close-word.ensures) is.lists c.in-Err.ensures.error)
+
+pub returns-in-Err-clause-fault : goal.returns-in-Err-clause-fault
+returns-in-Err-clause-fault c =
+    let workers = c.requires.results.1 in
+    let is = c.requires.results.2 in
+    let some : 0 < length workers = (let askers = ap length is.askers ∙ length-map workers (λ (w : Worker). w.asker) in let some = c.requires.some in omega arith) in
+    inr (
+      search rules,
+      only_memory (length c.args.requests.now) c.close-word.result workers c.args.results.lists.items c.in-Err.error some
+          (drawn_out _ c.args.requests.now c.requires.results.0 workers is.run (is.none (search rules)))
+          (subst (HoldsEachOnce c.close-word.result) is.drawn c.close-word.ensures) is.lists c.in-Err.ensures.error,
+    )
 
 pub returns-in-Some-clause-askers : goal.returns-in-Some-clause-askers
 returns-in-Some-clause-askers c = λ before workers is. run_askers _ c.args.requests.now before workers c.args.results.askers.items is.askers is.run
