@@ -24,16 +24,16 @@ use Rattle.cspf_rows.specs.declared.row.Row.{Row}
 use Rattle.cspf_rows.specs.declared.row.Row.TheVariants as row
 use Rattle.cspf_rows.specs.declared.row_error.RowError.{RowError}
 use Rattle.cspf_work.specs.Served.{AreAnswersWithin}
-use Rattle.cspf_work.specs.Applied.{AreApplied, IsAppliedUpTo, IsEndOfApplying}
+use Rattle.cspf_work.specs.Applied.{AreApplied, IsAppliedUpTo, IsAppliedInPart, IsEndOfApplying}
 use Rattle.cspf_serve.specs.AnswerLines.{AreAnswerLines}
 use Rattle.cspf_serve.specs.BatchRun.{AreBatchesOf, AreRequestsOf}
 use Rattle.cspf_serve.specs.EarlyEnds.{Writes, IfRefused, IsRefusalWritten}
 use Rattle.cspf_serve.specs.declared.streams.error.RunError.{RunError}
 use Rattle.cspf_serve.specs.declared.streams.early_end.EarlyEnd.{EarlyEnd}
 use Rattle.cspf_serve.specs.declared.streams.early_end.EarlyEnd.TheVariants as early_end
-use Rattle.cspf_serve.specs.LiveRun.{IsWhyNot, begun_text, IsEndOfLiveRun, AreAnsweredLive, AreInputsRefused, IsLiveRun}
+use Rattle.cspf_serve.specs.LiveRun.{IsWhyNot, begun_text, IsEndOfLiveRun, AreAnsweredLive, AreRecordedAtError, IsRecordedAtError, AreInputsRefused, IsLiveRun}
 use Rattle.cspf_serve.specs.LiveLines.{IsFaultShown, AreLiveLines}
-use Rattle.cspf_serve.specs.LiveWords.{applied_line}
+use Rattle.cspf_serve.specs.LiveWords.{applied_line, unpublished_line}
 use Rattle.cspf_serve.specs.RunFaults.{IsRunFault, IsLiveFault}
 use Rattle.cspf_serve.specs.LineTexts.{line_text}
 use Rattle.cspf_serve.proofs.AnswerLines.{replies_within}
@@ -139,6 +139,77 @@ live_answered {J} contents batches requests answers before after applied version
       written.2,
       Appends-trans (contents before.journal) (contents up.between.journal) (contents after.journal) (flat_map batch_text (take applied batches)) end.0 first.recorded end.2,
     )
+
+-- ---- after an error
+
+-- what is left to be said of the journal where nothing is said of lines
+recorded_end : {J : Type 0} (contents : J → Option (List ℕ)) (batches : List NumberedChanges) (between after : PublisherState J) (applied : ℕ) (fault : Option ApplyError)
+    → AreNumberedFrom 1 batches → length batches ≤ 1000000 → applied ≤ length batches
+    → between.stopped ≡ false → between.batches ≡ take applied batches → IsEndOfApplying contents between after batches applied fault
+    → (last : List ℕ) × (status : ℕ) × (begun : List ℕ) × IsEndOfLiveRun batches applied last begun status × Appends (contents between.journal) (contents after.journal) begun
+recorded_end contents batches between after applied None numbered few inside going is end =
+    let is_end = ended contents batches between after applied None [] 0 numbered few inside going is end (refl, refl) in
+    ([], 0, is_end.0, is_end.1, is_end.2)
+recorded_end contents batches between after applied (Some e) numbered few inside going is end =
+    let line = unpublished_line (end.0).number e in
+    let shown : IsFaultShown (slice_get batches applied) (Some e) line 2 =
+    subst (λ (b : Option NumberedChanges). IsFaultShown b (Some e) line 2) (sym end.1) (refl, refl) in
+    let is_end = ended contents batches between after applied (Some e) line 2 numbered few inside going is end shown in
+    (line, 2, is_end.0, is_end.1, is_end.2)
+
+-- what the journal holds more
+abbrev pub IsHeldAtError : List NumberedChanges → Option (List ℕ) → Option (List ℕ) → Type 0
+IsHeldAtError batches old new = (text : List ℕ) × AreRecordedAtError batches text × Appends old new text
+
+-- batches were applied
+pub held_applied : {J : Type 0} (contents : J → Option (List ℕ)) (batches : List NumberedChanges) (before after : PublisherState J) (applied : ℕ) (fault : Option ApplyError)
+    → AreNumberedFrom 1 batches → length batches ≤ 1000000 → before.batches ≡ [] → before.stopped ≡ false
+    → IsAppliedUpTo contents before after batches applied fault → IsHeldAtError batches (contents before.journal) (contents after.journal)
+held_applied contents batches before after applied fault numbered few fresh going up =
+    let first = up.first in
+    let between : up.between.batches ≡ take applied batches = first.published ∙ ap (λ (bs : List NumberedChanges). bs ++ take applied batches) fresh in
+    let end = recorded_end contents batches up.between after applied fault numbered few up.inside
+    (still_going contents before up.between (take applied batches) going first) between up.stop in (
+      flat_map batch_text (take applied batches) ++ end.2,
+      inr (record { applied = applied; inside = up.inside; last = end.0; begun = end.2; status = end.1; end = end.3; recorded = refl }),
+      Appends-trans (contents before.journal) (contents up.between.journal) (contents after.journal) (flat_map batch_text (take applied batches)) end.2 first.recorded end.4,
+    )
+
+-- nothing happened, or batches were applied
+pub held_in_part : {J : Type 0} (contents : J → Option (List ℕ)) (batches : List NumberedChanges) (before after : PublisherState J)
+    → AreNumberedFrom 1 batches → length batches ≤ 1000000 → before.batches ≡ [] → before.stopped ≡ false
+    → IsAppliedInPart contents before after batches → IsHeldAtError batches (contents before.journal) (contents after.journal)
+held_in_part contents batches before after numbered few fresh going (inl same) = ([], inl refl, same_journal contents before after same)
+held_in_part contents batches before after numbered few fresh going (inr part) =
+    held_applied contents batches before after part.0 part.1 numbered few fresh going part.2
+
+-- what holds anyway holds after an error
+pub at_error : {X : Type 0} (r : Result ℕ RunError) → X → IfErr r (λ e. X)
+at_error (Ok status) x = tt
+at_error (Err e) x = x
+
+-- what the journal of a run over updates holds more after an error
+abbrev pub IsHeldLive : Option (List ℕ) → Option (List ℕ) → Option (List ℕ) → Type 0
+IsHeldLive updates old new = IfSome updates (λ kept. (text : List ℕ) × IsRecordedAtError (rows_of kept) text × Appends old new text)
+
+-- the journal is as it was
+pub held_as_before : (updates old : Option (List ℕ)) → IsHeldLive updates old old
+held_as_before None old = tt
+held_as_before (Some kept) old = ([], inl refl, Appends-nil old)
+
+held_of : (updates : List (List (List ℕ))) (bs : List NumberedChanges) (text : List ℕ) → AreBatchesOf false updates bs → AreRecordedAtError bs text → IsRecordedAtError updates text
+held_of updates bs text batches (inl none) = inl none
+held_of updates bs text batches (inr some) = inr (bs, batches, some)
+
+-- the updates are these batches
+pub live_held : (updates : Option (List ℕ)) (bs : List NumberedChanges) (r : Result ℕ RunError) (old new : Option (List ℕ))
+    → IfSome updates (λ bytes. AreBatchesOf false (rows_of bytes) bs) → (AreNumberedFrom 1 bs → IfErr r (λ e. IsHeldAtError bs old new))
+    → IfErr r (λ e. IsHeldLive updates old new)
+live_held updates bs (Ok status) old new batches held = tt
+live_held None bs (Err e) old new batches held = tt
+live_held (Some kept) bs (Err e) old new batches held =
+    let is = held (numbers_of false (rows_of kept) bs batches) in
+    (is.0, held_of (rows_of kept) bs is.0 batches is.1, is.2)
 
 -- ---- the whole run
 

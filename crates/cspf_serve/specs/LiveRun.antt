@@ -68,6 +68,27 @@ pub record AreAnsweredLive (batches : List NumberedChanges) (requests : List Req
   pub written : lines ≡ replies ++ applied_line applied ++ last
   pub recorded : text ≡ flat_map batch_text (take applied batches) ++ begun
 
+-- What the journal of a live run that ends by an error holds more, once batches were applied: what it would hold
+-- without the error, the texts of those that are published, all of them or up to the first that isn't, and after a
+-- fault of its own the beginning of that one.
+pub record AreRecorded (batches : List NumberedChanges) (text : List ℕ) : Type 0 where
+  pub applied : ℕ
+  pub inside : applied ≤ length batches
+  pub last : List ℕ
+  pub begun : List ℕ
+  pub status : ℕ
+  pub end : IsEndOfLiveRun batches applied last begun status
+  pub recorded : text ≡ flat_map batch_text (take applied batches) ++ begun
+
+-- no batch was applied, or they were as far as they go
+abbrev pub AreRecordedAtError : List NumberedChanges → List ℕ → Type 0
+AreRecordedAtError batches text = (text ≡ []) ⊎ AreRecorded batches text
+
+-- what the journal of a live run over the records of updates holds more that ends by an error
+abbrev pub IsRecordedAtError : Records → List ℕ → Type 0
+IsRecordedAtError updates text =
+    (text ≡ []) ⊎ ((batches : List NumberedChanges) × AreBatchesOf false updates batches × AreRecorded batches text)
+
 -- The records of updates or those of requests are refused by this line, the updates first.
 abbrev pub AreInputsRefused : Records → Records → List ℕ → Type 0
 AreInputsRefused updates requests line =

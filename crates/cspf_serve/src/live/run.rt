@@ -4,7 +4,7 @@ ghost use Rattle.cspf_publish.specs.Histories.{IsHistory};
 ghost use Rattle.cspf_rows.specs.Journal.{AreNumberedFrom};
 ghost use Rattle.cspf_rows.specs.Records.{rows_of};
 ghost use Rattle.cspf_serve.specs.EarlyEnds.{Writes};
-ghost use Rattle.cspf_serve.specs.LiveRun.{AreAnsweredLive, IsLiveRun};
+ghost use Rattle.cspf_serve.specs.LiveRun.{AreAnsweredLive, IsLiveRun, AreRecordedAtError, IsRecordedAtError};
 ghost use Rattle.cspf_serve.specs.LiveLines.{AreLiveLines, IsFaultShown, last_text, last_status};
 ghost use Rattle.cspf_serve.specs.RunFaults.{IsStreamFault, IsAnsweringFault, IsRunFault, IsLiveFault};
 ghost use Rattle.cspf_publish.specs.declared.limits.TheConstants.{MOST_ASKERS, MOST_VERSIONS};
@@ -25,8 +25,9 @@ use std::thread::Threads;
 
 /// Publishes the batches of updates over a journal while this many workers answer the requests of a
 /// stream: `IsLiveRun`. Both streams are read before. The status is 2 where anything was refused,
-/// and else 0. The journal's writer is handed back. After an error nothing is said of what the two
-/// writers hold. Neither is flushed.
+/// and else 0. The journal's writer is handed back, after an error too: it then has the text of each
+/// published batch, and after a fault of its own the beginning of one more. After an error nothing is
+/// said of what the other writer holds. Neither is flushed.
 pub fn run_live_rows<
     R: Read + Drop,
     Q: Read + Drop,
@@ -51,6 +52,9 @@ pub fn run_live_rows<
         × Appends (W.contents writer.old) (W.contents writer.new) lines
         × Appends (J.contents journal) (J.contents result.1) text))) }
     ensures error { IfErr result.0 (IsLiveFault (Q.remaining requests)) }
+    ensures recorded { IfErr result.0 (λ e. IfSome (R.remaining updates) (λ kept. (text : List ℕ)
+        × IsRecordedAtError (rows_of kept) text
+        × Appends (J.contents journal) (J.contents result.1) text)) }
 {
     let Inputs { batches, requests } = match inputs_of(alloc, updates, requests, false) {
         Ok(read) => read,
@@ -87,6 +91,9 @@ fn answer_opened<J: Write, W: Write, G: Gate + Sync, T: Threads + Wait + Sync>(
         × Appends (J.contents publisher.journal) (J.contents result.1) text) }
     ensures error { IfErr result.0 (IsRunFault
         (λ index version. (index < length requests.now) × (0 < version))) }
+    ensures recorded { AreNumberedFrom 1 batches.now → IfErr result.0 (λ e. (text : List ℕ)
+        × AreRecordedAtError batches.now text
+        × Appends (J.contents publisher.journal) (J.contents result.1) text) }
 {
     match run_live(rt, alloc, publisher, askers, batches, requests, gate) {
         Ok(live) => end_live(rt, alloc, live, batches, writer),
