@@ -1,4 +1,4 @@
-ghost use Rattle.std.specs.Prelude.{◌≡◌, ◌≢◌, ◌+◌, ◌<◌, ◌≤◌, ◌⊎◌, length, drop, All, IfOk, IfErr, OnOk, vec_len};
+ghost use Rattle.std.specs.Prelude.{◌≡◌, ◌+◌, ◌<◌, ◌≤◌, ◌⊎◌, length, drop, All, IfOk, IfErr, OnOk, vec_len};
 ghost use Rattle.cspf_db.specs.Changes.{database_after};
 ghost use Rattle.cspf_publish.specs.declared.limits.TheConstants.{MOST_ASKERS};
 ghost use Rattle.cspf_serve.specs.BatchRun.{AreReplies};
@@ -52,7 +52,7 @@ pub(crate) fn answer_in_parts<J: Write, W: Write, G: Gate + Sync, T: Threads + S
         (AreReplies (database_after publisher.old.batches) (length publisher.old.batches)
         requests.now)) }
     ensures error { IfErr result (λ e. IsStreamFault e ⊎ IsAnsweringFault (λ index version.
-        (index < length requests.now) × (version ≢ length publisher.old.batches)) e) }
+        (index < length requests.now) × (length publisher.old.batches < version)) e) }
 {
     let mut askers = askers;
     let mut first = 0;
@@ -88,7 +88,7 @@ fn answer_from<J: Write, W: Write, G: Gate + Sync, T: Threads + Sync>(
         (drop first requests.now))) }
     ensures error { IfErr result (λ e. IsStreamFault e ⊎ IsAnsweringFault (λ index version.
         (first ≤ index) × (index < length requests.now)
-        × (version ≢ length publisher.old.batches)) e) }
+        × (length publisher.old.batches < version)) e) }
 {
     let part = PartGate { gate, first };
     match answer_latest(rt, alloc, publisher, askers, &requests[first..], &part) {
