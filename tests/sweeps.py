@@ -1,0 +1,380 @@
+"""Tests of tools/sweep: failures worked by hand, failures by tests/reference.py, several jobs, and what is refused."""
+import itertools
+import os
+import random
+import re
+import subprocess
+import tempfile
+import time
+
+from reference import address_number, address_text, publish, requests_of, whole_batches
+
+HERE = os.path.dirname(os.path.abspath(__file__))
+TOP = os.path.dirname(HERE)
+SWEEP = os.path.join(TOP, "tools/sweep")
+MASKS = "0x0,0x0,0x0"
+
+
+def link(router, local, neighbor, remote, metric=10, group="0x1", free=100):
+    return f"put,{router},{local},{neighbor},{remote},{metric},{group},{','.join([str(free)] * 8)}\n"
+
+
+def circuit(one, other, metric=10, group="0x1", free=100):
+    """Both directions between the routers of these numbers, the lower first."""
+    ends = [(f"{number}.{number}.{number}.{number}", f"10.0.{one}{other}.{number}") for number in (one, other)]
+    return link(*ends[0], *ends[1], metric, group, free) + link(*ends[1], *ends[0], metric, group, free)
+
+
+def journal(*puts):
+    rows = "".join(puts)
+    return f"{rows}end,1,{len(rows.splitlines())}\n"
+
+
+def ask(name, head, tail, setup=7, bandwidth=60, masks=MASKS, hops=""):
+    return f"ask,{name},{head},{tail},{setup},{bandwidth},{masks},{hops}\n"
+
+
+A, B, C, D = "1.1.1.1", "2.2.2.2", "3.3.3.3", "4.4.4.4"
+AB, AD, BC, CD = (f"circuit {one}.{one}.{one}.{one} 10.0.{one}{two}.{one} {two}.{two}.{two}.{two} 10.0.{one}{two}.{two}"
+                  for one, two in ((1, 2), (1, 4), (2, 3), (3, 4)))
+RING = journal(circuit(1, 2), circuit(2, 3), circuit(3, 4), circuit(1, 4, 15, "0x2"))
+ASKS = ask(1, A, C) + ask(2, A, B, setup=3) + ask(3, D, A, bandwidth=30, masks="0x0,0x2,0x0") + ask(4, A, C, bandwidth=101)
+FULL = "priority=7 asked=60 above=60 unreserved=100"
+A_TO_B = f"overbooked {A} 10.0.12.1 {B} 10.0.12.2 {FULL}"
+BEFORE = f"""network version=1 routers=4 links=8 circuits=4 requests=4
+before without request 4 none
+before {A_TO_B}
+before routes=3 without=1 overbooked=1
+"""
+OF_CIRCUITS = f"""scenario 1 out {AB}
+scenario 1 longer request 1 cost=25 was=20 more=5
+scenario 1 longer request 2 cost=35 was=10 more=25
+scenario 1 overbooked {A} 10.0.14.1 {D} 10.0.14.4 {FULL}
+scenario 1 overbooked {D} 10.0.34.4 {C} 10.0.34.3 {FULL}
+scenario 1 lost=0 longer=2 most=25 overbooked=2
+scenario 2 out {AD}
+scenario 2 lost request 3 none was=15
+scenario 2 {A_TO_B}
+scenario 2 lost=1 longer=0 most=0 overbooked=1
+scenario 3 out {BC}
+scenario 3 longer request 1 cost=25 was=20 more=5
+scenario 3 lost=0 longer=1 most=5 overbooked=0
+scenario 4 out {CD}
+scenario 4 {A_TO_B}
+scenario 4 lost=0 longer=0 most=0 overbooked=1
+scenarios=4 lost=1 longer=2 overbooked=3
+"""
+OF_ROUTERS = f"""scenario 1 out router {A}
+scenario 1 lost request 1 unknown-from was=20
+scenario 1 lost request 2 unknown-from was=10
+scenario 1 lost request 3 unknown-to was=15
+scenario 1 lost=3 longer=0 most=0 overbooked=0
+scenario 2 out router {B}
+scenario 2 lost request 2 unknown-to was=10
+scenario 2 longer request 1 cost=25 was=20 more=5
+scenario 2 lost=1 longer=1 most=5 overbooked=0
+scenario 3 out router {C}
+scenario 3 lost request 1 unknown-to was=20
+scenario 3 lost=1 longer=0 most=0 overbooked=0
+scenario 4 out router {D}
+scenario 4 lost request 3 unknown-from was=15
+scenario 4 {A_TO_B}
+scenario 4 lost=1 longer=0 most=0 overbooked=1
+scenarios=4 lost=4 longer=1 overbooked=1
+"""
+OF_PAIRS = "".join(f"scenario {place} out {one}\nscenario {place} out {other}\nscenario {place} {counts}\n" for place, one, other, counts in (
+    (1, AB, AD, "lost=3 longer=0 most=0 overbooked=0"), (2, AB, BC, "lost=1 longer=1 most=5 overbooked=0"),
+    (3, AB, CD, "lost=2 longer=0 most=0 overbooked=0"), (4, AD, BC, "lost=2 longer=0 most=0 overbooked=0"),
+    (5, AD, CD, "lost=1 longer=0 most=0 overbooked=1"), (6, BC, CD, "lost=1 longer=0 most=0 overbooked=0")))
+
+
+def sweep(program, rows, asks, *words):
+    """Status, standard output and standard error of one sweep; a path is `program`, or a shell script beside it."""
+    with tempfile.TemporaryDirectory() as room:
+        for name, text in (("journal", rows), ("requests", asks)):
+            with open(os.path.join(room, name), "w", newline="") as file:
+                file.write(text)
+        ran = subprocess.run([SWEEP, f"{room}/journal", f"{room}/requests", "--program", program, *words], capture_output=True, text=True)
+        return ran.returncode, ran.stdout, ran.stderr
+
+
+def facts(program, rows, asks, pattern, *words):
+    """The lines of a sweep in which the pattern is found."""
+    return [line for line in sweep(program.path, rows, asks, *words)[1].splitlines() if re.search(pattern, line)]
+
+
+def ring(program, checks):
+    """A ring of four routers, each failure worked by hand."""
+    for words, wanted in (((), OF_CIRCUITS), (("--fail", "routers"), OF_ROUTERS)):
+        checks.same(f"a ring {words}", sweep(program.path, RING, ASKS, *words), (0, BEFORE + wanted, ""))
+    status, out, err = sweep(program.path, RING, ASKS, "--fail", "pairs")
+    found = "".join(line for line in out.splitlines(keepends=True) if re.match(r"scenario \d+ (out|lost=)", line))
+    checks.same("pairs of a ring", (status, found, err), (0, OF_PAIRS, ""))
+    checks.same("the pairs' last line", out.splitlines()[-1:], ["scenarios=6 lost=6 longer=1 overbooked=1"])
+    again = RING + "drop,3.3.3.3,10.0.34.3\ndrop,4.4.4.4,10.0.34.4\nend,2,2\n" + circuit(3, 4) + "end,3,2"
+    quoted = again.replace(A, f'"{A}"').replace("\n", "\r\n")
+    wanted = (0, BEFORE.replace("version=1", "version=3") + OF_CIRCUITS, "")
+    found = sweep(program.path, quoted, ASKS, "--fail", "circuits")
+    checks.same("the last version, with quotes, carriage returns and no last line feed", found, wanted)
+    nothing = "network version=0 routers=0 links=0 circuits=0 requests=0\nbefore routes=0 without=0 overbooked=0\n" \
+              "scenarios=0 lost=0 longer=0 overbooked=0\n"
+    checks.same("an empty network", sweep(program.path, "", ""), (0, nothing, ""))
+
+
+def parts(program, checks):
+    """What fails as one, and in which order."""
+    one_way = journal(link(A, "10.0.12.10", B, "10.0.12.2"), link(B, "10.0.12.2", A, "10.0.12.9"), link(A, "10.0.12.9", B, "10.0.12.3"))
+    checks.same("links that don't lead to each other fail alone", facts(program, one_way, "", " out |network"), [
+        "network version=1 routers=2 links=3 circuits=3 requests=0", f"scenario 1 out link {A} 10.0.12.9 {B} 10.0.12.3",
+        f"scenario 2 out link {A} 10.0.12.10 {B} 10.0.12.2", f"scenario 3 out link {B} 10.0.12.2 {A} 10.0.12.9"])
+    wide = journal(link("10.0.0.10", "10.1.0.1", "10.0.0.9", "10.1.0.2"), link("9.0.0.1", "10.1.0.3", "10.0.0.10", "10.1.0.4"))
+    checks.same("routers come as numbers", facts(program, wide, "", " out ", "--fail", "routers"),
+                ["scenario 1 out router 9.0.0.1", "scenario 2 out router 10.0.0.9", "scenario 3 out router 10.0.0.10"])
+    many = [link(A, address_text(address_number("10.1.0.0") + at), B, address_text(address_number("10.2.0.0") + at)) for at in range(4100)]
+    rows = journal(*many[:4096]) + "".join(many[4096:]) + "end,2,4\n"
+    checks.same("more removals than a batch has", facts(program, rows, ask(1, A, B), "scenario", "--fail", "routers"), [
+        f"scenario 1 out router {A}", "scenario 1 lost request 1 unknown-from was=10", "scenario 1 lost=1 longer=0 most=0 overbooked=0",
+        f"scenario 2 out router {B}", "scenario 2 lost request 1 unknown-from was=10", "scenario 2 lost=1 longer=0 most=0 overbooked=0",
+        "scenarios=2 lost=2 longer=0 overbooked=0"])
+    twins = journal(link(A, "10.0.12.1", B, "10.0.12.9"), link(A, "10.0.12.2", B, "10.0.12.9"))
+    checks.same("a link fails beside one to the same address", facts(program, twins, ask(1, A, B) + ask(2, A, B), " out | overbooked "), [
+        f"before overbooked {A} 10.0.12.1 {B} 10.0.12.9 priority=7 asked=120 above=0 unreserved=100",
+        f"scenario 1 out link {A} 10.0.12.1 {B} 10.0.12.9",
+        f"scenario 1 overbooked {A} 10.0.12.2 {B} 10.0.12.9 priority=7 asked=120 above=0 unreserved=100",
+        f"scenario 2 out link {A} 10.0.12.2 {B} 10.0.12.9",
+        f"scenario 2 overbooked {A} 10.0.12.1 {B} 10.0.12.9 priority=7 asked=120 above=0 unreserved=100"])
+    equal = journal(circuit(1, 2), circuit(2, 4), circuit(1, 3), circuit(3, 4))
+    checks.same("another route of the same cost isn't longer", facts(program, equal, ask(1, A, D), "lost=.*overbooked"),
+                [*(f"scenario {at} lost=0 longer=0 most=0 overbooked=0" for at in (1, 2, 3, 4)), "scenarios=4 lost=0 longer=0 overbooked=0"])
+
+
+def loads(program, checks):
+    """Which link of several a route takes, and what its bandwidth is counted against: one sweep, each case with routers of its own."""
+    def twins(*links):
+        """Links from A to B that lead to one address; each is a local address, a metric, a group and what is unreserved."""
+        return "".join(link(A, f"10.0.12.{local}", B, "10.0.12.2", metric, group, free) for local, metric, group, free in links)
+
+    def full(local, priority, asked, above, unreserved=100):
+        return f"before overbooked {A} 10.0.12.{local} {B} 10.0.12.2 priority={priority} asked={asked} above={above} unreserved={unreserved}\n"
+
+    three, pair = "".join(ask(at, A, B, bandwidth=40) for at in (1, 2, 3)), circuit(1, 2)
+    colors = twins((10, 5, "0x6", 100), (9, 5, "0x2", 100), (8, 5, "0x1", 100))
+    least = f"put,{A},10.0.12.1,{B},10.0.12.2,1,0x1,90,80,70,60,50,40,30,20\n"
+    cases = [
+        ("of two links the lower address as a number", twins((10, 5, "0x1", 100), (9, 5, "0x1", 100)), three, full(9, 7, 120, 0)),
+        ("of two links the cheaper", twins((10, 4, "0x1", 100), (9, 5, "0x1", 100)), three, full(10, 7, 120, 0)),
+        ("of two links the one with room", twins((10, 5, "0x1", 100), (9, 5, "0x1", 39)), three, full(10, 7, 120, 0)),
+        *((f"the admissible link for {masks}", colors, three.replace(MASKS, masks), full(local, 7, 120, 0))
+          for masks, local in (("0x1,0x0,0x0", 9), ("0x0,0x6,0x0", 9), ("0x0,0x0,0x6", 10), ("0x0,0x0,0x0", 8))),
+        ("what just fits", pair, ask(1, A, B, bandwidth=100), ""),
+        ("a link that a route takes twice", pair, ask(1, A, B, hops=f"{B}/32l {A}/32l"), full(1, 7, 120, 0)),
+        ("the other direction is by itself", pair, ask(1, A, B) + ask(2, B, A), ""),
+        ("a worse priority takes nothing from a better one", pair, ask(1, A, B, setup=2) + ask(2, A, B, setup=6), full(1, 6, 60, 60)),
+        ("each priority has an unreserved bandwidth of its own", least, "".join(ask(setup, A, B, setup, 18) for setup in range(8)),
+         "".join(full(1, at, 18, 18 * at, 90 - 10 * at) for at in (3, 4, 5, 6, 7)))]
+
+    def of(place, text):
+        """A case's text with its own routers, addresses and ids of requests."""
+        text = text.replace(A, f"1.1.1.{place}").replace(B, f"2.2.2.{place}").replace("10.0.12.", f"10.{place}.12.")
+        return text.replace("ask,", f"ask,{place}")
+
+    rows = journal(*(of(place, rows) for place, (_, rows, _, _) in enumerate(cases, 1)))
+    asks = "".join(of(place, asks) for place, (_, _, asks, _) in enumerate(cases, 1))
+    found = facts(program, rows, asks, "^before overbooked")
+    for place, (name, _, _, wanted) in enumerate(cases, 1):
+        mine = [line for line in found if re.search(rf" [12]\.[12]\.[12]\.{place} ", line)]
+        checks.same(name, mine, of(place, wanted).splitlines())
+
+
+def plain(rows, asks, fail):
+    """What a sweep says, from the routes of tests/reference.py as they are, with no object read."""
+    network, requests = publish(whole_batches(rows))[0][-1], requests_of(asks)
+    version = len(whole_batches(rows))
+    links = {key: network.links[key] for key in sorted(network.links)}
+
+    def name(key):
+        return " ".join(address_text(number) for number in (*key, links[key]["to"], links[key]["remote"]))
+
+    def answers(out):
+        left = type(network)({key: found for key, found in links.items() if key not in out})
+        walks = [left.least(request) for request in requests]
+        return [(walk is None and left.answer(0, request).split(" ", 3)[3], walk) for request, walk in zip(requests, walks)]
+
+    def overbooked(found):
+        for key in links:
+            taken = [(request["setup"], request["bandwidth"]) for request, (_, walk) in zip(requests, found)
+                     for each in walk or () if (each["from"], each["local"]) == key]
+            for priority in sorted({setup for setup, _ in taken}):
+                asked = sum(bandwidth for setup, bandwidth in taken if setup == priority)
+                above = sum(bandwidth for setup, bandwidth in taken if setup < priority)
+                free = links[key]["free"][priority]
+                if asked + above > free:
+                    yield f"overbooked {name(key)} priority={priority} asked={asked} above={above} unreserved={free}"
+
+    def cost(walk):
+        return sum(each["metric"] for each in walk)
+
+    ends = {key: (each["to"], each["remote"]) for key, each in links.items()}
+    whole = {frozenset((key, end)) for key, end in ends.items() if ends.get(end) == key}
+    circuits = sorted([sorted(keys) for keys in whole] + [[key] for key in links if not any(key in keys for keys in whole)])
+    if fail == "routers":
+        failing = [[(f"router {address_text(router)}", [key for key in links if router in (key[0], links[key]["to"])])]
+                   for router in sorted(network.routers())]
+    else:
+        named = [(f"{'circuit' if len(keys) == 2 else 'link'} {name(keys[0])}", keys) for keys in circuits]
+        failing = [[part] for part in named] if fail == "circuits" else list(itertools.combinations(named, 2))
+    base = answers(())
+    full, without = list(overbooked(base)), [(request, word) for request, (word, walk) in zip(requests, base) if walk is None]
+    yield f"network version={version} routers={len(network.routers())} links={len(links)} circuits={len(circuits)} requests={len(requests)}"
+    yield from (f"before without request {request['id']} {word}" for request, word in without)
+    yield from (f"before {fact}" for fact in full)
+    yield f"before routes={len(requests) - len(without)} without={len(without)} overbooked={len(full)}"
+    totals = [0, 0, 0]
+    for place, scenario in enumerate(failing, 1):
+        found = answers({key for _, keys in scenario for key in keys})
+        both = [(request["id"], old, word, new) for request, (_, old), (word, new) in zip(requests, base, found) if old is not None]
+        lost = [f"lost request {at} {word} was={cost(old)}" for at, old, word, new in both if new is None]
+        longer = [(at, cost(new), cost(old)) for at, old, _, new in both if new is not None and cost(new) > cost(old)]
+        full, most = list(overbooked(found)), max([new - old for _, new, old in longer], default=0)
+        for fact in (*(f"out {part}" for part, _ in scenario), *lost,
+                     *(f"longer request {at} cost={new} was={old} more={new - old}" for at, new, old in longer), *full,
+                     f"lost={len(lost)} longer={len(longer)} most={most} overbooked={len(full)}"):
+            yield f"scenario {place} {fact}"
+        totals = [total + bool(counted) for total, counted in zip(totals, (lost, longer, full))]
+    yield f"scenarios={len(failing)} lost={totals[0]} longer={totals[1]} overbooked={totals[2]}"
+
+
+def compared(program, checks):
+    """The NSFNET backbone and drawn networks, whole outputs, by one job and by three."""
+    rows, asks = (open(os.path.join(TOP, f"examples/nsfnet.{kind}"), encoding="ascii").read() for kind in ("journal", "requests"))
+    one, three = ("--jobs", "1"), ("--jobs", "3", "--workers", "2")
+    for fail, words in (("circuits", one), ("circuits", three), ("routers", one), ("pairs", three)):
+        wanted = (0, "".join(f"{line}\n" for line in plain(rows, asks, fail)), "")
+        checks.same(f"NSFNET, {fail} {words}", sweep(program.path, rows, asks, "--fail", fail, *words), wanted)
+    for seed in range(4):
+        rows, asks = drawn(random.Random(seed))
+        fail = ("circuits", "routers")[seed % 2]
+        wanted = "".join(f"{line}\n" for line in plain(rows, asks, fail))
+        checks.same(f"drawn network {seed}, {fail}", sweep(program.path, rows, asks, "--fail", fail), (0, wanted, ""))
+
+
+def drawn(draw):
+    """A network with parallel circuits and links of one way, and requests, some through interface addresses."""
+    puts, locals_ = [], []
+    for at in range(draw.randrange(8, 14)):
+        (one, other), free = draw.sample(range(1, 7), 2), draw.choice([10, 20, 30])
+        ends = [(f"10.0.0.{number}", f"10.1.{at}.{number}") for number in (one, other)]
+        two_ways = (link(*ends[0], *ends[1], draw.randrange(1, 4), free=free), link(*ends[1], *ends[0], draw.randrange(1, 4), free=free))
+        puts += two_ways[:draw.choice([1, 2, 2, 2])]
+        locals_.append(ends[0][1])
+    asks = []
+    for at in range(14):
+        head, tail = draw.sample(range(1, 7), 2)
+        hops = " ".join(f"{hop}/32{draw.choice('sl')}" for hop in draw.sample(locals_, draw.choice([0, 0, 1, 2])))
+        asks.append(ask(at, f"10.0.0.{head}", f"10.0.0.{tail}", draw.randrange(8), draw.choice([5, 10, 15]), hops=hops))
+    return journal(*puts), "".join(asks)
+
+
+def wrapped(program, room, script):
+    """A program that keeps its journal in `rows`, does what the script says, and then is `routed`."""
+    path = os.path.join(room, "wrapped")
+    with open(path, "w") as file:
+        file.write(f'#!/bin/sh\nroom="{room}"\nrows=$(mktemp -p "$room")\ncat > "$rows"\n{script}\n"{program.path}" "$@" < "$rows"\n')
+    os.chmod(path, 0o755)
+    return path
+
+
+FAILS = "grep -q ^drop \"$rows\" && "  # in a scenario
+FIRST = "grep -q ^drop,1.1.1.1,10.0.12.1 \"$rows\" && "  # in the first one of the ring
+THIRD = "grep -q ^drop,2.2.2.2,10.0.23.2 \"$rows\" && "
+
+
+def jobs(program, checks):
+    """Several scenarios are worked on at once, and their lines come in the scenarios' order."""
+    with tempfile.TemporaryDirectory() as room:
+        def wait(while_):
+            return "{ tries=0; while " + while_ + "; do tries=$((tries + 1)); [ $tries -gt 1000 ] && exit 9; sleep 0.01; done; }"
+
+        meet = FAILS + '{ touch "$room/at.$$"; ' + wait('[ $(ls "$room" | grep -c ^at) -lt 3 ]') + "; }"
+        late = meet + f"\n{FIRST}" + wait('! [ -e "$room/third" ]') + f'\n{THIRD}touch "$room/third"'
+        found = sweep(wrapped(program, room, late), RING, ASKS, "--jobs", "3")
+        checks.same("three that wait for each other, and the first for the third", found, (0, BEFORE + OF_CIRCUITS, ""))
+        stop = wrapped(program, room, THIRD + '{ echo "routed: stopped" >&2; exit 3; }')
+        wanted = BEFORE + OF_CIRCUITS[:OF_CIRCUITS.index("scenario 3")]
+        for count in ("1", "3"):
+            checks.same(f"a program that stops in scenario 3, {count} jobs", sweep(stop, RING, ASKS, "--jobs", count),
+                        (3, wanted, f"sweep: scenario 3: {stop} ended with status 3: routed: stopped\n"))
+        gone = wrapped(program, room, FAILS + "{ kill -9 $PPID; exit; }")
+        checks.same("a job that is ended", sweep(gone, RING, ASKS), (3, BEFORE, "sweep: scenario 1: its job was ended\n"))
+        hangs = wrapped(program, room, FAILS + '{ echo $$ > "$room/new"; mv "$room/new" "$room/hangs"; exec sleep 60; }')
+        for name, text in (("journal", RING), ("requests", ASKS)):
+            with open(os.path.join(room, name), "w") as file:
+                file.write(text)
+        running = subprocess.Popen([SWEEP, f"{room}/journal", f"{room}/requests", "--program", hangs], stdout=subprocess.PIPE)
+        while not os.path.exists(f"{room}/hangs") and running.poll() is None:
+            time.sleep(0.01)
+        running.terminate()
+        out, _ = running.communicate(timeout=20)  # ends where nobody has its standard output any more
+        alive = os.path.exists(f"/proc/{open(f'{room}/hangs').read().strip()}")
+        checks.same("a sweep that is ended, and its program with it", (running.returncode, out, alive), (143, BEFORE.encode(), False))
+
+
+def refused(program, checks):
+    """Journals and requests that aren't good, and programs that don't answer."""
+    for name, rows, asks, words in (
+            ("a torn journal", RING + circuit(2, 4), ASKS, "journal torn after 1"),
+            ("a row that is none", "foo\n", ASKS, "journal torn after 0"),
+            ("a batch that doesn't fit", RING + "drop,1.1.1.1,10.0.0.9\nend,2,1\n", ASKS, "batch 2 refused: absent 1"),
+            ("a request that is none", RING, ASKS + "ask,5\n", "request row 5 refused: fields"),
+            ("a bad mask", RING, ASKS.replace("0x2", "2"), "request row 3 refused: mask 8"),
+            ("two requests of one id", RING, ASKS + ask(2, A, D), "request row 5 refused: same-id"),
+            ("neighbors of one address", journal(circuit(1, 2), link(A, "10.0.13.1", C, "10.0.12.2")), ASKS,
+             f"{B} and {C} have the same address 10.0.12.2, seen from {A}")):
+        checks.same(name, sweep(program.path, rows, asks), (1, "", f"sweep: {words}\n"))
+    for words in (["/nowhere/journal", "/dev/null"], ["/dev/null", TOP]):
+        ran = subprocess.run([SWEEP, *words, "--program", program.path], capture_output=True, text=True)
+        checks.true(f"no file {words}", (ran.returncode, ran.stdout) == (1, "") and re.fullmatch(r"sweep: \[Errno \d+\] .*\n", ran.stderr), ran)
+    for words in (["/dev/null"], *(["/dev/null", "/dev/null", *more] for more in (["--fail", "links"], ["--jobs", "0"], ["--workers", "65"]))):
+        ran = subprocess.run([SWEEP, *words], capture_output=True, text=True)
+        checks.true(f"a command line {words}", (ran.returncode, ran.stdout) == (2, "") and "sweep: error: " in ran.stderr, ran)
+    with open("/dev/full", "w") as full:
+        ran = subprocess.run([SWEEP, "/dev/null", "/dev/null", "--program", program.path], stdout=full, stderr=subprocess.PIPE, text=True)
+        checks.same("standard output is full", (ran.returncode, ran.stderr), (1, "sweep: [Errno 28] No space left on device\n"))
+    checks.same("a program that isn't there", sweep("/nowhere/routed", RING, ASKS), (3, "", "sweep: /nowhere/routed: No such file or directory\n"))
+    def says(line):
+        return f"printf 'version 1\\n{line}\\n\\n\\n\\n'; exit 0"
+
+    first = "route cost=20 hops=2 again=no ero=0014140101080a000c02200001080a0017032000"
+    with tempfile.TemporaryDirectory() as room:
+        for name, script, said in (
+                ("that stops", "echo routed: stopped >&2; exit 3", "{} ended with status 3: routed: stopped"),
+                ("that is ended", "kill -9 $$", "{} was ended by signal 9"),
+                ("that takes no such words", 'shift 5; echo "$@" >&2; exit 1', "{} ended with status 1: --workers 5"),
+                ("without a line", "exit 0", "{} wrote 0 lines, which aren't 1 versions and 4 replies"),
+                ("with replies of another order", says("ask 2 v1 none"), "{} wrote no reply to request 1: ask 2 v1 none"),
+                ("with other words", says("ask 1 v1 nothing"), "{} wrote no reply to request 1: nothing"),
+                *((f"with a route that has {name}", says(f"ask 1 v1 {other}"),
+                   "{} wrote a route that the network doesn't have, to request 1: " + other)
+                  for name, other in (("another cost", first.replace("20", "21", 1)), ("no link", first.replace("0c02", "0c03")),
+                                      ("another end", "route cost=10 hops=1 again=no ero=000c140101080a000c022000"))),
+                ("that refuses a scenario", FAILS + "{ echo batch 2 refused: exhausted; exit 2; }", None)):
+            path = wrapped(program, room, script)
+            status, out, err = sweep(path, RING, ASKS, "--workers", "5")
+            wanted = (3, "", f"sweep: {said.format(path)}\n") if said else (1, BEFORE, "sweep: scenario 1: batch 2 refused: exhausted\n")
+            checks.same(f"a program {name}", (status, out, err), wanted)
+
+
+def page(program, checks):
+    """docs/SWEEP.md quotes what is printed."""
+    text = open(os.path.join(TOP, "docs/SWEEP.md"), encoding="utf-8").read()
+    found = re.findall(r"<!-- printed by (.*?) -->\n\n((?:    .*\n)+)", text)
+    checks.true("docs/SWEEP.md quotes the tool", len(found) > 1, found)
+    for command, quoted in found:
+        words = command.replace("tools/sweep", f'tools/sweep --program "{program.path}"')
+        ran = subprocess.run(words, shell=True, cwd=TOP, capture_output=True, text=True)
+        checks.same(f"docs/SWEEP.md: {command}", (ran.stdout, ran.stderr), (re.sub("(?m)^    ", "", quoted), ""))
+
+
+def sweeps(program, checks):
+    for part in (ring, parts, loads, compared, jobs, refused, page):
+        part(program, checks)
