@@ -2,6 +2,7 @@
 
 Its lines are the formats' own (docs/FORMATS.md), or computed by tests/reference.py.
 """
+import glob
 import os
 import random
 import re
@@ -261,7 +262,16 @@ def speed(audit):
     print(f"audits: {count / (time.perf_counter() - start):,.0f} lines a second are judged, of {count:,} on NSFNET")
 
 
+def search(audit):
+    """Outcomes are computed by the plain search. No clause says so, since both searches have one contract: the sources do."""
+    named = set()
+    for path in glob.glob(os.path.join(TOP, "crates/cspf_audit/src/*.rt")):
+        with open(path, encoding="utf-8") as source:
+            named.update(re.findall(r"cspf_search::(\w+|\{[^}]*\}|\*)", source.read()))
+    audit.checks.same("what the audit takes from the search", named, {"best_by_rounds"})
+
+
 def audits(program, checks):
     audit = Audit(program, checks)
-    for part in (worked, faults, streams, refusals, cut_journals, changed_bytes, live_runs, other_runs, files, speed):
+    for part in (worked, faults, streams, refusals, cut_journals, changed_bytes, live_runs, other_runs, files, search, speed):
         part(audit)
