@@ -139,9 +139,7 @@ fn part<'a>(workers: Vec<Worker<'a>>, room: Room<'a>) -> (Results, Vec<Drawer<'a
         askers.push_reserved(asker);
         drawers.push_reserved(drawer);
         lists.push_reserved(done);
-        if first.is_none() {
-            first = fault;
-        }
+        first = first.or(fault);
     }
     let results = Results {
         askers,
