@@ -1,5 +1,5 @@
 -- What all workers did, one by one.
-use Rattle.std.proofs.Common.{rules, vec_len, ◌≡◌, ℕ, zero, suc, ◌<◌, List, [], ◌∷◌, ◌++◌, All, IfSome, IsNone, take, length, map, Option, Some, None, get_or, refl, sym, ap, ◌∙◌, subst, arith, slice_get}
+use Rattle.std.proofs.Common.{◌≡◌, ℕ, zero, suc, ◌<◌, List, [], ◌∷◌, ◌++◌, All, IfSome, IsNone, take, length, map, Option, Some, None, get_or, refl, sym, ap, ◌∙◌, subst, arith, slice_get}
 use Rattle.std.specs.Option.{option_map}
 use Rattle.std.proofs.lemmas.List.{length-map}
 use Rattle.std.proofs.lemmas.List.Elements.{All-map}
@@ -33,8 +33,9 @@ run_at counter requests old new run i known after (Some w) at is there =
     (subst (λ (k : KnownBatches). IsRun counter requests k (get_or new i after)) before (run i after less))
 run_at counter requests old new run i known after None at is there = absurd (cc is)
 
-pub run_each : (counter : CounterId) (requests : List Request) (old new : List Worker) → length new ≡ length old → AreRunByPlace counter requests old new → AreRun counter requests (map (λ w. w.asker) old) new
-run_each counter requests old new same run = record {
+pub run_each : (counter : CounterId) (requests : List Request) (old new : List Worker) → 0 < length old → length new ≡ length old → AreRunByPlace counter requests old new → AreRun counter requests (map (λ w. w.asker) old) new
+run_each counter requests old new some same run = record {
+  some = omega (arith, same);
   count = same ∙ sym (length-map old (λ (w : Worker). w.asker));
   each = λ i known after at there. run_at counter requests old new run i known after (slice_get old i) refl (sym (slice_get-map (λ (w : Worker). w.asker) old i) ∙ at) there;
 }
@@ -105,17 +106,6 @@ pub left_of : (own id : CounterId) (requests : List Request) (before : List Know
 left_of own id requests before idle numbers results same ready run =
     let is = results_of own id requests before idle numbers results same ready run in
     (before, is.0, is.1)
-
--- and there are some
-pub some_left : (own id : CounterId) (requests : List Request) (before : List KnownBatches) (idle : List Worker) (numbers : List ℕ) (results : Results)
-    → own ≡ id → AreReady id requests before idle → AreLeft own requests idle numbers results → 0 < length before → 0 < vec_len results.askers
-some_left own id requests before idle numbers results same ready run some =
-    let is = results_of own id requests before idle numbers results same ready run in
-    let count = is.1.run.count in
-    let askers = ap length is.1.askers in
-    let all = length-map is.0 (λ (w : Worker). w.asker) in
-    let some_askers : 0 < length results.askers.items = omega arith in
-    search rules
 
 -- what holds of all that may be left holds of what their askers knew
 pub of_results : (P : List KnownBatches → Type 0) (own id : CounterId) (requests : List Request) (before : List KnownBatches) (idle : List Worker) (numbers : List ℕ) (results : Results)

@@ -55,8 +55,9 @@ pub record IsRun (id : CounterId) (requests : List Request) (before : KnownBatch
   pub drawn : IsNone after.fault → HasDrawnAll (length requests) after
   pub fault : IfSome after.fault IsFaultOfWorker
 
--- what all workers did whose askers knew these batches before
+-- what all workers did, of which there are some, whose askers knew these batches before
 pub record AreRun (id : CounterId) (requests : List Request) (before : List KnownBatches) (workers : List Worker) : Type 0 where
+  pub some : 0 < length workers
   pub count : length workers ≡ length before
   pub each : (worker : ℕ) (known : KnownBatches) (after : Worker) → slice_get before worker ≡ Some known → slice_get workers worker ≡ Some after → IsRun id requests known after
 

@@ -1,4 +1,4 @@
-ghost use Rattle.std.specs.Prelude.{◌≡◌, ◌<◌, ◌⊎◌, List, Some, All, IfOk, IfErr, IsNone, vec_len};
+ghost use Rattle.std.specs.Prelude.{◌≡◌, ◌⊎◌, List, Some, All, IfOk, IfErr, IsNone};
 ghost use Rattle.std.specs.List.Sorted.{IsStrictlyIncreasing};
 ghost use Rattle.cspf_publish.specs.KnownBatches.{KnownBatches};
 ghost use Rattle.cspf_work.specs.declared.worker.Worker.{Worker};
@@ -29,7 +29,6 @@ pub(crate) fn finish(
     requests: &[Request],
 ) -> (Vec<Asker>, Result<Collected, ServeError>)
     requires counter { last.counter ≡ counter }
-    requires some { 0 < vec_len results.askers }
     requires results { (before : List KnownBatches) × (workers : List Worker)
         × AreResults counter requests.now before last.drawn results workers }
     ensures askers { (before : List KnownBatches) (workers : List Worker)

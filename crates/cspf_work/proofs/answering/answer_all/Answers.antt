@@ -1,12 +1,8 @@
 use Rattle.std.proofs.Common.{rules}
 use Rattle.std.proofs.lemmas.Result.{IfOk-at_ok}
 use Rattle.cspf_work.specs.Served.{AreAnsweredByWorkers, AreSameAskers}
-use Rattle.cspf_work.proofs.Running.{left_of, some_left, of_results}
+use Rattle.cspf_work.proofs.Running.{left_of, of_results}
 use Rattle.cspf_work.proofs.answering.answer_all.Goals as goal
-
-pub finish-askers-requires-clause-some : goal.finish-askers-requires-clause-some
-finish-askers-requires-clause-some g c =
-    some_left _ _ c.args.requests.now c.args.askers.items _ _ _ c.in-Ok-employ.ensures.counter (c.in-Ok-employ.ensures.ready c.args.requests.now (search rules)) c.run_workers-results.ensures.results (search rules)
 
 pub finish-askers-requires-clause-results : goal.finish-askers-requires-clause-results
 finish-askers-requires-clause-results g c =

@@ -7,14 +7,10 @@ use Rattle.cspf_publish.specs.KnownBatches.{KnownBatches}
 use Rattle.cspf_publish.specs.PublisherStates.{PublisherState}
 use Rattle.cspf_work.specs.Served.{AreAnsweredByWorkers, AreSameAskers, IsUnaccounted}
 use Rattle.cspf_work.specs.Strays.{IsFirstStray}
-use Rattle.cspf_work.proofs.Running.{left_of, some_left, of_results}
+use Rattle.cspf_work.proofs.Running.{left_of, of_results}
 use Rattle.cspf_work.proofs.StrayVersions.{unaccounted_of}
 use Rattle.cspf_work.proofs.Telling.{answered_later, same_through, sources_kept, within_published}
 use Rattle.cspf_work.proofs.answering_live.run_lent.Goals as goal
-
-pub finish-askers-requires-clause-some : goal.finish-askers-requires-clause-some
-finish-askers-requires-clause-some g c =
-    some_left _ _ c.args.requests.now c.args.askers.items _ _ _ c.in-Ok-employ.ensures.counter (c.in-Ok-employ.ensures.ready c.args.requests.now (search rules)) c.run_beside-results.ensures.results (search rules)
 
 pub finish-askers-requires-clause-results : goal.finish-askers-requires-clause-results
 finish-askers-requires-clause-results g c =

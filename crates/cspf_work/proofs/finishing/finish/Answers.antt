@@ -1,6 +1,5 @@
-use Rattle.std.proofs.Common.{rules, inl, inr, ◌<◌, ◌∙◌, List, length, All, Vec, ap, sym, subst, arith}
+use Rattle.std.proofs.Common.{rules, inl, inr, ◌<◌, List, length, All, Vec, sym, subst}
 use Rattle.std.specs.Global.{Global}
-use Rattle.std.proofs.lemmas.List.{length-map}
 use Rattle.std.proofs.lemmas.List.Elements.{All-map}
 use Rattle.cspf_draw.specs.EachOnce.{HoldsEachOnce}
 use Rattle.cspf_work.specs.declared.worker.Reply.{Reply}
@@ -35,8 +34,7 @@ pub returns-in-Err-clause-error : goal.returns-in-Err-clause-error
 returns-in-Err-clause-error c =
     let workers = c.requires.results.1 in
     let is = c.requires.results.2 in
-    let some : 0 < length workers = (let askers = ap length is.askers ∙ length-map workers (λ (w : Worker). w.asker) in let some = c.requires.some in omega arith) in
-    inl (only_memory (length c.args.requests.now) c.close-word.result workers c.args.results.lists.items c.in-Err.error some
+    inl (only_memory (length c.args.requests.now) c.close-word.result workers c.args.results.lists.items c.in-Err.error is.run.some
     (drawn_out _ c.args.requests.now c.requires.results.0 workers is.run (is.none (search rules)))
     (subst (HoldsEachOnce c.close-word.result) is.drawn c.close-word.ensures) is.lists c.in-Err.ensures.error)
 
@@ -44,10 +42,9 @@ pub returns-in-Err-clause-fault : goal.returns-in-Err-clause-fault
 returns-in-Err-clause-fault c =
     let workers = c.requires.results.1 in
     let is = c.requires.results.2 in
-    let some : 0 < length workers = (let askers = ap length is.askers ∙ length-map workers (λ (w : Worker). w.asker) in let some = c.requires.some in omega arith) in
     inr (
       search rules,
-      only_memory (length c.args.requests.now) c.close-word.result workers c.args.results.lists.items c.in-Err.error some
+      only_memory (length c.args.requests.now) c.close-word.result workers c.args.results.lists.items c.in-Err.error is.run.some
           (drawn_out _ c.args.requests.now c.requires.results.0 workers is.run (is.none (search rules)))
           (subst (HoldsEachOnce c.close-word.result) is.drawn c.close-word.ensures) is.lists c.in-Err.ensures.error,
     )

@@ -9,7 +9,7 @@ use Rattle.cspf_work.proofs.pool.run_all.Goals as goal
 pub returns : goal.returns
 returns g c = λ id before ready.
     subst (λ (all : List KnownBatches). AreRun id c.args.requests.now all c.for_each_mut.new.s) ready.askers
-    (run_each id c.args.requests.now c.args.workers.now c.for_each_mut.new.s (search rules) (λ i d less.
+    (run_each id c.args.requests.now c.args.workers.now c.for_each_mut.new.s ready.some (search rules) (λ i d less.
     let call = (c.for_each_mut.ensures i d less).1 in
     let run : IsRun call.argument.now.drawer.counter c.args.requests.now call.argument.now.asker call.after_call.now = search rules in
     let counter : (get_or c.args.workers.now i d).drawer.counter ≡ id = (ready.idle i d less).counter in
