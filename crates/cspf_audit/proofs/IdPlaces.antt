@@ -11,7 +11,7 @@ use Rattle.std.specs.List.{AllByRecursion, IsDistinct, list_any, slice_get}
 use Rattle.std.specs.Ordering.{nat_cmp}
 use Rattle.cspf_db.specs.declared.request.Request.{Request}
 use Rattle.cspf_audit.specs.Requests.{HaveOwnIds, RepeatsId}
-use Rattle.cspf_audit.specs.Reading.{place_from, place_of}
+use Rattle.cspf_audit.specs.Reading.{place_from, place_of, ArePlaces}
 
 -- none of the requests has the id
 abbrev pub LackId : List Request → ℕ → Type 0
@@ -87,8 +87,8 @@ module _ (requests : List Request) (i : ℕ) (r : Request) (within : i < length 
   so_many : length (take i requests) ≡ i
   so_many = omega (arith, length-take i requests, within)
 
-  pub places_next : (before after : BTreeMap ℕ ℕ) → ((id : ℕ) → get nat_cmp before id ≡ place_of id (take i requests)) → get nat_cmp before r.id ≡ None → Updates nat_cmp before after r.id (Some i)
-      → (id : ℕ) → get nat_cmp after id ≡ place_of id (take (i + 1) requests)
+  pub places_next : (before after : BTreeMap ℕ ℕ) → ArePlaces before (take i requests) → get nat_cmp before r.id ≡ None → Updates nat_cmp before after r.id (Some i)
+      → ArePlaces after (take (i + 1) requests)
   places_next before after places absent updates id =
       let lack = lack_id 0 r.id (take i requests) (sym (places r.id) ∙ absent) in
       let there : i ≡ 0 + length (take i requests) = omega (arith, so_many) in

@@ -17,7 +17,7 @@ use Rattle.cspf_audit.specs.declared.finding.Finding.TheVariants as finding
 use Rattle.cspf_audit.specs.declared.replies.Replies.{Replies}
 use Rattle.cspf_audit.specs.declared.replies.Reading.TheVariants as reading
 use Rattle.cspf_audit.specs.Requests.{HaveOwnIds, IsAsked}
-use Rattle.cspf_audit.specs.Reading.{place_of, IsClaim, AreClaims, AreOpenFindings, AreNamed, HasRead, IsReading}
+use Rattle.cspf_audit.specs.Reading.{place_of, ArePlaces, IsClaim, AreClaims, AreOpenFindings, AreNamed, HasRead, IsReading}
 use Rattle.cspf_audit.specs.Findings.{first_word, IsPassedOver, IsNamed, IsFirstReply, IsFinding}
 use Rattle.cspf_audit.proofs.IdPlaces.{lack_id, lack_one, place_found, own_place, read_there}
 use Rattle.cspf_audit.proofs.Lookups.{one_element, get-set_same, get-set_other}
@@ -40,7 +40,7 @@ get_last [] x = refl
 get_last (y ∷ xs) x = get_last xs x
 
 module _ (one : HasOneHead) (batches : List NumberedChanges) (requests : List Request) (own : HaveOwnIds requests)
-    (ids : BTreeMap ℕ ℕ) (places : (id : ℕ) → get nat_cmp ids id ≡ place_of id requests)
+    (ids : BTreeMap ℕ ℕ) (places : ArePlaces ids requests)
     (seen : List (List ℕ)) (line : List ℕ) (before : List Bool) (named : AreNamed requests seen before) where
   -- ---- by the id that the line names
 

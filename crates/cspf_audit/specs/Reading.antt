@@ -31,6 +31,10 @@ place_from index id (q ∷ requests) = if nat_eq q.id id then Some index else pl
 abbrev pub place_of : ℕ → List Request → Option ℕ
 place_of id requests = place_from 0 id requests
 
+-- these are the indexes of the requests by their ids
+abbrev pub ArePlaces : BTreeMap ℕ ℕ → List Request → Type 0
+ArePlaces ids requests = (id : ℕ) → get nat_cmp ids id ≡ place_of id requests
+
 -- why requests aren't indexed by their ids
 abbrev pub IsIdFault : List Request → AuditError → Type 0
 IsIdFault requests error.Memory = Unit {0}

@@ -1,13 +1,11 @@
-ghost use Rattle.std.specs.Prelude.{◌≡◌, ◌≤◌, ℕ, length, IfOk, IfErr, IfSome};
-ghost use Rattle.std.specs.BTreeMap.{get};
-ghost use Rattle.std.specs.Ordering.{nat_cmp};
+ghost use Rattle.std.specs.Prelude.{◌≤◌, length, IfOk, IfErr, IfSome};
 ghost use Rattle.cspf_db.specs.Changes.{AreLawful};
 ghost use Rattle.cspf_rows.specs.Records.{rows_of};
 ghost use Rattle.cspf_rows.specs.declared.limits.TheConstants.{MOST_ROWS};
 ghost use Rattle.cspf_audit.specs.Audits.{IsAudit};
 ghost use Rattle.cspf_audit.specs.AuditErrors.{IsAuditOf, IsAuditError};
 ghost use Rattle.cspf_audit.specs.Requests.{HaveOwnIds};
-ghost use Rattle.cspf_audit.specs.Reading.{place_of};
+ghost use Rattle.cspf_audit.specs.Reading.{ArePlaces};
 
 use crate::AuditError;
 use crate::comparing::compare_all;
@@ -55,7 +53,7 @@ fn audit_lines(
     lines: &[Line],
 ) -> Result<Audit, AllocError>
     requires lawful { AreLawful batches.now }
-    requires places { (id : ℕ) → get nat_cmp ids.now id ≡ place_of id requests.now }
+    requires places { ArePlaces ids.now requests.now }
     requires own { HaveOwnIds requests.now }
     requires most { length lines.now ≤ MOST_ROWS }
     ensures { IfOk result (IsAudit batches.now requests.now lines.now) }

@@ -1,9 +1,7 @@
-ghost use Rattle.std.specs.Prelude.{◌≡◌, ◌≤◌, ℕ, length, IfOk, IfErr, OnOk};
-ghost use Rattle.std.specs.BTreeMap.{get};
-ghost use Rattle.std.specs.Ordering.{nat_cmp};
+ghost use Rattle.std.specs.Prelude.{◌≤◌, length, IfOk, IfErr, OnOk};
 ghost use Rattle.cspf_rows.specs.declared.limits.TheConstants.{MOST_ROWS};
 ghost use Rattle.cspf_audit.specs.Requests.{HaveOwnIds};
-ghost use Rattle.cspf_audit.specs.Reading.{place_of, IsIdFault};
+ghost use Rattle.cspf_audit.specs.Reading.{ArePlaces, IsIdFault};
 
 use crate::AuditError;
 use cspf_db::Request;
@@ -16,7 +14,7 @@ pub(crate) fn index_ids(
     requests: &[Request],
 ) -> Result<BTreeMap<u64, usize>, AuditError>
     requires most { length requests.now ≤ MOST_ROWS }
-    ensures places { IfOk result (λ ids. (id : ℕ) → get nat_cmp ids id ≡ place_of id requests.now) }
+    ensures places { IfOk result (λ ids. ArePlaces ids requests.now) }
     ensures own { OnOk result (HaveOwnIds requests.now) }
     ensures err { IfErr result (IsIdFault requests.now) }
 {

@@ -4,7 +4,7 @@ ghost use Rattle.std.specs.Ordering.{nat_cmp};
 ghost use Rattle.cspf_db.specs.Numbered.{NumberedChanges};
 ghost use Rattle.cspf_db.specs.declared.request.Request.{Request as AsRequest};
 ghost use Rattle.cspf_audit.specs.Requests.{HaveOwnIds};
-ghost use Rattle.cspf_audit.specs.Reading.{place_of, HasRead, IsReading};
+ghost use Rattle.cspf_audit.specs.Reading.{ArePlaces, HasRead, IsReading};
 
 use crate::claim::Claim;
 use crate::finding::Finding;
@@ -44,7 +44,7 @@ pub(crate) fn read_replies(
     ids: &BTreeMap<u64, usize>,
     last: usize,
 ) -> Result<Replies, AllocError>
-    requires places { (id : ℕ) → get nat_cmp ids.now id ≡ place_of id requests.now }
+    requires places { ArePlaces ids.now requests.now }
     requires own { HaveOwnIds requests.now }
     ensures { IfOk result (λ replies. (batches : List NumberedChanges) → length batches ≡ last
         → HasRead batches requests.now replies lines.now) }
@@ -74,8 +74,7 @@ impl Replies {
         ensures length { OnOk result (length self.new.named.items ≡ length self.old.named.items) }
         ensures read { OnOk result ((batches : List NumberedChanges) (requests : List AsRequest)
             (seen : List (List ℕ)) → length batches ≡ last → HaveOwnIds requests
-            → ((id : ℕ) → get nat_cmp ids.now id ≡ place_of id requests)
-            → HasRead batches requests self.old seen
+            → ArePlaces ids.now requests → HasRead batches requests self.old seen
             → HasRead batches requests self.new (seen ++ line.now ∷ [])) }
     {
         // Law: a line begins with one id and version at most.
