@@ -20,6 +20,13 @@ pub claim_at : (requests : List Request) (last : ℕ) (lines : List (List ℕ)) 
     → IsClaim requests last lines (get_or claims i d)
 claim_at requests last lines claims i d are within = are (get_or claims i d) (i, within, get_or_default claims i (get_or claims i d) d within)
 
+-- and its request and its line are there
+pub claim_within : (requests : List Request) (last : ℕ) (lines : List (List ℕ)) (claims : List Claim) (i : ℕ) (d : Claim) → AreClaims requests last lines claims → i < length claims
+    → ((get_or claims i d).request < length requests) × ((get_or claims i d).line < length lines)
+claim_within requests last lines claims i d are within =
+    let is = claim_at requests last lines claims i d are within in
+    (slice_get_within requests (get_or claims i d).request is.q is.is_request, slice_get_within lines (get_or claims i d).line is.line is.is_line)
+
 read_at : {A : Type 0} (xs : List A) (i : ℕ) (x : A) → i < length xs → x ≡ get_or xs i x → slice_get xs i ≡ Some x
 read_at xs i x within is = slice_get-get_or xs i x within ∙ ap Some (sym is)
 

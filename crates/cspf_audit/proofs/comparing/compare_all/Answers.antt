@@ -1,11 +1,10 @@
 use Rattle.std.proofs.Common.{◌≡◌, ◌↔◌, IsTrue, true, false, ◌∙◌, ◌+◌, length, drop, get_or, take, sym, ap, subst, rules, arith}
 use Rattle.std.proofs.lemmas.List.{drop_more, drop_all}
-use Rattle.std.proofs.lemmas.Option.{slice_get_within}
 use Rattle.cspf_db.specs.Changes.{database_after}
 use Rattle.cspf_audit.specs.Findings.{IsRightReply}
 use Rattle.cspf_audit.specs.Reading.{AreOpenFindings}
 use Rattle.cspf_audit.specs.declared.claim.Claim.{Claim}
-use Rattle.cspf_audit.proofs.ComparingSteps.{claim_at, asked_of_claim, right_step, altered_step, all_settled}
+use Rattle.cspf_audit.proofs.ComparingSteps.{claim_at, claim_within, asked_of_claim, right_step, altered_step, all_settled}
 use Rattle.cspf_audit.proofs.comparing.compare_all.Goals.{then-not-branch, else-not-branch}
 use Rattle.cspf_audit.proofs.comparing.compare_all.Goals as goal
 
@@ -16,25 +15,20 @@ pub go_to-requires-clause-within : goal.go_to-requires-clause-within
 go_to-requires-clause-within c = (claim_at c.args.requests.now (length c.args.batches.now) c.args.lines.now c.args.claims.now c.loop-claim.claim-index none c.requires.claims c.loop-claim-test.true).within
 
 pub bounds-requests-claim : goal.bounds-requests-claim
-bounds-requests-claim c =
-    let is = claim_at c.args.requests.now (length c.args.batches.now) c.args.lines.now c.args.claims.now c.loop-claim.claim-index none c.requires.claims c.loop-claim-test.true in
-    slice_get_within c.args.requests.now (get_or c.args.claims.now c.loop-claim.claim-index none).request is.q is.is_request
+bounds-requests-claim c = (claim_within c.args.requests.now (length c.args.batches.now) c.args.lines.now c.args.claims.now c.loop-claim.claim-index none c.requires.claims c.loop-claim-test.true).0
 
 pub offset_bounds-requests-claim : goal.offset_bounds-requests-claim
 offset_bounds-requests-claim c = let within = bounds-requests-claim c in search rules
 
 pub bounds-lines-claim : goal.bounds-lines-claim
-bounds-lines-claim c =
-    let is = claim_at c.args.requests.now (length c.args.batches.now) c.args.lines.now c.args.claims.now c.loop-claim.claim-index none c.requires.claims c.loop-claim-test.true in
-    slice_get_within c.args.lines.now (get_or c.args.claims.now c.loop-claim.claim-index none).line is.line is.is_line
+bounds-lines-claim c = (claim_within c.args.requests.now (length c.args.batches.now) c.args.lines.now c.args.claims.now c.loop-claim.claim-index none c.requires.claims c.loop-claim-test.true).1
 
 pub offset_bounds-lines-claim : goal.offset_bounds-lines-claim
 offset_bounds-lines-claim c = let within = bounds-lines-claim c in search rules
 
 pub bounds-findings-claim : goal.bounds-findings-claim
 bounds-findings-claim c =
-    let is = claim_at c.args.requests.now (length c.args.batches.now) c.args.lines.now c.args.claims.now c.loop-claim.claim-index none c.requires.claims c.loop-claim-test.true in
-    let there = slice_get_within c.args.lines.now (get_or c.args.claims.now c.loop-claim.claim-index none).line is.line is.is_line in
+    let there = (claim_within c.args.requests.now (length c.args.batches.now) c.args.lines.now c.args.claims.now c.loop-claim.claim-index none c.requires.claims c.loop-claim-test.true).1 in
     omega (arith, there, c.loop-claim.invariant.open_ones.counted)
 
 pub loop-claim-preserved : goal.loop-claim-preserved
@@ -44,12 +38,13 @@ loop-claim-preserved c =
     let claim = get_or claims i none in
     let rest = drop (i + 1) claims in
     let is = claim_at c.args.requests.now (length c.args.batches.now) c.args.lines.now claims i none c.requires.claims c.loop-claim-test.true in
+    let within = claim_within c.args.requests.now (length c.args.batches.now) c.args.lines.now claims i none c.requires.claims c.loop-claim-test.true in
     let front = subst (λ cs. AreOpenFindings c.args.batches.now c.args.requests.now c.args.lines.now cs c.loop-claim.findings) (drop_more claims i none c.loop-claim-test.true) c.loop-claim.invariant.open_ones in
     let right = c.in_ok-is_reply.field-0 in
     let here = c.table.ensures ∙ c.in_ok-go_to.ensures.here.table ∙ ap (λ v. database_after (take v c.args.batches.now)) c.in_ok-go_to.ensures.version in
     let test = subst (λ l. IsTrue right ↔ IsRightReply c.table.result.now c.index-requests-claim.result claim.version l) c.text-line.ensures c.in_ok-is_reply.ensures in
     let asked = asked_of_claim c.args.batches.now c.args.requests.now c.args.lines.now claim rest c.loop-claim.findings front is c.table.result.now c.index-requests-claim.result c.index-lines-claim.result right here
-    (slice_get_within c.args.requests.now claim.request is.q is.is_request) c.index-requests-claim.is (slice_get_within c.args.lines.now claim.line is.line is.is_line) c.index-lines-claim.is test in
+    within.0 c.index-requests-claim.is within.1 c.index-lines-claim.is test in
     record {
       here = c.in_ok-go_to.ensures.here;
       open_ones = elim c.if-not-branch.branch [
