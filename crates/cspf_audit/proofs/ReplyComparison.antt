@@ -1,40 +1,22 @@
 -- A line is the reply of a best answer where it is the one that is written.
-use Rattle.std.proofs.Common.{◌≡◌, ℕ, ◌-◌, ◌↔◌, Bool, true, false, IsTrue, List, [], ◌∷◌, ◌++◌, length, take, drop, refl, sym, ap, ◌∙◌, length-append, arith}
+use Rattle.std.proofs.Common.{◌≡◌, ℕ, ◌-◌, ◌↔◌, Bool, true, IsTrue, List, [], ◌∷◌, ◌++◌, length, take, drop, sym, ap, ◌∙◌, length-append, arith}
 use Rattle.std.proofs.lemmas.List.{take-append-drop, take_at}
 use Rattle.std.proofs.lemmas.Slice.Eq.{bytes_eq-Decides}
 use Rattle.std.specs.Str.{bytes_eq}
 use Rattle.cspf_db.specs.declared.request.Request.{Request}
 use Rattle.cspf_db.specs.Database.{Database}
-use Rattle.cspf_db.specs.Best.{Answer, unknown_from, unknown_to, no_route, route, IsBestAnswer}
+use Rattle.cspf_db.specs.Best.{Answer, IsBestAnswer}
 use Rattle.cspf_db.specs.Laws.{OneBestAnswer}
-use Rattle.cspf_ero.specs.ReplyLine.{IsAnswerText, IsReply}
+use Rattle.cspf_ero.specs.ReplyLine.{IsReply, HasOneReplyLine}
 use Rattle.cspf_audit.specs.Findings.{IsRightReply}
 
-same_test : (a b : Bool) (P : Type 0) → IsTrue a ↔ P → IsTrue b ↔ P → a ≡ b
-same_test true true P x y = refl
-same_test true false P x y = absurd (let e : false ≡ true = y.1 (x.0 refl) in cc e)
-same_test false true P x y = absurd (let e : false ≡ true = x.1 (y.0 refl) in cc e)
-same_test false false P x y = refl
-
-text_once : (answer : Answer) (t u : List ℕ) → IsAnswerText answer t → IsAnswerText answer u → t ≡ u
-text_once unknown_from t u a b = a ∙ sym b
-text_once unknown_to t u a b = a ∙ sym b
-text_once no_route t u a b = a ∙ sym b
-text_once (route links) t u a b = a.words ∙ rw (same_test a.again b.again _ a.twice b.twice) (sym b.words)
-
-reply_once : (id version : ℕ) (answer : Answer) (l m : List ℕ) → IsReply id version answer l → IsReply id version answer m → l ≡ m
-reply_once id version answer l m a b = a.2 ∙ rw (text_once answer a.0 b.0 a.1 b.1) (sym b.2)
-
-other_reply : (id version : ℕ) (a b : Answer) (l m : List ℕ) → a ≡ b → IsReply id version a l → IsReply id version b m → l ≡ m
-other_reply id version a b l m same one two = reply_once id version b l m (rw (sym same) one) two
-
 -- a line is the reply where the bytes that are written for a best answer are it and a line feed
-pub right_reply : OneBestAnswer → (d : Database) (q : Request) (version : ℕ) (answer : Answer) (bytes line : List ℕ) (right : Bool)
+pub right_reply : OneBestAnswer → HasOneReplyLine → (d : Database) (q : Request) (version : ℕ) (answer : Answer) (bytes line : List ℕ) (right : Bool)
     → IsBestAnswer d q answer → IsReply q.id version answer bytes → IsTrue right ↔ (bytes ≡ line ++ 10 ∷ [])
     → IsTrue right ↔ IsRightReply d q version line
-right_reply one d q version answer bytes line right best written test = (
+right_reply one same d q version answer bytes line right best written test = (
   λ holds. (answer, best, rw (sym (test.0 holds)) written),
-  λ found. test.1 (other_reply q.id version answer found.0 bytes (line ++ 10 ∷ []) (one d q answer found.0 best found.1) written found.2),
+  λ found. test.1 (same q.id version found.0 bytes (line ++ 10 ∷ []) (rw (sym (one d q answer found.0 best found.1)) written) found.2),
 )
 
 -- bytes that end with a line feed are a line and its line feed where what stands before is the line

@@ -8,7 +8,7 @@ use crate::finding::Finding;
 use crate::lines::Line;
 use crate::replay::Replay;
 use cspf_db::{Batch, Request, Table, one_best_answer};
-use cspf_ero::reply_line;
+use cspf_ero::{one_reply_line, reply_line};
 use cspf_search::best_by_rounds;
 use std::alloc::{AllocError, Global};
 
@@ -50,8 +50,9 @@ fn is_reply(
     ensures { IfOk result (λ right. IsTrue right
         ↔ IsRightReply table.now request.now version line.now) }
 {
-    // Law: a request has one best answer.
+    // Laws: a request has one best answer, and an answer one line.
     one_best_answer();
+    one_reply_line();
     let outcome = best_by_rounds(alloc, table, request)?;
     let reply = reply_line(alloc, request.id, version, &outcome)?;
     Ok(is_line(line, &reply))

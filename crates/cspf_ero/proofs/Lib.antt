@@ -6,3 +6,4 @@ pub mod Spelling
 pub mod RoutesRead
 pub mod FirstBytes
 pub mod HeadReading
+pub mod OneLine

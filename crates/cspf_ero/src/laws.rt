@@ -1,5 +1,6 @@
 ghost use Rattle.cspf_ero.specs.Laws.{AreObjectsRead, SpellsOneHopList, AreRoutesReadBack};
 ghost use Rattle.cspf_ero.specs.ReplyHead.{HasOneHead};
+ghost use Rattle.cspf_ero.specs.ReplyLine.{HasOneReplyLine};
 
 /// Law: bytes are read as hops exactly where they are an object that spells them, and they spell
 /// one list of hops at most.
@@ -16,4 +17,9 @@ pub fn routes_are_read_back()
 /// Law: a line begins with one id and version at most.
 pub fn one_head()
     ensures { HasOneHead }
+{}
+
+/// Law: an answer has one line at most for an id and a version.
+pub fn one_reply_line()
+    ensures { HasOneReplyLine }
 {}

@@ -1,8 +1,7 @@
 -- Rows are answered in one way.
-use Rattle.std.proofs.Common.{◌≡◌, ℕ, ◌↔◌, Bool, true, false, IsTrue, List, [], ◌∷◌, ◌++◌, take, Result, Ok, Err, inl, inr, refl, sym, ap, ◌∙◌, append_assoc, arith}
-use Rattle.cspf_db.specs.Best.{Answer, unknown_from, unknown_to, no_route, route}
+use Rattle.std.proofs.Common.{◌≡◌, ℕ, List, [], ◌∷◌, ◌++◌, take, Result, Ok, Err, inl, inr, refl, sym, ap, ◌∙◌, append_assoc, arith}
 use Rattle.cspf_db.specs.Laws.{OneBestAnswer, OneRefusal}
-use Rattle.cspf_ero.specs.ReplyLine.{IsAnswerText, IsReply}
+use Rattle.cspf_ero.specs.ReplyLine.{HasOneReplyLine}
 use Rattle.cspf_rows.specs.Rows.{row_of}
 use Rattle.cspf_rows.specs.declared.row.Row.{Row}
 use Rattle.cspf_rows.specs.declared.row.Row.TheVariants as row
@@ -17,21 +16,6 @@ Rows = List (List (List ℕ))
 
 abbrev pub SameReply : List ℕ → RunState → List ℕ → RunState → Type 0
 SameReply l s m t = (l ≡ m) × (s ≡ t)
-
-same_test : (a b : Bool) (P : Type 0) → IsTrue a ↔ P → IsTrue b ↔ P → a ≡ b
-same_test true true P x y = refl
-same_test true false P x y = absurd (let e : false ≡ true = y.1 (x.0 refl) in cc e)
-same_test false true P x y = absurd (let e : false ≡ true = x.1 (y.0 refl) in cc e)
-same_test false false P x y = refl
-
-text_once : (answer : Answer) (t u : List ℕ) → IsAnswerText answer t → IsAnswerText answer u → t ≡ u
-text_once unknown_from t u a b = a ∙ sym b
-text_once unknown_to t u a b = a ∙ sym b
-text_once no_route t u a b = a ∙ sym b
-text_once (route links) t u a b = a.words ∙ rw (same_test a.again b.again _ a.twice b.twice) (sym b.words)
-
-reply_once : (id version : ℕ) (answer : Answer) (l m : List ℕ) → IsReply id version answer l → IsReply id version answer m → l ≡ m
-reply_once id version answer l m a b = a.2 ∙ rw (text_once answer a.0 b.0 a.1 b.1) (sym b.2)
 
 refusal_once : OneRefusal → (s : RunState) (number count : ℕ) (why other : BatchRefusal)
     → IsBatchRefusal s number count why → IsBatchRefusal s number count other → why ≡ other
@@ -61,28 +45,28 @@ end_once one s number count l m t u (inr a) (inl b) = absurd (a.1 b.0)
 end_once one s number count l m t u (inr a) (inr b) =
     (a.3 ∙ rw (refusal_once one s number count a.0 b.0 a.2 b.2) (sym b.3), a.4 ∙ sym b.4)
 
-pub answered_once : OneBestAnswer → OneRefusal → (s : RunState) (r : Result Row RowError) (l m : List ℕ) (t u : RunState)
+pub answered_once : OneBestAnswer → HasOneReplyLine → OneRefusal → (s : RunState) (r : Result Row RowError) (l m : List ℕ) (t u : RunState)
     → IsRowAnswered s r l t → IsRowAnswered s r m u → SameReply l t m u
-answered_once best one s (Err error) l m t u a b = (a.0 ∙ sym b.0, a.1 ∙ sym b.1)
-answered_once best one s (Ok (row.Put link)) l m t u a b = (a.0 ∙ sym b.0, a.1 ∙ sym b.1)
-answered_once best one s (Ok (row.Remove from local)) l m t u a b = (a.0 ∙ sym b.0, a.1 ∙ sym b.1)
-answered_once best one s (Ok (row.End number count)) l m t u a b = end_once one s number count l m t u a b
-answered_once best one s (Ok (row.Ask q)) l m t u a b =
+answered_once best reply one s (Err error) l m t u a b = (a.0 ∙ sym b.0, a.1 ∙ sym b.1)
+answered_once best reply one s (Ok (row.Put link)) l m t u a b = (a.0 ∙ sym b.0, a.1 ∙ sym b.1)
+answered_once best reply one s (Ok (row.Remove from local)) l m t u a b = (a.0 ∙ sym b.0, a.1 ∙ sym b.1)
+answered_once best reply one s (Ok (row.End number count)) l m t u a b = end_once one s number count l m t u a b
+answered_once best reply one s (Ok (row.Ask q)) l m t u a b =
     let same : a.0 ≡ b.0 = best _ q a.0 b.0 a.1 b.1 in
-    (reply_once q.id _ b.0 l m (rw same at a.2) b.2, a.3 ∙ sym b.3)
+    (reply q.id _ b.0 l m (rw same at a.2) b.2, a.3 ∙ sym b.3)
 
-pub all_once : OneBestAnswer → OneRefusal → (s : RunState) (rows : List (List (List ℕ))) (l m : List ℕ) (t u : RunState)
+pub all_once : OneBestAnswer → HasOneReplyLine → OneRefusal → (s : RunState) (rows : List (List (List ℕ))) (l m : List ℕ) (t u : RunState)
     → AreAnswered s rows l t → AreAnswered s rows m u → SameReply l t m u
 unfolding AreAnswered
-all_once best one s [] l m t u a b = (a.0 ∙ sym b.0, a.1 ∙ sym b.1)
-all_once best one s (fields ∷ rows) l m t u a b =
-    let step = answered_once best one (at_next_row s) (row_of fields) a.0 b.0 a.1 b.1 a.3 b.3 in
-    let rest = all_once best one b.1 rows a.2 b.2 t u (rw step.1 at a.5) b.5 in
+all_once best reply one s [] l m t u a b = (a.0 ∙ sym b.0, a.1 ∙ sym b.1)
+all_once best reply one s (fields ∷ rows) l m t u a b =
+    let step = answered_once best reply one (at_next_row s) (row_of fields) a.0 b.0 a.1 b.1 a.3 b.3 in
+    let rest = all_once best reply one b.1 rows a.2 b.2 t u (rw step.1 at a.5) b.5 in
     (a.4 ∙ rw (step.0, rest.0) (sym b.4), rest.1)
 
-pub run_once : OneBestAnswer → OneRefusal → HaveOneReply
-run_once best one rows l m a b x y =
-    let same = all_once best one start (take 1000000 rows) x.replies y.replies x.after y.after x.answered y.answered in
+pub run_once : OneBestAnswer → HasOneReplyLine → OneRefusal → HaveOneReply
+run_once best reply one rows l m a b x y =
+    let same = all_once best reply one start (take 1000000 rows) x.replies y.replies x.after y.after x.answered y.answered in
     (x.whole ∙ rw (same.0, same.1) (sym y.whole), x.counts ∙ rw same.1 (sym y.counts))
 
 -- what some first rows are answered comes first

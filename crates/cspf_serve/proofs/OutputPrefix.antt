@@ -3,6 +3,7 @@ use Rattle.std.proofs.Common.{◌≡◌, ℕ, zero, suc, ◌+◌, ◌-◌, ◌<�
 use Rattle.std.proofs.Math.Seq.{take-append-add}
 use Rattle.std.proofs.lemmas.Bool.{lt-ltb, le-ltb}
 use Rattle.cspf_db.specs.Laws.{OneBestAnswer, OneRefusal}
+use Rattle.cspf_ero.specs.ReplyLine.{HasOneReplyLine}
 use Rattle.cspf_rows.specs.Rows.{row_of}
 use Rattle.cspf_serve.specs.declared.solve.summary.Summary.{Summary}
 use Rattle.cspf_serve.specs.declared.solve.error.SolveError.TheVariants as solve_error
@@ -35,12 +36,12 @@ pub record IsContinued (done rest : List (List (List ℕ))) (lines whole : List 
   pub rest_is : too_many ≡ nat_lt 1000000 (length (done ++ rest))
   pub is_whole : whole ≡ (lines ++ second) ++ last_line too_many last.changes
 
-continued : OneBestAnswer → OneRefusal → (rows done rest : Rows) (lines whole : List ℕ) (after : RunState) (summary : Summary)
+continued : OneBestAnswer → HasOneReplyLine → OneRefusal → (rows done rest : Rows) (lines whole : List ℕ) (after : RunState) (summary : Summary)
     → AreFirstAnswered rows done rest lines after → IsRun rows whole summary → IsContinued done rest lines whole after
-continued best one rows done rest lines whole after summary first run =
+continued best reply one rows done rest lines whole after summary first run =
     let parts = answered_split start done (next_rows done rest) run.replies run.after
     (subst (λ r. AreAnswered start r run.replies run.after) (take_done rows done rest first.split first.few) run.answered) in
-    let same = all_once best one start done parts.first lines parts.mid after parts.front first.answered in
+    let same = all_once best reply one start done parts.first lines parts.mid after parts.front first.answered in
     record {
       second = parts.second;
       last = run.after;
@@ -50,10 +51,10 @@ continued best one rows done rest lines whole after summary first run =
       is_whole = run.whole ∙ ap (λ r. r ++ last_line (is_too_many rows) run.after.changes) (parts.whole ∙ ap (λ l. l ++ parts.second) same.0);
     }
 
-by_rows_front : OneBestAnswer → OneRefusal → (rows : Rows) (out lines : List ℕ) (summary : Summary)
+by_rows_front : OneBestAnswer → HasOneReplyLine → OneRefusal → (rows : Rows) (out lines : List ℕ) (summary : Summary)
     → IsBegunByRows rows out → IsRun rows lines summary → IsFront out lines
-by_rows_front best one rows out lines summary begun run =
-    let c = continued best one rows begun.done begun.rest out lines begun.after summary begun.first run in
+by_rows_front best reply one rows out lines summary begun run =
+    let c = continued best reply one rows begun.done begun.rest out lines begun.after summary begun.first run in
     (c.second ++ last_line c.too_many c.last.changes, c.is_whole ∙ append_assoc out c.second _)
 
 -- a part of a text in the middle
@@ -95,28 +96,28 @@ last_front done rest lines whole after text out size c none is_text is_out =
     part_front lines text [] out whole size
     (c.is_whole ∙ rw (n.0, n.1, append-nil lines, append-nil text) (ap (λ t. lines ++ t) (sym is_text))) is_out
 
-next_front : OneBestAnswer → OneRefusal → (done rest : Rows) (lines whole : List ℕ) (after : RunState) (text out : List ℕ) (size : ℕ)
+next_front : OneBestAnswer → HasOneReplyLine → OneRefusal → (done rest : Rows) (lines whole : List ℕ) (after : RunState) (text out : List ℕ) (size : ℕ)
     → length done ≤ 1000000 → IsContinued done rest lines whole after → IsNextText done after rest text → out ≡ lines ++ take size text → IsFront out whole
-next_front best one done [] lines whole after text out size few c next is_out =
+next_front best reply one done [] lines whole after text out size few c next is_out =
     let few_rows : c.too_many ≡ false = c.rest_is ∙ rw (append-nil done) (le-ltb 1000000 (length done) few) in
     last_front done [] lines whole after text out size c (take-nil _) (next ∙ rw few_rows refl) is_out
-next_front best one done (fields ∷ rest) lines whole after text out size few c (inl next) is_out =
+next_front best reply one done (fields ∷ rest) lines whole after text out size few c (inl next) is_out =
     let n = one_next after c.last _ _ fields c.second (take-cons _ fields rest (omega (arith, next.0))) c.goes_on in
-    let same = answered_once best one (at_next_row after) (row_of fields) n.0 text n.1 next.1 n.3 next.2 in
+    let same = answered_once best reply one (at_next_row after) (row_of fields) n.0 text n.1 next.1 n.3 next.2 in
     let last = last_line c.too_many c.last.changes in
     let second : c.second ≡ text ++ n.2 = n.4 ∙ ap (λ t. t ++ n.2) same.0 in
     part_front lines text (n.2 ++ last) out whole size
     (c.is_whole ∙ ap (λ t. (lines ++ t) ++ last) second ∙ append_assoc lines (text ++ n.2) last ∙ ap (λ t. lines ++ t) (append_assoc text n.2 last))
     is_out
-next_front best one done (fields ∷ rest) lines whole after text out size few c (inr next) is_out =
+next_front best reply one done (fields ∷ rest) lines whole after text out size few c (inr next) is_out =
     let none : take (1000000 - length done) (fields ∷ rest) ≡ [] = ap (λ n. take (1000000 - n) (fields ∷ rest)) next.0 in
     let many : c.too_many ≡ true = c.rest_is ∙ lt-ltb 1000000 (length (done ++ (fields ∷ rest))) (omega (arith, next.0, length-append done (fields ∷ rest))) in
     last_front done (fields ∷ rest) lines whole after text out size c none (next.1 ∙ rw many refl) is_out
 
-pub stopped_prefix : OneBestAnswer → OneRefusal → StopsAtAPrefix
-stopped_prefix best one solve_error.Memory rows out lines summary stopped run = by_rows_front best one rows out lines summary stopped run
-stopped_prefix best one solve_error.Read rows out lines summary stopped run = by_rows_front best one rows out lines summary stopped run
-stopped_prefix best one (solve_error.Write written) rows out lines summary stopped run =
+pub stopped_prefix : OneBestAnswer → HasOneReplyLine → OneRefusal → StopsAtAPrefix
+stopped_prefix best reply one solve_error.Memory rows out lines summary stopped run = by_rows_front best reply one rows out lines summary stopped run
+stopped_prefix best reply one solve_error.Read rows out lines summary stopped run = by_rows_front best reply one rows out lines summary stopped run
+stopped_prefix best reply one (solve_error.Write written) rows out lines summary stopped run =
     let cut = stopped.0 in
-    next_front best one cut.done cut.rest cut.lines lines cut.after cut.text out cut.size cut.first.few
-    (continued best one rows cut.done cut.rest cut.lines lines cut.after summary cut.first run) cut.next cut.whole
+    next_front best reply one cut.done cut.rest cut.lines lines cut.after cut.text out cut.size cut.first.few
+    (continued best reply one rows cut.done cut.rest cut.lines lines cut.after summary cut.first run) cut.next cut.whole

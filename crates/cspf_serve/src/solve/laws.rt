@@ -1,14 +1,16 @@
 ghost use Rattle.cspf_serve.specs.SolveLaws.{HaveOneReply, StopsAtAPrefix};
 
 use cspf_db::{one_best_answer, one_refusal};
+use cspf_ero::one_reply_line;
 
 /// Law: rows have one reply. Two runs over the same rows write the same lines, and come to the same
 /// summary.
 pub fn rows_have_one_reply()
     ensures { HaveOneReply }
 {
-    // Laws: a request has one best answer at most, and a batch one refusal.
+    // Laws: a request has one best answer at most, an answer one line, and a batch one refusal.
     one_best_answer();
+    one_reply_line();
     one_refusal();
 }
 
@@ -17,7 +19,8 @@ pub fn rows_have_one_reply()
 pub fn stops_at_a_prefix()
     ensures { StopsAtAPrefix }
 {
-    // Laws: a request has one best answer at most, and a batch one refusal.
+    // Laws: a request has one best answer at most, an answer one line, and a batch one refusal.
     one_best_answer();
+    one_reply_line();
     one_refusal();
 }
