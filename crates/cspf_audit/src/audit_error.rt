@@ -47,22 +47,6 @@ pub enum AuditError {
     },
 }
 
-impl From<AllocError> for AuditError {
-    ghost from_gives = { λ _ error. error ≡ audit_error.Memory };
-
-    fn from(_refused: AllocError) -> AuditError {
-        AuditError::Memory
-    }
-}
-
-impl<T: Drop> From<AllocFailed<T>> for AuditError {
-    ghost from_gives = { λ _ error. error ≡ audit_error.Memory };
-
-    fn from(_refused: AllocFailed<T>) -> AuditError {
-        AuditError::Memory
-    }
-}
-
 impl From<ReadError> for AuditError {
     ghost from_gives = { λ why error. error ≡ audit_error_of why };
 
@@ -97,5 +81,21 @@ impl From<io::Error> for AuditError {
         } else {
             AuditError::Device
         }
+    }
+}
+
+impl From<AllocError> for AuditError {
+    ghost from_gives = { λ _ error. error ≡ audit_error.Memory };
+
+    fn from(_refused: AllocError) -> AuditError {
+        AuditError::Memory
+    }
+}
+
+impl<T: Drop> From<AllocFailed<T>> for AuditError {
+    ghost from_gives = { λ _ error. error ≡ audit_error.Memory };
+
+    fn from(_refused: AllocFailed<T>) -> AuditError {
+        AuditError::Memory
     }
 }

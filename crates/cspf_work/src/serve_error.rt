@@ -40,14 +40,6 @@ pub enum ServeError {
     },
 }
 
-impl From<AllocError> for ServeError {
-    ghost from_gives = { λ _ error. error ≡ serve_error.Memory };
-
-    fn from(_refused: AllocError) -> ServeError {
-        ServeError::Memory
-    }
-}
-
 impl From<AskError> for ServeError {
     ghost from_gives = { λ fault error. error ≡ serve_error_of fault };
 
@@ -56,5 +48,13 @@ impl From<AskError> for ServeError {
             AskError::NoEntry => ServeError::NoEntry,
             AskError::Memory => ServeError::Memory,
         }
+    }
+}
+
+impl From<AllocError> for ServeError {
+    ghost from_gives = { λ _ error. error ≡ serve_error.Memory };
+
+    fn from(_refused: AllocError) -> ServeError {
+        ServeError::Memory
     }
 }
