@@ -63,12 +63,12 @@ fn solve_rows<R: Read, W: Write>(
     let mut written = 0;
     for _read in 0..MOST_ROWS {
         if !next_record(rows, fields)? {
-            return finish(alloc, false, solver, writer, written);
+            return finish(alloc, solver, writer, written, false);
         }
         written += answer_row(alloc, fields, solver, writer, written)?;
     }
     let too_many = next_record(rows, fields)?;
-    finish(alloc, too_many, solver, writer, written)
+    finish(alloc, solver, writer, written, too_many)
 }
 
 /// Answers a row, behind `written` bytes, and answers how many bytes its line has.
@@ -98,10 +98,10 @@ fn answer_row<W: Write>(
 /// Writes the last line, and answers the summary.
 fn finish<W: Write>(
     alloc: Global,
-    too_many: bool,
     solver: &Solver,
     writer: &mut W,
     written: u128,
+    too_many: bool,
 ) -> Result<Summary, SolveError>
     requires few { AreFew solver.now }
     requires room { written ≤ MOST_ROWS * 2 ^ 64 }

@@ -110,12 +110,12 @@ pub(crate) fn inputs_of<R: Read + Drop, Q: Read + Drop>(
     requests: Q,
     accept_torn: bool,
 ) -> Result<Inputs, EarlyEnd>
+    ensures few { IfOk result (λ read. length read.batches.items ≤ MOST_VERSIONS) }
+    ensures most { IfOk result (λ read. length read.requests.items ≤ MOST_REQUESTS) }
     ensures batches { IfOk result (λ read. IfSome (R.remaining journal) (λ bytes.
         AreBatchesOf accept_torn (rows_of bytes) read.batches.items)) }
     ensures requests { IfOk result (λ read. IfSome (Q.remaining requests) (λ bytes.
         AreRequestsOf (rows_of bytes) read.requests.items)) }
-    ensures few { IfOk result (λ read. length read.batches.items ≤ MOST_VERSIONS) }
-    ensures most { IfOk result (λ read. length read.requests.items ≤ MOST_REQUESTS) }
     ensures err { IfErr result (λ end. IfRefused end (λ line.
         IfSome (R.remaining journal) (λ kept. IfSome (Q.remaining requests) (λ asked.
         AreStreamsRefused accept_torn (rows_of kept) (rows_of asked) line)))) }
