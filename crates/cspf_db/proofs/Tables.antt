@@ -1,4 +1,4 @@
--- Lemmas of the parts of a table: rows, routers, ends and spans.
+-- Lemmas of the parts of a table: rows, routers, ends, reverses and spans.
 pub mod SortedEntries
 pub mod RowOrder
 pub mod SortedChanges
@@ -8,6 +8,10 @@ pub mod RouterLists
 pub mod OwnedPrefixes
 pub mod InterfaceRange
 pub mod EndColumn
+pub mod ReverseColumn
+pub mod PairedRows
+pub mod MovedReverses
+pub mod AlikeRows
 pub mod RouterColumn
 pub mod MergedRows
 pub mod RouterPlaces

@@ -2,7 +2,7 @@
 use Rattle.std.specs.Prelude.{◌≡◌, ◌≢◌, ◌≤◌, ◌⊎◌, bit_and, bit_xor, slice_index}
 use Rattle.cspf_db.specs.declared.link.Link.{Link}
 use Rattle.cspf_db.specs.declared.request.Request.{Request}
-use Rattle.cspf_db.specs.Database.{Database, IsLinkOf}
+use Rattle.cspf_db.specs.Database.{Database, IsLinkOf, HasReverse}
 
 -- A link passes the affinities of a request where it passes all three tests of RFC 3209 4.7.4.
 pub record HasAffinity (q : Request) (l : Link) : Type 0 where
@@ -16,7 +16,13 @@ pub record IsAdmitted (q : Request) (l : Link) : Type 0 where
   pub affinity : HasAffinity q l
   pub room : q.bandwidth ≤ slice_index l.free q.setup
 
--- a link of the database that is admitted
+-- The link is admitted, and the database has its reverse: a link that runs one way alone is no
+-- adjacency (RFC 2328 16.1, step 2b).
+pub record IsUsable (d : Database) (q : Request) (l : Link) : Type 0 where
+  pub admitted : IsAdmitted q l
+  pub reverse : HasReverse d l
+
+-- a link of the database that is usable
 pub record IsAdmissible (d : Database) (q : Request) (l : Link) : Type 0 where
   pub link : IsLinkOf d l
-  pub admitted : IsAdmitted q l
+  pub usable : IsUsable d q l

@@ -32,6 +32,18 @@ link_at d k = map.get d.links k
 abbrev pub IsLinkOf : Database → Link → Type 0
 IsLinkOf d l = link_at d (key_of l) ≡ Some l
 
+-- One link runs back over the same two interfaces as the other: it begins where that one ends, by the
+-- address that is remote there, and ends where that one begins.
+pub record IsReverse (l r : Link) : Type 0 where
+  pub from : r.from ≡ l.to
+  pub local : r.local ≡ l.remote
+  pub to : r.to ≡ l.from
+  pub remote : r.remote ≡ l.local
+
+-- the database has the reverse of the link, with any attributes
+abbrev pub HasReverse : Database → Link → Type 0
+HasReverse d l = (r : Link) × IsLinkOf d r × IsReverse l r
+
 -- how many links the database has
 abbrev pub link_count : Database → ℕ
 link_count d = map.len d.links

@@ -1,6 +1,7 @@
 -- Small networks, and which of their walks are routes.
-use Rattle.std.specs.Prelude.{◌≡◌, ◌≢◌, ℕ, ◌+◌, ◌*◌, Bool, true, false, List, [], ◌∷◌, eqb, replicate, refl}
+use Rattle.std.specs.Prelude.{◌≡◌, ◌≢◌, ℕ, ◌+◌, ◌*◌, Bool, true, false, List, [], ◌∷◌, ◌++◌, eqb, map, replicate, refl}
 use Rattle.std.specs.declared.cmp.Ordering.TheVariants.{Less}
+use Rattle.std.proofs.Common.{sym}
 use Rattle.std.proofs.lemmas.Bool.{eqb-false}
 use Rattle.cspf_addr.specs.declared.hop.Hop.{Hop}
 use Rattle.cspf_db.specs.declared.link.Link.{Link}
@@ -60,6 +61,26 @@ hop first length loose =
 abbrev pub link_by : (from to metric n x y : ℕ) → eqb from to ≡ false → Link
 link_by from to metric n x y apart =
     link from (address 10 0 n x) to (address 10 0 n y) metric 1000 (eqb-false from to apart)
+
+-- the link back over the same two interfaces, with no bandwidth: what a link may be used for isn't
+-- asked of its reverse
+abbrev pub back : Link → Link
+back l =
+    record {
+      from = l.to;
+      local = l.remote;
+      to = l.from;
+      remote = l.local;
+      metric = l.metric;
+      group = l.group;
+      free = replicate 8 0;
+      eight = refl;
+      two_ends = λ same. l.two_ends (sym same);
+    }
+
+-- links, and the links back
+abbrev pub both_ways : List Link → List Link
+both_ways links = links ++ map back links
 
 -- First network: from 1.1.1.1 the ways to 4.4.4.4 lead to 10.9.0.1 first, straight or by 3.3.3.3 or
 -- by 10.9.0.2. from 1.1.1.1 to 10.9.0.1, of metric 10
@@ -149,17 +170,17 @@ pub record AreFound (links : List Link) (to : ℕ) : Type 0 where
 
 -- a strict leg to 10.9.0.0/16 may stand at both of its routers
 abbrev pub MayStandAtOwners : Type 0
-MayStandAtOwners = Holds six_links (router 4) (inner_hop ∷ []) (λ d q. IsRoute d q way_inside)
+MayStandAtOwners = Holds (both_ways six_links) (router 4) (inner_hop ∷ []) (λ d q. IsRoute d q way_inside)
 
 -- it may not stand at 3.3.3.3
 abbrev pub MayNotStandElsewhere : Type 0
 MayNotStandElsewhere =
-    Holds six_links (router 4) (inner_hop ∷ []) (λ d q. ¬ IsRoute d q way_outside)
+    Holds (both_ways six_links) (router 4) (inner_hop ∷ []) (λ d q. ¬ IsRoute d q way_outside)
 
 -- a loose leg to 10.9.0.0/16 may stand at 3.3.3.3
 abbrev pub MayStandAnywhere : Type 0
 MayStandAnywhere =
-    Holds six_links (router 4) (loose_inner_hop ∷ []) (λ d q. IsRoute d q way_outside)
+    Holds (both_ways six_links) (router 4) (loose_inner_hop ∷ []) (λ d q. IsRoute d q way_outside)
 
 -- and the way by 3.3.3.3 is before the other
 abbrev pub IsOutsideBeforeInside : Type 0
@@ -168,10 +189,10 @@ IsOutsideBeforeInside = walk_cmp way_outside way_inside ≡ Less
 -- the leg to a hop that the head-end owns may be empty
 abbrev pub MayBeEmpty : Type 0
 MayBeEmpty =
-    Holds six_links (router 4) (first_router_hop ∷ inner_hop ∷ []) (λ d q. IsRoute d q way_inside)
+    Holds (both_ways six_links) (router 4) (first_router_hop ∷ inner_hop ∷ []) (λ d q. IsRoute d q way_inside)
 
 -- a hop may be met by the address of an interface on a link that isn't admissible
 abbrev pub MayBeMetByAnyLink : Type 0
 MayBeMetByAnyLink =
-    Holds three_links (router 3) (interface_hop ∷ [])
+    Holds (both_ways three_links) (router 3) (interface_hop ∷ [])
     (λ d q. IsRoute d q (from_1_to_2 ∷ from_2_to_3 ∷ []) × ¬ IsAdmissible d q from_2_to_4)

@@ -1,9 +1,10 @@
 -- The links and the routers of a database in order, and the links from a router.
-use Rattle.std.specs.Prelude.{ℕ, List, map, filter, nat_eq, slice_index}
+use Rattle.std.specs.Prelude.{◌≡◌, ◌≢◌, ◌<◌, ℕ, List, map, filter, length, nat_eq, slice_index, slice_index_or}
 use Rattle.std.specs.Ordering.{nat_cmp}
 use Rattle.std.specs.FinMap as finite
 use Rattle.cspf_db.specs.declared.link.Link.{Link}
-use Rattle.cspf_db.specs.Database.{Database, ends_of}
+use Rattle.cspf_db.specs.declared.limits.TheConstants.{NO_LINK}
+use Rattle.cspf_db.specs.Database.{Database, HasReverse, IsReverse, ends_of}
 
 -- the links of a database, in order of the key
 abbrev pub links_of : Database → List Link
@@ -28,3 +29,10 @@ links_from d router = filter (λ l. nat_eq l.from router) (links_of d)
 -- the links from the router at an index of the list of routers
 abbrev pub links_from_index : Database → ℕ → List Link
 links_from_index d at = links_from d (slice_index (router_list d) at)
+
+-- a number is the index of the reverse of a link among the links of a database, or `NO_LINK` where the
+-- database has no reverse of it
+pub record IsReverseAt (d : Database) (l : Link) (n : ℕ) : Type 0 where
+  pub within : n ≢ NO_LINK → n < length (links_of d)
+  pub found : n ≢ NO_LINK → IsReverse l (slice_index_or (links_of d) n l)
+  pub none : n ≡ NO_LINK → ¬ HasReverse d l

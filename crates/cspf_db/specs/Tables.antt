@@ -1,5 +1,6 @@
 -- Private: how a table keeps its database.
 pub mod Rows
+pub mod Reverses
 pub mod RepeatedKeys
 pub mod RowsLeft
 pub mod CountedEnds

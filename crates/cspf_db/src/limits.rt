@@ -15,3 +15,6 @@ pub const ROOM_FOR_LINKS: usize = MOST_LINKS + MOST_CHANGES;
 /// How many routers there is room for: those of a full database, and both ends of each link that a
 /// batch puts.
 pub const ROOM_FOR_ROUTERS: usize = MOST_ROUTERS + 2 * MOST_CHANGES;
+
+/// The index of no link, above those of all.
+pub const NO_LINK: u16 = u16::MAX;

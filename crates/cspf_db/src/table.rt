@@ -1,7 +1,8 @@
-ghost use Rattle.std.specs.Prelude.{◌≡◌, ◌<◌, ◌≤◌, ◌↔◌, ℕ, All, Contains, length, map, slice_index, IfOk, OnOk, IfErr, OnErr, IfSome, IfNone, IsTrue};
+ghost use Rattle.std.specs.Prelude.{◌≡◌, ◌<◌, ◌≤◌, ◌↔◌, ℕ, All, Contains, length, map, slice_index, slice_index_or, IfOk, OnOk, IfErr, OnErr, IfSome, IfNone, IsTrue};
 ghost use Rattle.std.specs.List.Sorted.{IsStrictlyIncreasing};
-ghost use Rattle.cspf_db.specs.Database.{AreLinksOf, AreAtTheirKeys, IsRouterOf, link_at, router_count, HaveOwnKeys};
-ghost use Rattle.cspf_db.specs.Index.{links_of, router_list, links_from, links_from_index};
+ghost use Rattle.cspf_db.specs.declared.link.Link.{Link as Linked};
+ghost use Rattle.cspf_db.specs.Database.{AreLinksOf, AreAtTheirKeys, HasReverse, IsRouterOf, link_at, router_count, HaveOwnKeys};
+ghost use Rattle.cspf_db.specs.Index.{links_of, router_list, links_from, links_from_index, IsReverseAt};
 ghost use Rattle.cspf_db.specs.Changes.{no_links, after_changes, Fits};
 ghost use Rattle.cspf_db.specs.Refusals.{IsRefusal};
 ghost use Rattle.cspf_db.specs.Targets.{Owns};
@@ -11,6 +12,7 @@ mod check;
 mod insertion;
 mod merging;
 mod places;
+mod reverses;
 mod router_list;
 mod router_rows;
 mod routers;
@@ -19,9 +21,10 @@ mod scratch;
 mod table_rows;
 mod tally;
 
-use crate::limits::{MOST_ROUTERS, ROOM_FOR_LINKS, ROOM_FOR_ROUTERS};
+use crate::limits::{MOST_ROUTERS, NO_LINK, ROOM_FOR_LINKS, ROOM_FOR_ROUTERS};
 use crate::{Batch, Link, Refusal};
 use cspf_addr::{Addr, Prefix};
+use reverses::{list_reverses, reverse_index};
 use router_list::search;
 use router_rows::list_spans;
 use row_changes::change_table;
@@ -37,6 +40,7 @@ pub struct Table {
     rows: Vec<Link>,
     routers: Vec<Addr>,
     ends: Vec<u16>,
+    reverses: Vec<u16>,
     spans: Vec<(u16, u16)>,
     scratch: Scratch,
 }
@@ -65,6 +69,7 @@ impl Table {
             rows: Vec::with_capacity(alloc, ROOM_FOR_LINKS)?,
             routers: Vec::with_capacity(alloc, ROOM_FOR_ROUTERS)?,
             ends: Vec::with_capacity(alloc, ROOM_FOR_LINKS)?,
+            reverses: Vec::with_capacity(alloc, ROOM_FOR_LINKS)?,
             spans: Vec::with_capacity(alloc, MOST_ROUTERS)?,
             scratch: Scratch::new(alloc)?,
         })
@@ -138,12 +143,35 @@ impl Table {
         &self.ends[usize::from(first)..usize::from(end)]
     }
 
+    /// Beside the links of `out_at`, the index in `links` of the reverse of each, as `has_reverse`
+    /// says, or `NO_LINK` where there is none.
+    pub fn reverses_at(&self, at: usize) -> &[u16]
+        requires { at < length (router_list self.now) }
+        ensures many { length result.now ≡ length (links_from_index self.now at) }
+        ensures each { (row : ℕ) (d : Linked) → row < length (links_from_index self.now at)
+            → IsReverseAt self.now (slice_index_or (links_from_index self.now at) row d)
+            (slice_index_or result.now row 0) }
+    {
+        let (first, end) = self.spans[at];
+        &self.reverses[usize::from(first)..usize::from(end)]
+    }
+
     /// The link with this key, if there is one.
     pub fn find(&self, from: Addr, local: Addr) -> Option<Link>
         ensures { result ≡ link_at self.now (from, local) }
     {
         let at = index_of(&self.rows, from, local)?;
         Some(self.rows[at])
+    }
+
+    /// Whether the table has the reverse of the link, which runs from where the link ends, by its
+    /// remote address there, to where it begins, with its local address as the remote one,
+    /// whatever the reverse's attributes (RFC 2328 16.1, step 2b, which asks for a link back to the
+    /// router; that it is the same pair of interfaces is asked here).
+    pub fn has_reverse(&self, link: &Link) -> bool
+        ensures { IsTrue result ↔ HasReverse self.now link.now }
+    {
+        reverse_index(&self.rows, link) != NO_LINK
     }
 
     /// Whether a link begins or ends at the router.
@@ -193,14 +221,18 @@ impl Table {
         let Ok(tally) = check::fits(&self.rows, &self.routers, batch) else {
             return;
         };
-        change_table(
+        let follows = change_table(
             &mut self.rows,
             &mut self.routers,
             &mut self.ends,
+            &mut self.reverses,
             &mut self.scratch,
             &batch.changes,
             tally,
         );
         list_spans(&mut self.spans, &self.routers, &self.rows);
+        if !follows {
+            list_reverses(&mut self.reverses, &self.rows, &self.ends, &self.spans);
+        }
     }
 }

@@ -1,7 +1,7 @@
 ghost use Rattle.std.specs.Prelude.{◌↔◌, IsTrue};
-ghost use Rattle.cspf_db.specs.Admissible.{IsAdmitted};
+ghost use Rattle.cspf_db.specs.Admissible.{IsAdmitted, IsUsable};
 
-use cspf_db::{Link, Request};
+use cspf_db::{Link, Request, Table};
 
 /// Whether the link passes the three affinity tests of the request (RFC 3209 4.7.4) and has the
 /// request's bandwidth, in bytes per second, unreserved at its setup priority (RFC 3630 2.5.8).
@@ -15,4 +15,12 @@ pub fn accepts(link: &Link, request: &Request) -> bool
         && (any == 0 || group & any != 0)
         && (all == 0 || (group & all) ^ all == 0)
         && request.bandwidth <= link.free[usize::from(request.setup)]
+}
+
+/// Whether a link of the table is admissible for the request: the request accepts it, and the table
+/// has its reverse, whatever the reverse's attributes.
+pub fn admissible(table: &Table, link: &Link, request: &Request) -> bool
+    ensures { IsTrue result ↔ IsUsable table.now request.now link.now }
+{
+    accepts(link, request) && table.has_reverse(link)
 }

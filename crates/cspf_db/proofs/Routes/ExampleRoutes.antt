@@ -18,7 +18,7 @@ use Rattle.cspf_db.specs.Legs.{IsCutInto}
 use Rattle.cspf_db.specs.Routes.{IsRoute}
 use Rattle.cspf_db.specs.Tables.Rows.{database_of}
 use Rattle.cspf_db.proofs.Databases.LinksOfRows.{rows_listed}
-use Rattle.cspf_db.specs.Examples.{router, inner, link, asked_fields, from_1_to_3, from_1_to_inner_1, from_1_to_inner_2, from_3_to_inner_1, from_inner_1_to_4, from_inner_2_to_inner_1, six_links, way_outside, way_inside, inner_hop, loose_inner_hop, first_router_hop, from_1_to_2, from_2_to_3, from_2_to_4, three_links, interface_hop, AreFound, MayStandAtOwners, MayNotStandElsewhere, MayStandAnywhere, IsOutsideBeforeInside, MayBeEmpty, MayBeMetByAnyLink}
+use Rattle.cspf_db.specs.Examples.{router, inner, link, back, both_ways, asked_fields, from_1_to_3, from_1_to_inner_1, from_1_to_inner_2, from_3_to_inner_1, from_inner_1_to_4, from_inner_2_to_inner_1, six_links, way_outside, way_inside, inner_hop, loose_inner_hop, first_router_hop, from_1_to_2, from_2_to_3, from_2_to_4, three_links, interface_hop, AreFound, MayStandAtOwners, MayNotStandElsewhere, MayStandAnywhere, IsOutsideBeforeInside, MayBeEmpty, MayBeMetByAnyLink}
 
 -- the request with these fields
 abbrev made : (f : RequestFields) → f.setup < 8 → f.from ≢ f.to → Request
@@ -53,14 +53,14 @@ found rows to apart two_ends = record {
 }
 
 -- the first network can be met
-pub six_links_found : AreFound six_links (router 4)
+pub six_links_found : AreFound (both_ways six_links) (router 4)
 unfolding IsDistinct
-six_links_found = found six_links (router 4) (search rules) (eqb-false _ _ refl)
+six_links_found = found (both_ways six_links) (router 4) (search rules) (eqb-false _ _ refl)
 
 -- the second network can be met
-pub three_links_found : AreFound three_links (router 3)
+pub three_links_found : AreFound (both_ways three_links) (router 3)
 unfolding IsDistinct
-three_links_found = found three_links (router 3) (search rules) (eqb-false _ _ refl)
+three_links_found = found (both_ways three_links) (router 3) (search rules) (eqb-false _ _ refl)
 
 -- what holds of each row holds of each link of the database
 each_link : (P : Link → Type 0) (d : Database) (rows : List Link) → AreLinksOf d rows
@@ -82,10 +82,22 @@ admitted tail_end hops priority two_ends from local to remote metric apart = rec
   room = lit≤ tt;
 }
 
-module _ (d : Database) (listed : AreLinksOf d six_links) where
+-- so it is usable where the link back is in the database
+usable : (d : Database) (tail_end : ℕ) (hops : List Hop) (priority : 0 < 8) (two_ends : router 1 ≢ tail_end) (from local to remote metric : ℕ) (apart : from ≢ to)
+    → IsLinkOf d (link from local to remote metric 1000 apart) → IsLinkOf d (back (link from local to remote metric 1000 apart))
+    → IsAdmissible d (made (asked_fields tail_end hops) priority two_ends) (link from local to remote metric 1000 apart)
+usable d tail_end hops priority two_ends from local to remote metric apart is is_back = record {
+  link = is;
+  usable = record {
+    admitted = admitted tail_end hops priority two_ends from local to remote metric apart;
+    reverse = (back (link from local to remote metric 1000 apart), is_back, record { from = refl; local = refl; to = refl; remote = refl });
+  };
+}
+
+module _ (d : Database) (listed : AreLinksOf d (both_ways six_links)) where
   -- each row is a link of the database
-  rows : AllByRecursion (IsLinkOf d) six_links
-  rows = recursion_from_All (IsLinkOf d) six_links listed.each
+  rows : AllByRecursion (IsLinkOf d) (both_ways six_links)
+  rows = recursion_from_All (IsLinkOf d) (both_ways six_links) listed.each
 
   -- the strict hop is owned by 10.9.0.1
   owned_inner_1 : Owns d inner_hop.prefix (inner 1)
@@ -108,8 +120,8 @@ module _ (d : Database) (listed : AreLinksOf d six_links) where
     inside_walk : IsWalk d q way_inside
     inside_walk = record {
       links = (
-        record { link = rows.1.1.0; admitted = admitted (router 4) hops priority two_ends _ _ _ _ _ _ },
-        (record { link = rows.1.1.1.1.1.0; admitted = admitted (router 4) hops priority two_ends _ _ _ _ _ _ }, (record { link = rows.1.1.1.1.0; admitted = admitted (router 4) hops priority two_ends _ _ _ _ _ _ }, tt)),
+        usable d (router 4) hops priority two_ends _ _ _ _ _ _ rows.1.1.0 rows.1.1.1.1.1.1.1.1.0,
+        (usable d (router 4) hops priority two_ends _ _ _ _ _ _ rows.1.1.1.1.1.0 rows.1.1.1.1.1.1.1.1.1.1.1.0, (usable d (router 4) hops priority two_ends _ _ _ _ _ _ rows.1.1.1.1.0 rows.1.1.1.1.1.1.1.1.1.1.0, tt)),
       );
       joined = (refl, (refl, (refl, tt)));
     }
@@ -118,8 +130,8 @@ module _ (d : Database) (listed : AreLinksOf d six_links) where
     outside_walk : IsWalk d q way_outside
     outside_walk = record {
       links = (
-        record { link = rows.0; admitted = admitted (router 4) hops priority two_ends _ _ _ _ _ _ },
-        (record { link = rows.1.1.1.0; admitted = admitted (router 4) hops priority two_ends _ _ _ _ _ _ }, (record { link = rows.1.1.1.1.0; admitted = admitted (router 4) hops priority two_ends _ _ _ _ _ _ }, tt)),
+        usable d (router 4) hops priority two_ends _ _ _ _ _ _ rows.0 rows.1.1.1.1.1.1.0,
+        (usable d (router 4) hops priority two_ends _ _ _ _ _ _ rows.1.1.1.0 rows.1.1.1.1.1.1.1.1.1.0, (usable d (router 4) hops priority two_ends _ _ _ _ _ _ rows.1.1.1.1.0 rows.1.1.1.1.1.1.1.1.1.1.0, tt)),
       );
       joined = (refl, (refl, (refl, tt)));
     }
@@ -198,34 +210,23 @@ not_begun : (prefix : PrefixParts) (r : ℕ) (l : Link) → ¬ Covers prefix l.l
     → ¬ BeginsWithin prefix r l
 not_begun prefix r l apart begins = apart begins.local
 
--- no link of the six begins in 10.9.0.0/16
-none_begins : (r : ℕ) → AllByRecursion (λ l. ¬ BeginsWithin inner_hop.prefix r l) six_links
+-- no link of the six begins in 10.9.0.0/16, nor does one back
+none_begins : (r : ℕ) → AllByRecursion (λ l. ¬ BeginsWithin inner_hop.prefix r l) (both_ways six_links)
 none_begins r =
-    let none = not_begun inner_hop.prefix r in (
-      none from_1_to_3 (eqb-false _ _ refl),
-      (
-        none from_1_to_inner_1 (eqb-false _ _ refl),
-        (
-          none from_1_to_inner_2 (eqb-false _ _ refl),
-          (
-            none from_3_to_inner_1 (eqb-false _ _ refl),
-            (none from_inner_1_to_4 (eqb-false _ _ refl), (none from_inner_2_to_inner_1 (eqb-false _ _ refl), tt)),
-          ),
-        ),
-      ),
-    )
+    let none = not_begun inner_hop.prefix r in
+    (none from_1_to_3 (eqb-false _ _ refl), (none from_1_to_inner_1 (eqb-false _ _ refl), (none from_1_to_inner_2 (eqb-false _ _ refl), (none from_3_to_inner_1 (eqb-false _ _ refl), (none from_inner_1_to_4 (eqb-false _ _ refl), (none from_inner_2_to_inner_1 (eqb-false _ _ refl), (none (back from_1_to_3) (eqb-false _ _ refl), (none (back from_1_to_inner_1) (eqb-false _ _ refl), (none (back from_1_to_inner_2) (eqb-false _ _ refl), (none (back from_3_to_inner_1) (eqb-false _ _ refl), (none (back from_inner_1_to_4) (eqb-false _ _ refl), (none (back from_inner_2_to_inner_1) (eqb-false _ _ refl), tt))))))))))))
 
-module _ (d : Database) (listed : AreLinksOf d six_links) where
+module _ (d : Database) (listed : AreLinksOf d (both_ways six_links)) where
   -- the strict hop isn't owned by 1.1.1.1
   not_owned_router_1 : ¬ Owns d inner_hop.prefix (router 1)
   not_owned_router_1 =
-      not_owned d inner_hop.prefix (router 1) six_links listed (eqb-false _ _ refl)
+      not_owned d inner_hop.prefix (router 1) (both_ways six_links) listed (eqb-false _ _ refl)
       (none_begins (router 1))
 
   -- nor by 3.3.3.3
   not_owned_router_3 : ¬ Owns d inner_hop.prefix (router 3)
   not_owned_router_3 =
-      not_owned d inner_hop.prefix (router 3) six_links listed (eqb-false _ _ refl)
+      not_owned d inner_hop.prefix (router 3) (both_ways six_links) listed (eqb-false _ _ refl)
       (none_begins (router 3))
 
   module _ (priority : 0 < 8) (two_ends : router 1 ≢ router 4) where
@@ -256,7 +257,7 @@ may_not_stand_elsewhere d q listed says =
 -- the interface of 2.2.2.2 on the link with no bandwidth is an address of 2.2.2.2
 pub may_be_met_by_any_link : MayBeMetByAnyLink
 may_be_met_by_any_link d q listed says =
-    let rows : AllByRecursion (IsLinkOf d) three_links = recursion_from_All (IsLinkOf d) three_links listed.each in
+    let rows : AllByRecursion (IsLinkOf d) (both_ways three_links) = recursion_from_All (IsLinkOf d) (both_ways three_links) listed.each in
     let owns : Owns d interface_hop.prefix (router 2) = record {
       known = (from_1_to_2, rows.0, inr refl);
       covered = inr (from_2_to_4, rows.1.1.0, record { from = refl; local = refl });
@@ -267,7 +268,7 @@ may_be_met_by_any_link d q listed says =
       record {
         is_walk = record {
           links =
-              (record { link = rows.0; admitted = admitted (router 3) (interface_hop ∷ []) priority two_ends _ _ _ _ _ _ }, (record { link = rows.1.0; admitted = admitted (router 3) (interface_hop ∷ []) priority two_ends _ _ _ _ _ _ }, tt));
+              (usable d (router 3) (interface_hop ∷ []) priority two_ends _ _ _ _ _ _ rows.0 rows.1.1.1.0, (usable d (router 3) (interface_hop ∷ []) priority two_ends _ _ _ _ _ _ rows.1.0 rows.1.1.1.1.0, tt));
           joined = (refl, (refl, tt));
         };
         cut = (
@@ -280,5 +281,5 @@ may_be_met_by_any_link d q listed says =
           },
         );
       },
-      λ admissible. absurd (omega (arith, admissible.admitted.room)),
+      λ admissible. absurd (omega (arith, admissible.usable.admitted.room)),
     )) q says

@@ -142,6 +142,14 @@ span_at d rows routers spans at span e by_key all are h read =
     let is : span ≡ get_or spans at (0, 0) = get_or_read spans at span (omega (arith, within, are.many)) read (0, 0) in
     part_at d rows routers at (slice_index routers at) (between span.0 span.1 rows) e by_key all h (get_or_default routers at 0 (slice_index routers at) within) (rw is (are.each at within).part)
 
+-- which is within the rows
+pub span_within : (d : Database) (rows : List Link) (routers : List ℕ) (spans : List (ℕ × ℕ)) (at : ℕ) (span : ℕ × ℕ) → database_of rows ≡ d → routers ≡ router_list (database_of rows)
+    → AreSpansOf rows routers spans → at < length (router_list d) → span ≡ get_or spans at span → (span.0 ≤ span.1) × (span.1 ≤ length rows)
+span_within d rows routers spans at span e all are h read =
+    let within : at < length routers = subst (λ rs. at < length rs) (sym (all ∙ ap router_list e)) h in
+    let is : span ≡ get_or spans at (0, 0) = get_or_read spans at span (omega (arith, within, are.many)) read (0, 0) in
+    rw is ((are.each at within).order, (are.each at within).bound)
+
 -- the ends beside them
 pub ends_at_part : (d : Database) (rows : List Link) (routers ends : List ℕ) (first end at : ℕ) → database_of rows ≡ d → routers ≡ router_list (database_of rows) → AreEndsOf rows routers ends
     → between first end rows ≡ links_from_index d at → map (λ n. slice_index (router_list d) n) (between first end ends) ≡ map (λ (l : Link). l.to) (links_from_index d at)

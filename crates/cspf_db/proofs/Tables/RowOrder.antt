@@ -1,24 +1,42 @@
 -- Rows in order of the key, and the links of their database.
-use Rattle.std.proofs.Common.{◌≡◌, ℕ, ◌<◌, ◌≤◌, ◌⊎◌, inl, inr, nat_lt, true, false, T, List, [], ◌∷◌, length, map, get_or, slice_set, Result, Ok, Err, IfOk, IfErr, refl, ap, subst, ◌∙◌, arith}
-use Rattle.std.specs.Ordering.{nat_cmp, ordering_then}
+use Rattle.std.proofs.Common.{◌≡◌, ℕ, ◌<◌, ◌≤◌, ◌⊎◌, inl, inr, nat_lt, Bool, true, false, T, List, [], ◌∷◌, filter, length, map, get_or, slice_set, Result, Ok, Err, IfOk, IfErr, refl, sym, ap, subst, ◌∙◌, arith}
+use Rattle.std.specs.Ordering.{nat_cmp, eq_by_cmp, ordering_then}
 use Rattle.std.specs.declared.cmp.Ordering.TheVariants.{Less, Equal, Greater}
 use Rattle.std.specs.List.{HoldsAt, insert, remove as without}
 use Rattle.std.specs.List.Sorted.{IsNonDecreasingBy, IsBinarySearchResult, IsPartitionPoint}
 use Rattle.std.specs.FinMap.{is_sorted, entries, entries-insert, entries_sorted, put}
 use Rattle.std.specs.Cmp.{ranked}
+use Rattle.std.proofs.lemmas.Bool.{cases_lt}
 use Rattle.std.proofs.lemmas.Bool.Decides.{nat_tests}
+use Rattle.std.proofs.lemmas.List.{length-map, get_or-map}
+use Rattle.std.proofs.lemmas.Map.Keys.{apart_from_distinct}
 use Rattle.cspf_db.specs.declared.link.Link.{Link}
 use Rattle.cspf_db.specs.declared.batch.Change.TheVariants.{Put}
 use Rattle.cspf_db.specs.Database.{Database, Key, key_of, key_cmp, HaveOwnKeys}
 use Rattle.cspf_db.specs.Index.{links_of}
 use Rattle.cspf_db.specs.Changes.{after_change}
 use Rattle.cspf_db.specs.Tables.Rows.{entry_of, database_of, AreByKey}
-use Rattle.cspf_db.proofs.Databases.Keys.{keys_total, keys_antisymmetric}
-use Rattle.cspf_db.proofs.Tables.SortedEntries.{test_from_true, true_from_test, put-gap, put-hit, sorted_without, rises, searchable, distinct, gap_from, entries-from_entries, from_entries-entries}
+use Rattle.cspf_db.proofs.Databases.Keys.{key_itself, keys_total, keys_antisymmetric}
+use Rattle.cspf_db.proofs.Tables.SortedEntries.{test_from_true, true_from_test, put-gap, put-hit, sorted_without, sorted_filter, rises, searchable, distinct, gap_from, entries-from_entries, from_entries-entries}
 
 -- rows in order have keys of their own
 pub own_keys : (rows : List Link) → AreByKey rows → HaveOwnKeys rows
 own_keys rows by_key = distinct keys_total entry_of rows (test_from_true _ by_key)
+
+-- a key is at one index alone
+apart_below : (rows : List Link) → AreByKey rows → (i j : ℕ) (d e : Link) → i < j → j < length rows → key_of (get_or rows i d) ≡ key_of (get_or rows j e) → ⊥
+apart_below rows by_key i j d e less within same =
+    let k : Key = key_of d in
+    let apart = apart_from_distinct (eq_by_cmp key_cmp) (map key_of rows) i j k (own_keys rows by_key) less (omega (arith, within, length-map rows key_of)) in
+    let here : get_or (map key_of rows) i k ≡ key_of (get_or rows i d) = get_or-map key_of rows i d k (omega arith) in
+    let there : get_or (map key_of rows) j k ≡ key_of (get_or rows j e) = get_or-map key_of rows j e k within in
+    let tie : eq_by_cmp key_cmp (key_of (get_or rows j e)) (key_of (get_or rows j e)) ≡ false =
+    subst (λ q. eq_by_cmp key_cmp q (key_of (get_or rows j e)) ≡ false) same (subst (λ q. eq_by_cmp key_cmp (key_of (get_or rows i d)) q ≡ false) there (subst (λ q. eq_by_cmp key_cmp q (get_or (map key_of rows) j k) ≡ false) here apart)) in
+    let no : true ≡ false = sym (key_itself (key_of (get_or rows j e))) ∙ tie in cc
+
+pub one_index : (rows : List Link) → AreByKey rows → (i j : ℕ) (d e : Link) → i < length rows → j < length rows → key_of (get_or rows i d) ≡ key_of (get_or rows j e) → i ≡ j
+one_index rows by_key i j d e within also same =
+    elim (cases_lt i j) [ inl less ↦ absurd (apart_below rows by_key i j d e less also same) | inr upto ↦ elim (cases_lt j i) [ inl less ↦ absurd (apart_below rows by_key j i e d less within (sym same)) | inr also ↦ omega (arith, upto, also) ] ]
 
 -- rows in order are the entries of their database
 pub entries-database_of : (rows : List Link) → AreByKey rows → entries (database_of rows).links ≡ map entry_of rows
@@ -56,6 +74,10 @@ entries-gap rows at l by_key h gap =
 -- without one row the others are in order
 pub by_key-without : (rows : List Link) (at : ℕ) → AreByKey rows → AreByKey (without rows at)
 by_key-without rows at by_key = true_from_test _ (sorted_without keys_total entry_of rows at (test_from_true _ by_key))
+
+-- those that a test keeps are in order
+pub by_key-filter : (p : Link → Bool) (rows : List Link) → AreByKey rows → AreByKey (filter p rows)
+by_key-filter p rows by_key = true_from_test _ (sorted_filter keys_total entry_of p rows (test_from_true _ by_key))
 
 -- the row that a search by a key finds has it
 pub found_key : (rows : List Link) (k : Key) (r : Result ℕ ℕ) → IsBinarySearchResult (λ l. key_cmp (key_of l) k) rows r → IfOk r (HoldsAt (λ l. key_of l ≡ k) rows)

@@ -1,5 +1,5 @@
 -- Entries in order, and how to put one in or take one out.
-use Rattle.std.proofs.Common.{◌≡◌, ℕ, zero, suc, ◌+◌, ◌<◌, ◌≤◌, ◌&&◌, Bool, true, false, T, List, [], ◌∷◌, length, map, get_or, slice_set, Result, Ok, Err, IfOk, IfErr, refl, sym, ap, subst, ◌∙◌, arith}
+use Rattle.std.proofs.Common.{◌≡◌, ℕ, zero, suc, ◌+◌, ◌<◌, ◌≤◌, ◌&&◌, Bool, true, false, T, List, [], ◌∷◌, cond, filter, length, map, get_or, slice_set, Result, Ok, Err, IfOk, IfErr, refl, sym, ap, subst, ◌∙◌, arith}
 use Rattle.std.specs.Ordering.{is_lt, is_eq, eq_by_cmp, ordering_reverse, ordering_index}
 use Rattle.std.specs.declared.cmp.Ordering.{Ordering}
 use Rattle.std.specs.declared.cmp.Ordering.TheVariants.{Less, Equal, Greater}
@@ -94,6 +94,22 @@ module _ {A K X : Type 0} {R : K → K → Ordering} (o : IsTotalOrder R) (entry
   sorted_without [] (suc i) sorted = tt
   sorted_without (x ∷ xs) zero sorted = both_second _ _ sorted
   sorted_without (x ∷ xs) (suc i) sorted = both _ _ (below_without (entry x).0 xs i (both_first _ _ sorted)) (sorted_without xs i (both_second _ _ sorted))
+
+  -- what is below all is below those that a test keeps
+  below_filter : (p : A → Bool) (q : K) (xs : List A) → T (below_all R q (map entry xs)) → T (below_all R q (map entry (filter p xs)))
+  below_filter p q [] below = tt
+  below_filter p q (x ∷ xs) below = elim (p x) as (λ b. T (below_all R q (map entry (cond b (x ∷ filter p xs) (filter p xs))))) [
+    | true ↦ both _ _ (both_first _ _ below) (below_filter p q xs (both_second _ _ below))
+    | false ↦ below_filter p q xs (both_second _ _ below)
+  ]
+
+  -- those still rise
+  pub sorted_filter : (p : A → Bool) (xs : List A) → T (is_sorted R (map entry xs)) → T (is_sorted R (map entry (filter p xs)))
+  sorted_filter p [] sorted = tt
+  sorted_filter p (x ∷ xs) sorted = elim (p x) as (λ b. T (is_sorted R (map entry (cond b (x ∷ filter p xs) (filter p xs))))) [
+    | true ↦ both _ _ (below_filter p (entry x).0 xs (both_first _ _ sorted)) (sorted_filter p xs (both_second _ _ sorted))
+    | false ↦ sorted_filter p xs (both_second _ _ sorted)
+  ]
 
   -- each key is below those behind it
   pub rises : (xs : List A) → T (is_sorted R (map entry xs)) → (i j : ℕ) (d : A) → i < j → j < length xs → R (entry (get_or xs i d)).0 (entry (get_or xs j d)).0 ≡ Less

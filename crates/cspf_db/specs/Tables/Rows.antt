@@ -9,10 +9,18 @@ use Rattle.cspf_db.specs.declared.table.Table.TheInside.{Inside}
 use Rattle.cspf_db.specs.Database.{Database, Key, key_of, key_cmp, router_count}
 use Rattle.cspf_db.specs.Index.{with_nothing, router_list}
 use Rattle.cspf_db.specs.declared.limits.TheConstants.{MOST_LINKS, MOST_ROUTERS, ROOM_FOR_LINKS, ROOM_FOR_ROUTERS}
+use Rattle.cspf_db.specs.Tables.Reverses.{AreReversesOf}
 
 -- a row with its key
 abbrev pub entry_of : Link → Key × Link
 entry_of l = (key_of l, l)
+
+-- both links run between the same interfaces
+pub record HasSameEnds (l m : Link) : Type 0 where
+  pub from : l.from ≡ m.from
+  pub local : l.local ≡ m.local
+  pub to : l.to ≡ m.to
+  pub remote : l.remote ≡ m.remote
 
 -- the database that rows make
 abbrev pub database_of : List Link → Database
@@ -92,8 +100,17 @@ pub record AreSpansOf (rows : List Link) (routers : List ℕ) (spans : List (ℕ
   pub each : (at : ℕ) → at < length routers
       → IsSpanOf rows (slice_index routers at) (slice_index_or spans at (0, 0))
 
--- the parts of a table, and where the rows from each router begin and end
+-- where the rows begin and end that are from the router that each row runs to
+abbrev pub AreSpansAtEnds : List Link → List ℕ → List (ℕ × ℕ) → Type 0
+AreSpansAtEnds rows ends spans =
+    (at : ℕ) (d : Link) → at < length rows
+    → (slice_index_or ends at 0 < length spans)
+    × IsSpanOf rows (slice_index_or rows at d).to (slice_index_or spans (slice_index_or ends at 0) (0, 0))
+
+-- the parts of a table, where the rows from each router begin and end, and where the reverse of each
+-- row is
 pub record IsTable (a : Inside) : Type 0 where
   pub parts : AreParts a.rows a.routers a.ends
   pub spans : AreSpansOf a.rows.items a.routers.items a.spans.items
   pub room : MOST_ROUTERS ≤ vec_capacity a.spans
+  pub reverses : AreReversesOf a.rows.items a.reverses

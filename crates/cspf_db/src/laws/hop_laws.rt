@@ -1,6 +1,6 @@
 //! What hops say of routes. Each call here does nothing: its contract is the law.
 ghost use Rattle.cspf_db.specs.HopLaws.{AreRoutesWithoutHops};
-ghost use Rattle.cspf_db.specs.Examples.{MayStandAtOwners, MayNotStandElsewhere, MayStandAnywhere, IsOutsideBeforeInside, MayBeEmpty, MayBeMetByAnyLink, AreFound, six_links, three_links, router};
+ghost use Rattle.cspf_db.specs.Examples.{MayStandAtOwners, MayNotStandElsewhere, MayStandAnywhere, IsOutsideBeforeInside, MayBeEmpty, MayBeMetByAnyLink, AreFound, both_ways, six_links, three_links, router};
 
 /// Without hops the routes are the walks that end at the tail-end.
 pub fn route_without_hops()
@@ -11,8 +11,8 @@ pub fn route_without_hops()
 /// may be several, and a loose one at any; a leg may be empty; a router has the addresses of its
 /// interfaces on links that aren't admissible, too.
 pub fn worked_routes()
-    ensures six_links { AreFound six_links (router 4) }
-    ensures three_links { AreFound three_links (router 3) }
+    ensures six_links { AreFound (both_ways six_links) (router 4) }
+    ensures three_links { AreFound (both_ways three_links) (router 3) }
     ensures strict { MayStandAtOwners }
     ensures strict_alone { MayNotStandElsewhere }
     ensures loose { MayStandAnywhere }

@@ -6,7 +6,7 @@ ghost use Rattle.cspf_addr.specs.Prefixes.{Covers};
 ghost use Rattle.cspf_db.specs.Database.{key_of, key_cmp};
 ghost use Rattle.cspf_db.specs.Index.{links_from};
 ghost use Rattle.cspf_db.specs.Changes.{after_change};
-ghost use Rattle.cspf_db.specs.Tables.Rows.{database_of, AreByKey};
+ghost use Rattle.cspf_db.specs.Tables.Rows.{database_of, AreByKey, HasSameEnds};
 ghost use Rattle.cspf_db.specs.Tables.CountedEnds.{any_from};
 
 use crate::table::insertion::insert_within;
@@ -47,6 +47,19 @@ pub fn index_of(rows: &[Link], from: Addr, local: Addr) -> Option<usize>
     ensures none { IfNone result (All (λ l. key_of l ≢ (from, local)) rows.now) }
 {
     search(rows, from, local).ok()
+}
+
+/// The index of the row with the link's key, if there is one and it runs between the same interfaces.
+pub fn index_alike(rows: &[Link], link: &Link) -> Option<usize>
+    requires { AreByKey rows.now }
+    ensures within { IfSome result (λ at. at < length rows.now) }
+    ensures alike { IfSome result (HoldsAt (λ l. HasSameEnds l link.now) rows.now) }
+{
+    let at = index_of(rows, link.from, link.local)?;
+    if rows[at].to != link.to || rows[at].remote != link.remote {
+        return None;
+    }
+    Some(at)
 }
 
 /// Where the rows from the router begin and end.
@@ -125,6 +138,7 @@ pub fn put(rows: &mut Vec<Link>, link: Link) -> Result<usize, usize>
     ensures longer { vec_len rows.new ≤ vec_len rows.old + 1 }
     ensures capacity { vec_capacity rows.old ≤ vec_capacity rows.new }
     ensures within { IfOk result (λ at. at < length rows.old.items) }
+    ensures found { IfOk result (HoldsAt (λ l. key_of l ≡ key_of link) rows.old.items) }
     ensures over { IfOk result (λ at. rows.new.items ≡ slice_set rows.old.items at link) }
     ensures upto { IfErr result (λ at. at ≤ length rows.old.items) }
     ensures between { IfErr result (λ at. rows.new.items ≡ insert rows.old.items at link) }
@@ -150,7 +164,9 @@ pub fn remove(rows: &mut Vec<Link>, from: Addr, local: Addr) -> Option<usize>
     ensures longer { vec_len rows.new ≤ vec_len rows.old }
     ensures capacity { vec_capacity rows.old ≤ vec_capacity rows.new }
     ensures bound { IfSome result (λ at. at < length rows.old.items) }
+    ensures found { IfSome result (HoldsAt (λ l. key_of l ≡ (from, local)) rows.old.items) }
     ensures out { IfSome result (λ at. rows.new.items ≡ without rows.old.items at) }
+    ensures none { IfNone result (All (λ l. key_of l ≢ (from, local)) rows.old.items) }
     ensures same { IfNone result (rows.new.items ≡ rows.old.items) }
 {
     if let Some(at) = index_of(rows, from, local) {

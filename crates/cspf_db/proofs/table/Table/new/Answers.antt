@@ -9,7 +9,8 @@ invariant_of-result c =
     let r = c.in_ok-with_capacity.ensures in
     let s = c.in_ok-with_capacity-2.ensures in
     let e = c.in_ok-with_capacity-3.ensures in
-    let t = c.in_ok-with_capacity-4.ensures in
+    let b = c.in_ok-with_capacity-4.ensures in
+    let t = c.in_ok-with_capacity-5.ensures in
     record {
       parts = record {
         rows = record { by_key = rw r.items refl; most = rw r.items (omega arith); routers = rw r.items (omega (arith, router_count-no_links)); room = omega (arith, r.exact) };
@@ -19,4 +20,5 @@ invariant_of-result c =
       };
       spans = record { many = rw (t.items, s.items) refl; each = rw s.items (λ at h. absurd (omega arith)) };
       room = omega (arith, t.exact);
+      reverses = record { column = record { many = rw (b.items, r.items) refl; each = rw r.items (λ at d h. absurd (omega arith)) }; room = omega (arith, b.exact) };
     }

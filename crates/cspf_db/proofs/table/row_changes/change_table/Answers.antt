@@ -12,8 +12,8 @@ add_routers-requires-clause-rising c = rw c.requires.parts.routers.all (rising-r
 pub add_routers-requires-clause-few : goal.add_routers-requires-clause-few
 add_routers-requires-clause-few c = omega (arith, ap length c.requires.parts.routers.all, length-router_list (database_of c.args.rows.now.items), c.requires.parts.rows.routers)
 
-pub change_with_ends-requires-clause-rows : goal.change_with_ends-requires-clause-rows
-change_with_ends-requires-clause-rows c =
+pub change_with_ends-follows-requires-clause-rows : goal.change_with_ends-follows-requires-clause-rows
+change_with_ends-follows-requires-clause-rows c =
     let added = c.add_routers.ensures in
     rw c.deref.ensures.value (record {
       by_key = c.requires.parts.rows.by_key;
@@ -26,8 +26,8 @@ change_with_ends-requires-clause-rows c =
           column_more _ _ _ _ _ (column_table _ _ _ c.requires.parts.rows.by_key c.requires.parts.routers.all c.requires.parts.ends) added.kept added.within added.same;
     })
 
-pub change_with_ends-requires-clause-changes : goal.change_with_ends-requires-clause-changes
-change_with_ends-requires-clause-changes c = record {
+pub change_with_ends-follows-requires-clause-changes : goal.change_with_ends-follows-requires-clause-changes
+change_with_ends-follows-requires-clause-changes c = record {
   once = c.requires.once;
   links = c.requires.links;
   known = rw c.deref.ensures.value c.add_routers.ensures.listed;
@@ -35,10 +35,10 @@ change_with_ends-requires-clause-changes c = record {
 
 pub returns-clause-parts : goal.returns-clause-parts
 returns-clause-parts c =
-    let made = c.change_with_ends.ensures in
+    let made = c.change_with_ends-follows.ensures in
     let dropped = c.drop_routers.ensures in
     record {
-      rows = still_rows c.args.rows.now c.change_with_ends.new.rows c.args.changes.now c.requires.parts.rows c.requires.links c.requires.few made.changed made.rows.by_key made.rows.room;
+      rows = still_rows c.args.rows.now c.change_with_ends-follows.new.rows c.args.changes.now c.requires.parts.rows c.requires.links c.requires.few made.changed made.rows.by_key made.rows.room;
       routers = rw c.deref-2.ensures.value at dropped.routers;
       ends = rw c.deref-2.ensures.value at dropped.ends;
       room = omega (arith, made.rows.room_for_ends, dropped.capacity_of_ends);
