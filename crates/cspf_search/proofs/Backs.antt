@@ -8,7 +8,7 @@ use Rattle.std.proofs.lemmas.Option.{get_or_from_slice_get, same_Some}
 use Rattle.cspf_db.specs.declared.link.Link.{Link}
 use Rattle.cspf_db.specs.declared.request.Request.{Request}
 use Rattle.cspf_db.specs.Database.{Database}
-use Rattle.cspf_db.specs.Admissible.{IsAdmitted}
+use Rattle.cspf_db.specs.Admissible.{IsUsable}
 use Rattle.cspf_db.specs.Targets.{IsTarget, IsInside}
 use Rattle.cspf_db.specs.Walks.{cost_of, locals_of}
 use Rattle.cspf_search.specs.declared.arena.Node.{Node}
@@ -48,14 +48,14 @@ module _ (d : Database) (q : Request) (nodes : List Node) (are : AreNodes nodes)
       };
     }
 
-    -- an admitted link inside the leg to an open state crosses, and nothing else does by that link
-    pub by_first : l.from ≡ from.router → IsAdmitted q l → IsInside d q from.leg l.to → index_of nodes (record { leg = from.leg; router = l.to }) ≡ None
+    -- a usable link inside the leg to an open state crosses, and nothing else does by that link
+    pub by_first : l.from ≡ from.router → IsUsable d q l → IsInside d q from.leg l.to → index_of nodes (record { leg = from.leg; router = l.to }) ≡ None
         → IsFirstOf nodes (CrossesBy d q nodes at l) (node_by at from (Some l))
-    by_first runs admitted inside left =
+    by_first runs usable inside left =
         let me : ℕ × List Link = (from.leg, walk_at (walks nodes) at ++ (l ∷ [])) in
         record {
           next = by_next;
-          passes = record { node = from; there = there; runs = runs; admitted = admitted; inside = inside; walk = refl; state = refl; still_open = left };
+          passes = record { node = from; there = there; runs = runs; usable = usable; inside = inside; walk = refl; state = refl; still_open = left };
           first = λ w t x.
               let same : from ≡ x.node = same_Some from x.node (sym there ∙ x.there) in
               let whole : (t.leg, w) ≡ me = λ i. ((ap (λ (s : State). s.leg) x.state ∙ ap (λ (n : Node). n.leg) (sym same)) i, x.walk i) in

@@ -9,7 +9,7 @@ use Rattle.std.proofs.lemmas.Option.{slice_get-get_or, slice_get_within, get_or_
 use Rattle.cspf_db.specs.declared.link.Link.{Link}
 use Rattle.cspf_db.specs.declared.request.Request.{Request}
 use Rattle.cspf_db.specs.Database.{Database}
-use Rattle.cspf_db.specs.Admissible.{IsAdmitted}
+use Rattle.cspf_db.specs.Admissible.{IsUsable}
 use Rattle.cspf_db.specs.Targets.{IsTarget, IsInside}
 use Rattle.cspf_db.specs.Index.{links_of, links_from_index, router_list}
 use Rattle.cspf_search.specs.declared.arena.Node.{Node}
@@ -46,7 +46,7 @@ module _ (d : Database) (place : ℕ) where
       All-contains (Contains (links_of d)) (links_from_index d place) l
       (All-filter (λ k. nat_eq k.from (slice_index (router_list d) place)) (Contains (links_of d)) (links_of d) (All-contains_itself (links_of d))) h
 
-  kept_from : (l : Link) → Contains (links_of d) l → l.from ≡ slice_index (router_list d) place → Contains (links_from_index d place) l
+  pub kept_from : (l : Link) → Contains (links_of d) l → l.from ≡ slice_index (router_list d) place → Contains (links_from_index d place) l
   kept_from l h from =
       All-contains (λ l. nat_eq l.from (slice_index (router_list d) place) ≡ true → Contains (links_from_index d place) l) (links_of d) l
       (filtered (λ k. nat_eq k.from (slice_index (router_list d) place)) (links_of d)) h (eq-eqb l.from (slice_index (router_list d) place) from)
@@ -145,24 +145,24 @@ module _ (d : Database) (q : Request) (nodes : List Node) (at state : ℕ) (is :
         let same : x.node ≡ slice_index_or nodes at nowhere = same_Some x.node (slice_index_or nodes at nowhere) (sym x.there ∙ there) in
         (x.state ∙ ap (λ (n : Node). record { leg = n.leg; router = l.to }) same ∙ link_state, x.walk)
 
-    pub link_passes : IsAdmitted q l → IsInside d q (state / 1024 + 1) l.to → index_of nodes (state_at d (state - state % 1024 + end)) ≡ None
+    pub link_passes : IsUsable d q l → IsInside d q (state / 1024 + 1) l.to → index_of nodes (state_at d (state - state % 1024 + end)) ≡ None
         → CrossesBy d q nodes at l (walk_at (walks nodes) at ++ (l ∷ [])) (state_at d (state - state % 1024 + end))
-    link_passes admitted inside left = record {
+    link_passes usable inside left = record {
       node = slice_index_or nodes at nowhere;
       there = there;
       runs = runs_from d (state % 1024) row l listed ∙ sym router;
-      admitted = admitted;
+      usable = usable;
       inside = rw leg inside;
       walk = refl;
       state = sym link_state;
       still_open = left;
     }
 
-    pub link_within : (w : List Link) (t : State) → CrossesBy d q nodes at l w t → IsAdmitted q l × IsInside d q (state / 1024 + 1) l.to
+    pub link_within : (w : List Link) (t : State) → CrossesBy d q nodes at l w t → IsUsable d q l × IsInside d q (state / 1024 + 1) l.to
     link_within w t x =
         let same : x.node ≡ slice_index_or nodes at nowhere = same_Some x.node (slice_index_or nodes at nowhere) (sym x.there ∙ there) in
         let legs = ap (λ (n : Node). n.leg) same in
-        (x.admitted, rw (legs ∙ leg) at x.inside)
+        (x.usable, rw (legs ∙ leg) at x.inside)
 
     row_within : row < length (links_from_index d (state % 1024))
     row_within = slice_get_within (links_from_index d (state % 1024)) row l listed

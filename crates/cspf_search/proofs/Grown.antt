@@ -45,7 +45,7 @@ module _ (d : Database) (q : Request) (links : List Link) (listed : AreLinksOf d
       let there : State = record { leg = by.node.leg; router = l.from } in
       let same : state_of (slice_index_or nodes at nowhere) ≡ there = ap state_of is ∙ (λ i. record { leg = by.node.leg; router = sym by.runs i }) in
       let step : IsStep d q (walk_at (walks nodes) at) there (walk_at (walks nodes) at ++ (l ∷ [])) (record { leg = by.node.leg; router = l.to }) =
-      by_link l (record { link = of; admitted = by.admitted }) by.inside in
+      by_link l (record { link = of; usable = by.usable }) by.inside in
       record {
         state = there;
         front = walk_at (walks nodes) at;
@@ -91,7 +91,7 @@ module _ (d : Database) (q : Request) (links : List Link) (listed : AreLinksOf d
             node = slice_index_or nodes at.0 nowhere;
             there = slice_get-get_or nodes at.0 nowhere at.1;
             runs = ap (λ (s : State). s.router) (sym at.2);
-            admitted = a.admitted;
+            usable = a.usable;
             inside = subst (λ (s : State). IsInside d q s.leg l.to) (sym at.2) inside;
             walk = ap (λ v. v ++ (l ∷ [])) (sym at.3);
             state = λ i. record { leg = leg i; router = l.to };

@@ -1,54 +1,43 @@
 -- The bounds of the routers in a leg.
-use Rattle.std.proofs.Common.{◌≡◌, ◌≢◌, ◌⊎◌, inl, inr, ℕ, ◌+◌, ◌*◌, ◌/◌, ◌%◌, ◌^◌, ◌<◌, ◌≤◌, min, true, false, IsTrue, Some, List, drop, length, replicate, set, slice_get, slice_index, slice_index_or, refl, sym, ap, subst, ◌∙◌, arith}
+use Rattle.std.proofs.Common.{◌≡◌, ◌≢◌, ◌⊎◌, inl, inr, ℕ, ◌+◌, ◌*◌, ◌/◌, ◌%◌, ◌^◌, ◌<◌, ◌≤◌, min, true, false, IsTrue, List, drop, length, replicate, set, slice_index, slice_index_or, refl, sym, ap, subst, ◌∙◌, arith}
 use Rattle.std.proofs.lemmas.Bool.{cases_lt, false≢true}
 use Rattle.std.proofs.lemmas.List.{get_or_past, get_or-drop, get_or-replicate, length-replicate, get_or-set_other}
 use Rattle.cspf_db.specs.declared.request.Request.{Request}
-use Rattle.cspf_db.specs.Database.{Database, AreLinksOf}
+use Rattle.cspf_db.specs.Database.{Database}
 use Rattle.cspf_db.specs.Targets.{IsTarget}
-use Rattle.cspf_db.specs.Index.{links_of, links_from_index, router_list}
-use Rattle.cspf_search.specs.declared.arrivals.Arrival.{Arrival}
+use Rattle.cspf_db.specs.Index.{router_list}
 use Rattle.cspf_search.specs.declared.ring.Ring.{Ring}
 use Rattle.cspf_search.specs.declared.roles.Role.{Role}
-use Rattle.cspf_search.specs.Frontier.{AreListed, AreRoles, IsStateIndex, nothing}
-use Rattle.cspf_search.specs.Arrivals.{AreArrivals, Follows, arrival_at, pointer_at}
-use Rattle.cspf_search.specs.Bounds.{AreBounds, Falls, IsLeg, IsLower, IsPassed, IsRing, AreLooked, bound_at, is_done}
-use Rattle.cspf_search.proofs.Arrived.{arrived}
+use Rattle.cspf_search.specs.Frontier.{AreListed, AreRoles, IsEnd, IsStateIndex, nothing}
+use Rattle.cspf_search.specs.Bounds.{ArePassed, AreBounds, Falls, IsLeg, IsRing, AreLooked, bound_at, is_done}
 use Rattle.cspf_search.proofs.Ranks.{same_or_not}
-
-pub falls_on : (a b c : Ring) → Falls a b → Falls b c → Falls a c
-falls_on a b c first second = record {
-  lower = λ i. omega (arith, first.lower i, second.lower i);
-  kept = λ i e. let late = second.kept i e in let early = first.kept i late.0 in (early.0, late.1 ∙ early.1);
-}
-
-pub passed_on : (d : Database) (q : Request) (base : ℕ) (old new : Ring) (a : Arrival) → IsLower old new → IsPassed d q base old a → IsPassed d q base new a
-passed_on d q base old new a low passed = λ l row admitted. omega (arith, low a.from, passed l row admitted)
 
 -- where nothing is done nothing was looked at
 pub none_done : (d : Database) (q : Request) (ring : Ring) → ((w : ℕ) → is_done ring w ≡ false) → IsRing d q ring
 none_done d q ring none u w on l admissible from to = absurd (false≢true (sym (none w) ∙ on))
 
+-- what was looked at stays so where bounds fall, and where the ring is the same but for what waits
+pub fallen_ring : (d : Database) (q : Request) (old new : Ring) → Falls old new → IsRing d q old → IsRing d q new
+fallen_ring d q old new falls ring u w on l admissible from end =
+    let kept = falls.kept w on in
+    omega (arith, ring u w kept.0 l admissible from end, falls.lower u, kept.1)
+
+pub same_ring : (d : Database) (q : Request) (old new : Ring) → new.near ≡ old.near → new.done ≡ old.done → IsRing d q old → IsRing d q new
+same_ring d q old new near marks ring u w on l admissible from end =
+    rw near (ring u w (rw marks at on) l admissible from end)
+
 -- the links that arrive at one router more are all looked at
-module _ (d : Database) (q : Request) (links : AreLinksOf d (links_of d)) (arrivals : List Arrival) (last : List ℕ) (are : AreArrivals d arrivals last) (to base : ℕ)
-    (old new : Ring) (ring : IsRing d q old) (falls : Falls old new)
-    (passed : (n : ℕ) → Follows arrivals (pointer_at last to) n → IsPassed d q base new (arrival_at arrivals n)) (same : bound_at new.near.items to ≡ base) where
+module _ (d : Database) (q : Request) (to base : ℕ) (old new : Ring) (ring : IsRing d q old) (falls : Falls old new)
+    (passed : ArePassed d q base new to) (same : bound_at new.near.items to ≡ base) where
   pub one_router_more : AreLooked d q new.near.items (set new.done.items to true)
   one_router_more u w on l admissible from end =
       elim (same_or_not w to) [
         | inl here ↦
-            let x = arrived d links arrivals last are l admissible.link u w from end in
-            let n = x.2.0 in
-            let met = x.2.1 in
-            let there = subst (λ v. Follows arrivals (pointer_at last v) n) here met.follows in
-            let row : slice_get (links_from_index d (arrival_at arrivals n).from) (arrival_at arrivals n).row ≡ Some l =
-            ap (λ i. slice_get (links_from_index d (arrival_at arrivals n).from) i) met.row ∙ ap (λ i. slice_get (links_from_index d i) x.0) met.from ∙ x.1 in
-            let low = passed n there l row admissible.admitted in
-            let at : bound_at new.near.items (arrival_at arrivals n).from ≡ bound_at new.near.items u = ap (bound_at new.near.items) met.from in
+            let low = passed u l admissible from (subst (IsEnd d l.to) here end) in
             let is : bound_at new.near.items w ≡ bound_at new.near.items to = ap (bound_at new.near.items) here in
-            omega (arith, low, at, is, same)
+            omega (arith, low, is, same)
         | inr ne ↦
-            let kept = falls.kept w (sym (get_or-set_other new.done.items to w true false ne) ∙ on) in
-            omega (arith, ring u w kept.0 l admissible from end, falls.lower u, kept.1)
+            fallen_ring d q old new falls ring u w (sym (get_or-set_other new.done.items to w true false ne) ∙ on) l admissible from end
       ]
 
 -- a leg from its ring

@@ -19,6 +19,6 @@ pub mod Marked
 pub mod Grown
 pub mod Answered
 pub mod Twice
-pub mod Arrived
+pub mod Reversed
 pub mod LegBounds
 pub mod Slices

@@ -8,7 +8,7 @@ use Rattle.std.proofs.lemmas.Option.{get_or_from_slice_get, same_Some}
 use Rattle.cspf_db.specs.declared.link.Link.{Link}
 use Rattle.cspf_db.specs.declared.request.Request.{Request}
 use Rattle.cspf_db.specs.Database.{Database}
-use Rattle.cspf_db.specs.Admissible.{IsAdmitted}
+use Rattle.cspf_db.specs.Admissible.{IsUsable}
 use Rattle.cspf_db.specs.Targets.{IsTarget, IsInside}
 use Rattle.cspf_db.specs.Walks.{cost_of}
 use Rattle.cspf_db.specs.Index.{links_of, links_from_index, router_list}
@@ -124,13 +124,13 @@ module _ (d : Database) (q : Request) (nodes : List Node) (are : AreNodes nodes)
         let left : index_of nodes (state_at d (state - state % 1024 + end)) ≡ None = rw same at x.still_open in
         absurd (cc))
 
-    -- where the link ends the leg doesn't go, or the link isn't admitted
-    pub no_link : (IsAdmitted q l → IsInside d q ((state - state % 1024 + end) / 1024 + 1) (slice_index (router_list d) ((state - state % 1024 + end) % 1024)) → ⊥)
+    -- where the link ends the leg doesn't go, or the link isn't usable
+    pub no_link : (IsUsable d q l → IsInside d q ((state - state % 1024 + end) / 1024 + 1) (slice_index (router_list d) ((state - state % 1024 + end) % 1024)) → ⊥)
         → IsFirst nodes (CrossesUpTo d q nodes at (state % 1024) (row + 1)) a
     no_link never = link_off (λ w t x.
         let same = (link_only d q nodes at state is row l here end ends few w t x).0 in
         let inside : IsInside d q t.leg t.router = rw x.state x.inside in
-        never x.admitted (subst (λ (s : State). IsInside d q s.leg s.router) same inside))
+        never x.usable (subst (λ (s : State). IsInside d q s.leg s.router) same inside))
 
     pub link_late : l.metric < 2 ^ 32 → (from : Node) → from ≡ slice_index_or nodes at nowhere → (metric : ℕ) → metric ≡ l.metric
         → IsSomeAnd a (λ kept. RanksBefore kept (from.cost + metric) (from.links + 1)) → IsFirst nodes (CrossesUpTo d q nodes at (state % 1024) (row + 1)) a
@@ -150,19 +150,19 @@ module _ (d : Database) (q : Request) (nodes : List Node) (are : AreNodes nodes)
               (ap (λ (n : Node). n.links + 1) same ∙ next.numbered.links ∙ ap (λ (w : List Link). length w) (sym walk)) ranks)
         ] before late
 
-    pub link_kept : l.metric < 2 ^ 32 → index_of nodes (state_at d (state - state % 1024 + end)) ≡ None → IsAdmitted q l
+    pub link_kept : l.metric < 2 ^ 32 → index_of nodes (state_at d (state - state % 1024 + end)) ≡ None → IsUsable d q l
         → IsInside d q ((state - state % 1024 + end) / 1024 + 1) (slice_index (router_list d) ((state - state % 1024 + end) % 1024)) → (from : Node)
         → from ≡ slice_index_or nodes at nowhere → (metric : ℕ) → metric ≡ l.metric
         → IsFirst nodes (CrossesUpTo d q nodes at (state % 1024) (row + 1)) (earlier_of nodes a (Some (along at from l metric)))
-    link_kept small left admitted inside from same metric is_metric =
+    link_kept small left usable inside from same metric is_metric =
         let to = link_state d q nodes at state is row l here end ends few in
         let there_inside = subst (λ (s : State). IsInside d q s.leg s.router) (sym to) inside in
-        let passes = link_passes d q nodes at state is row l here end ends few admitted (rw (leg d q nodes at state is) at there_inside) left in
+        let passes = link_passes d q nodes at state is row l here end ends few usable (rw (leg d q nodes at state is) at there_inside) left in
         let node : passes.node ≡ slice_index_or nodes at nowhere =
         same_Some passes.node (slice_index_or nodes at nowhere) (sym passes.there ∙ there d q nodes at state is) in
         let first =
         by_first d q nodes are at is.within (slice_index_or nodes at nowhere) (there d q nodes at state is) l small
-        (passes.runs ∙ ap (λ (n : Node). n.router) node) admitted there_inside (ap (index_of nodes) to ∙ left) in
+        (passes.runs ∙ ap (λ (n : Node). n.router) node) usable there_inside (ap (index_of nodes) to ∙ left) in
         rw (same, is_metric)
         (first_both nodes (CrossesUpTo d q nodes at (state % 1024) row) (CrossesBy d q nodes at l) (CrossesUpTo d q nodes at (state % 1024) (row + 1))
         (link_left d q nodes at state is row l here end ends few) (link_right d q nodes at state is row l here end ends few)

@@ -84,7 +84,7 @@ module _ (nodes : List Node) (n : Node) (before : AreApart nodes) (apart : AreAp
         node = by.2.node;
         there = sym (get_old at h) ∙ by.2.there;
         runs = by.2.runs;
-        admitted = by.2.admitted;
+        usable = by.2.usable;
         inside = by.2.inside;
         walk = by.2.walk ∙ ap (λ v. v ++ (by.0 ∷ [])) (walk_at-old nodes n at h);
         state = by.2.state;
@@ -109,7 +109,7 @@ module _ (nodes : List Node) (n : Node) (before : AreApart nodes) (apart : AreAp
         node = by.2.node;
         there = get_old at h ∙ by.2.there;
         runs = by.2.runs;
-        admitted = by.2.admitted;
+        usable = by.2.usable;
         inside = by.2.inside;
         walk = by.2.walk ∙ ap (λ v. v ++ (by.0 ∷ [])) (sym (walk_at-old nodes n at h));
         state = by.2.state;

@@ -6,7 +6,7 @@ use Rattle.std.proofs.lemmas.Option.{slice_get_past}
 use Rattle.cspf_db.specs.declared.link.Link.{Link}
 use Rattle.cspf_db.specs.declared.request.Request.{Request}
 use Rattle.cspf_db.specs.Database.{Database}
-use Rattle.cspf_db.specs.Admissible.{IsAdmitted}
+use Rattle.cspf_db.specs.Admissible.{IsUsable}
 use Rattle.cspf_db.specs.Targets.{IsTarget, IsInside}
 use Rattle.cspf_db.specs.Index.{links_of, links_from_index, router_list}
 use Rattle.cspf_search.specs.declared.arena.Node.{Node}
@@ -181,7 +181,7 @@ module _ (source : Source) (of : IsSource source) (labels : List Label) (keys : 
         subst (λ (s : State). IsTrue role.inside ↔ IsInside d q s.leg s.router) (sym same) told.inside
 
     -- what may not be used changes nothing
-    pub link_off : (IsAdmitted q l → IsInside d q (state / 1024 + 1) l.to → ⊥) → AreLabels d q nodes (CrossesUpTo d q nodes at (state % 1024) (row + 1)) goal labels keys
+    pub link_off : (IsUsable d q l → IsInside d q (state / 1024 + 1) l.to → ⊥) → AreLabels d q nodes (CrossesUpTo d q nodes at (state % 1024) (row + 1)) goal labels keys
     link_off never =
         labels_same d q nodes (CrossesUpTo d q nodes at (state % 1024) row) (CrossesUpTo d q nodes at (state % 1024) (row + 1))
         (link_left d q nodes at state is row l here end ends listed.few)
@@ -223,13 +223,13 @@ module _ (source : Source) (of : IsSource source) (labels : List Label) (keys : 
           label_tied label (Some l) parent place there_is along link_rank (CrossesUpTo d q nodes at (state % 1024) row) before (state - state % 1024 + end)
           (link_index d q nodes at state is row l here end ends listed.few) (omega (arith, open_leg, before.whole)) tie
 
-      pub link_taken : IsAdmitted q l → IsInside d q (state / 1024 + 1) l.to → label.rank ≤ (label_at labels (state - state % 1024 + end)).rank
+      pub link_taken : IsUsable d q l → IsInside d q (state / 1024 + 1) l.to → label.rank ≤ (label_at labels (state - state % 1024 + end)).rank
           → (key : ℕ) (new : List Label) (new_keys : List Key) → key ≡ label.rank + lift goal (state - state % 1024 + end)
           → StaysAt d nodes (state - state % 1024 + end) label labels new keys new_keys ⊎ GoesTo d nodes (state - state % 1024 + end) label key labels new keys new_keys
           → AreLabels d q nodes (CrossesUpTo d q nodes at (state % 1024) (row + 1)) goal new new_keys
-      link_taken admitted inside le key new new_keys is_key choice =
+      link_taken usable inside le key new new_keys is_key choice =
           label_taken label (Some l) parent place there_is along link_rank (CrossesUpTo d q nodes at (state % 1024) row) (CrossesBy d q nodes at l) (CrossesUpTo d q nodes at (state % 1024) (row + 1))
           (link_left d q nodes at state is row l here end ends listed.few) (link_right d q nodes at state is row l here end ends listed.few)
           (link_cases d q nodes at state is row l here end ends listed.few) before (state - state % 1024 + end) (link_index d q nodes at state is row l here end ends listed.few)
           (omega (arith, open_leg, before.whole)) (walk_at (walks nodes) at ++ (l ∷ [])) (link_only d q nodes at state is row l here end ends listed.few)
-          (link_state d q nodes at state is row l here end ends listed.few) refl le (link_passes d q nodes at state is row l here end ends listed.few admitted inside) key new new_keys is_key choice
+          (link_state d q nodes at state is row l here end ends listed.few) refl le (link_passes d q nodes at state is row l here end ends listed.few usable inside) key new new_keys is_key choice

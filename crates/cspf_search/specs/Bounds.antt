@@ -6,8 +6,7 @@ use Rattle.cspf_db.specs.declared.request.Request.{Request}
 use Rattle.cspf_db.specs.Database.{Database}
 use Rattle.cspf_db.specs.Admissible.{IsAdmissible, IsAdmitted}
 use Rattle.cspf_db.specs.Targets.{IsTarget}
-use Rattle.cspf_db.specs.Index.{router_list, links_from_index}
-use Rattle.cspf_search.specs.declared.arrivals.Arrival.{Arrival}
+use Rattle.cspf_db.specs.Index.{router_list, links_of}
 use Rattle.cspf_search.specs.declared.ring.Ring.{Ring}
 use Rattle.cspf_search.specs.Frontier.{IsEnd, IsStateIndex}
 
@@ -60,8 +59,15 @@ pub record Falls (old new : Ring) : Type 0 where
   pub kept : (i : ℕ) → is_done new i ≡ true
       → (is_done old i ≡ true) × (bound_at new.near.items i ≡ bound_at old.near.items i)
 
--- the bound of the router that an admitted link arrives from is no more than by that link
-abbrev pub IsPassed : Database → Request → ℕ → Ring → Arrival → Type 0
-IsPassed d q base ring a =
-    (l : Link) → slice_get (links_from_index d a.from) a.row ≡ Some l → IsAdmitted q l
-    → bound_at ring.near.items a.from ≤ base + l.metric
+-- where the link at an index is admitted, the bound of the router that it arrives from is no more than
+-- by that link
+abbrev pub IsPassed : Database → Request → ℕ → Ring → ℕ → ℕ → Type 0
+IsPassed d q base ring from at =
+    (l : Link) → slice_get (links_of d) at ≡ Some l → IsAdmitted q l
+    → bound_at ring.near.items from ≤ base + l.metric
+
+-- so it is of each admissible link that arrives at a router
+abbrev pub ArePassed : Database → Request → ℕ → Ring → ℕ → Type 0
+ArePassed d q base ring to =
+    (u : ℕ) (l : Link) → IsAdmissible d q l → IsEnd d l.from u → IsEnd d l.to to
+    → bound_at ring.near.items u ≤ base + l.metric

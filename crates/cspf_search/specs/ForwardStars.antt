@@ -1,9 +1,10 @@
 -- Private words of the search by rounds: where the settled nodes stand, and which states are settled.
 use Rattle.std.specs.Prelude.{◌≡◌, ℕ, ◌+◌, ◌*◌, ◌%◌, ◌<◌, Bool, is_some, List, All, length, map, slice_index, slice_index_or}
 use Rattle.cspf_db.specs.declared.limits.TheConstants.{MOST_ROUTERS}
+use Rattle.cspf_db.specs.declared.link.Link.{Link}
 use Rattle.cspf_db.specs.declared.request.Request.{Request}
 use Rattle.cspf_db.specs.Database.{Database}
-use Rattle.cspf_db.specs.Index.{router_list, links_from_index}
+use Rattle.cspf_db.specs.Index.{router_list, links_from_index, IsReverseAt}
 use Rattle.cspf_search.specs.declared.arena.Node.{Node}
 use Rattle.cspf_search.specs.declared.forward_star.ForwardStar.{ForwardStar}
 use Rattle.cspf_search.specs.States.{State}
@@ -11,6 +12,7 @@ use Rattle.cspf_search.specs.Arena.{state_of, index_of}
 use Rattle.cspf_search.specs.Frontier.{state_at, IsStateIndex, nowhere}
 
 -- the index of a state, and the links from its router with the index of the router at the end of each
+-- and that of its reverse
 pub record IsForwardStar (d : Database) (s : State) (star : ForwardStar) : Type 0 where
   pub state : s ≡ state_at d star.state
   pub place : star.state % MOST_ROUTERS < length (router_list d)
@@ -18,6 +20,9 @@ pub record IsForwardStar (d : Database) (s : State) (star : ForwardStar) : Type 
   pub within : All (λ end. end < length (router_list d)) star.ends.now
   pub each : map (λ end. slice_index (router_list d) end) star.ends.now
       ≡ map (λ l. l.to) (links_from_index d (star.state % MOST_ROUTERS))
+  pub many : length star.reverses.now ≡ length (links_from_index d (star.state % MOST_ROUTERS))
+  pub reverses : (row : ℕ) (e : Link) → row < length (links_from_index d (star.state % MOST_ROUTERS))
+      → IsReverseAt d (slice_index_or (links_from_index d (star.state % MOST_ROUTERS)) row e) (slice_index_or star.reverses.now row 0)
 
 -- so it is for each node
 pub record AreForwardStars (d : Database) (nodes : List Node) (stars : List ForwardStar) : Type 0 where

@@ -10,6 +10,4 @@ pub mod ForwardStars
 pub mod Query
 pub mod Searched
 pub mod RoundSteps
-pub mod Arrivals
-pub mod Backward
 pub mod Source

@@ -1,7 +1,7 @@
 -- Private words of the search from a heap: the node that it goes on from, and the links from there.
 use Rattle.std.specs.Prelude.{◌≡◌, ℕ, ◌≤◌, Some, List, slice_get, slice_index_or}
 use Rattle.cspf_db.specs.Database.{Database}
-use Rattle.cspf_db.specs.Index.{links_from_index}
+use Rattle.cspf_db.specs.Index.{links_from_index, IsReverseAt}
 use Rattle.cspf_search.specs.declared.edge.Edge.{Edge}
 use Rattle.cspf_search.specs.declared.frontier.Source.{Source}
 use Rattle.cspf_search.specs.declared.labels.Label.{Label}
@@ -22,6 +22,7 @@ pub record IsSource (source : Source) : Type 0 where
 pub record IsEdge (d : Database) (place : ℕ) (edge : Edge) : Type 0 where
   pub row : slice_get (links_from_index d place) edge.row ≡ Some edge.link.now
   pub end : IsEnd d edge.link.now.to edge.end
+  pub reverse : IsReverseAt d edge.link.now edge.reverse
 
 -- labels for what leads on from the nodes before a source
 abbrev pub AreBefore : Source → List Label → List Key → Type 0

@@ -1,15 +1,14 @@
-ghost use Rattle.std.specs.Prelude.{◌≡◌, ◌+◌, ◌*◌, ◌<◌, ◌≤◌, ◌⊎◌, ℕ, min, false, IsTrue, IfOk, IfSome, OnOk, length, slice_index_or};
+ghost use Rattle.std.specs.Prelude.{◌≡◌, ◌≢◌, ◌+◌, ◌*◌, ◌<◌, ◌≤◌, ◌⊎◌, ℕ, min, false, IsTrue, IfOk, IfSome, OnOk, length, slice_index_or};
 ghost use Rattle.cspf_search.specs.declared.roles.Role.{Role as Stood};
 ghost use Rattle.cspf_search.specs.Query.{IsQuery};
-ghost use Rattle.cspf_search.specs.Backward.{IsBackward};
-ghost use Rattle.cspf_search.specs.Arrivals.{AreArrivals, Follows, IsRow, arrival_at, pointer_at};
-ghost use Rattle.cspf_search.specs.Bounds.{AreBounds, Falls, IsLeg, IsLower, IsPassed, IsRing, bound_at, is_done};
+ghost use Rattle.cspf_search.specs.Bounds.{ArePassed, AreBounds, Falls, IsLeg, IsLower, IsPassed, IsRing, bound_at, is_done};
+ghost use Rattle.cspf_db.specs.Index.{links_of};
+ghost use Rattle.cspf_db.specs.declared.limits.TheConstants.{NO_LINK};
 
-use crate::arrivals::{Arrival, list};
 use crate::query::Query;
 use crate::ring::Ring;
 use crate::roles::Role;
-use cspf_db::MOST_ROUTERS;
+use cspf_db::{MOST_ROUTERS, NO_LINK};
 use cspf_graph::accepts;
 use std::alloc::{AllocError, Global};
 use std::cmp::Reverse;
@@ -20,59 +19,61 @@ const RING: usize = 32;
 /// How many it settles in a leg to a hop at most, since more is searched before that ends.
 const WIDE: usize = 64;
 
-/// What a search against the links goes by: what is asked, and the links by the routers that they run
-/// to.
-#[derive(Clone, Copy)]
-struct Backward<'a> {
-    query: Query<'a>,
-    /// The links, those that arrive at one router in a row.
-    arrivals: &'a [Arrival],
-    /// For each router the index of the last of those that arrive there, and 1 more.
-    last: &'a [u32],
-}
-
-/// Lowers the bound of the router that a link arrives from, if the request admits the link.
-fn pass(query: Query<'_>, arrival: Arrival, base: u32, ring: &mut Ring) -> Result<(), AllocError>
+/// Lowers the bound of the router at an index, which the link at another index arrives from, if there
+/// is one and the request admits it.
+fn pass(
+    query: Query<'_>,
+    from: u16,
+    reverse: u16,
+    base: u32,
+    ring: &mut Ring,
+) -> Result<(), AllocError>
     requires query { IsQuery query }
-    requires row { IsRow query.table.now arrival }
+    requires from { from < MOST_ROUTERS }
+    requires within { reverse ≢ NO_LINK → reverse < length (links_of query.table.now) }
     ensures falls { OnOk result (Falls ring.old ring.new) }
-    ensures passed { OnOk result (IsPassed query.entry.table.now query.entry.request.now base ring.new arrival) }
+    ensures passed { OnOk result
+        (IsPassed query.entry.table.now query.entry.request.now base ring.new from reverse) }
 {
-    let link = &query.table.out_at(usize::from(arrival.from))[usize::from(arrival.row)];
+    if reverse == NO_LINK {
+        return Ok(());
+    }
+    let link = &query.table.links()[usize::from(reverse)];
     if !accepts(link, query.request) {
         return Ok(());
     }
-    ring.lower(arrival.from, base.saturating_add(link.metric))
+    ring.lower(from, base.saturating_add(link.metric))
 }
 
 /// Lowers the bounds of the routers that links arrive from at the router at an index, which has
-/// this bound.
-fn walk(search: Backward<'_>, to: usize, base: u32, ring: &mut Ring) -> Result<(), AllocError>
-    requires search { IsBackward search }
-    requires within { to < MOST_ROUTERS }
+/// this bound. A link that may be used is the reverse of one from there.
+fn walk(query: Query<'_>, to: usize, base: u32, ring: &mut Ring) -> Result<(), AllocError>
+    requires query { IsQuery query }
     ensures falls { OnOk result (Falls ring.old ring.new) }
-    ensures passed { OnOk result ((n : ℕ) → Follows search.entry.arrivals.now (pointer_at search.entry.last.now to) n
-        → IsPassed search.entry.query.table.now search.entry.query.request.now base ring.new (arrival_at search.entry.arrivals.now n)) }
+    ensures passed { OnOk result
+        (ArePassed query.entry.table.now query.entry.request.now base ring.new to) }
 {
-    let mut at = search.last[to] as usize;
-    while at > 0 {
-        let arrival = search.arrivals[at - 1];
-        pass(search.query, arrival, base, ring)?;
-        at = arrival.before as usize;
+    if to >= query.table.routers().len() {
+        return Ok(());
+    }
+    let ends = query.table.ends_at(to);
+    let reverses = query.table.reverses_at(to);
+    for row in 0..ends.len() {
+        pass(query, ends[row], reverses[row], base, ring)?;
     }
     Ok(())
 }
 
 /// Looks at all links that arrive at the router at an index.
-fn take(search: Backward<'_>, to: usize, ring: &mut Ring) -> Result<(), AllocError>
-    requires search { IsBackward search }
+fn take(query: Query<'_>, to: usize, ring: &mut Ring) -> Result<(), AllocError>
+    requires query { IsQuery query }
     requires within { to < MOST_ROUTERS }
-    requires ring { IsRing search.query.table.now search.query.request.now ring.old }
-    ensures ring { OnOk result (IsRing search.entry.query.table.now search.entry.query.request.now ring.new) }
+    requires ring { IsRing query.table.now query.request.now ring.old }
+    ensures ring { OnOk result (IsRing query.entry.table.now query.entry.request.now ring.new) }
     ensures lower { OnOk result (IsLower ring.old ring.new) }
 {
     let base = ring.near[to];
-    walk(search, to, base, ring)?;
+    walk(query, to, base, ring)?;
     if ring.near[to] == base {
         ring.done[to] = true;
     }
@@ -80,10 +81,10 @@ fn take(search: Backward<'_>, to: usize, ring: &mut Ring) -> Result<(), AllocErr
 }
 
 /// Settles the routers that wait, nearest first, up to a count, whose bounds are less than this.
-fn grow(search: Backward<'_>, most: usize, top: u32, ring: &mut Ring) -> Result<(), AllocError>
-    requires search { IsBackward search }
-    requires ring { IsRing search.query.table.now search.query.request.now ring.old }
-    ensures ring { OnOk result (IsRing search.entry.query.table.now search.entry.query.request.now ring.new) }
+fn grow(query: Query<'_>, most: usize, top: u32, ring: &mut Ring) -> Result<(), AllocError>
+    requires query { IsQuery query }
+    requires ring { IsRing query.table.now query.request.now ring.old }
+    ensures ring { OnOk result (IsRing query.entry.table.now query.entry.request.now ring.new) }
     ensures lower { OnOk result (IsLower ring.old ring.new) }
 {
     for _taken in 0..most {
@@ -93,7 +94,7 @@ fn grow(search: Backward<'_>, most: usize, top: u32, ring: &mut Ring) -> Result<
         if ring.near[to] >= top {
             return Ok(());
         }
-        take(search, to, ring)?;
+        take(query, to, ring)?;
     }
     Ok(())
 }
@@ -134,23 +135,23 @@ fn begin(roles: &[Role], first: usize, ahead: &[u32], ring: &mut Ring) -> Result
 /// Finds the bound of each router from a leg on, as far as an edge, where it is known of the next
 /// leg.
 fn leg_edge(
-    search: Backward<'_>,
+    query: Query<'_>,
     leg_index: usize,
     ahead: &[u32],
     ring: &mut Ring,
 ) -> Result<u32, AllocError>
-    requires search { IsBackward search }
-    requires leg { leg_index ≤ length search.query.request.now.hops }
+    requires query { IsQuery query }
+    requires leg { leg_index ≤ length query.request.now.hops }
     ensures { IfOk result (λ edge.
-        IsLeg search.entry.query.table.now search.entry.query.request.now leg_index ring.new.near.items edge ahead.now) }
+        IsLeg query.entry.table.now query.entry.request.now leg_index ring.new.near.items edge ahead.now) }
 {
-    let top = begin(search.query.roles, leg_index * MOST_ROUTERS, ahead, ring)?;
-    let most = if leg_index < search.query.request.hops.len() {
+    let top = begin(query.roles, leg_index * MOST_ROUTERS, ahead, ring)?;
+    let most = if leg_index < query.request.hops.len() {
         WIDE
     } else {
         RING
     };
-    grow(search, most, top, ring)?;
+    grow(query, most, top, ring)?;
     Ok(ring.edge())
 }
 
@@ -170,17 +171,17 @@ fn set_leg(bounds: &mut [u32], first: usize, near: &[u32], edge: u32)
 }
 
 /// Sets the bound of each router in each leg, from the last leg back to the first.
-fn set_legs(search: Backward<'_>, ring: &mut Ring, bounds: &mut [u32]) -> Result<(), AllocError>
-    requires search { IsBackward search }
-    requires bounds { AreBounds search.query.table.now search.query.request.now bounds.old }
+fn set_legs(query: Query<'_>, ring: &mut Ring, bounds: &mut [u32]) -> Result<(), AllocError>
+    requires query { IsQuery query }
+    requires bounds { AreBounds query.table.now query.request.now bounds.old }
     requires zeros { (i : ℕ) → bound_at bounds.old i ≡ 0 }
-    ensures { OnOk result (AreBounds search.entry.query.table.now search.entry.query.request.now bounds.new) }
+    ensures { OnOk result (AreBounds query.entry.table.now query.entry.request.now bounds.new) }
 {
-    let mut leg_index = search.query.request.hops.len() + 1;
+    let mut leg_index = query.request.hops.len() + 1;
     while leg_index > 0 {
         leg_index -= 1;
         let ahead = &bounds[leg_index * MOST_ROUTERS + MOST_ROUTERS..];
-        let edge = leg_edge(search, leg_index, ahead, ring)?;
+        let edge = leg_edge(query, leg_index, ahead, ring)?;
         set_leg(bounds, leg_index * MOST_ROUTERS, &ring.near, edge);
     }
     Ok(())
@@ -192,17 +193,8 @@ pub(crate) fn bounds(alloc: Global, query: Query<'_>) -> Result<Vec<u32>, AllocE
     requires query { IsQuery query }
     ensures { IfOk result (λ bounds. AreBounds query.entry.table.now query.entry.request.now bounds.items) }
 {
-    let links = query.table.links();
-    let mut arrivals = Vec::with_capacity(alloc, links.len())?;
-    let mut last = Vec::from_elem(alloc, 0u32, MOST_ROUTERS)?;
-    list(query.table, &mut arrivals, &mut last)?;
     let mut ring = Ring::new(alloc)?;
     let mut bounds = Vec::from_elem(alloc, 0u32, query.legs * MOST_ROUTERS)?;
-    let search = Backward {
-        query,
-        arrivals: &arrivals,
-        last: &last,
-    };
-    set_legs(search, &mut ring, &mut bounds)?;
+    set_legs(query, &mut ring, &mut bounds)?;
     Ok(bounds)
 }

@@ -13,5 +13,7 @@ pub(crate) struct Edge<'a> {
     pub(crate) metric: u32,
     /// Where the router that it runs to is in the list of routers.
     pub(crate) end: usize,
+    /// The index of its reverse among the table's links, or `NO_LINK`.
+    pub(crate) reverse: u16,
     ghost same: { metric ≡ link.now.metric },
 }

@@ -17,6 +17,8 @@ pub(crate) struct ForwardStar<'a> {
     pub(crate) links: &'a [Link],
     /// Beside them where the router that each runs to is in the list of routers.
     pub(crate) ends: &'a [u16],
+    /// Beside them where the reverse of each is among the table's links, or `NO_LINK`.
+    pub(crate) reverses: &'a [u16],
 }
 
 /// The forward star of a node.
@@ -34,5 +36,6 @@ pub(crate) fn star_of<'a>(table: &'a Table, node: &Node) -> ForwardStar<'a>
         state: (node.leg - 1) * MOST_ROUTERS + place,
         links: table.out_at(place),
         ends: table.ends_at(place),
+        reverses: table.reverses_at(place),
     }
 }

@@ -14,7 +14,7 @@ use crate::goal::{Goal, lift};
 use crate::labels::{Label, Waiting, node_of, put};
 use crate::limits::COST_WEIGHT;
 use crate::query::Query;
-use cspf_db::{MOST_ROUTERS, Table};
+use cspf_db::{MOST_ROUTERS, NO_LINK, Table};
 use cspf_graph::accepts;
 use std::alloc::{AllocError, Global};
 use std::collections::BinaryHeap;
@@ -140,7 +140,7 @@ fn offer_link(
     if !role.inside {
         return Ok(());
     }
-    if !accepts(edge.link, query.request) {
+    if edge.reverse == NO_LINK || !accepts(edge.link, query.request) {
         return Ok(());
     }
     let label = Label {
@@ -187,14 +187,17 @@ pub(crate) fn expand(
     offer_turn(source, labels, heap)?;
     let links = query.table.out_at(state % MOST_ROUTERS);
     let ends = query.table.ends_at(state % MOST_ROUTERS);
+    let reverses = query.table.reverses_at(state % MOST_ROUTERS);
     for row in 0..links.len() {
         let link = &links[row];
         let end = ends[row];
+        let reverse = reverses[row];
         let edge = Edge {
             row,
             link,
             metric: link.metric,
             end: usize::from(end),
+            reverse,
         };
         offer_link(source, edge, labels, heap)?;
     }

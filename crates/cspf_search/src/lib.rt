@@ -3,7 +3,6 @@
 #![tactic(auto)]
 
 mod arena;
-mod arrivals;
 mod bounds;
 mod edge;
 mod forward_star;

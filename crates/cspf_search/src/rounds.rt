@@ -7,11 +7,13 @@ ghost use Rattle.cspf_search.specs.Rounds.{CrossesBelow, IsFirst, RanksBefore, e
 ghost use Rattle.cspf_search.specs.Frontier.{AreListed, AreRoles, CrossesUpTo, IsEnd, IsNodeAt, nowhere, state_at};
 ghost use Rattle.cspf_search.specs.Query.{CrossesBefore, CrossesToRow};
 ghost use Rattle.cspf_search.specs.RoundSteps.{IsLook, IsRound};
+ghost use Rattle.cspf_search.specs.Source.{IsEdge};
 
 use crate::arena::{Node, locals};
+use crate::edge::Edge;
 use crate::forward_star::ForwardStar;
 use crate::query::Query;
-use cspf_db::{Link, MOST_ROUTERS, Request, Table};
+use cspf_db::{Link, MOST_ROUTERS, NO_LINK, Request, Table};
 use cspf_graph::accepts;
 use std::cmp::Ordering;
 
@@ -114,36 +116,35 @@ fn look_at_turn(look: Look<'_>, best: &mut Option<Node>)
 
 /// Keeps what a link leads to from the node, if the request may use the link and stand where it
 /// ends, and it comes before the best. Nothing is settled there.
-fn look_at_link(look: Look<'_>, row: usize, link: Link, end: usize, best: &mut Option<Node>)
+fn look_at_link(look: Look<'_>, edge: Edge<'_>, best: &mut Option<Node>)
     requires look { IsLook look }
-    requires row { slice_get (links_from_index look.query.table.now (look.star.state % MOST_ROUTERS)) row ≡ Some link }
-    requires end { IsEnd look.query.table.now link.to end }
+    requires edge { IsEdge look.query.table.now (look.star.state % MOST_ROUTERS) edge }
     requires left { index_of look.nodes.now
-        (state_at look.query.table.now (look.star.state - look.star.state % MOST_ROUTERS + end)) ≡ None }
+        (state_at look.query.table.now (look.star.state - look.star.state % MOST_ROUTERS + edge.end)) ≡ None }
     requires before { IsFirst look.nodes.now
-        (CrossesToRow look.query look.nodes.now look.at look.star.state row) best.old }
+        (CrossesToRow look.query look.nodes.now look.at look.star.state edge.row) best.old }
     ensures after { IsFirst look.entry.nodes.now
-        (CrossesToRow look.entry.query look.entry.nodes.now look.entry.at look.entry.star.state (row + 1)) best.new }
+        (CrossesToRow look.entry.query look.entry.nodes.now look.entry.at look.entry.star.state (edge.entry.row + 1)) best.new }
 {
     let (nodes, state) = (look.nodes, look.star.state);
     let from = nodes[look.at];
-    let cost = from.cost + u64::from(link.metric);
+    let cost = from.cost + u64::from(edge.link.metric);
     let count = from.links + 1;
     if is_late(best, cost, count) {
         return;
     }
-    let role = look.query.roles[state - state % MOST_ROUTERS + end];
+    let role = look.query.roles[state - state % MOST_ROUTERS + edge.end];
     if !role.inside {
         return;
     }
-    if !accepts(&link, look.query.request) {
+    if edge.reverse == NO_LINK || !accepts(edge.link, look.query.request) {
         return;
     }
     let node = Node {
         parent: look.at,
-        by: Some(link),
+        by: Some(*edge.link),
         leg: from.leg,
-        router: link.to,
+        router: edge.link.to,
         cost,
         links: count,
     };
@@ -165,8 +166,16 @@ fn look_at_row(look: Look<'_>, row: usize, best: &mut Option<Node>)
     if marks[star.state - star.state % MOST_ROUTERS + end] {
         return;
     }
-    let link = star.links[row];
-    look_at_link(look, row, link, end, best);
+    let link = &star.links[row];
+    let reverse = star.reverses[row];
+    let edge = Edge {
+        row,
+        link,
+        metric: link.metric,
+        end,
+        reverse,
+    };
+    look_at_link(look, edge, best);
 }
 
 /// Keeps the first node that the turn or a link leads to from the node, if it comes before the best.

@@ -25,7 +25,8 @@ fn link(row: &Row) -> Result<Link, Fail> {
     Ok(Link::new(from, local, to, remote, metric, Mask::new(0x6), free)?)
 }
 
-fn table(alloc: Global, rows: &[Row]) -> Result<Table, Fail> {
+// A table of these links alone.
+fn one_way(alloc: Global, rows: &[Row]) -> Result<Table, Fail> {
     let mut changes = Vec::new(alloc);
     for row in rows {
         changes.push(Change::Put(link(row)?))?;
@@ -33,6 +34,35 @@ fn table(alloc: Global, rows: &[Row]) -> Result<Table, Fail> {
     let mut table = Table::new(alloc)?;
     table.absorb(&Batch { number: 1, changes });
     Ok(table)
+}
+
+// The reverse of a link, with no unreserved bandwidth.
+fn reverse(row: &Row) -> Row {
+    let (from, local, to, remote, metric, _free) = *row;
+    (to, remote, from, local, metric, 0)
+}
+
+// Whether one of these links runs the same way over the same interfaces as another.
+fn runs(rows: &[Row], other: &Row) -> bool {
+    let mut found = false;
+    for row in rows {
+        let ends = row.0 == other.0 && row.2 == other.2;
+        found = found || (ends && row.1 == other.1 && row.3 == other.3);
+    }
+    found
+}
+
+// A table of these links, with the reverse of each where it is none of them.
+fn table(alloc: Global, rows: &[Row]) -> Result<Table, Fail> {
+    let mut both = Vec::new(alloc);
+    for row in rows {
+        both.push(*row)?;
+        let back = reverse(row);
+        if !runs(rows, &back) {
+            both.push(back)?;
+        }
+    }
+    one_way(alloc, &both)
 }
 
 // A request for 1,000 bytes per second with a setup priority, the three affinities and hops.
@@ -179,7 +209,7 @@ fn requests_without_hops(rt: HostRuntime) -> Result<(), Fail> {
             "{setup} {masks:?}"
         );
     }
-    // links are one-way
+    // nothing is unreserved on the link back
     let back = answered(alloc, &table, &request((TWO, ONE), 0, any, b"")?)?;
     assert!(rt; matches!(back, Outcome::NoRoute));
     // an unknown head-end comes before an unknown tail-end
@@ -187,6 +217,58 @@ fn requests_without_hops(rt: HostRuntime) -> Result<(), Fail> {
     assert!(rt; matches!(from, Outcome::UnknownFrom));
     let to = answered(alloc, &table, &request((ONE, FOUR), 0, any, b"")?)?;
     assert!(rt; matches!(to, Outcome::UnknownTo));
+    Ok(())
+}
+
+// Whether a link from ONE to TWO, beside another link, is a route.
+fn is_usable(alloc: Global, other: Row) -> Result<bool, Fail> {
+    let rows = [(ONE, 0x0a00_0c01, TWO, 0x0a00_0c02, 10, 1000), other];
+    let outcome = by_hops(alloc, &one_way(alloc, &rows)?, TWO, b"")?;
+    Ok(is_route(&outcome, 10, false, &[0x0a00_0c02]))
+}
+
+#[test]
+fn links_that_run_both_ways(rt: HostRuntime) -> Result<(), Fail> {
+    let alloc = rt.alloc();
+    let alone = one_way(alloc, &[(ONE, 0x0a00_0c01, TWO, 0x0a00_0c02, 10, 1000)])?;
+    assert!(rt; matches!(by_hops(alloc, &alone, TWO, b"")?, Outcome::NoRoute));
+    // links back by another interface at one end or at both, and one to another router
+    let others = [
+        (TWO, 0x0a00_0d02, ONE, 0x0a00_0d01, 10, 1000),
+        (TWO, 0x0a00_0d02, ONE, 0x0a00_0c01, 10, 1000),
+        (TWO, 0x0a00_0c02, ONE, 0x0a00_0d01, 10, 1000),
+        (TWO, 0x0a00_0c02, THREE, 0x0a00_0c01, 10, 1000),
+    ];
+    for other in others {
+        assert!(rt; !is_usable(alloc, other)?, "{other:?}");
+    }
+    // whatever the reverse's metric and bandwidth
+    assert!(rt; is_usable(alloc, (TWO, 0x0a00_0c02, ONE, 0x0a00_0c01, 10, 1000))?);
+    assert!(rt; is_usable(alloc, (TWO, 0x0a00_0c02, ONE, 0x0a00_0c01, 7, 0))?);
+    Ok(())
+}
+
+// A link from ONE to TWO, and its reverse of other groups.
+fn other_groups(alloc: Global) -> Result<Table, Fail> {
+    let row = (ONE, 0x0a00_0c01, TWO, 0x0a00_0c02, 10, 1000);
+    let mut back = link(&reverse(&row))?;
+    back.group = Mask::new(0x8);
+    let mut changes = Vec::new(alloc);
+    changes.push(Change::Put(link(&row)?))?;
+    changes.push(Change::Put(back))?;
+    let mut table = Table::new(alloc)?;
+    table.absorb(&Batch { number: 1, changes });
+    Ok(table)
+}
+
+#[test]
+fn reverses_of_other_groups(rt: HostRuntime) -> Result<(), Fail> {
+    let alloc = rt.alloc();
+    let table = other_groups(alloc)?;
+    for masks in [(0x8, 0, 0), (0, 0x2, 0), (0, 0, 0x6)] {
+        let outcome = answered(alloc, &table, &request((ONE, TWO), 0, masks, b"")?)?;
+        assert!(rt; is_route(&outcome, 10, false, &[0x0a00_0c02]), "{masks:?}");
+    }
     Ok(())
 }
 
@@ -251,19 +333,27 @@ fn draw(seed: &mut u32) -> u32 {
     x
 }
 
-// A network of 12 routers with 40 links of metrics 0 to 3, some of which have no unreserved
-// bandwidth.
+// A link over two interfaces, of a metric from 0 to 3, that has unreserved bandwidth or not.
+fn drawn_link(seed: &mut u32, from: (u32, u32), to: (u32, u32)) -> Row {
+    let metric = draw(seed) % 4;
+    let free = if draw(seed) % 8 == 0 { 0 } else { 1000 };
+    (router(from.0), from.1, router(to.0), to.1, metric, free)
+}
+
+// A network of 12 routers with 24 links and the reverses of all but some of them.
 fn drawn(alloc: Global, seed: &mut u32) -> Result<Table, Fail> {
     let mut rows = Vec::new(alloc);
-    for local in 0..40 {
+    for number in 0..24 {
         let from = draw(seed) % 12;
         let to = (from + 1 + draw(seed) % 11) % 12;
-        let local = (draw(seed) % 4) * 256 + local;
-        let metric = draw(seed) % 4;
-        let free = if draw(seed) % 8 == 0 { 0 } else { 1000 };
-        rows.push((router(from), local, router(to), 1, metric, free))?;
+        let local = (draw(seed) % 4) * 256 + number;
+        let remote = (draw(seed) % 4) * 256 + 128 + number;
+        rows.push(drawn_link(seed, (from, local), (to, remote)))?;
+        if draw(seed) % 10 > 0 {
+            rows.push(drawn_link(seed, (to, remote), (from, local)))?;
+        }
     }
-    table(alloc, &rows)
+    one_way(alloc, &rows)
 }
 
 // Routers 0 to 3 have addresses in 10.0.0.0/30, routers 4 to 11 in 10.0.0.0/28.

@@ -4,8 +4,8 @@ use Rattle.cspf_search.proofs.bounds.set_legs.Given as goal
 
 abbrev pub invariant-loop-leg_index : goal.invariant-loop-leg_index
 invariant-loop-leg_index l = record {
-  most : l.leg_index ≤ length l.search.query.request.now.hops + 1;
-  bounds : AreBounds l.search.query.table.now l.search.query.request.now l.bounds;
+  most : l.leg_index ≤ length l.query.request.now.hops + 1;
+  bounds : AreBounds l.query.table.now l.query.request.now l.bounds;
   zeros : (i : ℕ) → i < l.leg_index * 1024 → bound_at l.bounds i ≡ 0;
 }
 

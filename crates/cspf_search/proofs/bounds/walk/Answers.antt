@@ -1,36 +1,26 @@
-use Rattle.std.proofs.Common.{◌≡◌, ◌+◌, ◌-◌, inl, inr, subst, sym, arith}
-use Rattle.cspf_search.specs.Arrivals.{arrival_at}
+use Rattle.std.proofs.Common.{◌<◌, length, slice_index, subst, arith}
+use Rattle.cspf_db.specs.Index.{links_from_index}
 use Rattle.cspf_search.specs.Bounds.{IsPassed}
-use Rattle.cspf_search.proofs.Arrived.{follows_none, follows_step}
-use Rattle.cspf_search.proofs.LegBounds.{falls_on, passed_on}
+use Rattle.cspf_search.proofs.Looked.{some_at}
+use Rattle.cspf_search.proofs.Reversed.{as_many, found_back}
 use Rattle.cspf_search.proofs.bounds.walk.Goals as goal
 
-pub loop-at-preserved : goal.loop-at-preserved
-loop-at-preserved c =
-    let d = c.args.search.query.table.now in
-    let q = c.args.search.query.request.now in
-    let arrivals = c.args.search.arrivals.now in
-    let before = c.loop-at.invariant in
-    let falls = c.in_ok-pass.ensures.falls in
-    let k = c.loop-at.at - 1 in
-    let next : c.loop-at.at ≡ c.loop-at.at - 1 + 1 = omega (arith, c.loop-at-test.true) in
-    record {
-      within = omega (arith, before.within, c.requires.search.arrivals.befores (c.loop-at.at - 1) (omega (arith, before.within, c.loop-at-test.true)));
-      falls = falls_on c.args.ring.now c.loop-at.ring c.pass.new.ring before.falls falls;
-      passed = λ n follows.
-          elim (before.passed n follows) [
-            | inl ahead ↦
-                elim (follows_step arrivals c.loop-at.at (c.loop-at.at - 1) n next ahead) [
-                  | inl same ↦ inr (subst (λ i. IsPassed d q c.args.base c.pass.new.ring (arrival_at arrivals i)) (sym same) c.in_ok-pass.ensures.passed)
-                  | inr rest ↦ inl rest
-                ]
-            | inr passed ↦ inr (passed_on d q c.args.base c.loop-at.ring c.pass.new.ring (arrival_at arrivals n) falls.lower passed)
-          ];
-    }
+pub pass-requires-clause-within : goal.pass-requires-clause-within
+pass-requires-clause-within c =
+    let d = c.args.query.table.now in
+    let many = as_many d c.args.to c.ends_at-ends.result.now c.ends_at-ends.ensures.each in
+    let row : c.loop-row.row < length (links_from_index c.args.query.table.now c.args.to) = omega (arith, many, c.loop-row-test.true) in
+    (c.reverses_at-reverses.ensures.each c.loop-row.row (some_at (links_from_index d c.args.to) c.loop-row.row row).0 row).within
 
 pub returns-clause-passed : goal.returns-clause-passed
-returns-clause-passed c = λ n follows.
-    elim (c.loop-at.invariant.passed n follows) [
-      | inl ahead ↦ absurd (follows_none c.args.search.arrivals.now c.loop-at.at n (omega (arith, c.loop-at-test.false)) ahead)
-      | inr passed ↦ passed
-    ]
+returns-clause-passed c u l admissible from end =
+    let d = c.args.query.table.now in
+    let q = c.args.query.request.now in
+    let ends = c.ends_at-ends.result.now in
+    let reverses = c.reverses_at-reverses.result.now in
+    let many = as_many d c.args.to ends c.ends_at-ends.ensures.each in
+    let x =
+    found_back d c.requires.query.links c.requires.query.listed c.args.to ends reverses c.ends_at-ends.ensures.within c.ends_at-ends.ensures.each c.reverses_at-reverses.ensures.each l
+    admissible.link admissible.usable.reverse u from end in
+    let passed = c.loop-row.invariant.passed x.0 (omega (arith, x.1, many, c.loop-row-test.false)) in
+    subst (λ i. IsPassed d q c.args.base c.loop-row.ring i (slice_index c.reverses_at-reverses.result.now x.0)) x.2 passed l x.3 admissible.usable.admitted

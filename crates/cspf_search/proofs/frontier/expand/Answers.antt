@@ -6,6 +6,7 @@ use Rattle.cspf_search.specs.Rounds.{CrossesBelow}
 use Rattle.cspf_search.specs.Frontier.{CrossesUpTo}
 use Rattle.cspf_search.proofs.Expanded.{all_below, below_all}
 use Rattle.cspf_search.proofs.Offered.{labels_same}
+use Rattle.cspf_search.proofs.Reversed.{reverse_of_row}
 use Rattle.cspf_search.proofs.Taken.{end_of_row, few_rows}
 use Rattle.cspf_search.proofs.frontier.expand.Goals as goal
 
@@ -19,6 +20,9 @@ offer_link-requires-clause-edge c =
       end =
           end_of_row c.args.query.table.now c.ends_at-ends.result.now links c.ends_at-ends.ensures.within each c.loop-row.row c.index-links-row.result c.from.result c.loop-row-test.true
           c.index-links-row.is c.from.ensures;
+      reverse =
+          reverse_of_row c.args.query.table.now (c.args.state % 1024) c.reverses_at-reverses.result.now c.reverses_at-reverses.ensures.each c.loop-row.row c.index-links-row.result
+          (rw c.out_at-links.ensures at here);
     }
 
 pub returns-clause-after : goal.returns-clause-after

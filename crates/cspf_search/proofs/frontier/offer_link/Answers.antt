@@ -2,6 +2,7 @@ use Rattle.std.proofs.Common.{◌≡◌, ◌+◌, ◌-◌, ◌*◌, ◌%◌, ◌
 use Rattle.std.proofs.lemmas.Bool.{false≢true, not-true, not-false}
 use Rattle.std.proofs.lemmas.Option.{slice_get_within}
 use Rattle.std.proofs.lemmas.Result.{on_ok_weaker}
+use Rattle.cspf_db.specs.Admissible.{IsUsable}
 use Rattle.cspf_db.specs.Index.{links_from_index}
 use Rattle.cspf_search.specs.declared.labels.Label.{Label}
 use Rattle.cspf_search.specs.declared.roles.Role.{Role}
@@ -9,7 +10,9 @@ use Rattle.cspf_search.specs.Frontier.{nowhere, rank_of, label_at}
 use Rattle.cspf_search.proofs.Expanded.{link_index}
 use Rattle.cspf_search.proofs.Heaps.{rank_read}
 use Rattle.cspf_search.proofs.Ranks.{rank_at}
+use Rattle.cspf_search.proofs.Reversed.{has_reverse}
 use Rattle.cspf_search.proofs.Taken.{few_rows, link_told, link_off, link_late, link_offer, link_tied, link_taken}
+use Rattle.cspf_search.proofs.frontier.offer_link.Goals.{then-edge-eq-NO_LINK-via-then-edge-eq-NO_LINK, then-edge-eq-NO_LINK-via-else-edge-eq-NO_LINK+then-not-accepts}
 use Rattle.cspf_search.proofs.frontier.offer_link.Goals as goal
 
 pub overflow_mul-new : goal.overflow_mul-new
@@ -57,11 +60,15 @@ returns-then-not-role-clause-after c =
     link_off c.args.source c.requires.source c.args.labels.now (heap_items c.args.heap.now) c.args.edge small c.requires.edge c.requires.before
     (λ admitted inside. false≢true (sym (not-true _ c.if-not-role.true) ∙ told.1 inside))
 
-pub returns-then-not-accepts-clause-after : goal.returns-then-not-accepts-clause-after
-returns-then-not-accepts-clause-after c =
+pub returns-then-edge-eq-NO_LINK-clause-after : goal.returns-then-edge-eq-NO_LINK-clause-after
+returns-then-edge-eq-NO_LINK-clause-after c =
     let small : c.args.edge.link.now.metric < 2 ^ 32 = omega (arith, c.args.edge.same) in
     link_off c.args.source c.requires.source c.args.labels.now (heap_items c.args.heap.now) c.args.edge small c.requires.edge c.requires.before
-    (λ admitted inside. false≢true (c.if-not-accepts.ensures.1 admitted))
+    (λ usable inside.
+    elim c.then-edge-eq-NO_LINK.branch [
+      | then-edge-eq-NO_LINK-via-then-edge-eq-NO_LINK w ↦ c.requires.edge.reverse.none w.if-edge-eq-NO_LINK.true usable.reverse
+      | then-edge-eq-NO_LINK-via-else-edge-eq-NO_LINK+then-not-accepts w ↦ false≢true (w.if-not-accepts.ensures.1 usable.admitted)
+    ])
 
 pub overflow_cast-label-3 : goal.overflow_cast-label-3
 overflow_cast-label-3 c =
@@ -102,8 +109,12 @@ returns-clause-after c =
     (c.requires.source.query.roles.each (c.args.source.state - c.args.source.state % 1024 + c.args.edge.end) no_role index) in
     let le : c.args.source.rank + c.from.result * 16384 + 1 ≤ (label_at c.args.labels.now (c.args.source.state - c.args.source.state % 1024 + c.args.edge.end)).rank =
     omega (arith, read, c.if-new-kept.false) in
+    let usable : IsUsable c.args.source.query.table.now c.args.source.query.request.now c.args.edge.link.now = record {
+      admitted = c.if-not-accepts.ensures.0 refl;
+      reverse = has_reverse c.args.source.query.table.now c.requires.source.query.links c.args.edge.link.now c.args.edge.reverse c.requires.edge.reverse c.if-edge-eq-NO_LINK.false;
+    } in
     on_ok_weaker c.offer.result
     (link_taken c.args.source c.requires.source c.args.labels.now (heap_items c.args.heap.now) c.args.edge small c.requires.edge c.requires.before label refl refl refl rank
-    (c.if-not-accepts.ensures.0 refl) (told.0 (not-false _ c.if-not-role.false)) le (c.args.source.rank + c.from.result * 16384 + 1 + c.lift.result) c.offer.new.labels
+    usable (told.0 (not-false _ c.if-not-role.false)) le (c.args.source.rank + c.from.result * 16384 + 1 + c.lift.result) c.offer.new.labels
     (heap_items c.offer.new.heap) (ap (λ n. c.args.source.rank + c.from.result * 16384 + 1 + n) c.lift.ensures.value))
     c.offer.ensures.first

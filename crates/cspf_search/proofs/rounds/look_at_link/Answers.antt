@@ -9,23 +9,25 @@ use Rattle.cspf_search.specs.Frontier.{nowhere}
 use Rattle.cspf_search.proofs.Expanded.{link_index}
 use Rattle.cspf_search.proofs.Backs.{by_next}
 use Rattle.cspf_search.proofs.Looked.{along, no_link, link_late, link_kept}
+use Rattle.cspf_search.proofs.Reversed.{has_reverse}
+use Rattle.cspf_search.proofs.rounds.look_at_link.Goals.{then-edge-eq-NO_LINK-via-then-edge-eq-NO_LINK, then-edge-eq-NO_LINK-via-else-edge-eq-NO_LINK+then-not-accepts}
 use Rattle.cspf_search.proofs.rounds.look_at_link.Goals as goal
 
 pub overflow_add-cost : goal.overflow_add-cost
 overflow_add-cost c =
-    let small : c.args.link.metric < 2 ^ 32 = omega arith in
+    let small : c.args.edge.link.now.metric < 2 ^ 32 = omega arith in
     let from = get_or_read c.args.look.nodes.now c.args.look.at c.index-nodes-look.result c.requires.look.from.within c.index-nodes-look.is nowhere in
     let numbered = c.requires.look.arena.numbered c.args.look.at nowhere c.requires.look.from.within in
     omega (arith, small, c.from.ensures, ap (λ (n : Node). n.cost) from, numbered.small, numbered.few, c.requires.look.arena.most, c.requires.look.from.within)
 
 pub returns-then-is_late : goal.returns-then-is_late
 returns-then-is_late c =
-    let small : c.args.link.metric < 2 ^ 32 = omega arith in
+    let small : c.args.edge.link.now.metric < 2 ^ 32 = omega arith in
     let from = get_or_read c.args.look.nodes.now c.args.look.at c.index-nodes-look.result c.requires.look.from.within c.index-nodes-look.is nowhere in
     record {
       after =
-          link_late c.args.look.query.table.now c.args.look.query.request.now c.args.look.nodes.now c.requires.look.arena c.args.look.at c.args.look.star.state c.requires.look.from c.args.best.now c.args.row c.args.link c.requires.row
-          c.args.end c.requires.end c.requires.look.query.listed.few c.requires.before small c.index-nodes-look.result from c.from.result c.from.ensures (c.if-is_late.ensures.0 refl);
+          link_late c.args.look.query.table.now c.args.look.query.request.now c.args.look.nodes.now c.requires.look.arena c.args.look.at c.args.look.star.state c.requires.look.from c.args.best.now c.args.edge.row c.args.edge.link.now c.requires.edge.row
+          c.args.edge.end c.requires.edge.end c.requires.look.query.listed.few c.requires.before small c.index-nodes-look.result from c.from.result c.from.ensures (c.if-is_late.ensures.0 refl);
     }
 
 pub returns-then-not-role : goal.returns-then-not-role
@@ -33,45 +35,49 @@ returns-then-not-role c =
     let d = c.args.look.query.table.now in
     let q = c.args.look.query.request.now in
     let nodes = c.args.look.nodes.now in
-    let index = link_index d q nodes c.args.look.at c.args.look.star.state c.requires.look.from c.args.row c.args.link c.requires.row c.args.end c.requires.end c.requires.look.query.listed.few in
+    let index = link_index d q nodes c.args.look.at c.args.look.star.state c.requires.look.from c.args.edge.row c.args.edge.link.now c.requires.edge.row c.args.edge.end c.requires.edge.end c.requires.look.query.listed.few in
     let no_role : Role = record { inside = false; target = false } in
-    let told = c.requires.look.query.roles.each (c.args.look.star.state - c.args.look.star.state % 1024 + c.args.end) no_role index in
+    let told = c.requires.look.query.roles.each (c.args.look.star.state - c.args.look.star.state % 1024 + c.args.edge.end) no_role index in
     record {
       after =
-          no_link d q nodes c.requires.look.arena c.args.look.at c.args.look.star.state c.requires.look.from c.args.best.now c.args.row c.args.link c.requires.row
-          c.args.end c.requires.end c.requires.look.query.listed.few c.requires.before
-          (λ admitted inside. false≢true (sym (not-true _ c.if-not-role.true) ∙ told.inside.1 inside));
+          no_link d q nodes c.requires.look.arena c.args.look.at c.args.look.star.state c.requires.look.from c.args.best.now c.args.edge.row c.args.edge.link.now c.requires.edge.row
+          c.args.edge.end c.requires.edge.end c.requires.look.query.listed.few c.requires.before
+          (λ usable inside. false≢true (sym (not-true _ c.if-not-role.true) ∙ told.inside.1 inside));
     }
 
-pub returns-then-not-accepts : goal.returns-then-not-accepts
-returns-then-not-accepts c = record {
+pub returns-then-edge-eq-NO_LINK : goal.returns-then-edge-eq-NO_LINK
+returns-then-edge-eq-NO_LINK c = record {
   after =
-      no_link c.args.look.query.table.now c.args.look.query.request.now c.args.look.nodes.now c.requires.look.arena c.args.look.at c.args.look.star.state c.requires.look.from c.args.best.now c.args.row c.args.link c.requires.row
-      c.args.end c.requires.end c.requires.look.query.listed.few c.requires.before (λ admitted inside. false≢true (c.if-not-accepts.ensures.1 admitted));
+      no_link c.args.look.query.table.now c.args.look.query.request.now c.args.look.nodes.now c.requires.look.arena c.args.look.at c.args.look.star.state c.requires.look.from c.args.best.now c.args.edge.row c.args.edge.link.now c.requires.edge.row
+      c.args.edge.end c.requires.edge.end c.requires.look.query.listed.few c.requires.before (λ usable inside.
+      elim c.then-edge-eq-NO_LINK.branch [
+        | then-edge-eq-NO_LINK-via-then-edge-eq-NO_LINK w ↦ c.requires.edge.reverse.none w.if-edge-eq-NO_LINK.true usable.reverse
+        | then-edge-eq-NO_LINK-via-else-edge-eq-NO_LINK+then-not-accepts w ↦ false≢true (w.if-not-accepts.ensures.1 usable.admitted)
+      ]);
 }
 
 pub keep-requires-clause-second : goal.keep-requires-clause-second
 keep-requires-clause-second c =
-    let small : c.args.link.metric < 2 ^ 32 = omega arith in
+    let small : c.args.edge.link.now.metric < 2 ^ 32 = omega arith in
     let from = c.index-nodes-look.result in
     let there = slice_get_read c.args.look.nodes.now (length c.args.look.nodes.now) c.args.look.at from refl c.requires.look.from.within c.index-nodes-look.is in
-    subst (λ m. IsNext c.args.look.nodes.now (along c.args.look.at c.index-nodes-look.result c.args.link m)) (sym c.from.ensures)
-    (by_next c.args.look.query.table.now c.args.look.query.request.now c.args.look.nodes.now c.requires.look.arena c.args.look.at c.requires.look.from.within from there c.args.link small)
+    subst (λ m. IsNext c.args.look.nodes.now (along c.args.look.at c.index-nodes-look.result c.args.edge.link.now m)) (sym c.from.ensures)
+    (by_next c.args.look.query.table.now c.args.look.query.request.now c.args.look.nodes.now c.requires.look.arena c.args.look.at c.requires.look.from.within from there c.args.edge.link.now small)
 
 pub returns : goal.returns
 returns c =
     let d = c.args.look.query.table.now in
     let q = c.args.look.query.request.now in
     let nodes = c.args.look.nodes.now in
-    let small : c.args.link.metric < 2 ^ 32 = omega arith in
-    let index = link_index d q nodes c.args.look.at c.args.look.star.state c.requires.look.from c.args.row c.args.link c.requires.row c.args.end c.requires.end c.requires.look.query.listed.few in
+    let small : c.args.edge.link.now.metric < 2 ^ 32 = omega arith in
+    let index = link_index d q nodes c.args.look.at c.args.look.star.state c.requires.look.from c.args.edge.row c.args.edge.link.now c.requires.edge.row c.args.edge.end c.requires.edge.end c.requires.look.query.listed.few in
     let no_role : Role = record { inside = false; target = false } in
-    let told = c.requires.look.query.roles.each (c.args.look.star.state - c.args.look.star.state % 1024 + c.args.end) no_role index in
+    let told = c.requires.look.query.roles.each (c.args.look.star.state - c.args.look.star.state % 1024 + c.args.edge.end) no_role index in
     let from = get_or_read nodes c.args.look.at c.index-nodes-look.result c.requires.look.from.within c.index-nodes-look.is nowhere in
     record {
       after =
           rw c.keep.ensures
-          (link_kept d q nodes c.requires.look.arena c.args.look.at c.args.look.star.state c.requires.look.from c.args.best.now c.args.row c.args.link c.requires.row c.args.end c.requires.end
-          c.requires.look.query.listed.few c.requires.before small c.requires.left (c.if-not-accepts.ensures.0 refl) (told.inside.0 (not-false _ c.if-not-role.false))
+          (link_kept d q nodes c.requires.look.arena c.args.look.at c.args.look.star.state c.requires.look.from c.args.best.now c.args.edge.row c.args.edge.link.now c.requires.edge.row c.args.edge.end c.requires.edge.end
+          c.requires.look.query.listed.few c.requires.before small c.requires.left (record { admitted = c.if-not-accepts.ensures.0 refl; reverse = has_reverse d c.requires.look.query.links c.args.edge.link.now c.args.edge.reverse c.requires.edge.reverse c.if-edge-eq-NO_LINK.false }) (told.inside.0 (not-false _ c.if-not-role.false))
           c.index-nodes-look.result from c.from.result c.from.ensures);
     }

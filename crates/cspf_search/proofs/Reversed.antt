@@ -1,0 +1,70 @@
+-- What the reverses of links tell.
+use Rattle.std.proofs.Common.{◌≡◌, ◌≢◌, inl, inr, ℕ, ◌<◌, Some, List, length, map, slice_get, slice_index, slice_index_or, refl, sym, ap, subst, ◌∙◌}
+use Rattle.std.specs.List.{All}
+use Rattle.std.proofs.lemmas.List.{length-map}
+use Rattle.std.proofs.lemmas.Option.{slice_get-get_or, slice_get_within, get_or_from_slice_get, same_Some}
+use Rattle.cspf_db.specs.declared.link.Link.{Link}
+use Rattle.cspf_db.specs.declared.limits.TheConstants.{NO_LINK}
+use Rattle.cspf_db.specs.Database.{Database, AreLinksOf, HasReverse, IsLinkOf, IsReverse, key_of, link_at}
+use Rattle.cspf_db.specs.Index.{links_of, links_from_index, router_list, IsReverseAt}
+use Rattle.cspf_search.specs.Frontier.{AreListed, IsEnd}
+use Rattle.cspf_search.proofs.Expanded.{kept_from}
+use Rattle.cspf_search.proofs.Ranks.{same_or_not, one_place}
+use Rattle.cspf_search.proofs.Taken.{end_of_row}
+
+-- beside the links from a router there is an end each
+pub as_many : (d : Database) (place : ℕ) (ends : List ℕ) → map (λ end. slice_index (router_list d) end) ends ≡ map (λ (l : Link). l.to) (links_from_index d place)
+    → length ends ≡ length (links_from_index d place)
+as_many d place ends each =
+    sym (length-map ends (λ end. slice_index (router_list d) end)) ∙ ap (λ (ns : List ℕ). length ns) each ∙ length-map (links_from_index d place) (λ (l : Link). l.to)
+
+-- the index beside a row is that of its reverse
+pub reverse_of_row : (d : Database) (place : ℕ) (reverses : List ℕ)
+    → ((row : ℕ) (e : Link) → row < length (links_from_index d place) → IsReverseAt d (slice_index_or (links_from_index d place) row e) (slice_index_or reverses row 0))
+    → (row : ℕ) (l : Link) → slice_get (links_from_index d place) row ≡ Some l → IsReverseAt d l (slice_index reverses row)
+reverse_of_row d place reverses beside row l here =
+    let is = get_or_from_slice_get (links_from_index d place) row l l here in
+    let within = slice_get_within (links_from_index d place) row l here in
+    subst (λ k. IsReverseAt d k (slice_index reverses row)) is (beside row l within)
+
+-- each of two links is the reverse of the other
+reversed : (l r : Link) → IsReverse l r → IsReverse r l
+reversed l r is = record { from = sym is.to; local = sym is.remote; to = sym is.from; remote = sym is.local }
+
+-- the links that are the reverse of one link have one key, so they are one
+one_reverse : (d : Database) (r l m : Link) → IsReverse r l → IsReverse r m → IsLinkOf d l → IsLinkOf d m → m ≡ l
+one_reverse d r l m first second of_l of_m =
+    let key : key_of m ≡ key_of l = λ i. ((second.from ∙ sym first.from) i, (second.local ∙ sym first.local) i) in
+    same_Some m l (sym of_m ∙ ap (link_at d) key ∙ of_l)
+
+module _ (d : Database) (links : AreLinksOf d (links_of d)) where
+  -- an index that isn't NO_LINK is that of a reverse
+  pub has_reverse : (l : Link) (n : ℕ) → IsReverseAt d l n → n ≢ NO_LINK → HasReverse d l
+  has_reverse l n is some = (slice_index_or (links_of d) n l, links.each n l (is.within some), is.found some)
+
+  -- the link at the index of the reverse of a link's reverse is the link itself
+  back_again : (l r : Link) → IsLinkOf d l → IsReverse l r → (n : ℕ) → IsReverseAt d r n → slice_get (links_of d) n ≡ Some l
+  back_again l r of back n is =
+      elim (same_or_not n NO_LINK) [
+        | inl none ↦ absurd (is.none none (l, of, reversed l r back))
+        | inr some ↦
+            slice_get-get_or (links_of d) n r (is.within some)
+            ∙ ap Some (one_reverse d r l (slice_index_or (links_of d) n r) (reversed l r back) (is.found some) of (links.each n r (is.within some)))
+      ]
+
+  module _ (listed : AreListed d) (to : ℕ) (ends reverses : List ℕ) (within : All (λ end. end < length (router_list d)) ends)
+      (each : map (λ end. slice_index (router_list d) end) ends ≡ map (λ (l : Link). l.to) (links_from_index d to))
+      (beside : (row : ℕ) (e : Link) → row < length (links_from_index d to) → IsReverseAt d (slice_index_or (links_from_index d to) row e) (slice_index_or reverses row 0)) where
+    -- A link that has a reverse is found from where it ends: beside its reverse, a row from there, stand
+    -- the index of the router that it arrives from, and its own.
+    pub found_back : (l : Link) → IsLinkOf d l → HasReverse d l → (u : ℕ) → IsEnd d l.from u → IsEnd d l.to to
+        → (row : ℕ) × (row < length (links_from_index d to)) × (slice_index ends row ≡ u) × (slice_get (links_of d) (slice_index reverses row) ≡ Some l)
+    found_back l of has u from end =
+        let at = kept_from d to has.0 (links.whole has.0 has.1) (has.2.from ∙ sym end.is) in
+        let row_end = end_of_row d ends (links_from_index d to) within each at.0 has.0 (slice_index ends at.0) at.1 (sym at.2) refl in
+        let arrives : IsEnd d l.from (slice_index ends at.0) = subst (λ k. IsEnd d k (slice_index ends at.0)) has.2.to row_end in (
+          at.0,
+          at.1,
+          one_place d listed l.from (slice_index ends at.0) u arrives from,
+          back_again l has.0 of has.2 (slice_index reverses at.0) (subst (λ k. IsReverseAt d k (slice_index reverses at.0)) at.2 (beside at.0 has.0 at.1)),
+        )
