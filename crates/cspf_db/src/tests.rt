@@ -1,2 +1,3 @@
 mod batches;
+mod reverses;
 mod rows;

@@ -1,0 +1,321 @@
+//! Where the reverses of links are, after batches that put and drop them and that move rows.
+ghost use Rattle.std.specs.Prelude.{◌<◌};
+
+use crate::{Batch, Change, Link, LinkError, NO_LINK, Table};
+use cspf_addr::{Addr, Mask};
+use std::alloc::{AllocError, Global};
+use std::process::Abort;
+use std::test::Fail;
+
+// A link from a router by an interface there to another by an interface there.
+fn link(from: u32, local: u32, to: u32, remote: u32) -> Result<Link, LinkError> {
+    Link::new(
+        Addr::new(from),
+        Addr::new(local),
+        Addr::new(to),
+        Addr::new(remote),
+        10,
+        Mask::new(1),
+        [1000; 8],
+    )
+}
+
+// The link back over the same two interfaces, with other attributes.
+fn back(link: &Link) -> Result<Link, LinkError> {
+    Link::new(
+        link.to,
+        link.remote,
+        link.from,
+        link.local,
+        20,
+        Mask::new(2),
+        [0; 8],
+    )
+}
+
+fn put(from: u32, local: u32, to: u32, remote: u32) -> Result<Change, LinkError> {
+    Ok(Change::Put(link(from, local, to, remote)?))
+}
+
+fn drop_of(from: u32, local: u32) -> Change {
+    Change::Remove {
+        from: Addr::new(from),
+        local: Addr::new(local),
+    }
+}
+
+fn is_reverse(link: &Link, other: &Link) -> bool {
+    (other.from, other.local) == (link.to, link.remote)
+        && (other.to, other.remote) == (link.from, link.local)
+}
+
+// The index of the reverse of a link, found by a look at each of the links.
+fn plain_reverse(links: &[Link], link: &Link) -> Option<usize> {
+    for (at, other) in links.iter().enumerate() {
+        if is_reverse(link, other) {
+            return Some(at);
+        }
+    }
+    None
+}
+
+// Each link of the table has the reverse that a plain search finds, or none. How many have one is
+// the result.
+fn assert_reverses(rt: &impl Abort, table: &Table) -> u32 {
+    let (links, routers) = (table.links(), table.routers());
+    let mut both = 0u32;
+    for (at, router) in routers.iter().enumerate() {
+        let (out, reverses) = (table.out_at(at), table.reverses_at(at));
+        assert_eq!(rt; out.len(), reverses.len(), "{router:?}");
+        for (link, reverse) in out.iter().zip(reverses) {
+            let wanted = plain_reverse(links, link);
+            let found = if *reverse == NO_LINK {
+                None
+            } else {
+                Some(usize::from(*reverse))
+            };
+            assert_eq!(rt; found, wanted, "{link:?}");
+            assert_eq!(rt; table.has_reverse(link), wanted.is_some(), "{link:?}");
+            both = both.saturating_add(if wanted.is_some() { 1 } else { 0 });
+        }
+    }
+    both
+}
+
+// The indexes of the reverses of all links, in order.
+fn reverses_of(alloc: Global, table: &Table) -> Result<Vec<u16>, AllocError> {
+    let routers = table.routers();
+    let mut all = Vec::new(alloc);
+    for at in 0..routers.len() {
+        all.extend_from_slice(table.reverses_at(at))?;
+    }
+    Ok(all)
+}
+
+// Makes the changes, and then the reverses of all links are these.
+fn change(
+    rt: &impl Abort,
+    alloc: Global,
+    table: &mut Table,
+    changes: &[Change],
+    wanted: &[u16],
+) -> Result<(), AllocError> {
+    let batch = Batch {
+        number: 1,
+        changes: Vec::from_slice(alloc, changes)?,
+    };
+    assert_eq!(rt; table.check(&batch), Ok(()), "{changes:?}");
+    table.absorb(&batch);
+    let found = reverses_of(alloc, table)?;
+    assert_eq!(rt; found.as_slice(), wanted, "{changes:?}");
+    assert_reverses(rt, table);
+    Ok(())
+}
+
+#[test]
+fn reverses_that_come_and_go(rt: HostRuntime) -> Result<(), Fail> {
+    let alloc = rt.alloc();
+    let mut table = Table::new(alloc)?;
+    let (there, back) = (put(20, 1, 30, 2)?, put(30, 2, 20, 1)?);
+    let one_way = link(20, 1, 30, 2)?;
+    assert!(rt; !table.has_reverse(&one_way));
+    // a link alone, and its reverse in a later batch and in the same one
+    change(&rt, alloc, &mut table, &[there], &[NO_LINK])?;
+    assert!(rt; !table.has_reverse(&one_way));
+    change(&rt, alloc, &mut table, &[back], &[1, 0])?;
+    assert!(rt; table.has_reverse(&one_way));
+    let drops = [drop_of(30, 2), drop_of(20, 1)];
+    change(&rt, alloc, &mut table, &drops, &[])?;
+    change(&rt, alloc, &mut table, &[back, there], &[1, 0])?;
+    // one of the two goes: the table has the reverse of a link that it doesn't have
+    change(&rt, alloc, &mut table, &[drop_of(20, 1)], &[NO_LINK])?;
+    assert!(rt; table.has_reverse(&one_way));
+    change(&rt, alloc, &mut table, &[there], &[1, 0])?;
+    change(&rt, alloc, &mut table, &[drop_of(30, 2)], &[NO_LINK])?;
+    assert!(rt; !table.has_reverse(&one_way));
+    Ok(())
+}
+
+#[test]
+fn reverses_of_replaced_links(rt: HostRuntime) -> Result<(), Fail> {
+    let alloc = rt.alloc();
+    let mut table = Table::new(alloc)?;
+    let (there, back) = (put(20, 1, 30, 2)?, put(30, 2, 20, 1)?);
+    let none = [NO_LINK, NO_LINK];
+    change(&rt, alloc, &mut table, &[there, back], &[1, 0])?;
+    // either end has another remote address
+    change(&rt, alloc, &mut table, &[put(20, 1, 30, 3)?], &none)?;
+    change(&rt, alloc, &mut table, &[there], &[1, 0])?;
+    change(&rt, alloc, &mut table, &[put(30, 2, 20, 3)?], &none)?;
+    change(&rt, alloc, &mut table, &[back], &[1, 0])?;
+    // or runs to another router
+    change(&rt, alloc, &mut table, &[put(20, 1, 40, 2)?], &none)?;
+    change(&rt, alloc, &mut table, &[there], &[1, 0])?;
+    change(&rt, alloc, &mut table, &[put(30, 2, 10, 1)?], &none)?;
+    // links back between the same routers over other interfaces
+    let others = [drop_of(30, 2), put(30, 3, 20, 4)?, put(30, 4, 20, 3)?];
+    let none = [NO_LINK, NO_LINK, NO_LINK];
+    change(&rt, alloc, &mut table, &others, &none)?;
+    // a second pair of interfaces, with its own reverse
+    let second = [put(20, 4, 30, 3)?];
+    change(&rt, alloc, &mut table, &second, &[NO_LINK, 2, 1, NO_LINK])?;
+    Ok(())
+}
+
+#[test]
+fn reverses_that_move(rt: HostRuntime) -> Result<(), Fail> {
+    let alloc = rt.alloc();
+    let mut table = Table::new(alloc)?;
+    let both = [put(20, 1, 30, 2)?, put(30, 2, 20, 1)?];
+    change(&rt, alloc, &mut table, &both, &[1, 0])?;
+    // rows before both, between them, and behind them
+    let before = [put(10, 1, 20, 7)?, put(10, 2, 30, 7)?];
+    change(&rt, alloc, &mut table, &before, &[NO_LINK, NO_LINK, 3, 2])?;
+    let between = [put(20, 5, 30, 5)?];
+    let wanted = [NO_LINK, NO_LINK, 4, NO_LINK, 2];
+    change(&rt, alloc, &mut table, &between, &wanted)?;
+    let behind = [put(40, 1, 20, 9)?];
+    let wanted = [NO_LINK, NO_LINK, 4, NO_LINK, 2, NO_LINK];
+    change(&rt, alloc, &mut table, &behind, &wanted)?;
+    let one = [drop_of(10, 2)];
+    let wanted = [NO_LINK, 3, NO_LINK, 1, NO_LINK];
+    change(&rt, alloc, &mut table, &one, &wanted)?;
+    // one comes as another goes, and the reverse of one that stays
+    let mixed = [drop_of(10, 1), put(20, 7, 10, 1)?, put(20, 9, 40, 1)?];
+    let wanted = [4, NO_LINK, NO_LINK, 5, 0, 3];
+    change(&rt, alloc, &mut table, &mixed, &wanted)?;
+    let rest = [drop_of(20, 5), drop_of(20, 7), drop_of(40, 1)];
+    change(&rt, alloc, &mut table, &rest, &[2, NO_LINK, 0])?;
+    Ok(())
+}
+
+// Draws numbers, the same each time.
+#[derive(Drop)]
+struct Draw {
+    state: u32,
+}
+
+impl Draw {
+    // A number below another.
+    fn below(&mut self, most: u32) -> u32
+        requires { 0 < most }
+    {
+        self.state = self.state.wrapping_mul(1664525).wrapping_add(1013904223);
+        (self.state >> 8) % most
+    }
+
+    // A link of the table, if it has one.
+    fn link_of(&mut self, table: &Table) -> Option<Link> {
+        let links = table.links();
+        if links.is_empty() {
+            return None;
+        }
+        links.get(self.below(links.len() as u32) as usize).copied()
+    }
+
+    // A link between two of eight routers, each of which has this many interfaces.
+    fn new_link(&mut self, interfaces: u32) -> Result<Link, LinkError>
+        requires { 0 < interfaces }
+    {
+        let from = self.below(8);
+        let to = from.wrapping_add(1).wrapping_add(self.below(7)) % 8;
+        link(from, self.below(interfaces), to, self.below(interfaces))
+    }
+
+    // A change to the table: a new link, the reverse of one that it has, a link back over other
+    // interfaces, one that is dropped, or one that runs elsewhere from then on.
+    fn change(&mut self, table: &Table, interfaces: u32) -> Result<Change, LinkError>
+        requires { 0 < interfaces }
+    {
+        let kind = self.below(8);
+        let Some(old) = self.link_of(table) else {
+            return Ok(Change::Put(self.new_link(interfaces)?));
+        };
+        let (from, local) = (old.from, old.local);
+        let other = self.new_link(interfaces)?;
+        match kind {
+            0 | 1 | 2 => Ok(Change::Put(back(&old)?)),
+            3 => Ok(Change::Remove { from, local }),
+            4 => Ok(Change::Put(Link::new(
+                old.to,
+                other.local,
+                from,
+                other.remote,
+                30,
+                Mask::new(4),
+                [5; 8],
+            )?)),
+            5 if other.to != from => Ok(Change::Put(Link::new(
+                from,
+                local,
+                other.to,
+                other.remote,
+                30,
+                Mask::new(4),
+                [5; 8],
+            )?)),
+            _ => Ok(Change::Put(other)),
+        }
+    }
+
+    // A batch of this many changes that fits the table.
+    fn batch(
+        &mut self,
+        alloc: Global,
+        table: &Table,
+        count: usize,
+        interfaces: u32,
+    ) -> Result<Batch, Fail>
+        requires { 0 < interfaces }
+    {
+        let mut changes: Vec<Change> = Vec::new(alloc);
+        for _ in 0..100_000 {
+            if changes.len() == count {
+                break;
+            }
+            let change = self.change(table, interfaces)?;
+            if changes.iter().all(|other| other.key() != change.key()) {
+                changes.push(change)?;
+            }
+        }
+        Ok(Batch { number: 1, changes })
+    }
+}
+
+// A drawn batch is absorbed, and each link has its reverse. How many have one is the result.
+fn absorb_drawn(rt: &impl Abort, table: &mut Table, batch: &Batch, count: usize) -> u32 {
+    assert_eq!(rt; batch.changes.len(), count);
+    assert_eq!(rt; table.check(batch), Ok(()));
+    table.absorb(batch);
+    assert_reverses(rt, table)
+}
+
+#[test]
+fn reverses_after_drawn_batches(rt: HostRuntime) -> Result<(), Fail> {
+    let alloc = rt.alloc();
+    let mut table = Table::new(alloc)?;
+    let mut draw = Draw { state: 7 };
+    let mut both = 0u32;
+    for _ in 0..200 {
+        let count = draw.below(20) as usize + 1;
+        let batch = draw.batch(alloc, &table, count, 12)?;
+        both = both.saturating_add(absorb_drawn(&rt, &mut table, &batch, count));
+    }
+    assert!(rt; both > 2000, "{both}");
+    Ok(())
+}
+
+// A batch of so many changes rewrites the rows at once.
+#[test]
+fn reverses_after_a_long_batch(rt: HostRuntime) -> Result<(), Fail> {
+    let alloc = rt.alloc();
+    let mut table = Table::new(alloc)?;
+    let mut draw = Draw { state: 8 };
+    let mut both = 0;
+    for _ in 0..4 {
+        let batch = draw.batch(alloc, &table, 300, 100)?;
+        both = absorb_drawn(&rt, &mut table, &batch, 300);
+    }
+    assert!(rt; both > 50, "{both}");
+    Ok(())
+}
