@@ -18,6 +18,13 @@ fn link(from: u32, local: u32, to: u32) -> Result<Link, Fail> {
     Ok(Link::new(from, local, to, remote, 1, Mask::new(0x6), free)?)
 }
 
+// A link back by the remote interface of the one, of another group and with no bandwidth: its reverse
+// where this is its local address.
+fn back(link: &Link, remote: Addr) -> Result<Link, Fail> {
+    let group = Mask::new(0x8);
+    Ok(Link::new(link.to, link.remote, link.from, remote, 9, group, [0; 8])?)
+}
+
 // A request from router 1 to router 3 by the hop 11.0.0.0/8.
 fn request(setup: u8, masks: (u32, u32, u32), loose: bool) -> Result<Request, Fail>
     ensures { IfOk result (λ q. length q.hops ≡ 1) }
@@ -46,6 +53,42 @@ fn accepted_links(rt: HostRuntime) -> Result<(), Fail> {
         let asked = request(setup, masks, false)?;
         assert_eq!(rt; accepts(&link, &asked), want, "at {setup} {masks:?}");
     }
+    Ok(())
+}
+
+// The batch of one change is absorbed.
+fn change(alloc: Global, table: &mut Table, change: Change) -> Result<(), Fail> {
+    table.absorb(&Batch {
+        number: 1,
+        changes: Vec::from_slice(alloc, &[change])?,
+    });
+    Ok(())
+}
+
+#[test]
+fn admissible_links(rt: HostRuntime) -> Result<(), Fail> {
+    let alloc = rt.alloc();
+    let mut table = Table::new(alloc)?;
+    let link = link(1, 2, 3)?;
+    let (accepting, refusing) = (
+        request(0, (0, 0, 0), false)?,
+        request(0, (0x4, 0, 0), false)?,
+    );
+    change(alloc, &mut table, Change::Put(link))?;
+    assert!(rt; !admissible(&table, &link, &accepting));
+    // the reverse's own attributes don't count, and are all that counts for itself
+    let reverse = back(&link, link.local)?;
+    change(alloc, &mut table, Change::Put(reverse))?;
+    assert!(rt; admissible(&table, &link, &accepting));
+    assert!(rt; !admissible(&table, &link, &refusing));
+    assert!(rt; !admissible(&table, &reverse, &accepting));
+    let (from, local) = (reverse.from, reverse.local);
+    change(alloc, &mut table, Change::Remove { from, local })?;
+    assert!(rt; !admissible(&table, &link, &accepting));
+    // a link back over other interfaces is no reverse
+    let other = back(&link, Addr::new(8))?;
+    change(alloc, &mut table, Change::Put(other))?;
+    assert!(rt; !admissible(&table, &link, &accepting));
     Ok(())
 }
 
