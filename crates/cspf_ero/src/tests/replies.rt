@@ -14,13 +14,23 @@ fn link(from: u32, local: u32, to: u32, remote: u32) -> Result<Link, Fail> {
     Ok(Link::new(from, local, to, remote, 10, Mask::new(1), [1000; 8])?)
 }
 
+/// Puts of a link and of its reverse, which has no bandwidth.
+fn both_ways(link: Link) -> Result<[Change; 2], Fail> {
+    let (from, local) = (link.to, link.remote);
+    let (to, remote) = (link.from, link.local);
+    let back = Link::new(from, local, to, remote, link.metric, link.group, [0; 8])?;
+    Ok([Change::Put(link), Change::Put(back)])
+}
+
 /// What a request from router 1.1.1.1 is answered where it has a link to 2.2.2.2 and that one a link
-/// to 3.3.3.3, or where there is no link.
+/// to 3.3.3.3, and both their reverses, or where there is no link.
 fn answered(alloc: Global, with_links: bool, to: u32, bandwidth: u64) -> Result<Outcome, Fail> {
     let mut changes = Vec::new(alloc);
     if with_links {
-        changes.push(Change::Put(link(0x0101_0101, 0x0a00_0c01, 0x0202_0202, 0x0a00_0c02)?))?;
-        changes.push(Change::Put(link(0x0202_0202, 0x0a00_1702, 0x0303_0303, 0x0a00_1703)?))?;
+        let first = link(0x0101_0101, 0x0a00_0c01, 0x0202_0202, 0x0a00_0c02)?;
+        let second = link(0x0202_0202, 0x0a00_1702, 0x0303_0303, 0x0a00_1703)?;
+        changes.extend_from_slice(&both_ways(first)?)?;
+        changes.extend_from_slice(&both_ways(second)?)?;
     }
     let mut table = Table::new(alloc)?;
     table.absorb(&Batch { number: 1, changes });
