@@ -4,9 +4,10 @@ use cspf_rows::{RequestsError, RowError};
 use std::alloc::Global;
 use std::test::Fail;
 
-/// A link from 1.1.1.1 to 2.2.2.2 is version 1.
+/// A link from 1.1.1.1 to 2.2.2.2, and its reverse with no bandwidth, are version 1.
 const JOURNAL: &[u8] = b"put,1.1.1.1,10.0.12.1,2.2.2.2,10.0.12.2,10,0x1,\
-1000,1000,1000,1000,1000,1000,1000,1000\nend,1,1\n";
+1000,1000,1000,1000,1000,1000,1000,1000\n\
+put,2.2.2.2,10.0.12.2,1.1.1.1,10.0.12.1,10,0x1,0,0,0,0,0,0,0,0\nend,1,2\n";
 
 /// Two requests for that link, with the ids 7 and 8.
 const REQUESTS: &[u8] = b"ask,7,1.1.1.1,2.2.2.2,0,1000,0x0,0x0,0x0,\n\

@@ -13,9 +13,11 @@ fn has_memory(alloc: Global) -> bool {
     }
 }
 
-/// A link is put, and dropped again.
+/// A link and its reverse are put, and both dropped again.
 const JOURNAL: &[u8] = b"put,1.1.1.1,10.0.12.1,2.2.2.2,10.0.12.2,10,0x1,\
-1000,1000,1000,1000,1000,1000,1000,1000\nend,1,1\ndrop,1.1.1.1,10.0.12.1\nend,2,1\n";
+1000,1000,1000,1000,1000,1000,1000,1000\n\
+put,2.2.2.2,10.0.12.2,1.1.1.1,10.0.12.1,10,0x1,0,0,0,0,0,0,0,0\nend,1,2\n\
+drop,1.1.1.1,10.0.12.1\ndrop,2.2.2.2,10.0.12.2\nend,2,2\n";
 
 /// Three requests for it.
 const REQUESTS: &[u8] = b"ask,7,1.1.1.1,2.2.2.2,0,1000,0x0,0x0,0x0,\n\
