@@ -13,17 +13,26 @@ use std::sync::Wait;
 use std::test::Fail;
 
 /// A link of this metric with 1,000 bytes per second unreserved, from 1.1.1.1 by 10.0.12.1 to 2.2.2.2.
-pub(crate) fn link(metric: u32) -> Result<Link, LinkError> {
+fn link(metric: u32) -> Result<Link, LinkError> {
     let (from, local) = (Addr::new(0x01010101), Addr::new(0x0a000c01));
     let (to, remote) = (Addr::new(0x02020202), Addr::new(0x0a000c02));
     Link::new(from, local, to, remote, metric, Mask::new(1), [1000; 8])
 }
 
-/// The batch with this number that puts the link of metric 10.
+/// Puts of the link of this metric and of its reverse, which has no bandwidth.
+pub(crate) fn both_ways(metric: u32) -> Result<[Change; 2], LinkError> {
+    let link = link(metric)?;
+    let (from, local) = (link.to, link.remote);
+    let (to, remote) = (link.from, link.local);
+    let back = Link::new(from, local, to, remote, metric, link.group, [0; 8])?;
+    Ok([Change::Put(link), Change::Put(back)])
+}
+
+/// The batch with this number that puts the link of metric 10, and its reverse.
 pub(crate) fn link_batch(alloc: Global, number: u32) -> Result<Batch, Fail> {
     Ok(Batch {
         number,
-        changes: Vec::from_slice(alloc, &[Change::Put(link(10)?)])?,
+        changes: Vec::from_slice(alloc, &both_ways(10)?)?,
     })
 }
 

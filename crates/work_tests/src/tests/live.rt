@@ -111,7 +111,7 @@ fn applies_alone(rt: HostRuntime) -> Result<(), Fail> {
     let left = run_and_close(&rt, rt.alloc(), opened, &[batch], &[], &NoGate);
     assert_eq!(rt;
         (left.journal.len(), left.version, left.applied),
-        (102, 1, 1)
+        (172, 1, 1)
     );
     assert!(rt; left.fault.is_none() && left.list.is_empty());
     assert!(rt; left.askers.len() == 1 && are_at_version_1(&left.askers));
@@ -198,7 +198,7 @@ fn applies_at_once(rt: HostRuntime) -> Result<(), Fail> {
     let opened = opened(&rt, rt.alloc(), journal, 1);
     let asked = all.as_slice();
     let left = run_and_close(&rt, rt.alloc(), opened, &[batch], asked, &meeting);
-    assert!(rt; left.journal.held.len() == 102 && left.applied == 1 && left.fault.is_none());
+    assert!(rt; left.journal.held.len() == 172 && left.applied == 1 && left.fault.is_none());
     assert!(rt; meeting.faults.load(Ordering::SeqCst) == 0 && are_around_a_batch(&left.list));
     Ok(())
 }

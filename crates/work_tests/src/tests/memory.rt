@@ -2,8 +2,8 @@
 //! memory is refused, and then its askers still answer. Where it is refused before, the test ends.
 ghost use Rattle.std.specs.Prelude.{◌≡◌, ◌≤◌, All, IfOk, vec_len};
 
-use super::fixtures::{link, request};
-use cspf_db::{Batch, Change, Request};
+use super::fixtures::{both_ways, request};
+use cspf_db::{Batch, Request};
 use cspf_publish::{Answer, ApplyError, AskError, Asker, OpenError, Publisher, open};
 use cspf_search::Outcome;
 use cspf_serve::{Live, NoGate, ServeError, answer_all, run_live};
@@ -14,22 +14,25 @@ use std::thread::Threads;
 
 /// The texts of the batches 1 and 2.
 const TEXTS: &[u8] = b"put,1.1.1.1,10.0.12.1,2.2.2.2,10.0.12.2,10,0x00000001,\
-1000,1000,1000,1000,1000,1000,1000,1000\nend,1,1\n\
+1000,1000,1000,1000,1000,1000,1000,1000\n\
+put,2.2.2.2,10.0.12.2,1.1.1.1,10.0.12.1,10,0x00000001,0,0,0,0,0,0,0,0\nend,1,2\n\
 put,1.1.1.1,10.0.12.1,2.2.2.2,10.0.12.2,20,0x00000001,\
-1000,1000,1000,1000,1000,1000,1000,1000\nend,2,1\n";
+1000,1000,1000,1000,1000,1000,1000,1000\n\
+put,2.2.2.2,10.0.12.2,1.1.1.1,10.0.12.1,20,0x00000001,0,0,0,0,0,0,0,0\nend,2,2\n";
 
 /// The bytes of each of the texts.
-const TEXT: usize = 102;
+const TEXT: usize = 172;
 
-/// The batch with this number, 1 or 2, which puts a link of ten times that as its metric.
+/// The batch with this number, 1 or 2, which puts a link of ten times that as its metric, and its
+/// reverse.
 fn batch<R: Abort>(rt: &R, alloc: Global, number: u32) -> Result<Batch, AllocError> {
     let metric = if number == 1 { 10 } else { 20 };
-    let Ok(link) = link(metric) else {
+    let Ok(changes) = both_ways(metric) else {
         panic!(rt; "no link")
     };
     Ok(Batch {
         number,
-        changes: Vec::from_slice(alloc, &[Change::Put(link)])?,
+        changes: Vec::from_slice(alloc, &changes)?,
     })
 }
 

@@ -16,8 +16,8 @@ use std::sync::atomic::{AtomicU64, Ordering};
 use std::test::Fail;
 use std::thread::Threads;
 
-/// The bytes of the text of a batch of one link.
-const TEXT: usize = 102;
+/// The bytes of the text of the batch of a link and its reverse.
+const TEXT: usize = 172;
 
 /// Holds each worker on one side of its asks until the first batch is published, and the first batch
 /// until a worker is there.
@@ -134,10 +134,11 @@ fn reached_comes_before_the_ask(rt: HostRuntime) -> Result<(), Fail> {
     Ok(())
 }
 
-/// Two batches of one link.
+/// Two batches of one link, the first of which puts its reverse too.
 const UPDATES: &[u8] =
     b"put,1.1.1.1,10.0.12.1,2.2.2.2,10.0.12.2,10,0x1,1000,1000,1000,1000,1000,1000,1000,1000
-end,1,1
+put,2.2.2.2,10.0.12.2,1.1.1.1,10.0.12.1,10,0x1,0,0,0,0,0,0,0,0
+end,1,2
 put,1.1.1.1,10.0.12.1,2.2.2.2,10.0.12.2,10,0x1,1000,1000,1000,1000,1000,1000,1000,1000
 end,2,1
 ";
