@@ -18,7 +18,7 @@ const RUNS: [Run; 22] = [
     (b"", b"", false, b"", 0),
     // The bandwidth is exactly met.
     (
-        b"P\nend,1,1\n",
+        b"P\nQ\nend,1,2\n",
         b"ask,7,1.1.1.1,2.2.2.2,0,1000,Z,\n",
         false,
         b"version 1\nask 7 v1 route cost=10 hops=1 again=no ero=000c140101080a000c022000\n",
@@ -49,7 +49,7 @@ const RUNS: [Run; 22] = [
         2,
     ),
     (
-        b"P\nend,1,1\nput,2.2.2.2,10.0.1",
+        b"P\nQ\nend,1,2\nput,2.2.2.2,10.0.1",
         b"ask,7,1.1.1.1,2.2.2.2,0,1000,Z,\n",
         true,
         b"version 1\nask 7 v1 route cost=10 hops=1 again=no ero=000c140101080a000c022000\n",
@@ -57,7 +57,7 @@ const RUNS: [Run; 22] = [
     ),
     // Changes that no end row takes are left out.
     (
-        b"P\nend,1,1\ndrop,1.1.1.1,10.0.12.1\n",
+        b"P\nQ\nend,1,2\ndrop,1.1.1.1,10.0.12.1\n",
         b"ask,7,1.1.1.1,2.2.2.2,0,1000,Z,\n",
         true,
         b"version 1\nask 7 v1 route cost=10 hops=1 again=no ero=000c140101080a000c022000\n",
@@ -145,7 +145,7 @@ const RUNS: [Run; 22] = [
     ),
     // A byte order mark at the front of both, and fields in quotes.
     (
-        b"BP\r\n\"end\",1,1",
+        b"BP\r\nQ\r\n\"end\",1,2",
         b"B\r\n\"ask\",7,1.1.1.1,2.2.2.2,0,1000,Z,",
         false,
         b"version 1\nask 7 v1 route cost=10 hops=1 again=no ero=000c140101080a000c022000\n",
@@ -214,9 +214,10 @@ fn runs(rt: HostRuntime) -> Result<(), Fail> {
     Ok(())
 }
 
-/// Three batches: six links, two more, and one that is put anew and one that is taken out.
+/// Three batches: six links, two more, each with its reverse, and one that is put anew and one that is
+/// taken out.
 const JOURNAL: &[u8] =
-    b"put,1.1.1.1,10.0.1.1,3.3.3.3,10.0.1.3,1,0x1,F\nput,1.1.1.1,10.0.2.1,10.9.0.1,10.0.2.2,10,0x1,F\nput,1.1.1.1,10.0.3.1,10.9.0.2,10.0.3.2,2,0x1,F\nput,3.3.3.3,10.0.4.3,10.9.0.1,10.0.4.1,1,0x1,F\nput,10.9.0.1,10.0.5.1,4.4.4.4,10.0.5.4,1,0x1,F\nput,10.9.0.2,10.0.6.2,10.9.0.1,10.0.6.1,3,0x1,F\nend,1,6\nput,2.2.2.2,10.0.7.2,1.1.1.1,10.0.7.1,5,0x2,F\nput,4.4.4.4,10.0.8.4,2.2.2.2,10.0.8.2,5,0x1,F\nend,2,2\ndrop,3.3.3.3,10.0.4.3\nput,1.1.1.1,10.0.2.1,10.9.0.1,10.0.2.2,3,0x1,F\nend,3,2\n";
+    b"put,1.1.1.1,10.0.1.1,3.3.3.3,10.0.1.3,1,0x1,F\nput,1.1.1.1,10.0.2.1,10.9.0.1,10.0.2.2,10,0x1,F\nput,1.1.1.1,10.0.3.1,10.9.0.2,10.0.3.2,2,0x1,F\nput,3.3.3.3,10.0.4.3,10.9.0.1,10.0.4.1,1,0x1,F\nput,10.9.0.1,10.0.5.1,4.4.4.4,10.0.5.4,1,0x1,F\nput,10.9.0.2,10.0.6.2,10.9.0.1,10.0.6.1,3,0x1,F\nput,3.3.3.3,10.0.1.3,1.1.1.1,10.0.1.1,1,0x1,O\nput,10.9.0.1,10.0.2.2,1.1.1.1,10.0.2.1,10,0x1,O\nput,10.9.0.2,10.0.3.2,1.1.1.1,10.0.3.1,2,0x1,O\nput,10.9.0.1,10.0.4.1,3.3.3.3,10.0.4.3,1,0x1,O\nput,4.4.4.4,10.0.5.4,10.9.0.1,10.0.5.1,1,0x1,O\nput,10.9.0.1,10.0.6.1,10.9.0.2,10.0.6.2,3,0x1,O\nend,1,12\nput,2.2.2.2,10.0.7.2,1.1.1.1,10.0.7.1,5,0x2,F\nput,4.4.4.4,10.0.8.4,2.2.2.2,10.0.8.2,5,0x1,F\nput,1.1.1.1,10.0.7.1,2.2.2.2,10.0.7.2,5,0x2,O\nput,2.2.2.2,10.0.8.2,4.4.4.4,10.0.8.4,5,0x1,O\nend,2,4\ndrop,3.3.3.3,10.0.4.3\nput,1.1.1.1,10.0.2.1,10.9.0.1,10.0.2.2,3,0x1,F\nend,3,2\n";
 
 /// Requests over these links.
 const REQUESTS: &[u8] =

@@ -10,23 +10,23 @@ use std::thread::Threads;
 /// More bytes than any run here writes, so that a writer takes no memory.
 const ROOM: usize = 200;
 
-/// The link, with a row behind its batch that is cut off.
+/// The link and its reverse, with a row behind their batch that is cut off.
 const TORN: &[u8] =
-    b"put,1.1.1.1,10.0.12.1,2.2.2.2,10.0.12.2,10,0x1,1000,1000,1000,1000,1000,1000,1000,1000\nend,1,1\nput,2.2.2.2,10.0.1";
+    b"put,1.1.1.1,10.0.12.1,2.2.2.2,10.0.12.2,10,0x1,1000,1000,1000,1000,1000,1000,1000,1000\nput,2.2.2.2,10.0.12.2,1.1.1.1,10.0.12.1,10,0x1,0,0,0,0,0,0,0,0\nend,1,2\nput,2.2.2.2,10.0.1";
 
 /// A request for all of the link's bandwidth.
 const REQUEST: &[u8] = b"ask,7,1.1.1.1,2.2.2.2,0,1000,0x0,0x0,0x0,\n";
 
-/// The link and the request.
+/// The link, its reverse and the request.
 const ONE_LINK: &[u8] =
-    b"put,1.1.1.1,10.0.12.1,2.2.2.2,10.0.12.2,10,0x1,1000,1000,1000,1000,1000,1000,1000,1000\nend,1,1\nask,7,1.1.1.1,2.2.2.2,0,1000,0x0,0x0,0x0,\n";
+    b"put,1.1.1.1,10.0.12.1,2.2.2.2,10.0.12.2,10,0x1,1000,1000,1000,1000,1000,1000,1000,1000\nput,2.2.2.2,10.0.12.2,1.1.1.1,10.0.12.1,10,0x1,0,0,0,0,0,0,0,0\nend,1,2\nask,7,1.1.1.1,2.2.2.2,0,1000,0x0,0x0,0x0,\n";
 
 const LINES_OF_ONE_LINK: &[u8] =
     b"version 1\nask 7 v1 route cost=10 hops=1 again=no ero=000c140101080a000c022000\n";
 
-/// Three links, and a route that visits its tail-end twice.
+/// Two links both ways, and a route that visits its tail-end twice.
 const LOOSE_HOP: &[u8] =
-    b"put,1.1.1.1,10.0.12.1,2.2.2.2,10.0.12.2,10,0x1,1000,1000,1000,1000,1000,1000,1000,1000\nput,2.2.2.2,10.0.23.2,3.3.3.3,10.0.23.3,10,0x1,1000,1000,1000,1000,1000,1000,1000,1000\nput,3.3.3.3,10.0.23.3,2.2.2.2,10.0.23.2,10,0x1,1000,1000,1000,1000,1000,1000,1000,1000\nend,1,3\nask,5,1.1.1.1,2.2.2.2,0,1,0x0,0x0,0x0,3.3.3.3/32l\n";
+    b"put,1.1.1.1,10.0.12.1,2.2.2.2,10.0.12.2,10,0x1,1000,1000,1000,1000,1000,1000,1000,1000\nput,2.2.2.2,10.0.23.2,3.3.3.3,10.0.23.3,10,0x1,1000,1000,1000,1000,1000,1000,1000,1000\nput,3.3.3.3,10.0.23.3,2.2.2.2,10.0.23.2,10,0x1,1000,1000,1000,1000,1000,1000,1000,1000\nput,2.2.2.2,10.0.12.2,1.1.1.1,10.0.12.1,10,0x1,0,0,0,0,0,0,0,0\nend,1,4\nask,5,1.1.1.1,2.2.2.2,0,1,0x0,0x0,0x0,3.3.3.3/32l\n";
 
 const LINES_OF_LOOSE_HOP: &[u8] =
     b"version 1\nask 5 v1 route cost=30 hops=3 again=yes ero=001c140101080a000c02200001080a001703200001080a0017022000\n";
@@ -52,12 +52,12 @@ fn ends_whole_or_refused(alloc: Global, script: &[u8], rows: u32, lines: &[u8]) 
 
 #[test]
 fn solves_one_link(rt: HostRuntime) {
-    assert!(rt; ends_whole_or_refused(rt.alloc(), ONE_LINK, 3, LINES_OF_ONE_LINK));
+    assert!(rt; ends_whole_or_refused(rt.alloc(), ONE_LINK, 4, LINES_OF_ONE_LINK));
 }
 
 #[test]
 fn solves_a_loose_hop(rt: HostRuntime) {
-    assert!(rt; ends_whole_or_refused(rt.alloc(), LOOSE_HOP, 5, LINES_OF_LOOSE_HOP));
+    assert!(rt; ends_whole_or_refused(rt.alloc(), LOOSE_HOP, 6, LINES_OF_LOOSE_HOP));
 }
 
 /// What a run over the torn journal and the request, by two workers, answers, and what it writes. No
