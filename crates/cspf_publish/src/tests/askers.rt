@@ -2,10 +2,10 @@
 ghost use Rattle.std.specs.Prelude.{◌≡◌};
 
 use super::fixtures::{
-    ONE, TWO, apply_empty, batch_and_request, first_batch, opened, request, route_of,
+    ONE, TWO, apply_empty, back, batch, batch_and_request, first_batch, opened, request, route_of,
 };
 use crate::{Answer, AskError, Asker, Publisher, Told, open};
-use cspf_db::{Batch, Request};
+use cspf_db::{Batch, Change, Request};
 use cspf_search::Outcome;
 use std::alloc::Global;
 use std::io::Write;
@@ -88,6 +88,37 @@ fn told_and_untold(rt: HostRuntime) -> Result<(), Fail> {
     let first = first_batch(rt.alloc())?;
     let back = request(8, TWO, ONE, 1)?;
     tells_and_asks(&rt, rt.alloc(), &first, &back);
+    Ok(())
+}
+
+/// An asker asks before the reverse of the link goes and behind it.
+fn asks_around_a_drop<R: Wait + Abort>(
+    rt: &R,
+    alloc: Global,
+    batches: (&Batch, &Batch),
+    requests: (&Request, &Request),
+) {
+    let (mut publisher, mut asker) = opened(rt, alloc, Vec::<u8>::new(alloc));
+    let first = publisher.apply(rt, alloc, batches.0);
+    let with = asker.ask(alloc, requests.0);
+    let second = publisher.apply(rt, alloc, batches.1);
+    let without = asker.ask(alloc, requests.1);
+    publisher.close(rt);
+    assert!(rt; first == Ok(1) && route_of(&with) == Some((7, 1, 10, 1)));
+    assert!(rt; second == Ok(2) && has_no_route(&without));
+}
+
+#[test]
+fn asked_once_the_reverse_is_dropped(rt: HostRuntime) -> Result<(), Fail> {
+    let (first, with) = batch_and_request(rt.alloc())?;
+    let without = request(8, ONE, TWO, 1000)?;
+    let back = back()?;
+    let gone = Change::Remove {
+        from: back.from,
+        local: back.local,
+    };
+    let second = batch(rt.alloc(), 2, &[gone])?;
+    asks_around_a_drop(&rt, rt.alloc(), (&first, &second), (&with, &without));
     Ok(())
 }
 

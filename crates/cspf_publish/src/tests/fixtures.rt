@@ -16,9 +16,10 @@ pub(super) const ONE: u32 = 0x01010101; // 1.1.1.1
 
 pub(super) const TWO: u32 = 0x02020202; // 2.2.2.2
 
-/// The text of batch 1 with `put_of_row`, 102 bytes.
+/// The text of batch 1, 172 bytes.
 pub(super) const TEXT: &[u8] = b"put,1.1.1.1,10.0.12.1,2.2.2.2,10.0.12.2,10,0x00000001,\
-1000,1000,1000,1000,1000,1000,1000,1000\nend,1,1\n";
+1000,1000,1000,1000,1000,1000,1000,1000\n\
+put,2.2.2.2,10.0.12.2,1.1.1.1,10.0.12.1,10,0x00000001,0,0,0,0,0,0,0,0\nend,1,2\n";
 
 /// A link of metric 10 with 1,000 bytes per second unreserved, from 1.1.1.1 by 10.0.12.1 to
 /// 2.2.2.2.
@@ -28,6 +29,19 @@ pub(super) fn only_link() -> Result<Link, LinkError> {
     Link::new(from, local, to, remote, 10, Mask::new(1), [1000; 8])
 }
 
+/// The reverse of the link, with no bandwidth.
+pub(super) fn back() -> Result<Link, LinkError> {
+    let link = only_link()?;
+    let (from, local) = (link.to, link.remote);
+    let (to, remote) = (link.from, link.local);
+    Link::new(from, local, to, remote, link.metric, link.group, [0; 8])
+}
+
+/// Puts of the link and of its reverse.
+pub(super) fn both_ways() -> Result<[Change; 2], LinkError> {
+    Ok([Change::Put(only_link()?), Change::Put(back()?)])
+}
+
 pub(super) fn batch(alloc: Global, number: u32, changes: &[Change]) -> Result<Batch, AllocError> {
     Ok(Batch {
         number,
@@ -35,9 +49,9 @@ pub(super) fn batch(alloc: Global, number: u32, changes: &[Change]) -> Result<Ba
     })
 }
 
-/// Batch 1, which puts the link.
+/// Batch 1, which puts the link and its reverse.
 pub(super) fn first_batch(alloc: Global) -> Result<Batch, Fail> {
-    Ok(batch(alloc, 1, &[Change::Put(only_link()?)])?)
+    Ok(batch(alloc, 1, &both_ways()?)?)
 }
 
 /// The batch with this number and without a change.

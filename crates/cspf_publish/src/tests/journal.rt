@@ -95,7 +95,7 @@ fn stops_at_batch_2<R: Wait>(rt: &R, alloc: Global, publisher: &mut Publisher<Na
 /// A fault in the text of batch 2 stops the publisher for good: version 1 stays published, and the
 /// journal keeps what it had by then.
 fn stops_at_version_1<R: Wait + Abort>(rt: &R, alloc: Global, first: &Batch, request: &Request) {
-    let journal = empty_writer(alloc, 1, 105, Some(ErrorKind::Other));
+    let journal = empty_writer(alloc, 1, 175, Some(ErrorKind::Other));
     let (mut publisher, mut asker) = opened(rt, alloc, journal);
     let applied = publisher.apply(rt, alloc, first);
     let stops = stops_at_batch_2(rt, alloc, &mut publisher);
@@ -104,7 +104,7 @@ fn stops_at_version_1<R: Wait + Abort>(rt: &R, alloc: Global, first: &Batch, req
     let held = publisher.close(rt).held;
     assert!(rt; applied == Ok(1) && stops && versions == (1, 1, 1));
     assert!(rt; route_of(&answer) == Some((7, 1, 10, 1)));
-    assert!(rt; held.len() == 105 && held.starts_with(TEXT) && held.ends_with(b"end"));
+    assert!(rt; held.len() == 175 && held.starts_with(TEXT) && held.ends_with(b"end"));
 }
 
 #[test]
@@ -124,7 +124,7 @@ fn journal_in_pieces(rt: HostRuntime) -> Result<(), Fail> {
         let (applied, answer, journal) = applied_twice(&rt, alloc, journal, &first, 2, &request);
         assert!(rt; applied == (Ok(1), Ok(2)) && route_of(&answer) == Some((7, 2, 10, 1)));
         let text = journal.held;
-        assert!(rt; text.len() == 110 && text.starts_with(TEXT) && text.ends_with(b"end,2,0\n"));
+        assert!(rt; text.len() == 180 && text.starts_with(TEXT) && text.ends_with(b"end,2,0\n"));
     }
     Ok(())
 }

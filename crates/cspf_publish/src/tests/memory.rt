@@ -3,10 +3,10 @@
 ghost use Rattle.std.specs.Prelude.{◌≡◌, IfSome};
 
 use super::fixtures::{
-    ONE, TEXT, TWO, batch, is_of_no_batch, only_link, opened, request, route_of,
+    ONE, TEXT, TWO, batch, both_ways, is_of_no_batch, only_link, opened, request, route_of,
 };
 use crate::{Answer, ApplyError, AskError, Asker, OpenError, Publisher, open};
-use cspf_db::{Batch, Change, Link, Request};
+use cspf_db::{Batch, Link, Request};
 use cspf_search::Outcome;
 use std::alloc::Global;
 use std::io;
@@ -160,8 +160,9 @@ fn publishes_and_answers<R: Wait + Abort>(
 #[test]
 fn publisher_while_memory_is_refused(rt: HostRuntime) -> Result<(), Fail> {
     let link = only_link()?;
+    let changes = both_ways()?;
     let request = request(7, ONE, TWO, 1000)?;
-    let Ok(first) = batch(rt.alloc(), 1, &[Change::Put(link)]) else {
+    let Ok(first) = batch(rt.alloc(), 1, &changes) else {
         return Ok(());
     };
     if let Some(opened) = opened_at_last(&rt, rt.alloc()) {

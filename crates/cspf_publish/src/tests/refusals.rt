@@ -31,7 +31,7 @@ fn refuses_batches<R: Wait + Abort>(rt: &R, alloc: Global, first: &Batch, unfit:
     assert!(rt; first == Ok(1) && second == Ok(2) && version == 2);
     assert!(rt; wrong == Err(ApplyError::WrongNumber { expected: 3 }));
     assert!(rt; refused == Err(ApplyError::Refused(Refusal::Absent { at: 1 })));
-    assert!(rt; text.len() == 110 && text.starts_with(TEXT) && text.ends_with(b"end,2,0\n"));
+    assert!(rt; text.len() == 180 && text.starts_with(TEXT) && text.ends_with(b"end,2,0\n"));
 }
 
 #[test]
