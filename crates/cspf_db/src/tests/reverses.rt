@@ -1,6 +1,4 @@
 //! Where the reverses of links are, after batches that put and drop them and that move rows.
-ghost use Rattle.std.specs.Prelude.{◌<◌};
-
 use crate::{Batch, Change, Link, LinkError, NO_LINK, Table};
 use cspf_addr::{Addr, Mask};
 use std::alloc::{AllocError, Global};
@@ -196,12 +194,10 @@ struct Draw {
 }
 
 impl Draw {
-    // A number below another.
-    fn below(&mut self, most: u32) -> u32
-        requires { 0 < most }
-    {
+    // A number below another, or 0.
+    fn below(&mut self, most: u32) -> u32 {
         self.state = self.state.wrapping_mul(1664525).wrapping_add(1013904223);
-        (self.state >> 8) % most
+        (self.state >> 16).checked_rem(most).unwrap_or(0)
     }
 
     // A link of the table, if it has one.
@@ -214,9 +210,7 @@ impl Draw {
     }
 
     // A link between two of eight routers, each of which has this many interfaces.
-    fn new_link(&mut self, interfaces: u32) -> Result<Link, LinkError>
-        requires { 0 < interfaces }
-    {
+    fn new_link(&mut self, interfaces: u32) -> Result<Link, LinkError> {
         let from = self.below(8);
         let to = from.wrapping_add(1).wrapping_add(self.below(7)) % 8;
         link(from, self.below(interfaces), to, self.below(interfaces))
@@ -224,9 +218,7 @@ impl Draw {
 
     // A change to the table: a new link, the reverse of one that it has, a link back over other
     // interfaces, one that is dropped, or one that runs elsewhere from then on.
-    fn change(&mut self, table: &Table, interfaces: u32) -> Result<Change, LinkError>
-        requires { 0 < interfaces }
-    {
+    fn change(&mut self, table: &Table, interfaces: u32) -> Result<Change, LinkError> {
         let kind = self.below(8);
         let Some(old) = self.link_of(table) else {
             return Ok(Change::Put(self.new_link(interfaces)?));
@@ -265,9 +257,7 @@ impl Draw {
         table: &Table,
         count: usize,
         interfaces: u32,
-    ) -> Result<Batch, Fail>
-        requires { 0 < interfaces }
-    {
+    ) -> Result<Batch, Fail> {
         let mut changes: Vec<Change> = Vec::new(alloc);
         for _ in 0..100_000 {
             if changes.len() == count {
