@@ -253,7 +253,7 @@ class Network:
         last = len(targets) - 1
         out = {}
         for link in self.links.values():
-            if admissible(link, request):
+            if admissible(self, link, request):
                 out.setdefault(link["from"], []).append(link)
         heap, settled, drawn = [(0, 0, 1, (), 0, request["from"], ())], set(), 0
         while heap:
@@ -298,7 +298,18 @@ class Network:
         return self.answer(version, row(next(records(text)))[1])
 
 
-def admissible(link, request):
+def admissible(network, link, request):
+    """The request accepts the link, and the database has its reverse, whatever that one's attributes."""
+    return accepts(link, request) and has_reverse(network, link)
+
+
+def has_reverse(network, link):
+    """Whether there is the other direction of the circuit: from where the link ends, between the same two interfaces."""
+    back = network.links.get((link["to"], link["remote"]))
+    return back is not None and (back["to"], back["remote"]) == (link["from"], link["local"])
+
+
+def accepts(link, request):
     """The three affinity tests, and the bandwidth at the setup priority."""
     if link["group"] & request["exclude_any"]:
         return False

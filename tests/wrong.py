@@ -252,13 +252,40 @@ def ends_well_after_refusals(it):
 
 
 def looks_at_bandwidth_at_priority_0(it):
-    right = it.admissible
-    it.admissible = lambda link, request: right(link, {**request, "setup": 0})
+    right = it.accepts
+    it.accepts = lambda link, request: right(link, {**request, "setup": 0})
 
 
 def fits_no_link_to_an_empty_include_any(it):
+    right = it.accepts
+    it.accepts = lambda link, request: right(link, request) and bool(link["group"] & request["include_any"])
+
+
+def asks_for_no_reverse(it):
+    it.has_reverse = lambda network, link: True
+
+
+def takes_any_link_back_between_two_routers(it):
+    it.has_reverse = lambda network, link: any((back["from"], back["to"]) == (link["to"], link["from"]) for back in network.links.values())
+
+
+def takes_a_link_from_the_far_interface_to_anywhere(it):
+    it.has_reverse = lambda network, link: (link["to"], link["remote"]) in network.links
+
+
+def wants_a_reverse_that_is_admissible_too(it):
     right = it.admissible
-    it.admissible = lambda link, request: right(link, request) and bool(link["group"] & request["include_any"])
+    it.admissible = lambda network, link, request: (
+        right(network, link, request) and it.accepts(network.links[link["to"], link["remote"]], request))
+
+
+def meets_no_hop_by_a_link_without_a_reverse(it):
+    right = it.Network.owners
+
+    def owners(network, prefix, bits):
+        both_ways = it.Network({key: link for key, link in network.links.items() if it.has_reverse(network, link)})
+        return right(both_ways, prefix, bits) | {router for router in network.routers() if it.covers(prefix, bits, router)}
+    it.Network.owners = owners
 
 
 def goes_by_local_addresses_alone(it):
@@ -410,7 +437,8 @@ RULES = [
     names_a_bad_hop_before_too_many, reads_eight_hops, looks_at_sublengths_before_types, refuses_padding, looks_at_the_class_before_the_length,
     keeps_changes_after_a_refused_end_row, names_the_count_before_the_number, takes_a_batch_of_a_wrong_count, takes_torn_journals,
     refuses_torn_journals_that_are_accepted, looks_at_requests_before_the_journal, ends_well_after_refusals, looks_at_bandwidth_at_priority_0,
-    fits_no_link_to_an_empty_include_any, goes_by_local_addresses_alone, calls_every_line_good, names_a_doubled_line_before_a_foreign_one,
+    fits_no_link_to_an_empty_include_any, asks_for_no_reverse, takes_any_link_back_between_two_routers,
+    takes_a_link_from_the_far_interface_to_anywhere, wants_a_reverse_that_is_admissible_too, meets_no_hop_by_a_link_without_a_reverse, goes_by_local_addresses_alone, calls_every_line_good, names_a_doubled_line_before_a_foreign_one,
     judges_at_the_last_version, judges_no_version_past_the_last, takes_a_later_line_of_an_id, judges_other_lines_of_a_run,
     takes_two_requests_of_one_id, leaves_unanswered_requests_out, forgets_what_is_said_of_routers_met_again, names_a_version_before_a_doubled_line,
     counts_a_good_line_too_many, counts_places_without_lines_that_are_passed_over, reads_no_last_reply_without_a_line_feed,
