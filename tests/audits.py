@@ -17,7 +17,8 @@ TOP = os.path.dirname(os.path.dirname(os.path.abspath(__file__)))
 FREE = ",".join(["1000"] * 8)
 MASKS = "0x0,0x0,0x0"
 LINK = f"put,1.1.1.1,10.0.12.1,2.2.2.2,10.0.12.2,10,0x1,{FREE}\n"
-JOURNAL = LINK + "end,1,1\n"
+BACK = f"put,2.2.2.2,10.0.12.2,1.1.1.1,10.0.12.1,10,0x1,{','.join(['0'] * 8)}\n"
+JOURNAL = LINK + BACK + "end,1,2\n"
 ASK = f"ask,7,1.1.1.1,2.2.2.2,0,1000,{MASKS},\n"
 ASKS = ASK + ASK.replace("ask,7", "ask,8")
 ROUTE = "route cost=10 hops=1 again=no ero=000c140101080a000c022000"
@@ -147,7 +148,7 @@ def refusals(audit):
 
 def cut_journals(audit):
     """Journals that are cut at each byte, with a reply at each version."""
-    journal = JOURNAL + "drop,1.1.1.1,10.0.12.1\nend,2,1\n" + LINK + "end,3,1\n"
+    journal = JOURNAL + "drop,1.1.1.1,10.0.12.1\ndrop,2.2.2.2,10.0.12.2\nend,2,2\n" + LINK + BACK + "end,3,2\n"
     requests = "".join(ASK.replace("ask,7", f"ask,{version}") for version in range(4))
     replies = "".join(f"ask {version} v{version} {ROUTE if version % 2 else 'unknown-from'}\n" for version in range(4))
     audit.says("a journal that isn't cut", 0, "good=4 faults=0\n", journal, requests, replies)

@@ -36,6 +36,7 @@ HERE = os.path.dirname(os.path.abspath(__file__))
 MOST_DIFFERENCES = 20
 FREE = ",".join(["1000"] * 8)
 LINK = f"put,1.1.1.1,10.0.12.1,2.2.2.2,10.0.12.2,10,0x1,{FREE}"
+BACK = f"put,2.2.2.2,10.0.12.2,1.1.1.1,10.0.12.1,10,0x1,{FREE}"
 ASK = "ask,7,1.1.1.1,2.2.2.2,0,1000,0x0,0x0,0x0,"
 ROWS = [
     LINK, "drop,1.1.1.1,10.0.12.1", "end,2,0", ASK, "ask,1,1.1.1.1,2.2.2.2,7,1000,0xA,0x1,0x0000001,",
@@ -183,7 +184,7 @@ def drawn_run(seed, number):
 
 
 OBJECT = bytes.fromhex("00141401" "81080a0a0a0a0801" "01080a000c022000")
-BEFORE, BEHIND = f"{LINK}\nend,1,1\n", f"\nend,2,1\n{ASK}\n"
+BEFORE, BEHIND = f"{LINK}\n{BACK}\nend,1,2\n", f"\nend,2,1\n{ASK}\n"
 
 
 def cut_runs():
@@ -237,13 +238,14 @@ def limit_runs():
     def address(top, n):
         return f"{top}.{n >> 16}.{n >> 8 & 255}.{n & 255}"
 
-    def put(start, local, end):
-        return f"put,{start},{local},{end},10.0.12.2,10,0x1,{FREE}"
+    def put(start, local, end, remote="10.0.12.2"):
+        return f"put,{start},{local},{end},{remote},10,0x1,{FREE}"
 
     def script(*batches):
         return "".join("".join(f"{row}\n" for row in [*rows, f"end,{number},{len(rows)}"]) for number, rows in enumerate(batches, 1)) + f"{ASK}\n"
 
     links = [put("1.1.1.1", address(10, n), "2.2.2.2") for n in range(16_385)]
+    links[2] = put("2.2.2.2", "10.0.12.2", "1.1.1.1", address(10, 1))  # the reverse of the one before
     pairs = [put(address(1, 2 * n), "10.0.0.1", address(1, 2 * n + 1)) for n in range(513)]
     quarters = [links[at:at + 4096] for at in range(0, 16_384, 4096)]
     first, third = "drop,1.1.1.1,10.0.0.0", put(address(1, 0), "10.0.0.2", address(2, 0))

@@ -12,19 +12,45 @@ ROUTERS = 4
 # ---- valid rows: few routers and addresses, so that keys, hops and ends meet
 
 
-def put_row(draw, key):
-    end = draw.choice([router for router in range(ROUTERS) if router != key[0]])
-    free = ",".join(draw.choice(["0", "5", "1000", "1000"]) for _ in range(8))
-    return f"put,10.0.0.{key[0]},172.16.0.{key[1]},10.0.0.{end},192.168.0.{end},{draw.randrange(4)},0x{draw.randrange(8):x},{free}"
+def circuits(draw, links, routers, interfaces, many, gone):
+    """What a batch changes: `many` circuits at most that come or change, and `gone` that go. By the near end of each link, an
+    interface of a router, it has the far one, None where it goes. `links` has the far ends before the batch, and then after it.
+
+    A tenth of the circuits comes or goes in one direction alone."""
+    def whole():
+        return draw.random() < 0.9
+
+    changes = {}
+    for _ in range(many):
+        near, far = ((router, draw.randrange(interfaces)) for router in draw.sample(range(routers), 2))
+        if draw.random() < 0.7:
+            far = links.get(near, far)
+        if near not in changes and far not in changes:
+            changes.update({near: far, far: near} if whole() else {near: far})
+    going = [near for near, far in changes.items() if near in links and links[near] != far]  # their interfaces are taken
+    going += draw.sample(sorted(links), min(len(links), gone))
+    for near in going:
+        if near not in changes:
+            changes[near] = None
+        if links.get(links[near]) == near and links[near] not in changes and whole():
+            changes[links[near]] = None
+    for near, far in changes.items():
+        links.pop(near, None) if far is None else links.update({near: far})
+    return changes
 
 
-def batch_rows(draw, number, keys):
-    """A batch that fits where the links have these keys, which become those after it."""
-    changes = {(draw.randrange(ROUTERS), draw.randrange(5)): "put" for _ in range(draw.randrange(2, 12))}
-    changes.update((key, "drop") for key in draw.sample(sorted(keys), min(len(keys), draw.randrange(3))))
-    rows = [put_row(draw, key) if kind == "put" else f"drop,10.0.0.{key[0]},172.16.0.{key[1]}" for key, kind in changes.items()]
-    keys -= changes.keys()
-    keys |= {key for key, kind in changes.items() if kind == "put"}
+def row_of(near, far, attributes):
+    """A drop row where there is no far end, and else a put row."""
+    ends = ",".join(f"10.0.0.{router},172.16.0.{interface}" for router, interface in filter(None, (near, far)))
+    return f"put,{ends},{attributes}" if far else f"drop,{ends}"
+
+
+def batch_rows(draw, number, links):
+    """A batch that fits where these links are there, by both ends, which become those after it."""
+    rows = []
+    for near, far in circuits(draw, links, ROUTERS, 5, draw.randrange(2, 8), draw.choice([0, 0, 1])).items():
+        free = ",".join(draw.choice(["0", "5", "1000", "1000"]) for _ in range(8))
+        rows.append(row_of(near, far, f"{draw.randrange(4)},0x{draw.randrange(8):x},{free}"))
     return [*rows, f"end,{number},{len(rows)}"]
 
 
@@ -61,34 +87,28 @@ def stream_of(rows):
 
 
 def script(draw):
-    keys, rows = set(), []
+    links, rows = {}, []
     for number in range(1, draw.randrange(2, 5)):
-        rows += batch_rows(draw, number, keys) + ask_rows(draw)
+        rows += batch_rows(draw, number, links) + ask_rows(draw)
     return stream_of(rows)
 
 
 def journal(draw):
-    keys, rows = set(), []
+    links, rows = {}, []
     for number in range(1, draw.randrange(1, 5)):
-        rows += batch_rows(draw, number, keys)
+        rows += batch_rows(draw, number, links)
     return stream_of(rows)
 
 
 def updates(draw, batches, routers=12):
     """Batches that fit, one after the other, on a larger network."""
-    keys, rows = set(), []
+    links, rows = {}, []
     for number in range(1, batches + 1):
-        changes = {}
-        for _ in range(6):
-            start, end = draw.sample(range(routers), 2)
-            key = f"10.0.0.{start},172.16.0.{draw.randrange(4)}"
+        changes = circuits(draw, links, routers, 4, 4, draw.choice([0, 1]))
+        for near, far in changes.items():
             free = ",".join(str(draw.choice([0, 5, 10])) for _ in range(8))
-            changes[key] = f"put,{key},10.0.0.{end},192.168.0.{end},{draw.randrange(1, 9)},0x{draw.randrange(8):08x},{free}"
-        for key in draw.sample(sorted(keys), min(2, len(keys))):
-            changes[key] = f"drop,{key}"
-        keys -= changes.keys()
-        keys |= {key for key, row in changes.items() if row.startswith("put")}
-        rows += [*changes.values(), f"end,{number},{len(changes)}"]
+            rows.append(row_of(near, far, f"{draw.randrange(1, 9)},0x{draw.randrange(8):08x},{free}"))
+        rows.append(f"end,{number},{len(changes)}")
     return stream_of(rows)
 
 
@@ -298,7 +318,7 @@ def reply_retold(draw, lines, at):
         _, name, version, rest = lines[at].split(" ", 3)
         other = lines[draw.choice(told)]
         lines[at:at + draw.choice([0, 1, 1])] = [draw.choice([
-            f"ask {draw.randrange(9)} {version} {rest}", f"ask {name} v{draw.randrange(5)} {rest}", f"ask {name} v{int(version[1:]) + draw.choice([1, 1, 4])} {rest}",
+            f"ask {draw.choice([draw.randrange(9)] * 4 + [2**64 - 1, 2**64])} {version} {rest}", f"ask {name} v{draw.randrange(5)} {rest}", f"ask {name} v{int(version[1:]) + draw.choice([1, 1, 4])} {rest}",
             f"ask {name} {version} {draw.choice(['none', 'unknown-from', 'unknown-to', rest.upper(), rest + ' '])}",
             f"ask {name} {version} {other.split(' ', 3)[3]}", lines[at].replace("again=no", "again=yes"), lines[at].replace("again=yes", "again=no"),
         ])]
@@ -361,6 +381,5 @@ def changed_object(draw):
 
 def object_script(draw):
     """A database, and requests each of whose hops is a changed object."""
-    keys = set()
-    rows = batch_rows(draw, 1, keys)
+    rows = batch_rows(draw, 1, {})
     return stream_of([*rows, *(ask_row(draw, name, changed_object(draw)) for name in range(8))])

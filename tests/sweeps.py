@@ -131,18 +131,25 @@ def parts(program, checks):
     checks.same("routers come as numbers", facts(program, wide, "", " out ", "--fail", "routers"),
                 ["scenario 1 out router 9.0.0.1", "scenario 2 out router 10.0.0.9", "scenario 3 out router 10.0.0.10"])
     many = [link(A, address_text(address_number("10.1.0.0") + at), B, address_text(address_number("10.2.0.0") + at)) for at in range(4100)]
-    rows = journal(*many[:4096]) + "".join(many[4096:]) + "end,2,4\n"
+    back = link(B, "10.2.0.0", A, "10.1.0.0")
+    rows = journal(*many[:4096]) + "".join(many[4096:]) + back + "end,2,5\n"
     checks.same("more removals than a batch has", facts(program, rows, ask(1, A, B), "scenario", "--fail", "routers"), [
         f"scenario 1 out router {A}", "scenario 1 lost request 1 unknown-from was=10", "scenario 1 lost=1 longer=0 most=0 overbooked=0",
         f"scenario 2 out router {B}", "scenario 2 lost request 1 unknown-from was=10", "scenario 2 lost=1 longer=0 most=0 overbooked=0",
         "scenarios=2 lost=2 longer=0 overbooked=0"])
-    twins = journal(link(A, "10.0.12.1", B, "10.0.12.9"), link(A, "10.0.12.2", B, "10.0.12.9"))
-    checks.same("a link fails beside one to the same address", facts(program, twins, ask(1, A, B) + ask(2, A, B), " out | overbooked "), [
-        f"before overbooked {A} 10.0.12.1 {B} 10.0.12.9 priority=7 asked=120 above=0 unreserved=100",
-        f"scenario 1 out link {A} 10.0.12.1 {B} 10.0.12.9",
-        f"scenario 1 overbooked {A} 10.0.12.2 {B} 10.0.12.9 priority=7 asked=120 above=0 unreserved=100",
-        f"scenario 2 out link {A} 10.0.12.2 {B} 10.0.12.9",
-        f"scenario 2 overbooked {A} 10.0.12.1 {B} 10.0.12.9 priority=7 asked=120 above=0 unreserved=100"])
+    twins = journal(link(A, "10.0.12.1", B, "10.0.12.9", 5), link(A, "10.0.12.2", B, "10.0.12.9"), link(B, "10.0.12.9", A, "10.0.12.2"))
+    full = f"overbooked {A} 10.0.12.2 {B} 10.0.12.9 priority=7 asked=120 above=0 unreserved=100"
+    checks.same("a circuit fails beside a cheaper link of one way to the same address",
+                facts(program, twins, ask(1, A, B) + ask(2, A, B), " out | overbooked | lost request "), [
+                    f"before {full}", f"scenario 1 out link {A} 10.0.12.1 {B} 10.0.12.9", f"scenario 1 {full}",
+                    f"scenario 2 out circuit {A} 10.0.12.2 {B} 10.0.12.9",
+                    "scenario 2 lost request 1 none was=10", "scenario 2 lost request 2 none was=10"])
+    stub = journal(circuit(1, 2), link(B, "10.0.23.2", C, "10.0.23.3"))
+    checks.same("a link of one way is on no route, and its address meets hops",
+                facts(program, stub, ask(1, A, B, hops="10.0.23.2/32l") + ask(2, A, C), "without request|lost request| out "), [
+                    "before without request 2 none", "scenario 1 out circuit 1.1.1.1 10.0.12.1 2.2.2.2 10.0.12.2",
+                    "scenario 1 lost request 1 unknown-from was=10", f"scenario 2 out link {B} 10.0.23.2 {C} 10.0.23.3",
+                    "scenario 2 lost request 1 none was=10"])
     equal = journal(circuit(1, 2), circuit(2, 4), circuit(1, 3), circuit(3, 4))
     checks.same("another route of the same cost isn't longer", facts(program, equal, ask(1, A, D), "lost=.*overbooked"),
                 [*(f"scenario {at} lost=0 longer=0 most=0 overbooked=0" for at in (1, 2, 3, 4)), "scenarios=4 lost=0 longer=0 overbooked=0"])
@@ -151,15 +158,17 @@ def parts(program, checks):
 def loads(program, checks):
     """Which link of several a route takes, and what its bandwidth is counted against: one sweep, each case with routers of its own."""
     def twins(*links):
-        """Links from A to B that lead to one address; each is a local address, a metric, a group and what is unreserved."""
-        return "".join(link(A, f"10.0.12.{local}", B, "10.0.12.2", metric, group, free) for local, metric, group, free in links)
+        """Circuits between A and B; each is a local address, and a metric, a group and what is unreserved from A to B."""
+        ends = [((A, f"10.0.12.{local}"), (B, f"10.0.12.{local + 1}"), values) for local, *values in links]
+        return "".join(link(*one, *other, *values) + link(*other, *one, free=0) for one, other, values in ends)
 
     def full(local, priority, asked, above, unreserved=100):
-        return f"before overbooked {A} 10.0.12.{local} {B} 10.0.12.2 priority={priority} asked={asked} above={above} unreserved={unreserved}\n"
+        return (f"before overbooked {A} 10.0.12.{local} {B} 10.0.12.{local + 1} "
+                f"priority={priority} asked={asked} above={above} unreserved={unreserved}\n")
 
     three, pair = "".join(ask(at, A, B, bandwidth=40) for at in (1, 2, 3)), circuit(1, 2)
     colors = twins((10, 5, "0x6", 100), (9, 5, "0x2", 100), (8, 5, "0x1", 100))
-    least = f"put,{A},10.0.12.1,{B},10.0.12.2,1,0x1,90,80,70,60,50,40,30,20\n"
+    least = f"put,{A},10.0.12.1,{B},10.0.12.2,1,0x1,90,80,70,60,50,40,30,20\n" + link(B, "10.0.12.2", A, "10.0.12.1")
     cases = [
         ("of two links the lower address as a number", twins((10, 5, "0x1", 100), (9, 5, "0x1", 100)), three, full(9, 7, 120, 0)),
         ("of two links the cheaper", twins((10, 4, "0x1", 100), (9, 5, "0x1", 100)), three, full(10, 7, 120, 0)),
@@ -265,7 +274,7 @@ def drawn(draw):
         (one, other), free = draw.sample(range(1, 7), 2), draw.choice([10, 20, 30])
         ends = [(f"10.0.0.{number}", f"10.1.{at}.{number}") for number in (one, other)]
         two_ways = (link(*ends[0], *ends[1], draw.randrange(1, 4), free=free), link(*ends[1], *ends[0], draw.randrange(1, 4), free=free))
-        puts += two_ways[:draw.choice([1, 2, 2, 2])]
+        puts += two_ways[:1 if draw.random() < 0.1 else 2]
         locals_.append(ends[0][1])
     asks = []
     for at in range(14):
@@ -328,7 +337,7 @@ def refused(program, checks):
             ("a request that is none", RING, ASKS + "ask,5\n", "request row 5 refused: fields"),
             ("a bad mask", RING, ASKS.replace("0x2", "2"), "request row 3 refused: mask 8"),
             ("two requests of one id", RING, ASKS + ask(2, A, D), "request row 5 refused: same-id"),
-            ("neighbors of one address", journal(circuit(1, 2), link(A, "10.0.13.1", C, "10.0.12.2")), ASKS,
+            ("neighbors of one address", journal(circuit(1, 2), link(A, "10.0.13.1", C, "10.0.12.2"), link(C, "10.0.12.2", A, "10.0.13.1")), ASKS,
              f"{B} and {C} have the same address 10.0.12.2, seen from {A}")):
         checks.same(name, sweep(program.path, rows, asks), (1, "", f"sweep: {words}\n"))
     for words in (["/nowhere/journal", "/dev/null"], ["/dev/null", TOP]):
