@@ -1,5 +1,6 @@
 //! The plain search that `bench/run` holds `best` against: Dijkstra's over packed arrays, which stops
-//! at the tail-end and breaks ties as they come. It reads the rows of a journal and of requests
+//! at the tail-end and breaks ties as they come. A link without a reverse is left out while the
+//! network is read. It reads the rows of a journal and of requests
 //! without hops, and answers as `search_bench` does: `plain ANSWERS COST MICROSECONDS`.
 use std::cmp::Reverse;
 use std::collections::{BTreeMap, BinaryHeap};
@@ -89,6 +90,11 @@ fn main() {
     let mut network = Network { first: vec![0; routers.len() + 1], links: Vec::new() };
     for (key, (end, line)) in &rows {
         let row: Vec<&str> = line.split(',').collect();
+        let far = (*end, row[4].parse().unwrap());
+        let runs_back = |line: &str| line.split(',').skip(3).take(2).eq(row[1..3].iter().copied());
+        if !rows.get(&far).is_some_and(|(_, back)| runs_back(back)) {
+            continue;
+        }
         network.first[routers.binary_search(&key.0).unwrap() + 1] += 1;
         network.links.push(Link {
             end: routers.binary_search(end).unwrap() as u16,
