@@ -69,6 +69,8 @@ def routes(checks):
                                ("another cost", REPLY.replace("cost=10", "cost=11"), "7")):
         status, picture, said = draw(PAIR + "end,1,2\n", "--ask", ask, replies=replies)
         checks.true(f"{name} is refused", status == 1 and picture == "" and said.startswith("draw: "), said)
+    status, picture, said = draw(PAIR + "end,1,2\ndrop,2.2.2.2,10.0.0.2\nend,2,1\n", "--ask", "7", replies=REPLY)
+    checks.true("a route over a link of one way is refused", status == 1 and picture == "" and said.startswith("draw: "), said)
 
 
 def places(checks):
