@@ -74,6 +74,11 @@ def worked(audit):
     audit.says("an older version", 0, "good=2 faults=0\n", JOURNAL, ASKS, GOOD.replace("7", "8", 1) + "ask 7 v0 unknown-from\n")
     audit.says("a foreign id twice", 2, "line 1 foreign\nline 2 foreign\nrequest 7 unanswered\ngood=0 faults=3\n", JOURNAL, ASK, "ask 9 v1 none\n" * 2)
     audit.says("a line behind one of no version", 2, "line 1 no-version\nline 2 doubled\ngood=0 faults=2\n", JOURNAL, ASK, "ask 7 v2 none\n" + GOOD)
+    one_way, three = LINK + "end,1,1\n", "".join(ASK.replace("ask,7", f"ask,{name}") for name in (1, 2, 3))
+    audit.says("a route over a link that runs one way", 2, "line 1 altered\ngood=0 faults=1\n", one_way, ASK, GOOD)
+    audit.says("no route over a link that runs one way", 0, "good=1 faults=0\n", one_way, ASK, "ask 7 v1 none\n")
+    withdrawn = JOURNAL + "drop,2.2.2.2,10.0.12.2\nend,2,1\n" + BACK + "end,3,1\n"
+    audit.says("a direction that is withdrawn and put back", 0, "good=3 faults=0\n", withdrawn, three, f"ask 1 v1 {ROUTE}\nask 2 v2 none\nask 3 v3 {ROUTE}\n")
     audit.says("a line behind one that names no id", 2, "line 1 unread\ngood=1 faults=1\n", JOURNAL, ASK, GOOD.replace("v1", "1") + GOOD)
 
 
