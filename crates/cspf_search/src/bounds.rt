@@ -35,14 +35,16 @@ fn pass(
     ensures passed { OnOk result
         (IsPassed query.entry.table.now query.entry.request.now base ring.new from reverse) }
 {
-    if reverse == NO_LINK {
+    let near = ring.near[usize::from(from)];
+    if reverse == NO_LINK || near <= base {
         return Ok(());
     }
     let link = &query.table.links()[usize::from(reverse)];
-    if !accepts(link, query.request) {
+    let ahead = base.saturating_add(link.metric);
+    if near <= ahead || !accepts(link, query.request) {
         return Ok(());
     }
-    ring.lower(from, base.saturating_add(link.metric))
+    ring.lower(from, ahead)
 }
 
 /// Lowers the bounds of the routers that links arrive from at the router at an index, which has

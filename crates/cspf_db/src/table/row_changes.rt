@@ -159,7 +159,7 @@ pub fn change_rows(
 }
 
 /// How many rows may be put between others or taken out one by one, as each moves those behind it.
-const FEW: usize = 16;
+const FEW: usize = 48;
 
 /// Whether changes, `added` of which add a link, put few rows between others and take few out.
 fn move_few(added: usize, changes: &[Change]) -> bool
