@@ -65,18 +65,7 @@ link_by from to metric n x y apart =
 -- the link back over the same two interfaces, with no bandwidth: what a link may be used for isn't
 -- asked of its reverse
 abbrev pub back : Link → Link
-back l =
-    record {
-      from = l.to;
-      local = l.remote;
-      to = l.from;
-      remote = l.local;
-      metric = l.metric;
-      group = l.group;
-      free = replicate 8 0;
-      eight = refl;
-      two_ends = λ same. l.two_ends (sym same);
-    }
+back l = link l.to l.remote l.from l.local l.metric 0 (λ same. l.two_ends (sym same))
 
 -- links, and the links back
 abbrev pub both_ways : List Link → List Link

@@ -7,11 +7,13 @@ use Rattle.std.proofs.lemmas.List.Edits.{length-between, get_or-between}
 use Rattle.cspf_db.specs.declared.link.Link.{Link}
 use Rattle.cspf_db.specs.declared.limits.TheConstants.{NO_LINK}
 use Rattle.cspf_db.specs.Database.{Database, Key, key_of, IsLinkOf, IsReverse, HasReverse}
-use Rattle.cspf_db.specs.Index.{links_of, links_from_index, IsReverseAt}
-use Rattle.cspf_db.specs.Tables.Rows.{database_of, AreByKey, AreEndsOf, AreSpansAtEnds, AreSpansOf, IsSpanOf}
+use Rattle.cspf_db.specs.Index.{links_of, links_from_index, router_list, IsReverseAt}
+use Rattle.cspf_db.specs.Tables.Rows.{database_of, AreByKey, AreEndsOf, AreSpansAtEnds, AreSpansOf, IsSpanOf, IsTable}
+use Rattle.cspf_db.specs.declared.table.Table.TheInside.{Inside}
 use Rattle.cspf_db.specs.Tables.Reverses.{IsIndexOfReverse, AreReversesBut, no_key}
 use Rattle.cspf_db.proofs.Databases.LinksOfRows.{rows_listed}
 use Rattle.cspf_db.proofs.Tables.EndColumn.{length-ends}
+use Rattle.cspf_db.proofs.Tables.RouterLists.{span_at, span_within}
 use Rattle.cspf_db.proofs.Tables.RowOrder.{one_index, own_keys, links_of-database_of}
 
 -- where no key is left out, neither of two is
@@ -49,7 +51,7 @@ reverse_test d l n told =
     ] refl
 
 -- the part of the column beside the links from a router
-pub reverses_beside : (d : Database) (rows : List Link) (column : List ℕ) (first end at : ℕ) → database_of rows ≡ d → AreByKey rows → AreReversesBut no_key rows column
+reverses_beside : (d : Database) (rows : List Link) (column : List ℕ) (first end at : ℕ) → database_of rows ≡ d → AreByKey rows → AreReversesBut no_key rows column
     → first ≤ end → end ≤ length rows → between first end rows ≡ links_from_index d at → (row : ℕ) (l : Link) → row < length (links_from_index d at)
     → IsReverseAt d (slice_index_or (links_from_index d at) row l) (slice_index_or (between first end column) row 0)
 reverses_beside d rows column first end at makes by_key are order bound part row l within =
@@ -61,10 +63,22 @@ reverses_beside d rows column first end at makes by_key are order bound part row
     rw (link, number) (index_told d rows makes by_key (slice_index_or rows (first + row) l) (slice_index_or column (first + row) 0) (are.each (first + row) l (omega (arith, inside, bound))))
 
 -- there are as many as links from the router
-pub as_many_beside : (d : Database) (rows : List Link) (column : List ℕ) (first end at : ℕ) → AreReversesBut no_key rows column
+as_many_beside : (d : Database) (rows : List Link) (column : List ℕ) (first end at : ℕ) → AreReversesBut no_key rows column
     → first ≤ end → end ≤ length rows → between first end rows ≡ links_from_index d at → length (between first end column) ≡ length (links_from_index d at)
 as_many_beside d rows column first end at are order bound part =
     length-between column first end (omega (arith, are.many, bound)) ∙ sym (length-between rows first end bound) ∙ ap length part
+
+-- at the span of a router of a table
+pub reverses_at_span : (d : Database) (a : Inside) → IsTable a → database_of a.rows.items ≡ d → (at : ℕ) (span : ℕ × ℕ) → at < length (router_list d) → span ≡ slice_index_or a.spans.items at span
+    → (length (between span.0 span.1 a.reverses.items) ≡ length (links_from_index d at))
+    × ((row : ℕ) (l : Link) → row < length (links_from_index d at) → IsReverseAt d (slice_index_or (links_from_index d at) row l) (slice_index_or (between span.0 span.1 a.reverses.items) row 0))
+reverses_at_span d a is makes at span h read =
+    let by_key = is.parts.rows.by_key in
+    let all = is.parts.routers.all in
+    let column = is.reverses.column in
+    let part = span_at d a.rows.items a.routers.items a.spans.items at span makes by_key all is.spans h read in
+    let order = span_within d a.rows.items a.routers.items a.spans.items at span makes all is.spans h read in
+    (as_many_beside d a.rows.items a.reverses.items span.0 span.1 at column order.0 order.1 part, reverses_beside d a.rows.items a.reverses.items span.0 span.1 at makes by_key column order.0 order.1 part)
 
 -- where the row with the key of the reverse runs elsewhere, there is no reverse
 pub not_back : (rows : List Link) → AreByKey rows → (l : Link) (at : ℕ) (d : Link) → at < length rows → key_of (slice_index_or rows at d) ≡ (l.to, l.remote)

@@ -77,22 +77,23 @@ overflow_cast-label-3 c =
     let few = few_rows d c.requires.source.query.listed (c.args.source.state % 1024) in
     omega (arith, within, few)
 
+-- the label of the link, and its cost
+abbrev label_of : goal.After-offer-arg-3-1 → Label
+label_of c = record { rank = c.args.source.rank + c.from.result * 16384 + 1; parent = c.args.source.at; place = c.args.source.state % 1024; row = c.args.edge.row }
+
+rank_is : (c : goal.After-offer-arg-3-1) → (label_of c).rank ≡ rank_of (slice_index_or c.args.source.nodes.now c.args.source.at nowhere) + c.args.edge.link.now.metric * 16384 + 1
+rank_is c = omega (arith, c.requires.source.rank, c.from.ensures, c.args.edge.same)
+
+metric_fits : (c : goal.After-offer-arg-3-1) → c.args.edge.link.now.metric < 2 ^ 32
+metric_fits c = omega (arith, c.args.edge.same)
+
 pub offer-requires-clause-offered : goal.offer-requires-clause-offered
 offer-requires-clause-offered c =
-    let small : c.args.edge.link.now.metric < 2 ^ 32 = omega (arith, c.args.edge.same) in
-    let label : Label = record { rank = c.args.source.rank + c.from.result * 16384 + 1; parent = c.args.source.at; place = c.args.source.state % 1024; row = c.args.edge.row } in
-    let rank : c.args.source.rank + c.from.result * 16384 + 1 ≡ rank_of (slice_index_or c.args.source.nodes.now c.args.source.at nowhere) + c.args.edge.link.now.metric * 16384 + 1 =
-    omega (arith, c.requires.source.rank, c.from.ensures, c.args.edge.same) in
-    link_offer c.args.source c.requires.source c.args.labels.now (heap_items c.args.heap.now) c.args.edge small c.requires.edge c.requires.before label refl refl refl rank
+    link_offer c.args.source c.requires.source c.args.labels.now (heap_items c.args.heap.now) c.args.edge (metric_fits c) c.requires.edge c.requires.before (label_of c) refl refl refl (rank_is c)
 
 pub offer-requires-clause-tied : goal.offer-requires-clause-tied
 offer-requires-clause-tied c =
-    let small : c.args.edge.link.now.metric < 2 ^ 32 = omega (arith, c.args.edge.same) in
-    let label : Label = record { rank = c.args.source.rank + c.from.result * 16384 + 1; parent = c.args.source.at; place = c.args.source.state % 1024; row = c.args.edge.row } in
-    let rank : c.args.source.rank + c.from.result * 16384 + 1 ≡ rank_of (slice_index_or c.args.source.nodes.now c.args.source.at nowhere) + c.args.edge.link.now.metric * 16384 + 1 =
-    omega (arith, c.requires.source.rank, c.from.ensures, c.args.edge.same) in
-    link_tied c.args.source c.requires.source c.args.labels.now
-    (heap_items c.args.heap.now) c.args.edge small c.requires.edge c.requires.before label refl refl refl rank
+    link_tied c.args.source c.requires.source c.args.labels.now (heap_items c.args.heap.now) c.args.edge (metric_fits c) c.requires.edge c.requires.before (label_of c) refl refl refl (rank_is c)
 
 pub returns-clause-after : goal.returns-clause-after
 returns-clause-after c =
