@@ -1,6 +1,12 @@
-"""Tests of feeds/ospf: the rows that it makes of a router's LSAs, played by an OSPF API made here."""
+"""Tests of feeds/ospf: the rows that it makes of a router's LSAs, played by an OSPF API made here.
+
+However slow the machine is, the same comes of them: the feed goes by a clock that the test moves on, once the feed has
+read all that it was sent and has nothing more to do. Where the real program is beside it, the clock is the real one,
+and what has to come is waited for.
+"""
 import os
 import re
+import runpy
 import select
 import signal
 import socket
@@ -16,8 +22,12 @@ NAN, INFINITE = float("nan"), float("inf")
 A, B, C = "1.1.1.1", "2.2.2.2", "3.3.3.3"
 A_B, B_A = "10.0.0.0", "10.0.0.1"  # addresses of the circuit between A and B; the first ends in .0
 B_C, C_B = "10.0.0.2", "10.0.0.3"
-PATIENCE = 10  # seconds that a test waits for what has to come
-QUIET = 0.6  # seconds in which nothing may come, three times what changes are collected for
+PATIENCE = 120  # real seconds that a test waits for what has to come
+COLLECT = 0.2  # seconds that the feed collects changes for
+QUIET = 3 * COLLECT  # seconds in which nothing may come
+LATE = 10.0  # seconds of the test's clock by which what has to come is there
+NOON = 1000.0  # what the test's clock shows first
+REPORT = struct.Struct("dQ")  # the time, and the bytes that were read by then
 
 
 def raw(address):
@@ -78,6 +88,7 @@ class Router:
         self.listening = socket.create_server(("127.0.0.1", 0))
         self.listening.settimeout(PATIENCE)
         self.port = self.listening.getsockname()[1]
+        self.sent = 0  # bytes; the end of a connection counts as one
 
     def accept(self):
         self.asking, peer = self.listening.accept()
@@ -85,6 +96,7 @@ class Router:
         self.asking.settimeout(PATIENCE)
         self.requests = self.take(24)
         self.asking.sendall(message(10, bytes(4)) * 2)
+        self.sent += 24
 
     def take(self, count):
         data = b""
@@ -94,33 +106,132 @@ class Router:
 
     def send(self, data):
         self.hearing.sendall(data)
+        self.sent += len(data)
 
     def hang_up(self):
         self.asking.close()
         self.hearing.close()
+        self.sent += 1
+
+
+def played(clock, reports, *words):
+    """The feed in a process of its own, with all patience for connections and, where the ends of two pipes are given, by
+    the clock that comes from the first. Each time that nothing is left to do, it says so to the second."""
+    sys.path.insert(0, os.path.dirname(FEED))
+    import api  # of the feed
+    api.PATIENCE = PATIENCE
+    sys.argv = [FEED, *words]
+    if clock >= 0:
+        at, count = NOON, 0
+        wait, read, receive = select.select, os.read, socket.socket.recv
+
+        def counted(data):
+            nonlocal count
+            count += len(data) or 1
+            return data
+
+        def selected(readers, writers, others, patience=None):
+            nonlocal at
+            end = None if patience is None else at + patience
+            while True:
+                ready = wait([*readers, clock], writers, others, 0)
+                is_due = end is not None and at >= end
+                if not any(ready) and not is_due:
+                    if not writers:
+                        os.write(reports, REPORT.pack(at, count))
+                    ready = wait([*readers, clock], writers, others)
+                found = [each for each in ready[0] if each != clock]
+                if found or ready[1] or is_due:
+                    return found, *ready[1:]
+                at, = struct.unpack("d", read(clock, 8))
+
+        time.monotonic = lambda: at
+        select.select = selected
+        os.read = lambda source, most: counted(read(source, most)) if source == 0 else read(source, most)
+        socket.socket.recv = lambda made, most: counted(receive(made, most))
+    runpy.run_path(FEED, run_name="__main__")
 
 
 class Feed:
-    """A feed at work, whose program is the test."""
+    """A feed at work, whose program is the test, or a command; then it goes by the real clock."""
 
     def __init__(self, router, *words, command=()):
-        self.process = subprocess.Popen([FEED, "--port", str(router.port), *words, *command], stdin=subprocess.PIPE,
-                                        stdout=subprocess.PIPE, stderr=subprocess.PIPE, bufsize=0)
-        self.unread = b""
+        ends = ("-1", "-1")
+        self.is_real = bool(command)
+        if not self.is_real:
+            (clock, self.clock), (self.reports, reports) = os.pipe(), os.pipe()
+            ends = str(clock), str(reports)
+        self.process = subprocess.Popen([sys.executable, os.path.abspath(__file__), *ends, "--port", str(router.port), *words, *command],
+                                        stdin=subprocess.PIPE, stdout=subprocess.PIPE, stderr=subprocess.PIPE, bufsize=0,
+                                        pass_fds=() if self.is_real else (clock, reports))
+        self.unread, self.said = b"", b""
+        self.at, self.told, self.reported = NOON, 0, None
+        self.router = router
+        router.sent = 0
+        if not self.is_real:
+            os.close(clock)
+            os.close(reports)
         router.accept()
 
-    def line(self, patience=PATIENCE):
+    def __del__(self):
+        for end in () if self.is_real else (self.clock, self.reports):
+            os.close(end)
+
+    def hear(self, patience=PATIENCE):
+        """Takes what the feed wrote, once there is something; whether there was."""
+        out, err = self.process.stdout.fileno(), self.process.stderr.fileno()
+        ready = select.select([out, err] if self.is_real else [out, err, self.reports], [], [], max(0.0, patience))[0]
+        found = b""
+        for source in ready:
+            data = os.read(source, 1 << 16)
+            found += data
+            if source == out:
+                self.unread += data
+            elif source == err:
+                self.said += data
+            elif data:
+                self.reported = REPORT.unpack(data[-REPORT.size:])
+        return bool(found)
+
+    def settle(self):
+        """Waits until the feed has read all that it was sent, and has nothing more to do at its time."""
+        while self.reported != (self.at, self.router.sent + self.told):
+            if not self.hear():
+                raise AssertionError(f"the feed ended or hangs at {self.reported}: {self.said.decode()}")
+        while self.hear(0):
+            pass
+
+    def go(self, seconds):
+        """Moves its clock on."""
+        self.settle()
+        self.at += seconds
+        os.write(self.clock, struct.pack("d", self.at))
+
+    def waits(self, seconds):
+        self.go(seconds)
+        self.settle()
+
+    def line(self, patience=None):
         """The next line, None where none comes in time."""
-        end = time.monotonic() + patience
+        end = time.monotonic() + PATIENCE if self.is_real else self.at + (LATE if patience is None else patience)
+        if not self.is_real:
+            self.settle()
         while b"\n" not in self.unread:
-            if not select.select([self.process.stdout], [], [], max(0.0, end - time.monotonic()))[0]:
+            if self.is_real:
+                if not self.hear(end - time.monotonic()):
+                    return None
+            elif self.at + 1e-6 < end:
+                self.waits(min(COLLECT, end - self.at))
+            else:
                 return None
-            data = os.read(self.process.stdout.fileno(), 1 << 16)
-            if not data:
-                return None
-            self.unread += data
         line, self.unread = self.unread.split(b"\n", 1)
         return line.decode()
+
+    def again(self):
+        """Lets it connect again."""
+        self.go(1.1)
+        self.router.accept()
+        self.settle()
 
     def batch(self, answer=None):
         """The rows of the next batch without its end row, and the number; the answer by default accepts it."""
@@ -137,6 +248,7 @@ class Feed:
 
     def say(self, text):
         self.process.stdin.write(f"{text}\n".encode())
+        self.told += len(text) + 1
 
     def is_quiet(self):
         return self.line(QUIET) is None
@@ -151,8 +263,10 @@ class Feed:
 
     def end(self):
         """Ends the feed; what it said on standard error."""
+        if not self.is_real and self.process.poll() is None:
+            self.settle()
         self.process.send_signal(signal.SIGTERM)
-        said = self.process.communicate()[1].decode()
+        said = (self.said + self.process.communicate()[1]).decode()
         return said if self.process.returncode in (0, 1) else f"status {self.process.returncode}\n{said}"
 
 
@@ -255,43 +369,38 @@ def changes(checks):
     feed = Feed(router)
     router.send(PAIR)
     feed.batch()
-    began = time.monotonic()
     for each in taken:
         router.send(update(each))
-        time.sleep(0.015)
+        feed.waits(0.015)
+    checks.true("changes are collected at first", feed.line(0.06) is None)
     checks.same("eight changes of bandwidth are one batch", feed.batch(), ([row(A, A_B, B, B_A, free=90)], 2))
-    took = time.monotonic() - began
-    checks.true("which is written soon", 0.15 < took < 1.5, f"{took:.2f} s")
+    router.send(update(te_lsa(A, A_B, B, B_A)))
+    checks.same("which is written soon", (feed.line(COLLECT - 0.01), feed.line(0.02)), (None, PAIR_ROWS[0]))
     feed.end()
 
 
 def runs(checks):
     """Events that come one right after the other are one change, but put a batch off by a second at most."""
     old, new = te_lsa(A, A_B, B, B_A), te_lsa(A, A_B, B, B_A, metric=9)
-    found = []
-    for _ in range(3):  # this machine may be late itself
-        router = Router()
-        feed = Feed(router)
-        router.send(PAIR)
-        feed.batch()
-        for _ in range(100):
-            router.send(update(new) + removal(new))
-            time.sleep(0.004)
-        router.send(update(new))
-        found.append(feed.rest())
-        feed.end()
-        if found[-1] == [row(A, A_B, B, B_A, metric=9)]:
-            break
-    checks.same("a removal is not cut from the new instance", found[-1], [row(A, A_B, B, B_A, metric=9)])
     router = Router()
     feed = Feed(router)
     router.send(PAIR)
     feed.batch()
-    began = time.monotonic()
-    while (line := feed.line(0.004)) is None and time.monotonic() < began + 4:
+    for _ in range(100):
+        router.send(update(new) + removal(new))
+        feed.waits(0.004)
+    router.send(update(new))
+    checks.same("a removal is not cut from the new instance", feed.rest(), [row(A, A_B, B, B_A, metric=9)])
+    feed.end()
+    router = Router()
+    feed = Feed(router)
+    router.send(PAIR)
+    feed.batch()
+    began = feed.at
+    while (line := feed.line(0.004)) is None and feed.at < began + 4:
         router.send(update(old) + update(new))
-    took = time.monotonic() - began
-    checks.true("a router that never rests", line is not None and took < 2.5, f"{line} after {took:.2f} s")
+    took = feed.at - began
+    checks.true("a router that never rests", line is not None and 1.1 < took < 1.3, f"{line} after {took:.2f} s")
     feed.end()
 
 
@@ -313,7 +422,7 @@ def streams(checks):
         router = Router()
         feed = Feed(router)
         router.send(data)
-        router.accept()
+        feed.again()
         checks.true(f"{name} ends the connection, and a new one is made", feed.is_quiet() and "what was put stays" in feed.end())
 
 
@@ -324,13 +433,13 @@ def anew(checks):
     router.send(PAIR)
     feed.batch()
     router.hang_up()
-    router.accept()
-    back = time.monotonic()
+    feed.again()
+    back = feed.at
     checks.true("nothing is dropped at first", feed.is_quiet())
     router.send(update(*ROUTERS, te_lsa(A, A_B, B, B_A, metric=9)))
     checks.same("what is there again is put as it is", feed.batch(), ([row(A, A_B, B, B_A, metric=9)], 2))
     found = feed.batch()
-    took = time.monotonic() - back
+    took = feed.at - back
     checks.same("what doesn't come back is dropped", found, ([f"drop,{B},{B_A}"], 3))
     checks.true("when it was held for its time since the last came back", 2.4 < took < 5, f"{took:.2f} s")
     router.send(removal(te_lsa(A, A_B, B, B_A, metric=9)))
@@ -338,9 +447,9 @@ def anew(checks):
     router.send(PAIR)
     checks.same("links", feed.batch()[0], PAIR_ROWS)
     router.hang_up()
-    router.accept()
+    feed.again()
     router.send(PAIR)
-    time.sleep(QUIET)
+    feed.waits(QUIET)
     router.send(removal(te_lsa(A, A_B, B, B_A)))
     checks.same("that came back and then go are dropped at once", feed.line(1), f"drop,{A},{A_B}")
     feed.end()
@@ -361,7 +470,7 @@ def refusals(checks):
     router, feed = begun()
     first = [feed.line() for _ in range(5)]
     router.send(update(te_lsa(A, A_B, B, B_A, metric=8, sequence=2)))
-    time.sleep(0.4)
+    feed.waits(2 * COLLECT)
     feed.say("ask 1 v0 none")
     checks.same("a batch", first, [*rows, "end,1,4"])
     checks.true("is the only one before its line comes", feed.is_quiet())
@@ -434,9 +543,9 @@ def with_program(program, checks):
     # The row past the limit is tried alone at last: two links lead to the 1,025th and the 1,026th router, and two from them.
     wanted = [f"put {names[1023]} {ends[1023][0]}", f"put {names[1024]} {ends[1023][1]}", f"put {names[1024]} {ends[1024][0]}",
               f"put {names[1025]} {ends[1024][1]}"]
-    while time.monotonic() < deadline and not all(f": {each} is left out" in seen for each in wanted):
-        if select.select([feed.process.stderr], [], [], 0.2)[0]:
-            seen += os.read(feed.process.stderr.fileno(), 1 << 16).decode()
+    while time.monotonic() < deadline and feed.process.poll() is None and not all(f": {each} is left out" in seen for each in wanted):
+        feed.hear(1)
+        seen = feed.said.decode()
     feed.end()
     found = sorted(re.findall(r"^ospf: batch \d+ refused: routers: (put \S+ \S+) is left out$", seen, re.M))
     checks.same("past the limit of routers the rest is put", found, sorted(wanted))
@@ -509,10 +618,10 @@ def lab(checks):
     router.send(b"".join(up[bare:]))
     checks.same("and then the other", feed.batch(), ([here], 6))
     router.hang_up()
-    router.accept()
+    feed.again()
     again, after = [], 0.0
     for at, data in recorded()["restart"]:
-        again += feed.rest() if at > after + 0.3 else []
+        again += feed.rest(at - after)
         router.send(data)
         after = at
     checks.same("a router that starts anew: the bandwidth and group that it has again, and no drop", sorted(again + feed.rest()),
@@ -535,11 +644,11 @@ def once(program, checks):
     """The present network as one journal, which the program takes."""
     def ran(data, *words):
         router = Router()
-        process = subprocess.Popen([FEED, "--port", str(router.port), "--once", *words], stdout=subprocess.PIPE, stderr=subprocess.PIPE)
-        router.accept()
+        feed = Feed(router, "--once", *words)
         router.send(data)
-        out, said = process.communicate()
-        return process.returncode, out.decode(), said.decode()
+        feed.go(1.0)
+        out, said = feed.process.communicate()
+        return feed.process.returncode, out.decode(), said.decode()
 
     base = b"".join(data for _, data in recorded()["base"])
     status, journal, said = ran(base, "--verbose")
@@ -571,7 +680,10 @@ def words(program, checks):
     for turn in (1, 2):
         feed = Feed(router, command=("--", program.path, "solve"))
         router.send(PAIR)
-        time.sleep(QUIET)
+        end, reply = time.monotonic() + PATIENCE, ""
+        while time.monotonic() < end and " v1 " not in (reply or ""):
+            feed.say(f"ask,0,{A},{B},0,1,0x0,0x0,0x0,")
+            reply = feed.line()
         feed.process.stdin.write(f"ask,{turn},{A},{B},0,1,0x0,0x0,0x0,".encode())
         feed.process.stdin.close()
         checks.same(f"feed {turn} of a router, and an ask without a line feed", feed.line(),
@@ -591,3 +703,7 @@ def feed(program, checks):
     with_program(program, checks)
     once(program, checks)
     words(program, checks)
+
+
+if __name__ == "__main__":
+    played(int(sys.argv[1]), int(sys.argv[2]), *sys.argv[3:])
