@@ -245,7 +245,7 @@ def files(audit):
                 audit.checks.same(f"audit: {name} is {os.path.basename(path)}", run({name: path}), stopped)
             # nobody writes to the pipe, so that opening it would wait
             behind = {later: pipe for later in list(paths)[at + 1:]}
-            audit.checks.same(f"audit: {name} is opened before {list(behind)}", run({name: absent, **behind}, timeout=20), stopped)
+            audit.checks.same(f"audit: {name} is opened before {list(behind)}", run({name: absent, **behind}, timeout=60), stopped)
         audit.checks.same("audit: an empty file as all", run(dict.fromkeys(paths, os.devnull)), (0, b"good=0 faults=0\n", b""))
         audit.checks.same("audit: one file as all", run(dict.fromkeys(paths, paths["journal"])), (2, b"request row 1 refused: kind\n", b""))
         with open("/dev/full", "wb") as full:

@@ -10,7 +10,7 @@ from typing import NamedTuple
 HERE = os.path.dirname(os.path.abspath(__file__))
 COMPILER = shutil.which(os.environ.get("CC", "cc"))
 AT_ONCE = 4  # runs beside one another
-SECONDS = 10  # after which a run hangs
+SECONDS = 60  # after which a run hangs
 
 
 class Ran(NamedTuple):

@@ -302,7 +302,7 @@ def jobs(program, checks):
     """Several scenarios are worked on at once, and their lines come in the scenarios' order."""
     with tempfile.TemporaryDirectory() as room:
         def wait(while_):
-            return "{ tries=0; while " + while_ + "; do tries=$((tries + 1)); [ $tries -gt 1000 ] && exit 9; sleep 0.01; done; }"
+            return "{ tries=0; while " + while_ + "; do tries=$((tries + 1)); [ $tries -gt 6000 ] && exit 9; sleep 0.01; done; }"
 
         meet = FAILS + '{ touch "$room/at.$$"; ' + wait('[ $(ls "$room" | grep -c ^at) -lt 3 ]') + "; }"
         late = meet + f"\n{FIRST}" + wait('! [ -e "$room/third" ]') + f'\n{THIRD}touch "$room/third"'
@@ -323,7 +323,7 @@ def jobs(program, checks):
         while not os.path.exists(f"{room}/hangs") and running.poll() is None:
             time.sleep(0.01)
         running.terminate()
-        out, _ = running.communicate(timeout=20)  # ends where nobody has its standard output any more
+        out, _ = running.communicate(timeout=50)  # ends where nobody has its standard output any more
         alive = os.path.exists(f"/proc/{open(f'{room}/hangs').read().strip()}")
         checks.same("a sweep that is ended, and its program with it", (running.returncode, out, alive), (143, BEFORE.encode(), False))
 
