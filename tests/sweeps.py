@@ -315,7 +315,7 @@ def jobs(program, checks):
                         (3, wanted, f"sweep: scenario 3: {stop} ended with status 3: routed: stopped\n"))
         gone = wrapped(program, room, FAILS + "{ kill -9 $PPID; exit; }")
         checks.same("a job that is ended", sweep(gone, RING, ASKS), (3, BEFORE, "sweep: scenario 1: its job was ended\n"))
-        hangs = wrapped(program, room, FAILS + '{ echo $$ > "$room/new"; mv "$room/new" "$room/hangs"; exec sleep 60; }')
+        hangs = wrapped(program, room, FAILS + '{ echo $$ > "$room/new"; mv "$room/new" "$room/hangs"; exec sleep 600; }')
         for name, text in (("journal", RING), ("requests", ASKS)):
             with open(os.path.join(room, name), "w") as file:
                 file.write(text)
@@ -323,8 +323,12 @@ def jobs(program, checks):
         while not os.path.exists(f"{room}/hangs") and running.poll() is None:
             time.sleep(0.01)
         running.terminate()
-        out, _ = running.communicate(timeout=50)  # ends where nobody has its standard output any more
-        alive = os.path.exists(f"/proc/{open(f'{room}/hangs').read().strip()}")
+        out, _ = running.communicate(timeout=120)  # ends where nobody has its standard output any more
+        hung = f"/proc/{open(f'{room}/hangs').read().strip()}"
+        end = time.monotonic() + 60
+        while os.path.exists(hung) and time.monotonic() < end:  # it is there until it is reaped
+            time.sleep(0.01)
+        alive = os.path.exists(hung)
         checks.same("a sweep that is ended, and its program with it", (running.returncode, out, alive), (143, BEFORE.encode(), False))
 
 
