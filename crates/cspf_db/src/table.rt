@@ -148,9 +148,9 @@ impl Table {
     pub fn reverses_at(&self, at: usize) -> &[u16]
         requires { at < length (router_list self.now) }
         ensures many { length result.now ≡ length (links_from_index self.now at) }
-        ensures each { (row : ℕ) (d : Linked) → row < length (links_from_index self.now at)
-            → IsReverseAt self.now (slice_index_or (links_from_index self.now at) row d)
-            (slice_index_or result.now row 0) }
+        ensures each { (nth : ℕ) (d : Linked) → nth < length (links_from_index self.now at)
+            → IsReverseAt self.now (slice_index_or (links_from_index self.now at) nth d)
+            (slice_index_or result.now nth 0) }
     {
         let (first, end) = self.spans[at];
         &self.reverses[usize::from(first)..usize::from(end)]

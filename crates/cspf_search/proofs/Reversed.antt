@@ -20,12 +20,12 @@ as_many d place ends each =
 
 -- the index beside a row is that of its reverse
 pub reverse_of_row : (d : Database) (place : ℕ) (reverses : List ℕ)
-    → ((row : ℕ) (e : Link) → row < length (links_from_index d place) → IsReverseAt d (slice_index_or (links_from_index d place) row e) (slice_index_or reverses row 0))
-    → (row : ℕ) (l : Link) → slice_get (links_from_index d place) row ≡ Some l → IsReverseAt d l (slice_index reverses row)
-reverse_of_row d place reverses beside row l here =
-    let is = get_or_from_slice_get (links_from_index d place) row l l here in
-    let within = slice_get_within (links_from_index d place) row l here in
-    subst (λ k. IsReverseAt d k (slice_index reverses row)) is (beside row l within)
+    → ((nth : ℕ) (e : Link) → nth < length (links_from_index d place) → IsReverseAt d (slice_index_or (links_from_index d place) nth e) (slice_index_or reverses nth 0))
+    → (nth : ℕ) (l : Link) → slice_get (links_from_index d place) nth ≡ Some l → IsReverseAt d l (slice_index reverses nth)
+reverse_of_row d place reverses beside nth l here =
+    let is = get_or_from_slice_get (links_from_index d place) nth l l here in
+    let within = slice_get_within (links_from_index d place) nth l here in
+    subst (λ k. IsReverseAt d k (slice_index reverses nth)) is (beside nth l within)
 
 -- each of two links is the reverse of the other
 reversed : (l r : Link) → IsReverse l r → IsReverse r l
@@ -54,11 +54,11 @@ module _ (d : Database) (links : AreLinksOf d (links_of d)) where
 
   module _ (listed : AreListed d) (to : ℕ) (ends reverses : List ℕ) (within : All (λ end. end < length (router_list d)) ends)
       (each : map (λ end. slice_index (router_list d) end) ends ≡ map (λ (l : Link). l.to) (links_from_index d to))
-      (beside : (row : ℕ) (e : Link) → row < length (links_from_index d to) → IsReverseAt d (slice_index_or (links_from_index d to) row e) (slice_index_or reverses row 0)) where
+      (beside : (nth : ℕ) (e : Link) → nth < length (links_from_index d to) → IsReverseAt d (slice_index_or (links_from_index d to) nth e) (slice_index_or reverses nth 0)) where
     -- A link that has a reverse is found from where it ends: beside its reverse, a row from there, stand
     -- the index of the router that it arrives from, and its own.
     pub found_back : (l : Link) → IsLinkOf d l → HasReverse d l → (u : ℕ) → IsEnd d l.from u → IsEnd d l.to to
-        → (row : ℕ) × (row < length (links_from_index d to)) × (slice_index ends row ≡ u) × (slice_get (links_of d) (slice_index reverses row) ≡ Some l)
+        → (nth : ℕ) × (nth < length (links_from_index d to)) × (slice_index ends nth ≡ u) × (slice_get (links_of d) (slice_index reverses nth) ≡ Some l)
     found_back l of has u from end =
         let at = kept_from d to has.0 (links.whole has.0 has.1) (has.2.from ∙ sym end.is) in
         let row_end = end_of_row d ends (links_from_index d to) within each at.0 has.0 (slice_index ends at.0) at.1 (sym at.2) refl in

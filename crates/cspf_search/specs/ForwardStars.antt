@@ -21,8 +21,8 @@ pub record IsForwardStar (d : Database) (s : State) (star : ForwardStar) : Type 
   pub each : map (λ end. slice_index (router_list d) end) star.ends.now
       ≡ map (λ l. l.to) (links_from_index d (star.state % MOST_ROUTERS))
   pub many : length star.reverses.now ≡ length (links_from_index d (star.state % MOST_ROUTERS))
-  pub reverses : (row : ℕ) (e : Link) → row < length (links_from_index d (star.state % MOST_ROUTERS))
-      → IsReverseAt d (slice_index_or (links_from_index d (star.state % MOST_ROUTERS)) row e) (slice_index_or star.reverses.now row 0)
+  pub reverses : (nth : ℕ) (e : Link) → nth < length (links_from_index d (star.state % MOST_ROUTERS))
+      → IsReverseAt d (slice_index_or (links_from_index d (star.state % MOST_ROUTERS)) nth e) (slice_index_or star.reverses.now nth 0)
 
 -- so it is for each node
 pub record AreForwardStars (d : Database) (nodes : List Node) (stars : List ForwardStar) : Type 0 where

@@ -52,15 +52,15 @@ reverse_test d l n told =
 
 -- the part of the column beside the links from a router
 reverses_beside : (d : Database) (rows : List Link) (column : List ℕ) (first end at : ℕ) → database_of rows ≡ d → AreByKey rows → AreReversesBut no_key rows column
-    → first ≤ end → end ≤ length rows → between first end rows ≡ links_from_index d at → (row : ℕ) (l : Link) → row < length (links_from_index d at)
-    → IsReverseAt d (slice_index_or (links_from_index d at) row l) (slice_index_or (between first end column) row 0)
-reverses_beside d rows column first end at makes by_key are order bound part row l within =
+    → first ≤ end → end ≤ length rows → between first end rows ≡ links_from_index d at → (nth : ℕ) (l : Link) → nth < length (links_from_index d at)
+    → IsReverseAt d (slice_index_or (links_from_index d at) nth l) (slice_index_or (between first end column) nth 0)
+reverses_beside d rows column first end at makes by_key are order bound part nth l within =
     let long = length-between rows first end bound in
-    let short : row < length (between first end rows) = subst (λ ls. row < length ls) (sym part) within in
-    let inside : first + row < end = omega (arith, long, short) in
-    let link : slice_index_or (links_from_index d at) row l ≡ slice_index_or rows (first + row) l = ap (λ ls. slice_index_or ls row l) (sym part) ∙ get_or-between rows first end row l inside in
-    let number : slice_index_or (between first end column) row 0 ≡ slice_index_or column (first + row) 0 = get_or-between column first end row 0 inside in
-    rw (link, number) (index_told d rows makes by_key (slice_index_or rows (first + row) l) (slice_index_or column (first + row) 0) (are.each (first + row) l (omega (arith, inside, bound))))
+    let short : nth < length (between first end rows) = subst (λ ls. nth < length ls) (sym part) within in
+    let inside : first + nth < end = omega (arith, long, short) in
+    let link : slice_index_or (links_from_index d at) nth l ≡ slice_index_or rows (first + nth) l = ap (λ ls. slice_index_or ls nth l) (sym part) ∙ get_or-between rows first end nth l inside in
+    let number : slice_index_or (between first end column) nth 0 ≡ slice_index_or column (first + nth) 0 = get_or-between column first end nth 0 inside in
+    rw (link, number) (index_told d rows makes by_key (slice_index_or rows (first + nth) l) (slice_index_or column (first + nth) 0) (are.each (first + nth) l (omega (arith, inside, bound))))
 
 -- there are as many as links from the router
 as_many_beside : (d : Database) (rows : List Link) (column : List ℕ) (first end at : ℕ) → AreReversesBut no_key rows column
@@ -71,7 +71,7 @@ as_many_beside d rows column first end at are order bound part =
 -- at the span of a router of a table
 pub reverses_at_span : (d : Database) (a : Inside) → IsTable a → database_of a.rows.items ≡ d → (at : ℕ) (span : ℕ × ℕ) → at < length (router_list d) → span ≡ slice_index_or a.spans.items at span
     → (length (between span.0 span.1 a.reverses.items) ≡ length (links_from_index d at))
-    × ((row : ℕ) (l : Link) → row < length (links_from_index d at) → IsReverseAt d (slice_index_or (links_from_index d at) row l) (slice_index_or (between span.0 span.1 a.reverses.items) row 0))
+    × ((nth : ℕ) (l : Link) → nth < length (links_from_index d at) → IsReverseAt d (slice_index_or (links_from_index d at) nth l) (slice_index_or (between span.0 span.1 a.reverses.items) nth 0))
 reverses_at_span d a is makes at span h read =
     let by_key = is.parts.rows.by_key in
     let all = is.parts.routers.all in
