@@ -7,4 +7,5 @@ pub mod OneChange
 pub mod ChangedRows
 pub mod EndCounts
 pub mod LastChanges
+pub mod MarkedLinks
 pub mod CountedRouters

@@ -17,3 +17,4 @@ pub mod MergedRows
 pub mod RouterPlaces
 pub mod RemainingRouters
 pub mod RemovalsFirst
+pub mod MarkChanges

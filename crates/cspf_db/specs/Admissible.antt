@@ -1,8 +1,8 @@
--- Which links of a database a request may take.
-use Rattle.std.specs.Prelude.{◌≡◌, ◌≢◌, ◌≤◌, ◌⊎◌, bit_and, bit_xor, slice_index}
+-- Which links of a database a request may take, and from which routers it may go on.
+use Rattle.std.specs.Prelude.{◌≡◌, ◌≢◌, ◌≤◌, ◌⊎◌, ℕ, bit_and, bit_xor, slice_index}
 use Rattle.cspf_db.specs.declared.link.Link.{Link}
 use Rattle.cspf_db.specs.declared.request.Request.{Request}
-use Rattle.cspf_db.specs.Database.{Database, IsLinkOf, HasReverse}
+use Rattle.cspf_db.specs.Database.{Database, IsLinkOf, HasReverse, HasTransit}
 
 -- A link passes the affinities of a request where it passes all three tests of RFC 3209 4.7.4.
 pub record HasAffinity (q : Request) (l : Link) : Type 0 where
@@ -26,3 +26,8 @@ pub record IsUsable (d : Database) (q : Request) (l : Link) : Type 0 where
 pub record IsAdmissible (d : Database) (q : Request) (l : Link) : Type 0 where
   pub link : IsLinkOf d l
   pub usable : IsUsable d q l
+
+-- A walk that has so many links at a router may go on where the router has transit, and where the walk
+-- begins there.
+abbrev pub MayLeave : Database → ℕ → ℕ → Type 0
+MayLeave d router links = HasTransit d router ⊎ (links ≡ 0)

@@ -1,5 +1,6 @@
--- Traffic engineering databases: links by their keys, and the routers at their ends.
-use Rattle.std.specs.Prelude.{◌≡◌, ℕ, ◌⊎◌, Option, Some, List, [], ◌∷◌, All, Contains, map}
+-- Traffic engineering databases: links by their keys, the routers at their ends, and which of these
+-- are marked as without transit.
+use Rattle.std.specs.Prelude.{◌≡◌, ℕ, ◌⊎◌, IsTrue, Option, Some, List, [], ◌∷◌, All, Contains, map}
 use Rattle.std.specs.Ordering.{nat_cmp, eq_by_cmp, ordering_then}
 use Rattle.std.specs.declared.cmp.Ordering.{Ordering}
 use Rattle.std.specs.List.{flat_map, IsDistinct}
@@ -20,13 +21,28 @@ key_of l = (l.from, l.local)
 abbrev pub key_cmp : Key → Key → Ordering
 key_cmp a b = ordering_then (nat_cmp a.0 b.0) (nat_cmp a.1 b.1)
 
--- a traffic engineering database: links by their keys
+-- a traffic engineering database: links by their keys, and the addresses that are marked as those of
+-- routers without transit
 pub record Database : Type 0 where
   pub links : map.FinMap key_cmp Link
+  pub marks : set.FinSet nat_cmp
 
 -- the link with this key, if there is one
 abbrev pub link_at : Database → Key → Option Link
 link_at d k = map.get d.links k
+
+-- The router is marked as one without transit: no route may pass through it (RFC 6987's stub router).
+-- A mark makes no router.
+abbrev pub IsMarked : Database → ℕ → Type 0
+IsMarked d router = IsTrue (set.contains d.marks router)
+
+-- the router is not marked
+abbrev pub HasTransit : Database → ℕ → Type 0
+HasTransit d router = ¬ IsMarked d router
+
+-- how many marks the database has
+abbrev pub mark_count : Database → ℕ
+mark_count d = set.len d.marks
 
 -- the link is in the database
 abbrev pub IsLinkOf : Database → Link → Type 0

@@ -4,6 +4,7 @@ use Rattle.std.specs.declared.cmp.Ordering.TheVariants.{Less}
 use Rattle.std.proofs.Common.{sym}
 use Rattle.std.proofs.lemmas.Bool.{eqb-false}
 use Rattle.cspf_addr.specs.declared.hop.Hop.{Hop}
+use Rattle.std.specs.FinSet as set
 use Rattle.cspf_db.specs.declared.link.Link.{Link}
 use Rattle.cspf_db.specs.declared.request.Request.{Request}
 use Rattle.cspf_db.specs.Database.{Database, AreLinksOf}
@@ -145,16 +146,21 @@ three_links = from_1_to_2 ∷ from_2_to_3 ∷ from_2_to_4 ∷ []
 abbrev pub interface_hop : Hop
 interface_hop = hop (address 172 16 0 0) 12 false
 
--- it holds of each database with just these links, and of each request of 1.1.1.1 with this
--- tail-end and these hops
+-- these are the links of the database, and it has no marks
+pub record IsNetwork (d : Database) (links : List Link) : Type 0 where
+  pub listed : AreLinksOf d links
+  pub unmarked : d.marks ≡ set.empty
+
+-- it holds of each database with just these links and no marks, and of each request of 1.1.1.1 with
+-- this tail-end and these hops
 abbrev pub Holds : List Link → ℕ → List Hop → (Database → Request → Type 0) → Type 0
 Holds links to hops P =
     (d : Database) (q : Request)
-    → AreLinksOf d links → HasRequestFields q (asked_fields to hops) → P d q
+    → IsNetwork d links → HasRequestFields q (asked_fields to hops) → P d q
 
 -- there are such a database and, with any hops, such a request
 pub record AreFound (links : List Link) (to : ℕ) : Type 0 where
-  pub database : (d : Database) × AreLinksOf d links
+  pub database : (d : Database) × IsNetwork d links
   pub request : (hops : List Hop) → (q : Request) × HasRequestFields q (asked_fields to hops)
 
 -- a strict leg to 10.9.0.0/16 may stand at both of its routers

@@ -9,7 +9,7 @@ use Rattle.cspf_db.specs.declared.batch.Change.TheVariants.{Put, Remove}
 use Rattle.cspf_db.specs.declared.refusal.Refusal.{Refusal}
 use Rattle.cspf_db.specs.Numbered.{NumberedChanges}
 use Rattle.cspf_db.specs.Database.{Database, key_of, AreAtTheirKeys, IsRouterOf, all_routers, router_count}
-use Rattle.cspf_db.specs.Changes.{after_changes, last_on, link_after, database_after, IsDatabaseOf, Fits, AreLawful}
+use Rattle.cspf_db.specs.Changes.{link_key, after_changes, last_on, link_after, database_after, IsDatabaseOf, Fits, AreLawful}
 use Rattle.cspf_db.specs.Refusals.{IsRefusal}
 use Rattle.cspf_db.specs.Admissible.{IsAdmitted}
 use Rattle.cspf_db.specs.Walks.{IsWalk, locals_of, walk_cmp}
@@ -99,13 +99,13 @@ FewerLinksComeFirst =
 abbrev pub LastPutStands : Type 0
 LastPutStands =
     (l m : Link) → key_of l ≡ key_of m
-    → link_after (last_on (key_of l) (Put l ∷ Remove l.from l.local ∷ Put m ∷ [])) None ≡ Some m
+    → link_after (last_on (link_key (key_of l)) (Put l ∷ Remove l.from l.local ∷ Put m ∷ [])) None ≡ Some m
 
 -- a link that is put twice and taken out isn't there
 abbrev pub LastRemovalStands : Type 0
 LastRemovalStands =
     (l m : Link) → key_of l ≡ key_of m
-    → link_after (last_on (key_of l) (Put l ∷ Put m ∷ Remove l.from l.local ∷ [])) None ≡ None
+    → link_after (last_on (link_key (key_of l)) (Put l ∷ Put m ∷ Remove l.from l.local ∷ [])) None ≡ None
 
 -- the request asks for no groups
 pub record AsksNoGroups (q : Request) : Type 0 where

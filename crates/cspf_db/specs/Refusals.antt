@@ -3,13 +3,13 @@ use Rattle.std.specs.Prelude.{◌≡◌, ℕ, zero, suc, ◌<◌, ◌≤◌, Opt
 use Rattle.std.specs.Ordering.{eq_by_cmp}
 use Rattle.std.specs.List.{IsDistinct, slice_get}
 use Rattle.cspf_db.specs.declared.batch.Change.{Change}
-use Rattle.cspf_db.specs.declared.batch.Change.TheVariants.{Put, Remove}
+use Rattle.cspf_db.specs.declared.batch.Change.TheVariants.{Put, Remove, Node}
 use Rattle.cspf_db.specs.declared.refusal.Refusal.{Refusal}
-use Rattle.cspf_db.specs.declared.refusal.Refusal.TheVariants.{TooLong, Duplicate, Absent, Full, TooManyRouters}
+use Rattle.cspf_db.specs.declared.refusal.Refusal.TheVariants.{TooLong, Duplicate, Absent, Full, TooManyRouters, TooManyMarks}
 use Rattle.cspf_db.specs.Numbered.{NumberedChanges}
-use Rattle.cspf_db.specs.Database.{Database, key_cmp, link_at, link_count, router_count}
-use Rattle.cspf_db.specs.Changes.{key_changed, after_changes, IsPresent}
-use Rattle.cspf_db.specs.declared.limits.TheConstants.{MOST_CHANGES, MOST_LINKS, MOST_ROUTERS}
+use Rattle.cspf_db.specs.Database.{Database, link_at, link_count, router_count, mark_count}
+use Rattle.cspf_db.specs.Changes.{change_key_cmp, key_changed, after_changes, IsPresent}
+use Rattle.cspf_db.specs.declared.limits.TheConstants.{MOST_CHANGES, MOST_LINKS, MOST_ROUTERS, MOST_MARKS}
 
 -- the change at a place, where places count from 1
 abbrev pub change_at : List Change → ℕ → Option Change
@@ -30,6 +30,7 @@ pub record RepeatsAt (changes : List Change) (place : ℕ) : Type 0 where
 abbrev pub RemovesNothing : Database → Change → Type 0
 RemovesNothing d (Put l) = ⊥
 RemovesNothing d (Remove from local) = link_at d (from, local) ≡ None
+RemovesNothing d (Node router transit) = ⊥
 
 -- the change at this place removes a link that the database doesn't have
 pub record RemovesNothingAt (d : Database) (changes : List Change) (place : ℕ) : Type 0 where
@@ -48,7 +49,7 @@ IsShort changes = length changes ≤ MOST_CHANGES
 
 -- no two changes are on one key
 abbrev pub AreOnceEach : List Change → Type 0
-AreOnceEach changes = IsDistinct (eq_by_cmp key_cmp) (map key_changed changes)
+AreOnceEach changes = IsDistinct (eq_by_cmp change_key_cmp) (map key_changed changes)
 
 -- each removal's key is in the database
 abbrev pub ArePresent : Database → List Change → Type 0
@@ -73,3 +74,7 @@ IsRefusal d batch Full =
 IsRefusal d batch TooManyRouters =
     AreInOrder d batch.changes × (link_count (after_changes d batch.changes) ≤ MOST_LINKS)
     × (MOST_ROUTERS < router_count (after_changes d batch.changes))
+IsRefusal d batch TooManyMarks =
+    AreInOrder d batch.changes × (link_count (after_changes d batch.changes) ≤ MOST_LINKS)
+    × (router_count (after_changes d batch.changes) ≤ MOST_ROUTERS)
+    × (MOST_MARKS < mark_count (after_changes d batch.changes))

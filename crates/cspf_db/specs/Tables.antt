@@ -7,3 +7,5 @@ pub mod CountedEnds
 pub mod RouterSets
 pub mod RowChanges
 pub mod MergeSteps
+pub mod LinkChanges
+pub mod MarkChanges

@@ -6,7 +6,7 @@ use Rattle.std.specs.Cmp.Lexicographic.{slice_cmp}
 use Rattle.std.specs.List.{AllByRecursion}
 use Rattle.cspf_db.specs.declared.link.Link.{Link}
 use Rattle.cspf_db.specs.declared.request.Request.{Request}
-use Rattle.cspf_db.specs.Database.{Database}
+use Rattle.cspf_db.specs.Database.{Database, HasTransit}
 use Rattle.cspf_db.specs.Admissible.{IsAdmissible}
 
 -- the first link runs from the router, and each next one from where the last one ended
@@ -14,10 +14,17 @@ abbrev pub AreJoined : ℕ → List Link → Type 0
 AreJoined router [] = Unit {0}
 AreJoined router (l ∷ ls) = (l.from ≡ router) × AreJoined l.to ls
 
--- admissible links that follow each other from the head-end of the request
+-- the routers that links pass through: those at which each but the first begins
+abbrev pub routers_passed : List Link → List ℕ
+routers_passed [] = []
+routers_passed (l ∷ ls) = map (λ m. m.from) ls
+
+-- Admissible links that follow each other from the head-end of the request. None of the routers that
+-- they pass through is one without transit, which may be where they begin and where they end.
 pub record IsWalk (d : Database) (q : Request) (walk : List Link) : Type 0 where
   pub links : AllByRecursion (IsAdmissible d q) walk
   pub joined : AreJoined q.from walk
+  pub transit : AllByRecursion (HasTransit d) (routers_passed walk)
 
 -- the router at which links that begin at a router end
 abbrev pub end_of : ℕ → List Link → ℕ

@@ -5,7 +5,7 @@ use cspf_addr::Addr;
 use std::alloc::{AllocError, Global};
 use std::marker::Model;
 
-/// A change to the link of one key.
+/// A change to the link of one key, or to whether one router has transit.
 #[derive(Clone, Copy, Debug, PartialEq, Eq)]
 pub enum Change {
     /// Puts the link, in place of the one with its key where there is one.
@@ -17,19 +17,28 @@ pub enum Change {
         /// The address of its interface there.
         local: Addr,
     },
+    /// Says of an address whether a router that has it as its Router ID has transit, whether or not
+    /// there is such a router now.
+    Node {
+        /// The Router ID.
+        router: Addr,
+        /// Whether routes may pass through the router.
+        transit: bool,
+    },
 }
 
 impl Change {
     ghost use Rattle.cspf_db.specs.Changes.{key_changed};
 
-    /// The key of the link that is changed: the router that it runs from, and the address of its
-    /// interface there.
-    pub fn key(&self) -> (Addr, Addr)
+    /// What is changed: the router that a link runs from with the address of its interface there, or
+    /// a router alone.
+    pub fn key(&self) -> (Addr, Option<Addr>)
         ensures { result ≡ key_changed self.now }
     {
         match self {
-            Change::Put(link) => (link.from, link.local),
-            Change::Remove { from, local } => (*from, *local),
+            Change::Put(link) => (link.from, Some(link.local)),
+            Change::Remove { from, local } => (*from, Some(*local)),
+            Change::Node { router, .. } => (*router, None),
         }
     }
 }

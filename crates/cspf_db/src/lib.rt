@@ -17,7 +17,7 @@ pub use laws::{
     one_best_answer, one_refusal, order_of_walks, route_without_hops, worked_admission,
     worked_changes, worked_orders, worked_routes,
 };
-pub use limits::{MOST_CHANGES, MOST_LINKS, MOST_ROUTERS, NO_LINK};
+pub use limits::{MOST_CHANGES, MOST_LINKS, MOST_MARKS, MOST_ROUTERS, NO_LINK};
 pub use link::{Link, LinkError};
 pub use refusal::Refusal;
 pub use request::{Request, RequestError};

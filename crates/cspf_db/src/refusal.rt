@@ -24,4 +24,7 @@ pub enum Refusal {
     /// More than `MOST_ROUTERS` routers would be left.
     #[error("more than 1024 routers")]
     TooManyRouters,
+    /// More than `MOST_MARKS` routers without transit would be left.
+    #[error("more than 1024 routers without transit")]
+    TooManyMarks,
 }

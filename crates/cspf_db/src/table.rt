@@ -1,7 +1,7 @@
 ghost use Rattle.std.specs.Prelude.{◌≡◌, ◌<◌, ◌≤◌, ◌↔◌, ℕ, All, Contains, length, map, slice_index, slice_index_or, IfOk, OnOk, IfErr, OnErr, IfSome, IfNone, IsTrue};
 ghost use Rattle.std.specs.List.Sorted.{IsStrictlyIncreasing};
 ghost use Rattle.cspf_db.specs.declared.link.Link.{Link as Linked};
-ghost use Rattle.cspf_db.specs.Database.{AreLinksOf, AreAtTheirKeys, HasReverse, IsRouterOf, link_at, router_count, HaveOwnKeys};
+ghost use Rattle.cspf_db.specs.Database.{AreLinksOf, AreAtTheirKeys, HasReverse, HasTransit, IsRouterOf, link_at, router_count, HaveOwnKeys};
 ghost use Rattle.cspf_db.specs.Index.{links_of, router_list, links_from, links_from_index, IsReverseAt};
 ghost use Rattle.cspf_db.specs.Changes.{no_links, after_changes, Fits};
 ghost use Rattle.cspf_db.specs.Refusals.{IsRefusal};
@@ -10,6 +10,7 @@ ghost use Rattle.cspf_db.specs.declared.limits.TheConstants.{MOST_LINKS};
 
 mod check;
 mod insertion;
+mod marks;
 mod merging;
 mod places;
 mod reverses;
@@ -21,9 +22,10 @@ mod scratch;
 mod table_rows;
 mod tally;
 
-use crate::limits::{MOST_ROUTERS, NO_LINK, ROOM_FOR_LINKS, ROOM_FOR_ROUTERS};
+use crate::limits::{MOST_ROUTERS, NO_LINK, ROOM_FOR_LINKS, ROOM_FOR_MARKS, ROOM_FOR_ROUTERS};
 use crate::{Batch, Link, Refusal};
 use cspf_addr::{Addr, Prefix};
+use marks::{change_marks, is_marked};
 use reverses::{list_reverses, reverse_index};
 use router_list::search;
 use router_rows::list_spans;
@@ -33,8 +35,8 @@ use std::alloc::{AllocError, Global};
 use std::marker::Model;
 use table_rows::{any_rising_within, index_of, rows_from};
 
-/// A traffic engineering database of at most 16,384 links and 1,024 routers. No call but `new` can
-/// fail for memory.
+/// A traffic engineering database of at most 16,384 links, 1,024 routers and 1,024 marks of routers
+/// without transit. No call but `new` can fail for memory.
 #[derive(Debug, Drop)]
 pub struct Table {
     rows: Vec<Link>,
@@ -42,6 +44,7 @@ pub struct Table {
     ends: Vec<u16>,
     reverses: Vec<u16>,
     spans: Vec<(u16, u16)>,
+    marks: Vec<Addr>,
     scratch: Scratch,
 }
 
@@ -53,15 +56,15 @@ impl Model for Table {
 
     ghost coded = { database_code };
 
-    ghost use Rattle.cspf_db.specs.Tables.Rows.{IsTable, database_of};
+    ghost use Rattle.cspf_db.specs.Tables.Rows.{IsTable, marked_database};
 
-    ghost view = { λ a. database_of a.rows.items };
+    ghost view = { λ a. marked_database a.rows.items a.marks.items };
 
     ghost invariant = { IsTable };
 }
 
 impl Table {
-    /// An empty table with room for 16,384 links and 1,024 routers.
+    /// An empty table with room for 16,384 links, 1,024 routers and 1,024 marks.
     pub fn new(alloc: Global) -> Result<Table, AllocError>
         ensures { IfOk result (λ table. table ≡ no_links) }
     {
@@ -71,6 +74,7 @@ impl Table {
             ends: Vec::with_capacity(alloc, ROOM_FOR_LINKS)?,
             reverses: Vec::with_capacity(alloc, ROOM_FOR_LINKS)?,
             spans: Vec::with_capacity(alloc, MOST_ROUTERS)?,
+            marks: Vec::with_capacity(alloc, ROOM_FOR_MARKS)?,
             scratch: Scratch::new(alloc)?,
         })
     }
@@ -181,6 +185,22 @@ impl Table {
         search(&self.routers, router).is_ok()
     }
 
+    /// Whether a router with this Router ID, if there is one, has transit: whether routes may pass
+    /// through it, and not only begin and end there (RFC 6987).
+    pub fn transit(&self, router: Addr) -> bool
+        ensures { IsTrue result ↔ HasTransit self.now router }
+    {
+        !is_marked(&self.marks, router)
+    }
+
+    /// The same as `transit`, of the router at an index of `routers`.
+    pub fn transit_at(&self, at: usize) -> bool
+        requires { at < length (router_list self.now) }
+        ensures { IsTrue result ↔ HasTransit self.now (slice_index (router_list self.now) at) }
+    {
+        !is_marked(&self.marks, self.routers[at])
+    }
+
     /// Whether a link begins or ends at the router and the prefix covers the router or the address
     /// of its interface on a link from it, whatever that link's attributes (RFC 3209 4.3.3.2).
     pub fn owns(&self, router: Addr, prefix: Prefix) -> bool
@@ -206,7 +226,7 @@ impl Table {
         ensures err { IfErr result (λ refusal. IsRefusal self.now batch.now refusal) }
         ensures unfit { OnErr result (¬ Fits self.now batch.now) }
     {
-        match check::fits(&self.rows, &self.routers, batch) {
+        match check::fits(&self.rows, &self.routers, &self.marks, batch) {
             Ok(_) => Ok(()),
             Err(refusal) => Err(refusal),
         }
@@ -218,7 +238,7 @@ impl Table {
             → self.new ≡ after_changes self.old batch.now.changes }
         ensures unfit { (¬ Fits self.old batch.now) → self.new ≡ self.old }
     {
-        let Ok(tally) = check::fits(&self.rows, &self.routers, batch) else {
+        let Ok(tally) = check::fits(&self.rows, &self.routers, &self.marks, batch) else {
             return;
         };
         let follows = change_table(
@@ -230,6 +250,7 @@ impl Table {
             &batch.changes,
             tally,
         );
+        change_marks(&mut self.marks, &batch.changes);
         list_spans(&mut self.spans, &self.routers, &self.rows);
         if !follows {
             list_reverses(&mut self.reverses, &self.rows, &self.ends, &self.spans);

@@ -1,3 +1,4 @@
 mod batches;
+mod marks;
 mod reverses;
 mod rows;

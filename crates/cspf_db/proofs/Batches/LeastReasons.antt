@@ -10,19 +10,19 @@ use Rattle.std.proofs.lemmas.List.Folds.{Any-from_list_any, list_any-from_Any}
 use Rattle.std.proofs.lemmas.Map.Keys.{IsDistinct-push, apart_from_distinct}
 use Rattle.std.proofs.lemmas.Option.{slice_get-get_or, slice_get_within, slice_get-map, get_or_from_slice_get}
 use Rattle.cspf_db.specs.declared.batch.Change.{Change}
-use Rattle.cspf_db.specs.declared.batch.Change.TheVariants.{Put, Remove}
+use Rattle.cspf_db.specs.declared.batch.Change.TheVariants.{Put, Remove, Node}
 use Rattle.cspf_db.specs.declared.refusal.Refusal.{Refusal}
-use Rattle.cspf_db.specs.declared.refusal.Refusal.TheVariants.{TooLong, Duplicate, Absent, Full, TooManyRouters}
+use Rattle.cspf_db.specs.declared.refusal.Refusal.TheVariants.{TooLong, Duplicate, Absent, Full, TooManyRouters, TooManyMarks}
 use Rattle.cspf_db.specs.Numbered.{NumberedChanges}
-use Rattle.cspf_db.specs.Database.{Database, Key, key_cmp}
-use Rattle.cspf_db.specs.Changes.{key_changed, IsPresent, Fits}
+use Rattle.cspf_db.specs.Database.{Database}
+use Rattle.cspf_db.specs.Changes.{ChangeKey, change_key_cmp, key_changed, IsPresent, Fits}
 use Rattle.cspf_db.specs.Tables.RepeatedKeys.{is_changed, IsNewAt, IsRepeatedAt}
 use Rattle.cspf_db.specs.Refusals.{change_at, RepeatsAt, RemovesNothing, RemovesNothingAt, IsLeastPlace, AreOnceEach, ArePresent, IsRefusal}
-use Rattle.cspf_db.proofs.Databases.Keys.{keys_total, keys_same, key_itself}
+use Rattle.cspf_db.proofs.Databases.Keys.{change_keys_total, change_keys_same, change_key_itself}
 
 -- equal keys tie
-tie_from : (j k : Key) → j ≡ k → eq_by_cmp key_cmp j k ≡ true
-tie_from j k e = ap (eq_by_cmp key_cmp j) (sym e) ∙ key_itself j
+tie_from : (j k : ChangeKey) → j ≡ k → eq_by_cmp change_key_cmp j k ≡ true
+tie_from j k e = ap (eq_by_cmp change_key_cmp j) (sym e) ∙ change_key_itself j
 
 -- a change at an index is at the next place
 at_place : (cs : List Change) (at : ℕ) (d : Change) → at < length cs
@@ -36,7 +36,7 @@ repeated_before : (cs : List Change) (at earlier : ℕ) (d : Change) → at < le
 repeated_before cs at earlier d within before same =
     let long : length (take at cs) ≡ at = length-take-le at cs (omega arith) in
     list_any-from_Any
-    (λ c. eq_by_cmp key_cmp (key_changed (slice_index_or cs at d)) (key_changed c)) (take at cs)
+    (λ c. eq_by_cmp change_key_cmp (key_changed (slice_index_or cs at d)) (key_changed c)) (take at cs)
     (earlier, slice_index_or cs earlier d, omega (arith, long, before), get_or_default (take at cs) earlier _ d (omega (arith, long, before)) ∙ get_or-take at cs earlier d before, tie_from _ _ (sym same))
 
 -- a place before the first repeat repeats nothing
@@ -62,7 +62,7 @@ pub least_repeat : (cs : List Change) (at : ℕ) → at < length cs → IsRepeat
 least_repeat [] at within repeated new = absurd (omega (arith, within))
 least_repeat (c ∷ cs) at within repeated new = record {
   here =
-      let one = Any-from_list_any (λ b. eq_by_cmp key_cmp (key_changed (slice_index_or (c ∷ cs) at c)) (key_changed b)) (take at (c ∷ cs)) (repeated c) in
+      let one = Any-from_list_any (λ b. eq_by_cmp change_key_cmp (key_changed (slice_index_or (c ∷ cs) at c)) (key_changed b)) (take at (c ∷ cs)) (repeated c) in
       let long : length (take at (c ∷ cs)) ≡ at = length-take-le at (c ∷ cs) (omega (arith, within)) in
       let before : one.0 < at = omega (arith, long, one.2) in
       record {
@@ -75,16 +75,16 @@ least_repeat (c ∷ cs) at within repeated new = record {
         one_key =
             ap key_changed
             (sym (get_or-take at (c ∷ cs) one.0 c before) ∙ get_or_default (take at (c ∷ cs)) one.0 c one.1 one.2 ∙ one.3)
-            ∙ sym (keys_same (key_changed (slice_index_or (c ∷ cs) at c)) (key_changed one.1) one.4);
+            ∙ sym (change_keys_same (key_changed (slice_index_or (c ∷ cs) at c)) (key_changed one.1) one.4);
       };
   none_before = new_before (c ∷ cs) at new;
 }
 
 -- a key is changed where it is among the keys of the changes
-any-keys : (k : Key) (cs : List Change)
-    → list_any (eq_by_cmp key_cmp k) (map key_changed cs) ≡ is_changed cs k
+any-keys : (k : ChangeKey) (cs : List Change)
+    → list_any (eq_by_cmp change_key_cmp k) (map key_changed cs) ≡ is_changed cs k
 any-keys k [] = refl
-any-keys k (c ∷ cs) = ap (λ b. eq_by_cmp key_cmp k (key_changed c) || b) (any-keys k cs)
+any-keys k (c ∷ cs) = ap (λ b. eq_by_cmp change_key_cmp k (key_changed c) || b) (any-keys k cs)
 
 -- changes of which none repeats a key are on keys of their own, as far as an index
 once_below : (cs : List Change) (d : Change) → ((k : ℕ) → k < length cs → IsNewAt cs k) → (n : ℕ)
@@ -94,8 +94,8 @@ once_below cs d new zero within = tt
 once_below cs d new (suc n) within =
     subst AreOnceEach (ap (λ m. take m cs) (add-one n))
     (subst AreOnceEach (sym (take_more cs n d (omega (arith, within))))
-    (subst (IsDistinct (eq_by_cmp key_cmp)) (sym (map-append key_changed (take n cs) (slice_index_or cs n d ∷ [])))
-    (IsDistinct-push (eq_by_cmp_equiv keys_total) (map key_changed (take n cs)) (key_changed (slice_index_or cs n d)) (once_below cs d new n (omega (arith, within)))
+    (subst (IsDistinct (eq_by_cmp change_key_cmp)) (sym (map-append key_changed (take n cs) (slice_index_or cs n d ∷ [])))
+    (IsDistinct-push (eq_by_cmp_equiv change_keys_total) (map key_changed (take n cs)) (key_changed (slice_index_or cs n d)) (once_below cs d new n (omega (arith, within)))
     (any-keys _ (take n cs) ∙ new n (omega (arith, within)) d))))
 
 -- where no index repeats a key, each key is changed once
@@ -115,6 +115,7 @@ once_if_none cs (Some at) new = tt
 -- a removal of what isn't there has no key there
 absent_not_present : (d : Database) (c : Change) → RemovesNothing d c → ¬ IsPresent d c
 absent_not_present d (Put l) absent present = absent
+absent_not_present d (Node router transit) absent present = absent
 absent_not_present d (Remove from local) absent present =
     true≢false (sym present ∙ ap is_some absent)
 
@@ -139,7 +140,7 @@ least_absent d (c ∷ cs) at within absent present = record {
         (subst (IsPresent d) (get_or_from_slice_get (c ∷ cs) n r.change r.change r.is_change) (present n r.change (omega arith) (omega (arith, before))))
 
 -- the key at a place
-key_there : (cs : List Change) (n : ℕ) (c : Change) (d : Key) → slice_get cs n ≡ Some c
+key_there : (cs : List Change) (n : ℕ) (c : Change) (d : ChangeKey) → slice_get cs n ≡ Some c
     → slice_index_or (map key_changed cs) n d ≡ key_changed c
 key_there cs n c d is =
     get_or_from_slice_get (map key_changed cs) n (key_changed c) d
@@ -158,11 +159,11 @@ repeats_not_once cs (suc n) r once = earlier_cases r.earlier r.is_earlier r.is_f
     earlier_cases (suc m) before is =
         let within : n < length (map key_changed cs) = omega (arith, slice_get_within cs n r.second r.is_second, length-map cs key_changed) in
         true≢false
-        (sym (ap (eq_by_cmp key_cmp (key_changed r.first)) (sym r.one_key) ∙ key_itself (key_changed r.first))
-        ∙ ap (λ k. eq_by_cmp key_cmp k (key_changed r.second))
+        (sym (ap (eq_by_cmp change_key_cmp (key_changed r.first)) (sym r.one_key) ∙ change_key_itself (key_changed r.first))
+        ∙ ap (λ k. eq_by_cmp change_key_cmp k (key_changed r.second))
         (sym (key_there cs m r.first (key_changed r.first) is))
-        ∙ ap (eq_by_cmp key_cmp _) (sym (key_there cs n r.second (key_changed r.first) r.is_second))
-        ∙ apart_from_distinct (eq_by_cmp key_cmp) (map key_changed cs) m n (key_changed r.first)
+        ∙ ap (eq_by_cmp change_key_cmp _) (sym (key_there cs n r.second (key_changed r.first) r.is_second))
+        ∙ apart_from_distinct (eq_by_cmp change_key_cmp) (map key_changed cs) m n (key_changed r.first)
         once (omega (arith, before)) within)
 
 -- where a removal removes nothing not all are present
@@ -184,6 +185,7 @@ refused_unfit d b (Duplicate at) why fits = repeats_not_once b.changes at why.1.
 refused_unfit d b (Absent at) why fits = removes_not_present d b.changes at why.2.here fits.present
 refused_unfit d b Full why fits = absurd (omega (arith, why.1, fits.links))
 refused_unfit d b TooManyRouters why fits = absurd (omega (arith, why.2, fits.routers))
+refused_unfit d b TooManyMarks why fits = absurd (omega (arith, why.3, fits.marks))
 
 -- what isn't above a limit is within it
 not_above : (limit : ℕ) {n : ℕ} → (limit < n → IsTrue false) → n ≤ limit
@@ -219,6 +221,7 @@ one_reason d b TooLong (Duplicate n) is also = absurd (omega (arith, is, also.0)
 one_reason d b TooLong (Absent n) is also = absurd (omega (arith, is, also.0))
 one_reason d b TooLong Full is also = absurd (omega (arith, is, also.0.short))
 one_reason d b TooLong TooManyRouters is also = absurd (omega (arith, is, also.0.short))
+one_reason d b TooLong TooManyMarks is also = absurd (omega (arith, is, also.0.short))
 one_reason d b (Duplicate m) TooLong is also = absurd (omega (arith, is.0, also))
 one_reason d b (Duplicate m) (Duplicate n) is also =
     ap Duplicate (one_least (RepeatsAt b.changes) m n is.1 also.1)
@@ -227,6 +230,8 @@ one_reason d b (Duplicate m) (Absent n) is also =
 one_reason d b (Duplicate m) Full is also =
     absurd (repeats_not_once b.changes m is.1.here also.0.once)
 one_reason d b (Duplicate m) TooManyRouters is also =
+    absurd (repeats_not_once b.changes m is.1.here also.0.once)
+one_reason d b (Duplicate m) TooManyMarks is also =
     absurd (repeats_not_once b.changes m is.1.here also.0.once)
 one_reason d b (Absent m) TooLong is also = absurd (omega (arith, is.0, also))
 one_reason d b (Absent m) (Duplicate n) is also =
@@ -237,6 +242,8 @@ one_reason d b (Absent m) Full is also =
     absurd (removes_not_present d b.changes m is.2.here also.0.present)
 one_reason d b (Absent m) TooManyRouters is also =
     absurd (removes_not_present d b.changes m is.2.here also.0.present)
+one_reason d b (Absent m) TooManyMarks is also =
+    absurd (removes_not_present d b.changes m is.2.here also.0.present)
 one_reason d b Full TooLong is also = absurd (omega (arith, is.0.short, also))
 one_reason d b Full (Duplicate n) is also =
     absurd (repeats_not_once b.changes n also.1.here is.0.once)
@@ -244,6 +251,7 @@ one_reason d b Full (Absent n) is also =
     absurd (removes_not_present d b.changes n also.2.here is.0.present)
 one_reason d b Full Full is also = refl
 one_reason d b Full TooManyRouters is also = absurd (omega (arith, is.1, also.1))
+one_reason d b Full TooManyMarks is also = absurd (omega (arith, is.1, also.1))
 one_reason d b TooManyRouters TooLong is also = absurd (omega (arith, is.0.short, also))
 one_reason d b TooManyRouters (Duplicate n) is also =
     absurd (repeats_not_once b.changes n also.1.here is.0.once)
@@ -251,3 +259,12 @@ one_reason d b TooManyRouters (Absent n) is also =
     absurd (removes_not_present d b.changes n also.2.here is.0.present)
 one_reason d b TooManyRouters Full is also = absurd (omega (arith, is.1, also.1))
 one_reason d b TooManyRouters TooManyRouters is also = refl
+one_reason d b TooManyRouters TooManyMarks is also = absurd (omega (arith, is.2, also.2))
+one_reason d b TooManyMarks TooLong is also = absurd (omega (arith, is.0.short, also))
+one_reason d b TooManyMarks (Duplicate n) is also =
+    absurd (repeats_not_once b.changes n also.1.here is.0.once)
+one_reason d b TooManyMarks (Absent n) is also =
+    absurd (removes_not_present d b.changes n also.2.here is.0.present)
+one_reason d b TooManyMarks Full is also = absurd (omega (arith, is.1, also.1))
+one_reason d b TooManyMarks TooManyRouters is also = absurd (omega (arith, is.2, also.2))
+one_reason d b TooManyMarks TooManyMarks is also = refl

@@ -9,14 +9,15 @@ use Rattle.std.proofs.lemmas.Map.Keys.{IsDistinct-IsPermutation}
 use Rattle.std.proofs.lemmas.List.Sorted.{IsPermutation-sym, IsPermutation-map, Contains-permutation, list_any-IsPermutation}
 use Rattle.cspf_db.specs.declared.link.Link.{Link}
 use Rattle.cspf_db.specs.declared.batch.Change.{Change}
-use Rattle.cspf_db.specs.declared.batch.Change.TheVariants.{Put, Remove}
+use Rattle.cspf_db.specs.declared.batch.Change.TheVariants.{Put, Remove, Node}
 use Rattle.cspf_db.specs.Database.{Database, Key, key_of, key_cmp, link_at, HaveOwnKeys}
-use Rattle.cspf_db.specs.Changes.{key_changed, link_left, after_change, after_changes}
+use Rattle.cspf_db.specs.Changes.{ChangeKey, change_key_cmp, link_key, key_changed, link_left}
+use Rattle.cspf_db.specs.Tables.LinkChanges.{relinked, all_relinked}
 use Rattle.cspf_db.specs.Tables.Rows.{entry_of, database_of}
 use Rattle.cspf_db.specs.Tables.RepeatedKeys.{is_changed}
 use Rattle.cspf_db.specs.Tables.RowsLeft.{is_untouched, rows_left, links_put}
 use Rattle.cspf_db.specs.Refusals.{AreOnceEach}
-use Rattle.cspf_db.proofs.Databases.Keys.{keys_total, keys_same}
+use Rattle.cspf_db.proofs.Databases.Keys.{keys_total, keys_same, change_keys_total, link_apart}
 use Rattle.cspf_db.proofs.Databases.LinksOfRows.{link_at-database_of}
 use Rattle.cspf_db.proofs.Databases.OneChange.{same_database, same_options, found_too}
 
@@ -30,8 +31,8 @@ rows_after rows changes = rows_left rows changes ++ links_put changes
 
 -- keys that tie are changed alike
 changed_alike : (cs : List Change) (j k : Key) → eq_by_cmp key_cmp j k ≡ true
-    → is_changed cs j ≡ is_changed cs k
-changed_alike cs j k tie = ap (is_changed cs) (keys_same j k tie)
+    → is_changed cs (link_key j) ≡ is_changed cs (link_key k)
+changed_alike cs j k tie = ap (λ q. is_changed cs (link_key q)) (keys_same j k tie)
 
 -- nothing is found at a row with another key, nor behind it
 none_found : (b : Bool) (x : Link) (o : Option Link) → b ≡ false → o ≡ None
@@ -50,40 +51,41 @@ or_second true b e = absurd (cc)
 or_second false b e = e
 
 -- a key that isn't changed isn't put
-not_put : (cs : List Change) (k : Key) → is_changed cs k ≡ false → at_key (links_put cs) k ≡ None
+not_put : (cs : List Change) (k : Key) → is_changed cs (link_key k) ≡ false → at_key (links_put cs) k ≡ None
 unfolding at_key
 not_put [] k off = refl
 not_put (Put l ∷ cs) k off =
     none_found (eq_by_cmp key_cmp k (key_of l)) l _ (or_first _ _ off)
     (not_put cs k (or_second _ _ off))
 not_put (Remove from local ∷ cs) k off = not_put cs k (or_second _ _ off)
+not_put (Node router transit ∷ cs) k off = not_put cs k (or_second _ _ off)
 
 -- the rows that are left have what all rows have at a key that isn't changed, and nothing at others
 at_left : (rows : List Link) (cs : List Change) (k : Key)
-    → at_key (rows_left rows cs) k ≡ cond (is_changed cs k) None (at_key rows k)
+    → at_key (rows_left rows cs) k ≡ cond (is_changed cs (link_key k)) None (at_key rows k)
 unfolding at_key
 at_left [] cs k =
-    elim (is_changed cs k) as (λ b. ◌≡◌ {A = Option Link} None (cond b None None)) [ true ↦ refl | false ↦ refl ]
+    elim (is_changed cs (link_key k)) as (λ b. ◌≡◌ {A = Option Link} None (cond b None None)) [ true ↦ refl | false ↦ refl ]
 at_left (l ∷ rows) cs k =
-    elim (eq_by_cmp key_cmp k (key_of l)) as (λ t. eq_by_cmp key_cmp k (key_of l) ≡ t → at_key (rows_left (l ∷ rows) cs) k ≡ cond (is_changed cs k) None (cond t (Some l) (at_key rows k))) [
-      | true ↦ λ tie. elim (is_changed cs k) as (λ b. is_changed cs k ≡ b → at_key (rows_left (l ∷ rows) cs) k ≡ cond b None (Some l)) [
+    elim (eq_by_cmp key_cmp k (key_of l)) as (λ t. eq_by_cmp key_cmp k (key_of l) ≡ t → at_key (rows_left (l ∷ rows) cs) k ≡ cond (is_changed cs (link_key k)) None (cond t (Some l) (at_key rows k))) [
+      | true ↦ λ tie. elim (is_changed cs (link_key k)) as (λ b. is_changed cs (link_key k) ≡ b → at_key (rows_left (l ∷ rows) cs) k ≡ cond b None (Some l)) [
         | true ↦ λ on. dropped (sym (changed_alike cs k (key_of l) tie) ∙ on) ∙ at_left rows cs k
             ∙ ap (λ b. cond b None (at_key rows k)) on
         | false ↦ λ off. stayed (sym (changed_alike cs k (key_of l) tie) ∙ off)
             ∙ ap (λ b. cond b (Some l) (at_key (rows_left rows cs) k)) tie
       ] refl
-      | false ↦ λ apart. elim (is_changed cs (key_of l)) as (λ b. is_changed cs (key_of l) ≡ b → at_key (rows_left (l ∷ rows) cs) k ≡ cond (is_changed cs k) None (at_key rows k)) [
+      | false ↦ λ apart. elim (is_changed cs (link_key (key_of l))) as (λ b. is_changed cs (link_key (key_of l)) ≡ b → at_key (rows_left (l ∷ rows) cs) k ≡ cond (is_changed cs (link_key k)) None (at_key rows k)) [
         | true ↦ λ on. dropped on ∙ at_left rows cs k
         | false ↦ λ off. stayed off ∙ ap (λ b. cond b (Some l) (at_key (rows_left rows cs) k)) apart
             ∙ at_left rows cs k
       ] refl
     ] refl
   where
-    dropped : is_changed cs (key_of l) ≡ true
+    dropped : is_changed cs (link_key (key_of l)) ≡ true
         → at_key (rows_left (l ∷ rows) cs) k ≡ at_key (rows_left rows cs) k
     dropped on = ap (λ b. at_key (cond (not b) (l ∷ rows_left rows cs) (rows_left rows cs)) k) on
 
-    stayed : is_changed cs (key_of l) ≡ false
+    stayed : is_changed cs (link_key (key_of l)) ≡ false
         → at_key (rows_left (l ∷ rows) cs) k ≡ at_key (l ∷ rows_left rows cs) k
     stayed off = ap (λ b. at_key (cond (not b) (l ∷ rows_left rows cs) (rows_left rows cs)) k) off
 
@@ -112,11 +114,11 @@ chosen false (Some x) put none = refl
 
 -- what the rows after changes have at a key
 at_after : (rows : List Link) (cs : List Change) (k : Key)
-    → at_key (rows_after rows cs) k ≡ cond (is_changed cs k) (at_key (links_put cs) k) (at_key rows k)
+    → at_key (rows_after rows cs) k ≡ cond (is_changed cs (link_key k)) (at_key (links_put cs) k) (at_key rows k)
 at_after rows cs k =
     at_both (rows_left rows cs) (links_put cs) k
     ∙ ap (λ o. first_of o (at_key (links_put cs) k)) (at_left rows cs k)
-    ∙ chosen (is_changed cs k) (at_key rows k) (at_key (links_put cs) k) (not_put cs k)
+    ∙ chosen (is_changed cs (link_key k)) (at_key rows k) (at_key (links_put cs) k) (not_put cs k)
 
 -- none of the later changes is on the key of the first
 not_again : (c : Change) (cs : List Change) → AreOnceEach (c ∷ cs)
@@ -124,27 +126,42 @@ not_again : (c : Change) (cs : List Change) → AreOnceEach (c ∷ cs)
 unfolding IsDistinct
 not_again c cs once = none_on (key_changed c) cs once.0
   where
-    none_on : (k : Key) (cs : List Change)
-        → AllByRecursion (λ y. eq_by_cmp key_cmp k y ≡ false) (map key_changed cs)
+    none_on : (k : ChangeKey) (cs : List Change)
+        → AllByRecursion (λ y. eq_by_cmp change_key_cmp k y ≡ false) (map key_changed cs)
         → is_changed cs k ≡ false
     none_on k [] all = refl
     none_on k (c ∷ cs) all = ap (λ b. b || is_changed cs k) all.0 ∙ none_on k cs all.1
 
 -- what is at a key after one change
-pub link_at-after_change : (d : Database) (c : Change) (k : Key)
-    → link_at (after_change d c) k ≡ cond (eq_by_cmp key_cmp k (key_changed c)) (link_left c) (link_at d k)
-link_at-after_change d (Put l) k = get-insert keys_total d.links (key_of l) l k
-link_at-after_change d (Remove from local) k = get-remove keys_total d.links (from, local) k
+pub link_at-relinked : (d : Database) (c : Change) (k : Key)
+    → link_at (relinked d c) k ≡ cond (eq_by_cmp change_key_cmp (link_key k) (key_changed c)) (link_left c) (link_at d k)
+link_at-relinked d (Put l) k = get-insert keys_total d.links (key_of l) l k
+link_at-relinked d (Remove from local) k = get-remove keys_total d.links (from, local) k
+link_at-relinked d (Node router transit) k =
+    ap (λ b. cond b None (link_at d k)) (sym (link_apart k router))
+
+-- some changes, then others
+pub all_relinked-append : (d : Database) (bs cs : List Change)
+    → all_relinked d (bs ++ cs) ≡ all_relinked (all_relinked d bs) cs
+all_relinked-append d [] cs = refl
+all_relinked-append d (b ∷ bs) cs = all_relinked-append (relinked d b) bs cs
+
+-- changes of links leave the marks
+pub marks-all_relinked : (d : Database) (cs : List Change) → (all_relinked d cs).marks ≡ d.marks
+marks-all_relinked d [] = refl
+marks-all_relinked d (Put l ∷ cs) = marks-all_relinked (relinked d (Put l)) cs
+marks-all_relinked d (Remove from local ∷ cs) = marks-all_relinked (relinked d (Remove from local)) cs
+marks-all_relinked d (Node router transit ∷ cs) = marks-all_relinked d cs
 
 -- what is at a key after changes on keys of their own
 at_changed_by : (d : Database) (cs : List Change) (k : Key) → AreOnceEach cs
-    → link_at (after_changes d cs) k ≡ cond (is_changed cs k) (at_key (links_put cs) k) (link_at d k)
+    → link_at (all_relinked d cs) k ≡ cond (is_changed cs (link_key k)) (at_key (links_put cs) k) (link_at d k)
 unfolding IsDistinct at_key
 at_changed_by d [] k once = refl
 at_changed_by d (Put l ∷ cs) k once =
-    at_changed_by (after_change d (Put l)) cs k once.1
-    ∙ ap (cond (is_changed cs k) (at_key (links_put cs) k)) (link_at-after_change d (Put l) k)
-    ∙ put_first (eq_by_cmp key_cmp k (key_of l)) (is_changed cs k) l (at_key (links_put cs) k)
+    at_changed_by (relinked d (Put l)) cs k once.1
+    ∙ ap (cond (is_changed cs (link_key k)) (at_key (links_put cs) k)) (link_at-relinked d (Put l) k)
+    ∙ put_first (eq_by_cmp key_cmp k (key_of l)) (is_changed cs (link_key k)) l (at_key (links_put cs) k)
     (link_at d k)
     (λ tie. changed_alike cs k (key_of l) tie ∙ not_again (Put l) cs once)
   where
@@ -154,10 +171,10 @@ at_changed_by d (Put l ∷ cs) k once =
     put_first true false l put before apart = refl
     put_first false b l put before apart = refl
 at_changed_by d (Remove from local ∷ cs) k once =
-    at_changed_by (after_change d (Remove from local)) cs k once.1
-    ∙ ap (cond (is_changed cs k) (at_key (links_put cs) k))
-    (link_at-after_change d (Remove from local) k)
-    ∙ removed_first (eq_by_cmp key_cmp k (from, local)) (is_changed cs k) (at_key (links_put cs) k)
+    at_changed_by (relinked d (Remove from local)) cs k once.1
+    ∙ ap (cond (is_changed cs (link_key k)) (at_key (links_put cs) k))
+    (link_at-relinked d (Remove from local) k)
+    ∙ removed_first (eq_by_cmp key_cmp k (from, local)) (is_changed cs (link_key k)) (at_key (links_put cs) k)
     (link_at d k)
     (λ tie. changed_alike cs k (from, local) tie ∙ not_again (Remove from local) cs once)
     (not_put cs k)
@@ -167,14 +184,17 @@ at_changed_by d (Remove from local ∷ cs) k once =
     removed_first true true put before apart none = absurd (cc (apart refl))
     removed_first true false put before apart none = sym (none refl)
     removed_first false b put before apart none = refl
+at_changed_by d (Node router transit ∷ cs) k once =
+    at_changed_by d cs k once.1
+    ∙ ap (λ b. cond (b || is_changed cs (link_key k)) (at_key (links_put cs) k) (link_at d k)) (sym (link_apart k router))
 
 -- the rows after changes make the database after them
 pub database-rows_after : (rows : List Link) (cs : List Change) → AreOnceEach cs
-    → database_of (rows_after rows cs) ≡ after_changes (database_of rows) cs
+    → database_of (rows_after rows cs) ≡ all_relinked (database_of rows) cs
 unfolding at_key
 database-rows_after rows cs once =
-    same_database _ _ (λ k. link_at-database_of (rows_after rows cs) k ∙ at_after rows cs k
-    ∙ ap (cond (is_changed cs k) (at_key (links_put cs) k)) (sym (link_at-database_of rows k))
+    same_database _ _ (sym (marks-all_relinked (database_of rows) cs)) (λ k. link_at-database_of (rows_after rows cs) k ∙ at_after rows cs k
+    ∙ ap (cond (is_changed cs (link_key k)) (at_key (links_put cs) k)) (sym (link_at-database_of rows k))
     ∙ sym (at_changed_by (database_of rows) cs k once))
 
 -- a key that no row has is not that of a row that is left
@@ -189,11 +209,12 @@ apart_left k (l ∷ rows) cs all =
     ]
 
 -- a key that is not changed is not that of a link that is put
-apart_put : (k : Key) (cs : List Change) → is_changed cs k ≡ false
+apart_put : (k : Key) (cs : List Change) → is_changed cs (link_key k) ≡ false
     → AllByRecursion (λ y. eq_by_cmp key_cmp k y ≡ false) (map key_of (links_put cs))
 apart_put k [] off = tt
 apart_put k (Put l ∷ cs) off = (or_first _ _ off, apart_put k cs (or_second _ _ off))
 apart_put k (Remove from local ∷ cs) off = apart_put k cs (or_second _ _ off)
+apart_put k (Node router transit ∷ cs) off = apart_put k cs (or_second _ _ off)
 
 -- links that are put have keys of their own
 puts_apart : (cs : List Change) → AreOnceEach cs → HaveOwnKeys (links_put cs)
@@ -202,6 +223,7 @@ puts_apart [] once = tt
 puts_apart (Put l ∷ cs) once =
     (apart_put (key_of l) cs (not_again (Put l) cs once), puts_apart cs once.1)
 puts_apart (Remove from local ∷ cs) once = puts_apart cs once.1
+puts_apart (Node router transit ∷ cs) once = puts_apart cs once.1
 
 -- what holds of the keys of two lists holds of those of both
 all_both : (P : Key → Type 0) (xs ys : List Link) → AllByRecursion P (map key_of xs)
@@ -215,7 +237,7 @@ pub apart-rows_after : (rows : List Link) (cs : List Change) → HaveOwnKeys row
 unfolding IsDistinct
 apart-rows_after [] cs apart once = puts_apart cs once
 apart-rows_after (l ∷ rows) cs apart once =
-    elim (is_changed cs (key_of l)) as (λ b. is_changed cs (key_of l) ≡ b → HaveOwnKeys (cond (not b) (l ∷ rows_left rows cs) (rows_left rows cs) ++ links_put cs)) [
+    elim (is_changed cs (link_key (key_of l))) as (λ b. is_changed cs (link_key (key_of l)) ≡ b → HaveOwnKeys (cond (not b) (l ∷ rows_left rows cs) (rows_left rows cs) ++ links_put cs)) [
       | true ↦ λ on. apart-rows_after rows cs apart.1 once
       | false ↦ λ off. (all_both (λ y. eq_by_cmp key_cmp (key_of l) y ≡ false) (rows_left rows cs) (links_put cs) (apart_left (key_of l) rows cs apart.0) (apart_put (key_of l) cs off), apart-rows_after rows cs apart.1 once)
     ] refl
@@ -231,6 +253,8 @@ put_from (Put m ∷ cs) l (zero, h, is) = (0, omega arith, ap Put is)
 put_from (Put m ∷ cs) l (suc k, h, is) =
     behind (Put m) cs (Put l) (put_from cs l (k, omega (arith, h), is))
 put_from (Remove from local ∷ cs) l has = behind (Remove from local) cs (Put l) (put_from cs l has)
+put_from (Node router transit ∷ cs) l has =
+    behind (Node router transit) cs (Put l) (put_from cs l has)
 
 -- a link that one of the changes puts is among those that they put
 put_among : (cs : List Change) (l : Link) → Contains cs (Put l) → Contains (links_put cs) l
@@ -243,13 +267,15 @@ put_among (Put m ∷ cs) l (suc k, h, is) =
     behind m (links_put cs) l (put_among cs l (k, omega (arith, h), is))
 put_among (Remove from local ∷ cs) l (zero, h, is) = absurd (cc)
 put_among (Remove from local ∷ cs) l (suc k, h, is) = put_among cs l (k, omega (arith, h), is)
+put_among (Node router transit ∷ cs) l (zero, h, is) = absurd (cc)
+put_among (Node router transit ∷ cs) l (suc k, h, is) = put_among cs l (k, omega (arith, h), is)
 
 -- changes on keys of their own make the same in any order
 module _ (cs ys : List Change) (moved : IsPermutation cs ys) (once : AreOnceEach cs) where
   -- in the other order too
   still_once : AreOnceEach ys
   still_once =
-      IsDistinct-IsPermutation (eq_by_cmp key_cmp) (eq_by_cmp_equiv keys_total).symm (map key_changed cs) (map key_changed ys) (IsPermutation-map key_changed cs ys moved) once
+      IsDistinct-IsPermutation (eq_by_cmp change_key_cmp) (eq_by_cmp_equiv change_keys_total).symm (map key_changed cs) (map key_changed ys) (IsPermutation-map key_changed cs ys moved) once
 
   -- they put the same at each key
   same_put : (k : Key) → at_key (links_put ys) k ≡ at_key (links_put cs) k
@@ -259,9 +285,9 @@ module _ (cs ys : List Change) (moved : IsPermutation cs ys) (once : AreOnceEach
       (found_too (links_put ys) (links_put cs) k (puts_apart cs once) (λ l has. put_among cs l (Contains-permutation ys cs (Put l) (IsPermutation-sym cs ys moved) (put_from ys l has))))
       (found_too (links_put cs) (links_put ys) k (puts_apart ys still_once) (λ l has. put_among ys l (Contains-permutation cs ys (Put l) moved (put_from cs l has))))
 
-  pub after_changes-permuted : (d : Database) → after_changes d ys ≡ after_changes d cs
-  after_changes-permuted d =
-      same_database _ _ (λ k. at_changed_by d ys k still_once
-      ∙ ap (λ b. cond b (at_key (links_put ys) k) (link_at d k)) (sym (list_any-IsPermutation (λ c. eq_by_cmp key_cmp k (key_changed c)) cs ys moved))
-      ∙ ap (λ o. cond (is_changed cs k) o (link_at d k)) (same_put k)
+  pub all_relinked-permuted : (d : Database) → all_relinked d ys ≡ all_relinked d cs
+  all_relinked-permuted d =
+      same_database _ _ (marks-all_relinked d ys ∙ sym (marks-all_relinked d cs)) (λ k. at_changed_by d ys k still_once
+      ∙ ap (λ b. cond b (at_key (links_put ys) k) (link_at d k)) (sym (list_any-IsPermutation (λ c. eq_by_cmp change_key_cmp (link_key k) (key_changed c)) cs ys moved))
+      ∙ ap (λ o. cond (is_changed cs (link_key k)) o (link_at d k)) (same_put k)
       ∙ sym (at_changed_by d cs k once))

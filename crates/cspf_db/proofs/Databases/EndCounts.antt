@@ -16,7 +16,8 @@ use Rattle.cspf_db.specs.declared.link.Link.{Link}
 use Rattle.cspf_db.specs.declared.batch.Change.{Change}
 use Rattle.cspf_db.specs.declared.batch.Change.TheVariants.{Put}
 use Rattle.cspf_db.specs.Database.{Key, key_of, key_cmp, link_count, router_count, ends_of, EndsAt, HaveOwnKeys}
-use Rattle.cspf_db.specs.Changes.{link_left, after_changes}
+use Rattle.cspf_db.specs.Changes.{link_left}
+use Rattle.cspf_db.specs.Tables.LinkChanges.{all_relinked}
 use Rattle.cspf_db.specs.Tables.Rows.{database_of}
 use Rattle.cspf_db.specs.Tables.RowsLeft.{is_untouched, rows_left, links_put}
 use Rattle.cspf_db.specs.Tables.CountedEnds.{with_ends, AnyEndsAt, BringsAtMost}
@@ -237,7 +238,7 @@ or_split false b e f g = g e
 -- how many routers there are after changes
 module _ (rows : List Link) (cs : List Change) (apart : HaveOwnKeys rows) (once : AreOnceEach cs) where
   -- as many as the ends of the rows that are left and of the links that are put
-  pub router_count-after : router_count (after_changes (database_of rows) cs) ≡ set.len (with_ends (with_ends set.empty (rows_left rows cs)) (links_put cs))
+  pub router_count-after : router_count (all_relinked (database_of rows) cs) ≡ set.len (with_ends (with_ends set.empty (rows_left rows cs)) (links_put cs))
   router_count-after =
       ap router_count (sym (database-rows_after rows cs once))
       ∙ router_count-database_of (rows_after rows cs) (apart-rows_after rows cs apart once)
@@ -246,7 +247,7 @@ module _ (rows : List Link) (cs : List Change) (apart : HaveOwnKeys rows) (once 
 
   -- where the changes bring few routers to those of the rows, there are no more than those more
   pub router_count-brought : (routers : List ℕ) (most : ℕ) → All (λ r. set.contains (set.from_list {R = nat_cmp} (ends_of rows)) r ≡ true) routers → BringsAtMost routers cs most
-      → router_count (after_changes (database_of rows) cs) ≤ router_count (database_of rows) + most
+      → router_count (all_relinked (database_of rows) cs) ≤ router_count (database_of rows) + most
   router_count-brought routers most inside brings =
       let all : set.FinSet nat_cmp = set.from_list (ends_of rows) in
       let grown : set.FinSet nat_cmp = with_ends all (links_put cs) in
@@ -317,12 +318,12 @@ with_ends-turned s xs ys =
 -- what adding all ends tells of the number of routers
 module _ (rows : List Link) (cs : List Change) (apart : HaveOwnKeys rows) (once : AreOnceEach cs) where
   -- they are the ends of the links that are put and of the rows that are left
-  counted : router_count (after_changes (database_of rows) cs) ≡ set.len (with_ends (with_ends set.empty (links_put cs)) (rows_left rows cs))
+  counted : router_count (all_relinked (database_of rows) cs) ≡ set.len (with_ends (with_ends set.empty (links_put cs)) (rows_left rows cs))
   counted = router_count-after rows cs apart once ∙ ap set.len (with_ends-turned set.empty (rows_left rows cs) (links_put cs))
 
   -- where the ends of the links that are put are too many
   pub many_put : 1024 < set.len (with_ends set.empty (links_put cs))
-      → 1024 < router_count (after_changes (database_of rows) cs)
+      → 1024 < router_count (all_relinked (database_of rows) cs)
   many_put many = omega (arith, many, len-with_ends-le (with_ends set.empty (links_put cs)) (rows_left rows cs), counted)
 
   -- where both were added
@@ -330,7 +331,7 @@ module _ (rows : List Link) (cs : List Change) (apart : HaveOwnKeys rows) (once 
       → first ≡ with_ends set.empty (links_put cs)
       → OnTrue b (second ≡ with_ends first (rows_left rows cs)) → OnTrue b (set.len second ≤ 1024)
       → OnFalse b (1024 < set.len (with_ends first (rows_left rows cs)))
-      → IsTrue (not b) ↔ (1024 < router_count (after_changes (database_of rows) cs))
+      → IsTrue (not b) ↔ (1024 < router_count (all_relinked (database_of rows) cs))
   tells_both true first second put left few many =
       ((λ e. absurd (cc)), λ above. absurd (omega (arith, above, few, counted, ap set.len left, ap (λ s. set.len (with_ends s (rows_left rows cs))) put)))
   tells_both false first second put left few many =

@@ -3,6 +3,7 @@ use Rattle.std.proofs.Common.{◌≡◌, ℕ, ◌<◌, Bool, true, false, cond, 
 use Rattle.std.specs.Ordering.{eq_by_cmp}
 use Rattle.std.specs.List.{IsDistinct, AllByRecursion, Contains, remove as without}
 use Rattle.std.specs.List.Sorted.{IsPermutation}
+use Rattle.std.specs.FinSet as set
 use Rattle.std.specs.FinMap.{find, get, insert, remove, get-insert, get-remove, same_map}
 use Rattle.std.proofs.lemmas.Cmp.{eq_by_cmp_equiv}
 use Rattle.std.proofs.lemmas.Map.Keys.{IsDistinct-IsPermutation}
@@ -10,14 +11,16 @@ use Rattle.std.proofs.lemmas.List.Sorted.{IsPermutation-sym, IsPermutation-map, 
 use Rattle.cspf_db.specs.declared.link.Link.{Link}
 use Rattle.cspf_db.specs.declared.batch.Change.TheVariants.{Remove}
 use Rattle.cspf_db.specs.Database.{Database, Key, key_of, key_cmp, link_at, HaveOwnKeys}
-use Rattle.cspf_db.specs.Changes.{after_change}
+use Rattle.cspf_db.specs.Tables.LinkChanges.{relinked}
 use Rattle.cspf_db.specs.Tables.Rows.{entry_of, database_of}
 use Rattle.cspf_db.proofs.Databases.Keys.{keys_total, keys_antisymmetric, keys_same}
 use Rattle.cspf_db.proofs.Databases.LinksOfRows.{link_at-database_of, find-row, row-find}
 
--- databases that answer alike are one
-pub same_database : (d e : Database) → ((k : Key) → link_at d k ≡ link_at e k) → d ≡ e
-same_database d e same = ap (λ m. record { links = m }) (same_map keys_total keys_antisymmetric d.links e.links same)
+-- databases that answer alike, and have the same marks, are one
+pub same_database : (d e : Database) → d.marks ≡ e.marks → ((k : Key) → link_at d k ≡ link_at e k) → d ≡ e
+same_database d e marks same =
+    let links : d.links ≡ e.links = same_map keys_total keys_antisymmetric d.links e.links same in
+    λ i. record { links = links i; marks = marks i }
 
 -- options that hold the same are one
 pub same_options : {A : Type 0} (o p : Option A) → ((x : A) → o ≡ Some x → p ≡ Some x) → ((x : A) → p ≡ Some x → o ≡ Some x) → o ≡ p
@@ -44,7 +47,7 @@ found_too rows others k apart in_others l e =
 -- rows in another order make the same database
 pub database-permuted : (rows others : List Link) → IsPermutation rows others → HaveOwnKeys rows → HaveOwnKeys others → database_of rows ≡ database_of others
 database-permuted rows others moved apart also =
-    same_database _ _ (λ k. link_at-database_of rows k
+    same_database _ _ refl (λ k. link_at-database_of rows k
     ∙ same_options _ _ (found_too rows others k also (λ l. Contains-permutation rows others l moved)) (found_too others rows k apart (λ l. Contains-permutation others rows l (IsPermutation-sym rows others moved)))
     ∙ sym (link_at-database_of others k))
 
@@ -92,11 +95,11 @@ module _ (rows : List Link) (at : ℕ) (x : Link) (k : Key) (apart : HaveOwnKeys
   apart-without = still_apart.1
 
   -- the link is taken out
-  pub database-without : database_of (without rows at) ≡ after_change (database_of rows) (Remove k.0 k.1)
+  pub database-without : database_of (without rows at) ≡ relinked (database_of rows) (Remove k.0 k.1)
   database-without =
-      ap (λ m. record { links = m }) (remove-insert (database_of (without rows at)) x k has_key
+      ap (λ m. record { links = m; marks = set.empty }) (remove-insert (database_of (without rows at)) x k has_key
       (ap (link_at (database_of (without rows at))) (sym has_key) ∙ link_at-database_of (without rows at) (key_of x) ∙ find-behind x (without rows at) still_apart))
-      ∙ ap (λ d. after_change d (Remove k.0 k.1)) (sym (database-permuted rows (x ∷ without rows at) moved apart still_apart))
+      ∙ ap (λ d. relinked d (Remove k.0 k.1)) (sym (database-permuted rows (x ∷ without rows at) moved apart still_apart))
 
 -- to take out nothing leaves nothing there
 missing : (b : Bool) (y : Option Link) → (b ≡ true → y ≡ None) → y ≡ cond b None y
@@ -104,6 +107,6 @@ missing true y none = none refl
 missing false y none = refl
 
 -- to remove what isn't there changes nothing
-pub after_change-absent : (d : Database) (from local : ℕ) → link_at d (from, local) ≡ None → d ≡ after_change d (Remove from local)
-after_change-absent d from local none =
-    same_database d _ (λ q. missing (eq_by_cmp key_cmp q (from, local)) (link_at d q) (λ tie. ap (link_at d) (keys_same q (from, local) tie) ∙ none) ∙ sym (get-remove keys_total d.links (from, local) q))
+pub relinked-absent : (d : Database) (from local : ℕ) → link_at d (from, local) ≡ None → d ≡ relinked d (Remove from local)
+relinked-absent d from local none =
+    same_database d _ refl (λ q. missing (eq_by_cmp key_cmp q (from, local)) (link_at d q) (λ tie. ap (link_at d) (keys_same q (from, local) tie) ∙ none) ∙ sym (get-remove keys_total d.links (from, local) q))

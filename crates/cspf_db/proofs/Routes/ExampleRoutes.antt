@@ -1,5 +1,8 @@
 -- The routes of the two networks of `specs/Examples`.
-use Rattle.std.proofs.Common.{◌≡◌, ◌≢◌, ℕ, ◌<◌, List, [], ◌∷◌, refl, sym, subst, inl, inr, lit<, lit≤, arith, rules}
+use Rattle.std.proofs.Common.{◌≡◌, ◌≢◌, ℕ, ◌<◌, List, [], ◌∷◌, refl, sym, ap, ◌∙◌, subst, inl, inr, lit<, lit≤, arith, rules}
+use mathlib.Core.Bool.{true≢false}
+use Rattle.std.specs.Ordering.{nat_cmp}
+use Rattle.std.specs.FinSet as set
 use Rattle.std.specs.List.{AllByRecursion, IsDistinct}
 use Rattle.std.proofs.lemmas.Bool.{eqb-false}
 use Rattle.std.proofs.lemmas.List.Elements.{All-contains, All-from_recursion, recursion_from_All}
@@ -8,7 +11,7 @@ use Rattle.cspf_addr.specs.Prefixes.{Covers}
 use Rattle.cspf_addr.specs.declared.hop.Hop.{Hop}
 use Rattle.cspf_db.specs.declared.link.Link.{Link}
 use Rattle.cspf_db.specs.declared.request.Request.{Request}
-use Rattle.cspf_db.specs.Database.{Database, AreLinksOf, IsLinkOf, HaveOwnKeys}
+use Rattle.cspf_db.specs.Database.{Database, AreLinksOf, IsLinkOf, HaveOwnKeys, HasTransit}
 use Rattle.cspf_db.specs.Admissible.{IsAdmitted, IsAdmissible}
 use Rattle.cspf_db.specs.Fields.{RequestFields, HasRequestFields}
 use Rattle.cspf_db.proofs.Routes.FieldRecords.{requests_said}
@@ -18,7 +21,7 @@ use Rattle.cspf_db.specs.Legs.{IsCutInto}
 use Rattle.cspf_db.specs.Routes.{IsRoute}
 use Rattle.cspf_db.specs.Tables.Rows.{database_of}
 use Rattle.cspf_db.proofs.Databases.LinksOfRows.{rows_listed}
-use Rattle.cspf_db.specs.Examples.{router, inner, link, back, both_ways, asked_fields, from_1_to_3, from_1_to_inner_1, from_1_to_inner_2, from_3_to_inner_1, from_inner_1_to_4, from_inner_2_to_inner_1, six_links, way_outside, way_inside, inner_hop, loose_inner_hop, first_router_hop, from_1_to_2, from_2_to_3, from_2_to_4, three_links, interface_hop, AreFound, MayStandAtOwners, MayNotStandElsewhere, MayStandAnywhere, IsOutsideBeforeInside, MayBeEmpty, MayBeMetByAnyLink}
+use Rattle.cspf_db.specs.Examples.{router, inner, link, back, both_ways, asked_fields, from_1_to_3, from_1_to_inner_1, from_1_to_inner_2, from_3_to_inner_1, from_inner_1_to_4, from_inner_2_to_inner_1, six_links, way_outside, way_inside, inner_hop, loose_inner_hop, first_router_hop, from_1_to_2, from_2_to_3, from_2_to_4, three_links, interface_hop, IsNetwork, AreFound, MayStandAtOwners, MayNotStandElsewhere, MayStandAnywhere, IsOutsideBeforeInside, MayBeEmpty, MayBeMetByAnyLink}
 
 -- the request with these fields
 abbrev made : (f : RequestFields) → f.setup < 8 → f.from ≢ f.to → Request
@@ -48,7 +51,7 @@ for_each f P holds q says =
 -- made
 found : (rows : List Link) (to : ℕ) → HaveOwnKeys rows → router 1 ≢ to → AreFound rows to
 found rows to apart two_ends = record {
-  database = (database_of rows, rows_listed rows apart);
+  database = (database_of rows, record { listed = rows_listed rows apart; unmarked = refl });
   request = λ hops. let q : Request = made (asked_fields to hops) (lit< tt) two_ends in (q, (requests_said q (asked_fields to hops)).1 refl);
 }
 
@@ -94,10 +97,15 @@ usable d tail_end hops priority two_ends from local to remote metric apart is is
   };
 }
 
-module _ (d : Database) (listed : AreLinksOf d (both_ways six_links)) where
+-- where there are no marks each router has transit
+has_transit : (d : Database) → d.marks ≡ set.empty → (router : ℕ) → HasTransit d router
+has_transit d none router on =
+    true≢false (sym on ∙ ap (λ s. set.contains s router) none ∙ set.contains-empty nat_cmp router)
+
+module _ (d : Database) (network : IsNetwork d (both_ways six_links)) where
   -- each row is a link of the database
   rows : AllByRecursion (IsLinkOf d) (both_ways six_links)
-  rows = recursion_from_All (IsLinkOf d) (both_ways six_links) listed.each
+  rows = recursion_from_All (IsLinkOf d) (both_ways six_links) network.listed.each
 
   -- the strict hop is owned by 10.9.0.1
   owned_inner_1 : Owns d inner_hop.prefix (inner 1)
@@ -124,6 +132,7 @@ module _ (d : Database) (listed : AreLinksOf d (both_ways six_links)) where
         (usable d (router 4) hops priority two_ends _ _ _ _ _ _ rows.1.1.1.1.1.0 rows.1.1.1.1.1.1.1.1.1.1.1.0, (usable d (router 4) hops priority two_ends _ _ _ _ _ _ rows.1.1.1.1.0 rows.1.1.1.1.1.1.1.1.1.1.0, tt)),
       );
       joined = (refl, (refl, (refl, tt)));
+      transit = (has_transit d network.unmarked _, (has_transit d network.unmarked _, tt));
     }
 
     -- the way by 3.3.3.3 is a walk
@@ -134,16 +143,17 @@ module _ (d : Database) (listed : AreLinksOf d (both_ways six_links)) where
         (usable d (router 4) hops priority two_ends _ _ _ _ _ _ rows.1.1.1.0 rows.1.1.1.1.1.1.1.1.1.0, (usable d (router 4) hops priority two_ends _ _ _ _ _ _ rows.1.1.1.1.0 rows.1.1.1.1.1.1.1.1.1.1.0, tt)),
       );
       joined = (refl, (refl, (refl, tt)));
+      transit = (has_transit d network.unmarked _, (has_transit d network.unmarked _, tt));
     }
 
 -- the strict leg of the way by 10.9.0.2 stands at owners alone
 pub may_stand_at_owners : MayStandAtOwners
-may_stand_at_owners d q listed says =
-    let owns_1 = owned_inner_1 d listed in
-    let owns_2 = owned_inner_2 d listed in
+may_stand_at_owners d q network says =
+    let owns_1 = owned_inner_1 d network in
+    let owns_2 = owned_inner_2 d network in
     for_each (asked_fields (router 4) (inner_hop ∷ [])) (λ q. IsRoute d q way_inside)
     (λ priority two_ends. record {
-      is_walk = inside_walk d listed (inner_hop ∷ []) priority two_ends;
+      is_walk = inside_walk d network (inner_hop ∷ []) priority two_ends;
       cut = (
         (from_1_to_inner_2 ∷ from_inner_2_to_inner_1 ∷ []) ∷ (from_inner_1_to_4 ∷ []) ∷ [],
         record {
@@ -159,17 +169,17 @@ may_stand_at_owners d q listed says =
 
 -- the loose leg of the way by 3.3.3.3 may stand there
 pub may_stand_anywhere : MayStandAnywhere
-may_stand_anywhere d q listed says =
+may_stand_anywhere d q network says =
     for_each (asked_fields (router 4) (loose_inner_hop ∷ [])) (λ q. IsRoute d q way_outside)
     (λ priority two_ends. record {
-      is_walk = outside_walk d listed (loose_inner_hop ∷ []) priority two_ends;
+      is_walk = outside_walk d network (loose_inner_hop ∷ []) priority two_ends;
       cut = (
         (from_1_to_3 ∷ from_3_to_inner_1 ∷ []) ∷ (from_inner_1_to_4 ∷ []) ∷ [],
         record {
           number = refl;
           whole = refl;
           each = (
-            record { arrives = owned_inner_1 d listed; within = (inl refl, (inl refl, (inl refl, tt))) },
+            record { arrives = owned_inner_1 d network; within = (inl refl, (inl refl, (inl refl, tt))) },
             (record { arrives = refl; within = (inl tt, (inl tt, tt)) }, tt),
           );
         },
@@ -178,13 +188,13 @@ may_stand_anywhere d q listed says =
 
 -- the leg to the head-end is empty
 pub may_be_empty : MayBeEmpty
-may_be_empty d q listed says =
-    let owns_first = owned_router_1 d listed in
-    let owns_1 = owned_inner_1 d listed in
-    let owns_2 = owned_inner_2 d listed in
+may_be_empty d q network says =
+    let owns_first = owned_router_1 d network in
+    let owns_1 = owned_inner_1 d network in
+    let owns_2 = owned_inner_2 d network in
     for_each (asked_fields (router 4) (first_router_hop ∷ inner_hop ∷ []))
     (λ q. IsRoute d q way_inside) (λ priority two_ends. record {
-      is_walk = inside_walk d listed (first_router_hop ∷ inner_hop ∷ []) priority two_ends;
+      is_walk = inside_walk d network (first_router_hop ∷ inner_hop ∷ []) priority two_ends;
       cut = (
         [] ∷ (from_1_to_inner_2 ∷ from_inner_2_to_inner_1 ∷ []) ∷ (from_inner_1_to_4 ∷ []) ∷ [],
         record {
@@ -250,14 +260,14 @@ module _ (d : Database) (listed : AreLinksOf d (both_ways six_links)) where
 
 -- the way by 3.3.3.3 is no route for the strict hop
 pub may_not_stand_elsewhere : MayNotStandElsewhere
-may_not_stand_elsewhere d q listed says =
+may_not_stand_elsewhere d q network says =
     for_each (asked_fields (router 4) (inner_hop ∷ [])) (λ q. ¬ IsRoute d q way_outside)
-    (λ priority two_ends route. not_cut d listed priority two_ends route.cut.0 route.cut.1) q says
+    (λ priority two_ends route. not_cut d network.listed priority two_ends route.cut.0 route.cut.1) q says
 
 -- the interface of 2.2.2.2 on the link with no bandwidth is an address of 2.2.2.2
 pub may_be_met_by_any_link : MayBeMetByAnyLink
-may_be_met_by_any_link d q listed says =
-    let rows : AllByRecursion (IsLinkOf d) (both_ways three_links) = recursion_from_All (IsLinkOf d) (both_ways three_links) listed.each in
+may_be_met_by_any_link d q network says =
+    let rows : AllByRecursion (IsLinkOf d) (both_ways three_links) = recursion_from_All (IsLinkOf d) (both_ways three_links) network.listed.each in
     let owns : Owns d interface_hop.prefix (router 2) = record {
       known = (from_1_to_2, rows.0, inr refl);
       covered = inr (from_2_to_4, rows.1.1.0, record { from = refl; local = refl });
@@ -270,6 +280,7 @@ may_be_met_by_any_link d q listed says =
           links =
               (usable d (router 3) (interface_hop ∷ []) priority two_ends _ _ _ _ _ _ rows.0 rows.1.1.1.0, (usable d (router 3) (interface_hop ∷ []) priority two_ends _ _ _ _ _ _ rows.1.0 rows.1.1.1.1.0, tt));
           joined = (refl, (refl, tt));
+          transit = (has_transit d network.unmarked _, tt);
         };
         cut = (
           (from_1_to_2 ∷ []) ∷ (from_2_to_3 ∷ []) ∷ [],

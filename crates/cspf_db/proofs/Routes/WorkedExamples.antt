@@ -6,7 +6,7 @@ use Rattle.std.specs.declared.cmp.Ordering.TheVariants.{Less, Equal}
 use Rattle.std.specs.Cmp.{nat_cmp_total, tied_itself}
 use Rattle.cspf_db.specs.declared.batch.Change.TheVariants.{Put, Remove}
 use Rattle.cspf_db.specs.Database.{key_of, key_cmp}
-use Rattle.cspf_db.specs.Changes.{last_on, link_after}
+use Rattle.cspf_db.specs.Changes.{link_key, last_on, link_after}
 use Rattle.cspf_db.specs.Laws.{AddressesCompareAsNumbers, FewerLinksComeFirst, LastPutStands, LastRemovalStands, ExactBandwidthIsEnough, LessBandwidthIsNot}
 use Rattle.cspf_db.proofs.Databases.Keys.{key_itself}
 
@@ -29,12 +29,12 @@ fewer_first l m n twenty ten also =
 pub put_stands : LastPutStands
 put_stands l m same =
     let tie : eq_by_cmp key_cmp (key_of l) (key_of m) ≡ true = ap (eq_by_cmp key_cmp (key_of l)) (sym same) ∙ key_itself (key_of l) in
-    ap (λ b. link_after (cond b (Some (Put m)) (last_on (key_of l) (Put l ∷ Remove l.from l.local ∷ []))) None) tie
+    ap (λ b. link_after (cond b (Some (Put m)) (last_on (link_key (key_of l)) (Put l ∷ Remove l.from l.local ∷ []))) None) tie
 
 -- the last removal stands
 pub removal_stands : LastRemovalStands
 removal_stands l m same =
-    ap (λ b. link_after (cond b (Some (Remove l.from l.local)) (last_on (key_of l) (Put l ∷ Put m ∷ []))) None) (key_itself (key_of l))
+    ap (λ b. link_after (cond b (Some (Remove l.from l.local)) (last_on (link_key (key_of l)) (Put l ∷ Put m ∷ []))) None) (key_itself (key_of l))
 
 -- 1,000 is enough for 1,000
 pub enough : ExactBandwidthIsEnough

@@ -15,14 +15,14 @@ use Rattle.cspf_addr.specs.Prefixes.{Covers}
 use Rattle.cspf_db.specs.declared.link.Link.{Link}
 use Rattle.cspf_db.specs.Database.{Database, Key, key_of, key_cmp, AreLinksOf, AreAtTheirKeys, IsRouterOf}
 use Rattle.cspf_db.specs.Index.{links_of, links_from, router_list}
-use Rattle.cspf_db.specs.Tables.Rows.{entry_of, database_of, AreByKey}
+use Rattle.cspf_db.specs.Tables.Rows.{entry_of, database_of, marked_database, AreByKey}
 use Rattle.cspf_db.specs.Targets.{Owns}
 use Rattle.cspf_db.proofs.Databases.Keys.{keys_total}
 use Rattle.cspf_db.proofs.Tables.SortedEntries.{test_from_true, rises}
 use Rattle.cspf_db.proofs.Databases.LinksOfRows.{rows_listed, rows_keyed}
 use Rattle.cspf_db.proofs.Tables.RowOrder.{own_keys, links_of-database_of}
 use Rattle.cspf_db.proofs.Tables.OwnedPrefixes.{tells_link, owned_by_link}
-use Rattle.cspf_db.proofs.Tables.RouterLists.{Contains-router_list}
+use Rattle.cspf_db.proofs.Tables.RouterLists.{Contains-router_list, routers_marked}
 
 -- of two keys of one router, the lower has the lower address
 local_le : (j k : Key) → key_cmp j k ≡ Less → j.0 ≡ k.0 → j.1 ≤ k.1
@@ -47,8 +47,8 @@ locals_rise rows router by_key i j d le h =
     ]
 
 -- and so do the links of a database from it
-pub links_rise : (d : Database) (rows part : List Link) (router : ℕ) → database_of rows ≡ d → AreByKey rows → part ≡ links_from d router → IsNonDecreasingBy (λ l. l.local) part
-links_rise d rows part router e by_key is =
+pub links_rise : (d : Database) (rows : List Link) (marks : List ℕ) (part : List Link) (router : ℕ) → marked_database rows marks ≡ d → AreByKey rows → part ≡ links_from d router → IsNonDecreasingBy (λ l. l.local) part
+links_rise d rows marks part router e by_key is =
     subst (IsNonDecreasingBy (λ l. l.local))
     (ap (filter (λ (l : Link). nat_eq l.from router)) (sym (links_of-database_of rows by_key) ∙ ap links_of e) ∙ sym is)
     (locals_rise rows router by_key)
@@ -62,22 +62,27 @@ none_between prefix rows first last some rising none k d h =
     none (get_or rows k d).local (omega (arith, bottom, rising 0 k d (omega arith) h)) (omega (arith, top, rising k (length rows - 1) d (omega (arith, h)) (omega (arith, some))))
 
 -- the router that is read at an index of the routers
-pub router_at : (d : Database) (rows : List Link) (routers : List ℕ) (at router : ℕ) → database_of rows ≡ d → routers ≡ router_list (database_of rows) → at < length (router_list d)
+pub router_at : (d : Database) (rows : List Link) (marks : List ℕ) (routers : List ℕ) (at router : ℕ) → marked_database rows marks ≡ d → routers ≡ router_list (database_of rows) → at < length (router_list d)
     → router ≡ get_or routers at router → router ≡ slice_index (router_list d) at
-router_at d rows routers at router e all h read =
-    let listed : routers ≡ router_list d = all ∙ ap router_list e in
+router_at d rows marks routers at router e all h read =
+    let listed : routers ≡ router_list d = all ∙ routers_marked rows marks ∙ ap router_list e in
     let within : at < length routers = subst (λ rs. at < length rs) (sym listed) h in
     get_or_read_under routers at (length routers) router 0 read within refl ∙ ap (λ rs. slice_index rs at) listed
 
 -- each of them is a router of the database
-pub known_at : (d : Database) (rows : List Link) (at : ℕ) → database_of rows ≡ d → at < length (router_list d) → IsRouterOf d (slice_index (router_list d) at)
-known_at d rows at e h = (Contains-router_list d (subst AreAtTheirKeys e (rows_keyed rows)) (slice_index (router_list d) at)).0 (Contains-get_or (router_list d) at 0 h)
+pub known_at : (d : Database) (rows : List Link) (marks : List ℕ) (at : ℕ) → marked_database rows marks ≡ d → at < length (router_list d) → IsRouterOf d (slice_index (router_list d) at)
+known_at d rows marks at e h = (Contains-router_list d (subst AreAtTheirKeys e (rows_keyed rows)) (slice_index (router_list d) at)).0 (Contains-get_or (router_list d) at 0 h)
+
+-- marks leave the links
+pub links_marked : (rows : List Link) (marks : List ℕ) (links : List Link) → AreLinksOf (database_of rows) links → AreLinksOf (marked_database rows marks) links
+links_marked rows marks links are = record { each = are.each; whole = are.whole }
 
 -- a router that the prefix doesn't cover owns it where a link from it is within
-pub owned_by_links : (d : Database) (rows part : List Link) (prefix : PrefixParts) (router : ℕ) (b : Bool) → database_of rows ≡ d → AreByKey rows → IsRouterOf d router → part ≡ links_from d router
+pub owned_by_links : (d : Database) (rows : List Link) (marks : List ℕ) (part : List Link) (prefix : PrefixParts) (router : ℕ) (b : Bool) → marked_database rows marks ≡ d → AreByKey rows → IsRouterOf d router → part ≡ links_from d router
     → ¬ Covers prefix router → (b ≡ true → (at : ℕ) × (at < length part) × HoldsAt (λ l. Covers prefix l.local) part at) → (b ≡ false → All (λ l. ¬ Covers prefix l.local) part)
     → IsTrue b ↔ Owns d prefix router
-owned_by_links d rows part prefix router b e by_key known is apart hit miss =
+owned_by_links d rows marks part prefix router b e by_key known is apart hit miss =
+    let links : AreLinksOf (marked_database rows marks) rows = links_marked rows marks rows (rows_listed rows (own_keys rows by_key)) in
     let listed : AreLinksOf d (links_of d) =
-    subst (λ o. AreLinksOf o (links_of o)) e (subst (AreLinksOf (database_of rows)) (sym (links_of-database_of rows by_key)) (rows_listed rows (own_keys rows by_key))) in
+    subst (λ o. AreLinksOf o (links_of o)) e (subst (AreLinksOf (marked_database rows marks)) (sym (links_of-database_of rows by_key)) links) in
     owned_by_link d prefix router b known apart (tells_link prefix router d (links_of d) b listed (subst (λ ls. b ≡ true → (at : ℕ) × (at < length ls) × HoldsAt (λ l. Covers prefix l.local) ls at) is hit) (subst (λ ls. b ≡ false → All (λ (l : Link). ¬ Covers prefix l.local) ls) is miss))

@@ -11,16 +11,17 @@ use Rattle.std.proofs.lemmas.List.{take-append-drop, drop-drop, drop_more, set_a
 use Rattle.cspf_db.specs.declared.link.Link.{Link}
 use Rattle.std.proofs.lemmas.List.Edits.{length-between, get_or-between}
 use Rattle.cspf_db.specs.declared.batch.Change.{Change}
-use Rattle.cspf_db.specs.declared.batch.Change.TheVariants.{Put, Remove}
+use Rattle.cspf_db.specs.declared.batch.Change.TheVariants.{Put, Remove, Node}
 use Rattle.cspf_db.specs.Database.{Key, key_of, key_cmp}
-use Rattle.cspf_db.specs.Changes.{after_change, key_changed}
+use Rattle.cspf_db.specs.Changes.{ChangeKey, change_key_cmp, link_key, mark_key, key_changed}
+use Rattle.cspf_db.specs.Tables.LinkChanges.{relinked}
 use Rattle.cspf_db.specs.Tables.MergeSteps.{EndsBelow}
 use Rattle.cspf_db.specs.Tables.RowsLeft.{links_put}
 use Rattle.cspf_db.specs.Tables.Rows.{entry_of, database_of, AreByKey}
-use Rattle.cspf_db.proofs.Databases.Keys.{keys_total, key_itself}
+use Rattle.cspf_db.proofs.Databases.Keys.{keys_total, key_itself, change_keys_total, link_keys_same, link_not_mark}
 use Rattle.cspf_db.proofs.Databases.FoundLinks.{link_at-no_row}
 use Rattle.cspf_db.proofs.Tables.SortedEntries.{turned_greater, turned_less, test_from_true, rises}
-use Rattle.cspf_db.proofs.Databases.OneChange.{database-without, after_change-absent}
+use Rattle.cspf_db.proofs.Databases.OneChange.{database-without, relinked-absent}
 use Rattle.cspf_db.proofs.Tables.RowOrder.{own_keys, entries-hit, entries-gap, by_key-entries, database_of-entries, by_key-without}
 
 -- rows that are copied stand before the others still
@@ -62,12 +63,12 @@ some_row (l ∷ rows) next h = l
 
 -- where the next row has its key, a link is put over it
 entries-over : (old rows : List Link) (at next : ℕ) (l : Link) → AreByKey (old ++ drop at rows) → at ≤ next → next < length rows → HoldsAt (λ m. key_of m ≡ key_of l) rows next
-    → entries (after_change (database_of (old ++ drop at rows)) (Put l)).links ≡ map entry_of (((old ++ between at next rows) ++ l ∷ []) ++ drop (next + 1) rows)
+    → entries (relinked (database_of (old ++ drop at rows)) (Put l)).links ≡ map entry_of (((old ++ between at next rows) ++ l ∷ []) ++ drop (next + 1) rows)
 entries-over old rows at next l by_key le h has =
     let out : List Link = old ++ between at next rows in
     let same : out ++ drop next rows ≡ old ++ drop at rows = copied old rows at next le in
     let within : length out < length (out ++ drop next rows) = omega (arith, length-append out (drop next rows), length-drop next rows, h) in
-    ap (λ xs. entries (after_change (database_of xs) (Put l)).links) (sym same)
+    ap (λ xs. entries (relinked (database_of xs) (Put l)).links) (sym same)
     ∙ entries-hit (out ++ drop next rows) (length out) l (subst AreByKey (sym same) by_key) within (λ d. ap key_of (at_next out rows next d h) ∙ has d)
     ∙ ap (map entry_of) (set-next out rows next l h)
 
@@ -99,19 +100,19 @@ above_copied out rows next k gap i d lo h =
 entries-between : (old rows : List Link) (at next : ℕ) (l : Link) → AreByKey (old ++ drop at rows) → at ≤ next
     → AllWithin (λ m. key_cmp (key_of m) (key_of l) ≡ Greater) rows next (length rows)
     → ((d : Link) → 0 < length (old ++ between at next rows) → key_cmp (key_of (get_or (old ++ between at next rows) (length (old ++ between at next rows) - 1) d)) (key_of l) ≡ Less)
-    → entries (after_change (database_of (old ++ drop at rows)) (Put l)).links ≡ map entry_of (((old ++ between at next rows) ++ l ∷ []) ++ drop next rows)
+    → entries (relinked (database_of (old ++ drop at rows)) (Put l)).links ≡ map entry_of (((old ++ between at next rows) ++ l ∷ []) ++ drop next rows)
 entries-between old rows at next l by_key le gap last =
     let out : List Link = old ++ between at next rows in
     let same : out ++ drop next rows ≡ old ++ drop at rows = copied old rows at next le in
     let sorted : AreByKey (out ++ drop next rows) = subst AreByKey (sym same) by_key in
     let upto : length out ≤ length (out ++ drop next rows) = omega (arith, length-append out (drop next rows)) in
-    ap (λ xs. entries (after_change (database_of xs) (Put l)).links) (sym same)
+    ap (λ xs. entries (relinked (database_of xs) (Put l)).links) (sym same)
     ∙ entries-gap (out ++ drop next rows) (length out) l sorted upto (below_key out (drop next rows) (key_of l) sorted last, above_copied out rows next (key_of l) gap)
     ∙ ap (map entry_of) (insert-next out rows next l)
 
 -- where the next row has the key of a removal, it is left out
 merged_removal : (old rows : List Link) (at next : ℕ) (k : Key) → AreByKey (old ++ drop at rows) → at ≤ next → next < length rows → HoldsAt (λ m. key_of m ≡ k) rows next
-    → (database_of ((old ++ between at next rows) ++ drop (next + 1) rows) ≡ after_change (database_of (old ++ drop at rows)) (Remove k.0 k.1)) × AreByKey ((old ++ between at next rows) ++ drop (next + 1) rows)
+    → (database_of ((old ++ between at next rows) ++ drop (next + 1) rows) ≡ relinked (database_of (old ++ drop at rows)) (Remove k.0 k.1)) × AreByKey ((old ++ between at next rows) ++ drop (next + 1) rows)
 merged_removal old rows at next k by_key le h has =
     let out : List Link = old ++ between at next rows in
     let same : out ++ drop next rows ≡ old ++ drop at rows = copied old rows at next le in
@@ -121,7 +122,7 @@ merged_removal old rows at next k by_key le h has =
     let x : Link = get_or rows next d in
     let read : x ≡ get_or (out ++ drop next rows) (length out) x = sym (at_next out rows next x h ∙ get_or_default rows next x d h) in
     let left : without (out ++ drop next rows) (length out) ≡ out ++ drop (next + 1) rows = without-next out rows next d h in (
-      ap database_of (sym left) ∙ database-without (out ++ drop next rows) (length out) x k (own_keys _ sorted) within read (has d) ∙ ap (λ xs. after_change (database_of xs) (Remove k.0 k.1)) same,
+      ap database_of (sym left) ∙ database-without (out ++ drop next rows) (length out) x k (own_keys _ sorted) within read (has d) ∙ ap (λ xs. relinked (database_of xs) (Remove k.0 k.1)) same,
       subst AreByKey left (by_key-without (out ++ drop next rows) (length out) sorted),
     )
 
@@ -153,29 +154,30 @@ untied j k apart same =
     true≢false (sym tie ∙ apart)
 
 -- a change is merged where the next row has its key
-pub merged_over : (old rows : List Link) (at next : ℕ) (c : Change) → AreByKey (old ++ drop at rows) → at ≤ next → next < length rows → HoldsAt (λ m. key_of m ≡ key_changed c) rows next
-    → (database_of (((old ++ between at next rows) ++ links_put (c ∷ [])) ++ drop (next + 1) rows) ≡ after_change (database_of (old ++ drop at rows)) c)
+pub merged_over : (old rows : List Link) (at next : ℕ) (c : Change) → AreByKey (old ++ drop at rows) → at ≤ next → next < length rows → HoldsAt (λ m. link_key (key_of m) ≡ key_changed c) rows next
+    → (database_of (((old ++ between at next rows) ++ links_put (c ∷ [])) ++ drop (next + 1) rows) ≡ relinked (database_of (old ++ drop at rows)) c)
     × AreByKey (((old ++ between at next rows) ++ links_put (c ∷ [])) ++ drop (next + 1) rows)
 merged_over old rows at next (Put l) by_key le h has =
-    let merged = entries-over old rows at next l by_key le h has in
-    (database_of-entries _ _ merged, by_key-entries _ _ merged)
+    let merged = entries-over old rows at next l by_key le h (λ d. link_keys_same _ (key_of l) (has d)) in
+    (database_of-entries (relinked (database_of (old ++ drop at rows)) (Put l)) _ refl merged, by_key-entries _ _ merged)
 merged_over old rows at next (Remove from local) by_key le h has =
-    subst (λ (out : List Link). (database_of (out ++ drop (next + 1) rows) ≡ after_change (database_of (old ++ drop at rows)) (Remove from local)) × AreByKey (out ++ drop (next + 1) rows))
-    (sym (append-nil (old ++ between at next rows))) (merged_removal old rows at next (from, local) by_key le h has)
+    subst (λ (out : List Link). (database_of (out ++ drop (next + 1) rows) ≡ relinked (database_of (old ++ drop at rows)) (Remove from local)) × AreByKey (out ++ drop (next + 1) rows))
+    (sym (append-nil (old ++ between at next rows))) (merged_removal old rows at next (from, local) by_key le h (λ d. link_keys_same _ (from, local) (has d)))
+merged_over old rows at next (Node router transit) by_key le h has = absurd (link_not_mark _ router (has (some_row rows next h)))
 
 -- where the next row's key is higher, a removal takes out nothing
-removed_none : (old rows : List Link) (at next : ℕ) (k : Key) → AreByKey (old ++ drop at rows) → at ≤ next → AllWithin (λ m. key_cmp (key_of m) k ≡ Greater) rows next (length rows) → EndsBelow (old ++ between at next rows) k
-    → (database_of ((old ++ between at next rows) ++ drop next rows) ≡ after_change (database_of (old ++ drop at rows)) (Remove k.0 k.1)) × AreByKey ((old ++ between at next rows) ++ drop next rows)
+removed_none : (old rows : List Link) (at next : ℕ) (k : Key) → AreByKey (old ++ drop at rows) → at ≤ next → AllWithin (λ m. key_cmp (key_of m) k ≡ Greater) rows next (length rows) → EndsBelow (old ++ between at next rows) (link_key k)
+    → (database_of ((old ++ between at next rows) ++ drop next rows) ≡ relinked (database_of (old ++ drop at rows)) (Remove k.0 k.1)) × AreByKey ((old ++ between at next rows) ++ drop next rows)
 removed_none old rows at next k by_key le gap last =
     let out : List Link = old ++ between at next rows in
     let same : out ++ drop next rows ≡ old ++ drop at rows = copied old rows at next le in
     let sorted : AreByKey (out ++ drop next rows) = subst AreByKey (sym same) by_key in
     let none : All (λ l. key_of l ≢ k) (out ++ drop next rows) = λ i d h. apart out sorted last i d h in (
-      after_change-absent _ k.0 k.1 (link_at-no_row (out ++ drop next rows) k none) ∙ ap (λ xs. after_change (database_of xs) (Remove k.0 k.1)) same,
+      relinked-absent _ k.0 k.1 (link_at-no_row (out ++ drop next rows) k none) ∙ ap (λ xs. relinked (database_of xs) (Remove k.0 k.1)) same,
       sorted,
     )
   where
-    apart : (out : List Link) → AreByKey (out ++ drop next rows) → EndsBelow out k → (i : ℕ) (d : Link) → i < length (out ++ drop next rows) → key_of (get_or (out ++ drop next rows) i d) ≢ k
+    apart : (out : List Link) → AreByKey (out ++ drop next rows) → EndsBelow out (link_key k) → (i : ℕ) (d : Link) → i < length (out ++ drop next rows) → key_of (get_or (out ++ drop next rows) i d) ≢ k
     apart out sorted last i d h =
         elim (nat_lt i (length out)) as (λ b. nat_lt i (length out) ≡ b → key_of (get_or (out ++ drop next rows) i d) ≢ k) [
           | true ↦ λ e. let before : i < length out = grind (arith, nat_tests) in
@@ -185,42 +187,48 @@ removed_none old rows at next k by_key le gap last =
         ] refl
 
 -- a change is merged where the next row's key is higher
-pub merged_before : (old rows : List Link) (at next : ℕ) (c : Change) → AreByKey (old ++ drop at rows) → at ≤ next → AllWithin (λ m. key_cmp (key_of m) (key_changed c) ≡ Greater) rows next (length rows)
+pub merged_before : (old rows : List Link) (at next : ℕ) (c : Change) → AreByKey (old ++ drop at rows) → at ≤ next → AllWithin (λ m. change_key_cmp (link_key (key_of m)) (key_changed c) ≡ Greater) rows next (length rows)
     → EndsBelow (old ++ between at next rows) (key_changed c)
-    → (database_of (((old ++ between at next rows) ++ links_put (c ∷ [])) ++ drop next rows) ≡ after_change (database_of (old ++ drop at rows)) c)
+    → (database_of (((old ++ between at next rows) ++ links_put (c ∷ [])) ++ drop next rows) ≡ relinked (database_of (old ++ drop at rows)) c)
     × AreByKey (((old ++ between at next rows) ++ links_put (c ∷ [])) ++ drop next rows)
 merged_before old rows at next (Put l) by_key le gap last =
     let merged = entries-between old rows at next l by_key le gap last in
-    (database_of-entries _ _ merged, by_key-entries _ _ merged)
+    (database_of-entries (relinked (database_of (old ++ drop at rows)) (Put l)) _ refl merged, by_key-entries _ _ merged)
 merged_before old rows at next (Remove from local) by_key le gap last =
-    subst (λ (out : List Link). (database_of (out ++ drop next rows) ≡ after_change (database_of (old ++ drop at rows)) (Remove from local)) × AreByKey (out ++ drop next rows))
+    subst (λ (out : List Link). (database_of (out ++ drop next rows) ≡ relinked (database_of (old ++ drop at rows)) (Remove from local)) × AreByKey (out ++ drop next rows))
     (sym (append-nil (old ++ between at next rows))) (removed_none old rows at next (from, local) by_key le gap last)
+merged_before old rows at next (Node router transit) by_key le gap last =
+    let same : old ++ drop at rows ≡ ((old ++ between at next rows) ++ []) ++ drop next rows = sym (ap (λ out. out ++ drop next rows) (append-nil (old ++ between at next rows)) ∙ copied old rows at next le) in
+    (ap database_of (sym same), subst AreByKey same by_key)
 
 -- rows below a key that are copied behind others below it end below it
-pub copied_below : (old rows : List Link) (at next : ℕ) (k : Key) → at ≤ next → next ≤ length rows → EndsBelow old k → AllWithin (λ m. key_cmp (key_of m) k ≡ Less) rows at next
+pub copied_below : (old rows : List Link) (at next : ℕ) (k : ChangeKey) → at ≤ next → next ≤ length rows → EndsBelow old k → AllWithin (λ m. change_key_cmp (link_key (key_of m)) k ≡ Less) rows at next
     → EndsBelow (old ++ between at next rows) k
 copied_below old rows at next k le within last below d h =
     let part : List Link = between at next rows in
     let long : length (old ++ part) ≡ length old + length part = length-append old part in
     let many : length part ≡ next - at = length-between rows at next within in
-    elim (nat_lt at next) as (λ b. nat_lt at next ≡ b → key_cmp (key_of (get_or (old ++ part) (length (old ++ part) - 1) d)) k ≡ Less) [
+    elim (nat_lt at next) as (λ b. nat_lt at next ≡ b → change_key_cmp (link_key (key_of (get_or (old ++ part) (length (old ++ part) - 1) d))) k ≡ Less) [
       | true ↦ λ e. let some : at < next = grind (arith, nat_tests) in
           let i : ℕ = length (old ++ part) - 1 - length old in
-          subst (λ (m : Link). key_cmp (key_of m) k ≡ Less)
+          subst (λ (m : Link). change_key_cmp (link_key (key_of m)) k ≡ Less)
           (sym (get_or-append_right old part (length old) (length (old ++ part) - 1) d refl (omega (arith, long, many, some)) ∙ get_or-between rows at next i d (omega (arith, long, many, some))))
           (below (at + i) d (omega arith) (omega (arith, long, many, some)))
       | false ↦ λ e. let none : next ≤ at = grind (arith, nat_tests) in
           let same : length (old ++ part) ≡ length old = omega (arith, long, many, none) in
           let end : length old - 1 < length old = omega (arith, same, h) in
-          subst (λ n. key_cmp (key_of (get_or (old ++ part) (n - 1) d)) k ≡ Less) (sym same)
-          (ap (λ (m : Link). key_cmp (key_of m) k) (get_or_append_left old part d (length old - 1) end) ∙ last d (omega (arith, same, h)))
+          subst (λ n. change_key_cmp (link_key (key_of (get_or (old ++ part) (n - 1) d))) k ≡ Less) (sym same)
+          (ap (λ (m : Link). change_key_cmp (link_key (key_of m)) k) (get_or_append_left old part d (length old - 1) end) ∙ last d (omega (arith, same, h)))
     ] refl
 
 -- what a change puts behind rows below its key is below each higher key, and so are they
-pub put_below : (out : List Link) (c : Change) (k : Key) → EndsBelow out (key_changed c) → key_cmp (key_changed c) k ≡ Less → EndsBelow (out ++ links_put (c ∷ [])) k
+pub put_below : (out : List Link) (c : Change) (k : ChangeKey) → EndsBelow out (key_changed c) → change_key_cmp (key_changed c) k ≡ Less → EndsBelow (out ++ links_put (c ∷ [])) k
 put_below out (Put l) k last less =
     let behind : length out ≡ length (out ++ l ∷ []) - 1 = omega (arith, length_push out l) in
-    λ d h. ap (λ (m : Link). key_cmp (key_of m) k) (get_or_at out l [] d (length (out ++ l ∷ []) - 1) behind) ∙ less
+    λ d h. ap (λ (m : Link). change_key_cmp (link_key (key_of m)) k) (get_or_at out l [] d (length (out ++ l ∷ []) - 1) behind) ∙ less
 put_below out (Remove from local) k last less =
     subst (λ (xs : List Link). EndsBelow xs k) (sym (append-nil out))
-    (λ d h. keys_total.trans (key_of (get_or out (length out - 1) d)) (from, local) k (last d h) less)
+    (λ d h. change_keys_total.trans (link_key (key_of (get_or out (length out - 1) d))) (link_key (from, local)) k (last d h) less)
+put_below out (Node router transit) k last less =
+    subst (λ (xs : List Link). EndsBelow xs k) (sym (append-nil out))
+    (λ d h. change_keys_total.trans (link_key (key_of (get_or out (length out - 1) d))) (mark_key router) k (last d h) less)

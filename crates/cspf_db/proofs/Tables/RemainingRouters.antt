@@ -9,16 +9,17 @@ use Rattle.std.proofs.lemmas.List.Elements.{All-head, All-tail, All-map, All-con
 use Rattle.std.proofs.lemmas.List.Folds.{Any-from_list_any, list_any_at}
 use Rattle.cspf_db.specs.declared.link.Link.{Link}
 use Rattle.cspf_db.specs.declared.batch.Change.{Change}
-use Rattle.cspf_db.specs.declared.batch.Change.TheVariants.{Put, Remove}
-use Rattle.cspf_db.specs.Database.{Database, Key, key_of, key_cmp, link_at, EndsAt}
+use Rattle.cspf_db.specs.declared.batch.Change.TheVariants.{Put, Remove, Node}
+use Rattle.cspf_db.specs.Database.{Database, Key, key_of, link_at, EndsAt}
 use Rattle.std.specs.Ordering.{eq_by_cmp}
 use Rattle.cspf_db.specs.Index.{with_nothing, router_list}
-use Rattle.cspf_db.specs.Changes.{key_changed, link_left, after_change, after_changes}
+use Rattle.cspf_db.specs.Changes.{change_key_cmp, link_key, key_changed, link_left}
+use Rattle.cspf_db.specs.Tables.LinkChanges.{relinked, all_relinked}
 use Rattle.cspf_db.specs.Tables.CountedEnds.{AnyEndsAt, HasListedEnds, any_from, any_to, is_end_of}
 use Rattle.cspf_db.specs.Tables.Rows.{database_of, AreRising, AreByKey, IsEndColumn, ArePlacesIn}
 use Rattle.cspf_db.proofs.Tables.SortedEntries.{both, both_first, both_second, test_from_true, true_from_test}
 use Rattle.cspf_db.proofs.Databases.LinksOfRows.{link_at-database_of, row-find, rows_listed}
-use Rattle.cspf_db.proofs.Databases.ChangedRows.{link_at-after_change}
+use Rattle.cspf_db.proofs.Databases.ChangedRows.{link_at-relinked}
 use Rattle.cspf_db.proofs.Tables.RowOrder.{own_keys}
 use Rattle.cspf_db.proofs.Tables.RouterColumn.{to_router, router_list-column}
 use Rattle.cspf_db.proofs.Tables.RouterPlaces.{moved_ends}
@@ -120,17 +121,18 @@ module _ (routers : List ℕ) where
   one_listed : (c : Change) → HasListedEnds routers c → (b : Bool) (o : Option Link) (l : Link) → (o ≡ Some l → HasListedEnds routers (Put l)) → cond b (link_left c) o ≡ Some l → HasListedEnds routers (Put l)
   one_listed (Put m) known true o l old is = let same : m ≡ l = cc in subst (λ n. HasListedEnds routers (Put n)) same known
   one_listed (Remove from local) known true o l old is = absurd (cc)
+  one_listed (Node router transit) known true o l old is = absurd (cc)
   one_listed c known false o l old is = old is
 
   listed_after : (d : Database) (cs : List Change) → ((k : Key) (l : Link) → link_at d k ≡ Some l → HasListedEnds routers (Put l)) → All (HasListedEnds routers) cs
-      → (k : Key) (l : Link) → link_at (after_changes d cs) k ≡ Some l → HasListedEnds routers (Put l)
+      → (k : Key) (l : Link) → link_at (all_relinked d cs) k ≡ Some l → HasListedEnds routers (Put l)
   listed_after d [] old all k l is = old k l is
   listed_after d (c ∷ cs) old all k l is =
-      listed_after (after_change d c) cs (λ j m at. one_listed c (All-head (HasListedEnds routers) c cs all) (eq_by_cmp key_cmp j (key_changed c)) (link_at d j) m (old j m) (sym (link_at-after_change d c j) ∙ at))
+      listed_after (relinked d c) cs (λ j m at. one_listed c (All-head (HasListedEnds routers) c cs all) (eq_by_cmp change_key_cmp (link_key j) (key_changed c)) (link_at d j) m (old j m) (sym (link_at-relinked d c j) ∙ at))
       (All-tail (HasListedEnds routers) c cs all) k l is
 
   -- so the rows after changes run between listed routers
-  pub rows_listed_after : (rows new : List Link) (ends : List ℕ) (cs : List Change) → IsEndColumn rows routers ends → AreByKey new → database_of new ≡ after_changes (database_of rows) cs
+  pub rows_listed_after : (rows new : List Link) (ends : List ℕ) (cs : List Change) → IsEndColumn rows routers ends → AreByKey new → database_of new ≡ all_relinked (database_of rows) cs
       → All (HasListedEnds routers) cs → All (λ l. HasListedEnds routers (Put l)) new
   rows_listed_after rows new ends cs are by_key made all k d h =
       let l : Link = get_or new k d in

@@ -8,7 +8,7 @@ use Rattle.cspf_db.specs.declared.link.Link.{Link}
 use Rattle.cspf_db.specs.declared.limits.TheConstants.{NO_LINK}
 use Rattle.cspf_db.specs.Database.{Database, Key, key_of, IsLinkOf, IsReverse, HasReverse}
 use Rattle.cspf_db.specs.Index.{links_of, links_from_index, router_list, IsReverseAt}
-use Rattle.cspf_db.specs.Tables.Rows.{database_of, AreByKey, AreEndsOf, AreSpansAtEnds, AreSpansOf, IsSpanOf, IsTable}
+use Rattle.cspf_db.specs.Tables.Rows.{marked_database, AreByKey, AreEndsOf, AreSpansAtEnds, AreSpansOf, IsSpanOf, IsTable}
 use Rattle.cspf_db.specs.declared.table.Table.TheInside.{Inside}
 use Rattle.cspf_db.specs.Tables.Reverses.{IsIndexOfReverse, AreReversesBut, no_key}
 use Rattle.cspf_db.proofs.Databases.LinksOfRows.{rows_listed}
@@ -22,8 +22,8 @@ neither (inl left) = left
 neither (inr right) = right
 
 -- the index of a reverse among the rows is one among the links of the database that they make
-pub index_told : (d : Database) (rows : List Link) → database_of rows ≡ d → AreByKey rows → (l : Link) (n : ℕ) → IsIndexOfReverse no_key rows l n → IsReverseAt d l n
-index_told d rows makes by_key l n is =
+pub index_told : (d : Database) (rows : List Link) (marks : List ℕ) → marked_database rows marks ≡ d → AreByKey rows → (l : Link) (n : ℕ) → IsIndexOfReverse no_key rows l n → IsReverseAt d l n
+index_told d rows marks makes by_key l n is =
     let listed : rows ≡ links_of d = sym (links_of-database_of rows by_key) ∙ ap links_of makes in
     record {
       within = λ some. subst (λ ls. n < length ls) listed (is.within some);
@@ -35,11 +35,11 @@ index_told d rows makes by_key l n is =
     }
 
 -- and so whether there is one
-pub tells_reverse : (d : Database) (rows : List Link) → database_of rows ≡ d → AreByKey rows → (l : Link) (n : ℕ) → IsIndexOfReverse no_key rows l n
+pub tells_reverse : (d : Database) (rows : List Link) (marks : List ℕ) → marked_database rows marks ≡ d → AreByKey rows → (l : Link) (n : ℕ) → IsIndexOfReverse no_key rows l n
     → (n ≢ NO_LINK → HasReverse d l) × (n ≡ NO_LINK → ¬ HasReverse d l)
-tells_reverse d rows makes by_key l n is = (
+tells_reverse d rows marks makes by_key l n is = (
   λ some. (slice_index_or rows n l, subst (λ e. IsLinkOf e (slice_index_or rows n l)) makes ((rows_listed rows (own_keys rows by_key)).each n l (is.within some)), is.found some),
-  (index_told d rows makes by_key l n is).none,
+  (index_told d rows marks makes by_key l n is).none,
 )
 
 -- which a test of the index tells
@@ -51,16 +51,16 @@ reverse_test d l n told =
     ] refl
 
 -- the part of the column beside the links from a router
-reverses_beside : (d : Database) (rows : List Link) (column : List ℕ) (first end at : ℕ) → database_of rows ≡ d → AreByKey rows → AreReversesBut no_key rows column
+reverses_beside : (d : Database) (rows : List Link) (marks : List ℕ) (column : List ℕ) (first end at : ℕ) → marked_database rows marks ≡ d → AreByKey rows → AreReversesBut no_key rows column
     → first ≤ end → end ≤ length rows → between first end rows ≡ links_from_index d at → (nth : ℕ) (l : Link) → nth < length (links_from_index d at)
     → IsReverseAt d (slice_index_or (links_from_index d at) nth l) (slice_index_or (between first end column) nth 0)
-reverses_beside d rows column first end at makes by_key are order bound part nth l within =
+reverses_beside d rows marks column first end at makes by_key are order bound part nth l within =
     let long = length-between rows first end bound in
     let short : nth < length (between first end rows) = subst (λ ls. nth < length ls) (sym part) within in
     let inside : first + nth < end = omega (arith, long, short) in
     let link : slice_index_or (links_from_index d at) nth l ≡ slice_index_or rows (first + nth) l = ap (λ ls. slice_index_or ls nth l) (sym part) ∙ get_or-between rows first end nth l inside in
     let number : slice_index_or (between first end column) nth 0 ≡ slice_index_or column (first + nth) 0 = get_or-between column first end nth 0 inside in
-    rw (link, number) (index_told d rows makes by_key (slice_index_or rows (first + nth) l) (slice_index_or column (first + nth) 0) (are.each (first + nth) l (omega (arith, inside, bound))))
+    rw (link, number) (index_told d rows marks makes by_key (slice_index_or rows (first + nth) l) (slice_index_or column (first + nth) 0) (are.each (first + nth) l (omega (arith, inside, bound))))
 
 -- there are as many as links from the router
 as_many_beside : (d : Database) (rows : List Link) (column : List ℕ) (first end at : ℕ) → AreReversesBut no_key rows column
@@ -69,16 +69,16 @@ as_many_beside d rows column first end at are order bound part =
     length-between column first end (omega (arith, are.many, bound)) ∙ sym (length-between rows first end bound) ∙ ap length part
 
 -- at the span of a router of a table
-pub reverses_at_span : (d : Database) (a : Inside) → IsTable a → database_of a.rows.items ≡ d → (at : ℕ) (span : ℕ × ℕ) → at < length (router_list d) → span ≡ slice_index_or a.spans.items at span
+pub reverses_at_span : (d : Database) (a : Inside) → IsTable a → marked_database a.rows.items a.marks.items ≡ d → (at : ℕ) (span : ℕ × ℕ) → at < length (router_list d) → span ≡ slice_index_or a.spans.items at span
     → (length (between span.0 span.1 a.reverses.items) ≡ length (links_from_index d at))
     × ((nth : ℕ) (l : Link) → nth < length (links_from_index d at) → IsReverseAt d (slice_index_or (links_from_index d at) nth l) (slice_index_or (between span.0 span.1 a.reverses.items) nth 0))
 reverses_at_span d a is makes at span h read =
     let by_key = is.parts.rows.by_key in
     let all = is.parts.routers.all in
     let column = is.reverses.column in
-    let part = span_at d a.rows.items a.routers.items a.spans.items at span makes by_key all is.spans h read in
-    let order = span_within d a.rows.items a.routers.items a.spans.items at span makes all is.spans h read in
-    (as_many_beside d a.rows.items a.reverses.items span.0 span.1 at column order.0 order.1 part, reverses_beside d a.rows.items a.reverses.items span.0 span.1 at makes by_key column order.0 order.1 part)
+    let part = span_at d a.rows.items a.marks.items a.routers.items a.spans.items at span makes by_key all is.spans h read in
+    let order = span_within d a.rows.items a.marks.items a.routers.items a.spans.items at span makes all is.spans h read in
+    (as_many_beside d a.rows.items a.reverses.items span.0 span.1 at column order.0 order.1 part, reverses_beside d a.rows.items a.marks.items a.reverses.items span.0 span.1 at makes by_key column order.0 order.1 part)
 
 -- where the row with the key of the reverse runs elsewhere, there is no reverse
 pub not_back : (rows : List Link) → AreByKey rows → (l : Link) (at : ℕ) (d : Link) → at < length rows → key_of (slice_index_or rows at d) ≡ (l.to, l.remote)

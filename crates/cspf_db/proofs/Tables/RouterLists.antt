@@ -18,7 +18,7 @@ use Rattle.cspf_db.specs.declared.link.Link.{Link}
 use Rattle.cspf_db.specs.Tables.CountedEnds.{AnyEndsAt}
 use Rattle.cspf_db.specs.Database.{Database, IsRouterOf, EndsAt, AreAtTheirKeys, ends_of, all_routers, router_count}
 use Rattle.cspf_db.specs.Index.{with_nothing, numbers_in, links_of, router_list, links_from_index}
-use Rattle.cspf_db.specs.Tables.Rows.{database_of, AreRising, AreByKey, AreEndsOf, AreSpansOf}
+use Rattle.cspf_db.specs.Tables.Rows.{database_of, marked_database, AreRising, AreByKey, AreEndsOf, AreSpansOf}
 use Rattle.cspf_db.proofs.Tables.SortedEntries.{test_from_true, true_from_test, put-gap, rises, searchable, gap_from}
 use Rattle.cspf_db.proofs.Tables.RowOrder.{links_of-database_of, own_keys}
 use Rattle.cspf_db.proofs.Databases.LinksOfRows.{rows_listed, rows_keyed}
@@ -124,37 +124,42 @@ ends_between rows routers ends first end part so is =
     map_between : {A B : Type 0} (f : A → B) (xs : List A) (i j : ℕ) → map f (between i j xs) ≡ between i j (map f xs)
     map_between f xs i j = sym (take-map f (j - i) (drop i xs)) ∙ ap (take (j - i)) (sym (drop-map f i xs))
 
+-- marks make no router
+pub routers_marked : (rows : List Link) (marks : List ℕ) → router_list (database_of rows) ≡ router_list (marked_database rows marks)
+unfolding router_list
+routers_marked rows marks = refl
+
 -- the rows from a router of the list are the links from it
-pub part_at : (d : Database) (rows : List Link) (routers : List ℕ) (at router : ℕ) (part : List Link) → database_of rows ≡ d → AreByKey rows → routers ≡ router_list (database_of rows)
+pub part_at : (d : Database) (rows : List Link) (marks : List ℕ) (routers : List ℕ) (at router : ℕ) (part : List Link) → marked_database rows marks ≡ d → AreByKey rows → routers ≡ router_list (database_of rows)
     → at < length (router_list d) → router ≡ get_or routers at router → part ≡ filter (λ l. nat_eq l.from router) rows → part ≡ links_from_index d at
-part_at d rows routers at router part e by_key all h read is =
-    let listed : routers ≡ router_list d = all ∙ ap router_list e in
+part_at d rows marks routers at router part e by_key all h read is =
+    let listed : routers ≡ router_list d = all ∙ routers_marked rows marks ∙ ap router_list e in
     let within : at < length routers = subst (λ rs. at < length rs) (sym listed) h in
     is
     ∙ ap (filter (λ (l : Link). nat_eq l.from router)) (sym (links_of-database_of rows by_key) ∙ ap links_of e)
     ∙ ap (λ r. filter (λ (l : Link). nat_eq l.from r) (links_of d)) (get_or_read_under routers at (length routers) router 0 read within refl ∙ ap (λ rs. slice_index rs at) listed)
 
 -- the rows from a router of the list stand where its span tells
-pub span_at : (d : Database) (rows : List Link) (routers : List ℕ) (spans : List (ℕ × ℕ)) (at : ℕ) (span : ℕ × ℕ) → database_of rows ≡ d → AreByKey rows → routers ≡ router_list (database_of rows)
+pub span_at : (d : Database) (rows : List Link) (marks : List ℕ) (routers : List ℕ) (spans : List (ℕ × ℕ)) (at : ℕ) (span : ℕ × ℕ) → marked_database rows marks ≡ d → AreByKey rows → routers ≡ router_list (database_of rows)
     → AreSpansOf rows routers spans → at < length (router_list d) → span ≡ get_or spans at span → between span.0 span.1 rows ≡ links_from_index d at
-span_at d rows routers spans at span e by_key all are h read =
-    let within : at < length routers = subst (λ rs. at < length rs) (sym (all ∙ ap router_list e)) h in
+span_at d rows marks routers spans at span e by_key all are h read =
+    let within : at < length routers = subst (λ rs. at < length rs) (sym (all ∙ routers_marked rows marks ∙ ap router_list e)) h in
     let is : span ≡ get_or spans at (0, 0) = get_or_read spans at span (omega (arith, within, are.many)) read (0, 0) in
-    part_at d rows routers at (slice_index routers at) (between span.0 span.1 rows) e by_key all h (get_or_default routers at 0 (slice_index routers at) within) (rw is (are.each at within).part)
+    part_at d rows marks routers at (slice_index routers at) (between span.0 span.1 rows) e by_key all h (get_or_default routers at 0 (slice_index routers at) within) (rw is (are.each at within).part)
 
 -- which is within the rows
-pub span_within : (d : Database) (rows : List Link) (routers : List ℕ) (spans : List (ℕ × ℕ)) (at : ℕ) (span : ℕ × ℕ) → database_of rows ≡ d → routers ≡ router_list (database_of rows)
+pub span_within : (d : Database) (rows : List Link) (marks : List ℕ) (routers : List ℕ) (spans : List (ℕ × ℕ)) (at : ℕ) (span : ℕ × ℕ) → marked_database rows marks ≡ d → routers ≡ router_list (database_of rows)
     → AreSpansOf rows routers spans → at < length (router_list d) → span ≡ get_or spans at span → (span.0 ≤ span.1) × (span.1 ≤ length rows)
-span_within d rows routers spans at span e all are h read =
-    let within : at < length routers = subst (λ rs. at < length rs) (sym (all ∙ ap router_list e)) h in
+span_within d rows marks routers spans at span e all are h read =
+    let within : at < length routers = subst (λ rs. at < length rs) (sym (all ∙ routers_marked rows marks ∙ ap router_list e)) h in
     let is : span ≡ get_or spans at (0, 0) = get_or_read spans at span (omega (arith, within, are.many)) read (0, 0) in
     rw is ((are.each at within).order, (are.each at within).bound)
 
 -- the ends beside them
-pub ends_at_part : (d : Database) (rows : List Link) (routers ends : List ℕ) (first end at : ℕ) → database_of rows ≡ d → routers ≡ router_list (database_of rows) → AreEndsOf rows routers ends
+pub ends_at_part : (d : Database) (rows : List Link) (marks : List ℕ) (routers ends : List ℕ) (first end at : ℕ) → marked_database rows marks ≡ d → routers ≡ router_list (database_of rows) → AreEndsOf rows routers ends
     → between first end rows ≡ links_from_index d at → map (λ n. slice_index (router_list d) n) (between first end ends) ≡ map (λ (l : Link). l.to) (links_from_index d at)
-ends_at_part d rows routers ends first end at e all so is =
-    subst (λ rs. map (λ n. slice_index rs n) (between first end ends) ≡ map (λ (l : Link). l.to) (links_from_index d at)) (all ∙ ap router_list e) (ends_between rows routers ends first end (links_from_index d at) so is)
+ends_at_part d rows marks routers ends first end at e all so is =
+    subst (λ rs. map (λ n. slice_index rs n) (between first end ends) ≡ map (λ (l : Link). l.to) (links_from_index d at)) (all ∙ routers_marked rows marks ∙ ap router_list e) (ends_between rows routers ends first end (links_from_index d at) so is)
 
 -- whether a search for a router finds it tells whether it is one of the database
 pub tells_router : (d : Database) (router : ℕ) (r : Result ℕ ℕ) (b : Bool) → AreAtTheirKeys d → b ≡ is_ok r → IfOk r (λ at. at < length (router_list d)) → IfOk r (HoldsAt (λ y. y ≡ router) (router_list d))

@@ -9,7 +9,7 @@ use Rattle.std.proofs.lemmas.List.Edits.{length-between}
 use Rattle.std.proofs.lemmas.List.Elements.{All-nil, All-cons, All-head, All-tail, All-map, All-weaker, All-contains, Contains-append_cases, Contains-append_left, Contains-append_right, Contains-get_or, filter_passes}
 use Rattle.cspf_db.specs.declared.link.Link.{Link}
 use Rattle.cspf_db.specs.declared.batch.Change.{Change}
-use Rattle.cspf_db.specs.declared.batch.Change.TheVariants.{Put, Remove}
+use Rattle.cspf_db.specs.declared.batch.Change.TheVariants.{Put, Remove, Node}
 use Rattle.cspf_db.specs.Tables.CountedEnds.{HasListedEnds, any_to}
 use Rattle.cspf_db.specs.Index.{with_nothing}
 use Rattle.cspf_db.specs.Tables.Rows.{AreRising, AreEndsOf, IsEndColumn, IsPlaceOf, ArePlacesIn}
@@ -34,6 +34,7 @@ kept_twice xs ys zs first second = All-weaker (Contains ys) (Contains zs) (λ y.
 pub listed_still : (xs ys : List ℕ) → All (Contains ys) xs → (c : Change) → HasListedEnds xs c → HasListedEnds ys c
 listed_still xs ys kept (Put l) listed = (All-contains (Contains ys) xs l.from kept listed.0, All-contains (Contains ys) xs l.to kept listed.1)
 listed_still xs ys kept (Remove from local) listed = tt
+listed_still xs ys kept (Node router transit) listed = tt
 
 -- one that passes is where as many stand before it as pass
 filter_place : (p : ℕ → Bool) (rs : List ℕ) (k : ℕ) → k < length rs → p (slice_index rs k) ≡ true → IsPlaceOf (filter p rs) (slice_index rs k) (length (filter p (take k rs)))

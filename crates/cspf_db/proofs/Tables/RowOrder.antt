@@ -4,7 +4,8 @@ use Rattle.std.specs.Ordering.{nat_cmp, eq_by_cmp, ordering_then}
 use Rattle.std.specs.declared.cmp.Ordering.TheVariants.{Less, Equal, Greater}
 use Rattle.std.specs.List.{HoldsAt, insert, remove as without}
 use Rattle.std.specs.List.Sorted.{IsNonDecreasingBy, IsBinarySearchResult, IsPartitionPoint}
-use Rattle.std.specs.FinMap.{is_sorted, entries, entries-insert, entries_sorted, put}
+use Rattle.std.specs.FinSet as set
+use Rattle.std.specs.FinMap.{FinMap, from_entries, is_sorted, entries, entries-insert, entries_sorted, put}
 use Rattle.std.specs.Cmp.{ranked}
 use Rattle.std.proofs.lemmas.Bool.{cases_lt}
 use Rattle.std.proofs.lemmas.Bool.Decides.{nat_tests}
@@ -14,7 +15,7 @@ use Rattle.cspf_db.specs.declared.link.Link.{Link}
 use Rattle.cspf_db.specs.declared.batch.Change.TheVariants.{Put}
 use Rattle.cspf_db.specs.Database.{Database, Key, key_of, key_cmp, HaveOwnKeys}
 use Rattle.cspf_db.specs.Index.{links_of}
-use Rattle.cspf_db.specs.Changes.{after_change}
+use Rattle.cspf_db.specs.Tables.LinkChanges.{relinked}
 use Rattle.cspf_db.specs.Tables.Rows.{entry_of, database_of, AreByKey}
 use Rattle.cspf_db.proofs.Databases.Keys.{key_itself, keys_total, keys_antisymmetric}
 use Rattle.cspf_db.proofs.Tables.SortedEntries.{test_from_true, true_from_test, put-gap, put-hit, sorted_without, sorted_filter, rises, searchable, distinct, gap_from, entries-from_entries, from_entries-entries}
@@ -52,22 +53,24 @@ pub links_of-database_of : (rows : List Link) → AreByKey rows → links_of (da
 links_of-database_of rows by_key = ap (map (λ (e : Key × Link). e.1)) (entries-database_of rows by_key) ∙ links_with_keys rows
 
 -- rows that are a database's entries are in order, and make it
-pub by_key-entries : (d : Database) (rows : List Link) → entries d.links ≡ map entry_of rows → AreByKey rows
-by_key-entries d rows e = true_from_test _ (subst (λ es. T (is_sorted key_cmp es)) e (entries_sorted d.links))
+pub by_key-entries : (links : FinMap key_cmp Link) (rows : List Link) → entries links ≡ map entry_of rows → AreByKey rows
+by_key-entries links rows e = true_from_test _ (subst (λ es. T (is_sorted key_cmp es)) e (entries_sorted links))
 
-pub database_of-entries : (d : Database) (rows : List Link) → entries d.links ≡ map entry_of rows → database_of rows ≡ d
-database_of-entries d rows e = ap (λ m. record { links = m }) (from_entries-entries keys_total d.links (map entry_of rows) e)
+pub database_of-entries : (d : Database) (rows : List Link) → set.empty ≡ d.marks → entries d.links ≡ map entry_of rows → database_of rows ≡ d
+database_of-entries d rows none e =
+    let links : from_entries (map entry_of rows) ≡ d.links = from_entries-entries keys_total d.links (map entry_of rows) e in
+    λ i. record { links = links i; marks = none i }
 
 -- the entries after a put over the row with its key
 pub entries-hit : (rows : List Link) (at : ℕ) (l : Link) → AreByKey rows → at < length rows → HoldsAt (λ m. key_of m ≡ key_of l) rows at
-    → entries (after_change (database_of rows) (Put l)).links ≡ map entry_of (slice_set rows at l)
+    → entries (relinked (database_of rows) (Put l)).links ≡ map entry_of (slice_set rows at l)
 entries-hit rows at l by_key h has =
     entries-insert keys_total (database_of rows).links (key_of l) l ∙ ap (put key_cmp (key_of l) l) (entries-database_of rows by_key) ∙ put-hit keys_total entry_of rows at l l (test_from_true _ by_key) h (has l)
 
 -- the entries after a put between the lower keys and the higher ones
 pub entries-gap : (rows : List Link) (at : ℕ) (l : Link) → AreByKey rows → at ≤ length rows
     → IsPartitionPoint (λ m. key_cmp (key_of m) (key_of l) ≡ Less) (λ m. key_cmp (key_of m) (key_of l) ≡ Greater) rows at
-    → entries (after_change (database_of rows) (Put l)).links ≡ map entry_of (insert rows at l)
+    → entries (relinked (database_of rows) (Put l)).links ≡ map entry_of (insert rows at l)
 entries-gap rows at l by_key h gap =
     entries-insert keys_total (database_of rows).links (key_of l) l ∙ ap (put key_cmp (key_of l) l) (entries-database_of rows by_key) ∙ put-gap keys_total entry_of rows at l h gap.0 gap.1
 

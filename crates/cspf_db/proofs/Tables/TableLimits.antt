@@ -5,14 +5,14 @@ use Rattle.std.specs.declared.alloc.Global.{Global}
 use Rattle.cspf_db.specs.declared.link.Link.{Link}
 use Rattle.cspf_db.specs.declared.batch.Change.{Change}
 use Rattle.cspf_db.specs.Database.{Database, link_count, router_count}
-use Rattle.cspf_db.specs.Changes.{after_changes}
+use Rattle.cspf_db.specs.Tables.LinkChanges.{all_relinked}
 use Rattle.cspf_db.specs.Tables.Rows.{AreRows, AreRowsWithEnds, IsEndColumn, AreByKey, database_of}
 use Rattle.cspf_db.proofs.Databases.EndCounts.{link_count-database_of}
 use Rattle.cspf_db.proofs.Tables.RowOrder.{own_keys}
 
 -- rows stay within their limits where changes that leave few enough are made
-pub still_rows : (old new : Vec Link Global) (cs : List Change) → AreRows old → link_count (after_changes (database_of old.items) cs) ≤ 16384 → router_count (after_changes (database_of old.items) cs) ≤ 1024
-    → database_of new.items ≡ after_changes (database_of old.items) cs → AreByKey new.items → 20480 ≤ vec_capacity new → AreRows new
+pub still_rows : (old new : Vec Link Global) (cs : List Change) → AreRows old → link_count (all_relinked (database_of old.items) cs) ≤ 16384 → router_count (all_relinked (database_of old.items) cs) ≤ 1024
+    → database_of new.items ≡ all_relinked (database_of old.items) cs → AreByKey new.items → 20480 ≤ vec_capacity new → AreRows new
 still_rows old new cs rows links routers made by_key room = record {
   by_key = by_key;
   most = omega (arith, link_count-database_of new.items (own_keys new.items by_key), ap link_count made, links);

@@ -5,7 +5,7 @@ use Rattle.std.specs.List.{HoldsAt, list_any}
 use Rattle.std.specs.FinSet.{FinSet, insert, contains, len}
 use Rattle.cspf_db.specs.declared.link.Link.{Link}
 use Rattle.cspf_db.specs.declared.batch.Change.{Change}
-use Rattle.cspf_db.specs.declared.batch.Change.TheVariants.{Put, Remove}
+use Rattle.cspf_db.specs.declared.batch.Change.TheVariants.{Put, Remove, Node}
 use Rattle.cspf_db.specs.Database.{EndsAt}
 use Rattle.cspf_db.specs.Tables.RowsLeft.{links_put}
 
@@ -34,6 +34,7 @@ is_end_of links router = any_to links router || any_from links router
 abbrev pub HasListedEnds : List ℕ → Change → Type 0
 HasListedEnds routers (Put l) = Contains routers l.from × Contains routers l.to
 HasListedEnds routers (Remove from local) = Unit {0}
+HasListedEnds routers (Node router transit) = Unit {0}
 
 -- the changes bring at most this many routers that are not among these: the ends of what they put add
 -- no more to a set that has these

@@ -5,8 +5,9 @@ use Rattle.std.specs.Vec.{vec_capacity}
 use Rattle.std.specs.declared.alloc.Global.{Global}
 use Rattle.cspf_db.specs.declared.link.Link.{Link}
 use Rattle.cspf_db.specs.declared.batch.Change.{Change}
-use Rattle.cspf_db.specs.Database.{Key, key_of, key_cmp}
-use Rattle.cspf_db.specs.Changes.{after_change, key_changed}
+use Rattle.cspf_db.specs.Database.{key_of}
+use Rattle.cspf_db.specs.Changes.{ChangeKey, change_key_cmp, link_key, key_changed}
+use Rattle.cspf_db.specs.Tables.LinkChanges.{relinked}
 use Rattle.cspf_db.specs.Tables.Rows.{database_of, AreByKey}
 
 -- The rows below an index are merged: with those from it on they are in order of the key, and there is
@@ -22,23 +23,23 @@ pub record AreMergedBelow (rows : List Link) (at : ℕ) (merged : Vec Link Globa
 -- change makes of the rows that were merged with those from the first index on, and at most one more.
 pub record IsMergedUpTo (change : Change) (rows : List Link) (at : ℕ) (old new : Vec Link Global) (next : ℕ) : Type 0 where
   pub bound : next ≤ length rows
-  pub changed : database_of (new.items ++ drop next rows) ≡ after_change (database_of (old.items ++ drop at rows)) change
+  pub changed : database_of (new.items ++ drop next rows) ≡ relinked (database_of (old.items ++ drop at rows)) change
   pub joined : AreByKey (new.items ++ drop next rows)
   pub longer : vec_len new + (length rows - next) ≤ vec_len old + (length rows - at) + 1
 
 -- the last row, if there is one, is below the key
-abbrev pub EndsBelow : List Link → Key → Type 0
+abbrev pub EndsBelow : List Link → ChangeKey → Type 0
 EndsBelow rows k =
     (d : Link) → 0 < length rows
-    → key_cmp (key_of (slice_index_or rows (length rows - 1) d)) k ≡ Less
+    → change_key_cmp (link_key (key_of (slice_index_or rows (length rows - 1) d))) k ≡ Less
 
 -- each change's key is above the one before it
 abbrev pub AreInOrder : List Change → Type 0
 AreInOrder changes =
     (k : ℕ) (d : Change) → k + 1 < length changes
-    → key_cmp (key_changed (slice_index_or changes k d)) (key_changed (slice_index_or changes (k + 1) d)) ≡ Less
+    → change_key_cmp (key_changed (slice_index_or changes k d)) (key_changed (slice_index_or changes (k + 1) d)) ≡ Less
 
 -- the index of a change, beside its key
-pub record IsPlaceOfChange (changes : List Change) (place : Key × ℕ) : Type 0 where
+pub record IsPlaceOfChange (changes : List Change) (place : ChangeKey × ℕ) : Type 0 where
   pub within : place.1 < length changes
   pub key : (d : Change) → place.0 ≡ key_changed (slice_index_or changes place.1 d)

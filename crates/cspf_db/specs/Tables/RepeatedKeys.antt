@@ -3,12 +3,11 @@ use Rattle.std.specs.Prelude.{◌≡◌, ℕ, Bool, true, false, List, take}
 use Rattle.std.specs.Ordering.{eq_by_cmp}
 use Rattle.std.specs.List.{list_any, slice_index_or}
 use Rattle.cspf_db.specs.declared.batch.Change.{Change}
-use Rattle.cspf_db.specs.Database.{Key, key_cmp}
-use Rattle.cspf_db.specs.Changes.{key_changed}
+use Rattle.cspf_db.specs.Changes.{ChangeKey, change_key_cmp, key_changed}
 
 -- one of the changes is on this key
-abbrev pub is_changed : List Change → Key → Bool
-is_changed changes k = list_any (λ c. eq_by_cmp key_cmp k (key_changed c)) changes
+abbrev pub is_changed : List Change → ChangeKey → Bool
+is_changed changes k = list_any (λ c. eq_by_cmp change_key_cmp k (key_changed c)) changes
 
 -- the change at index k is not on the key of an earlier one
 abbrev pub IsNewAt : List Change → ℕ → Type 0

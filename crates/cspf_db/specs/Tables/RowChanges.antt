@@ -3,7 +3,7 @@ use Rattle.std.specs.Prelude.{◌≤◌, ℕ, List, All}
 use Rattle.cspf_db.specs.declared.batch.Change.{Change}
 use Rattle.cspf_db.specs.declared.limits.TheConstants.{MOST_LINKS}
 use Rattle.cspf_db.specs.Database.{Database, link_count}
-use Rattle.cspf_db.specs.Changes.{after_changes}
+use Rattle.cspf_db.specs.Tables.LinkChanges.{all_relinked}
 use Rattle.cspf_db.specs.Refusals.{AreOnceEach}
 use Rattle.cspf_db.specs.Tables.CountedEnds.{HasListedEnds}
 
@@ -11,5 +11,5 @@ use Rattle.cspf_db.specs.Tables.CountedEnds.{HasListedEnds}
 -- links than a table may have
 pub record AreChangesFor (d : Database) (routers : List ℕ) (changes : List Change) : Type 0 where
   pub once : AreOnceEach changes
-  pub links : link_count (after_changes d changes) ≤ MOST_LINKS
+  pub links : link_count (all_relinked d changes) ≤ MOST_LINKS
   pub known : All (HasListedEnds routers) changes

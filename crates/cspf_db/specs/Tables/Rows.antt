@@ -4,11 +4,12 @@ use Rattle.std.specs.Vec.{vec_capacity}
 use Rattle.std.specs.declared.alloc.Global.{Global}
 use Rattle.std.specs.Ordering.{nat_cmp}
 use Rattle.std.specs.FinMap.{from_entries, is_sorted}
+use Rattle.std.specs.FinSet as set
 use Rattle.cspf_db.specs.declared.link.Link.{Link}
 use Rattle.cspf_db.specs.declared.table.Table.TheInside.{Inside}
 use Rattle.cspf_db.specs.Database.{Database, Key, key_of, key_cmp, router_count}
 use Rattle.cspf_db.specs.Index.{with_nothing, router_list}
-use Rattle.cspf_db.specs.declared.limits.TheConstants.{MOST_LINKS, MOST_ROUTERS, ROOM_FOR_LINKS, ROOM_FOR_ROUTERS}
+use Rattle.cspf_db.specs.declared.limits.TheConstants.{MOST_LINKS, MOST_MARKS, MOST_ROUTERS, ROOM_FOR_LINKS, ROOM_FOR_MARKS, ROOM_FOR_ROUTERS}
 use Rattle.cspf_db.specs.Tables.Reverses.{AreReversesOf}
 
 -- a row with its key
@@ -22,9 +23,9 @@ pub record HasSameEnds (l m : Link) : Type 0 where
   pub to : l.to ≡ m.to
   pub remote : l.remote ≡ m.remote
 
--- the database that rows make
+-- the database that rows make, with no marks
 abbrev pub database_of : List Link → Database
-database_of rows = record { links = from_entries {R = key_cmp} (map entry_of rows) }
+database_of rows = record { links = from_entries {R = key_cmp} (map entry_of rows); marks = set.empty }
 
 -- each row's key is above those before it
 abbrev pub AreByKey : List Link → Type 0
@@ -107,10 +108,27 @@ AreSpansAtEnds rows ends spans =
     → (slice_index_or ends at 0 < length spans)
     × IsSpanOf rows (slice_index_or rows at d).to (slice_index_or spans (slice_index_or ends at 0) (0, 0))
 
+-- the set of some addresses
+abbrev pub marks_in : List ℕ → set.FinSet nat_cmp
+marks_in marks = set.from_list marks
+
+-- the marks rise, there are no more than a table may have, and there is room for one by each change of
+-- a batch more
+pub record AreMarks (marks : Vec ℕ Global) : Type 0 where
+  pub rising : AreRising marks.items
+  pub most : length marks.items ≤ MOST_MARKS
+  pub room : ROOM_FOR_MARKS ≤ vec_capacity marks
+
+-- the database of rows and of marks
+abbrev pub marked_database : List Link → List ℕ → Database
+marked_database rows marks = record { links = (database_of rows).links; marks = marks_in marks }
+
 -- the parts of a table, where the rows from each router begin and end, and where the reverse of each
--- row is
+-- row is, beside the marks, which make no router
 pub record IsTable (a : Inside) : Type 0 where
   pub parts : AreParts a.rows a.routers a.ends
   pub spans : AreSpansOf a.rows.items a.routers.items a.spans.items
   pub room : MOST_ROUTERS ≤ vec_capacity a.spans
   pub reverses : AreReversesOf a.rows.items a.reverses
+  pub marks : AreMarks a.marks
+  pub listed : a.routers.items ≡ router_list (marked_database a.rows.items a.marks.items)

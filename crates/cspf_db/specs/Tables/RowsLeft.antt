@@ -3,14 +3,14 @@ use Rattle.std.specs.Prelude.{Bool, true, false, not, is_some, List, filter}
 use Rattle.std.specs.List.{filter_map}
 use Rattle.cspf_db.specs.declared.link.Link.{Link}
 use Rattle.cspf_db.specs.declared.batch.Change.{Change}
-use Rattle.cspf_db.specs.declared.batch.Change.TheVariants.{Put, Remove}
+use Rattle.cspf_db.specs.declared.batch.Change.TheVariants.{Put, Remove, Node}
 use Rattle.cspf_db.specs.Database.{Database, key_of, link_at}
-use Rattle.cspf_db.specs.Changes.{link_left}
+use Rattle.cspf_db.specs.Changes.{link_key, link_left}
 use Rattle.cspf_db.specs.Tables.RepeatedKeys.{is_changed}
 
 -- none of the changes is on the key of the row
 abbrev pub is_untouched : List Change → Link → Bool
-is_untouched changes row = not (is_changed changes (key_of row))
+is_untouched changes row = not (is_changed changes (link_key (key_of row)))
 
 -- the rows that the changes leave alone
 abbrev pub rows_left : List Link → List Change → List Link
@@ -20,11 +20,13 @@ rows_left rows changes = filter (is_untouched changes) rows
 abbrev pub adds_link : Database → Change → Bool
 adds_link d (Put l) = not (is_some (link_at d (key_of l)))
 adds_link d (Remove from local) = false
+adds_link d (Node router transit) = false
 
 -- the change takes out a link
 abbrev pub removes_link : Change → Bool
 removes_link (Put l) = false
 removes_link (Remove from local) = true
+removes_link (Node router transit) = false
 
 -- the change puts a link
 abbrev pub puts_link : Change → Bool

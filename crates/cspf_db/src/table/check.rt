@@ -3,34 +3,37 @@ ghost use Rattle.std.specs.Bool.{OnTrue, OnFalse};
 ghost use Rattle.std.specs.List.{IsDistinct};
 ghost use Rattle.std.specs.FinSet as set;
 ghost use Rattle.std.specs.Ordering.{eq_by_cmp, is_lt};
-ghost use Rattle.cspf_db.specs.Database.{key_cmp, link_count, router_count};
+ghost use Rattle.cspf_db.specs.Database.{key_of, link_count, router_count};
 ghost use Rattle.cspf_db.specs.Index.{router_list};
-ghost use Rattle.cspf_db.specs.Changes.{after_changes, key_changed, Fits};
-ghost use Rattle.cspf_db.specs.Tables.Rows.{database_of, AreByKey};
+ghost use Rattle.cspf_db.specs.Changes.{change_key_cmp, key_changed, link_key, Fits};
+ghost use Rattle.cspf_db.specs.Tables.LinkChanges.{all_relinked};
+ghost use Rattle.cspf_db.specs.Tables.Rows.{database_of, marked_database, AreByKey, AreRising};
 ghost use Rattle.cspf_db.specs.Tables.RepeatedKeys.{is_changed, IsNewAt, IsRepeatedAt};
 ghost use Rattle.cspf_db.specs.Tables.RowsLeft.{is_untouched, rows_left, links_put, adds_link, removes_link};
 ghost use Rattle.cspf_db.specs.Tables.CountedEnds.{with_ends, HasListedEnds, BringsAtMost};
 ghost use Rattle.cspf_db.specs.Refusals.{AreOnceEach, ArePresent, IsRefusal};
+ghost use Rattle.cspf_db.specs.declared.limits.TheConstants.{MOST_MARKS};
 
 use crate::limits::{MOST_CHANGES, MOST_LINKS, MOST_ROUTERS};
+use crate::table::marks::has_too_many_marks;
 use crate::table::routers::Routers;
 use crate::table::tally::{Tally, tally_all};
 use crate::{Batch, Change, Link, Refusal};
 use cspf_addr::Addr;
 
 /// Whether the change is on this key.
-fn is_on(change: &Change, from: Addr, local: Addr) -> bool
-    ensures { result ≡ eq_by_cmp key_cmp (from, local) (key_changed change.now) }
+fn is_on(change: &Change, key: (Addr, Option<Addr>)) -> bool
+    ensures { result ≡ eq_by_cmp change_key_cmp key (key_changed change.now) }
 {
-    let key = change.key();
-    from == key.0 && local == key.1
+    let other = change.key();
+    key.0 == other.0 && key.1 == other.1
 }
 
 /// Whether one of the changes is on this key.
-fn any_on(changes: &[Change], from: Addr, local: Addr) -> bool
-    ensures { result ≡ is_changed changes.now (from, local) }
+fn any_on(changes: &[Change], key: (Addr, Option<Addr>)) -> bool
+    ensures { result ≡ is_changed changes.now key }
 {
-    changes.iter().any(|change| is_on(change, from, local))
+    changes.iter().any(|change| is_on(change, key))
 }
 
 /// The index of the first change on the key of an earlier one.
@@ -41,8 +44,7 @@ fn first_repeat(changes: &[Change]) -> Option<usize>
     ensures none { IfNone result ((k : ℕ) → k < length changes.now → IsNewAt changes.now k) }
 {
     for (at, change) in changes.iter().enumerate() {
-        let key = change.key();
-        if any_on(&changes[..at], key.0, key.1) {
+        if any_on(&changes[..at], change.key()) {
             return Some(at);
         }
     }
@@ -50,7 +52,7 @@ fn first_repeat(changes: &[Change]) -> Option<usize>
 }
 
 /// Lists the keys of the changes.
-fn list_keys(keys: &mut [(Addr, Addr)], changes: &[Change])
+fn list_keys(keys: &mut [(Addr, Option<Addr>)], changes: &[Change])
     requires { length keys.old ≡ length changes.now }
     ensures { keys.new ≡ map key_changed changes.now }
 {
@@ -60,15 +62,15 @@ fn list_keys(keys: &mut [(Addr, Addr)], changes: &[Change])
 }
 
 /// Whether the first key is below the second.
-fn is_below(low: (Addr, Addr), high: (Addr, Addr)) -> bool
-    ensures { result ≡ is_lt (key_cmp low high) }
+fn is_below(low: (Addr, Option<Addr>), high: (Addr, Option<Addr>)) -> bool
+    ensures { result ≡ is_lt (change_key_cmp low high) }
 {
     low.0.cmp(&high.0).then(low.1.cmp(&high.1)).is_lt()
 }
 
 /// Whether each key is above the one before it.
-fn rise(keys: &[(Addr, Addr)]) -> bool
-    ensures { result ≡ true → IsDistinct (eq_by_cmp key_cmp) keys.now }
+fn rise(keys: &[(Addr, Option<Addr>)]) -> bool
+    ensures { result ≡ true → IsDistinct (eq_by_cmp change_key_cmp) keys.now }
 {
     for at in 1..keys.len() {
         if !is_below(keys[at - 1], keys[at]) {
@@ -79,7 +81,7 @@ fn rise(keys: &[(Addr, Addr)]) -> bool
 }
 
 /// Whether no two changes are on one key, where there is room to put their keys in order.
-fn are_apart_in(keys: &mut [(Addr, Addr)], changes: &[Change]) -> bool
+fn are_apart_in(keys: &mut [(Addr, Option<Addr>)], changes: &[Change]) -> bool
     requires { length keys.old ≡ length changes.now }
     ensures { result ≡ true → AreOnceEach changes.now }
 {
@@ -93,7 +95,7 @@ fn are_apart(changes: &[Change]) -> bool
     requires { length changes.now ≤ MOST_CHANGES }
     ensures { result ≡ true → AreOnceEach changes.now }
 {
-    let mut keys = [(Addr::new(0), Addr::new(0)); MOST_CHANGES];
+    let mut keys = [(Addr::new(0), None); MOST_CHANGES];
     are_apart_in(&mut keys[..changes.len()], changes)
 }
 
@@ -116,7 +118,7 @@ fn repeat(changes: &[Change]) -> Option<usize>
 fn is_untouched(row: &Link, changes: &[Change]) -> bool
     ensures { result ≡ is_untouched changes.now row.now }
 {
-    !any_on(changes, row.from, row.local)
+    !any_on(changes, (row.from, Some(row.local)))
 }
 
 /// Whether the change takes out a link.
@@ -142,7 +144,7 @@ fn has_too_many_links(rows: &[Link], changes: &[Change], added: usize) -> bool
     requires present { ArePresent (database_of rows.now) changes.now }
     requires added { added ≡ count_by (adds_link (database_of rows.now)) changes.now }
     ensures { IsTrue result
-        ↔ MOST_LINKS < link_count (after_changes (database_of rows.now) changes.now) }
+        ↔ MOST_LINKS < link_count (all_relinked (database_of rows.now) changes.now) }
 {
     let after = rows.len() + added - count_removed(changes);
     after > MOST_LINKS
@@ -198,7 +200,7 @@ fn has_too_many_routers(rows: &[Link], routers: &[Addr], changes: &[Change], bro
     requires few_brought { brought ≤ 2 * length changes.now }
     requires brought { BringsAtMost routers.now changes.now brought }
     ensures { IsTrue result
-        ↔ MOST_ROUTERS < router_count (after_changes (database_of rows.now) changes.now) }
+        ↔ MOST_ROUTERS < router_count (all_relinked (database_of rows.now) changes.now) }
 {
     if routers.len() + brought <= MOST_ROUTERS {
         return false;
@@ -207,15 +209,23 @@ fn has_too_many_routers(rows: &[Link], routers: &[Addr], changes: &[Change], bro
     !(add_puts(&mut found, changes) && add_rows(&mut found, rows, changes))
 }
 
-/// Whether the batch fits the rows, with what it does to them, and else the first reason why it
-/// doesn't.
-pub fn fits(rows: &[Link], routers: &[Addr], batch: &Batch) -> Result<Tally, Refusal>
+/// Whether the batch fits the rows and the marks, with what it does to the rows, and else the first
+/// reason why it doesn't.
+pub fn fits(
+    rows: &[Link],
+    routers: &[Addr],
+    marks: &[Addr],
+    batch: &Batch,
+) -> Result<Tally, Refusal>
     requires by_key { AreByKey rows.now }
     requires all { routers.now ≡ router_list (database_of rows.now) }
     requires most { length rows.now ≤ MOST_LINKS }
     requires few { router_count (database_of rows.now) ≤ MOST_ROUTERS }
-    ensures ok { IfOk result (λ _. Fits (database_of rows.now) batch.now) }
-    ensures err { IfErr result (λ refusal. IsRefusal (database_of rows.now) batch.now refusal) }
+    requires rising { AreRising marks.now }
+    requires few_marks { length marks.now ≤ MOST_MARKS }
+    ensures ok { IfOk result (λ _. Fits (marked_database rows.now marks.now) batch.now) }
+    ensures err { IfErr result
+        (λ refusal. IsRefusal (marked_database rows.now marks.now) batch.now refusal) }
     ensures added { IfOk result (λ tally. tally.added
         ≡ count_by (adds_link (database_of rows.now)) batch.now.changes) }
     ensures listed { IfOk result
@@ -236,6 +246,9 @@ pub fn fits(rows: &[Link], routers: &[Addr], batch: &Batch) -> Result<Tally, Ref
             }
             if has_too_many_routers(rows, routers, changes, tally.brought) {
                 return Err(Refusal::TooManyRouters);
+            }
+            if has_too_many_marks(marks, changes) {
+                return Err(Refusal::TooManyMarks);
             }
             Ok(tally)
         }

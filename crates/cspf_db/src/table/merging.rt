@@ -6,8 +6,9 @@ ghost use Rattle.std.specs.List.{HoldsAt, AllWithin};
 ghost use Rattle.std.specs.Ordering.{is_lt};
 ghost use Rattle.cspf_db.specs.declared.link.Link.{Link as Linked};
 ghost use Rattle.cspf_db.specs.declared.batch.Change.{Change as Changed};
-ghost use Rattle.cspf_db.specs.Database.{Key, key_of, key_cmp};
-ghost use Rattle.cspf_db.specs.Changes.{after_change, after_changes, key_changed};
+ghost use Rattle.cspf_db.specs.Database.{key_of, key_cmp};
+ghost use Rattle.cspf_db.specs.Changes.{ChangeKey, change_key_cmp, key_changed};
+ghost use Rattle.cspf_db.specs.Tables.LinkChanges.{relinked, all_relinked};
 ghost use Rattle.cspf_db.specs.Refusals.{AreOnceEach};
 ghost use Rattle.cspf_db.specs.Tables.CountedEnds.{HasListedEnds};
 ghost use Rattle.cspf_db.specs.Tables.MergeSteps.{AreMergedBelow, IsMergedUpTo, EndsBelow, AreInOrder, IsPlaceOfChange};
@@ -95,13 +96,17 @@ fn merge_one(
     requires ends { AreEndsOf rows.now routers.now ends.now }
     requires ends_merged { AreEndsOf merged.old.items routers.now merged_ends.old.items }
     ensures step { IsMergedUpTo change.now rows.now at merged.old merged.new result }
-    ensures below { (k : Key) → key_cmp (key_changed change.now) k ≡ Ordering.Less
+    ensures below { (k : ChangeKey) → change_key_cmp (key_changed change.now) k ≡ Ordering.Less
         → EndsBelow merged.new.items k }
     ensures capacity { vec_capacity merged.old ≤ vec_capacity merged.new }
     ensures capacity_of_ends { vec_capacity merged_ends.old ≤ vec_capacity merged_ends.new }
     ensures ends { AreEndsOf merged.new.items routers.now merged_ends.new.items }
 {
-    let (from, local) = change.key();
+    let key = change.key();
+    let Some(local) = key.1 else {
+        return at;
+    };
+    let from = key.0;
     let next = step(rows, at, from, local);
     extend_within(merged, &rows[at..next]);
     extend_within(merged_ends, &ends[at..next]);
@@ -133,7 +138,7 @@ pub fn merge(
     requires few { length routers.now ≤ ROOM_FOR_ROUTERS }
     requires known { All (HasListedEnds routers.now) changes.now }
     requires ends { AreEndsOf rows.now routers.now ends.now }
-    ensures changed { database_of merged.new.items ≡ after_changes (database_of rows.now) changes.now }
+    ensures changed { database_of merged.new.items ≡ all_relinked (database_of rows.now) changes.now }
     ensures by_key { AreByKey merged.new.items }
     ensures capacity { vec_capacity merged.old ≤ vec_capacity merged.new }
     ensures capacity_of_ends { vec_capacity merged_ends.old ≤ vec_capacity merged_ends.new }
@@ -149,7 +154,7 @@ pub fn merge(
 
 /// Lists the keys of the changes, each with the index of its change. There is room, so this takes no
 /// memory.
-fn list_order(order: &mut Vec<((Addr, Addr), u16)>, changes: &[Change])
+fn list_order(order: &mut Vec<((Addr, Option<Addr>), u16)>, changes: &[Change])
     requires short { length changes.now ≤ MOST_CHANGES }
     requires room { length changes.now ≤ vec_capacity order.old }
     ensures places { All (IsPlaceOfChange changes.now) order.new.items }
@@ -165,7 +170,7 @@ fn list_order(order: &mut Vec<((Addr, Addr), u16)>, changes: &[Change])
 }
 
 /// Copies the changes in the order in which their indices stand.
-fn copy_changes(sorted: &mut Vec<Change>, order: &[((Addr, Addr), u16)], changes: &[Change])
+fn copy_changes(sorted: &mut Vec<Change>, order: &[((Addr, Option<Addr>), u16)], changes: &[Change])
     requires places { All (IsPlaceOfChange changes.now) order.now }
     requires room { length order.now ≤ vec_capacity sorted.old }
     ensures each { (d : Changed)
@@ -181,7 +186,7 @@ fn copy_changes(sorted: &mut Vec<Change>, order: &[((Addr, Addr), u16)], changes
 /// Copies changes on keys of their own in order of the key, with room to put their keys in order. The
 /// changes themselves are copied once. It takes no memory.
 pub fn sort_changes(
-    order: &mut Vec<((Addr, Addr), u16)>,
+    order: &mut Vec<((Addr, Option<Addr>), u16)>,
     sorted: &mut Vec<Change>,
     changes: &[Change],
 )

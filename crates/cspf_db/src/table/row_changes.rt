@@ -2,7 +2,7 @@
 ghost use Rattle.std.specs.Prelude.{count_by, ◌≡◌, ℕ, ◌+◌, ◌<◌, ◌≤◌, true, All, filter, length, slice_set, vec_len, IfOk, IfErr, IfSome, IfNone};
 ghost use Rattle.std.specs.Vec.{vec_capacity};
 ghost use Rattle.std.specs.List.{insert, remove as without};
-ghost use Rattle.cspf_db.specs.Changes.{after_change, after_changes};
+ghost use Rattle.cspf_db.specs.Tables.LinkChanges.{relinked, all_relinked};
 ghost use Rattle.cspf_db.specs.Tables.CountedEnds.{HasListedEnds};
 ghost use Rattle.cspf_db.specs.Database.{link_count, router_count};
 ghost use Rattle.cspf_db.specs.Refusals.{AreOnceEach};
@@ -60,10 +60,10 @@ fn change_one(
 )
     requires rows { AreRowsWithEnds rows.old routers.now ends.old }
     requires reverses { AreReversesOf rows.old.items reverses.old }
-    requires fits { link_count (after_change (database_of rows.old.items) change.now) ≤ MOST_LINKS }
+    requires fits { link_count (relinked (database_of rows.old.items) change.now) ≤ MOST_LINKS }
     requires known { HasListedEnds routers.now change.now }
     ensures changed { database_of rows.new.items
-        ≡ after_change (database_of rows.old.items) change.now }
+        ≡ relinked (database_of rows.old.items) change.now }
     ensures rows { AreRowsWithEnds rows.new routers.now ends.new }
     ensures reverses { AreReversesOf rows.new.items reverses.new }
 {
@@ -86,6 +86,7 @@ fn change_one(
             remove_end(ends, place);
             remove_reverse(reverses, place);
         }
+        Change::Node { .. } => {}
     }
 }
 
@@ -101,7 +102,7 @@ fn remove_rows(
     requires reverses { AreReversesOf rows.old.items reverses.old }
     requires known { All (HasListedEnds routers.now) changes.now }
     ensures changed { database_of rows.new.items
-        ≡ after_changes (database_of rows.old.items) (filter removes_link changes.now) }
+        ≡ all_relinked (database_of rows.old.items) (filter removes_link changes.now) }
     ensures rows { AreRowsWithEnds rows.new routers.now ends.new }
     ensures reverses { AreReversesOf rows.new.items reverses.new }
 {
@@ -123,10 +124,10 @@ fn put_rows(
     requires rows { AreRowsWithEnds rows.old routers.now ends.old }
     requires reverses { AreReversesOf rows.old.items reverses.old }
     requires fits { link_count
-        (after_changes (database_of rows.old.items) (filter puts_link changes.now)) ≤ MOST_LINKS }
+        (all_relinked (database_of rows.old.items) (filter puts_link changes.now)) ≤ MOST_LINKS }
     requires known { All (HasListedEnds routers.now) changes.now }
     ensures changed { database_of rows.new.items
-        ≡ after_changes (database_of rows.old.items) (filter puts_link changes.now) }
+        ≡ all_relinked (database_of rows.old.items) (filter puts_link changes.now) }
     ensures rows { AreRowsWithEnds rows.new routers.now ends.new }
     ensures reverses { AreReversesOf rows.new.items reverses.new }
 {
@@ -150,7 +151,7 @@ pub fn change_rows(
     requires reverses { AreReversesOf rows.old.items reverses.old }
     requires changes { AreChangesFor (database_of rows.old.items) routers.now changes.now }
     ensures changed { database_of rows.new.items
-        ≡ after_changes (database_of rows.old.items) changes.now }
+        ≡ all_relinked (database_of rows.old.items) changes.now }
     ensures rows { AreRowsWithEnds rows.new routers.now ends.new }
     ensures reverses { AreReversesOf rows.new.items reverses.new }
 {
@@ -187,7 +188,7 @@ fn change_with_ends(
     requires added { added ≡ count_by (adds_link (database_of rows.old.items)) changes.now }
     requires changes { AreChangesFor (database_of rows.old.items) routers.now changes.now }
     ensures changed { database_of rows.new.items
-        ≡ after_changes (database_of rows.old.items) changes.now }
+        ≡ all_relinked (database_of rows.old.items) changes.now }
     ensures rows { AreRowsWithEnds rows.new routers.now ends.new }
     ensures reverses { result ≡ true → AreReversesOf rows.new.items reverses.new }
     ensures room { ROOM_FOR_LINKS ≤ vec_capacity reverses.new }
@@ -217,10 +218,10 @@ pub fn change_table(
     requires listed { tally.brought ≡ 0 → All (HasListedEnds routers.old.items) changes.now }
     requires short { length changes.now ≤ MOST_CHANGES }
     requires once { AreOnceEach changes.now }
-    requires links { link_count (after_changes (database_of rows.old.items) changes.now) ≤ MOST_LINKS }
-    requires few { router_count (after_changes (database_of rows.old.items) changes.now) ≤ MOST_ROUTERS }
+    requires links { link_count (all_relinked (database_of rows.old.items) changes.now) ≤ MOST_LINKS }
+    requires few { router_count (all_relinked (database_of rows.old.items) changes.now) ≤ MOST_ROUTERS }
     ensures changed { database_of rows.new.items
-        ≡ after_changes (database_of rows.old.items) changes.now }
+        ≡ all_relinked (database_of rows.old.items) changes.now }
     ensures parts { AreParts rows.new routers.new ends.new }
     ensures reverses { result ≡ true → AreReversesOf rows.new.items reverses.new }
     ensures room { ROOM_FOR_LINKS ≤ vec_capacity reverses.new }

@@ -17,7 +17,7 @@ use std::mem::swap;
 pub struct Scratch {
     merged: Vec<Link>,
     ends: Vec<u16>,
-    order: Vec<((Addr, Addr), u16)>,
+    order: Vec<((Addr, Option<Addr>), u16)>,
     sorted: Vec<Change>,
     listed: Vec<Addr>,
     places: Vec<u16>,
@@ -41,7 +41,7 @@ fn copy_routers(listed: &mut Vec<Addr>, routers: &[Addr])
 
 impl Scratch {
     ghost use Rattle.cspf_db.specs.Database.{link_count};
-    ghost use Rattle.cspf_db.specs.Changes.{after_changes};
+    ghost use Rattle.cspf_db.specs.Tables.LinkChanges.{all_relinked};
     ghost use Rattle.cspf_db.specs.Tables.CountedEnds.{HasListedEnds};
     ghost use Rattle.cspf_db.specs.Tables.Rows.{database_of, AreRising, AreByKey, IsEndColumn, AreEndsOf, AreRoutersOf, AreRowsWithEnds};
     ghost use Rattle.cspf_db.specs.Tables.RowChanges.{AreChangesFor};
@@ -72,7 +72,7 @@ impl Scratch {
         requires short { length changes.now ≤ MOST_CHANGES }
         requires changes { AreChangesFor (database_of rows.old.items) routers.now changes.now }
         ensures changed { database_of rows.new.items
-            ≡ after_changes (database_of rows.old.items) changes.now }
+            ≡ all_relinked (database_of rows.old.items) changes.now }
         ensures rows { AreRowsWithEnds rows.new routers.now ends.new }
     {
         sort_changes(&mut self.order, &mut self.sorted, changes);

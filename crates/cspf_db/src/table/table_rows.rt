@@ -5,7 +5,7 @@ ghost use Rattle.std.specs.List.Sorted.{IsPartitionPoint, IsNonDecreasingBy};
 ghost use Rattle.cspf_addr.specs.Prefixes.{Covers};
 ghost use Rattle.cspf_db.specs.Database.{key_of, key_cmp};
 ghost use Rattle.cspf_db.specs.Index.{links_from};
-ghost use Rattle.cspf_db.specs.Changes.{after_change};
+ghost use Rattle.cspf_db.specs.Tables.LinkChanges.{relinked};
 ghost use Rattle.cspf_db.specs.Tables.Rows.{database_of, AreByKey, HasSameEnds};
 ghost use Rattle.cspf_db.specs.Tables.CountedEnds.{any_from};
 
@@ -133,7 +133,7 @@ pub fn put(rows: &mut Vec<Link>, link: Link) -> Result<usize, usize>
     requires by_key { AreByKey rows.old.items }
     requires room { vec_len rows.old < vec_capacity rows.old }
     ensures changed { database_of rows.new.items
-        ≡ after_change (database_of rows.old.items) (Change.Put link) }
+        ≡ relinked (database_of rows.old.items) (Change.Put link) }
     ensures by_key { AreByKey rows.new.items }
     ensures longer { vec_len rows.new ≤ vec_len rows.old + 1 }
     ensures capacity { vec_capacity rows.old ≤ vec_capacity rows.new }
@@ -159,7 +159,7 @@ pub fn put(rows: &mut Vec<Link>, link: Link) -> Result<usize, usize>
 pub fn remove(rows: &mut Vec<Link>, from: Addr, local: Addr) -> Option<usize>
     requires { AreByKey rows.old.items }
     ensures changed { database_of rows.new.items
-        ≡ after_change (database_of rows.old.items) (Change.Remove from local) }
+        ≡ relinked (database_of rows.old.items) (Change.Remove from local) }
     ensures by_key { AreByKey rows.new.items }
     ensures longer { vec_len rows.new ≤ vec_len rows.old }
     ensures capacity { vec_capacity rows.old ≤ vec_capacity rows.new }

@@ -98,6 +98,10 @@ fn tally_one(rows: &[Link], routers: &[Addr], change: &Change) -> Option<Tally>
                 brought: 0,
             })
         }
+        Change::Node { .. } => Some(Tally {
+            added: 0,
+            brought: 0,
+        }),
     }
 }
 

@@ -1,7 +1,10 @@
+use Rattle.std.proofs.Common.{◌≤◌, sym, subst, ◌∙◌, arith}
 use Rattle.cspf_db.proofs.Batches.LeastReasons.{refused_unfit}
+use Rattle.cspf_db.proofs.Databases.MarkedLinks.{links_counted, routers_counted, marked_after}
 use Rattle.cspf_db.proofs.Tables.EndColumn.{length-ends}
+use Rattle.cspf_db.proofs.Tables.MarkChanges.{still_marks}
 use Rattle.cspf_db.proofs.Tables.ReverseColumn.{spans_at_ends}
-use Rattle.cspf_db.proofs.Tables.RouterLists.{length-router_list}
+use Rattle.cspf_db.proofs.Tables.RouterLists.{length-router_list, routers_marked}
 use Rattle.cspf_db.proofs.table.Table.absorb.Goals as goal
 
 pub fits-requires-clause-all : goal.fits-requires-clause-all
@@ -9,27 +12,65 @@ fits-requires-clause-all c = rw (c.deref-2.ensures.value, c.deref.ensures.value)
 
 pub returns-in_default-clause-fitting : goal.returns-in_default-clause-fitting
 returns-in_default-clause-fitting c fits =
-    absurd (refused_unfit c.args.self.now c.args.batch.now c.in_default.field-0 (rw (c.deref.ensures.value, c.self.view_is) at c.in_default.ensures.err) fits)
+    absurd (refused_unfit c.args.self.now c.args.batch.now c.in_default.field-0 (rw (c.deref.ensures.value, c.deref-3.ensures.value, c.self.view_is) at c.in_default.ensures.err) fits)
+
+pub change_table-follows-requires-clause-links : goal.change_table-follows-requires-clause-links
+change_table-follows-requires-clause-links c =
+    let fits = rw (c.deref.ensures.value, c.deref-3.ensures.value, ← c.batch.view_is) at c.in-Ok.ensures.ok in
+    rw c.deref-4.ensures.value (subst (λ n. n ≤ 16384) (sym (links_counted c.self.inside.rows.items c.self.inside.marks.items c.batch.inside.changes.items)) fits.links)
+
+pub change_table-follows-requires-clause-few : goal.change_table-follows-requires-clause-few
+change_table-follows-requires-clause-few c =
+    let fits = rw (c.deref.ensures.value, c.deref-3.ensures.value, ← c.batch.view_is) at c.in-Ok.ensures.ok in
+    rw c.deref-4.ensures.value (subst (λ n. n ≤ 1024) (sym (routers_counted c.self.inside.rows.items c.self.inside.marks.items c.batch.inside.changes.items)) fits.routers)
 
 pub list_spans-requires-clause-few : goal.list_spans-requires-clause-few
 list_spans-requires-clause-few c =
     let parts = c.change_table-follows.ensures.parts in
-    rw (c.deref-4.ensures.value, parts.routers.all, length-router_list) parts.rows.routers
+    rw (c.deref-6.ensures.value, parts.routers.all, length-router_list) parts.rows.routers
 
 pub list_reverses-requires-clause-spans : goal.list_reverses-requires-clause-spans
 list_reverses-requires-clause-spans c =
     let parts = c.change_table-follows.ensures.parts in
     rw (c.deref-then-not-follows.ensures.value, c.deref-then-not-follows-2.ensures.value, c.deref-then-not-follows-3.ensures.value)
-    (spans_at_ends _ _ _ _ parts.ends (rw (← c.deref-5.ensures.value, ← c.deref-4.ensures.value) c.list_spans.ensures.each))
+    (spans_at_ends _ _ _ _ parts.ends (rw (← c.deref-7.ensures.value, ← c.deref-6.ensures.value) c.list_spans.ensures.each))
 
 pub list_reverses-requires-clause-ends : goal.list_reverses-requires-clause-ends
 list_reverses-requires-clause-ends c =
     rw (c.deref-then-not-follows.ensures.value, c.deref-then-not-follows-2.ensures.value) (length-ends _ _ _ c.change_table-follows.ensures.parts.ends)
 
 pub invariant_of-self : goal.invariant_of-self
-invariant_of-self c = record {
-  parts = c.change_table-follows.ensures.parts;
-  spans = rw (← c.deref-5.ensures.value, ← c.deref-4.ensures.value) c.list_spans.ensures.each;
-  room = c.list_spans.ensures.room;
-  reverses = rw (← c.deref-then-not-follows.ensures.value) c.list_reverses.ensures;
-}
+invariant_of-self c =
+    let fits = rw (c.deref.ensures.value, c.deref-3.ensures.value, ← c.batch.view_is) at c.in-Ok.ensures.ok in
+    record {
+      parts = c.change_table-follows.ensures.parts;
+      spans = rw (← c.deref-7.ensures.value, ← c.deref-6.ensures.value) c.list_spans.ensures.each;
+      room = c.list_spans.ensures.room;
+      reverses = rw (← c.deref-then-not-follows.ensures.value) c.list_reverses.ensures;
+      marks = still_marks c.self.inside.rows.items c.self.inside.marks.items _ c.batch.inside.changes.items fits.marks (rw c.deref-5.ensures.value at c.change_marks.ensures.marked) c.change_marks.ensures.rising
+          (omega (arith, c.self.invariant.marks.room, c.change_marks.ensures.capacity));
+      listed = c.change_table-follows.ensures.parts.routers.all ∙ routers_marked _ _;
+    }
+
+pub invariant_of-self-else-not-follows : goal.invariant_of-self-else-not-follows
+invariant_of-self-else-not-follows c =
+    let fits = rw (c.deref.ensures.value, c.deref-3.ensures.value, ← c.batch.view_is) at c.in-Ok.ensures.ok in
+    record {
+      parts = c.change_table-follows.ensures.parts;
+      spans = rw (← c.deref-7.ensures.value, ← c.deref-6.ensures.value) c.list_spans.ensures.each;
+      room = c.list_spans.ensures.room;
+      reverses = c.change_table-follows.ensures.reverses c.if-not-follows.false;
+      marks = still_marks c.self.inside.rows.items c.self.inside.marks.items _ c.batch.inside.changes.items fits.marks (rw c.deref-5.ensures.value at c.change_marks.ensures.marked) c.change_marks.ensures.rising
+          (omega (arith, c.self.invariant.marks.room, c.change_marks.ensures.capacity));
+      listed = c.change_table-follows.ensures.parts.routers.all ∙ routers_marked _ _;
+    }
+
+pub returns-then-not-follows-clause-fitting : goal.returns-then-not-follows-clause-fitting
+returns-then-not-follows-clause-fitting c _ =
+    rw (← c.self.view_is, ← c.batch.view_is)
+    (marked_after c.self.inside.rows.items _ c.self.inside.marks.items _ c.batch.inside.changes.items (rw c.deref-4.ensures.value at c.change_table-follows.ensures.changed) (rw c.deref-5.ensures.value at c.change_marks.ensures.marked))
+
+pub returns-else-not-follows-clause-fitting : goal.returns-else-not-follows-clause-fitting
+returns-else-not-follows-clause-fitting c _ =
+    rw (← c.self.view_is, ← c.batch.view_is)
+    (marked_after c.self.inside.rows.items _ c.self.inside.marks.items _ c.batch.inside.changes.items (rw c.deref-4.ensures.value at c.change_table-follows.ensures.changed) (rw c.deref-5.ensures.value at c.change_marks.ensures.marked))

@@ -1,10 +1,11 @@
 use Rattle.std.proofs.Common.{sym}
 use Rattle.cspf_db.proofs.Databases.LinksOfRows.{rows_listed, rows_keyed}
+use Rattle.cspf_db.proofs.Tables.InterfaceRange.{links_marked}
 use Rattle.cspf_db.proofs.Tables.RowOrder.{own_keys, links_of-database_of}
 use Rattle.cspf_db.proofs.table.Table.links.Goals as goal
 
 pub returns-clause-listed : goal.returns-clause-listed
-returns-clause-listed c = rw (c.as_slice.ensures.value, ← c.self.view_is) (rows_listed _ (own_keys _ c.self.invariant.parts.rows.by_key))
+returns-clause-listed c = rw (c.as_slice.ensures.value, ← c.self.view_is) (links_marked c.self.inside.rows.items c.self.inside.marks.items _ (rows_listed _ (own_keys _ c.self.invariant.parts.rows.by_key)))
 
 pub returns-clause-most : goal.returns-clause-most
 returns-clause-most c = rw c.as_slice.ensures.value c.self.invariant.parts.rows.most

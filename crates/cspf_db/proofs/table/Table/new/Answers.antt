@@ -1,7 +1,7 @@
-use Rattle.std.proofs.Common.{refl, arith}
+use Rattle.std.proofs.Common.{[], refl, ◌∙◌, arith}
 use Rattle.std.proofs.lemmas.List.Elements.{All-nil}
 use Rattle.cspf_db.proofs.Databases.DistinctRouters.{router_count-no_links}
-use Rattle.cspf_db.proofs.Tables.RouterLists.{router_list-nil}
+use Rattle.cspf_db.proofs.Tables.RouterLists.{router_list-nil, routers_marked}
 use Rattle.cspf_db.proofs.table.Table.new.Goals as goal
 
 pub invariant_of-result : goal.invariant_of-result
@@ -11,6 +11,7 @@ invariant_of-result c =
     let e = c.in_ok-with_capacity-3.ensures in
     let b = c.in_ok-with_capacity-4.ensures in
     let t = c.in_ok-with_capacity-5.ensures in
+    let m = c.in_ok-with_capacity-6.ensures in
     record {
       parts = record {
         rows = record { by_key = rw r.items refl; most = rw r.items (omega arith); routers = rw r.items (omega (arith, router_count-no_links)); room = omega (arith, r.exact) };
@@ -21,4 +22,6 @@ invariant_of-result c =
       spans = record { many = rw (t.items, s.items) refl; each = rw s.items (λ at h. absurd (omega arith)) };
       room = omega (arith, t.exact);
       reverses = record { column = record { many = rw (b.items, r.items) refl; each = rw r.items (λ at d h. absurd (omega arith)) }; room = omega (arith, b.exact) };
+      marks = record { rising = rw m.items refl; most = rw m.items (omega arith); room = omega (arith, m.exact) };
+      listed = rw (s.items, r.items) (router_list-nil ∙ routers_marked [] _);
     }

@@ -4,11 +4,11 @@ use Rattle.std.specs.List.{IsDistinct}
 use Rattle.std.proofs.lemmas.Cmp.{eq_by_cmp_equiv}
 use Rattle.std.proofs.lemmas.List.Sorted.{IsPermutation-sym}
 use Rattle.std.proofs.lemmas.Map.Keys.{IsDistinct-IsPermutation}
-use Rattle.cspf_db.specs.Database.{key_cmp}
-use Rattle.cspf_db.proofs.Databases.Keys.{keys_total}
+use Rattle.cspf_db.specs.Changes.{change_key_cmp}
+use Rattle.cspf_db.proofs.Databases.Keys.{change_keys_total}
 use Rattle.cspf_db.proofs.table.check.are_apart_in.Goals as goal
 
 pub returns : goal.returns
 returns c rising =
-    subst (IsDistinct (eq_by_cmp key_cmp)) c.list_keys.ensures
-    (IsDistinct-IsPermutation (eq_by_cmp key_cmp) (eq_by_cmp_equiv keys_total).symm _ _ (IsPermutation-sym _ _ c.sort_unstable.ensures.permutation) (c.rise.ensures rising))
+    subst (IsDistinct (eq_by_cmp change_key_cmp)) c.list_keys.ensures
+    (IsDistinct-IsPermutation (eq_by_cmp change_key_cmp) (eq_by_cmp_equiv change_keys_total).symm _ _ (IsPermutation-sym _ _ c.sort_unstable.ensures.permutation) (c.rise.ensures rising))

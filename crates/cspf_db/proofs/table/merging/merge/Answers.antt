@@ -3,8 +3,9 @@ use Rattle.std.proofs.lemmas.List.{drop_more, get_or_read}
 use Rattle.std.proofs.lemmas.List.Elements.{All-nil}
 use Rattle.cspf_db.specs.declared.link.Link.{Link}
 use Rattle.cspf_db.specs.declared.batch.Change.{Change}
-use Rattle.cspf_db.specs.Database.{Database, key_cmp}
-use Rattle.cspf_db.specs.Changes.{after_changes, key_changed}
+use Rattle.cspf_db.specs.Database.{Database}
+use Rattle.cspf_db.specs.Changes.{change_key_cmp, key_changed}
+use Rattle.cspf_db.specs.Tables.LinkChanges.{all_relinked}
 use Rattle.cspf_db.specs.Tables.MergeSteps.{EndsBelow}
 use Rattle.cspf_db.specs.Tables.Rows.{database_of}
 use Rattle.cspf_db.proofs.Tables.EndColumn.{length-ends, ends_joined, ends_between}
@@ -13,7 +14,7 @@ use Rattle.cspf_db.proofs.table.merging.merge.Goals as goal
 pub loop-change-init : goal.loop-change-init
 loop-change-init c = record {
   bound = omega arith;
-  left = ap (λ (xs : List Link). after_changes (database_of (xs ++ c.args.rows.now)) c.args.changes.now) c.requires.empty;
+  left = ap (λ (xs : List Link). all_relinked (database_of (xs ++ c.args.rows.now)) c.args.changes.now) c.requires.empty;
   joined = rw c.requires.empty c.requires.by_key;
   below = λ d h e some. absurd (omega (arith, some, ap length c.requires.empty));
   longer = omega (arith, ap length c.requires.empty);
@@ -37,11 +38,11 @@ loop-change-preserved c =
     record {
       bound = step.bound;
       left =
-          ap (λ (e : Database). after_changes e (drop (i + 1) changes)) step.changed ∙ ap (λ (b : Change). after_changes d (b ∷ drop (i + 1) changes)) c.change-item.is
-          ∙ sym (ap (after_changes d) (drop_more changes i change c.loop-change-test.true)) ∙ before.left;
+          ap (λ (e : Database). all_relinked e (drop (i + 1) changes)) step.changed ∙ ap (λ (b : Change). all_relinked d (b ∷ drop (i + 1) changes)) c.change-item.is
+          ∙ sym (ap (all_relinked d) (drop_more changes i change c.loop-change-test.true)) ∙ before.left;
       joined = step.joined;
       below = λ e h. c.merge_one-at.ensures.below _
-          (ap (λ (b : Change). key_cmp (key_changed b) (key_changed (get_or changes (i + 1) e))) (get_or_read changes i change c.loop-change-test.true c.change-item.is e) ∙ c.requires.in_order i e h);
+          (ap (λ (b : Change). change_key_cmp (key_changed b) (key_changed (get_or changes (i + 1) e))) (get_or_read changes i change c.loop-change-test.true c.change-item.is e) ∙ c.requires.in_order i e h);
       longer = omega (arith, step.longer, before.longer);
       capacity = omega (arith, c.merge_one-at.ensures.capacity, before.capacity);
       capacity_of_ends = omega (arith, c.merge_one-at.ensures.capacity_of_ends, before.capacity_of_ends);

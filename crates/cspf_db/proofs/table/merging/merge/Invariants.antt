@@ -1,7 +1,8 @@
 use Rattle.std.proofs.Common.{◌≡◌, ◌≤◌, ◌<◌, ◌+◌, ◌-◌, ◌++◌, drop, length, slice_index_or, vec_len}
 use Rattle.std.specs.Vec.{vec_capacity}
 use Rattle.cspf_db.specs.declared.batch.Change.{Change}
-use Rattle.cspf_db.specs.Changes.{after_changes, key_changed}
+use Rattle.cspf_db.specs.Changes.{key_changed}
+use Rattle.cspf_db.specs.Tables.LinkChanges.{all_relinked}
 use Rattle.cspf_db.specs.Tables.MergeSteps.{EndsBelow}
 use Rattle.cspf_db.specs.Tables.Rows.{database_of, AreByKey, AreEndsOf}
 use Rattle.cspf_db.proofs.table.merging.merge.Given as goal
@@ -9,7 +10,7 @@ use Rattle.cspf_db.proofs.table.merging.merge.Given as goal
 abbrev pub invariant-loop-change : goal.invariant-loop-change
 invariant-loop-change l = record {
   bound : l.at ≤ length l.rows;
-  left : after_changes (database_of (l.merged.items ++ drop l.at l.rows)) (drop l.change-index l.changes) ≡ after_changes (database_of l.rows) l.changes;
+  left : all_relinked (database_of (l.merged.items ++ drop l.at l.rows)) (drop l.change-index l.changes) ≡ all_relinked (database_of l.rows) l.changes;
   joined : AreByKey (l.merged.items ++ drop l.at l.rows);
   below : (d : Change) → l.change-index < length l.changes → EndsBelow l.merged.items (key_changed (slice_index_or l.changes l.change-index d));
   longer : vec_len l.merged + (length l.rows - l.at) ≤ length l.rows + l.change-index;

@@ -1,17 +1,21 @@
-use Rattle.std.proofs.Common.{◌≡◌, length, subst, ◌∙◌, arith}
-use Rattle.std.specs.List.{AllWithin}
+use Rattle.std.proofs.Common.{◌≡◌, List, [], ◌∷◌, ◌++◌, length, sym, ap, subst, ◌∙◌, arith}
+use Rattle.std.specs.List.{AllWithin, between}
 use Rattle.std.specs.declared.cmp.Ordering.TheVariants.{Less, Greater}
 use Rattle.std.proofs.lemmas.List.Edits.{length-between}
-use Rattle.cspf_db.specs.Database.{key_of, key_cmp}
-use Rattle.cspf_db.specs.Changes.{key_changed}
+use Rattle.cspf_db.specs.declared.link.Link.{Link}
+use Rattle.cspf_db.specs.Database.{key_of}
+use Rattle.cspf_db.specs.Tables.MergeSteps.{EndsBelow}
+use Rattle.cspf_db.specs.Tables.RowsLeft.{links_put}
+use Rattle.cspf_db.specs.Changes.{change_key_cmp, link_key, key_changed}
 use Rattle.cspf_db.proofs.Tables.MergedRows.{merged_over, merged_before, copied_below, put_below}
 use Rattle.cspf_db.proofs.Tables.EndColumn.{ends_joined, ends_between}
 use Rattle.cspf_db.proofs.table.merging.merge_one.Goals as goal
 
 pub returns-then-is_at-clause-step : goal.returns-then-is_at-clause-step
 returns-then-is_at-clause-step c =
+    let key : link_key (c.key-key.result.0, c.in-Some.local) ≡ key_changed c.args.change.now = (λ i. (c.key-key.result.0, sym c.in-Some.is i)) ∙ c.key-key.ensures in
     let within = c.is_at.ensures.within c.if-is_at.true in
-    let made = merged_over c.args.merged.now.items c.args.rows.now c.args.at c.step-next.result c.args.change.now c.requires.merged.joined c.step-next.ensures.order within (λ d. c.is_at.ensures.found c.if-is_at.true d ∙ c.key-from.ensures) in
+    let made = merged_over c.args.merged.now.items c.args.rows.now c.args.at c.step-next.result c.args.change.now c.requires.merged.joined c.step-next.ensures.order within (λ d. ap link_key (c.is_at.ensures.found c.if-is_at.true d) ∙ key) in
     record {
       bound = omega (arith, within);
       changed = rw (c.put_behind.ensures.items, c.extend_within.ensures.items) made.0;
@@ -21,10 +25,12 @@ returns-then-is_at-clause-step c =
 
 pub returns-then-is_at-clause-below : goal.returns-then-is_at-clause-below
 returns-then-is_at-clause-below c k less =
+    let key : link_key (c.key-key.result.0, c.in-Some.local) ≡ key_changed c.args.change.now = (λ i. (c.key-key.result.0, sym c.in-Some.is i)) ∙ c.key-key.ensures in
     let rows = c.args.rows.now in
     let next = c.step-next.result in
-    let copied = subst (λ q. AllWithin (λ m. key_cmp (key_of m) q ≡ Less) rows c.args.at next) c.key-from.ensures c.step-next.ensures.below in
-    rw (c.put_behind.ensures.items, c.extend_within.ensures.items)
+    let copied = subst (λ q. AllWithin (λ m. change_key_cmp (link_key (key_of m)) q ≡ Less) rows c.args.at next) key c.step-next.ensures.below in
+    let items : c.put_behind.new.merged.items ≡ (c.args.merged.now.items ++ between c.args.at next rows) ++ links_put (c.args.change.now ∷ []) = c.put_behind.ensures.items ∙ ap (λ xs. xs ++ links_put (c.args.change.now ∷ [])) c.extend_within.ensures.items in
+    subst (λ (xs : List Link). EndsBelow xs k) (sym items)
     (put_below _ c.args.change.now k (copied_below c.args.merged.now.items rows c.args.at next (key_changed c.args.change.now) c.step-next.ensures.order c.step-next.ensures.bound c.requires.below copied) less)
 
 pub returns-then-is_at-clause-ends : goal.returns-then-is_at-clause-ends
@@ -35,10 +41,11 @@ returns-then-is_at-clause-ends c =
 
 pub returns-clause-step : goal.returns-clause-step
 returns-clause-step c =
+    let key : link_key (c.key-key.result.0, c.in-Some.local) ≡ key_changed c.args.change.now = (λ i. (c.key-key.result.0, sym c.in-Some.is i)) ∙ c.key-key.ensures in
     let rows = c.args.rows.now in
     let next = c.step-next.result in
-    let copied = subst (λ q. AllWithin (λ m. key_cmp (key_of m) q ≡ Less) rows c.args.at next) c.key-from.ensures c.step-next.ensures.below in
-    let gap = subst (λ q. AllWithin (λ m. key_cmp (key_of m) q ≡ Greater) rows next (length rows)) c.key-from.ensures (c.is_at.ensures.above c.if-is_at.false) in
+    let copied = subst (λ q. AllWithin (λ m. change_key_cmp (link_key (key_of m)) q ≡ Less) rows c.args.at next) key c.step-next.ensures.below in
+    let gap = subst (λ q. AllWithin (λ m. change_key_cmp (link_key (key_of m)) q ≡ Greater) rows next (length rows)) key (c.is_at.ensures.above c.if-is_at.false) in
     let made = merged_before c.args.merged.now.items rows c.args.at next c.args.change.now c.requires.merged.joined c.step-next.ensures.order gap
     (copied_below c.args.merged.now.items rows c.args.at next (key_changed c.args.change.now) c.step-next.ensures.order c.step-next.ensures.bound c.requires.below copied) in
     record {
@@ -50,10 +57,12 @@ returns-clause-step c =
 
 pub returns-clause-below : goal.returns-clause-below
 returns-clause-below c k less =
+    let key : link_key (c.key-key.result.0, c.in-Some.local) ≡ key_changed c.args.change.now = (λ i. (c.key-key.result.0, sym c.in-Some.is i)) ∙ c.key-key.ensures in
     let rows = c.args.rows.now in
     let next = c.step-next.result in
-    let copied = subst (λ q. AllWithin (λ m. key_cmp (key_of m) q ≡ Less) rows c.args.at next) c.key-from.ensures c.step-next.ensures.below in
-    rw (c.put_behind.ensures.items, c.extend_within.ensures.items)
+    let copied = subst (λ q. AllWithin (λ m. change_key_cmp (link_key (key_of m)) q ≡ Less) rows c.args.at next) key c.step-next.ensures.below in
+    let items : c.put_behind.new.merged.items ≡ (c.args.merged.now.items ++ between c.args.at next rows) ++ links_put (c.args.change.now ∷ []) = c.put_behind.ensures.items ∙ ap (λ xs. xs ++ links_put (c.args.change.now ∷ [])) c.extend_within.ensures.items in
+    subst (λ (xs : List Link). EndsBelow xs k) (sym items)
     (put_below _ c.args.change.now k (copied_below c.args.merged.now.items rows c.args.at next (key_changed c.args.change.now) c.step-next.ensures.order c.step-next.ensures.bound c.requires.below copied) less)
 
 pub returns-clause-ends : goal.returns-clause-ends

@@ -3,10 +3,10 @@ use Rattle.std.specs.Ordering.{eq_by_cmp}
 use Rattle.std.proofs.lemmas.Cmp.{eq_by_cmp_equiv}
 use Rattle.std.proofs.lemmas.List.Sorted.{All-permutation, IsPermutation-map}
 use Rattle.std.proofs.lemmas.Map.Keys.{IsDistinct-IsPermutation}
-use Rattle.cspf_db.specs.Database.{key_cmp}
+use Rattle.cspf_db.specs.Changes.{change_key_cmp}
 use Rattle.cspf_db.specs.Changes.{key_changed}
 use Rattle.cspf_db.specs.Tables.MergeSteps.{IsPlaceOfChange}
-use Rattle.cspf_db.proofs.Databases.Keys.{keys_total}
+use Rattle.cspf_db.proofs.Databases.Keys.{change_keys_total}
 use Rattle.cspf_db.proofs.Tables.SortedChanges.{change_of, permuted, in_order}
 use Rattle.cspf_db.proofs.table.merging.sort_changes.Goals as goal
 
@@ -27,4 +27,4 @@ returns-clause-in_order c =
     let moved = permuted changes _ _ _ c.list_order.ensures.each c.sort_unstable.ensures.permutation (λ d. c.copy_changes.ensures.each d ∙ ap (map (change_of changes d)) c.deref.ensures.value) in
     in_order changes c.sort_unstable.new.self.items _ (All-permutation (IsPlaceOfChange changes) _ _ c.sort_unstable.ensures.permutation c.list_order.ensures.places)
     (λ d. c.copy_changes.ensures.each d ∙ ap (map (change_of changes d)) c.deref.ensures.value) c.sort_unstable.ensures.sorted
-    (IsDistinct-IsPermutation (eq_by_cmp key_cmp) (eq_by_cmp_equiv keys_total).symm _ _ (IsPermutation-map key_changed _ _ moved) c.requires.once)
+    (IsDistinct-IsPermutation (eq_by_cmp change_key_cmp) (eq_by_cmp_equiv change_keys_total).symm _ _ (IsPermutation-map key_changed _ _ moved) c.requires.once)

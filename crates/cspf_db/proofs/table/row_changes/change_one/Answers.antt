@@ -1,4 +1,7 @@
-use Rattle.std.proofs.Common.{arith}
+use Rattle.cspf_db.specs.declared.batch.Change.TheVariants.{Put}
+use Rattle.cspf_db.specs.Tables.Rows.{database_of}
+use Rattle.cspf_db.specs.Tables.LinkChanges.{relinked}
+use Rattle.std.proofs.Common.{refl, arith}
 use Rattle.std.proofs.lemmas.List.{length-set}
 use Rattle.cspf_db.proofs.Tables.AlikeRows.{ends_alike, reverses_alike}
 use Rattle.cspf_db.proofs.Tables.RowOrder.{entries-hit, by_key-entries, database_of-entries}
@@ -66,7 +69,7 @@ returns-in_default-clause-rows c =
 pub returns-in-Some-clause-changed : goal.returns-in-Some-clause-changed
 returns-in-Some-clause-changed c =
     let at = rw c.deref.ensures.value at c.in-Some.ensures in
-    rw c.in-Put.is (database_of-entries _ _ (entries-hit c.args.rows.now.items c.in-Some.at c.in-Put.link c.requires.rows.by_key at.within (λ d t. ((at.alike d).from t, (at.alike d).local t))))
+    rw c.in-Put.is (database_of-entries (relinked (database_of _) (Put c.in-Put.link)) _ refl (entries-hit c.args.rows.now.items c.in-Some.at c.in-Put.link c.requires.rows.by_key at.within (λ d t. ((at.alike d).from t, (at.alike d).local t))))
 
 pub returns-in-Some-clause-rows : goal.returns-in-Some-clause-rows
 returns-in-Some-clause-rows c =

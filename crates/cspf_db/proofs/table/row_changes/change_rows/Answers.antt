@@ -1,6 +1,6 @@
 use Rattle.std.proofs.Common.{filter, ap, ◌∙◌, arith}
 use Rattle.cspf_db.specs.Database.{link_count}
-use Rattle.cspf_db.specs.Changes.{after_changes}
+use Rattle.cspf_db.specs.Tables.LinkChanges.{all_relinked}
 use Rattle.cspf_db.specs.Tables.Rows.{database_of}
 use Rattle.cspf_db.specs.Tables.RowsLeft.{puts_link}
 use Rattle.cspf_db.proofs.Tables.RemovalsFirst.{removals_first}
@@ -10,9 +10,9 @@ pub put_rows-requires-clause-fits : goal.put_rows-requires-clause-fits
 put_rows-requires-clause-fits c =
     let changes = c.args.changes.now in
     omega
-    (arith, c.requires.changes.links, ap link_count (ap (λ d. after_changes d (filter puts_link changes)) c.remove_rows.ensures.changed ∙ removals_first (database_of c.args.rows.now.items) changes c.requires.changes.once))
+    (arith, c.requires.changes.links, ap link_count (ap (λ d. all_relinked d (filter puts_link changes)) c.remove_rows.ensures.changed ∙ removals_first (database_of c.args.rows.now.items) changes c.requires.changes.once))
 
 pub returns-clause-changed : goal.returns-clause-changed
 returns-clause-changed c =
     let changes = c.args.changes.now in
-    c.put_rows.ensures.changed ∙ ap (λ d. after_changes d (filter puts_link changes)) c.remove_rows.ensures.changed ∙ removals_first (database_of c.args.rows.now.items) changes c.requires.changes.once
+    c.put_rows.ensures.changed ∙ ap (λ d. all_relinked d (filter puts_link changes)) c.remove_rows.ensures.changed ∙ removals_first (database_of c.args.rows.now.items) changes c.requires.changes.once

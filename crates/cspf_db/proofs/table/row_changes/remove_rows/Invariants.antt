@@ -1,5 +1,5 @@
 use Rattle.std.proofs.Common.{◌≡◌, filter, drop}
-use Rattle.cspf_db.specs.Changes.{after_changes}
+use Rattle.cspf_db.specs.Tables.LinkChanges.{all_relinked}
 use Rattle.cspf_db.specs.Tables.Rows.{database_of, AreRowsWithEnds}
 use Rattle.cspf_db.specs.Tables.Reverses.{AreReversesOf}
 use Rattle.cspf_db.specs.Tables.RowsLeft.{removes_link}
@@ -7,7 +7,7 @@ use Rattle.cspf_db.proofs.table.row_changes.remove_rows.Given as goal
 
 abbrev pub invariant-loop-change : goal.invariant-loop-change
 invariant-loop-change l = record {
-  left : after_changes (database_of l.rows.items) (filter removes_link (drop l.change-index l.changes)) ≡ after_changes (database_of l.fn.rows.items) (filter removes_link l.changes);
+  left : all_relinked (database_of l.rows.items) (filter removes_link (drop l.change-index l.changes)) ≡ all_relinked (database_of l.fn.rows.items) (filter removes_link l.changes);
   rows : AreRowsWithEnds l.rows l.routers l.ends;
   reverses : AreReversesOf l.rows.items l.reverses;
 }

@@ -1,5 +1,5 @@
 use Rattle.cspf_db.proofs.Databases.FoundLinks.{link_at-no_row}
-use Rattle.cspf_db.proofs.Databases.OneChange.{database-without, after_change-absent}
+use Rattle.cspf_db.proofs.Databases.OneChange.{database-without, relinked-absent}
 use Rattle.cspf_db.proofs.Tables.RowOrder.{own_keys, by_key-without}
 use Rattle.cspf_db.proofs.table.table_rows.remove.Goals as goal
 
@@ -12,4 +12,4 @@ pub returns-in-Some-clause-by_key : goal.returns-in-Some-clause-by_key
 returns-in-Some-clause-by_key c = rw c.remove.ensures.items (by_key-without _ c.in-Some.at c.requires)
 
 pub returns-clause-changed : goal.returns-clause-changed
-returns-clause-changed c = after_change-absent _ c.args.from c.args.local (link_at-no_row _ _ (rw c.deref.ensures.value at c.in_default.ensures.none))
+returns-clause-changed c = relinked-absent _ c.args.from c.args.local (link_at-no_row _ _ (rw c.deref.ensures.value at c.in_default.ensures.none))

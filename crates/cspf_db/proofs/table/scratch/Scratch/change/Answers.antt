@@ -4,7 +4,7 @@ use Rattle.std.proofs.lemmas.List.Sorted.{length_permutation, All-permutation}
 use Rattle.cspf_db.specs.declared.link.Link.{Link}
 use Rattle.cspf_db.specs.Tables.CountedEnds.{HasListedEnds}
 use Rattle.cspf_db.specs.Tables.Rows.{database_of}
-use Rattle.cspf_db.proofs.Databases.ChangedRows.{after_changes-permuted}
+use Rattle.cspf_db.proofs.Databases.ChangedRows.{all_relinked-permuted}
 use Rattle.cspf_db.proofs.Tables.RemainingRouters.{rows_listed_after}
 use Rattle.cspf_db.proofs.Tables.TableLimits.{still_rows_with_ends}
 use Rattle.cspf_db.proofs.table.scratch.Scratch.change.Goals as goal
@@ -13,7 +13,7 @@ pub returns-clause-changed : goal.returns-clause-changed
 returns-clause-changed c =
     let made = rw (c.deref.ensures.value, c.deref-3.ensures.value) at c.merge.ensures.changed in
     ap (λ (v : Vec Link Global). database_of v.items) c.swap.ensures.x_after ∙ made
-    ∙ after_changes-permuted c.args.changes.now _ c.sort_changes.ensures.permutation c.requires.changes.once (database_of c.args.rows.now.items)
+    ∙ all_relinked-permuted c.args.changes.now _ c.sort_changes.ensures.permutation c.requires.changes.once (database_of c.args.rows.now.items)
 
 pub merge-requires-clause-short : goal.merge-requires-clause-short
 merge-requires-clause-short c = rw c.deref-3.ensures.value (omega (arith, length_permutation _ _ c.sort_changes.ensures.permutation, c.requires.short))
@@ -27,7 +27,7 @@ merge-requires-clause-known c = rw c.deref-3.ensures.value (All-permutation (Has
 pub returns-clause-rows : goal.returns-clause-rows
 returns-clause-rows c =
     let old = c.requires.rows in
-    let made = rw (c.deref.ensures.value, c.deref-3.ensures.value) at c.merge.ensures.changed ∙ after_changes-permuted c.args.changes.now _ c.sort_changes.ensures.permutation c.requires.changes.once (database_of c.args.rows.now.items) in
+    let made = rw (c.deref.ensures.value, c.deref-3.ensures.value) at c.merge.ensures.changed ∙ all_relinked-permuted c.args.changes.now _ c.sort_changes.ensures.permutation c.requires.changes.once (database_of c.args.rows.now.items) in
     let by_key = c.merge.ensures.by_key in
     let ends = c.merge.ensures.ends in
     let listed = rows_listed_after c.args.routers.now _ c.merge.new.merged.items _ c.args.changes.now old.column by_key made c.requires.changes.known in

@@ -1,0 +1,117 @@
+//! The marks of routers without transit, which rise, and how changes change them.
+ghost use Rattle.std.specs.Prelude.{count_by, ◌≡◌, ◌+◌, ◌<◌, ◌≤◌, ◌↔◌, IsTrue, length, vec_len};
+ghost use Rattle.std.specs.Vec.{vec_capacity};
+ghost use Rattle.std.specs.FinSet as set;
+ghost use Rattle.cspf_db.specs.Changes.{marks_after};
+ghost use Rattle.cspf_db.specs.Refusals.{AreOnceEach};
+ghost use Rattle.cspf_db.specs.Tables.MarkChanges.{all_marked, adds_mark, removes_mark};
+ghost use Rattle.cspf_db.specs.Tables.Rows.{AreRising, marks_in};
+ghost use Rattle.cspf_db.specs.declared.limits.TheConstants.{MOST_CHANGES, MOST_MARKS, ROOM_FOR_MARKS};
+
+use crate::Change;
+use crate::limits::MOST_MARKS;
+use crate::table::insertion::insert_within;
+use crate::table::router_list::search;
+use cspf_addr::Addr;
+
+/// Whether the router is marked.
+pub fn is_marked(marks: &[Addr], router: Addr) -> bool
+    requires { AreRising marks.now }
+    ensures { result ≡ set.contains (marks_in marks.now) router }
+{
+    search(marks, router).is_ok()
+}
+
+/// Whether the change marks a router that isn't marked.
+fn adds_mark(marks: &[Addr], change: &Change) -> bool
+    requires { AreRising marks.now }
+    ensures { result ≡ adds_mark (marks_in marks.now) change.now }
+{
+    match change {
+        Change::Node { router, transit } => !*transit && !is_marked(marks, *router),
+        _ => false,
+    }
+}
+
+/// Whether the change takes the mark of a router away that is marked.
+fn removes_mark(marks: &[Addr], change: &Change) -> bool
+    requires { AreRising marks.now }
+    ensures { result ≡ removes_mark (marks_in marks.now) change.now }
+{
+    match change {
+        Change::Node { router, transit } => *transit && is_marked(marks, *router),
+        _ => false,
+    }
+}
+
+/// How many of the changes mark a router that isn't marked.
+fn count_added(marks: &[Addr], changes: &[Change]) -> usize
+    requires { AreRising marks.now }
+    ensures { result ≡ count_by (adds_mark (marks_in marks.now)) changes.now }
+{
+    changes
+        .iter()
+        .filter(|change| adds_mark(marks, change))
+        .count()
+}
+
+/// How many of the changes take a mark away that is there.
+fn count_removed(marks: &[Addr], changes: &[Change]) -> usize
+    requires { AreRising marks.now }
+    ensures { result ≡ count_by (removes_mark (marks_in marks.now)) changes.now }
+{
+    changes
+        .iter()
+        .filter(|change| removes_mark(marks, change))
+        .count()
+}
+
+/// Whether there are more than 1,024 marks after the changes.
+pub fn has_too_many_marks(marks: &[Addr], changes: &[Change]) -> bool
+    requires rising { AreRising marks.now }
+    requires most { length marks.now ≤ MOST_MARKS }
+    requires short { length changes.now ≤ MOST_CHANGES }
+    requires once { AreOnceEach changes.now }
+    ensures { IsTrue result ↔ MOST_MARKS < set.len (all_marked (marks_in marks.now) changes.now) }
+{
+    let after = marks.len() + count_added(marks, changes) - count_removed(marks, changes);
+    after > MOST_MARKS
+}
+
+/// Marks the router, or takes its mark away. There is room, so this takes no memory.
+fn set_mark(marks: &mut Vec<Addr>, router: Addr, transit: bool)
+    requires rising { AreRising marks.old.items }
+    requires room { vec_len marks.old < vec_capacity marks.old }
+    ensures marked { marks_in marks.new.items ≡ marks_after (marks_in marks.old.items) router transit }
+    ensures rising { AreRising marks.new.items }
+    ensures longer { vec_len marks.new ≤ vec_len marks.old + 1 }
+    ensures capacity { vec_capacity marks.old ≤ vec_capacity marks.new }
+{
+    match search(marks, router) {
+        Ok(at) => {
+            if transit {
+                let _ = marks.remove(at);
+            }
+        }
+        Err(at) => {
+            if !transit {
+                insert_within(marks, at, router);
+            }
+        }
+    }
+}
+
+/// Makes the changes of marks among the changes. There is room, so this takes no memory.
+pub fn change_marks(marks: &mut Vec<Addr>, changes: &[Change])
+    requires rising { AreRising marks.old.items }
+    requires room { vec_len marks.old + length changes.now ≤ vec_capacity marks.old }
+    ensures marked { marks_in marks.new.items ≡ all_marked (marks_in marks.old.items) changes.now }
+    ensures rising { AreRising marks.new.items }
+    ensures capacity { vec_capacity marks.old ≤ vec_capacity marks.new }
+{
+    for change in changes {
+        if let Change::Node { router, transit } = change {
+            set_mark(marks, *router, *transit);
+        }
+    }
+}

@@ -1,0 +1,23 @@
+ghost use Rattle.std.specs.Prelude.{◌<◌, ◌↔◌, IsTrue, length, slice_index};
+ghost use Rattle.cspf_db.specs.Index.{router_list};
+ghost use Rattle.cspf_db.specs.Admissible.{MayLeave};
+
+use cspf_addr::Addr;
+use cspf_db::Table;
+
+/// Whether a walk with so many links that has come to the router may go on from there: where the router
+/// has transit, or where the walk begins there (RFC 6987).
+pub fn may_leave(table: &Table, router: Addr, links_so_far: u32) -> bool
+    ensures { IsTrue result ↔ MayLeave table.now router links_so_far }
+{
+    links_so_far == 0 || table.transit(router)
+}
+
+/// The same as `may_leave`, of the router at an index of `Table::routers`.
+pub fn may_leave_at(table: &Table, place: usize, links_so_far: u32) -> bool
+    requires { place < length (router_list table.now) }
+    ensures { IsTrue result
+        ↔ MayLeave table.now (slice_index (router_list table.now) place) links_so_far }
+{
+    links_so_far == 0 || table.transit_at(place)
+}
