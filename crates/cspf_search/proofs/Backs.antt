@@ -1,5 +1,5 @@
 -- What a link or a turn leads to from a node, and the way back along parents.
-use Rattle.std.proofs.Common.{◌≡◌, ℕ, zero, suc, ◌+◌, ◌^◌, ◌<◌, ◌≤◌, Some, None, IsSome, List, [], ◌∷◌, ◌++◌, length, slice_get, slice_index_or, refl, sym, ap, subst, ◌∙◌, arith}
+use Rattle.std.proofs.Common.{◌≡◌, ℕ, zero, suc, ◌+◌, ◌^◌, ◌<◌, ◌≤◌, ◌↔◌, Some, None, IsSome, List, [], ◌∷◌, ◌++◌, length, slice_get, slice_index_or, refl, sym, ap, subst, ◌∙◌, arith}
 use Rattle.std.specs.Ordering.{nat_cmp, ordering_then, is_gt}
 use Rattle.std.specs.declared.cmp.Ordering.{Ordering}
 use Rattle.std.proofs.lemmas.Cmp.{nat_list_cmp_total, tied_itself}
@@ -8,7 +8,7 @@ use Rattle.std.proofs.lemmas.Option.{get_or_from_slice_get, same_Some}
 use Rattle.cspf_db.specs.declared.link.Link.{Link}
 use Rattle.cspf_db.specs.declared.request.Request.{Request}
 use Rattle.cspf_db.specs.Database.{Database}
-use Rattle.cspf_db.specs.Admissible.{IsUsable}
+use Rattle.cspf_db.specs.Admissible.{IsUsable, MayLeave}
 use Rattle.cspf_db.specs.Targets.{IsTarget, IsInside}
 use Rattle.cspf_db.specs.Walks.{cost_of, locals_of}
 use Rattle.cspf_search.specs.declared.arena.Node.{Node}
@@ -18,6 +18,12 @@ use Rattle.cspf_search.specs.Arena.{walk_with, walk_at, walks, walk_of, index_of
 use Rattle.cspf_search.specs.Frontier.{node_by}
 use Rattle.cspf_search.specs.Rounds.{CrossesBy, Turns, IsFirstOf}
 use Rattle.cspf_search.proofs.Orders.{states_total, cost_of-push, locals_cmp-last, then_assoc}
+
+-- a node tells how many links its walk has, and so whether that may leave a router
+pub leaves_told : (d : Database) (router : ℕ) (nodes : List Node) → AreNodes nodes → (at : ℕ) → at < length nodes → (e : Node)
+    → MayLeave d router (slice_index_or nodes at e).links ↔ MayLeave d router (length (walk_at (walks nodes) at))
+leaves_told d router nodes are at within e =
+    let links = (are.numbered at e within).links in (subst (λ k. MayLeave d router k) links, subst (λ k. MayLeave d router k) (sym links))
 
 module _ (nodes : List Node) (are : AreNodes nodes) where
   parent_at : (i : ℕ) (d : Node) → i < length nodes → (slice_index_or nodes i d).parent < length nodes
@@ -48,14 +54,15 @@ module _ (d : Database) (q : Request) (nodes : List Node) (are : AreNodes nodes)
       };
     }
 
-    -- a usable link inside the leg to an open state crosses, and nothing else does by that link
-    pub by_first : l.from ≡ from.router → IsUsable d q l → IsInside d q from.leg l.to → index_of nodes (record { leg = from.leg; router = l.to }) ≡ None
+    -- a usable link inside the leg to an open state crosses where the walk may leave its router, and
+    -- nothing else does by that link
+    pub by_first : l.from ≡ from.router → IsUsable d q l → MayLeave d l.from (length (walk_at (walks nodes) at)) → IsInside d q from.leg l.to → index_of nodes (record { leg = from.leg; router = l.to }) ≡ None
         → IsFirstOf nodes (CrossesBy d q nodes at l) (node_by at from (Some l))
-    by_first runs usable inside left =
+    by_first runs usable leaves inside left =
         let me : ℕ × List Link = (from.leg, walk_at (walks nodes) at ++ (l ∷ [])) in
         record {
           next = by_next;
-          passes = record { node = from; there = there; runs = runs; usable = usable; inside = inside; walk = refl; state = refl; still_open = left };
+          passes = record { node = from; there = there; runs = runs; usable = usable; leaves = leaves; inside = inside; walk = refl; state = refl; still_open = left };
           first = λ w t x.
               let same : from ≡ x.node = same_Some from x.node (sym there ∙ x.there) in
               let whole : (t.leg, w) ≡ me = λ i. ((ap (λ (s : State). s.leg) x.state ∙ ap (λ (n : Node). n.leg) (sym same)) i, x.walk i) in

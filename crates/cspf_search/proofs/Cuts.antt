@@ -1,12 +1,12 @@
 -- A walk is a route exactly where it reaches the end state.
-use Rattle.std.proofs.Common.{◌≡◌, inl, inr, ℕ, suc, ◌+◌, ◌≤◌, List, [], ◌∷◌, ◌++◌, length, refl, sym, ap, subst, arith, add-one, append_assoc, append-nil}
+use Rattle.std.proofs.Common.{◌≡◌, inl, inr, ℕ, suc, ◌+◌, ◌≤◌, List, [], ◌∷◌, ◌++◌, length, map, refl, sym, ap, subst, arith, add-one, append_assoc, append-nil}
 use Rattle.std.specs.List.{AllByRecursion, flat_map}
 use Rattle.std.proofs.lemmas.Option.{slice_get_past}
 use Rattle.cspf_db.specs.declared.link.Link.{Link}
 use Rattle.cspf_db.specs.declared.request.Request.{Request}
-use Rattle.cspf_db.specs.Database.{Database}
-use Rattle.cspf_db.specs.Admissible.{IsAdmissible}
-use Rattle.cspf_db.specs.Walks.{AreJoined, IsWalk, end_of, routers_of}
+use Rattle.cspf_db.specs.Database.{Database, HasTransit}
+use Rattle.cspf_db.specs.Admissible.{IsAdmissible, MayLeave}
+use Rattle.cspf_db.specs.Walks.{AreJoined, IsWalk, end_of, routers_of, routers_passed}
 use Rattle.cspf_db.specs.Targets.{IsTarget, IsTargetOf, IsInside}
 use Rattle.cspf_db.specs.Legs.{AreLegs, IsCutInto}
 use Rattle.cspf_db.specs.Routes.{IsRoute}
@@ -32,14 +32,49 @@ AreJoined-append_parts : (a : ℕ) (v w : List Link) → AreJoined a (v ++ w) �
 AreJoined-append_parts a [] w joined = (tt, joined)
 AreJoined-append_parts a (l ∷ v) w joined = let parts = AreJoined-append_parts l.to v w joined.1 in ((joined.0, parts.0), parts.1)
 
+module _ (d : Database) where
+  -- one link more that begins at a router with transit
+  froms_push : (w : List Link) (l : Link) → AllByRecursion (HasTransit d) (map (λ m. m.from) w) → HasTransit d l.from
+      → AllByRecursion (HasTransit d) (map (λ m. m.from) (w ++ (l ∷ [])))
+  froms_push [] l all here = (here, tt)
+  froms_push (m ∷ w) l all here = (all.0, froms_push w l all.1 here)
+
+  -- with a link more that may leave its router, a walk still passes through routers with transit alone
+  passed_push : (w : List Link) (l : Link) → AllByRecursion (HasTransit d) (routers_passed w) → MayLeave d l.from (length w)
+      → AllByRecursion (HasTransit d) (routers_passed (w ++ (l ∷ [])))
+  passed_push [] l all leaves = tt
+  passed_push (m ∷ w) l all (inl transit) = froms_push w l all transit
+  passed_push (m ∷ w) l all (inr none) = absurd (omega (arith, none))
+
+  -- the first of some links begin at routers where all of them do
+  froms_before : (v w : List Link) → AllByRecursion (HasTransit d) (map (λ m. m.from) (v ++ w)) → AllByRecursion (HasTransit d) (map (λ m. m.from) v)
+  froms_before [] w all = tt
+  froms_before (m ∷ v) w all = (all.0, froms_before v w all.1)
+
+  -- the first links of a walk pass through no others than all of it
+  passed_before : (v w : List Link) → AllByRecursion (HasTransit d) (routers_passed (v ++ w)) → AllByRecursion (HasTransit d) (routers_passed v)
+  passed_before [] w all = tt
+  passed_before (m ∷ v) w all = froms_before v w all
+
+  -- one of some links begins at a router with transit where all of them do
+  froms_at : (v : List Link) (l : Link) (w : List Link) → AllByRecursion (HasTransit d) (map (λ m. m.from) (v ++ (l ∷ w))) → HasTransit d l.from
+  froms_at [] l w all = all.0
+  froms_at (m ∷ v) l w all = froms_at v l w all.1
+
+  -- each link of a walk leaves a router that the links before it may leave
+  leaves_at : (v : List Link) (l : Link) (w : List Link) → AllByRecursion (HasTransit d) (routers_passed (v ++ (l ∷ w))) → MayLeave d l.from (length v)
+  leaves_at [] l w all = inr refl
+  leaves_at (m ∷ v) l w all = inl (froms_at v l w all)
+
 module _ (d : Database) (q : Request) where
   pub reached_walk : (w : List Link) (s : State) → Reaches d q w s → IsWalk d q w × (end_of q.from w ≡ s.router)
-  reached_walk w s starts = (record { links = tt; joined = tt }, refl)
-  reached_walk w s (steps {v} r (by_link {leg = k} l a inside)) =
+  reached_walk w s starts = (record { links = tt; joined = tt; transit = tt }, refl)
+  reached_walk w s (steps {v} r (by_link {leg = k} l a inside leaves)) =
       let before = reached_walk v (record { leg = k; router = l.from }) r in (
         record {
           links = All-push (IsAdmissible d q) v l before.0.links a;
           joined = AreJoined-push q.from v l before.0.joined (sym before.1);
+          transit = passed_push d v l before.0.transit leaves;
         },
         end_of-push q.from v l,
       )
@@ -48,20 +83,20 @@ module _ (d : Database) (q : Request) where
   -- a reached state is in a leg of the request
   pub reached_leg : (w : List Link) (s : State) → Reaches d q w s → (1 ≤ s.leg) × (s.leg ≤ length q.hops + 1)
   reached_leg w s starts = (omega arith, omega arith)
-  reached_leg w s (steps r (by_link l a inside)) = reached_leg _ _ r
+  reached_leg w s (steps r (by_link l a inside leaves)) = reached_leg _ _ r
   reached_leg w s (steps r (by_turn within target)) = (omega arith, omega arith)
 
   -- the router of a reached state is inside its leg
   reached_inside : (w : List Link) (s : State) → Reaches d q w s → IsInside d q s.leg s.router
   reached_inside w s starts = inr (inl refl)
-  reached_inside w s (steps r (by_link l a inside)) = inside
+  reached_inside w s (steps r (by_link l a inside leaves)) = inside
   reached_inside w s (steps r (by_turn within target)) = inr (inl target)
 
   -- a walk that reaches a state is cut into legs together with any legs that are left from there
   reached_cut : (w : List Link) (s : State) → Reaches d q w s → (leg : List Link) (rest : List (List Link)) → AreLegs d q s.leg s.router (leg ∷ rest)
       → s.leg + length rest ≡ suc (length q.hops) → (legs : List (List Link)) × IsCutInto d q (w ++ (leg ++ flat_map (λ links. links) rest)) legs
   reached_cut w s starts leg rest are count = (leg ∷ rest, record { number = omega arith; whole = refl; each = are })
-  reached_cut w s (steps r (by_link l a inside)) leg rest are count =
+  reached_cut w s (steps r (by_link l a inside leaves)) leg rest are count =
       let longer = reached_cut _ _ r (l ∷ leg) rest (record { arrives = are.0.arrives; within = (reached_inside _ _ r, are.0.within) }, are.1) count in
       (longer.0, rw append_assoc longer.1)
   reached_cut w s (steps r (by_turn within target)) leg rest are count =
@@ -69,31 +104,35 @@ module _ (d : Database) (q : Request) where
 
   -- links that follow inside a leg lead on in it
   along : (k : ℕ) (a : ℕ) (links v : List Link) → Reaches d q v (record { leg = k; router = a }) → AllByRecursion (IsAdmissible d q) links → AreJoined a links
-      → AllByRecursion (IsInside d q k) (routers_of a links) → Reaches d q (v ++ links) (record { leg = k; router = end_of a links })
-  along k a [] v r all joined within = rw (append-nil v) r
-  along k a (l ∷ ls) v r all joined within =
+      → AllByRecursion (IsInside d q k) (routers_of a links) → AllByRecursion (HasTransit d) (routers_passed (v ++ links)) → Reaches d q (v ++ links) (record { leg = k; router = end_of a links })
+  along k a [] v r all joined within passed = rw (append-nil v) r
+  along k a (l ∷ ls) v r all joined within passed =
       let here : Reaches d q v (record { leg = k; router = l.from }) = rw joined.0 r in
-      rw (← append_assoc v (l ∷ []) ls) (along k l.to ls (v ++ (l ∷ [])) (steps here (by_link l all.0 within.1.0)) all.1 joined.1 within.1)
+      rw (← append_assoc v (l ∷ []) ls) (along k l.to ls (v ++ (l ∷ [])) (steps here (by_link l all.0 within.1.0 (leaves_at d v l ls passed))) all.1 joined.1 within.1
+      (rw append_assoc passed))
 
   -- so do all legs that are left, up to a target of the last one
   through : (k : ℕ) (a : ℕ) (first : List Link) (rest : List (List Link)) (v : List Link) → Reaches d q v (record { leg = k; router = a })
       → k + length rest ≡ suc (length q.hops) → AreLegs d q k a (first ∷ rest)
       → AllByRecursion (IsAdmissible d q) (first ++ flat_map (λ links. links) rest) → AreJoined a (first ++ flat_map (λ links. links) rest)
+      → AllByRecursion (HasTransit d) (routers_passed (v ++ (first ++ flat_map (λ links. links) rest)))
       → (b : ℕ) × IsTarget d q (suc (length q.hops)) b × Reaches d q (v ++ (first ++ flat_map (λ links. links) rest)) (record { leg = suc (length q.hops); router = b })
-  through k a first [] v r count legs all joined =
+  through k a first [] v r count legs all joined passed =
       let here =
-      along k a first v r (All-append_parts (IsAdmissible d q) first [] all).0 (AreJoined-append_parts a first [] joined).0 legs.0.within in
+      along k a first v r (All-append_parts (IsAdmissible d q) first [] all).0 (AreJoined-append_parts a first [] joined).0 legs.0.within
+      (rw append-nil at passed) in
       let last : k ≡ suc (length q.hops) = omega arith in (
         end_of a first,
         subst (λ i. IsTarget d q i (end_of a first)) last legs.0.arrives,
         rw append-nil (subst (λ i. Reaches d q (v ++ first) (record { leg = i; router = end_of a first })) last here),
       )
-  through k a first (second ∷ rest) v r count legs all joined =
+  through k a first (second ∷ rest) v r count legs all joined passed =
       let alls = All-append_parts (IsAdmissible d q) first (second ++ flat_map (λ links. links) rest) all in
       let joins = AreJoined-append_parts a first (second ++ flat_map (λ links. links) rest) joined in
-      let here = along k a first v r alls.0 joins.0 legs.0.within in
+      let all_passed = rw (← append_assoc v first (second ++ flat_map (λ links. links) rest)) at passed in
+      let here = along k a first v r alls.0 joins.0 legs.0.within (passed_before d (v ++ first) (second ++ flat_map (λ links. links) rest) all_passed) in
       let after =
-      through (suc k) (end_of a first) second rest (v ++ first) (steps here (by_turn (omega arith) legs.0.arrives)) (omega arith) legs.1 alls.1 joins.1 in
+      through (suc k) (end_of a first) second rest (v ++ first) (steps here (by_turn (omega arith) legs.0.arrives)) (omega arith) legs.1 alls.1 joins.1 all_passed in
       (after.0, after.1, rw append_assoc at after.2)
 
   cut_reaches : (w : List Link) (legs : List (List Link)) → IsWalk d q w → IsCutInto d q w legs
@@ -103,7 +142,7 @@ module _ (d : Database) (q : Request) where
       let whole = cut.whole in
       let all =
       through 1 q.from first rest [] starts (let number = cut.number in omega arith) cut.each (subst (AllByRecursion (IsAdmissible d q)) (sym whole) walk.links)
-      (subst (AreJoined q.from) (sym whole) walk.joined) in
+      (subst (AreJoined q.from) (sym whole) walk.joined) (subst (λ x. AllByRecursion (HasTransit d) (routers_passed x)) (sym whole) walk.transit) in
       (all.0, all.1, subst (λ x. Reaches d q x (record { leg = suc (length q.hops); router = all.0 })) whole all.2)
 
   -- the leg behind the last hop has one target, the tail-end

@@ -16,7 +16,7 @@ use Rattle.cspf_search.specs.declared.arena.Node.{Node}
 use Rattle.cspf_search.specs.States.{State}
 use Rattle.cspf_search.specs.Arena.{walk_at, walks, index_of}
 use Rattle.cspf_search.specs.Rounds.{CrossesBy, Turns, CrossesFrom, CrossesBelow}
-use Rattle.cspf_search.specs.Frontier.{state_at, IsStateIndex, nowhere, IsNodeAt, IsEnd, CrossesUpTo}
+use Rattle.cspf_search.specs.Frontier.{state_at, IsStateIndex, nowhere, IsNodeAt, IsEnd, NodeMayLeave, CrossesUpTo}
 use Rattle.cspf_search.proofs.Scans.{kept_link, new_link, either_link}
 
 -- what is kept of a list
@@ -145,13 +145,14 @@ module _ (d : Database) (q : Request) (nodes : List Node) (at state : ℕ) (is :
         let same : x.node ≡ slice_index_or nodes at nowhere = same_Some x.node (slice_index_or nodes at nowhere) (sym x.there ∙ there) in
         (x.state ∙ ap (λ (n : Node). record { leg = n.leg; router = l.to }) same ∙ link_state, x.walk)
 
-    pub link_passes : IsUsable d q l → IsInside d q (state / 1024 + 1) l.to → index_of nodes (state_at d (state - state % 1024 + end)) ≡ None
+    pub link_passes : IsUsable d q l → NodeMayLeave d nodes at state → IsInside d q (state / 1024 + 1) l.to → index_of nodes (state_at d (state - state % 1024 + end)) ≡ None
         → CrossesBy d q nodes at l (walk_at (walks nodes) at ++ (l ∷ [])) (state_at d (state - state % 1024 + end))
-    link_passes usable inside left = record {
+    link_passes usable leaves inside left = record {
       node = slice_index_or nodes at nowhere;
       there = there;
       runs = runs_from d (state % 1024) row l listed ∙ sym router;
       usable = usable;
+      leaves = rw (runs_from d (state % 1024) row l listed) leaves;
       inside = rw leg inside;
       walk = refl;
       state = sym link_state;
@@ -182,6 +183,35 @@ module _ (d : Database) (q : Request) (nodes : List Node) (at state : ℕ) (is :
     link_cases w t (inl x) = inl (inl x)
     link_cases w t (inr x) =
         elim (either_link d q nodes (links_from_index d (state % 1024)) at row row_within l row_is w t x) [ inl old ↦ inl (inr old) | inr new ↦ inr new ]
+
+  -- no link, where the walk may not leave its router
+
+  -- then no link crosses
+  no_link_crosses : (NodeMayLeave d nodes at state → ⊥) → (l : Link) (w : List Link) (t : State) → CrossesBy d q nodes at l w t → ⊥
+  no_link_crosses never l w t x =
+      let same : x.node ≡ slice_index_or nodes at nowhere = same_Some x.node (slice_index_or nodes at nowhere) (sym x.there ∙ there) in
+      let runs : l.from ≡ slice_index (router_list d) (state % 1024) = x.runs ∙ ap (λ (n : Node). n.router) same ∙ router in
+      never (rw runs at x.leaves)
+
+  -- what leads on up to the turn does so from the first nodes and this one
+  pub turn_below : (w : List Link) (t : State) → CrossesUpTo d q nodes at (state % 1024) 0 w t → CrossesBelow d q nodes (links_of d) (at + 1) w t
+  turn_below w t (inl x) = (x.0, omega (arith, x.1), x.2)
+  turn_below w t (inr (inl turn)) = (at, omega arith, inl turn)
+  turn_below w t (inr (inr x)) = absurd (no_row 0 w t x)
+
+  -- and nothing else does
+  pub below_turn : (NodeMayLeave d nodes at state → ⊥) → (w : List Link) (t : State) → CrossesBelow d q nodes (links_of d) (at + 1) w t
+      → CrossesUpTo d q nodes at (state % 1024) 0 w t
+  below_turn never w t x =
+      elim (cases_lt x.0 at) [
+        | inl lt ↦ inl (x.0, lt, x.2)
+        | inr ge ↦
+            let e : x.0 ≡ at = omega (arith, x.1) in
+            elim (subst (λ k. CrossesFrom d q nodes (links_of d) k w t) e x.2) [
+              | inl turn ↦ inr (inl turn)
+              | inr link ↦ absurd (no_link_crosses never link.0 w t link.2)
+            ]
+      ]
 
   -- all links
 

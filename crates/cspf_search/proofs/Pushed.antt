@@ -7,6 +7,7 @@ use Rattle.std.proofs.lemmas.Option.{slice_get-get_or}
 use Rattle.cspf_db.specs.declared.link.Link.{Link}
 use Rattle.cspf_db.specs.declared.request.Request.{Request}
 use Rattle.cspf_db.specs.Database.{Database}
+use Rattle.cspf_db.specs.Admissible.{MayLeave}
 use Rattle.cspf_db.specs.Walks.{cost_of}
 use Rattle.cspf_db.specs.Index.{links_of}
 use Rattle.cspf_search.specs.declared.arena.Node.{Node}
@@ -85,6 +86,7 @@ module _ (nodes : List Node) (n : Node) (before : AreApart nodes) (apart : AreAp
         there = sym (get_old at h) ∙ by.2.there;
         runs = by.2.runs;
         usable = by.2.usable;
+        leaves = subst (λ v. MayLeave d by.0.from (length v)) (walk_at-old nodes n at h) by.2.leaves;
         inside = by.2.inside;
         walk = by.2.walk ∙ ap (λ v. v ++ (by.0 ∷ [])) (walk_at-old nodes n at h);
         state = by.2.state;
@@ -110,6 +112,7 @@ module _ (nodes : List Node) (n : Node) (before : AreApart nodes) (apart : AreAp
         there = get_old at h ∙ by.2.there;
         runs = by.2.runs;
         usable = by.2.usable;
+        leaves = subst (λ v. MayLeave d by.0.from (length v)) (sym (walk_at-old nodes n at h)) by.2.leaves;
         inside = by.2.inside;
         walk = by.2.walk ∙ ap (λ v. v ++ (by.0 ∷ [])) (sym (walk_at-old nodes n at h));
         state = by.2.state;

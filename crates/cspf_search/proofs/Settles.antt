@@ -1,17 +1,21 @@
 -- What is settled by first crossings is least.
-use Rattle.std.proofs.Common.{◌≡◌, ◌⊎◌, inl, inr, ℕ, ◌<◌, false, Some, None, List, [], ◌∷◌, ◌++◌, refl, sym, ap, subst, ◌∙◌, arith}
-use Rattle.std.specs.Ordering.{is_gt, ordering_reverse}
+use Rattle.std.proofs.Common.{◌≡◌, ◌⊎◌, inl, inr, ℕ, ◌<◌, true, false, Some, None, List, [], ◌∷◌, ◌++◌, length, refl, sym, ap, subst, ◌∙◌, arith}
+use Rattle.std.specs.Ordering.{nat_cmp, is_gt, ordering_reverse, ordering_then}
+use Rattle.std.specs.declared.cmp.Ordering.{Ordering}
 use Rattle.std.specs.declared.cmp.Ordering.TheVariants.{Less, Equal, Greater}
 use Rattle.std.proofs.lemmas.Bool.{cases_lt}
+use Rattle.std.proofs.lemmas.Bool.Decides.{nat_tests}
 use Rattle.std.proofs.lemmas.Cmp.{upto}
 use Rattle.cspf_db.specs.declared.link.Link.{Link}
 use Rattle.cspf_db.specs.declared.request.Request.{Request}
 use Rattle.cspf_db.specs.Database.{Database}
+use Rattle.cspf_db.specs.Admissible.{MayLeave}
 use Rattle.cspf_db.specs.Targets.{IsTarget}
+use Rattle.cspf_db.specs.Walks.{cost_of}
 use Rattle.cspf_db.specs.Routes.{IsRoute}
 use Rattle.cspf_db.specs.Best.{IsBestRoute}
 use Rattle.cspf_search.specs.States.{State, IsStep, by_link, by_turn, Reaches, starts, steps, end_state}
-use Rattle.cspf_search.specs.Settled.{Labels, IsNoLater, potential_cmp, RanksNoLater, IsConsistent, AreSettled, Crosses, IsClosed, IsFirstCrossing, IsStuck}
+use Rattle.cspf_search.specs.Settled.{Labels, IsNoLater, potential_cmp, RanksNoLater, IsConsistent, AreSettled, Crosses, IsClosed, IsFirstCrossing, IsStuck, locals_cmp}
 use Rattle.cspf_search.proofs.Orders.{walks_total, potentials_total, walk_cmp-push, potential_cmp-push, potential_cmp-turn, walk_from_less, rank_from_walk}
 use Rattle.cspf_search.proofs.Cuts.{reached_leg, route_reaches, reaches_route}
 
@@ -33,11 +37,26 @@ before_less potential a b c h less =
       | Greater ↦ λ e g. cc
     ] refl h
 
+-- a walk with links isn't before the one with none
+some_after : (cost count : ℕ) (o : Ordering) → 0 < count → is_gt (ordering_then (nat_cmp cost 0) (ordering_then (nat_cmp count 0) o)) ≡ true
+some_after cost count o some = grind (arith, nat_tests)
+
+-- a walk that is no later than one with no links has none
+none_no_later : (w : List Link) → IsNoLater w [] → length w ≡ 0
+none_no_later [] h = refl
+none_no_later (l ∷ w) h = absurd (let after = some_after (cost_of (l ∷ w)) (length (l ∷ w)) (locals_cmp (l ∷ w) []) (omega arith) in cc)
+
+-- where a walk may leave a router, so may one that is no later
+leaves_no_later : (d : Database) (router : ℕ) (v w : List Link) → MayLeave d router (length v) → IsNoLater w v → MayLeave d router (length w)
+leaves_no_later d router v w (inl transit) h = inl transit
+leaves_no_later d router [] w (inr none) h = inr (none_no_later w h)
+leaves_no_later d router (l ∷ v) w (inr none) h = absurd (omega (arith, none))
+
 module _ (d : Database) (q : Request) where
   -- a step goes up in rank
   step_grows : (potential : State → ℕ) → IsConsistent d q potential → (v x : List Link) (s t : State) → Reaches d q v s → IsStep d q v s x t
       → potential_cmp potential (s, v) (t, x) ≡ Less
-  step_grows potential up v x s t r (by_link {leg = k} l a inside) =
+  step_grows potential up v x s t r (by_link {leg = k} l a inside leaves) =
       let leg = reached_leg d q v (record { leg = k; router = l.from }) r in
       potential_cmp-push potential (record { leg = k; router = l.from }) (record { leg = k; router = l.to }) v l (up.links k l leg.0 leg.1 a)
   step_grows potential up v x s t r (by_turn {leg = k} {router = router} within target) =
@@ -46,7 +65,7 @@ module _ (d : Database) (q : Request) where
   -- what leads on into a state behind the closed legs, from a state that is open, is behind them
   step_behind : (labels : Labels) (closed : ℕ) → IsClosed d q labels closed → (v x : List Link) (s t : State) → Reaches d q v s → IsStep d q v s x t
       → labels s ≡ None → closed < t.leg → closed < s.leg
-  step_behind labels closed shut v x s t r (by_link {leg = k} l a inside) left h = h
+  step_behind labels closed shut v x s t r (by_link {leg = k} l a inside leaves) left h = h
   step_behind labels closed shut v x s t r (by_turn {leg = k} {router = router} within target) left h =
       let leg = reached_leg d q v (record { leg = k; router = router }) r in
       elim (cases_lt closed k) [
@@ -60,7 +79,7 @@ module _ (d : Database) (q : Request) where
   -- the same step from a walk that is no later ends in a walk that is no later
   step_no_later : (v x : List Link) (s t : State) → IsStep d q v s x t → (w : List Link) → IsNoLater w v
       → (y : List Link) × IsStep d q w s y t × IsNoLater y x
-  step_no_later v x s t (by_link {leg = k} l a inside) w h = (w ++ (l ∷ []), by_link l a inside, rw (walk_cmp-push w v l) h)
+  step_no_later v x s t (by_link {leg = k} l a inside leaves) w h = (w ++ (l ∷ []), by_link l a inside (leaves_no_later d l.from v w leaves h), rw (walk_cmp-push w v l) h)
   step_no_later v x s t (by_turn within target) w h = (w, by_turn within target, h)
 
   module _ (labels : Labels) (settled : AreSettled d q labels) where

@@ -19,7 +19,7 @@ use Rattle.cspf_search.specs.States.{State}
 use Rattle.cspf_search.specs.Arena.{walk_at, walks, walk_of, state_of, index_of, AreNodes, IsNext}
 use Rattle.cspf_search.specs.Rounds.{CrossesBy, Turns, CrossesBelow}
 use Rattle.cspf_search.specs.Source.{IsEdge, IsSource}
-use Rattle.cspf_search.specs.Frontier.{state_at, IsStateIndex, AreListed, nowhere, node_by, node_of, rank_of, IsNodeAt, IsEnd, IsOffer, AreTied, StaysAt, GoesTo, Key, label_at, lift, AreLabels, IsRole, CrossesUpTo}
+use Rattle.cspf_search.specs.Frontier.{state_at, IsStateIndex, AreListed, nowhere, node_by, node_of, rank_of, IsNodeAt, IsEnd, NodeMayLeave, IsOffer, AreTied, StaysAt, GoesTo, Key, label_at, lift, AreLabels, IsRole, CrossesUpTo}
 use Rattle.cspf_search.proofs.Ranks.{lift_small}
 use Rattle.cspf_search.proofs.Backs.{turned_next, by_next}
 use Rattle.cspf_search.proofs.Offered.{labels_stay, labels_offered, labels_same, lost_by_rank, tied_label, left_open, IsLost}
@@ -223,13 +223,13 @@ module _ (source : Source) (of : IsSource source) (labels : List Label) (keys : 
           label_tied label (Some l) parent place there_is along link_rank (CrossesUpTo d q nodes at (state % 1024) row) before (state - state % 1024 + end)
           (link_index d q nodes at state is row l here end ends listed.few) (omega (arith, open_leg, before.whole)) tie
 
-      pub link_taken : IsUsable d q l → IsInside d q (state / 1024 + 1) l.to → label.rank ≤ (label_at labels (state - state % 1024 + end)).rank
+      pub link_taken : IsUsable d q l → NodeMayLeave d nodes at state → IsInside d q (state / 1024 + 1) l.to → label.rank ≤ (label_at labels (state - state % 1024 + end)).rank
           → (key : ℕ) (new : List Label) (new_keys : List Key) → key ≡ label.rank + lift goal (state - state % 1024 + end)
           → StaysAt d nodes (state - state % 1024 + end) label labels new keys new_keys ⊎ GoesTo d nodes (state - state % 1024 + end) label key labels new keys new_keys
           → AreLabels d q nodes (CrossesUpTo d q nodes at (state % 1024) (row + 1)) goal new new_keys
-      link_taken usable inside le key new new_keys is_key choice =
+      link_taken usable leaves inside le key new new_keys is_key choice =
           label_taken label (Some l) parent place there_is along link_rank (CrossesUpTo d q nodes at (state % 1024) row) (CrossesBy d q nodes at l) (CrossesUpTo d q nodes at (state % 1024) (row + 1))
           (link_left d q nodes at state is row l here end ends listed.few) (link_right d q nodes at state is row l here end ends listed.few)
           (link_cases d q nodes at state is row l here end ends listed.few) before (state - state % 1024 + end) (link_index d q nodes at state is row l here end ends listed.few)
           (omega (arith, open_leg, before.whole)) (walk_at (walks nodes) at ++ (l ∷ [])) (link_only d q nodes at state is row l here end ends listed.few)
-          (link_state d q nodes at state is row l here end ends listed.few) refl le (link_passes d q nodes at state is row l here end ends listed.few usable inside) key new new_keys is_key choice
+          (link_state d q nodes at state is row l here end ends listed.few) refl le (link_passes d q nodes at state is row l here end ends listed.few usable leaves inside) key new new_keys is_key choice

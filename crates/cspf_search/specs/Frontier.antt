@@ -10,6 +10,7 @@ use Rattle.cspf_search.specs.declared.limits.TheConstants.{COST_WEIGHT}
 use Rattle.cspf_db.specs.declared.link.Link.{Link}
 use Rattle.cspf_db.specs.declared.request.Request.{Request}
 use Rattle.cspf_db.specs.Database.{Database, IsRouterOf}
+use Rattle.cspf_db.specs.Admissible.{MayLeave}
 use Rattle.cspf_db.specs.Targets.{IsTarget, IsInside}
 use Rattle.cspf_db.specs.Walks.{cost_of}
 use Rattle.cspf_db.specs.Index.{router_list, links_of, links_from_index}
@@ -19,7 +20,7 @@ use Rattle.cspf_search.specs.declared.labels.Label.{Label}
 use Rattle.cspf_search.specs.declared.roles.Role.{Role}
 use Rattle.cspf_search.specs.States.{State}
 use Rattle.cspf_search.specs.Settled.{Labels, IsNoLater, IsClosed, locals_cmp}
-use Rattle.cspf_search.specs.Arena.{walk_of, state_of, index_of, IsNext}
+use Rattle.cspf_search.specs.Arena.{walk_at, walks, walk_of, state_of, index_of, IsNext}
 use Rattle.cspf_search.specs.Rounds.{CrossesFrom, CrossesBelow}
 
 -- the state at an index: 1,024 indexes for each leg, and among them the router at its index in
@@ -203,6 +204,11 @@ pub record IsNodeAt (d : Database) (q : Request) (nodes : List Node) (at state :
   pub within : at < length nodes
   pub index : IsStateIndex d q state
   pub there : state_of (slice_index_or nodes at nowhere) ≡ state_at d state
+
+-- the walk of the node at an index may leave the router of a state
+abbrev pub NodeMayLeave : Database → List Node → ℕ → ℕ → Type 0
+NodeMayLeave d nodes at state =
+    MayLeave d (slice_index (router_list d) (state % MOST_ROUTERS)) (length (walk_at (walks nodes) at))
 
 -- the router at an index of the list of routers is where a link ends
 pub record IsEnd (d : Database) (router : ℕ) (place : ℕ) : Type 0 where

@@ -3,7 +3,7 @@ use Rattle.std.specs.Prelude.{ℕ, suc, ◌+◌, ◌≤◌, List, [], ◌∷◌,
 use Rattle.cspf_db.specs.declared.link.Link.{Link}
 use Rattle.cspf_db.specs.declared.request.Request.{Request}
 use Rattle.cspf_db.specs.Database.{Database}
-use Rattle.cspf_db.specs.Admissible.{IsAdmissible}
+use Rattle.cspf_db.specs.Admissible.{IsAdmissible, MayLeave}
 use Rattle.cspf_db.specs.Targets.{IsTarget, IsInside}
 
 -- where a walk stands: in a leg of the request, at a router
@@ -11,10 +11,12 @@ pub record State : Type 0 where
   pub leg : ℕ
   pub router : ℕ
 
--- What leads on from a walk that stands at a state, to a walk and its state: an admissible link to
--- a router inside the leg, or, at a target of the leg to a hop, the turn to the next leg alone.
+-- What leads on from a walk that stands at a state, to a walk and its state: where the walk may leave
+-- its router, an admissible link to a router inside the leg, and, at a target of the leg to a hop, the
+-- turn to the next leg alone.
 pub data IsStep (d : Database) (q : Request) : List Link → State → List Link → State → Type 0 where
   by_link : {walk : List Link} {leg : ℕ} (l : Link) → IsAdmissible d q l → IsInside d q leg l.to
+      → MayLeave d l.from (length walk)
       → IsStep d q walk (record { leg = leg; router = l.from })
       (walk ++ (l ∷ [])) (record { leg = leg; router = l.to })
   by_turn : {walk : List Link} {leg router : ℕ} → leg ≤ length q.hops → IsTarget d q leg router

@@ -4,7 +4,7 @@ ghost use Rattle.std.specs.BinaryHeap.{heap_items, heap_len};
 ghost use Rattle.cspf_db.specs.Index.{links_of, links_from_index};
 ghost use Rattle.cspf_search.specs.Arena.{AreNodes, AreInLegs};
 ghost use Rattle.cspf_search.specs.Rounds.{CrossesBelow};
-ghost use Rattle.cspf_search.specs.Frontier.{AreLabels, AreListed, AreRoles, AreTied, CrossesUpTo, GoesTo, IsEnd, IsNodeAt, IsOffer, IsStateIndex, StaysAt, label_at, nowhere, rank_of};
+ghost use Rattle.cspf_search.specs.Frontier.{AreLabels, AreListed, AreRoles, AreTied, CrossesUpTo, GoesTo, IsEnd, IsNodeAt, IsOffer, IsStateIndex, NodeMayLeave, StaysAt, label_at, nowhere, rank_of};
 ghost use Rattle.cspf_search.specs.Source.{AreBefore, AreUpToRow, IsEdge, IsSource};
 ghost use Rattle.cspf_search.specs.Query.{IsQuery, CrossesBefore};
 
@@ -15,7 +15,7 @@ use crate::labels::{Label, Waiting, node_of, put};
 use crate::limits::COST_WEIGHT;
 use crate::query::Query;
 use cspf_db::{MOST_ROUTERS, NO_LINK, Table};
-use cspf_graph::accepts;
+use cspf_graph::{accepts, may_leave_at};
 use std::alloc::{AllocError, Global};
 use std::collections::BinaryHeap;
 
@@ -109,7 +109,7 @@ fn offer_turn(
     offer(query.table, source.nodes, labels, heap, index, label, key)
 }
 
-/// Offers what a link leads to.
+/// Offers what a link leads to from a node whose walk may leave its router.
 fn offer_link(
     source: Source<'_>,
     edge: Edge<'_>,
@@ -117,6 +117,7 @@ fn offer_link(
     heap: &mut BinaryHeap<Waiting, Global>,
 ) -> Result<(), AllocError>
     requires source { IsSource source }
+    requires leaves { NodeMayLeave source.query.table.now source.nodes.now source.at source.state }
     requires edge { IsEdge source.query.table.now (source.state % MOST_ROUTERS) edge }
     requires before { AreUpToRow source edge.row labels.old (heap_items heap.old) }
     ensures after { OnOk result (AreUpToRow source.entry (edge.entry.row + 1) labels.new (heap_items heap.new)) }
@@ -152,7 +153,8 @@ fn offer_link(
     offer(query.table, source.nodes, labels, heap, index, label, key)
 }
 
-/// Offers all that leads on from the node at an index.
+/// Offers all that leads on from the node at an index: the turn to the next leg, and the links from its
+/// router, if its walk may leave that.
 pub(crate) fn expand(
     query: Query<'_>,
     nodes: &[Node],
@@ -175,7 +177,8 @@ pub(crate) fn expand(
         goal.entry labels.new (heap_items heap.new)) }
     ensures few { OnOk result (heap_len heap.new ≤ heap_len heap.old + 1 + MOST_LINKS) }
 {
-    let rank = nodes[at].cost * COST_WEIGHT + nodes[at].links as u64 + 1;
+    let count = nodes[at].links;
+    let rank = nodes[at].cost * COST_WEIGHT + count as u64 + 1;
     let source = Source {
         query,
         goal,
@@ -185,9 +188,13 @@ pub(crate) fn expand(
         rank,
     };
     offer_turn(source, labels, heap)?;
-    let links = query.table.out_at(state % MOST_ROUTERS);
-    let ends = query.table.ends_at(state % MOST_ROUTERS);
-    let reverses = query.table.reverses_at(state % MOST_ROUTERS);
+    let place = state % MOST_ROUTERS;
+    if !may_leave_at(query.table, place, count as u32) {
+        return Ok(());
+    }
+    let links = query.table.out_at(place);
+    let ends = query.table.ends_at(place);
+    let reverses = query.table.reverses_at(place);
     for row in 0..links.len() {
         let link = &links[row];
         let end = ends[row];

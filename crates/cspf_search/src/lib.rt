@@ -1,5 +1,6 @@
-//! The least route of a request in a table's database. `best`, which searches from a heap, and
-//! `best_by_rounds`, which searches round by round, meet `IsBestAnswer` of `cspf_db`.
+//! The least route of a request in a table's database, which may begin and end at routers that are marked
+//! as without transit, but passes through none. `best`, which searches from a heap, and `best_by_rounds`,
+//! which searches round by round, meet `IsBestAnswer` of `cspf_db`.
 #![tactic(auto)]
 
 mod arena;

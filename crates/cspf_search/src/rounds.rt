@@ -4,7 +4,7 @@ ghost use Rattle.cspf_db.specs.Index.{links_of, links_from_index};
 ghost use Rattle.cspf_search.specs.Settled.{state_cmp};
 ghost use Rattle.cspf_search.specs.Arena.{AreNodes, AreInLegs, IsNext, state_of, index_of, walk_of};
 ghost use Rattle.cspf_search.specs.Rounds.{CrossesBelow, IsFirst, RanksBefore, earlier_of};
-ghost use Rattle.cspf_search.specs.Frontier.{AreListed, AreRoles, CrossesUpTo, IsEnd, IsNodeAt, nowhere, state_at};
+ghost use Rattle.cspf_search.specs.Frontier.{AreListed, AreRoles, CrossesUpTo, IsEnd, IsNodeAt, NodeMayLeave, nowhere, state_at};
 ghost use Rattle.cspf_search.specs.Query.{CrossesBefore, CrossesToRow};
 ghost use Rattle.cspf_search.specs.RoundSteps.{IsLook, IsRound};
 ghost use Rattle.cspf_search.specs.Source.{IsEdge};
@@ -14,7 +14,7 @@ use crate::edge::Edge;
 use crate::forward_star::ForwardStar;
 use crate::query::Query;
 use cspf_db::{Link, MOST_ROUTERS, NO_LINK, Request, Table};
-use cspf_graph::accepts;
+use cspf_graph::{accepts, may_leave_at};
 use std::cmp::Ordering;
 
 /// How two nodes compare: by the cost of their walks, then by the number of links, then by the leg,
@@ -114,10 +114,11 @@ fn look_at_turn(look: Look<'_>, best: &mut Option<Node>)
     keep(nodes, best, node);
 }
 
-/// Keeps what a link leads to from the node, if the request may use the link and stand where it
-/// ends, and it comes before the best. Nothing is settled there.
+/// Keeps what a link leads to from the node, whose walk may leave its router, if the request may use
+/// the link and stand where it ends, and it comes before the best. Nothing is settled there.
 fn look_at_link(look: Look<'_>, edge: Edge<'_>, best: &mut Option<Node>)
     requires look { IsLook look }
+    requires leaves { NodeMayLeave look.query.table.now look.nodes.now look.at look.star.state }
     requires edge { IsEdge look.query.table.now (look.star.state % MOST_ROUTERS) edge }
     requires left { index_of look.nodes.now
         (state_at look.query.table.now (look.star.state - look.star.state % MOST_ROUTERS + edge.end)) ≡ None }
@@ -151,10 +152,11 @@ fn look_at_link(look: Look<'_>, edge: Edge<'_>, best: &mut Option<Node>)
     keep(nodes, best, node);
 }
 
-/// Keeps what the link in a row leads to from the node, if nothing is settled there, the request may
-/// use the link and stand there, and it comes before the best.
+/// Keeps what the link in a row leads to from the node, whose walk may leave its router, if nothing is
+/// settled there, the request may use the link and stand there, and it comes before the best.
 fn look_at_row(look: Look<'_>, row: usize, best: &mut Option<Node>)
     requires look { IsLook look }
+    requires leaves { NodeMayLeave look.query.table.now look.nodes.now look.at look.star.state }
     requires row { row < length (links_from_index look.query.table.now (look.star.state % MOST_ROUTERS)) }
     requires before { IsFirst look.nodes.now
         (CrossesToRow look.query look.nodes.now look.at look.star.state row) best.old }
@@ -178,7 +180,8 @@ fn look_at_row(look: Look<'_>, row: usize, best: &mut Option<Node>)
     look_at_link(look, edge, best);
 }
 
-/// Keeps the first node that the turn or a link leads to from the node, if it comes before the best.
+/// Keeps the first node that the turn leads to from the node, or a link if its walk may leave its
+/// router, if it comes before the best.
 fn look_from(look: Look<'_>, best: &mut Option<Node>)
     requires look { IsLook look }
     requires before { IsFirst look.nodes.now (CrossesBefore look.query look.nodes.now look.at) best.old }
@@ -186,6 +189,10 @@ fn look_from(look: Look<'_>, best: &mut Option<Node>)
         (CrossesBefore look.entry.query look.entry.nodes.now (look.entry.at + 1)) best.new }
 {
     look_at_turn(look, best);
+    let place = look.star.state % MOST_ROUTERS;
+    if !may_leave_at(look.query.table, place, look.nodes[look.at].links as u32) {
+        return;
+    }
     for row in 0..look.star.links.len() {
         look_at_row(look, row, best);
     }

@@ -160,8 +160,8 @@ fn answer(alloc: Global, query: Query<'_>, nodes: &[Node]) -> Result<Outcome, Al
 
 /// The best answer to a request in the table's database (RFC 2702 7): that its head-end or its
 /// tail-end is unknown, the route that is before all others, or that no walk of admissible links
-/// can be cut into legs by the hops of the request (RFC 3209 4.3.3). The search settles routers in
-/// legs from a heap.
+/// which passes through no router without transit (RFC 6987) can be cut into legs by the hops of the
+/// request (RFC 3209 4.3.3). The search settles routers in legs from a heap.
 pub fn best(alloc: Global, table: &Table, request: &Request) -> Result<Outcome, AllocError>
     ensures { IfOk result (λ outcome.
         IsBestAnswer table.now request.now (answer_of outcome)) }

@@ -116,6 +116,6 @@ returns-clause-after c =
     } in
     on_ok_weaker c.offer.result
     (link_taken c.args.source c.requires.source c.args.labels.now (heap_items c.args.heap.now) c.args.edge small c.requires.edge c.requires.before label refl refl refl rank
-    usable (told.0 (not-false _ c.if-not-role.false)) le (c.args.source.rank + c.from.result * 16384 + 1 + c.lift.result) c.offer.new.labels
+    usable c.requires.leaves (told.0 (not-false _ c.if-not-role.false)) le (c.args.source.rank + c.from.result * 16384 + 1 + c.lift.result) c.offer.new.labels
     (heap_items c.offer.new.heap) (ap (λ n. c.args.source.rank + c.from.result * 16384 + 1 + n) c.lift.ensures.value))
     c.offer.ensures.first

@@ -78,6 +78,6 @@ returns c =
       after =
           rw c.keep.ensures
           (link_kept d q nodes c.requires.look.arena c.args.look.at c.args.look.star.state c.requires.look.from c.args.best.now c.args.edge.row c.args.edge.link.now c.requires.edge.row c.args.edge.end c.requires.edge.end
-          c.requires.look.query.listed.few c.requires.before small c.requires.left (record { admitted = c.if-not-accepts.ensures.0 refl; reverse = has_reverse d c.requires.look.query.links c.args.edge.link.now c.args.edge.reverse c.requires.edge.reverse c.if-edge-eq-NO_LINK.false }) (told.inside.0 (not-false _ c.if-not-role.false))
+          c.requires.look.query.listed.few c.requires.before small c.requires.left (record { admitted = c.if-not-accepts.ensures.0 refl; reverse = has_reverse d c.requires.look.query.links c.args.edge.link.now c.args.edge.reverse c.requires.edge.reverse c.if-edge-eq-NO_LINK.false }) c.requires.leaves (told.inside.0 (not-false _ c.if-not-role.false))
           c.index-nodes-look.result from c.from.result c.from.ensures);
     }

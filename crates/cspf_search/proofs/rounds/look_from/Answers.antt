@@ -1,9 +1,11 @@
-use Rattle.std.proofs.Common.{◌≡◌, ◌+◌, ◌%◌, List, length, ap, arith}
+use Rattle.std.proofs.Common.{◌≡◌, ◌+◌, ◌%◌, List, length, slice_index, ap, arith}
+use Rattle.std.proofs.lemmas.Bool.{false≢true}
 use Rattle.cspf_db.specs.declared.link.Link.{Link}
-use Rattle.cspf_db.specs.Index.{links_of, links_from_index}
+use Rattle.cspf_db.specs.Index.{links_of, links_from_index, router_list}
 use Rattle.cspf_search.specs.Rounds.{CrossesBelow}
 use Rattle.cspf_search.specs.Frontier.{CrossesUpTo}
-use Rattle.cspf_search.proofs.Expanded.{all_below, below_all}
+use Rattle.cspf_search.proofs.Expanded.{turn_below, below_turn, all_below, below_all}
+use Rattle.cspf_search.proofs.Backs.{leaves_told}
 use Rattle.cspf_search.proofs.Firsts.{first_same}
 use Rattle.cspf_search.proofs.rounds.look_from.Goals as goal
 
@@ -19,4 +21,21 @@ returns c =
           first_same nodes (CrossesUpTo d q nodes c.args.look.at place (length (links_from_index d place))) (CrossesBelow d q nodes (links_of d) (c.args.look.at + 1))
           (all_below d q nodes c.args.look.at c.args.look.star.state c.requires.look.from) (below_all d q nodes c.args.look.at c.args.look.star.state c.requires.look.from) c.loop-row.best
           (rw all at c.loop-row.invariant);
+    }
+
+pub returns-then-not-may_leave_at : goal.returns-then-not-may_leave_at
+returns-then-not-may_leave_at c =
+    let d = c.args.look.query.table.now in
+    let q = c.args.look.query.request.now in
+    let nodes = c.args.look.nodes.now in
+    let at = c.args.look.at in
+    let state = c.args.look.star.state in
+    let from = c.requires.look.from in
+    let told = leaves_told d (slice_index (router_list d) (c.args.look.star.state % 1024)) nodes c.requires.look.arena at from.within c.index-look-look.result in
+    record {
+      after =
+          first_same nodes (CrossesUpTo d q nodes c.args.look.at (c.args.look.star.state % 1024) 0) (CrossesBelow d q nodes (links_of d) (c.args.look.at + 1))
+          (turn_below d q nodes at state from)
+          (below_turn d q nodes at state from (λ may. false≢true (c.if-not-may_leave_at.ensures.1 (told.1 may))))
+          c.look_at_turn.new.best c.look_at_turn.ensures.after;
     }
