@@ -65,7 +65,7 @@ HasOnePublisher-snoc views w one not i j x y ex ey px py =
     (λ (s : w ≡ x). absurd (not (subst IsPublisher (sym s) px)))
     (at_snoc views w x i ex)
 
-AreFirstOf-self : (known : KnownBatches) → AreFirstOf known known
+pub AreFirstOf-self : (known : KnownBatches) → AreFirstOf known known
 AreFirstOf-self known = record { source = refl; begins = BeginsWith-self known.batches }
 
 -- what a seat knows that isn't a publisher's is still known where a batch came behind

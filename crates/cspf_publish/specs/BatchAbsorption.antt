@@ -3,22 +3,23 @@
 use Rattle.std.specs.Prelude.{Bool, true, ◌&&◌, not, cond, nat_le, is_some, List, [], ◌∷◌, length, map}
 use Rattle.std.specs.Ordering.{eq_by_cmp}
 use Rattle.std.specs.List.{list_all}
-use Rattle.cspf_db.specs.declared.limits.TheConstants.{MOST_CHANGES, MOST_LINKS, MOST_ROUTERS}
+use Rattle.cspf_db.specs.declared.limits.TheConstants.{MOST_CHANGES, MOST_LINKS, MOST_ROUTERS, MOST_MARKS}
 use Rattle.cspf_db.specs.declared.batch.Change.{Change}
-use Rattle.cspf_db.specs.declared.batch.Change.TheVariants.{Put, Remove}
+use Rattle.cspf_db.specs.declared.batch.Change.TheVariants.{Put, Remove, Node}
 use Rattle.cspf_db.specs.Numbered.{NumberedChanges}
-use Rattle.cspf_db.specs.Database.{Database, Key, key_cmp, link_at, link_count, router_count}
-use Rattle.cspf_db.specs.Changes.{key_changed, after_changes}
+use Rattle.cspf_db.specs.Database.{Database, link_at, link_count, router_count, mark_count}
+use Rattle.cspf_db.specs.Changes.{ChangeKey, change_key_cmp, key_changed, after_changes}
 
 -- whether no key is there twice
-abbrev pub are_distinct : List Key → Bool
+abbrev pub are_distinct : List ChangeKey → Bool
 are_distinct [] = true
-are_distinct (k ∷ ks) = list_all (λ j. not (eq_by_cmp key_cmp k j)) ks && are_distinct ks
+are_distinct (k ∷ ks) = list_all (λ j. not (eq_by_cmp change_key_cmp k j)) ks && are_distinct ks
 
 -- whether the change isn't a removal of a link that isn't there
 abbrev pub is_present : Database → Change → Bool
 is_present d (Put l) = true
 is_present d (Remove from local) = is_some (link_at d (from, local))
+is_present d (Node router transit) = true
 
 -- whether the batch fits, as a test
 abbrev pub is_fitting : Database → NumberedChanges → Bool
@@ -27,7 +28,8 @@ is_fitting d b =
     && (are_distinct (map key_changed b.changes)
     && (list_all (is_present d) b.changes
     && (nat_le (link_count (after_changes d b.changes)) MOST_LINKS
-    && nat_le (router_count (after_changes d b.changes)) MOST_ROUTERS)))
+    && (nat_le (router_count (after_changes d b.changes)) MOST_ROUTERS
+    && nat_le (mark_count (after_changes d b.changes)) MOST_MARKS))))
 
 -- the database with the batch's changes where it fits, and as it was where it doesn't
 abbrev pub database_with : Database → NumberedChanges → Database

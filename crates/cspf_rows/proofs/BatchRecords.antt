@@ -1,7 +1,8 @@
 -- The records of batches, as they are written, are read as their rows.
-use Rattle.std.proofs.Common.{◌≡◌, ℕ, ◌+◌, ◌^◌, ◌<◌, ◌≤◌, List, [], ◌∷◌, ◌++◌, map, length, Result, Ok, false, refl, sym, ap, append-nil, arith}
+use Rattle.std.proofs.Common.{◌≡◌, ℕ, ◌+◌, ◌^◌, ◌<◌, ◌≤◌, List, [], ◌∷◌, ◌++◌, map, length, Result, Ok, Bool, true, false, refl, sym, ap, append-nil, arith}
 use Rattle.std.proofs.lemmas.Grind.{flat_map-append}
 use Rattle.std.proofs.lemmas.List.{map-append, length-append, length-map}
+use Rattle.std.specs.Fmt.{decimal}
 use Rattle.std.specs.List.{flat_map, AllByRecursion}
 use Rattle.csv.specs.Reading.{strip_bom, is_bom}
 use Rattle.cspf_addr.specs.MaskText.{SpellsMask, mask_text, AreMasksRead, AreMasksReadBack}
@@ -12,20 +13,22 @@ use Rattle.cspf_rows.specs.declared.row.Row.{Row}
 use Rattle.cspf_rows.specs.declared.row.Row.TheVariants as row
 use Rattle.cspf_rows.specs.declared.journal.Rest.TheVariants as rest
 use Rattle.cspf_rows.specs.declared.row_error.RowError.{RowError}
-use Rattle.cspf_rows.specs.Written.{end_fields, ArePutsReadBack, AreDropsReadBack, AreEndsReadBack}
+use Rattle.cspf_rows.specs.Written.{end_fields, ArePutsReadBack, AreDropsReadBack, AreNodesReadBack, AreEndsReadBack}
+use Rattle.cspf_rows.specs.FieldValues.{flag_number}
 use Rattle.cspf_rows.specs.Rows.{row_of}
 use Rattle.cspf_rows.specs.Records.{rows_of}
 use Rattle.cspf_rows.specs.BatchText.{line_text, change_fields, batch_records, batch_text}
 use Rattle.cspf_rows.specs.Journal.{change_row, batch_rows, journal_rows, AreNumberedFrom, IsJournal}
 use Rattle.cspf_rows.specs.JournalLaws.{IsChangeInRange, AreInRange, journal_text, AreWritable}
 use Rattle.cspf_rows.proofs.Lines.{line_text-cons}
-use Rattle.cspf_rows.proofs.PlainFields.{decimal_unquoted, decimals_unquoted, address_unquoted, mask_unquoted}
+use Rattle.cspf_rows.proofs.PlainFields.{IsUnquoted, decimal_unquoted, decimals_unquoted, address_unquoted, mask_unquoted}
 use Rattle.cspf_rows.proofs.CutLines.{AreUnquotedRecords, rows_of-lines}
 
 -- the laws of the rows that a journal has
 pub record AreRowsReadBack : Type 0 where
   pub puts : ArePutsReadBack
   pub drops : AreDropsReadBack
+  pub nodes : AreNodesReadBack
   pub ends : AreEndsReadBack
   pub masks : AreMasksRead
   pub back : AreMasksReadBack
@@ -44,6 +47,11 @@ AreRead-append rs ss xs ys a b = record {
     plain_append : (rs ss : List (List (List ℕ))) → AreUnquotedRecords rs → AreUnquotedRecords ss → AreUnquotedRecords (rs ++ ss)
     plain_append [] ss a b = b
     plain_append (r ∷ rs) ss a b = (a.0, plain_append rs ss a.1 b)
+
+-- what is written for a flag needs no quotes
+flag_unquoted : (flag : Bool) → IsUnquoted (decimal (flag_number flag))
+flag_unquoted true = decimal_unquoted 1 (omega arith)
+flag_unquoted false = decimal_unquoted 0 (omega arith)
 
 module _ (laws : AreRowsReadBack) where
   spelled : (bits : ℕ) → bits < 2 ^ 32 → SpellsMask (mask_text bits) bits
@@ -75,6 +83,10 @@ module _ (laws : AreRowsReadBack) where
   change_read (change.Remove from local) range = record {
     plain = ((refl, (address_unquoted from, (address_unquoted local, tt))), tt);
     read = rw (laws.drops from local range.0 range.1) refl;
+  }
+  change_read (change.Node router transit) range = record {
+    plain = ((refl, (address_unquoted router, (flag_unquoted transit, tt))), tt);
+    read = rw (laws.nodes router transit range) refl;
   }
 
   changes_read : (cs : List Change) → AllByRecursion IsChangeInRange cs → AreRead (map change_fields cs) (map change_row cs)
@@ -117,6 +129,7 @@ no_mark_batch : (cs : List Change) (number count : ℕ) (more : List (List (List
 no_mark_batch [] number count more = no_mark_line _ _ _ _ _ _ refl
 no_mark_batch (change.Put link ∷ cs) number count more = no_mark_line _ _ _ _ _ _ refl
 no_mark_batch (change.Remove from local ∷ cs) number count more = no_mark_line _ _ _ _ _ _ refl
+no_mark_batch (change.Node router transit ∷ cs) number count more = no_mark_line _ _ _ _ _ _ refl
 
 no_mark : (batches : List NumberedChanges) → strip_bom (flat_map line_text (flat_map batch_records batches)) ≡ flat_map line_text (flat_map batch_records batches)
 unfolding strip_bom

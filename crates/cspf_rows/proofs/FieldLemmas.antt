@@ -1,5 +1,5 @@
 -- What the fields of a record spell is what is written in them.
-use Rattle.std.proofs.Common.{◌≡◌, ℕ, ◌^◌, Bool, true, false, cond, eqb, inl, inr, List, ◌++◌, codes, drop, ap, Option, Some, None, Result, Ok, Err, refl, arith}
+use Rattle.std.proofs.Common.{◌≡◌, ℕ, zero, suc, ltb, ◌^◌, ◌<◌, Bool, true, false, cond, eqb, inl, inr, List, ◌++◌, codes, drop, ap, Option, Some, None, Result, Ok, Err, refl, arith}
 use Rattle.std.proofs.lemmas.Bool.{ltb-true, lt-ltb, false_from_ne_true}
 use Rattle.std.proofs.lemmas.Bool.Decides.{Decides-eqb}
 use Rattle.std.proofs.lemmas.Slice.Eq.{starts_is}
@@ -16,10 +16,11 @@ use Rattle.cspf_ero.specs.Objects.{Spells}
 use Rattle.cspf_ero.specs.Laws.{AreObjectsRead}
 use Rattle.cspf_rows.specs.declared.row_error.HopsFault.TheVariants as fault
 use Rattle.cspf_rows.specs.declared.row_error.RowError.{RowError}
+use Rattle.cspf_rows.specs.declared.row_error.RowError.TheVariants as error
 use Rattle.cspf_addr.specs.ResultSteps.{◌>>=◌}
-use Rattle.cspf_rows.specs.FieldValues.{field, number_at, small_number_at, priority_at, address_at, mask_at, object_hops_of, hex_hops_of, either_hops_of, hops_at}
+use Rattle.cspf_rows.specs.FieldValues.{field, number_at, small_number_at, priority_at, flag_number, flag_at, address_at, mask_at, object_hops_of, hex_hops_of, either_hops_of, hops_at}
 use Rattle.cspf_rows.specs.FieldTexts.{AreTextsRead}
-use Rattle.cspf_rows.specs.Says.{SpellsNumber, SpellsAddress, SpellsHops}
+use Rattle.cspf_rows.specs.Says.{SpellsNumber, SpellsFlag, SpellsAddress, SpellsHops}
 
 -- the first step of two that gave a value
 pub first_step : {A B : Type 0} (r : Result A RowError) (f : A → Result B RowError) (y : B) → (r >>= f) ≡ Ok y → (x : A) × (r ≡ Ok x) × (f x ≡ Ok y)
@@ -32,9 +33,28 @@ found None e x same = absurd (cc)
 found (Some y) e x same = cc
 
 -- a test that was passed
-passed : (b : Bool) (v n : ℕ) (e : RowError) → cond b (Ok v) (Err e) ≡ Ok n → (b ≡ true) × (v ≡ n)
+passed : {A : Type 0} (b : Bool) (v n : A) (e : RowError) → cond b (Ok v) (Err e) ≡ Ok n → (b ≡ true) × (v ≡ n)
 passed true v n e same = (refl, cc)
 passed false v n e same = absurd (cc)
+
+-- a number below 2 is that of the flag that says whether it's 1
+small_flag : (n : ℕ) (flag : Bool) → n < 2 → eqb n 1 ≡ flag → n ≡ flag_number flag
+small_flag zero flag small is = rw (← is) refl
+small_flag (suc zero) flag small is = rw (← is) refl
+small_flag (suc (suc n)) flag small is = absurd (omega arith)
+
+-- a flag that was read off a number has that number
+flag_passed : (n : ℕ) (flag : Bool) (e : RowError) → cond (ltb n 2) (Ok (eqb n 1)) (Err e) ≡ Ok flag → n ≡ flag_number flag
+flag_passed n flag e same = let test = passed _ _ _ _ same in small_flag n flag (ltb-true n 2 test.0) test.1
+
+-- the number of a flag is read as that flag
+flag_of_number : (flag : Bool) (e : RowError) → cond (ltb (flag_number flag) 2) (Ok (eqb (flag_number flag) 1)) (Err e) ≡ Ok flag
+flag_of_number true e = refl
+flag_of_number false e = refl
+
+flag_number-small : (flag : Bool) → flag_number flag < 2 ^ 32
+flag_number-small true = omega arith
+flag_number-small false = omega arith
 
 module _ (texts : AreTextsRead) (fields : List (List ℕ)) (place : ℕ) where
   pub number_at-spelled : (n : ℕ) → SpellsNumber (2 ^ 64) (field fields place) n → number_at fields place ≡ Ok n
@@ -72,6 +92,18 @@ module _ (texts : AreTextsRead) (fields : List (List ℕ)) (place : ℕ) where
       let step = first_step _ _ _ read in
       let test = passed _ _ _ _ step.2 in
       rw (← test.1) (record { small = ltb-true _ _ test.0; written = (spelled-small_number_at step.0 step.1).written })
+
+  pub flag_at-spelled : (flag : Bool) → SpellsFlag (field fields place) flag → flag_at fields place ≡ Ok flag
+  unfolding flag_at
+  flag_at-spelled flag s =
+      rw (small_number_at-spelled (flag_number flag) (record { small = flag_number-small flag; written = s })) (flag_of_number flag (error.Number place))
+
+  pub spelled-flag_at : (flag : Bool) → flag_at fields place ≡ Ok flag → SpellsFlag (field fields place) flag
+  unfolding flag_at
+  spelled-flag_at flag read =
+      let step = first_step (small_number_at fields place) _ flag read in
+      let same = flag_passed step.0 flag (error.Number place) step.2 in
+      rw (← same) ((spelled-small_number_at step.0 step.1).written)
 
   pub address_at-spelled : (n : ℕ) → SpellsAddress (field fields place) n → address_at fields place ≡ Ok n
   unfolding address_at

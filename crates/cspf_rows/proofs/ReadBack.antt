@@ -7,7 +7,7 @@ use Rattle.cspf_addr.specs.AddressText.{address_text}
 use Rattle.cspf_addr.specs.HopLists.{AreHopListsReadBack, hops_text}
 use Rattle.cspf_rows.specs.declared.row.Row.TheVariants as row
 use Rattle.cspf_rows.specs.Says.{SpellsNumber, SpellsAddress, SpellsHops}
-use Rattle.cspf_rows.specs.Written.{put_fields, drop_fields, end_fields, ask_fields, ArePutsReadBack, AreDropsReadBack, AreEndsReadBack, AreAsksReadBack}
+use Rattle.cspf_rows.specs.Written.{put_fields, drop_fields, node_fields, end_fields, ask_fields, ArePutsReadBack, AreDropsReadBack, AreNodesReadBack, AreEndsReadBack, AreAsksReadBack}
 use Rattle.cspf_rows.specs.FieldTexts.{AreTextsRead}
 use Rattle.cspf_rows.proofs.HopTexts.{no_object}
 use Rattle.cspf_rows.proofs.RowLaws.{row_of-said}
@@ -52,6 +52,11 @@ pub drops_read_back : AreTextsRead → AreDropsReadBack
 unfolding field_at
 drops_read_back texts from local small_from small_local =
     row_of-said texts (drop_fields from local) (row.Remove from local) (record { count = refl; kind = refl; from = address_written from small_from; local = address_written local small_local })
+
+pub nodes_read_back : AreTextsRead → AreNodesReadBack
+unfolding field_at
+nodes_read_back texts router transit small =
+    row_of-said texts (node_fields router transit) (row.Node router transit) (record { count = refl; kind = refl; router = address_written router small; transit = refl })
 
 pub ends_read_back : AreTextsRead → AreEndsReadBack
 unfolding field_at

@@ -12,11 +12,11 @@ use Rattle.cspf_rows.specs.declared.row.Row.TheVariants as row
 use Rattle.cspf_rows.specs.declared.row_error.RowError.{RowError}
 use Rattle.cspf_addr.specs.ResultSteps.{◌>>=◌}
 use Rattle.cspf_rows.specs.FieldValues.{field, number_at, small_number_at, priority_at, address_at, mask_at, hops_at}
-use Rattle.cspf_rows.specs.Rows.{link_with, request_with, put_between, put, ask_between, ask, put_row_of, drop_row_of, end_row_of, ask_row_of, row_of}
+use Rattle.cspf_rows.specs.Rows.{link_with, request_with, put_between, put, ask_between, ask, put_row_of, drop_row_of, node_row_of, end_row_of, ask_row_of, row_of}
 use Rattle.cspf_rows.specs.FieldTexts.{AreTextsRead}
-use Rattle.cspf_rows.specs.Says.{SaysPut, SaysRemove, SaysEnd, SaysAsk, Says, AreRowsRead, SaysOneRow}
+use Rattle.cspf_rows.specs.Says.{SaysPut, SaysRemove, SaysNode, SaysEnd, SaysAsk, Says, AreRowsRead, SaysOneRow}
 use Rattle.cspf_rows.proofs.AttributeLemmas.{put-link, ask-fields}
-use Rattle.cspf_rows.proofs.FieldLemmas.{first_step, number_at-spelled, spelled-number_at, small_number_at-spelled, spelled-small_number_at, priority_at-spelled, spelled-priority_at, address_at-spelled, spelled-address_at, mask_at-spelled, spelled-mask_at, hops_at-spelled, spelled-hops_at}
+use Rattle.cspf_rows.proofs.FieldLemmas.{first_step, number_at-spelled, spelled-number_at, small_number_at-spelled, spelled-small_number_at, priority_at-spelled, spelled-priority_at, flag_at-spelled, spelled-flag_at, address_at-spelled, spelled-address_at, mask_at-spelled, spelled-mask_at, hops_at-spelled, spelled-hops_at}
 
 -- eight numbers, one by one
 eight_items : (xs : List ℕ) → length xs ≡ 8
@@ -46,6 +46,10 @@ drop_row_of-said : AreTextsRead → (fields : List (List ℕ)) (from local : ℕ
 unfolding drop_row_of
 drop_row_of-said texts fields from local s = rw (address_at-spelled texts fields 2 from s.from, address_at-spelled texts fields 3 local s.local) refl
 
+node_row_of-said : AreTextsRead → (fields : List (List ℕ)) (router : ℕ) (transit : Bool) → SaysNode fields router transit → node_row_of fields ≡ Ok (row.Node router transit)
+unfolding node_row_of
+node_row_of-said texts fields router transit s = rw (address_at-spelled texts fields 2 router s.router, flag_at-spelled texts fields 3 transit s.transit) refl
+
 end_row_of-said : AreTextsRead → (fields : List (List ℕ)) (number count : ℕ) → SaysEnd fields number count → end_row_of fields ≡ Ok (row.End number count)
 unfolding end_row_of
 end_row_of-said texts fields number count s =
@@ -61,6 +65,7 @@ pub row_of-said : AreTextsRead → (fields : List (List ℕ)) (r : Row) → Says
 unfolding row_of
 row_of-said texts fields (row.Put link) s = rw (s.kind, s.count) (put_row_of-said texts fields link s)
 row_of-said texts fields (row.Remove from local) s = rw (s.kind, s.count) (drop_row_of-said texts fields from local s)
+row_of-said texts fields (row.Node router transit) s = rw (s.kind, s.count) (node_row_of-said texts fields router transit s)
 row_of-said texts fields (row.End number count) s = rw (s.kind, s.count) (end_row_of-said texts fields number count s)
 row_of-said texts fields (row.Ask request) s = rw (s.kind, s.count) (ask_row_of-said texts fields request s)
 
@@ -147,8 +152,8 @@ said-put_row_of texts fields r count kind read =
     subst (Says fields) made.1 (said-link texts fields made.0 _ made.2 count kind is_from is_local is_to is_remote is_metric is_group is_u0 is_u1 is_u2 is_u3 is_u4 is_u5 is_u6 is_u7)))))))))))))))
 
 -- what a row of two fields was made of
-two_steps : (first second : Result ℕ RowError) (make : ℕ → ℕ → Row) (r : Row) → (first >>= (λ x. second >>= (λ y. Ok (make x y)))) ≡ Ok r
-    → (x : ℕ) × (y : ℕ) × (first ≡ Ok x) × (second ≡ Ok y) × (make x y ≡ r)
+two_steps : {A B : Type 0} (first : Result A RowError) (second : Result B RowError) (make : A → B → Row) (r : Row) → (first >>= (λ x. second >>= (λ y. Ok (make x y)))) ≡ Ok r
+    → (x : A) × (y : B) × (first ≡ Ok x) × (second ≡ Ok y) × (make x y ≡ r)
 two_steps (Ok x) (Ok y) make r read = (x, y, refl, refl, cc)
 two_steps (Ok x) (Err e) make r read = absurd (cc)
 two_steps (Err e) second make r read = absurd (cc)
@@ -158,6 +163,12 @@ unfolding drop_row_of
 said-drop_row_of texts fields r count kind read =
     let (from, local, is_from, is_local, same) = two_steps _ _ row.Remove r read in
     subst (Says fields) same (record { count = count; kind = kind; from = spelled-address_at texts fields 2 from is_from; local = spelled-address_at texts fields 3 local is_local })
+
+said-node_row_of : AreTextsRead → (fields : List (List ℕ)) (r : Row) → length fields ≡ 3 → field fields 1 ≡ codes "node" → node_row_of fields ≡ Ok r → Says fields r
+unfolding node_row_of
+said-node_row_of texts fields r count kind read =
+    let (router, transit, is_router, is_transit, same) = two_steps _ _ row.Node r read in
+    subst (Says fields) same (record { count = count; kind = kind; router = spelled-address_at texts fields 2 router is_router; transit = spelled-flag_at texts fields 3 transit is_transit })
 
 said-end_row_of : AreTextsRead → (fields : List (List ℕ)) (r : Row) → length fields ≡ 3 → field fields 1 ≡ codes "end" → end_row_of fields ≡ Ok r → Says fields r
 unfolding end_row_of
@@ -218,9 +229,10 @@ unfolding row_of
 said-row_of texts fields r read =
     by_word (field fields 1) (codes "put") _ _ r _ refl read (λ kind h. let n = counted fields 15 (put_row_of fields) _ r h in said-put_row_of texts fields r n.0 kind n.1)
     (λ no_put. by_word (field fields 1) (codes "drop") _ _ r _ refl no_put (λ kind h. let n = counted fields 3 (drop_row_of fields) _ r h in said-drop_row_of texts fields r n.0 kind n.1)
-    (λ no_drop. by_word (field fields 1) (codes "end") _ _ r _ refl no_drop (λ kind h. let n = counted fields 3 (end_row_of fields) _ r h in said-end_row_of texts fields r n.0 kind n.1)
+    (λ no_drop. by_word (field fields 1) (codes "node") _ _ r _ refl no_drop (λ kind h. let n = counted fields 3 (node_row_of fields) _ r h in said-node_row_of texts fields r n.0 kind n.1)
+    (λ no_node. by_word (field fields 1) (codes "end") _ _ r _ refl no_node (λ kind h. let n = counted fields 3 (end_row_of fields) _ r h in said-end_row_of texts fields r n.0 kind n.1)
     (λ no_end. by_word (field fields 1) (codes "ask") _ _ r _ refl no_end (λ kind h. let n = counted fields 10 (ask_row_of fields) _ r h in said-ask_row_of texts fields r n.0 kind n.1)
-    (λ none. absurd (cc)))))
+    (λ none. absurd (cc))))))
 
 pub rows_read : AreTextsRead → AreRowsRead
 rows_read texts fields r = (said-row_of texts fields r, row_of-said texts fields r)

@@ -13,14 +13,14 @@ use Rattle.cspf_rows.specs.declared.row.Row.TheVariants as row
 use Rattle.cspf_rows.specs.declared.row_error.RowError.{RowError}
 use Rattle.cspf_rows.specs.declared.row_error.RowError.TheVariants as error
 use Rattle.cspf_addr.specs.ResultSteps.{◌>>=◌}
-use Rattle.cspf_rows.specs.FieldValues.{field, number_at, small_number_at, priority_at, address_at, mask_at, hops_at}
+use Rattle.cspf_rows.specs.FieldValues.{field, number_at, small_number_at, priority_at, flag_at, address_at, mask_at, hops_at}
 use Rattle.cspf_rows.specs.FieldTexts.{AreTextsRead}
-use Rattle.cspf_rows.specs.Says.{SpellsNumber, SpellsAddress}
-use Rattle.cspf_rows.specs.RowRefusals.{Kind, put_kind, drop_kind, end_kind, ask_kind, address, number, small_number, priority, mask, hops, word_of, sorts_of, SpellsSort, IsFieldRefused, SpellOneAddress, AreEndsRefused, AreFieldsRefused, IsRefusedAs, IsRefused, AreRowsRefused, IsRefusedOnce}
-use Rattle.cspf_rows.specs.Rows.{put_between, put, ask_between, ask, put_row_of, drop_row_of, end_row_of, ask_row_of, of_count, row_of}
+use Rattle.cspf_rows.specs.Says.{SpellsNumber, SpellsFlag, SpellsAddress}
+use Rattle.cspf_rows.specs.RowRefusals.{Kind, put_kind, drop_kind, node_kind, end_kind, ask_kind, address, number, small_number, priority, flag, mask, hops, word_of, sorts_of, SpellsSort, IsFieldRefused, SpellOneAddress, AreEndsRefused, AreFieldsRefused, IsRefusedAs, IsRefused, AreRowsRefused, IsRefusedOnce}
+use Rattle.cspf_rows.specs.Rows.{put_between, put, ask_between, ask, put_row_of, drop_row_of, node_row_of, end_row_of, ask_row_of, of_count, row_of}
 use Rattle.cspf_rows.proofs.HopRefusalLemmas.{mapped_error, fault_told, told_fault}
 use Rattle.cspf_rows.proofs.AttributeLemmas.{put-self, ask-same}
-use Rattle.cspf_rows.proofs.FieldLemmas.{number_at-spelled, spelled-number_at, small_number_at-spelled, spelled-small_number_at, priority_at-spelled, spelled-priority_at, address_at-spelled, spelled-address_at, mask_at-spelled, spelled-mask_at, hops_at-spelled, spelled-hops_at}
+use Rattle.cspf_rows.proofs.FieldLemmas.{number_at-spelled, spelled-number_at, small_number_at-spelled, spelled-small_number_at, priority_at-spelled, spelled-priority_at, flag_at-spelled, spelled-flag_at, address_at-spelled, spelled-address_at, mask_at-spelled, spelled-mask_at, hops_at-spelled, spelled-hops_at}
 
 -- a field is read where it spells a value of its sort, and else refused for that
 pub record IsSortRead {A : Type 0} (read : Result A RowError) (Spelled : Type 0) (Refused : RowError → Type 0) : Type 0 where
@@ -56,7 +56,7 @@ first_error (Ok x) f e same = inr (x, refl, same)
 first_error (Err found) f e same = inl (cc)
 
 -- the error of a number that isn't below a limit
-limit_error : (b : Bool) (n : ℕ) (why e : RowError) → cond b (Ok n) (Err why) ≡ Err e → e ≡ why
+limit_error : {A : Type 0} (b : Bool) (n : A) (why e : RowError) → cond b (Ok n) (Err why) ≡ Err e → e ≡ why
 limit_error true n why e same = absurd (cc)
 limit_error false n why e same = cc
 
@@ -100,6 +100,13 @@ module _ (texts : AreTextsRead) (fields : List (List ℕ)) (place : ℕ) where
     | inr wide ↦ limit_error _ _ (error.Number place) e wide.2
   ]
 
+  flag_error : (e : RowError) → flag_at fields place ≡ Err e → e ≡ error.Number place
+  unfolding flag_at
+  flag_error e read = elim (first_error _ _ e read) [
+    | inl bad ↦ small_number_error e bad
+    | inr wide ↦ limit_error _ _ (error.Number place) e wide.2
+  ]
+
   pub number_read : IsSortRead (number_at fields place) (SpellsSort number (field fields place)) (IsFieldRefused number place (field fields place))
   number_read = one_error (number_at fields place) (SpellsNumber (2 ^ 64) (field fields place)) (error.Number place) (spelled-number_at texts fields place) (number_at-spelled texts fields place) number_error
 
@@ -108,6 +115,9 @@ module _ (texts : AreTextsRead) (fields : List (List ℕ)) (place : ℕ) where
 
   pub address_read : IsSortRead (address_at fields place) (SpellsSort address (field fields place)) (IsFieldRefused address place (field fields place))
   address_read = one_error (address_at fields place) (SpellsAddress (field fields place)) (error.Address place) (spelled-address_at texts fields place) (address_at-spelled texts fields place) address_error
+
+  pub flag_read : IsSortRead (flag_at fields place) (SpellsSort flag (field fields place)) (IsFieldRefused flag place (field fields place))
+  flag_read = one_error (flag_at fields place) (SpellsFlag (field fields place)) (error.Number place) (spelled-flag_at texts fields place) (flag_at-spelled texts fields place) flag_error
 
   pub mask_read : IsSortRead (mask_at fields place) (SpellsSort mask (field fields place)) (IsFieldRefused mask place (field fields place))
   mask_read = one_error (mask_at fields place) (SpellsMask (field fields place)) (error.Mask place) (spelled-mask_at texts fields place) (mask_at-spelled texts fields place) mask_error
@@ -231,6 +241,12 @@ drop_refused texts fields =
     step _ _ (address_read texts fields 2) (λ from is_from.
     step _ _ (address_read texts fields 3) (λ local is_local. read_whole (row.Remove from local)))
 
+node_refused : AreTextsRead → (fields : List (List ℕ)) (e : RowError) → (node_row_of fields ≡ Err e) ↔ AreFieldsRefused node_kind 2 (sorts_of node_kind) fields e
+unfolding node_row_of
+node_refused texts fields =
+    step _ _ (address_read texts fields 2) (λ router is_router.
+    step _ _ (flag_read texts fields 3) (λ transit is_transit. read_whole (row.Node router transit)))
+
 end_refused : AreTextsRead → (fields : List (List ℕ)) (e : RowError) → (end_row_of fields ≡ Err e) ↔ AreFieldsRefused end_kind 2 (sorts_of end_kind) fields e
 unfolding end_row_of
 end_refused texts fields =
@@ -272,6 +288,9 @@ put_record texts fields e = counted fields 15 (put_row_of fields) (AreFieldsRefu
 drop_record : AreTextsRead → (fields : List (List ℕ)) (e : RowError) → (of_count 3 drop_row_of fields ≡ Err e) ↔ IsRefusedAs drop_kind fields e
 drop_record texts fields e = counted fields 3 (drop_row_of fields) (AreFieldsRefused drop_kind 2 (sorts_of drop_kind) fields) e (drop_refused texts fields e)
 
+node_record : AreTextsRead → (fields : List (List ℕ)) (e : RowError) → (of_count 3 node_row_of fields ≡ Err e) ↔ IsRefusedAs node_kind fields e
+node_record texts fields e = counted fields 3 (node_row_of fields) (AreFieldsRefused node_kind 2 (sorts_of node_kind) fields) e (node_refused texts fields e)
+
 end_record : AreTextsRead → (fields : List (List ℕ)) (e : RowError) → (of_count 3 end_row_of fields ≡ Err e) ↔ IsRefusedAs end_kind fields e
 end_record texts fields e = counted fields 3 (end_row_of fields) (AreFieldsRefused end_kind 2 (sorts_of end_kind) fields) e (end_refused texts fields e)
 
@@ -291,25 +310,28 @@ pub rows_refused : AreTextsRead → AreRowsRefused
 unfolding row_of
 rows_refused texts fields e = (there, back)
   where
-    none : field fields 1 ≢ codes "put" → field fields 1 ≢ codes "drop" → field fields 1 ≢ codes "end" → field fields 1 ≢ codes "ask" → (kind : Kind) → field fields 1 ≢ word_of kind
-    none p d n a put_kind = p
-    none p d n a drop_kind = d
-    none p d n a end_kind = n
-    none p d n a ask_kind = a
+    none : field fields 1 ≢ codes "put" → field fields 1 ≢ codes "drop" → field fields 1 ≢ codes "node" → field fields 1 ≢ codes "end" → field fields 1 ≢ codes "ask" → (kind : Kind) → field fields 1 ≢ word_of kind
+    none p d n e a put_kind = p
+    none p d n e a drop_kind = d
+    none p d n e a node_kind = n
+    none p d n e a end_kind = e
+    none p d n e a ask_kind = a
 
     there : row_of fields ≡ Err e → IsRefused fields e
     there read =
         at_word (field fields 1) (codes "put") _ _ e _ refl read (λ word h. inr (put_kind, word, (put_record texts fields e).0 h)) (λ no_put h1.
         at_word (field fields 1) (codes "drop") _ _ e _ refl h1 (λ word h. inr (drop_kind, word, (drop_record texts fields e).0 h)) (λ no_drop h2.
-        at_word (field fields 1) (codes "end") _ _ e _ refl h2 (λ word h. inr (end_kind, word, (end_record texts fields e).0 h)) (λ no_end h3.
-        at_word (field fields 1) (codes "ask") _ _ e _ refl h3 (λ word h. inr (ask_kind, word, (ask_record texts fields e).0 h)) (λ no_ask h4.
-        inl (cc, none no_put no_drop no_end no_ask)))))
+        at_word (field fields 1) (codes "node") _ _ e _ refl h2 (λ word h. inr (node_kind, word, (node_record texts fields e).0 h)) (λ no_node h3.
+        at_word (field fields 1) (codes "end") _ _ e _ refl h3 (λ word h. inr (end_kind, word, (end_record texts fields e).0 h)) (λ no_end h4.
+        at_word (field fields 1) (codes "ask") _ _ e _ refl h4 (λ word h. inr (ask_kind, word, (ask_record texts fields e).0 h)) (λ no_ask h5.
+        inl (cc, none no_put no_drop no_node no_end no_ask))))))
 
     back : IsRefused fields e → row_of fields ≡ Err e
     back (inl (is, none_of)) =
-        rw (other_word _ _ (none_of put_kind), other_word _ _ (none_of drop_kind), other_word _ _ (none_of end_kind), other_word _ _ (none_of ask_kind), is) refl
+        rw (other_word _ _ (none_of put_kind), other_word _ _ (none_of drop_kind), other_word _ _ (none_of node_kind), other_word _ _ (none_of end_kind), other_word _ _ (none_of ask_kind), is) refl
     back (inr (put_kind, word, why)) = rw word ((put_record texts fields e).1 why)
     back (inr (drop_kind, word, why)) = rw word ((drop_record texts fields e).1 why)
+    back (inr (node_kind, word, why)) = rw word ((node_record texts fields e).1 why)
     back (inr (end_kind, word, why)) = rw word ((end_record texts fields e).1 why)
     back (inr (ask_kind, word, why)) = rw word ((ask_record texts fields e).1 why)
 

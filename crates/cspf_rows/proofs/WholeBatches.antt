@@ -24,19 +24,30 @@ pub same_batch : (cs ds : List Change) (m k n l : ℕ) (xs ys : List (Result Row
 same_batch [] [] m k n l xs ys e = (refl, cc, cc)
 same_batch [] (change.Put b ∷ ds) m k n l xs ys e = absurd (cc)
 same_batch [] (change.Remove g h ∷ ds) m k n l xs ys e = absurd (cc)
+same_batch [] (change.Node s u ∷ ds) m k n l xs ys e = absurd (cc)
 same_batch (change.Put a ∷ cs) [] m k n l xs ys e = absurd (cc)
 same_batch (change.Remove g h ∷ cs) [] m k n l xs ys e = absurd (cc)
+same_batch (change.Node r t ∷ cs) [] m k n l xs ys e = absurd (cc)
 same_batch (change.Put a ∷ cs) (change.Put b ∷ ds) m k n l xs ys e =
     let more = same_batch cs ds m k n l xs ys (cc) in
     let head : a ≡ b = cc in
     (rw (head, more.0) refl, more.1, more.2)
 same_batch (change.Put a ∷ cs) (change.Remove g h ∷ ds) m k n l xs ys e = absurd (cc)
+same_batch (change.Put a ∷ cs) (change.Node s u ∷ ds) m k n l xs ys e = absurd (cc)
 same_batch (change.Remove g h ∷ cs) (change.Put b ∷ ds) m k n l xs ys e = absurd (cc)
 same_batch (change.Remove f o ∷ cs) (change.Remove g h ∷ ds) m k n l xs ys e =
     let more = same_batch cs ds m k n l xs ys (cc) in
     let from : f ≡ g = cc in
     let local : o ≡ h = cc in
     (rw (from, local, more.0) refl, more.1, more.2)
+same_batch (change.Remove f o ∷ cs) (change.Node s u ∷ ds) m k n l xs ys e = absurd (cc)
+same_batch (change.Node r t ∷ cs) (change.Put b ∷ ds) m k n l xs ys e = absurd (cc)
+same_batch (change.Node r t ∷ cs) (change.Remove g h ∷ ds) m k n l xs ys e = absurd (cc)
+same_batch (change.Node r t ∷ cs) (change.Node s u ∷ ds) m k n l xs ys e =
+    let more = same_batch cs ds m k n l xs ys (cc) in
+    let router : r ≡ s = cc in
+    let transit : t ≡ u = cc in
+    (rw (router, transit, more.0) refl, more.1, more.2)
 
 -- the rows of a batch, and then those of the next ones
 split_first : (b : NumberedChanges) (bs : List NumberedChanges) (xs : List ReadRow)
@@ -96,8 +107,12 @@ no_batch [] (change.Put a ∷ cs) done n k number count (x ∷ xs) rest behind o
 no_batch [] (change.Remove f o ∷ cs) done n k number count (x ∷ xs) rest behind opened counted same e =
     let head : x ≡ Ok (row.Remove f o) = cc in
     rw head at behind
+no_batch [] (change.Node r t ∷ cs) done n k number count (x ∷ xs) rest behind opened counted same e =
+    let head : x ≡ Ok (row.Node r t) = cc in
+    rw head at behind
 no_batch (change.Put a ∷ opens) [] done n k number count xs rest behind opened counted same e = cc
 no_batch (change.Remove f o ∷ opens) [] done n k number count xs rest behind opened counted same e = cc
+no_batch (change.Node r t ∷ opens) [] done n k number count xs rest behind opened counted same e = cc
 no_batch (a ∷ opens) (c ∷ cs) done n k number count xs rest behind opened counted same e =
     no_batch opens cs (done + 1) n k number count xs rest behind (omega arith) (omega arith) same (cc)
 

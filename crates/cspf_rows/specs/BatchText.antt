@@ -8,12 +8,13 @@ use Rattle.cspf_db.specs.declared.batch.Change.{Change}
 use Rattle.cspf_db.specs.declared.batch.Change.TheVariants as change
 use Rattle.cspf_db.specs.declared.link.Link.{Link}
 use Rattle.cspf_db.specs.Numbered.{NumberedChanges}
-use Rattle.cspf_rows.specs.Written.{put_fields, drop_fields, end_fields}
+use Rattle.cspf_rows.specs.Written.{put_fields, drop_fields, node_fields, end_fields}
 
 -- the fields of a change, the group of a link with eight digits
 abbrev pub change_fields : Change → List (List ℕ)
 change_fields (change.Put link) = put_fields link (mask_text link.group)
 change_fields (change.Remove from local) = drop_fields from local
+change_fields (change.Node router transit) = node_fields router transit
 
 -- fields as a line: a comma between each two, and a line feed behind the last
 unfoldable pub line_text : List (List ℕ) → List ℕ

@@ -1,5 +1,5 @@
 -- What the fields of a record spell. Fields count from 1, the word of the kind being field 1.
-use Rattle.std.specs.Prelude.{ℕ, ◌-◌, ◌^◌, nat_lt, nat_eq, if◌then◌else◌, List, [], drop, codes, unwrap_or, Result, Ok, Err}
+use Rattle.std.specs.Prelude.{ℕ, ◌-◌, ◌^◌, nat_lt, nat_eq, Bool, true, false, ◌==◌, if◌then◌else◌, List, [], drop, codes, unwrap_or, Result, Ok, Err}
 use Rattle.std.specs.List.{starts_with}
 use Rattle.std.specs.Option.{ok_or}
 use Rattle.std.specs.Result.{result_map_both}
@@ -37,6 +37,17 @@ unfoldable pub priority_at : List (List ℕ) → ℕ → Result ℕ RowError
 priority_at fields place = do
   n ← small_number_at fields place
   if nat_lt n 8 then Ok n else Err error.Priority
+
+-- the number of a flag: 0 where it's false, and 1 where it's true
+abbrev pub flag_number : Bool → ℕ
+flag_number false = 0
+flag_number true = 1
+
+-- a number below 2^32, and of those the number of a flag
+unfoldable pub flag_at : List (List ℕ) → ℕ → Result Bool RowError
+flag_at fields place = do
+  n ← small_number_at fields place
+  if nat_lt n 2 then Ok (n == 1) else Err (error.Number place)
 
 -- an address
 unfoldable pub address_at : List (List ℕ) → ℕ → Result ℕ RowError

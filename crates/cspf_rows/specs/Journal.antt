@@ -14,6 +14,7 @@ use Rattle.cspf_rows.specs.Rows.{row_of}
 abbrev pub change_row : Change → Row
 change_row (change.Put link) = row.Put link
 change_row (change.Remove from local) = row.Remove from local
+change_row (change.Node router transit) = row.Node router transit
 
 -- a whole batch: a row for each of its changes, in order, and an end row with their number
 abbrev pub batch_rows : NumberedChanges → List Row

@@ -16,6 +16,7 @@ use Rattle.cspf_rows.specs.Journal.{journal_rows, AreNumberedFrom, IsJournal}
 abbrev pub IsChangeInRange : Change → Type 0
 IsChangeInRange (change.Put link) = IsLinkInRange link × (link.group < 2 ^ 32)
 IsChangeInRange (change.Remove from local) = (from < 2 ^ 32) × (local < 2 ^ 32)
+IsChangeInRange (change.Node router transit) = router < 2 ^ 32
 
 -- the numbers of each change are those of its types
 abbrev pub AreInRange : List NumberedChanges → Type 0

@@ -12,6 +12,7 @@ use Rattle.cspf_rows.specs.Journal.{AreNumberedFrom, journal_rows, change_row}
 abbrev pub EndsBatches : ℕ → ℕ → Result Row RowError → Type 0
 EndsBatches number count (Ok (row.Put link)) = ⊥
 EndsBatches number count (Ok (row.Remove from local)) = ⊥
+EndsBatches number count (Ok (row.Node router transit)) = ⊥
 EndsBatches number count (Ok (row.End n k)) = ¬ ((n ≡ number) × (k ≡ count))
 EndsBatches number count (Ok (row.Ask request)) = Unit {0}
 EndsBatches number count (Err error) = Unit {0}

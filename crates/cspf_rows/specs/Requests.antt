@@ -17,6 +17,7 @@ AreRequests records requests = map row_of records ≡ map (λ request. Ok (row.A
 abbrev pub IsNoRequest : Row → Type 0
 IsNoRequest (row.Put link) = Unit {0}
 IsNoRequest (row.Remove from local) = Unit {0}
+IsNoRequest (row.Node router transit) = Unit {0}
 IsNoRequest (row.End number count) = Unit {0}
 IsNoRequest (row.Ask request) = ⊥
 

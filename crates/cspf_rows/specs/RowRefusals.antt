@@ -1,5 +1,5 @@
 -- Why a record is refused, read like the formats: the first of these that applies.
-use Rattle.std.specs.Prelude.{◌≡◌, ◌≢◌, ℕ, ◌+◌, ◌^◌, ◌↔◌, ◌⊎◌, List, [], ◌∷◌, ◌++◌, length, codes, Ok, Err}
+use Rattle.std.specs.Prelude.{◌≡◌, ◌≢◌, ℕ, Bool, ◌+◌, ◌^◌, ◌↔◌, ◌⊎◌, List, [], ◌∷◌, ◌++◌, length, codes, Ok, Err}
 use Rattle.hex.specs.Hex.{decode_of}
 use Rattle.cspf_addr.specs.MaskText.{SpellsMask}
 use Rattle.cspf_addr.specs.HopLists.{hops_of}
@@ -11,12 +11,13 @@ use Rattle.cspf_rows.specs.declared.row_error.RowError.{RowError}
 use Rattle.cspf_rows.specs.declared.row_error.RowError.TheVariants as error
 use Rattle.cspf_rows.specs.FieldValues.{field}
 use Rattle.cspf_rows.specs.Rows.{row_of}
-use Rattle.cspf_rows.specs.Says.{SpellsNumber, SpellsAddress, SpellsHops}
+use Rattle.cspf_rows.specs.Says.{SpellsNumber, SpellsFlag, SpellsAddress, SpellsHops}
 
 -- the kinds of rows
 pub data Kind : Type 0 where
   put_kind : Kind
   drop_kind : Kind
+  node_kind : Kind
   end_kind : Kind
   ask_kind : Kind
 
@@ -26,6 +27,7 @@ pub data Sort : Type 0 where
   number : Sort
   small_number : Sort
   priority : Sort
+  flag : Sort
   mask : Sort
   hops : Sort
 
@@ -33,6 +35,7 @@ pub data Sort : Type 0 where
 abbrev pub word_of : Kind → List ℕ
 word_of put_kind = codes "put"
 word_of drop_kind = codes "drop"
+word_of node_kind = codes "node"
 word_of end_kind = codes "end"
 word_of ask_kind = codes "ask"
 
@@ -40,6 +43,7 @@ word_of ask_kind = codes "ask"
 abbrev pub sorts_of : Kind → List Sort
 sorts_of put_kind = address ∷ address ∷ address ∷ address ∷ small_number ∷ mask ∷ number ∷ number ∷ number ∷ number ∷ number ∷ number ∷ number ∷ number ∷ []
 sorts_of drop_kind = address ∷ address ∷ []
+sorts_of node_kind = address ∷ flag ∷ []
 sorts_of end_kind = small_number ∷ small_number ∷ []
 sorts_of ask_kind = number ∷ address ∷ address ∷ priority ∷ number ∷ mask ∷ mask ∷ mask ∷ hops ∷ []
 
@@ -49,6 +53,7 @@ SpellsSort address text = (n : ℕ) × SpellsAddress text n
 SpellsSort number text = (n : ℕ) × SpellsNumber (2 ^ 64) text n
 SpellsSort small_number text = (n : ℕ) × SpellsNumber (2 ^ 32) text n
 SpellsSort priority text = (n : ℕ) × SpellsNumber 8 text n
+SpellsSort flag text = (b : Bool) × SpellsFlag text b
 SpellsSort mask text = (n : ℕ) × SpellsMask text n
 SpellsSort hops text = (list : List Hop) × SpellsHops text list
 
@@ -67,6 +72,7 @@ IsFieldRefused small_number place text e = (e ≡ error.Number place) × ¬ Spel
 IsFieldRefused priority place text e =
     ((e ≡ error.Number place) × ¬ SpellsSort small_number text)
     ⊎ ((e ≡ error.Priority) × SpellsSort small_number text × ¬ SpellsSort priority text)
+IsFieldRefused flag place text e = (e ≡ error.Number place) × ¬ SpellsSort flag text
 IsFieldRefused mask place text e = (e ≡ error.Mask place) × ¬ SpellsSort mask text
 IsFieldRefused hops place text e = (why : HopsFault) × (e ≡ error.Hops why) × IsHopsFault text why
 
@@ -78,6 +84,7 @@ SpellOneAddress text other = (n : ℕ) × SpellsAddress text n × SpellsAddress 
 abbrev pub AreEndsRefused : Kind → List (List ℕ) → RowError → Type 0
 AreEndsRefused put_kind fields e = (e ≡ error.SelfLink) × SpellOneAddress (field fields 2) (field fields 4)
 AreEndsRefused drop_kind fields e = ⊥
+AreEndsRefused node_kind fields e = ⊥
 AreEndsRefused end_kind fields e = ⊥
 AreEndsRefused ask_kind fields e = (e ≡ error.SameEnds) × SpellOneAddress (field fields 3) (field fields 4)
 

@@ -10,7 +10,7 @@ use Rattle.cspf_rows.specs.declared.row.Row.TheVariants as row
 use Rattle.cspf_rows.specs.declared.row_error.RowError.{RowError}
 use Rattle.cspf_rows.specs.declared.row_error.RowError.TheVariants as error
 use Rattle.cspf_addr.specs.ResultSteps.{◌>>=◌}
-use Rattle.cspf_rows.specs.FieldValues.{field, number_at, small_number_at, priority_at, address_at, mask_at, hops_at}
+use Rattle.cspf_rows.specs.FieldValues.{field, number_at, small_number_at, priority_at, flag_at, address_at, mask_at, hops_at}
 
 -- the link with these attributes, whose ends are two routers
 abbrev pub link_with : (link : LinkFields) → length link.free ≡ 8 → link.from ≢ link.to → Link
@@ -69,6 +69,13 @@ drop_row_of fields = do
   local ← address_at fields 3
   Ok (row.Remove from local)
 
+-- the row of 3 fields that says whether a router has transit
+unfoldable pub node_row_of : List (List ℕ) → Result Row RowError
+node_row_of fields = do
+  router ← address_at fields 2
+  transit ← flag_at fields 3
+  Ok (row.Node router transit)
+
 -- the row of 3 fields that ends a batch
 unfoldable pub end_row_of : List (List ℕ) → Result Row RowError
 end_row_of fields = do
@@ -105,6 +112,8 @@ row_of fields =
     then of_count 15 put_row_of fields
     else (if is_kind fields (codes "drop")
     then of_count 3 drop_row_of fields
+    else (if is_kind fields (codes "node")
+    then of_count 3 node_row_of fields
     else (if is_kind fields (codes "end")
     then of_count 3 end_row_of fields
-    else (if is_kind fields (codes "ask") then of_count 10 ask_row_of fields else Err error.Kind)))
+    else (if is_kind fields (codes "ask") then of_count 10 ask_row_of fields else Err error.Kind))))

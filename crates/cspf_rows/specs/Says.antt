@@ -1,5 +1,5 @@
 -- What a record says, field by field, as it is written.
-use Rattle.std.specs.Prelude.{◌≡◌, ◌≢◌, ℕ, ◌^◌, ◌<◌, ◌↔◌, ◌⊎◌, List, ◌++◌, length, slice_index, codes, Ok}
+use Rattle.std.specs.Prelude.{◌≡◌, ◌≢◌, ℕ, Bool, ◌^◌, ◌<◌, ◌↔◌, ◌⊎◌, List, ◌++◌, length, slice_index, codes, Ok}
 use Rattle.std.specs.Fmt.{decimal}
 use Rattle.cspf_addr.specs.AddressText.{address_text}
 use Rattle.cspf_addr.specs.MaskText.{SpellsMask}
@@ -11,13 +11,17 @@ use Rattle.hex.specs.Hex.{decode_of}
 use Rattle.cspf_ero.specs.Objects.{Spells}
 use Rattle.cspf_rows.specs.declared.row.Row.{Row}
 use Rattle.cspf_rows.specs.declared.row.Row.TheVariants as row
-use Rattle.cspf_rows.specs.FieldValues.{field}
+use Rattle.cspf_rows.specs.FieldValues.{field, flag_number}
 use Rattle.cspf_rows.specs.Rows.{row_of}
 
 -- a text is what is written for a number below a bound, at most 2^64
 pub record SpellsNumber (bound : ℕ) (text : List ℕ) (n : ℕ) : Type 0 where
   pub small : n < bound
   pub written : text ≡ decimal n
+
+-- a text is what is written for a flag: `0` for false, and `1` for true
+abbrev pub SpellsFlag : List ℕ → Bool → Type 0
+SpellsFlag text flag = text ≡ decimal (flag_number flag)
 
 -- a text is what is written for an address
 pub record SpellsAddress (text : List ℕ) (n : ℕ) : Type 0 where
@@ -68,6 +72,13 @@ pub record SaysRemove (fields : List (List ℕ)) (router address : ℕ) : Type 0
   pub from : SpellsAddress (field fields 2) router
   pub local : SpellsAddress (field fields 3) address
 
+-- `node`, a router, and whether it has transit
+pub record SaysNode (fields : List (List ℕ)) (address : ℕ) (flag : Bool) : Type 0 where
+  pub count : length fields ≡ 3
+  pub kind : field fields 1 ≡ codes "node"
+  pub router : SpellsAddress (field fields 2) address
+  pub transit : SpellsFlag (field fields 3) flag
+
 -- `end`, the number of the batch, and how many changes it has
 pub record SaysEnd (fields : List (List ℕ)) (version changes : ℕ) : Type 0 where
   pub count : length fields ≡ 3
@@ -94,6 +105,7 @@ pub record SaysAsk (fields : List (List ℕ)) (request : Request) : Type 0 where
 abbrev pub Says : List (List ℕ) → Row → Type 0
 Says fields (row.Put link) = SaysPut fields link
 Says fields (row.Remove from local) = SaysRemove fields from local
+Says fields (row.Node router transit) = SaysNode fields router transit
 Says fields (row.End number count) = SaysEnd fields number count
 Says fields (row.Ask request) = SaysAsk fields request
 

@@ -1,5 +1,5 @@
 -- The records that are written for rows, and that they are read back.
-use Rattle.std.specs.Prelude.{◌≡◌, ℕ, ◌^◌, ◌<◌, ◌≤◌, List, [], ◌∷◌, map, length, slice_index, codes, Ok}
+use Rattle.std.specs.Prelude.{◌≡◌, ℕ, Bool, ◌^◌, ◌<◌, ◌≤◌, List, [], ◌∷◌, map, length, slice_index, codes, Ok}
 use Rattle.std.specs.Fmt.{decimal}
 use Rattle.std.specs.List.{AllByRecursion}
 use Rattle.cspf_addr.specs.AddressText.{address_text}
@@ -10,6 +10,7 @@ use Rattle.cspf_addr.specs.declared.hops.TheConstants.{MOST_HOPS}
 use Rattle.cspf_db.specs.declared.link.Link.{Link}
 use Rattle.cspf_db.specs.declared.request.Request.{Request}
 use Rattle.cspf_rows.specs.declared.row.Row.TheVariants as row
+use Rattle.cspf_rows.specs.FieldValues.{flag_number}
 use Rattle.cspf_rows.specs.Rows.{row_of}
 
 -- the numbers of a link are those of its types
@@ -39,6 +40,10 @@ put_fields link group =
 abbrev pub drop_fields : ℕ → ℕ → List (List ℕ)
 drop_fields from local = codes "drop" ∷ address_text from ∷ address_text local ∷ []
 
+-- the record that is written for whether a router has transit
+abbrev pub node_fields : ℕ → Bool → List (List ℕ)
+node_fields router transit = codes "node" ∷ address_text router ∷ decimal (flag_number transit) ∷ []
+
 -- the record that is written for the end of a batch
 abbrev pub end_fields : ℕ → ℕ → List (List ℕ)
 end_fields number count = codes "end" ∷ decimal number ∷ decimal count ∷ []
@@ -54,6 +59,9 @@ ArePutsReadBack = (link : Link) (group : List ℕ) → IsLinkInRange link → Sp
 
 abbrev pub AreDropsReadBack : Type 0
 AreDropsReadBack = (from local : ℕ) → from < 2 ^ 32 → local < 2 ^ 32 → row_of (drop_fields from local) ≡ Ok (row.Remove from local)
+
+abbrev pub AreNodesReadBack : Type 0
+AreNodesReadBack = (router : ℕ) (transit : Bool) → router < 2 ^ 32 → row_of (node_fields router transit) ≡ Ok (row.Node router transit)
 
 abbrev pub AreEndsReadBack : Type 0
 AreEndsReadBack = (number count : ℕ) → number < 2 ^ 32 → count < 2 ^ 32 → row_of (end_fields number count) ≡ Ok (row.End number count)

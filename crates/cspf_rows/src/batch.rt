@@ -33,6 +33,7 @@ fn write_changes(text: &mut String, changes: &[Change]) -> Result<(), AllocError
         match change {
             Change::Put(link) => write_put(text, link)?,
             Change::Remove { from, local } => write_drop(text, *from, *local)?,
+            Change::Node { router, transit } => write_node(text, *router, *transit)?,
         }
     }
     Ok(())
@@ -92,6 +93,16 @@ fn write_drop(text: &mut String, from: Addr, local: Addr) -> Result<(), AllocErr
         ≡ string_bytes text.old ++ line_text (change_fields (change.Remove from local))) }
 {
     writeln!(text, "drop,{from},{local}")
+}
+
+/// Writes the line of a router with transit, 1, or without, 0.
+#[tactic(auto, unfolding(crate::specs::BatchText::line_text))]
+fn write_node(text: &mut String, router: Addr, transit: bool) -> Result<(), AllocError>
+    ensures { OnOk result (string_bytes text.new
+        ≡ string_bytes text.old ++ line_text (change_fields (change.Node router transit))) }
+{
+    let flag = u8::from(transit);
+    writeln!(text, "node,{router},{flag}")
 }
 
 /// Writes the line that ends a batch.

@@ -1,6 +1,6 @@
 ghost use Rattle.std.specs.Prelude.{◌≡◌, ◌≢◌, ◌<◌, ◌≤◌, length, IfOk, IfErr, OnOk};
 ghost use Rattle.csv.specs.Records.{fields_of};
-ghost use Rattle.cspf_rows.specs.FieldValues.{field, number_at, small_number_at, priority_at, address_at, mask_at, hops_at, either_hops_of};
+ghost use Rattle.cspf_rows.specs.FieldValues.{field, number_at, small_number_at, priority_at, flag_at, address_at, mask_at, hops_at, either_hops_of};
 
 use crate::object::read_object;
 use crate::row_error::{HopsFault, RowError};
@@ -60,6 +60,19 @@ pub(crate) fn priority(fields: &ByteRecord, place: usize) -> Result<u8, RowError
         return Err(RowError::Priority);
     }
     Ok(number as u8)
+}
+
+/// The flag that a field spells: 0 is false, and 1 is true.
+#[tactic(auto, unfolding(crate::specs::FieldValues::flag_at))]
+pub(crate) fn flag(fields: &ByteRecord, place: usize) -> Result<bool, RowError>
+    requires { 1 ≤ place }
+    ensures { result ≡ flag_at (fields_of fields.now) place }
+{
+    let number = small_number(fields, place)?;
+    if number > 1 {
+        return Err(RowError::Number { field: place });
+    }
+    Ok(number == 1)
 }
 
 /// The address that a field spells.

@@ -64,6 +64,10 @@ impl JournalParser {
                 from: *from,
                 local: *local,
             }),
+            Row::Node { router, transit } => self.add(Change::Node {
+                router: *router,
+                transit: *transit,
+            }),
             Row::End { number, count } if self.is_next(*number, *count) => {
                 self.close(alloc, *number)
             }

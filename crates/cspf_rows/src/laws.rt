@@ -1,7 +1,7 @@
 ghost use Rattle.cspf_rows.specs.FieldTexts.{AreTextsRead};
 ghost use Rattle.cspf_rows.specs.Says.{AreRowsRead, SaysOneRow};
 ghost use Rattle.cspf_rows.specs.RowRefusals.{AreRowsRefused, IsRefusedOnce};
-ghost use Rattle.cspf_rows.specs.Written.{ArePutsReadBack, AreDropsReadBack, AreEndsReadBack, AreAsksReadBack};
+ghost use Rattle.cspf_rows.specs.Written.{ArePutsReadBack, AreDropsReadBack, AreNodesReadBack, AreEndsReadBack, AreAsksReadBack};
 
 use cspf_addr::{
     addresses_are_spelled_once, hop_lists_are_read_back, masks_are_spelled,
@@ -33,6 +33,7 @@ pub fn rows_are_read()
 pub fn rows_are_read_back()
     ensures puts { ArePutsReadBack }
     ensures drops { AreDropsReadBack }
+    ensures nodes { AreNodesReadBack }
     ensures ends { AreEndsReadBack }
     ensures asks { AreAsksReadBack }
 {

@@ -1,7 +1,7 @@
 ghost use Rattle.std.specs.Prelude.{◌≡◌};
 ghost use Rattle.csv.specs.Records.{fields_of};
 
-use crate::field::{address, expect_count, hops, mask, number, priority, small_number, text};
+use crate::field::{address, expect_count, flag, hops, mask, number, priority, small_number, text};
 use crate::row_error::RowError;
 use cspf_addr::Addr;
 use cspf_db::{Link, LinkError, Request, RequestError, fields_of_links_and_requests};
@@ -19,6 +19,13 @@ pub enum Row {
         /// The address of its interface there.
         local: Addr,
     },
+    /// One more change, which says whether a router has transit.
+    Node {
+        /// The Router ID.
+        router: Addr,
+        /// Whether routes may pass through the router.
+        transit: bool,
+    },
     /// The changes since the last such row are a batch.
     End {
         /// The version that the batch makes.
@@ -31,7 +38,7 @@ pub enum Row {
 }
 
 impl Row {
-    ghost use Rattle.cspf_rows.specs.Rows.{row_of, put_row_of, drop_row_of, end_row_of, ask_row_of};
+    ghost use Rattle.cspf_rows.specs.Rows.{row_of, put_row_of, drop_row_of, node_row_of, end_row_of, ask_row_of};
 
     /// The row that the fields of a record say, or the first refusal: its kind, the number of its
     /// fields, then the fields from the first to the last, and then two ends that are one router.
@@ -46,6 +53,9 @@ impl Row {
         } else if kind == b"drop".as_slice() {
             expect_count(fields, 3)?;
             Row::remove(fields)
+        } else if kind == b"node".as_slice() {
+            expect_count(fields, 3)?;
+            Row::node(fields)
         } else if kind == b"end".as_slice() {
             expect_count(fields, 3)?;
             Row::end(fields)
@@ -93,6 +103,16 @@ impl Row {
         let from = address(fields, 2)?;
         let local = address(fields, 3)?;
         Ok(Row::Remove { from, local })
+    }
+
+    /// The row of 3 fields that says whether a router has transit.
+    #[tactic(auto, unfolding(crate::specs::Rows::node_row_of))]
+    fn node(fields: &ByteRecord) -> Result<Row, RowError>
+        ensures { result ≡ node_row_of (fields_of fields.now) }
+    {
+        let router = address(fields, 2)?;
+        let transit = flag(fields, 3)?;
+        Ok(Row::Node { router, transit })
     }
 
     /// The row of 3 fields that ends a batch.

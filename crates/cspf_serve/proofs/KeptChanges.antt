@@ -75,3 +75,5 @@ refusal_whole d number kept all unfit.Full front h =
     subst (λ cs. IsRefusal d (batch_of number cs) unfit.Full) (kept_all kept all front h.0.short) h
 refusal_whole d number kept all unfit.TooManyRouters front h =
     subst (λ cs. IsRefusal d (batch_of number cs) unfit.TooManyRouters) (kept_all kept all front h.0.short) h
+refusal_whole d number kept all unfit.TooManyMarks front h =
+    subst (λ cs. IsRefusal d (batch_of number cs) unfit.TooManyMarks) (kept_all kept all front h.0.short) h

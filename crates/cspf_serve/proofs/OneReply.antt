@@ -50,6 +50,7 @@ pub answered_once : OneBestAnswer → HasOneReplyLine → OneRefusal → (s : Ru
 answered_once best reply one s (Err error) l m t u a b = (a.0 ∙ sym b.0, a.1 ∙ sym b.1)
 answered_once best reply one s (Ok (row.Put link)) l m t u a b = (a.0 ∙ sym b.0, a.1 ∙ sym b.1)
 answered_once best reply one s (Ok (row.Remove from local)) l m t u a b = (a.0 ∙ sym b.0, a.1 ∙ sym b.1)
+answered_once best reply one s (Ok (row.Node router transit)) l m t u a b = (a.0 ∙ sym b.0, a.1 ∙ sym b.1)
 answered_once best reply one s (Ok (row.End number count)) l m t u a b = end_once one s number count l m t u a b
 answered_once best reply one s (Ok (row.Ask q)) l m t u a b =
     let same : a.0 ≡ b.0 = best _ q a.0 b.0 a.1 b.1 in

@@ -41,6 +41,7 @@ within_row : (s t : RunState) (r : Result Row RowError) (line : List ℕ) → Is
 within_row s t (Err error) line a = rw a.1 (within_refused s)
 within_row s t (Ok (row.Put link)) line a = rw a.1 (within_change s (change.Put link))
 within_row s t (Ok (row.Remove from local)) line a = rw a.1 (within_change s (change.Remove from local))
+within_row s t (Ok (row.Node router transit)) line a = rw a.1 (within_change s (change.Node router transit))
 within_row s t (Ok (row.End number count)) line (inl a) = rw a.2 (within_batch s number)
 within_row s t (Ok (row.End number count)) line (inr a) = rw a.4 (within_refused_batch s)
 within_row s t (Ok (row.Ask q)) line a = rw a.3 (within_reply s)

@@ -77,6 +77,7 @@ rows_after s xs ys l m a b c d first second = record {
 change_answered : (s : RunState) (c : Change) (read : ReadRow) → read ≡ Ok (change_row c) → IsRowAnswered s read [] (after_change_row s c)
 change_answered s (change.Put link) read is = rw is (refl, refl)
 change_answered s (change.Remove from local) read is = rw is (refl, refl)
+change_answered s (change.Node router transit) read is = rw is (refl, refl)
 
 -- rows of changes
 changes_after : (s : RunState) (cs : List Change) (xs : Records) → map row_of xs ≡ read_rows (map change_row cs) → IsAfter s xs [] s.accepted (s.changes ++ cs)

@@ -13,6 +13,7 @@ unfit_words (unfit.Duplicate at) = codes "duplicate " ++ decimal at
 unfit_words (unfit.Absent at) = codes "absent " ++ decimal at
 unfit_words unfit.Full = codes "full"
 unfit_words unfit.TooManyRouters = codes "routers"
+unfit_words unfit.TooManyMarks = codes "marks"
 
 -- the words of a refusal
 abbrev pub batch_words : BatchRefusal → List ℕ

@@ -106,6 +106,7 @@ abbrev pub IsRowAnswered : RunState → Result Row RowError → List ℕ → Run
 IsRowAnswered s (Err error) line after = (line ≡ refused_row_line s.rows error) × (after ≡ after_refused_row s)
 IsRowAnswered s (Ok (row.Put link)) line after = (line ≡ []) × (after ≡ after_change_row s (change.Put link))
 IsRowAnswered s (Ok (row.Remove from local)) line after = (line ≡ []) × (after ≡ after_change_row s (change.Remove from local))
+IsRowAnswered s (Ok (row.Node router transit)) line after = (line ≡ []) × (after ≡ after_change_row s (change.Node router transit))
 IsRowAnswered s (Ok (row.End number count)) line after = IsEndAnswered s number count line after
 IsRowAnswered s (Ok (row.Ask q)) line after =
     (answer : Answer) × IsBestAnswer (current_database s) q answer × IsReply q.id (current_version s) answer line × (after ≡ after_reply s)

@@ -37,6 +37,7 @@ impl fmt::Display for BatchRefusal {
             BatchRefusal::Unfit(Refusal::Absent { at }) => write!(f, "absent {at}"),
             BatchRefusal::Unfit(Refusal::Full) => f.write_str("full"),
             BatchRefusal::Unfit(Refusal::TooManyRouters) => f.write_str("routers"),
+            BatchRefusal::Unfit(Refusal::TooManyMarks) => f.write_str("marks"),
         }
     }
 }

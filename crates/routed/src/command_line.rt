@@ -65,6 +65,8 @@ Rows of standard input, fields separated by commas:
       puts a link; u0 to u7 are its unreserved bandwidth at the priorities 0 to 7
   drop,router,local
       takes a link out
+  node,router,transit
+      with transit 0 no route passes through the router any more, with 1 routes do again
   end,number,count
       makes the changes since the last end row, as many as count, in one: version number
   ask,id,from,to,setup,bandwidth,exclude_any,include_any,include_all,hops
@@ -85,7 +87,8 @@ the last line of standard error is routed: stopped, and with --explain the line 
 
 Example: the rows
   put,1.1.1.1,10.0.12.1,2.2.2.2,10.0.12.2,10,0x1,5,5,5,5,5,5,5,5
-  end,1,1
+  put,2.2.2.2,10.0.12.2,1.1.1.1,10.0.12.1,10,0x1,5,5,5,5,5,5,5,5
+  end,1,2
   ask,7,1.1.1.1,2.2.2.2,0,5,0x0,0x0,0x0,
 are answered by
   version 1
@@ -93,9 +96,9 @@ are answered by
 
 /// What help says below the options of `batch`.
 const BATCH_HELP: &str = "\
-The journal is a file of put, drop and end rows: batches with the numbers 1, 2, 3 and so on. The
-requests are a file of ask rows, which are answered at the last version. Both are read before the
-first batch is applied.
+The journal is a file of put, drop, node and end rows: batches with the numbers 1, 2, 3 and so on.
+The requests are a file of ask rows, which are answered at the last version. Both are read before
+the first batch is applied.
 
 Lines of standard output:
   version V                  a batch is accepted
@@ -115,8 +118,8 @@ line of standard error is routed: stopped, and with --explain the line before it
 
 /// What help says below the options of `live`.
 const LIVE_HELP: &str = "\
-The updates are a file of put, drop and end rows, and the requests a file of ask rows, both as in
-batch. Both are read before the first batch is applied. Each batch is written whole to the new
+The updates are a file of put, drop, node and end rows, and the requests a file of ask rows, both
+as in batch. Both are read before the first batch is applied. Each batch is written whole to the new
 journal before it is published. Meanwhile the workers answer the requests, each at the version that
 is the last one then.
 

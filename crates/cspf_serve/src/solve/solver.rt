@@ -18,7 +18,7 @@ const KEPT_CHANGES: usize = MOST_CHANGES + 1;
 /// What stands between two rows. A stream of any length takes no more memory than this.
 #[derive(Drop)]
 pub(crate) struct Solver {
-    /// The links of the batches that were accepted.
+    /// The database of the batches that were accepted.
     table: Table,
     /// The first of the open changes.
     batch: Batch,
@@ -39,7 +39,7 @@ impl Solver {
     ghost use Rattle.cspf_serve.specs.LineTexts.{line_text};
     ghost use Rattle.cspf_serve.specs.SolverStates.{Keeps, AreFew};
 
-    /// Version 0, with no links and no open changes.
+    /// Version 0, with the empty database and no open changes.
     pub(crate) fn new(alloc: Global) -> Result<Solver, AllocError>
         ensures { IfOk result (λ solver. Keeps solver start) }
     {
@@ -98,6 +98,14 @@ impl Solver {
                 let change = Change::Remove {
                     from: *from,
                     local: *local,
+                };
+                self.open(change)?;
+                Ok(Vec::new(alloc))
+            }
+            Row::Node { router, transit } => {
+                let change = Change::Node {
+                    router: *router,
+                    transit: *transit,
                 };
                 self.open(change)?;
                 Ok(Vec::new(alloc))

@@ -6,6 +6,7 @@ returns c =
     let laws : AreRowsReadBack = record {
       puts = c.rows_are_read_back.ensures.puts;
       drops = c.rows_are_read_back.ensures.drops;
+      nodes = c.rows_are_read_back.ensures.nodes;
       ends = c.rows_are_read_back.ensures.ends;
       masks = c.masks_are_spelled.ensures.read;
       back = c.masks_are_spelled.ensures.back;

@@ -1,4 +1,5 @@
-use Rattle.cspf_publish.proofs.Steps.{admits, forks, merges}
+use Rattle.std.proofs.Common.{rules}
+use Rattle.cspf_publish.proofs.Steps.{admits, forks, merges, AreFirstOf-self}
 use Rattle.cspf_publish.proofs.replicas.Replicas.asker.Goals as goal
 
 pub reader-requires : goal.reader-requires
@@ -9,3 +10,6 @@ tell-requires c = forks _ _
 
 pub learn-requires-clause-rule : goal.learn-requires-clause-rule
 learn-requires-clause-rule c = merges _ _ _ _
+
+pub new-requires : goal.new-requires
+new-requires c = record { entered = c.known.result; seat = search rules; first = AreFirstOf-self c.known.result }

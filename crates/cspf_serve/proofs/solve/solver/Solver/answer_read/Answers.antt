@@ -19,6 +19,13 @@ returns-in_ok-open-in-Remove c = λ s kept. (
   rw c.in-Remove.is (search rules, refl),
 )
 
+pub returns-in_ok-open-in-Node : goal.returns-in_ok-open-in-Node
+returns-in_ok-open-in-Node c = λ s kept. (
+  after_change_row s (change.Node c.in-Node.router c.in-Node.transit),
+  c.in_ok-open-in-Node.ensures s kept,
+  rw c.in-Node.is (search rules, refl),
+)
+
 pub returns-in-End : goal.returns-in-End
 returns-in-End c =
     IfOk-weaker c.bytes.result _ _
