@@ -131,3 +131,35 @@ fn targets_of_legs(rt: HostRuntime) -> Result<(), Fail> {
     }
     Ok(())
 }
+
+#[test]
+fn routers_that_walks_go_on_from(rt: HostRuntime) -> Result<(), Fail> {
+    let alloc = rt.alloc();
+    let mut table = Table::new(alloc)?;
+    change(alloc, &mut table, Change::Put(link(1, 2, 3)?))?;
+    for number in [3, 9] {
+        let router = Addr::new(number);
+        let transit = false;
+        change(alloc, &mut table, Change::Node { router, transit })?;
+    }
+    // router, whether a walk may go on from it after no link, one, and the most that are counted
+    let cases = [
+        (1, [true, true, true]),
+        (2, [true, true, true]),
+        (3, [true, false, false]),
+        (9, [true, false, false]),
+    ];
+    for (number, may) in cases {
+        let router = Addr::new(number);
+        for (links, want) in [(0, may[0]), (1, may[1]), (u32::MAX, may[2])] {
+            let found = may_leave(&table, router, links);
+            assert_eq!(rt; found, want, "{number} after {links}");
+            if let Some(place) = table.place_of(router) {
+                let found = may_leave_at(&table, place, links);
+                assert_eq!(rt; found, want, "{number} after {links}");
+            }
+        }
+    }
+    assert_eq!(rt; table.routers().len(), 2);
+    Ok(())
+}

@@ -1,7 +1,9 @@
+mod marks;
+
 use super::*;
 use cspf_addr::{Addr, Mask, parse_hops};
 use cspf_db::{Batch, Change, Link, Request, Table};
-use std::alloc::Global;
+use std::alloc::{AllocError, Global};
 use std::test::Fail;
 
 // Four routers: 1.1.1.1 to 4.4.4.4.
@@ -63,6 +65,19 @@ fn table(alloc: Global, rows: &[Row]) -> Result<Table, Fail> {
         }
     }
     one_way(alloc, &both)
+}
+
+// Marks these routers as without transit.
+fn mark(alloc: Global, table: &mut Table, routers: &[u32]) -> Result<(), AllocError> {
+    let mut changes = Vec::new(alloc);
+    for router in routers {
+        changes.push(Change::Node {
+            router: Addr::new(*router),
+            transit: false,
+        })?;
+    }
+    table.absorb(&Batch { number: 2, changes });
+    Ok(())
 }
 
 // A request for 1,000 bytes per second with a setup priority, the three affinities and hops.
@@ -341,7 +356,7 @@ fn drawn_link(seed: &mut u32, from: (u32, u32), to: (u32, u32)) -> Row {
 }
 
 // A network of 12 routers with 24 links and the reverses of all but some of them.
-fn drawn(alloc: Global, seed: &mut u32) -> Result<Table, Fail> {
+fn drawn(alloc: Global, seed: &mut u32) -> Result<Vec<Row>, Fail> {
     let mut rows = Vec::new(alloc);
     for number in 0..24 {
         let from = draw(seed) % 12;
@@ -353,7 +368,39 @@ fn drawn(alloc: Global, seed: &mut u32) -> Result<Table, Fail> {
             rows.push(drawn_link(seed, (to, remote), (from, local)))?;
         }
     }
-    one_way(alloc, &rows)
+    Ok(rows)
+}
+
+// One to three marked routers in a third of the networks, and none in the others.
+fn drawn_marks(alloc: Global, seed: &mut u32) -> Result<Vec<u32>, AllocError> {
+    let mut marks = Vec::new(alloc);
+    let most = if draw(seed) % 3 == 0 {
+        1 + draw(seed) % 3
+    } else {
+        0
+    };
+    for _ in 0..most {
+        let marked = router(draw(seed));
+        if !marks.contains(&marked) {
+            marks.push(marked)?;
+        }
+    }
+    Ok(marks)
+}
+
+// The network without marks in which requests from a router, or from any that isn't marked where it is
+// 0, are answered as in the one with these marks. No bandwidth is unreserved on the links from other
+// marked routers, nor on those back to this one.
+fn unmarked(alloc: Global, rows: &[Row], marks: &[u32], from: u32) -> Result<Table, Fail> {
+    let mut open = Vec::new(alloc);
+    for row in rows {
+        let mut row = *row;
+        if row.2 == from || (row.0 != from && marks.contains(&row.0)) {
+            row.5 = 0;
+        }
+        open.push(row)?;
+    }
+    one_way(alloc, &open)
 }
 
 // Routers 0 to 3 have addresses in 10.0.0.0/30, routers 4 to 11 in 10.0.0.0/28.
@@ -379,18 +426,34 @@ fn drawn_request(seed: &mut u32, hops: &[u8]) -> Result<Request, Fail> {
 
 // How many of 16 requests in a network have a route.
 fn drawn_routes(alloc: Global, seed: &mut u32) -> Result<u32, Fail> {
-    let table = drawn(alloc, seed)?;
+    let (rows, marks) = (drawn(alloc, seed)?, drawn_marks(alloc, seed)?);
+    let mut table = one_way(alloc, &rows)?;
+    mark(alloc, &mut table, &marks)?;
+    let open = unmarked(alloc, &rows, &marks, 0)?;
     let mut routes = 0u32;
     for i in 0..16 {
         let request = drawn_request(seed, HOPS[i % 6])?;
-        if let Outcome::Route(_) = answered(alloc, &table, &request)? {
+        let outcome = answered(alloc, &table, &request)?;
+        if let Outcome::Route(_) = outcome {
             routes = routes.saturating_add(1);
+        }
+        if marks.is_empty() {
+            continue;
+        }
+        let from = request.from.number();
+        let wanted = if marks.contains(&from) {
+            best(alloc, &unmarked(alloc, &rows, &marks, from)?, &request)?
+        } else {
+            best(alloc, &open, &request)?
+        };
+        if !is_same(&outcome, &wanted) {
+            return Err(Fail::new(format_args!("{outcome:?} and {wanted:?}")));
         }
     }
     Ok(routes)
 }
 
-// Both searches answer 2,000 requests.
+// Both searches answer 2,000 requests, some of them in networks with marked routers.
 #[test]
 fn drawn_networks(rt: HostRuntime) -> Result<(), Fail> {
     let mut seed = 2463534242;

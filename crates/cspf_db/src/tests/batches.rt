@@ -67,8 +67,8 @@ fn links_and_requests(rt: HostRuntime) -> Result<(), Fail> {
     assert_eq!(rt; (made.to, made.remote), (two, Addr::new(4)));
     assert_eq!(rt; (made.metric, made.group), (10, Mask::new(1)));
     assert_eq!(rt; made.free, [1000; 8]);
-    assert_eq!(rt; put(5)?.key(), (one, Addr::new(5)));
-    assert_eq!(rt; drop_of(6).key(), (one, Addr::new(6)));
+    assert_eq!(rt; put(5)?.key(), (one, Some(Addr::new(5))));
+    assert_eq!(rt; drop_of(6).key(), (one, Some(Addr::new(6))));
     let high = Request::new(7, one, one, 8, 1, none, none, none, Hops::none());
     assert_eq!(rt; high.err(), Some(RequestError::Priority));
     let same = Request::new(7, one, one, 7, 1, none, none, none, Hops::none());

@@ -189,19 +189,19 @@ fn reverses_that_move(rt: HostRuntime) -> Result<(), Fail> {
 
 // Draws numbers, the same each time.
 #[derive(Drop)]
-struct Draw {
-    state: u32,
+pub(super) struct Draw {
+    pub(super) state: u32,
 }
 
 impl Draw {
     // A number below another, or 0.
-    fn below(&mut self, most: u32) -> u32 {
+    pub(super) fn below(&mut self, most: u32) -> u32 {
         self.state = self.state.wrapping_mul(1664525).wrapping_add(1013904223);
         (self.state >> 16).checked_rem(most).unwrap_or(0)
     }
 
     // A link of the table, if it has one.
-    fn link_of(&mut self, table: &Table) -> Option<Link> {
+    pub(super) fn link_of(&mut self, table: &Table) -> Option<Link> {
         let links = table.links();
         if links.is_empty() {
             return None;

@@ -6,7 +6,7 @@ use std::process::Abort;
 use std::test::Fail;
 
 /// Rows, and from which number of bytes on their front is refused with which words, or read.
-const ROWS: [(&[u8], &[(usize, &str)]); 5] = [
+const ROWS: [(&[u8], &[(usize, &str)]); 6] = [
     (
         b"put,1.1.1.1,10.0.12.1,2.2.2.2,10.0.12.2,10,0x1,1000,1000,1000,1000,1000,1000,1000,1000",
         &[(0, "kind"), (3, "fields"), (82, "number 15"), (83, "read")],
@@ -14,6 +14,10 @@ const ROWS: [(&[u8], &[(usize, &str)]); 5] = [
     (
         b"drop,1.1.1.1,10.0.12.1",
         &[(0, "kind"), (4, "fields"), (13, "address 3"), (22, "read")],
+    ),
+    (
+        b"node,1.1.1.1,0",
+        &[(0, "kind"), (4, "fields"), (13, "number 3"), (14, "read")],
     ),
     (
         b"end,1,12",

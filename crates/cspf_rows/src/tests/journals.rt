@@ -86,8 +86,67 @@ fn three_batches_cut_at_each_byte(rt: HostRuntime) -> Result<(), Fail> {
     Ok(())
 }
 
+#[test]
+fn text_of_one_node(rt: HostRuntime) -> Result<(), Fail> {
+    let alloc = rt.alloc();
+    let texts = [
+        (false, b"node,1.1.1.1,0\nend,1,1\n".as_slice()),
+        (true, b"node,1.1.1.1,1\nend,1,1\n".as_slice()),
+    ];
+    for (transit, wanted) in texts {
+        let router = Addr::new(0x0101_0101);
+        let batch = Batch {
+            number: 1,
+            changes: Vec::from_slice(alloc, &[Change::Node { router, transit }])?,
+        };
+        let text = batch_text(alloc, &batch)?;
+        assert!(rt; text.as_slice() == wanted, "{transit}");
+        assert_eq!(rt; text.len(), 23);
+        let journal = read_journal(alloc, text.as_slice())?;
+        assert_eq!(rt; journal.rest, Rest::Clean);
+        assert_eq!(rt; journal.batches.len(), 1);
+        assert_eq!(rt; journal.batches[0].number, 1);
+        let changes = journal.batches[0].changes.as_slice();
+        assert!(rt; changes == batch.changes.as_slice(), "{changes:?}");
+    }
+    Ok(())
+}
+
+/// Three batches that say whether routers have transit, one of them beside another change.
+const NODES: &[u8] = b"node,1.1.1.1,0\nend,1,1\n\
+node,2.2.2.2,0\ndrop,1.1.1.1,10.0.12.1\nnode,1.1.1.1,1\nend,2,3\n\
+node,255.255.255.255,1\nend,3,1\n";
+
+/// The same as `whole_part`, of these batches.
+fn whole_part_of_nodes(cut: usize) -> (usize, bool) {
+    match cut {
+        0 => (0, true),
+        1..=21 => (0, false),
+        22..=23 => (23, true),
+        24..=82 => (23, false),
+        83..=84 => (84, true),
+        85..=113 => (84, false),
+        _ => (115, true),
+    }
+}
+
+#[test]
+fn batches_of_nodes_cut_at_each_byte(rt: HostRuntime) -> Result<(), Fail> {
+    let alloc = rt.alloc();
+    assert_eq!(rt; NODES.len(), 115);
+    for cut in 0..116 {
+        let journal = read_journal(alloc, NODES.get(..cut).unwrap_or(&[]))?;
+        let (whole, clean) = whole_part_of_nodes(cut);
+        let found = text_of(alloc, &journal)?;
+        let wanted = NODES.get(..whole).unwrap_or(&[]);
+        assert!(rt; found.as_slice() == wanted, "cut at {cut}");
+        assert_eq!(rt; journal.rest == Rest::Clean, clean, "cut at {cut}");
+    }
+    Ok(())
+}
+
 /// Journals, the texts of their batches, and whether nothing is left behind these.
-const JOURNALS: [(&[u8], &[u8], bool); 15] = [
+const JOURNALS: [(&[u8], &[u8], bool); 20] = [
     (b"", b"", true),
     (b"end,1,0", b"end,1,0\n", true),
     (b"end,1,0\nend,2,0\n", b"end,1,0\nend,2,0\n", true),
@@ -116,6 +175,19 @@ const JOURNALS: [(&[u8], &[u8], bool); 15] = [
         b"drop,1.1.1.1,10.0.12.1\ndrop,1.1.1.1,10.0.12.1\nend,1,2\n",
         true,
     ),
+    (
+        b"node,1.1.1.1,0\nnode,1.1.1.1,1\nend,1,2\n",
+        b"node,1.1.1.1,0\nnode,1.1.1.1,1\nend,1,2\n",
+        true,
+    ),
+    (
+        b"\"node\",1.1.1.1,\"0\"\r\nend,1,1",
+        b"node,1.1.1.1,0\nend,1,1\n",
+        true,
+    ),
+    (b"end,1,0\nnode,1.1.1.1,0\n", b"end,1,0\n", false),
+    (b"node,1.1.1.1,0\nend,1,2\nend,1,0\n", b"", false),
+    (b"node,1.1.1.1,2\nend,1,1\nend,1,0\n", b"", false),
 ];
 
 #[test]

@@ -23,7 +23,7 @@ fn requests_in_pieces(rt: HostRuntime) -> Result<(), Fail> {
 }
 
 /// Streams of requests, and how they are refused.
-const REFUSED: [(&[u8], RequestsError); 6] = [
+const REFUSED: [(&[u8], RequestsError); 8] = [
     (
         b"put,1.1.1.1,10.0.12.1,2.2.2.2,10.0.12.2,10,0x1,\
 1000,1000,1000,1000,1000,1000,1000,1000",
@@ -46,6 +46,14 @@ const REFUSED: [(&[u8], RequestsError); 6] = [
     (
         b"drop,1.1.1.1,10.0.12.1\nfoo\n",
         RequestsError::NotAsk { row: 1 },
+    ),
+    (b"node,1.1.1.1,0\n", RequestsError::NotAsk { row: 1 }),
+    (
+        b"ask,8,1.1.1.1,2.2.2.2,0,0,0x0,0x0,0x0,\nnode,1.1.1.1,2\nend,1,0\n",
+        RequestsError::Bad {
+            row: 2,
+            error: RowError::Number { field: 3 },
+        },
     ),
     (
         b"ask,8,1.1.1.1,2.2.2.2,0,0,0x0,0x0,0x0,\n\nend,1,0\nfoo\n",

@@ -64,7 +64,30 @@ hops count: ask,1,1.1.1.1,2.2.2.2,7,0,Z,H 0.0.0.0/0l
 read: ask,1,1.1.1.1,2.2.2.2,0,0,Z,10.9.0.0/16s 4.4.4.4/32l
 number 5: ask,1,1.1.1.1,2.2.2.2,07,0,Z,
 number 2: ask,01,1.1.1.1,2.2.2.2,7,0,Z,
-read: end,1,2";
+read: end,1,2
+kind: NODE,1.1.1.1,0
+kind: nodes,1.1.1.1,0
+fields: node
+fields: node,1.1.1.1
+fields: node,x,2,
+fields: node,1.1.1.1,0,0
+read: node,1.1.1.1,0
+read: node,255.255.255.255,1
+address 2: node,01.1.1.1,2
+address 2: node,1.1.1,x
+address 2: node,,0
+number 3: node,1.1.1.1,2
+number 3: node,1.1.1.1,10
+number 3: node,1.1.1.1,00
+number 3: node,1.1.1.1,01
+number 3: node,1.1.1.1,+1
+number 3: node,1.1.1.1, 1
+number 3: node,1.1.1.1,-1
+number 3: node,1.1.1.1,x
+number 3: node,1.1.1.1,true
+number 3: node,1.1.1.1,
+number 3: node,1.1.1.1,4294967296
+number 3: node,1.1.1.1,18446744073709551617";
 
 /// The same for hops fields that begin as objects do. `U` stands for the digits of a subobject.
 const OBJECTS: &str = "hops 1: ero
@@ -187,6 +210,18 @@ fn what_a_drop_and_an_end_say(rt: HostRuntime) -> Result<(), Fail> {
         count: u32::MAX,
     };
     assert_eq!(rt; found, row);
+    Ok(())
+}
+
+#[test]
+fn what_a_node_says(rt: HostRuntime) -> Result<(), Fail> {
+    let router = Addr::new(0x0102_0304);
+    let without = only_row(rt.alloc(), b"node,1.2.3.4,0")??;
+    let transit = false;
+    assert_eq!(rt; without, Row::Node { router, transit });
+    let with = only_row(rt.alloc(), b"node,1.2.3.4,1")??;
+    let transit = true;
+    assert_eq!(rt; with, Row::Node { router, transit });
     Ok(())
 }
 

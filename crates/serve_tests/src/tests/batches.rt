@@ -13,7 +13,7 @@ use std::thread::Threads;
 /// status. The letters are those of the scripts.
 type Run = (&'static [u8], &'static [u8], bool, &'static [u8], u8);
 
-const RUNS: [Run; 22] = [
+const RUNS: [Run; 27] = [
     // Nothing.
     (b"", b"", false, b"", 0),
     // The bandwidth is exactly met.
@@ -150,6 +150,44 @@ const RUNS: [Run; 22] = [
         false,
         b"version 1\nask 7 v1 route cost=10 hops=1 again=no ero=000c140101080a000c022000\n",
         0,
+    ),
+    // The route goes round a router without transit.
+    (
+        b"put,1.1.1.1,10.0.2.1,2.2.2.2,10.0.2.2,1,0x1,F\nput,1.1.1.1,10.0.3.1,3.3.3.3,10.0.3.3,1,0x1,F\nput,2.2.2.2,10.9.9.9,4.4.4.4,10.0.4.2,1,0x1,F\nput,3.3.3.3,10.0.0.1,4.4.4.4,10.0.0.2,1,0x1,F\nput,2.2.2.2,10.0.2.2,1.1.1.1,10.0.2.1,1,0x1,O\nput,3.3.3.3,10.0.3.3,1.1.1.1,10.0.3.1,1,0x1,O\nput,4.4.4.4,10.0.4.2,2.2.2.2,10.9.9.9,1,0x1,O\nput,4.4.4.4,10.0.0.2,3.3.3.3,10.0.0.1,1,0x1,O\nend,1,8\nnode,2.2.2.2,0\nend,2,1\nend,3,0\n",
+        b"ask,1,1.1.1.1,4.4.4.4,0,1,Z,\n",
+        false,
+        b"version 1\nversion 2\nversion 3\nask 1 v3 route cost=2 hops=2 again=no ero=0014140101080a000303200001080a0000022000\n",
+        0,
+    ),
+    // It may begin at such a router, and not pass through one.
+    (
+        b"P\nput,2.2.2.2,10.0.23.2,3.3.3.3,10.0.23.3,10,0x1,F\nput,3.3.3.3,10.0.23.3,2.2.2.2,10.0.23.2,10,0x1,F\nQ\nend,1,4\nnode,1.1.1.1,0\nend,2,1\nnode,2.2.2.2,0\nend,3,1\n",
+        b"ask,5,1.1.1.1,2.2.2.2,0,1,Z,3.3.3.3/32l\nask,6,1.1.1.1,2.2.2.2,0,1,Z,\nask,7,9.9.9.9,2.2.2.2,0,1,Z,\n",
+        false,
+        b"version 1\nversion 2\nversion 3\nask 5 v3 none\nask 6 v3 route cost=10 hops=1 again=no ero=000c140101080a000c022000\nask 7 v3 unknown-from\n",
+        0,
+    ),
+    // A router twice in a batch, a refused row, and a row of the requests.
+    (
+        b"node,1.1.1.1,0\nnode,1.1.1.1,1\nend,1,2\n",
+        b"",
+        false,
+        b"batch 1 refused: duplicate 2\n",
+        2,
+    ),
+    (
+        b"node,1.1.1.1,2\nend,1,1\n",
+        b"",
+        false,
+        b"journal torn after 0\n",
+        2,
+    ),
+    (
+        b"node,1.1.1.1,0\nend,1,1\n",
+        b"node,1.1.1.1,1\n",
+        false,
+        b"request row 1 refused: kind\n",
+        2,
     ),
     // The same request twice.
     (

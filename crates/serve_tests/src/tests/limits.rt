@@ -62,6 +62,38 @@ fn as_many_links_as_are_kept(rt: HostRuntime) -> Result<(), Fail> {
     Ok(())
 }
 
+/// A row that marks the router whose address has this number.
+fn write_mark(text: &mut String, number: u32) -> Result<(), AllocError> {
+    let [a, b, c, d] = number.to_be_bytes();
+    write!(text, "node,{a}.{b}.{c}.{d},0\n")
+}
+
+/// A batch of as many marks as are kept, and one of one more.
+fn script_of_marks(alloc: Global) -> Result<String, AllocError> {
+    let mut text = String::new(alloc);
+    for number in 0..1024 {
+        write_mark(&mut text, number)?;
+    }
+    text.push_str("end,1,1024\nnode,0.0.4.0,0\nend,2,1\n")?;
+    Ok(text)
+}
+
+#[test]
+fn as_many_marks_as_are_kept(rt: HostRuntime) -> Result<(), Fail> {
+    let (alloc, none): (Global, &[u8]) = (rt.alloc(), b"");
+    let mut script = script_of_marks(alloc)?;
+    let mut held = Vec::new(alloc);
+    let rows = script.as_bytes();
+    let found = run_batch(&rt, alloc, rows, none, &mut held, 1, false, &NoGate);
+    let lines: &[u8] = b"version 1\nbatch 2 refused: marks\n";
+    assert!(rt; found == Ok(2) && held.as_slice() == lines);
+    // one more in place of another
+    script.push_str("node,0.0.4.0,0\nnode,0.0.0.0,1\nend,2,2\n")?;
+    let lines = "version 1\nbatch 2 refused: marks\nversion 2\n";
+    assert!(rt; is_run(alloc, script.as_str(), lines, [1030, 2, 0, 1]));
+    Ok(())
+}
+
 /// As many changes as a batch may have.
 const WHOLE: [(u32, u32, &str); 1] = [(0, 4096, "end,1,4096\n")];
 
@@ -173,6 +205,7 @@ fn words_of_unfit_batches(rt: HostRuntime) -> Result<(), Fail> {
         (Refusal::Absent { at: 4096 }, "absent 4096"),
         (Refusal::Full, "full"),
         (Refusal::TooManyRouters, "routers"),
+        (Refusal::TooManyMarks, "marks"),
     ] {
         has_word(&rt, rt.alloc(), BatchRefusal::Unfit(why), word)?;
     }

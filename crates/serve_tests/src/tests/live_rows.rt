@@ -18,7 +18,7 @@ type Run = (
     u8,
 );
 
-const RUNS: [Run; 14] = [
+const RUNS: [Run; 15] = [
     // Nothing.
     (b"", b"", b"applied 0\n", b"", 0),
     // One batch, and no requests.
@@ -60,6 +60,14 @@ const RUNS: [Run; 14] = [
         b"",
         b"applied 2\n",
         b"end,1,0\nend,2,0\n",
+        0,
+    ),
+    // A mark of a router without transit, which is taken away again.
+    (
+        b"\"node\",1.1.1.1,0\r\nend,1,1\nnode,1.1.1.1,1\nend,2,1\n",
+        b"",
+        b"applied 2\n",
+        b"node,1.1.1.1,0\nend,1,1\nnode,1.1.1.1,1\nend,2,1\n",
         0,
     ),
     // The journal's spelling is its own.

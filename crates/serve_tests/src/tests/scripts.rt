@@ -7,7 +7,7 @@ use std::test::Fail;
 /// refusals. `P` stands for the row that puts the link from 1.1.1.1 to 2.2.2.2, `Q` for the one that
 /// puts its reverse with no bandwidth, `F` for eight bandwidths of 1000, `O` for eight of 0, `Z` for
 /// three masks of no group, `H` for seven hops, and `B` for a byte order mark.
-const RUNS: [(&[u8], &[u8], [u32; 4]); 29] = [
+const RUNS: [(&[u8], &[u8], [u32; 4]); 33] = [
     // Nothing.
     (b"", b"", [0, 0, 0, 0]),
     // Changes that no end row takes.
@@ -95,6 +95,30 @@ const RUNS: [(&[u8], &[u8], [u32; 4]); 29] = [
         b"P\nput,2.2.2.2,10.0.23.2,3.3.3.3,10.0.23.3,10,0x1,F\nput,2.2.2.2,172.16.0.2,4.4.4.4,172.16.0.4,10,0x1,0,0,0,0,0,0,0,0\nQ\nput,3.3.3.3,10.0.23.3,2.2.2.2,10.0.23.2,10,0x1,O\nput,4.4.4.4,172.16.0.4,2.2.2.2,172.16.0.2,10,0x1,O\nend,1,6\nask,6,1.1.1.1,3.3.3.3,0,1,Z,172.16.0.0/12s\n",
         b"version 1\nask 6 v1 route cost=20 hops=2 again=no ero=0014140101080a000c02200001080a0017032000\n",
         [8, 1, 1, 0],
+    ),
+    // A route that would pass through a router without transit. It may begin at one.
+    (
+        b"P\nput,2.2.2.2,10.0.23.2,3.3.3.3,10.0.23.3,10,0x1,F\nput,3.3.3.3,10.0.23.3,2.2.2.2,10.0.23.2,10,0x1,F\nQ\nend,1,4\nnode,1.1.1.1,0\nend,2,1\nask,5,1.1.1.1,2.2.2.2,0,1,Z,3.3.3.3/32l\nnode,2.2.2.2,0\nend,3,1\nask,5,1.1.1.1,2.2.2.2,0,1,Z,3.3.3.3/32l\nnode,2.2.2.2,1\nend,4,1\nask,5,1.1.1.1,2.2.2.2,0,1,Z,3.3.3.3/32l\n",
+        b"version 1\nversion 2\nask 5 v2 route cost=30 hops=3 again=yes ero=001c140101080a000c02200001080a001703200001080a0017022000\nversion 3\nask 5 v3 none\nversion 4\nask 5 v4 route cost=30 hops=3 again=yes ero=001c140101080a000c02200001080a001703200001080a0017022000\n",
+        [14, 4, 3, 0],
+    ),
+    // Rows that say whether a router has transit, and two of one router in a batch.
+    (
+        b"node,1.1.1.1,2\nnode,1.1.1.1\nnode,1.1.1.1,0\nnode,1.1.1.1,1\nend,1,2\n",
+        b"row 1 refused: number 3\nrow 2 refused: fields\nbatch 1 refused: duplicate 2\n",
+        [5, 0, 0, 3],
+    ),
+    // The route goes round a router without transit, and does so once another batch came.
+    (
+        b"put,1.1.1.1,10.0.2.1,2.2.2.2,10.0.2.2,1,0x1,F\nput,1.1.1.1,10.0.3.1,3.3.3.3,10.0.3.3,1,0x1,F\nput,2.2.2.2,10.9.9.9,4.4.4.4,10.0.4.2,1,0x1,F\nput,3.3.3.3,10.0.0.1,4.4.4.4,10.0.0.2,1,0x1,F\nput,2.2.2.2,10.0.2.2,1.1.1.1,10.0.2.1,1,0x1,O\nput,3.3.3.3,10.0.3.3,1.1.1.1,10.0.3.1,1,0x1,O\nput,4.4.4.4,10.0.4.2,2.2.2.2,10.9.9.9,1,0x1,O\nput,4.4.4.4,10.0.0.2,3.3.3.3,10.0.0.1,1,0x1,O\nend,1,8\nnode,2.2.2.2,0\nend,2,1\nend,3,0\nask,1,1.1.1.1,4.4.4.4,0,1,Z,\n",
+        b"version 1\nversion 2\nversion 3\nask 1 v3 route cost=2 hops=2 again=no ero=0014140101080a000303200001080a0000022000\n",
+        [13, 3, 1, 0],
+    ),
+    // An address that is marked is no router for that.
+    (
+        b"node,9.9.9.9,0\nend,1,1\nask,7,9.9.9.9,1.1.1.1,0,1,Z,\n",
+        b"version 1\nask 7 v1 unknown-from\n",
+        [3, 1, 1, 0],
     ),
     // A refused batch leaves database and version, and drops its changes.
     (
