@@ -10,11 +10,21 @@ class Ended(Exception):
 
 
 def key_of(change):
-    return tuple(change.split(",")[1:3])
+    """A link's router and local address; for a mark the router alone."""
+    kind, *fields = change.split(",")
+    return tuple(fields[:1 if kind == "node" else 2])
+
+
+def removal_of(key):
+    return f"drop,{','.join(key)}" if len(key) == 2 else f"node,{key[0]},1"
+
+
+def is_removal(change):
+    return change == removal_of(key_of(change))
 
 
 def named(change):
-    """The change without its figures: its word, the router and the local address."""
+    """The change without its figures: its word, the router and the local address, or what a mark is."""
     return " ".join(change.split(",")[:3])
 
 
@@ -23,7 +33,7 @@ class Batches:
 
     def __init__(self, say):
         self.say = say
-        self.given = {}  # rows by key: the links that the program has
+        self.given = {}  # rows by key: the links and marks that the program has
         self.barred = {}  # rows by key: those that it refused
         self.version = 0
         self.sent = []  # the changes of the batch whose line hasn't come
@@ -35,16 +45,16 @@ class Batches:
         self.vain = 0  # refusals in a row from which nothing followed
 
     def links(self):
-        """The keys of the links that the program has or was sent."""
-        return self.given.keys() | {key_of(change) for change in self.sent if change.startswith("put,")}
+        """The keys of the links and marks that the program has or was sent."""
+        return self.given.keys() | {key_of(change) for change in self.sent if not is_removal(change)}
 
     def next(self, wanted, held=()):
         """The text of the next batch towards the wanted rows, drops first; empty where there is none.
-        Links that are held aren't dropped."""
+        Links that are held aren't dropped, and marks that are held aren't taken away."""
         wanted = {key: row for key, row in wanted.items() if self.barred.get(key) != row}
         gone = [key for key in self.given if key not in wanted and key not in held]
         puts = [key for key, row in wanted.items() if self.given.get(key) != row]
-        changes = [f"drop,{router},{local}" for router, local in sorted(gone, key=rank)]
+        changes = [removal_of(key) for key in sorted(gone, key=rank)]
         changes += [wanted[key] for key in sorted(puts, key=rank)]
         self.sent, self.is_cut = changes[:self.size], len(changes) > self.size
         if not self.sent:
@@ -74,7 +84,7 @@ class Batches:
 
     def accepted(self):
         for change in self.sent:
-            if change.startswith("drop,"):
+            if is_removal(change):
                 self.given.pop(key_of(change), None)
                 self.is_cut |= bool(self.barred)
                 self.barred.clear()  # there is room again
@@ -121,7 +131,7 @@ class Batches:
     def bar(self, change, line):
         """Leaves the change out until the link changes, or another is dropped."""
         self.say(f"{line}: {named(change)} is left out")
-        if change.startswith("put,"):
+        if not is_removal(change):
             self.barred[key_of(change)] = change
         else:
             self.given.pop(key_of(change), None)

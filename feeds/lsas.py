@@ -7,6 +7,8 @@ from collections import namedtuple
 ROUTER_LSA, AREA_OPAQUE_LSA = 1, 10
 TE_OPAQUE, LINK_TLV = 1, 2
 POINT_TO_POINT = 1  # in both kinds of LSA
+STUB_NETWORK = 3  # in a router LSA
+MAX_METRIC = 0xffff  # of links that nothing is to pass through the router by (RFC 6987)
 MAX_AGE = 3600
 ABSENT = "absent"
 LSA_HEADER = struct.Struct(">HBB4s4siHH")  # age, options, type, id, router, sequence number, checksum, length
@@ -16,6 +18,7 @@ BEFORE_LSA = 12  # bytes of a message's body: address of an interface, area, is 
 WRAPPED = {(speed * 10**9 % 2**32) / 8: speed for speed in (10, 25, 40, 50, 100, 200, 400, 800)}
 
 Lsa = namedtuple("Lsa", "sequence content")  # the content is None where it can't be read
+RouterLinks = namedtuple("RouterLinks", "adjacent is_stub")
 TeLink = namedtuple("TeLink", "kind neighbor local remote metric group free most")
 
 
@@ -56,15 +59,18 @@ def te_link(body):
                   value(9, ">I")[0] or 0, value(8, ">8f") if 8 in of else None, value(6, ">f")[0])
 
 
-def adjacencies(body):
-    """The point-to-point links of a router LSA: the neighbor and the cost by the local address."""
-    count, at, found = struct.unpack_from(">H", body, 2)[0], 4, {}
+def router_links(body):
+    """The point-to-point links of a router LSA, the neighbor and the cost by the local address, and whether it is that of a
+    stub router, whose links to routers and transit networks all have the greatest metric."""
+    count, at, found, costs = struct.unpack_from(">H", body, 2)[0], 4, {}, set()
     for _ in range(count):
         neighbor, local, kind, metrics, cost = struct.unpack_from(">4s4sBBH", body, at)
         at += 12 + 4 * metrics
+        if kind != STUB_NETWORK:
+            costs.add(cost)
         if kind == POINT_TO_POINT:
             found[dotted(local)] = (dotted(neighbor), cost)
-    return found
+    return RouterLinks(found, costs == {MAX_METRIC})
 
 
 def whole(rate):
@@ -97,7 +103,7 @@ class Lsdb:
             del self.lsas[key]
             return True
         try:
-            read = adjacencies if kind == ROUTER_LSA else te_link
+            read = router_links if kind == ROUTER_LSA else te_link
             content = read(lsa[LSA_HEADER.size:length])
         except struct.error:
             content = None
@@ -113,14 +119,15 @@ class Lsdb:
         return self.looked
 
     def look(self):
-        """Rows of links by their keys, what is left out by its reason, and bandwidths that look wrapped."""
-        up, links, left = {}, [], {}
+        """Rows of links and marks by their keys, what is left out by its reason, and bandwidths that look wrapped."""
+        up, stubs, links, left = {}, {}, [], {}
         for (area, kind, number, router), lsa in self.lsas.items():
             if lsa.content is None:
                 which = "router LSA" if kind == ROUTER_LSA else f"TE LSA {dotted(number)}"
                 left.setdefault("an LSA that can't be read", []).append((router, which))
             elif kind == ROUTER_LSA:
-                up[area, router] = lsa.content
+                up[area, router] = lsa.content.adjacent
+                stubs.setdefault(router, []).append(lsa.content.is_stub)
             elif lsa.content:
                 links.append((area, router, lsa.content, lsa.content.local or f"TE LSA {dotted(number)}"))
         made, wrapped = {}, {}
@@ -140,7 +147,8 @@ class Lsdb:
         for key in [key for key, rows in made.items() if len(rows) > 1]:
             del made[key]
             left.setdefault("two TE LSAs that differ", []).append(key)
-        return {key: rows.pop() for key, rows in made.items()}, left, wrapped
+        marks = {(router,): f"node,{router},0" for router, areas in stubs.items() if all(areas)}
+        return {key: rows.pop() for key, rows in made.items()} | marks, left, wrapped
 
 
 def why_not(up, area, router, link):

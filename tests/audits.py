@@ -79,6 +79,13 @@ def worked(audit):
     audit.says("no route over a link that runs one way", 0, "good=1 faults=0\n", one_way, ASK, "ask 7 v1 none\n")
     withdrawn = JOURNAL + "drop,2.2.2.2,10.0.12.2\nend,2,1\n" + BACK + "end,3,1\n"
     audit.says("a direction that is withdrawn and put back", 0, "good=3 faults=0\n", withdrawn, three, f"ask 1 v1 {ROUTE}\nask 2 v2 none\nask 3 v3 {ROUTE}\n")
+    further = (LINK + BACK).replace("2.2.2.2", "3.3.3.3").replace("1.1.1.1", "2.2.2.2").replace("10.0.12.", "10.0.23.")
+    marked = LINK + BACK + further + "end,1,4\nnode,2.2.2.2,0\nend,2,1\nnode,2.2.2.2,1\nend,3,1\n"
+    through = "route cost=20 hops=2 again=no ero=0014140101080a000c02200001080a0017022000"
+    asks = three.replace("2.2.2.2", "3.3.3.3")
+    audit.says("a mark that comes and goes", 0, "good=3 faults=0\n", marked, asks, f"ask 1 v1 {through}\nask 2 v2 none\nask 3 v3 {through}\n")
+    audit.says("a route through a marked router", 2, "line 1 altered\nline 2 altered\ngood=1 faults=2\n", marked, asks,
+               f"ask 1 v2 {through}\nask 2 v3 none\nask 3 v1 {through}\n")
     audit.says("a line behind one that names no id", 2, "line 1 unread\ngood=1 faults=1\n", JOURNAL, ASK, GOOD.replace("v1", "1") + GOOD)
 
 
@@ -148,6 +155,8 @@ def refusals(audit):
                    + f"end,{number},{min(4096, 16385 - at)}\n" for number, at in enumerate(range(0, 16385, 4096), 1))
     audit.refuses("a link too many", "batch 5 refused: full", full, ASK, GOOD)
     routers = "".join(f"put,1.0.{n >> 8}.{n & 255},10.0.0.1,2.0.{n >> 8}.{n & 255},10.0.0.2,10,0x1,{FREE}\n" for n in range(513))
+    marks = "".join(f"node,3.0.{n >> 8}.{n & 255},0\n" for n in range(1024))
+    audit.refuses("a mark too many", "batch 2 refused: marks", marks + "end,1,1024\nnode,4.4.4.4,0\nend,2,1\n", ASK, GOOD)
     audit.refuses("two routers too many", "batch 1 refused: routers", routers + "end,1,513\n", ASK, GOOD)
 
 

@@ -39,7 +39,7 @@ LINK = f"put,1.1.1.1,10.0.12.1,2.2.2.2,10.0.12.2,10,0x1,{FREE}"
 BACK = f"put,2.2.2.2,10.0.12.2,1.1.1.1,10.0.12.1,10,0x1,{FREE}"
 ASK = "ask,7,1.1.1.1,2.2.2.2,0,1000,0x0,0x0,0x0,"
 ROWS = [
-    LINK, "drop,1.1.1.1,10.0.12.1", "end,2,0", ASK, "ask,1,1.1.1.1,2.2.2.2,7,1000,0xA,0x1,0x0000001,",
+    LINK, "drop,1.1.1.1,10.0.12.1", "node,1.1.1.1,0", "end,2,0", ASK, "ask,1,1.1.1.1,2.2.2.2,7,1000,0xA,0x1,0x0000001,",
     "ask,1,1.1.1.1,2.2.2.2,0,1,0x0,0x0,0x0,2.2.2.2/32s 10.0.0.0/8l", "ask,4,1.1.1.1,2.2.2.2,0,1,0x0,0x0,0x0,ero:000c140181080a0a0a0a0801",
 ]
 
@@ -195,7 +195,7 @@ def cut_runs():
             yield Run("solve", [BEFORE + row[:at] + BEHIND], [], ["row cut"], f"{row!r} cut at {at}, and rows behind it")
             yield Run("solve", [BEFORE + row[:at] + "\n" + row[at:] + BEHIND], [], ["row parted"], f"{row!r} parted at {at}")
             yield Run("solve", [BEFORE + row[:at] + row[at + 1:] + BEHIND], [], ["row without a byte"], f"{row!r} without byte {at}")
-    journal = BEFORE + "drop,1.1.1.1,10.0.12.1\nend,2,1\n" + LINK.replace("0x1,", "0x00000001,") + "\nend,3,1\n"
+    journal = BEFORE + "drop,1.1.1.1,10.0.12.1\nend,2,1\n" + LINK.replace("0x1,", "0x00000001,") + "\nend,3,1\nnode,2.2.2.2,0\nend,4,1\n"
     for at in range(len(journal) + 1):
         for words in [], ["--accept-torn"]:
             yield Run("batch", [journal[:at], ASK], words, ["journal cut"], f"a journal cut at {at}")
@@ -249,6 +249,8 @@ def limit_runs():
     pairs = [put(address(1, 2 * n), "10.0.0.1", address(1, 2 * n + 1)) for n in range(513)]
     quarters = [links[at:at + 4096] for at in range(0, 16_384, 4096)]
     first, third = "drop,1.1.1.1,10.0.0.0", put(address(1, 0), "10.0.0.2", address(2, 0))
+    marks = [f"node,{address(3, n)},0" for n in range(1026)]
+    free = [f"node,{address(3, n)},1" for n in range(1025)]
     for name, text in [
         ("1,024 routers, and one more", script(pairs[:512], [third])),
         ("1,026 routers", script(pairs)),
@@ -259,6 +261,15 @@ def limit_runs():
         ("4,096 changes, two of one link", script([*links[:4095], links[0]])),
         ("16,384 links, one more, and one in another's place", script(*quarters, links[16_384:]) + f"{first}\n{links[16_384]}\nend,5,2\n{ASK}\n"),
         ("one of 16,384 links put anew", script(*quarters, links[:1])),
+        ("1,024 marks, and one more", script(marks[:1024], marks[1024:1025])),
+        ("1,025 marks", script(marks[:1025])),
+        ("a mark that is there, and one more in another's place", script(marks[:1024], marks[:1]) + f"{free[0]}\n{marks[1024]}\nend,3,2\n{marks[1025]}\nend,4,1\n"),
+        ("one more in another's place, before that one goes", script(marks[:1024], [marks[1024], free[0]])),
+        ("1,024 marks, and two changes of one", script(marks[:1024], [marks[1024], free[1024]])),
+        ("1,025 marks, and 1,025 routers", script(pairs[:512], [*marks[:1025], third], [third, *marks[:1024]])),
+        ("1,025 marks, and 16,385 links", script(*quarters, [links[16_384], *marks[:1025]])),
+        ("4,096 changes of transit, and one more", script([f"node,{address(3, n)},1" for n in range(4096)], [f"node,{address(3, n)},1" for n in range(4097)])),
+        ("each of 1,024 marks taken away", script(marks[:1024], free[:1024], marks[1:1025])),
         ("a field of a megabyte in each kind of row", "".join(f"{row.replace(',', ',' + '9' * 1_000_000, 1)}\n" for row in ROWS)),
         ("a megabyte of commas", "put" + "," * 1_000_000 + f"\n{ASK}\n"),
         ("a megabyte of line feeds", "\n" * 1_000_000 + f"{ASK}\n"),

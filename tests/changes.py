@@ -45,12 +45,28 @@ def row_of(near, far, attributes):
     return f"put,{ends},{attributes}" if far else f"drop,{ends}"
 
 
-def batch_rows(draw, number, links):
-    """A batch that fits where these links are there, by both ends, which become those after it."""
-    rows = []
-    for near, far in circuits(draw, links, ROUTERS, 5, draw.randrange(2, 8), draw.choice([0, 0, 1])).items():
+def mark_rows(draw, routers, many):
+    """Rows that say of some routers whether they have transit, each at most once. One of them may be no router."""
+    return [f"node,10.0.0.{router},{draw.choice([0, 0, 1])}" for router in draw.sample(range(routers + 1), many)]
+
+
+def mixed(draw, rows, more):
+    """The rows with others among them."""
+    for row in more:
+        rows.insert(draw.randrange(len(rows) + 1), row)
+    return rows
+
+
+def batch_rows(draw, number, links, marks=0):
+    """A batch that fits where these links are there, by both ends, which become those after it. Where it has marks, so many at
+    most, routers come and go more often."""
+    rows, many, gone = [], draw.randrange(2, 8), draw.choice([0, 0, 1])
+    if marks:
+        many, gone = draw.choice([many, 1]), draw.choice([gone, 1, 99])
+    for near, far in circuits(draw, links, ROUTERS, 5, many, gone).items():
         free = ",".join(draw.choice(["0", "5", "1000", "1000"]) for _ in range(8))
         rows.append(row_of(near, far, f"{draw.randrange(4)},0x{draw.randrange(8):x},{free}"))
+    mixed(draw, rows, mark_rows(draw, ROUTERS, draw.randrange(marks + 1)))
     return [*rows, f"end,{number},{len(rows)}"]
 
 
@@ -87,16 +103,16 @@ def stream_of(rows):
 
 
 def script(draw):
-    links, rows = {}, []
-    for number in range(1, draw.randrange(2, 5)):
-        rows += batch_rows(draw, number, links) + ask_rows(draw)
+    links, rows, marks = {}, [], draw.choice([0, 0, 3])
+    for number in range(1, draw.randrange(2, 5) + marks):
+        rows += batch_rows(draw, number, links, marks) + ask_rows(draw)
     return stream_of(rows)
 
 
 def journal(draw):
-    links, rows = {}, []
-    for number in range(1, draw.randrange(1, 5)):
-        rows += batch_rows(draw, number, links)
+    links, rows, marks = {}, [], draw.choice([0, 0, 3])
+    for number in range(1, draw.randrange(1, 5) + marks):
+        rows += batch_rows(draw, number, links, marks)
     return stream_of(rows)
 
 
@@ -108,7 +124,8 @@ def updates(draw, batches, routers=12):
         for near, far in changes.items():
             free = ",".join(str(draw.choice([0, 5, 10])) for _ in range(8))
             rows.append(row_of(near, far, f"{draw.randrange(1, 9)},0x{draw.randrange(8):08x},{free}"))
-        rows.append(f"end,{number},{len(changes)}")
+        marks = mark_rows(draw, routers, draw.choice([0, 0, 1]))
+        rows += [*marks, f"end,{number},{len(changes) + len(marks)}"]
     return stream_of(rows)
 
 
@@ -123,8 +140,8 @@ SINGLE = [
     "\x7f", "\x80", "\xff", "\xef\xbb\xbf", "\xd9\xa3",
 ]
 LINES = [
-    "", "", "\r", " ", "#", "# a comment", "#,", ",", ",,", '"', '""', '"",', "foo", "put", "drop", "end", "ask", "PUT", "put ", "end,1,0", "end,2,0",
-    "drop,10.0.0.1,172.16.0.1", "\0", "\xef\xbb\xbf", "version 1", ",put", "," * 20, "applied", "batch 1 refused: full", "versions", "ask 7 v1",
+    "", "", "\r", " ", "#", "# a comment", "#,", ",", ",,", '"', '""', '"",', "foo", "put", "drop", "node", "end", "ask", "PUT", "put ", "end,1,0", "end,2,0",
+    "drop,10.0.0.1,172.16.0.1", "node,10.0.0.1,0", "node,10.0.0.2,2", "\0", "\xef\xbb\xbf", "version 1", ",put", "," * 20, "applied", "batch 1 refused: full", "versions", "ask 7 v1",
 ]
 NUMBERS = [
     "", "0", "00", "01", "7", "8", "07", "32", "33", "255", "256", "4294967295", "4294967296", "18446744073709551615", "18446744073709551616",
@@ -336,7 +353,7 @@ def counts_mended(text):
     """The text with the number of changes before it in each end row, so that what else is wrong with a batch comes to light."""
     lines, count = text.split("\n"), 0
     for at, line in enumerate(lines):
-        if line.startswith(("put,", "drop,")):
+        if line.startswith(("put,", "drop,", "node,")):
             count += 1
         elif re.fullmatch("end,[0-9]+,[0-9]+", line):
             lines[at], count = f"{line.rpartition(',')[0]},{count}", 0

@@ -70,16 +70,16 @@ def limited(program, checks, room):
     updates = os.path.join(TOP, "examples/nsfnet.journal")
     with open(updates, encoding="ascii") as file:
         texts = Versions(file.read(), []).texts
-    lengths = [len(text) for text in texts]
-    for size, applied in [(0, 0), (100, 0), (lengths[1] - 1, 0), (lengths[1], 1), (lengths[1] + 5, 1), (lengths[3], 3), (lengths[6], 6)]:
+    lengths, most = [len(text) for text in texts], len(texts) - 1
+    for size, applied in [(0, 0), (100, 0), (lengths[1] - 1, 0), (lengths[1], 1), (lengths[1] + 5, 1), (lengths[3], 3), (lengths[6] + 19, 6), (lengths[most], most)]:
         journal = os.path.join(room, f"limited{size}")
         ran = subprocess.run([program.path, "live", "--updates", updates, "--requests", "/dev/null", "--journal", journal],
                              capture_output=True, preexec_fn=lambda: resource.setrlimit(resource.RLIMIT_FSIZE, (size, size)))
         with open(journal, encoding="ascii") as kept:
             text = kept.read()
-        last = f"batch {applied + 1} refused: journal {size - lengths[applied]}\n" if applied < 6 else ""
+        last = f"batch {applied + 1} refused: journal {size - lengths[applied]}\n" if applied < most else ""
         checks.same(f"a journal of at most {size} bytes", (ran.returncode, ran.stdout.decode(), ran.stderr, text),
-                    (2 if last else 0, f"applied {applied}\n{last}", b"", texts[6][:size]))
+                    (2 if last else 0, f"applied {applied}\n{last}", b"", texts[most][:size]))
     for shell, ended in [("", (-signal.SIGXFSZ, b"")), ("trap '' XFSZ;", (3, b"routed: stopped\n"))]:
         with open(os.path.join(room, "out"), "wb") as out, open(os.path.join(TOP, "examples/abilene.rows"), "rb") as source:
             ran = subprocess.run(["sh", "-c", f'{shell} ulimit -c 0; ulimit -f 1; exec "$1" solve', "sh", program.path], stdin=source,

@@ -379,6 +379,51 @@ def changes(checks):
     feed.end()
 
 
+def marks(checks):
+    """A router whose links to other routers all have the greatest cost is a stub router, and marked as long as it is one."""
+    top, mark, free = 65535, f"node,{A},0", f"node,{A},1"
+    stub, other = router_lsa(A, (B, A_B, top), sequence=2), te_lsa(B, B_A, A, A_B)
+    found, _ = fed(PAIR, update(stub), update(router_lsa(A, (B, A_B, top - 1), sequence=3)))
+    checks.same("a stub router is marked, and used again", found, [PAIR_ROWS, [mark], [free]])
+    found, _ = fed(update(stub, ROUTERS[1], te_lsa(A, A_B, B, B_A, metric=None), other), update(ROUTERS[0], ROUTERS[1]))
+    checks.same("a mark comes before the router's links, whose metric may be that cost", found,
+                [[mark, row(A, A_B, B, B_A, metric=top), PAIR_ROWS[1]], [free, row(A, A_B, B, B_A, metric=300)]])
+    more = "10.7.7.7"
+    found, _ = fed(PAIR, update(router_lsa(A, (B, A_B, top), (C, more, 1), sequence=2)), update(router_lsa(C)), bare=(1, 2))
+    checks.same("one link of less is enough, and a router without links is no stub router", found, [PAIR_ROWS, [], []])
+    found, _ = fed(PAIR, update(stub), update(router_lsa(A, (C, more, 1)), area="0.0.0.1"), update(router_lsa(A, (C, more, top), sequence=2), area="0.0.0.1"))
+    checks.same("a stub router in each of its areas", found, [PAIR_ROWS, [mark], [free], [mark]])
+    found, _ = fed(update(stub) + PAIR[len(update(ROUTERS[0])):], removal(stub))
+    checks.same("a stub router that goes", found, [[mark, *PAIR_ROWS], [free, f"drop,{A},{A_B}", f"drop,{B},{B_A}"]])
+    _, said = fed(update(stub) + PAIR[len(update(ROUTERS[0])):], words=("--verbose",))
+    checks.same("stub routers are counted", said, "ospf: 2 links; 1 without transit; left out: none\n")
+    router = Router()
+    feed = Feed(router)
+    router.send(PAIR)
+    feed.batch()
+    router.send(update(stub))
+    checks.same("a mark that is refused", feed.batch("batch 2 refused: marks"), ([mark], 2))
+    router.send(update(te_lsa(A, A_B, B, B_A, metric=9, sequence=2)))
+    checks.same("is left out", feed.batch(), ([row(A, A_B, B, B_A, metric=9)], 2))
+    router.send(removal(other))
+    checks.same("until something is dropped", (feed.batch(), feed.batch()), (([f"drop,{B},{B_A}"], 3), ([mark], 4)))
+    checks.true("which is said", "batch 2 refused: marks: node 1.1.1.1 0 is left out\n" in feed.end())
+    router.hang_up()
+    router = Router()
+    feed = Feed(router)
+    router.send(update(stub) + PAIR[len(update(ROUTERS[0])):])
+    feed.batch()
+    router.hang_up()
+    feed.again()
+    router.send(update(ROUTERS[1], other))
+    checks.true("a mark is held while the connection is new", feed.is_quiet())
+    router.send(update(stub, te_lsa(A, A_B, B, B_A)))
+    checks.true("and there again", feed.is_quiet())
+    router.send(update(router_lsa(A, (B, A_B, 5), sequence=3)))
+    checks.same("then it goes at once", feed.batch(), ([free], 2))
+    feed.end()
+
+
 def runs(checks):
     """Events that come one right after the other are one change, but put a batch off by a second at most."""
     old, new = te_lsa(A, A_B, B, B_A), te_lsa(A, A_B, B, B_A, metric=9)
@@ -698,7 +743,7 @@ def feed(program, checks):
     except OSError as fault:
         print(f"skipped: the feed, since no socket can be had: {fault}")
         return
-    for part in (columns, left_out, wrapped, changes, runs, streams, anew, refusals, many, lab):
+    for part in (columns, left_out, wrapped, changes, marks, runs, streams, anew, refusals, many, lab):
         part(checks)
     with_program(program, checks)
     once(program, checks)

@@ -16,6 +16,9 @@ def link(router, local, neighbor, remote, group="0x1", free=FREE):
     return f"put,{router},{local},{neighbor},{remote},10,{group},{free}\n"
 
 
+LINE = "".join(link(*one, *other) for one, other in (
+    (("1.1.1.1", "10.0.0.1"), ("2.2.2.2", "10.0.0.2")), (("2.2.2.2", "10.0.0.2"), ("1.1.1.1", "10.0.0.1")),
+    (("2.2.2.2", "10.0.1.1"), ("3.3.3.3", "10.0.1.2")), (("3.3.3.3", "10.0.1.2"), ("2.2.2.2", "10.0.1.1"))))
 PAIR = link("1.1.1.1", "10.0.0.1", "2.2.2.2", "10.0.0.2") + link("2.2.2.2", "10.0.0.2", "1.1.1.1", "10.0.0.1")
 REPLY = "ask 7 v1 route cost=10 hops=1 again=no ero=000c140101080a0000022000\n"
 
@@ -73,6 +76,21 @@ def routes(checks):
     checks.true("a route over a link of one way is refused", status == 1 and picture == "" and said.startswith("draw: "), said)
 
 
+def marks(checks):
+    """A router without transit is drawn otherwise, and told in the legend; no route passes through it."""
+    def shown(*words, **texts):
+        status, picture, said = draw(LINE + "end,1,4\nnode,2.2.2.2,0\nnode,9.9.9.9,0\nend,2,2\nnode,2.2.2.2,1\nnode,8.8.8.8,1\nend,3,2\n", *words, **texts)
+        return status, said, picture and (len(shapes(picture, "no-transit")) - 1, "no transit" in picture)
+
+    for version, wanted in (("1", (-1, False)), ("2", (1, True)), ("3", (-1, False))):
+        checks.same(f"a router without transit at version {version}", shown("--version", version), (0, "", wanted))
+    through = "ask 7 v2 route cost=20 hops=2 again=no ero=0014140101080a000002200001080a0001022000\n"
+    checks.same("a route through a router with transit", shown("--ask", "7", replies=through), (0, "", (-1, False)))
+    status, said, picture = shown("--version", "2", "--ask", "7", replies=through)
+    checks.true("a route through a router without transit is refused", status == 1 and picture == "" and said.startswith("draw: "), said)
+    checks.same("a route to a router without transit", shown("--version", "2", "--ask", "7", replies=REPLY), (0, "", (1, True)))
+
+
 def places(checks):
     given = "1.1.1.1 0 0 <b>&\n2.2.2.2 1 1 East\n3.3.3.3 1 1 Nowhere\n"
     status, picture, said = draw(PAIR + "end,1,2\n", places=given)
@@ -126,6 +144,6 @@ def examples(program, checks):
 
 
 def pictures(program, checks):
-    for part in (circuits, routes, places):
+    for part in (circuits, routes, marks, places):
         part(checks)
     examples(program, checks)

@@ -11,6 +11,7 @@ MOST_VERSIONS = 1_000_000
 MOST_CHANGES = 4_096  # of a batch
 MOST_LINKS = 16_384  # of a database
 MOST_ROUTERS = 1_024
+MOST_MARKS = 1_024  # routers without transit
 MOST_HOPS = 7
 
 OCTET = "(?:25[0-5]|2[0-4][0-9]|1[0-9][0-9]|[1-9]?[0-9])"
@@ -110,6 +111,10 @@ def drop(fields):
     return {"from": address(fields, 2), "local": address(fields, 3)}
 
 
+def node(fields):
+    return {"router": address(fields, 2), "transit": number(fields, 3, 1) == 1}
+
+
 def end(fields):
     return {"number": number(fields, 2, 32), "count": number(fields, 3, 32)}
 
@@ -128,7 +133,7 @@ def ask(fields):
 
 def row(fields):
     """The kind of a row, and what it says. Its fields are read from left to right, and the first bad one is named."""
-    kinds = {"put": (put, 15), "drop": (drop, 3), "end": (end, 3), "ask": (ask, 10)}
+    kinds = {"put": (put, 15), "drop": (drop, 3), "node": (node, 3), "end": (end, 3), "ask": (ask, 10)}
     if fields[0] not in kinds:
         raise Refused("kind")
     read, count = kinds[fields[0]]
@@ -203,15 +208,21 @@ def covers(prefix, bits, value):
 # ---- the database
 
 
-class Network:
-    """Links by their keys, the router and the local address."""
+def key_of(kind, change):
+    """What a change is about: a link, by the router and the local address, or a router alone, whose mark is apart from its links."""
+    return (change["router"],) if kind == "node" else (change["from"], change["local"])
 
-    def __init__(self, links=()):
+
+class Network:
+    """Links by their keys, the router and the local address, and the marks: the addresses of routers without transit."""
+
+    def __init__(self, links=(), marks=()):
         self.links = dict(links)
+        self.marks = set(marks)
 
     def after(self, changes):
-        """The network after a batch, a list of put and drop rows. The first refusal that applies is raised."""
-        keys = [(change["from"], change["local"]) for _, change in changes]
+        """The network after a batch, a list of put, drop and node rows. The first refusal that applies is raised."""
+        keys = [key_of(*change) for change in changes]
         if len(keys) > MOST_CHANGES:
             raise Refused("long")
         seen = set()
@@ -222,9 +233,11 @@ class Network:
         for place, key in enumerate(keys, 1):
             if changes[place - 1][0] == "drop" and key not in self.links:
                 raise Refused(f"absent {place}")
-        result = Network(self.links)
+        result = Network(self.links, self.marks)
         for key, (kind, change) in zip(keys, changes):
-            if kind == "put":
+            if kind == "node":
+                result.mark(change["router"], change["transit"])
+            elif kind == "put":
                 result.links[key] = change
             else:
                 del result.links[key]
@@ -232,7 +245,16 @@ class Network:
             raise Refused("full")
         if len(result.routers()) > MOST_ROUTERS:
             raise Refused("routers")
+        if len(result.marks) > MOST_MARKS:
+            raise Refused("marks")
         return result
+
+    def mark(self, router, transit):
+        """A router may have transit again that was never marked, and one be marked that isn't there."""
+        if transit:
+            self.marks.discard(router)
+        else:
+            self.marks.add(router)
 
     def routers(self):
         return {router for link in self.links.values() for router in (link["from"], link["to"])}
@@ -247,7 +269,8 @@ class Network:
 
         Walks are kept whole, and ordered by cost, then by the number of links, then by their local
         addresses as numbers from the first on. In leg i a walk is on its way to hop i; the last leg ends
-        at the tail-end."""
+        at the tail-end. From a marked router only a walk goes on that begins there and has no link yet. Such
+        walks come out of the heap before all others, so a state that may not be left is never in the way of one that may."""
         targets = [{request["from"]}, *(self.owners(prefix, bits) for prefix, bits, _ in request["hops"]), {request["to"]}]
         loose = [True, *(is_loose for _, _, is_loose in request["hops"]), True]
         last = len(targets) - 1
@@ -266,7 +289,7 @@ class Network:
             if leg < last and router in targets[leg]:
                 drawn += 1
                 heapq.heappush(heap, (cost, count, leg + 1, locals_, drawn, router, walk))
-            for link in out.get(router, []):
+            for link in out.get(router, []) if may_leave(self, router, count) else []:
                 to = link["to"]
                 if loose[leg] or to in targets[leg - 1] or to in targets[leg]:
                     drawn += 1
@@ -290,12 +313,18 @@ class Network:
         return f"{head} route cost={cost} hops={len(walk)} again={again} ero={object_of(walk)}"
 
     def change(self, fields):
-        """A put or drop row takes effect at once."""
-        self.links = self.after([row(fields)]).links
+        """A put, drop or node row takes effect at once."""
+        after = self.after([row(fields)])
+        self.links, self.marks = after.links, after.marks
 
     def reply(self, version, text):
         """The reply line to the text of an ask row."""
         return self.answer(version, row(next(records(text)))[1])
+
+
+def may_leave(network, router, count):
+    """Whether a walk of so many links may go on from the router: no route passes through a marked one."""
+    return count == 0 or router not in network.marks
 
 
 def admissible(network, link, request):
@@ -386,7 +415,7 @@ def whole_batches(journal, accept_torn=False):
     """The longest front of a journal's rows that is whole batches numbered from 1. It is torn where a row stands behind that."""
     rows, batches, changes, front = journal_rows(journal), [], [], 0
     for place, found in enumerate(rows, 1):
-        if found and found[0] in ("put", "drop"):
+        if found and found[0] in ("put", "drop", "node"):
             changes.append(found)
         elif found == ("end", {"number": len(batches) + 1, "count": len(changes)}):
             batches.append(changes)
@@ -460,7 +489,10 @@ def batch_text(place, changes):
     """The lines of a batch in a journal."""
     rows = []
     for kind, change in changes:
-        fields = [kind, address_text(change["from"]), address_text(change["local"])]
+        if kind == "node":
+            fields = [kind, address_text(change["router"]), int(change["transit"])]
+        else:
+            fields = [kind, address_text(change["from"]), address_text(change["local"])]
         if kind == "put":
             fields += [address_text(change["to"]), address_text(change["remote"]), change["metric"], f"0x{change['group']:08x}", *change["free"]]
         rows.append(",".join(map(str, fields)))

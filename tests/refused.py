@@ -109,7 +109,7 @@ class Live:
 
 
 class Audit:
-    """`audit` on NSFNET, of a reply at each version, one of which is altered, one said twice and one left out."""
+    """`audit` on NSFNET, of replies at the versions 0 to 7, one of which is altered, one said twice and one left out."""
 
     def __init__(self, program, room):
         updates, requests = text_of(UPDATES), text_of(REQUESTS)

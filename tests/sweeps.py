@@ -150,6 +150,12 @@ def parts(program, checks):
                     "before without request 2 none", "scenario 1 out circuit 1.1.1.1 10.0.12.1 2.2.2.2 10.0.12.2",
                     "scenario 1 lost request 1 unknown-from was=10", f"scenario 2 out link {B} 10.0.23.2 {C} 10.0.23.3",
                     "scenario 2 lost request 1 none was=10"])
+    marked = RING + f"node,{B},0\nnode,{D},0\nnode,9.9.9.9,0\nend,2,3\nnode,{D},1\nend,3,1\n"
+    checks.same("a router without transit is passed in no scenario, and is an end in each",
+                facts(program, marked, ask(1, A, C) + ask(2, A, B) + ask(3, B, D), "network|request"), [
+                    "network version=3 routers=4 links=8 circuits=4 requests=3", "scenario 1 longer request 2 cost=35 was=10 more=25",
+                    "scenario 2 lost request 1 none was=25", "scenario 3 longer request 3 cost=25 was=20 more=5", "scenario 4 lost request 1 none was=25",
+                    "scenario 4 longer request 3 cost=25 was=20 more=5"])
     equal = journal(circuit(1, 2), circuit(2, 4), circuit(1, 3), circuit(3, 4))
     checks.same("another route of the same cost isn't longer", facts(program, equal, ask(1, A, D), "lost=.*overbooked"),
                 [*(f"scenario {at} lost=0 longer=0 most=0 overbooked=0" for at in (1, 2, 3, 4)), "scenarios=4 lost=0 longer=0 overbooked=0"])
@@ -205,7 +211,7 @@ def plain(rows, asks, fail):
         return " ".join(address_text(number) for number in (*key, links[key]["to"], links[key]["remote"]))
 
     def answers(out):
-        left = type(network)({key: found for key, found in links.items() if key not in out})
+        left = type(network)({key: found for key, found in links.items() if key not in out}, network.marks)
         walks = [left.least(request) for request in requests]
         return [(walk is None and left.answer(0, request).split(" ", 3)[3], walk) for request, walk in zip(requests, walks)]
 
@@ -268,7 +274,7 @@ def compared(program, checks):
 
 
 def drawn(draw):
-    """A network with parallel circuits and links of one way, and requests, some through interface addresses."""
+    """A network with parallel circuits, links of one way and a router without transit, and requests, some through interface addresses."""
     puts, locals_ = [], []
     for at in range(draw.randrange(8, 14)):
         (one, other), free = draw.sample(range(1, 7), 2), draw.choice([10, 20, 30])
@@ -281,7 +287,7 @@ def drawn(draw):
         head, tail = draw.sample(range(1, 7), 2)
         hops = " ".join(f"{hop}/32{draw.choice('sl')}" for hop in draw.sample(locals_, draw.choice([0, 0, 1, 2])))
         asks.append(ask(at, f"10.0.0.{head}", f"10.0.0.{tail}", draw.randrange(8), draw.choice([5, 10, 15]), hops=hops))
-    return journal(*puts), "".join(asks)
+    return journal(*puts, f"node,10.0.0.{draw.randrange(1, 7)},0\n"), "".join(asks)
 
 
 def wrapped(program, room, script):
@@ -358,6 +364,11 @@ def refused(program, checks):
         return f"printf 'version 1\\n{line}\\n\\n\\n\\n'; exit 0"
 
     first = "route cost=20 hops=2 again=no ero=0014140101080a000c02200001080a0017032000"
+    marked = RING.replace("end,1,8", f"node,{B},0\nend,1,9")
+    with tempfile.TemporaryDirectory() as room:
+        path = wrapped(program, room, says(f"ask 1 v1 {first}"))
+        checks.same("a program with a route through a router without transit", sweep(path, marked, ASKS),
+                    (3, "", f"sweep: {path} wrote a route that the network doesn't have, to request 1: {first}\n"))
     with tempfile.TemporaryDirectory() as room:
         for name, script, said in (
                 ("that stops", "echo routed: stopped >&2; exit 3", "{} ended with status 3: routed: stopped"),

@@ -83,7 +83,7 @@ def counts_fields_after_reading_them(it):
     right = it.row
 
     def row(fields):
-        kinds = {"put": 15, "drop": 3, "end": 3, "ask": 10}
+        kinds = {"put": 15, "drop": 3, "node": 3, "end": 3, "ask": 10}
         if fields[0] in kinds and len(fields) > kinds[fields[0]]:
             right(fields[:kinds[fields[0]]])
         return right(fields)
@@ -217,7 +217,7 @@ def takes_a_batch_of_a_wrong_count(it):
         for found in right(journal):
             if found and found[0] == "end":
                 found[1]["count"], count = count, 0
-            elif found and found[0] in ("put", "drop"):
+            elif found and found[0] in ("put", "drop", "node"):
                 count += 1
             rows.append(found)
         return rows
@@ -288,6 +288,115 @@ def meets_no_hop_by_a_link_without_a_reverse(it):
     it.Network.owners = owners
 
 
+def reads_any_transit(it):
+    it.node = lambda fields: {"router": it.address(fields, 2), "transit": it.number(fields, 3, 32) != 0}
+
+
+def takes_transit_away_by_a_1(it):
+    right = it.Network.mark
+    it.Network.mark = lambda network, router, transit: right(network, router, not transit)
+
+
+def keeps_a_mark_that_is_taken_away(it):
+    right = it.Network.mark
+    it.Network.mark = lambda network, router, transit: None if transit else right(network, router, transit)
+
+
+def passes_through_marked_routers(it):
+    it.may_leave = lambda network, router, count: True
+
+
+def leaves_no_marked_head_end(it):
+    it.may_leave = lambda network, router, count: router not in network.marks
+
+
+def ends_at_no_marked_tail_end(it):
+    right = it.Network.least
+    it.Network.least = lambda network, request: None if request["to"] in network.marks else right(network, request)
+
+
+def passes_the_marked_head_end_again(it):
+    right = it.Network.least
+    it.Network.least = lambda network, request: right(it.Network(network.links, network.marks - {request["from"]}), request)
+
+
+def passes_through_a_marked_router_that_a_hop_names(it):
+    right = it.Network.least
+
+    def least(network, request):
+        named = {router for prefix, bits, _ in request["hops"] for router in network.owners(prefix, bits)}
+        return right(it.Network(network.links, network.marks - named), request)
+    it.Network.least = least
+
+
+def meets_no_hop_by_a_marked_router(it):
+    right = it.Network.owners
+    it.Network.owners = lambda network, prefix, bits: right(network, prefix, bits) - network.marks
+
+
+def makes_a_router_of_a_mark(it):
+    right = it.Network.routers
+    it.Network.routers = lambda network: right(network) | network.marks
+
+
+def refuses_a_mark_of_no_router(it):
+    right = it.Network.after
+
+    def after(network, changes):
+        result = right(network, changes)
+        for place, (kind, change) in enumerate(changes, 1):
+            if kind == "node" and change["router"] not in result.routers():
+                raise it.Refused(f"absent {place}")
+        return result
+    it.Network.after = after
+
+
+def drops_the_marks_of_routers_that_go(it):
+    right = it.Network.after
+
+    def after(network, changes):
+        result = right(network, changes)
+        return it.Network(result.links, result.marks - (network.routers() - result.routers()))
+    it.Network.after = after
+
+
+def refuses_transit_of_a_router_without_a_mark(it):
+    right = it.Network.after
+
+    def after(network, changes):
+        result = right(network, changes)
+        for place, (kind, change) in enumerate(changes, 1):
+            if kind == "node" and change["transit"] and change["router"] not in network.marks:
+                raise it.Refused(f"absent {place}")
+        return result
+    it.Network.after = after
+
+
+def takes_two_changes_of_one_mark(it):
+    it.key_of = rebound(it.key_of, '(change["router"],)', '(change["router"], id(change))')
+
+
+def has_one_key_for_a_router_and_its_links(it):
+    it.key_of = rebound(it.key_of, '(change["from"], change["local"])', '(change["from"],)')
+
+
+def ends_a_journal_at_a_mark(it):
+    it.whole_batches = rebound(it.whole_batches, '("put", "drop", "node")', '("put", "drop")')
+
+
+def leaves_marks_out_of_its_journal(it):
+    right = it.batch_text
+
+    def batch_text(place, changes):
+        return right(place, [change for change in changes if change[0] != "node"])
+    it.batch_text = batch_text
+
+
+def marks_in_every_other_version(it):
+    right = it.Network.answer
+    it.Network.answer = lambda network, version, request: right(network if version % 2 else it.Network(network.links), version, request)
+
+
 def goes_by_local_addresses_alone(it):
     right = it.object_of
     it.object_of = lambda walk: right([{**link, "remote": link["local"]} for link in walk])
@@ -307,6 +416,37 @@ def takes_one_router_too_many(it):
 
 def takes_one_router_too_few(it):
     it.MOST_ROUTERS -= 1
+
+
+def takes_one_mark_too_many(it):
+    it.MOST_MARKS += 1
+
+
+def takes_one_mark_too_few(it):
+    it.MOST_MARKS -= 1
+
+
+def counts_marks_before_changes(it):
+    right = it.Network.after
+
+    def after(network, changes):
+        marks = network.marks | {change["router"] for kind, change in changes if kind == "node" and not change["transit"]}
+        if len(marks) > it.MOST_MARKS:
+            raise it.Refused("marks")
+        return right(network, changes)
+    it.Network.after = after
+
+
+def looks_at_marks_before_routers(it):
+    right = it.Network.after
+
+    def after(network, changes):
+        try:
+            return right(network, changes)
+        except it.Refused as words:
+            marks = len(network.marks) + sum(kind == "node" and not change["transit"] for kind, change in changes)
+            raise it.Refused("marks" if str(words) in ("full", "routers") and marks > it.MOST_MARKS else words)
+    it.Network.after = after
 
 
 def takes_one_change_too_many(it):
@@ -428,7 +568,8 @@ def rebound(function, old, new):
     return names[function.__name__]
 
 
-LIMITS = [takes_one_link_too_many, takes_one_link_too_few, takes_one_router_too_many, takes_one_router_too_few, takes_one_change_too_many, takes_one_change_too_few]
+LIMITS = [takes_one_link_too_many, takes_one_link_too_few, takes_one_router_too_many, takes_one_router_too_few, takes_one_mark_too_many,
+          takes_one_mark_too_few, counts_marks_before_changes, looks_at_marks_before_routers, takes_one_change_too_many, takes_one_change_too_few]
 RULES = [
     reads_leading_zeros, reads_addresses_with_leading_zeros, reads_quotes_as_bytes, drops_what_stands_behind_quotes, ends_quotes_at_the_first,
     keeps_a_byte_order_mark, drops_each_byte_order_mark, ends_rows_at_line_feeds_alone, leaves_comments_out, trims_fields,
@@ -438,7 +579,12 @@ RULES = [
     keeps_changes_after_a_refused_end_row, names_the_count_before_the_number, takes_a_batch_of_a_wrong_count, takes_torn_journals,
     refuses_torn_journals_that_are_accepted, looks_at_requests_before_the_journal, ends_well_after_refusals, looks_at_bandwidth_at_priority_0,
     fits_no_link_to_an_empty_include_any, asks_for_no_reverse, takes_any_link_back_between_two_routers,
-    takes_a_link_from_the_far_interface_to_anywhere, wants_a_reverse_that_is_admissible_too, meets_no_hop_by_a_link_without_a_reverse, goes_by_local_addresses_alone, calls_every_line_good, names_a_doubled_line_before_a_foreign_one,
+    takes_a_link_from_the_far_interface_to_anywhere, wants_a_reverse_that_is_admissible_too, meets_no_hop_by_a_link_without_a_reverse,
+    reads_any_transit, takes_transit_away_by_a_1, keeps_a_mark_that_is_taken_away, passes_through_marked_routers, leaves_no_marked_head_end,
+    ends_at_no_marked_tail_end, passes_the_marked_head_end_again, passes_through_a_marked_router_that_a_hop_names, meets_no_hop_by_a_marked_router,
+    makes_a_router_of_a_mark, refuses_a_mark_of_no_router, drops_the_marks_of_routers_that_go, refuses_transit_of_a_router_without_a_mark,
+    takes_two_changes_of_one_mark, has_one_key_for_a_router_and_its_links, ends_a_journal_at_a_mark, leaves_marks_out_of_its_journal,
+    marks_in_every_other_version, goes_by_local_addresses_alone, calls_every_line_good, names_a_doubled_line_before_a_foreign_one,
     judges_at_the_last_version, judges_no_version_past_the_last, takes_a_later_line_of_an_id, judges_other_lines_of_a_run,
     takes_two_requests_of_one_id, leaves_unanswered_requests_out, forgets_what_is_said_of_routers_met_again, names_a_version_before_a_doubled_line,
     counts_a_good_line_too_many, counts_places_without_lines_that_are_passed_over, reads_no_last_reply_without_a_line_feed,
