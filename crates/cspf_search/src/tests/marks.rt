@@ -83,8 +83,10 @@ fn hops_at_marked_routers(rt: HostRuntime) -> Result<(), Fail> {
     assert_routes(&rt, alloc, &SQUARE, (FOUR, b"2.0.0.0/7l"), &cases)?;
     // empty legs at a marked head-end and at a marked tail-end
     let ends = b"1.1.1.1/32l 0.0.0.0/0s 1.1.1.1/32s 4.4.4.4/32l 0.0.0.0/0s";
-    let cases: [(&[u32], u64, &[u32]); 2] =
-        [(&[ONE, FOUR], 2, BY_TWO), (&[ONE, TWO, FOUR], 4, BY_THREE)];
+    let cases: [(&[u32], u64, &[u32]); 2] = [
+        (&[ONE, FOUR], 2, BY_TWO),
+        (&[ONE, TWO, FOUR], 4, BY_THREE),
+    ];
     assert_routes(&rt, alloc, &SQUARE, (FOUR, ends), &cases)?;
     Ok(())
 }
