@@ -1,4 +1,4 @@
--- Lemmas of the parts of a table: rows, routers, ends, reverses and spans.
+-- Lemmas of the parts of a table: rows, routers, ends, reverses, spans and marks.
 pub mod SortedEntries
 pub mod RowOrder
 pub mod SortedChanges
@@ -18,3 +18,4 @@ pub mod RouterPlaces
 pub mod RemainingRouters
 pub mod RemovalsFirst
 pub mod MarkChanges
+pub mod TransitColumn

@@ -21,6 +21,7 @@ mod row_changes;
 mod scratch;
 mod table_rows;
 mod tally;
+mod transits;
 
 use crate::limits::{MOST_ROUTERS, NO_LINK, ROOM_FOR_LINKS, ROOM_FOR_MARKS, ROOM_FOR_ROUTERS};
 use crate::{Batch, Link, Refusal};
@@ -34,6 +35,7 @@ use scratch::Scratch;
 use std::alloc::{AllocError, Global};
 use std::marker::Model;
 use table_rows::{any_rising_within, index_of, rows_from};
+use transits::list_transits;
 
 /// A traffic engineering database of at most 16,384 links, 1,024 routers and 1,024 marks of routers
 /// without transit. No call but `new` can fail for memory.
@@ -45,6 +47,7 @@ pub struct Table {
     reverses: Vec<u16>,
     spans: Vec<(u16, u16)>,
     marks: Vec<Addr>,
+    transits: Vec<bool>,
     scratch: Scratch,
 }
 
@@ -75,6 +78,7 @@ impl Table {
             reverses: Vec::with_capacity(alloc, ROOM_FOR_LINKS)?,
             spans: Vec::with_capacity(alloc, MOST_ROUTERS)?,
             marks: Vec::with_capacity(alloc, ROOM_FOR_MARKS)?,
+            transits: Vec::with_capacity(alloc, MOST_ROUTERS)?,
             scratch: Scratch::new(alloc)?,
         })
     }
@@ -198,7 +202,7 @@ impl Table {
         requires { at < length (router_list self.now) }
         ensures { IsTrue result ↔ HasTransit self.now (slice_index (router_list self.now) at) }
     {
-        !is_marked(&self.marks, self.routers[at])
+        self.transits[at]
     }
 
     /// Whether a link begins or ends at the router and the prefix covers the router or the address
@@ -252,6 +256,7 @@ impl Table {
         );
         change_marks(&mut self.marks, &batch.changes);
         list_spans(&mut self.spans, &self.routers, &self.rows);
+        list_transits(&mut self.transits, &self.routers, &self.marks);
         if !follows {
             list_reverses(&mut self.reverses, &self.rows, &self.ends, &self.spans);
         }

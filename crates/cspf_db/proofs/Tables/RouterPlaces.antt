@@ -109,11 +109,12 @@ any_agree : (p q : ℕ → Bool) (ns : List ℕ) → All (λ n. p n ≡ q n) ns 
 any_agree p q [] all = refl
 any_agree p q (n ∷ ns) all = λ i. All-head (λ m. p m ≡ q m) n ns all i || any_agree p q ns (All-tail (λ m. p m ≡ q m) n ns all) i
 
--- routers that rise differ
 module _ (routers : List ℕ) (rising : AreRising routers) where
-  lower : (i j : ℕ) → i < j → j < length routers → slice_index routers i < slice_index routers j
+  -- routers that rise are above those before them
+  pub lower : (i j : ℕ) → i < j → j < length routers → slice_index routers i < slice_index routers j
   lower i j le h = ranked (get_or routers i 0) (get_or routers j 0) Less (sym (rises nat_cmp_total with_nothing routers (test_from_true _ rising) i j 0 le h))
 
+  -- so they differ
   one_place : (i j : ℕ) → i < length routers → j < length routers → nat_eq (slice_index routers i) (slice_index routers j) ≡ nat_eq i j
   one_place i j hi hj =
       elim (nat_lt i j) as (λ b. nat_lt i j ≡ b → nat_eq (slice_index routers i) (slice_index routers j) ≡ nat_eq i j) [

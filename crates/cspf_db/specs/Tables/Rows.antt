@@ -1,5 +1,5 @@
 -- Private: the rows of a table with their routers and ends, and the database that they make.
-use Rattle.std.specs.Prelude.{◌≡◌, ◌<◌, ◌≤◌, ℕ, IsTrue, List, All, Contains, filter, length, map, nat_eq, slice_index, slice_index_or, slice_range, Vec}
+use Rattle.std.specs.Prelude.{◌≡◌, ◌<◌, ◌≤◌, ℕ, Bool, false, not, IsTrue, List, All, Contains, filter, length, map, nat_eq, slice_index, slice_index_or, slice_range, Vec}
 use Rattle.std.specs.Vec.{vec_capacity}
 use Rattle.std.specs.declared.alloc.Global.{Global}
 use Rattle.std.specs.Ordering.{nat_cmp}
@@ -112,6 +112,12 @@ AreSpansAtEnds rows ends spans =
 abbrev pub marks_in : List ℕ → set.FinSet nat_cmp
 marks_in marks = set.from_list marks
 
+-- whether each of the routers has transit, as those have that aren't marked
+pub record AreTransitsOf (routers marks : List ℕ) (transits : List Bool) : Type 0 where
+  pub many : length transits ≡ length routers
+  pub each : (at : ℕ) → at < length routers
+      → slice_index_or transits at false ≡ not (set.contains (marks_in marks) (slice_index routers at))
+
 -- the marks rise, there are no more than a table may have, and there is room for one by each change of
 -- a batch more
 pub record AreMarks (marks : Vec ℕ Global) : Type 0 where
@@ -124,7 +130,7 @@ abbrev pub marked_database : List Link → List ℕ → Database
 marked_database rows marks = record { links = (database_of rows).links; marks = marks_in marks }
 
 -- the parts of a table, where the rows from each router begin and end, and where the reverse of each
--- row is, beside the marks, which make no router
+-- row is, beside the marks, which make no router, and whether each router has transit
 pub record IsTable (a : Inside) : Type 0 where
   pub parts : AreParts a.rows a.routers a.ends
   pub spans : AreSpansOf a.rows.items a.routers.items a.spans.items
@@ -132,3 +138,5 @@ pub record IsTable (a : Inside) : Type 0 where
   pub reverses : AreReversesOf a.rows.items a.reverses
   pub marks : AreMarks a.marks
   pub listed : a.routers.items ≡ router_list (marked_database a.rows.items a.marks.items)
+  pub transits : AreTransitsOf a.routers.items a.marks.items a.transits.items
+  pub room_for_transits : MOST_ROUTERS ≤ vec_capacity a.transits

@@ -140,6 +140,52 @@ fn refused_marks(rt: HostRuntime) -> Result<(), Fail> {
     Ok(())
 }
 
+// Each router has transit by its index where it has it by its Router ID.
+fn assert_alike(rt: &impl Abort, table: &Table) {
+    for (at, router) in table.routers().iter().enumerate() {
+        let transit = table.transit(*router);
+        assert_eq!(rt; table.transit_at(at), transit, "{router:?}");
+    }
+}
+
+// The changes fit, and then these routers are marked, and there are so many routers.
+fn change_both(
+    rt: &impl Abort,
+    alloc: Global,
+    table: &mut Table,
+    changes: &[Change],
+    marks: &[u32],
+    routers: usize,
+) -> Result<(), AllocError> {
+    change(rt, alloc, table, changes, marks)?;
+    assert_eq!(rt; table.routers().len(), routers);
+    assert_alike(rt, table);
+    Ok(())
+}
+
+#[test]
+fn routers_and_marks_that_come_and_go(rt: HostRuntime) -> Result<(), Fail> {
+    let alloc = rt.alloc();
+    let mut table = Table::new(alloc)?;
+    // marks below, between, at and above the routers
+    let changes = [put(3, 1, 6)?, node(1, false), node(4, false)];
+    change_both(&rt, alloc, &mut table, &changes, &[1, 4], 2)?;
+    let changes = [node(6, false), node(9, false)];
+    change_both(&rt, alloc, &mut table, &changes, &[1, 4, 6, 9], 2)?;
+    // routers come before, between and behind these, marked and unmarked ones
+    let changes = [put(1, 1, 4)?, put(9, 1, 2)?];
+    change_both(&rt, alloc, &mut table, &changes, &[1, 4, 6, 9], 6)?;
+    // routers and marks go in one batch, and others come
+    let changes = [drop_of(1, 1), node(6, true), node(2, false)];
+    change_both(&rt, alloc, &mut table, &changes, &[1, 2, 4, 9], 4)?;
+    let changes = [drop_of(3, 1), put(9, 2, 8)?, node(8, false)];
+    change_both(&rt, alloc, &mut table, &changes, &[1, 2, 4, 8, 9], 3)?;
+    // a router that stays follows one that goes before it
+    let changes = [drop_of(9, 1), node(8, true)];
+    change_both(&rt, alloc, &mut table, &changes, &[1, 2, 4, 9], 2)?;
+    Ok(())
+}
+
 // Changes that mark the routers of a range, or take their marks away.
 fn nodes(alloc: Global, first: u32, end: u32, transit: bool) -> Result<Vec<Change>, AllocError> {
     let mut changes = Vec::new(alloc);
@@ -340,5 +386,32 @@ fn marks_after_drawn_batches(rt: HostRuntime) -> Result<(), Fail> {
         marked = marked.saturating_add(marks.len());
     }
     assert!(rt; refused > 10 && marked > 400, "{refused} {marked}");
+    Ok(())
+}
+
+// Changes that mark each second of the routers 0 to 1,023, from one on, and take the others' marks
+// away.
+fn each_second(alloc: Global, first: u32) -> Result<Vec<Change>, AllocError> {
+    let mut changes = Vec::new(alloc);
+    for router in 0..1024 {
+        changes.push(node(router, router % 2 != first))?;
+    }
+    Ok(changes)
+}
+
+#[test]
+fn each_second_router_marked(rt: HostRuntime) -> Result<(), Fail> {
+    let alloc = rt.alloc();
+    let mut table = Table::new(alloc)?;
+    let even = with(star(alloc, 1023)?, &each_second(alloc, 0)?)?;
+    table.absorb(&even);
+    assert_eq!(rt; (table.routers().len(), count_marks(&table)), (1024, 512));
+    assert!(rt; !table.transit_at(0) && table.transit_at(1023));
+    assert_alike(&rt, &table);
+    let odd = with(each_second(alloc, 1)?, &[])?;
+    table.absorb(&odd);
+    assert_eq!(rt; (table.routers().len(), count_marks(&table)), (1024, 512));
+    assert!(rt; table.transit_at(0) && !table.transit_at(1023));
+    assert_alike(&rt, &table);
     Ok(())
 }

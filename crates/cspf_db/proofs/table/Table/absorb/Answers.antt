@@ -4,7 +4,7 @@ use Rattle.cspf_db.proofs.Databases.MarkedLinks.{links_counted, routers_counted,
 use Rattle.cspf_db.proofs.Tables.EndColumn.{length-ends}
 use Rattle.cspf_db.proofs.Tables.MarkChanges.{still_marks}
 use Rattle.cspf_db.proofs.Tables.ReverseColumn.{spans_at_ends}
-use Rattle.cspf_db.proofs.Tables.RouterLists.{length-router_list, routers_marked}
+use Rattle.cspf_db.proofs.Tables.RouterLists.{length-router_list, rising-router_list, routers_marked}
 use Rattle.cspf_db.proofs.table.Table.absorb.Goals as goal
 
 pub fits-requires-clause-all : goal.fits-requires-clause-all
@@ -29,6 +29,15 @@ list_spans-requires-clause-few c =
     let parts = c.change_table-follows.ensures.parts in
     rw (c.deref-6.ensures.value, parts.routers.all, length-router_list) parts.rows.routers
 
+pub list_transits-requires-clause-routers : goal.list_transits-requires-clause-routers
+list_transits-requires-clause-routers c =
+    rw (c.deref-8.ensures.value, c.change_table-follows.ensures.parts.routers.all) (rising-router_list _)
+
+pub list_transits-requires-clause-few : goal.list_transits-requires-clause-few
+list_transits-requires-clause-few c =
+    let parts = c.change_table-follows.ensures.parts in
+    rw (c.deref-8.ensures.value, parts.routers.all, length-router_list) parts.rows.routers
+
 pub list_reverses-requires-clause-spans : goal.list_reverses-requires-clause-spans
 list_reverses-requires-clause-spans c =
     let parts = c.change_table-follows.ensures.parts in
@@ -50,6 +59,8 @@ invariant_of-self c =
       marks = still_marks c.self.inside.rows.items c.self.inside.marks.items _ c.batch.inside.changes.items fits.marks (rw c.deref-5.ensures.value at c.change_marks.ensures.marked) c.change_marks.ensures.rising
           (omega (arith, c.self.invariant.marks.room, c.change_marks.ensures.capacity));
       listed = c.change_table-follows.ensures.parts.routers.all ∙ routers_marked _ _;
+      transits = rw (← c.deref-8.ensures.value, ← c.deref-9.ensures.value) c.list_transits.ensures.each;
+      room_for_transits = c.list_transits.ensures.room;
     }
 
 pub invariant_of-self-else-not-follows : goal.invariant_of-self-else-not-follows
@@ -63,6 +74,8 @@ invariant_of-self-else-not-follows c =
       marks = still_marks c.self.inside.rows.items c.self.inside.marks.items _ c.batch.inside.changes.items fits.marks (rw c.deref-5.ensures.value at c.change_marks.ensures.marked) c.change_marks.ensures.rising
           (omega (arith, c.self.invariant.marks.room, c.change_marks.ensures.capacity));
       listed = c.change_table-follows.ensures.parts.routers.all ∙ routers_marked _ _;
+      transits = rw (← c.deref-8.ensures.value, ← c.deref-9.ensures.value) c.list_transits.ensures.each;
+      room_for_transits = c.list_transits.ensures.room;
     }
 
 pub returns-then-not-follows-clause-fitting : goal.returns-then-not-follows-clause-fitting

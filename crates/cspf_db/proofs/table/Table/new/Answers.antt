@@ -12,6 +12,7 @@ invariant_of-result c =
     let b = c.in_ok-with_capacity-4.ensures in
     let t = c.in_ok-with_capacity-5.ensures in
     let m = c.in_ok-with_capacity-6.ensures in
+    let u = c.in_ok-with_capacity-7.ensures in
     record {
       parts = record {
         rows = record { by_key = rw r.items refl; most = rw r.items (omega arith); routers = rw r.items (omega (arith, router_count-no_links)); room = omega (arith, r.exact) };
@@ -24,4 +25,6 @@ invariant_of-result c =
       reverses = record { column = record { many = rw (b.items, r.items) refl; each = rw r.items (λ at d h. absurd (omega arith)) }; room = omega (arith, b.exact) };
       marks = record { rising = rw m.items refl; most = rw m.items (omega arith); room = omega (arith, m.exact) };
       listed = rw (s.items, r.items) (router_list-nil ∙ routers_marked [] _);
+      transits = record { many = rw (u.items, s.items) refl; each = rw s.items (λ at h. absurd (omega arith)) };
+      room_for_transits = omega (arith, u.exact);
     }
