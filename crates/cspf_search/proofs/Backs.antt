@@ -9,10 +9,10 @@ use Rattle.cspf_db.specs.declared.link.Link.{Link}
 use Rattle.cspf_db.specs.declared.request.Request.{Request}
 use Rattle.cspf_db.specs.Database.{Database}
 use Rattle.cspf_db.specs.Admissible.{IsUsable, MayLeave}
-use Rattle.cspf_db.specs.Targets.{IsTarget, IsInside}
+use Rattle.cspf_db.specs.Targets.{IsTarget}
 use Rattle.cspf_db.specs.Walks.{cost_of, locals_of}
 use Rattle.cspf_search.specs.declared.arena.Node.{Node}
-use Rattle.cspf_search.specs.States.{State}
+use Rattle.cspf_search.specs.States.{State, MayEnter}
 use Rattle.cspf_search.specs.Settled.{state_cmp, locals_cmp}
 use Rattle.cspf_search.specs.Arena.{walk_with, walk_at, walks, walk_of, index_of, IsNumbered, HasLast, AreNodes, IsNext}
 use Rattle.cspf_search.specs.Frontier.{node_by}
@@ -54,15 +54,15 @@ module _ (d : Database) (q : Request) (nodes : List Node) (are : AreNodes nodes)
       };
     }
 
-    -- a usable link inside the leg to an open state crosses where the walk may leave its router, and
+    -- a usable link enters the leg to an open state crosses where the walk may leave its router, and
     -- nothing else does by that link
-    pub by_first : l.from ≡ from.router → IsUsable d q l → MayLeave d l.from (length (walk_at (walks nodes) at)) → IsInside d q from.leg l.to → index_of nodes (record { leg = from.leg; router = l.to }) ≡ None
+    pub by_first : l.from ≡ from.router → IsUsable d q l → MayLeave d l.from (length (walk_at (walks nodes) at)) → MayEnter d q from.leg l.to → index_of nodes (record { leg = from.leg; router = l.to }) ≡ None
         → IsFirstOf nodes (CrossesBy d q nodes at l) (node_by at from (Some l))
-    by_first runs usable leaves inside left =
+    by_first runs usable leaves enters left =
         let me : ℕ × List Link = (from.leg, walk_at (walks nodes) at ++ (l ∷ [])) in
         record {
           next = by_next;
-          passes = record { node = from; there = there; runs = runs; usable = usable; leaves = leaves; inside = inside; walk = refl; state = refl; still_open = left };
+          passes = record { node = from; there = there; runs = runs; usable = usable; leaves = leaves; enters = enters; walk = refl; state = refl; still_open = left };
           first = λ w t x.
               let same : from ≡ x.node = same_Some from x.node (sym there ∙ x.there) in
               let whole : (t.leg, w) ≡ me = λ i. ((ap (λ (s : State). s.leg) x.state ∙ ap (λ (n : Node). n.leg) (sym same)) i, x.walk i) in

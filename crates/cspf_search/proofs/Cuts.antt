@@ -1,5 +1,5 @@
 -- A walk is a route exactly where it reaches the end state.
-use Rattle.std.proofs.Common.{◌≡◌, inl, inr, ℕ, suc, ◌+◌, ◌≤◌, List, [], ◌∷◌, ◌++◌, length, map, refl, sym, ap, subst, arith, add-one, append_assoc, append-nil}
+use Rattle.std.proofs.Common.{◌≡◌, inl, inr, ℕ, suc, ◌+◌, ◌≤◌, List, [], ◌∷◌, ◌++◌, ◌⊎◌, length, map, refl, sym, ap, ◌∙◌, subst, arith, add-one, append_assoc, append-nil}
 use Rattle.std.specs.List.{AllByRecursion, flat_map}
 use Rattle.std.proofs.lemmas.Option.{slice_get_past}
 use Rattle.cspf_db.specs.declared.link.Link.{Link}
@@ -11,6 +11,14 @@ use Rattle.cspf_db.specs.Targets.{IsTarget, IsTargetOf, IsInside}
 use Rattle.cspf_db.specs.Legs.{AreLegs, IsCutInto}
 use Rattle.cspf_db.specs.Routes.{IsRoute}
 use Rattle.cspf_search.specs.States.{State, by_link, by_turn, Reaches, starts, steps, end_state}
+
+-- a link that runs to a router with transit, or to the tail-end
+abbrev RunsOn : Database → Request → Link → Type 0
+RunsOn d q l = HasTransit d l.to ⊎ (l.to ≡ q.to)
+
+end_of-append : (a : ℕ) (v w : List Link) → end_of a (v ++ w) ≡ end_of (end_of a v) w
+end_of-append a [] w = refl
+end_of-append a (l ∷ v) w = end_of-append l.to v w
 
 end_of-push : (a : ℕ) (w : List Link) (l : Link) → end_of a (w ++ (l ∷ [])) ≡ l.to
 end_of-push a [] l = refl
@@ -69,7 +77,7 @@ module _ (d : Database) where
 module _ (d : Database) (q : Request) where
   pub reached_walk : (w : List Link) (s : State) → Reaches d q w s → IsWalk d q w × (end_of q.from w ≡ s.router)
   reached_walk w s starts = (record { links = tt; joined = tt; transit = tt }, refl)
-  reached_walk w s (steps {v} r (by_link {leg = k} l a inside leaves)) =
+  reached_walk w s (steps {v} r (by_link {leg = k} l a enters leaves)) =
       let before = reached_walk v (record { leg = k; router = l.from }) r in (
         record {
           links = All-push (IsAdmissible d q) v l before.0.links a;
@@ -83,56 +91,77 @@ module _ (d : Database) (q : Request) where
   -- a reached state is in a leg of the request
   pub reached_leg : (w : List Link) (s : State) → Reaches d q w s → (1 ≤ s.leg) × (s.leg ≤ length q.hops + 1)
   reached_leg w s starts = (omega arith, omega arith)
-  reached_leg w s (steps r (by_link l a inside leaves)) = reached_leg _ _ r
+  reached_leg w s (steps r (by_link l a enters leaves)) = reached_leg _ _ r
   reached_leg w s (steps r (by_turn within target)) = (omega arith, omega arith)
 
   -- the router of a reached state is inside its leg
   reached_inside : (w : List Link) (s : State) → Reaches d q w s → IsInside d q s.leg s.router
   reached_inside w s starts = inr (inl refl)
-  reached_inside w s (steps r (by_link l a inside leaves)) = inside
+  reached_inside w s (steps r (by_link l a enters leaves)) = enters.inside
   reached_inside w s (steps r (by_turn within target)) = inr (inl target)
 
   -- a walk that reaches a state is cut into legs together with any legs that are left from there
   reached_cut : (w : List Link) (s : State) → Reaches d q w s → (leg : List Link) (rest : List (List Link)) → AreLegs d q s.leg s.router (leg ∷ rest)
       → s.leg + length rest ≡ suc (length q.hops) → (legs : List (List Link)) × IsCutInto d q (w ++ (leg ++ flat_map (λ links. links) rest)) legs
   reached_cut w s starts leg rest are count = (leg ∷ rest, record { number = omega arith; whole = refl; each = are })
-  reached_cut w s (steps r (by_link l a inside leaves)) leg rest are count =
+  reached_cut w s (steps r (by_link l a enters leaves)) leg rest are count =
       let longer = reached_cut _ _ r (l ∷ leg) rest (record { arrives = are.0.arrives; within = (reached_inside _ _ r, are.0.within) }, are.1) count in
       (longer.0, rw append_assoc longer.1)
   reached_cut w s (steps r (by_turn within target)) leg rest are count =
       reached_cut _ _ r [] (leg ∷ rest) (record { arrives = target; within = (reached_inside _ _ r, tt) }, are) (omega arith)
 
+  -- so does each link of a walk to the tail-end that passes through routers with transit alone
+  run_on : (a : ℕ) (w : List Link) → AreJoined a w → AllByRecursion (HasTransit d) (routers_passed w) → end_of a w ≡ q.to → AllByRecursion (RunsOn d q) w
+  run_on a [] joined passed end = tt
+  run_on a (l ∷ []) joined passed end = (inr end, tt)
+  run_on a (l ∷ (m ∷ w)) joined passed end = (inl (subst (HasTransit d) joined.1.0 passed.0), run_on l.to (m ∷ w) joined.1 passed.1 end)
+
+  -- the leg behind the last hop has one target, the tail-end
+  pub last_target : (b : ℕ) → IsTarget d q (suc (length q.hops)) b ≡ (b ≡ q.to)
+  last_target b = ap (λ o. IsTargetOf d q.to o b) (slice_get_past q.hops (length q.hops) (omega arith))
+
+  -- where the last of the legs ends
+  legs_end : (k a : ℕ) (first : List Link) (rest : List (List Link)) → k + length rest ≡ suc (length q.hops) → AreLegs d q k a (first ∷ rest)
+      → end_of a (first ++ flat_map (λ links. links) rest) ≡ q.to
+  legs_end k a first [] count legs =
+      let last : k ≡ suc (length q.hops) = omega arith in
+      ap (end_of a) (append-nil first) ∙ subst (λ (T : Type 0). T) (last_target (end_of a first)) (subst (λ i. IsTarget d q i (end_of a first)) last legs.0.arrives)
+  legs_end k a first (second ∷ rest) count legs =
+      end_of-append a first (second ++ flat_map (λ links. links) rest) ∙ legs_end (suc k) (end_of a first) second rest (omega arith) legs.1
+
   -- links that follow inside a leg lead on in it
   along : (k : ℕ) (a : ℕ) (links v : List Link) → Reaches d q v (record { leg = k; router = a }) → AllByRecursion (IsAdmissible d q) links → AreJoined a links
-      → AllByRecursion (IsInside d q k) (routers_of a links) → AllByRecursion (HasTransit d) (routers_passed (v ++ links)) → Reaches d q (v ++ links) (record { leg = k; router = end_of a links })
-  along k a [] v r all joined within passed = rw (append-nil v) r
-  along k a (l ∷ ls) v r all joined within passed =
+      → AllByRecursion (IsInside d q k) (routers_of a links) → AllByRecursion (RunsOn d q) links → AllByRecursion (HasTransit d) (routers_passed (v ++ links)) → Reaches d q (v ++ links) (record { leg = k; router = end_of a links })
+  along k a [] v r all joined within on passed = rw (append-nil v) r
+  along k a (l ∷ ls) v r all joined within on passed =
       let here : Reaches d q v (record { leg = k; router = l.from }) = rw joined.0 r in
-      rw (← append_assoc v (l ∷ []) ls) (along k l.to ls (v ++ (l ∷ [])) (steps here (by_link l all.0 within.1.0 (leaves_at d v l ls passed))) all.1 joined.1 within.1
+      rw (← append_assoc v (l ∷ []) ls) (along k l.to ls (v ++ (l ∷ [])) (steps here (by_link l all.0 (record { inside = within.1.0; through = on.0 }) (leaves_at d v l ls passed))) all.1 joined.1 within.1 on.1
       (rw append_assoc passed))
 
   -- so do all legs that are left, up to a target of the last one
   through : (k : ℕ) (a : ℕ) (first : List Link) (rest : List (List Link)) (v : List Link) → Reaches d q v (record { leg = k; router = a })
       → k + length rest ≡ suc (length q.hops) → AreLegs d q k a (first ∷ rest)
       → AllByRecursion (IsAdmissible d q) (first ++ flat_map (λ links. links) rest) → AreJoined a (first ++ flat_map (λ links. links) rest)
+      → AllByRecursion (RunsOn d q) (first ++ flat_map (λ links. links) rest)
       → AllByRecursion (HasTransit d) (routers_passed (v ++ (first ++ flat_map (λ links. links) rest)))
       → (b : ℕ) × IsTarget d q (suc (length q.hops)) b × Reaches d q (v ++ (first ++ flat_map (λ links. links) rest)) (record { leg = suc (length q.hops); router = b })
-  through k a first [] v r count legs all joined passed =
+  through k a first [] v r count legs all joined on passed =
       let here =
       along k a first v r (All-append_parts (IsAdmissible d q) first [] all).0 (AreJoined-append_parts a first [] joined).0 legs.0.within
-      (rw append-nil at passed) in
+      (All-append_parts (RunsOn d q) first [] on).0 (rw append-nil at passed) in
       let last : k ≡ suc (length q.hops) = omega arith in (
         end_of a first,
         subst (λ i. IsTarget d q i (end_of a first)) last legs.0.arrives,
         rw append-nil (subst (λ i. Reaches d q (v ++ first) (record { leg = i; router = end_of a first })) last here),
       )
-  through k a first (second ∷ rest) v r count legs all joined passed =
+  through k a first (second ∷ rest) v r count legs all joined on passed =
       let alls = All-append_parts (IsAdmissible d q) first (second ++ flat_map (λ links. links) rest) all in
+      let ons = All-append_parts (RunsOn d q) first (second ++ flat_map (λ links. links) rest) on in
       let joins = AreJoined-append_parts a first (second ++ flat_map (λ links. links) rest) joined in
       let all_passed = rw (← append_assoc v first (second ++ flat_map (λ links. links) rest)) at passed in
-      let here = along k a first v r alls.0 joins.0 legs.0.within (passed_before d (v ++ first) (second ++ flat_map (λ links. links) rest) all_passed) in
+      let here = along k a first v r alls.0 joins.0 legs.0.within ons.0 (passed_before d (v ++ first) (second ++ flat_map (λ links. links) rest) all_passed) in
       let after =
-      through (suc k) (end_of a first) second rest (v ++ first) (steps here (by_turn (omega arith) legs.0.arrives)) (omega arith) legs.1 alls.1 joins.1 all_passed in
+      through (suc k) (end_of a first) second rest (v ++ first) (steps here (by_turn (omega arith) legs.0.arrives)) (omega arith) legs.1 alls.1 joins.1 ons.1 all_passed in
       (after.0, after.1, rw append_assoc at after.2)
 
   cut_reaches : (w : List Link) (legs : List (List Link)) → IsWalk d q w → IsCutInto d q w legs
@@ -140,14 +169,13 @@ module _ (d : Database) (q : Request) where
   cut_reaches w [] walk cut = absurd (let number = cut.number in omega arith)
   cut_reaches w (first ∷ rest) walk cut =
       let whole = cut.whole in
+      let count : 1 + length rest ≡ suc (length q.hops) = let number = cut.number in omega arith in
+      let joined = subst (AreJoined q.from) (sym whole) walk.joined in
+      let passed = subst (λ x. AllByRecursion (HasTransit d) (routers_passed x)) (sym whole) walk.transit in
       let all =
-      through 1 q.from first rest [] starts (let number = cut.number in omega arith) cut.each (subst (AllByRecursion (IsAdmissible d q)) (sym whole) walk.links)
-      (subst (AreJoined q.from) (sym whole) walk.joined) (subst (λ x. AllByRecursion (HasTransit d) (routers_passed x)) (sym whole) walk.transit) in
+      through 1 q.from first rest [] starts count cut.each (subst (AllByRecursion (IsAdmissible d q)) (sym whole) walk.links) joined
+      (run_on q.from (first ++ flat_map (λ links. links) rest) joined passed (legs_end 1 q.from first rest count cut.each)) passed in
       (all.0, all.1, subst (λ x. Reaches d q x (record { leg = suc (length q.hops); router = all.0 })) whole all.2)
-
-  -- the leg behind the last hop has one target, the tail-end
-  pub last_target : (b : ℕ) → IsTarget d q (suc (length q.hops)) b ≡ (b ≡ q.to)
-  last_target b = ap (λ o. IsTargetOf d q.to o b) (slice_get_past q.hops (length q.hops) (omega arith))
 
   pub route_reaches : (w : List Link) → IsRoute d q w → Reaches d q w (end_state q)
   route_reaches w route =

@@ -10,10 +10,10 @@ use Rattle.cspf_db.specs.declared.link.Link.{Link}
 use Rattle.cspf_db.specs.declared.request.Request.{Request}
 use Rattle.cspf_db.specs.Database.{Database}
 use Rattle.cspf_db.specs.Admissible.{IsUsable}
-use Rattle.cspf_db.specs.Targets.{IsTarget, IsInside}
+use Rattle.cspf_db.specs.Targets.{IsTarget}
 use Rattle.cspf_db.specs.Index.{links_of, links_from_index, router_list}
 use Rattle.cspf_search.specs.declared.arena.Node.{Node}
-use Rattle.cspf_search.specs.States.{State}
+use Rattle.cspf_search.specs.States.{State, MayEnter}
 use Rattle.cspf_search.specs.Arena.{walk_at, walks, index_of}
 use Rattle.cspf_search.specs.Rounds.{CrossesBy, Turns, CrossesFrom, CrossesBelow}
 use Rattle.cspf_search.specs.Frontier.{state_at, IsStateIndex, nowhere, IsNodeAt, IsEnd, NodeMayLeave, CrossesUpTo}
@@ -145,25 +145,25 @@ module _ (d : Database) (q : Request) (nodes : List Node) (at state : ℕ) (is :
         let same : x.node ≡ slice_index_or nodes at nowhere = same_Some x.node (slice_index_or nodes at nowhere) (sym x.there ∙ there) in
         (x.state ∙ ap (λ (n : Node). record { leg = n.leg; router = l.to }) same ∙ link_state, x.walk)
 
-    pub link_passes : IsUsable d q l → NodeMayLeave d nodes at state → IsInside d q (state / 1024 + 1) l.to → index_of nodes (state_at d (state - state % 1024 + end)) ≡ None
+    pub link_passes : IsUsable d q l → NodeMayLeave d nodes at state → MayEnter d q (state / 1024 + 1) l.to → index_of nodes (state_at d (state - state % 1024 + end)) ≡ None
         → CrossesBy d q nodes at l (walk_at (walks nodes) at ++ (l ∷ [])) (state_at d (state - state % 1024 + end))
-    link_passes usable leaves inside left = record {
+    link_passes usable leaves enters left = record {
       node = slice_index_or nodes at nowhere;
       there = there;
       runs = runs_from d (state % 1024) row l listed ∙ sym router;
       usable = usable;
       leaves = rw (runs_from d (state % 1024) row l listed) leaves;
-      inside = rw leg inside;
+      enters = rw leg enters;
       walk = refl;
       state = sym link_state;
       still_open = left;
     }
 
-    pub link_within : (w : List Link) (t : State) → CrossesBy d q nodes at l w t → IsUsable d q l × IsInside d q (state / 1024 + 1) l.to
+    pub link_within : (w : List Link) (t : State) → CrossesBy d q nodes at l w t → IsUsable d q l × MayEnter d q (state / 1024 + 1) l.to
     link_within w t x =
         let same : x.node ≡ slice_index_or nodes at nowhere = same_Some x.node (slice_index_or nodes at nowhere) (sym x.there ∙ there) in
         let legs = ap (λ (n : Node). n.leg) same in
-        (x.usable, rw (legs ∙ leg) at x.inside)
+        (x.usable, rw (legs ∙ leg) at x.enters)
 
     row_within : row < length (links_from_index d (state % 1024))
     row_within = slice_get_within (links_from_index d (state % 1024)) row l listed

@@ -10,9 +10,9 @@ use Rattle.cspf_db.specs.declared.link.Link.{Link}
 use Rattle.cspf_db.specs.declared.request.Request.{Request}
 use Rattle.cspf_db.specs.Database.{Database, AreLinksOf, IsLinkOf, IsRouterOf}
 use Rattle.cspf_db.specs.Walks.{cost_of}
-use Rattle.cspf_db.specs.Targets.{IsTarget, IsInside}
+use Rattle.cspf_db.specs.Targets.{IsTarget}
 use Rattle.cspf_search.specs.declared.arena.Node.{Node}
-use Rattle.cspf_search.specs.States.{State, IsStep, by_link, by_turn, Reaches, starts, steps, start_of}
+use Rattle.cspf_search.specs.States.{State, MayEnter, IsStep, by_link, by_turn, Reaches, starts, steps, start_of}
 use Rattle.cspf_search.specs.Settled.{IsNoLater, AreSettled, Crosses, IsFirstCrossing, IsStuck, locals_cmp}
 use Rattle.cspf_search.specs.Arena.{walk_at, walks, walk_of, state_of, labels_of, AreNodes, AreInLegs, IsNext, root_of}
 use Rattle.cspf_search.specs.Rounds.{CrossesBy, Turns, CrossesBelow, IsFirstOf, IsFirst}
@@ -26,7 +26,7 @@ use Rattle.cspf_search.proofs.Few.{HasFewRouters, AreApart, nodes_few}
 -- a reached state is at a router of the database
 pub reached_router : (d : Database) (q : Request) → IsRouterOf d q.from → (w : List Link) (s : State) → Reaches d q w s → IsRouterOf d s.router
 reached_router d q from w s starts = from
-reached_router d q from w s (steps r (by_link l a inside leaves)) = (l, a.link, inr refl)
+reached_router d q from w s (steps r (by_link l a enters leaves)) = (l, a.link, inr refl)
 reached_router d q from w s (steps r (by_turn within target)) = reached_router d q from _ _ r
 
 nothing_before : (cost count : ℕ) (o : Ordering) → 0 < count → is_gt (ordering_then (nat_cmp 0 cost) (ordering_then (nat_cmp 0 count) o)) ≡ false
@@ -45,7 +45,7 @@ module _ (d : Database) (q : Request) (links : List Link) (listed : AreLinksOf d
       let there : State = record { leg = by.node.leg; router = l.from } in
       let same : state_of (slice_index_or nodes at nowhere) ≡ there = ap state_of is ∙ (λ i. record { leg = by.node.leg; router = sym by.runs i }) in
       let step : IsStep d q (walk_at (walks nodes) at) there (walk_at (walks nodes) at ++ (l ∷ [])) (record { leg = by.node.leg; router = l.to }) =
-      by_link l (record { link = of; usable = by.usable }) by.inside by.leaves in
+      by_link l (record { link = of; usable = by.usable }) by.enters by.leaves in
       record {
         state = there;
         front = walk_at (walks nodes) at;
@@ -79,7 +79,7 @@ module _ (d : Database) (q : Request) (links : List Link) (listed : AreLinksOf d
 
   step_from : (f w : List Link) (s t : State) → IsStep d q f s w t → labels_of nodes s ≡ Some f → labels_of nodes t ≡ None
       → CrossesBelow d q nodes links (length nodes) w t
-  step_from f w s t (by_link {leg = k} l a inside leaves) here left =
+  step_from f w s t (by_link {leg = k} l a enters leaves) here left =
       let at = label_from nodes (record { leg = k; router = l.from }) f nowhere here in
       let leg = ap (λ (s : State). s.leg) (sym at.2) in (
         at.0,
@@ -93,7 +93,7 @@ module _ (d : Database) (q : Request) (links : List Link) (listed : AreLinksOf d
             runs = ap (λ (s : State). s.router) (sym at.2);
             usable = a.usable;
             leaves = rw at.3 leaves;
-            inside = subst (λ (s : State). IsInside d q s.leg l.to) (sym at.2) inside;
+            enters = subst (λ (s : State). MayEnter d q s.leg l.to) (sym at.2) enters;
             walk = ap (λ v. v ++ (l ∷ [])) (sym at.3);
             state = λ i. record { leg = leg i; router = l.to };
             still_open = open_index nodes (record { leg = k; router = l.to }) left;

@@ -9,13 +9,13 @@ use Rattle.cspf_db.specs.declared.link.Link.{Link}
 use Rattle.cspf_db.specs.declared.request.Request.{Request}
 use Rattle.cspf_db.specs.Database.{Database}
 use Rattle.cspf_db.specs.Admissible.{IsUsable}
-use Rattle.cspf_db.specs.Targets.{IsTarget, IsInside}
+use Rattle.cspf_db.specs.Targets.{IsTarget}
 use Rattle.cspf_db.specs.Walks.{cost_of}
 use Rattle.cspf_db.specs.Index.{links_of, links_from_index, router_list}
 use Rattle.cspf_search.specs.declared.arena.Node.{Node}
 use Rattle.cspf_search.specs.declared.forward_star.ForwardStar.{ForwardStar}
 use Rattle.cspf_search.specs.declared.rounds.Look.{Look}
-use Rattle.cspf_search.specs.States.{State}
+use Rattle.cspf_search.specs.States.{State, MayEnter}
 use Rattle.cspf_search.specs.Settled.{state_cmp}
 use Rattle.cspf_search.specs.Arena.{state_of, walk_of, index_of, AreNodes, IsNext}
 use Rattle.cspf_search.specs.Rounds.{CrossesBy, Turns, CrossesBelow, IsFirst, RanksBefore, earlier_of}
@@ -125,12 +125,12 @@ module _ (d : Database) (q : Request) (nodes : List Node) (are : AreNodes nodes)
         absurd (cc))
 
     -- where the link ends the leg doesn't go, or the link isn't usable
-    pub no_link : (IsUsable d q l → IsInside d q ((state - state % 1024 + end) / 1024 + 1) (slice_index (router_list d) ((state - state % 1024 + end) % 1024)) → ⊥)
+    pub no_link : (IsUsable d q l → MayEnter d q ((state - state % 1024 + end) / 1024 + 1) (slice_index (router_list d) ((state - state % 1024 + end) % 1024)) → ⊥)
         → IsFirst nodes (CrossesUpTo d q nodes at (state % 1024) (row + 1)) a
     no_link never = link_off (λ w t x.
         let same = (link_only d q nodes at state is row l here end ends few w t x).0 in
-        let inside : IsInside d q t.leg t.router = rw x.state x.inside in
-        never x.usable (subst (λ (s : State). IsInside d q s.leg s.router) same inside))
+        let enters : MayEnter d q t.leg t.router = rw x.state x.enters in
+        never x.usable (subst (λ (s : State). MayEnter d q s.leg s.router) same enters))
 
     pub link_late : l.metric < 2 ^ 32 → (from : Node) → from ≡ slice_index_or nodes at nowhere → (metric : ℕ) → metric ≡ l.metric
         → IsSomeAnd a (λ kept. RanksBefore kept (from.cost + metric) (from.links + 1)) → IsFirst nodes (CrossesUpTo d q nodes at (state % 1024) (row + 1)) a
@@ -151,18 +151,18 @@ module _ (d : Database) (q : Request) (nodes : List Node) (are : AreNodes nodes)
         ] before late
 
     pub link_kept : l.metric < 2 ^ 32 → index_of nodes (state_at d (state - state % 1024 + end)) ≡ None → IsUsable d q l
-        → NodeMayLeave d nodes at state → IsInside d q ((state - state % 1024 + end) / 1024 + 1) (slice_index (router_list d) ((state - state % 1024 + end) % 1024)) → (from : Node)
+        → NodeMayLeave d nodes at state → MayEnter d q ((state - state % 1024 + end) / 1024 + 1) (slice_index (router_list d) ((state - state % 1024 + end) % 1024)) → (from : Node)
         → from ≡ slice_index_or nodes at nowhere → (metric : ℕ) → metric ≡ l.metric
         → IsFirst nodes (CrossesUpTo d q nodes at (state % 1024) (row + 1)) (earlier_of nodes a (Some (along at from l metric)))
-    link_kept small left usable leaves inside from same metric is_metric =
+    link_kept small left usable leaves enters from same metric is_metric =
         let to = link_state d q nodes at state is row l here end ends few in
-        let there_inside = subst (λ (s : State). IsInside d q s.leg s.router) (sym to) inside in
-        let passes = link_passes d q nodes at state is row l here end ends few usable leaves (rw (leg d q nodes at state is) at there_inside) left in
+        let there_enters = subst (λ (s : State). MayEnter d q s.leg s.router) (sym to) enters in
+        let passes = link_passes d q nodes at state is row l here end ends few usable leaves (rw (leg d q nodes at state is) at there_enters) left in
         let node : passes.node ≡ slice_index_or nodes at nowhere =
         same_Some passes.node (slice_index_or nodes at nowhere) (sym passes.there ∙ there d q nodes at state is) in
         let first =
         by_first d q nodes are at is.within (slice_index_or nodes at nowhere) (there d q nodes at state is) l small
-        (passes.runs ∙ ap (λ (n : Node). n.router) node) usable passes.leaves there_inside (ap (index_of nodes) to ∙ left) in
+        (passes.runs ∙ ap (λ (n : Node). n.router) node) usable passes.leaves there_enters (ap (index_of nodes) to ∙ left) in
         rw (same, is_metric)
         (first_both nodes (CrossesUpTo d q nodes at (state % 1024) row) (CrossesBy d q nodes at l) (CrossesUpTo d q nodes at (state % 1024) (row + 1))
         (link_left d q nodes at state is row l here end ends few) (link_right d q nodes at state is row l here end ends few)

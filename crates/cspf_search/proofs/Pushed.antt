@@ -87,7 +87,7 @@ module _ (nodes : List Node) (n : Node) (before : AreApart nodes) (apart : AreAp
         runs = by.2.runs;
         usable = by.2.usable;
         leaves = subst (λ v. MayLeave d by.0.from (length v)) (walk_at-old nodes n at h) by.2.leaves;
-        inside = by.2.inside;
+        enters = by.2.enters;
         walk = by.2.walk ∙ ap (λ v. v ++ (by.0 ∷ [])) (walk_at-old nodes n at h);
         state = by.2.state;
         still_open = open_old t by.2.still_open;
@@ -113,7 +113,7 @@ module _ (nodes : List Node) (n : Node) (before : AreApart nodes) (apart : AreAp
         runs = by.2.runs;
         usable = by.2.usable;
         leaves = subst (λ v. MayLeave d by.0.from (length v)) (sym (walk_at-old nodes n at h)) by.2.leaves;
-        inside = by.2.inside;
+        enters = by.2.enters;
         walk = by.2.walk ∙ ap (λ v. v ++ (by.0 ∷ [])) (sym (walk_at-old nodes n at h));
         state = by.2.state;
         still_open = open_new t ne by.2.still_open;

@@ -56,7 +56,7 @@ module _ (d : Database) (q : Request) where
   -- a step goes up in rank
   step_grows : (potential : State → ℕ) → IsConsistent d q potential → (v x : List Link) (s t : State) → Reaches d q v s → IsStep d q v s x t
       → potential_cmp potential (s, v) (t, x) ≡ Less
-  step_grows potential up v x s t r (by_link {leg = k} l a inside leaves) =
+  step_grows potential up v x s t r (by_link {leg = k} l a enters leaves) =
       let leg = reached_leg d q v (record { leg = k; router = l.from }) r in
       potential_cmp-push potential (record { leg = k; router = l.from }) (record { leg = k; router = l.to }) v l (up.links k l leg.0 leg.1 a)
   step_grows potential up v x s t r (by_turn {leg = k} {router = router} within target) =
@@ -65,7 +65,7 @@ module _ (d : Database) (q : Request) where
   -- what leads on into a state behind the closed legs, from a state that is open, is behind them
   step_behind : (labels : Labels) (closed : ℕ) → IsClosed d q labels closed → (v x : List Link) (s t : State) → Reaches d q v s → IsStep d q v s x t
       → labels s ≡ None → closed < t.leg → closed < s.leg
-  step_behind labels closed shut v x s t r (by_link {leg = k} l a inside leaves) left h = h
+  step_behind labels closed shut v x s t r (by_link {leg = k} l a enters leaves) left h = h
   step_behind labels closed shut v x s t r (by_turn {leg = k} {router = router} within target) left h =
       let leg = reached_leg d q v (record { leg = k; router = router }) r in
       elim (cases_lt closed k) [
@@ -79,7 +79,7 @@ module _ (d : Database) (q : Request) where
   -- the same step from a walk that is no later ends in a walk that is no later
   step_no_later : (v x : List Link) (s t : State) → IsStep d q v s x t → (w : List Link) → IsNoLater w v
       → (y : List Link) × IsStep d q w s y t × IsNoLater y x
-  step_no_later v x s t (by_link {leg = k} l a inside leaves) w h = (w ++ (l ∷ []), by_link l a inside (leaves_no_later d l.from v w leaves h), rw (walk_cmp-push w v l) h)
+  step_no_later v x s t (by_link {leg = k} l a enters leaves) w h = (w ++ (l ∷ []), by_link l a enters (leaves_no_later d l.from v w leaves h), rw (walk_cmp-push w v l) h)
   step_no_later v x s t (by_turn within target) w h = (w, by_turn within target, h)
 
   module _ (labels : Labels) (settled : AreSettled d q labels) where

@@ -7,7 +7,7 @@ use Rattle.cspf_db.specs.declared.link.Link.{Link}
 use Rattle.cspf_db.specs.declared.request.Request.{Request}
 use Rattle.cspf_db.specs.Database.{Database}
 use Rattle.cspf_db.specs.Admissible.{IsUsable}
-use Rattle.cspf_db.specs.Targets.{IsTarget, IsInside}
+use Rattle.cspf_db.specs.Targets.{IsTarget}
 use Rattle.cspf_db.specs.Index.{links_of, links_from_index, router_list}
 use Rattle.cspf_search.specs.declared.arena.Node.{Node}
 use Rattle.cspf_search.specs.declared.goal.Goal.{Goal}
@@ -15,7 +15,7 @@ use Rattle.cspf_search.specs.declared.edge.Edge.{Edge}
 use Rattle.cspf_search.specs.declared.frontier.Source.{Source}
 use Rattle.cspf_search.specs.declared.labels.Label.{Label}
 use Rattle.cspf_search.specs.declared.roles.Role.{Role}
-use Rattle.cspf_search.specs.States.{State}
+use Rattle.cspf_search.specs.States.{State, MayEnter}
 use Rattle.cspf_search.specs.Arena.{walk_at, walks, walk_of, state_of, index_of, AreNodes, IsNext}
 use Rattle.cspf_search.specs.Rounds.{CrossesBy, Turns, CrossesBelow}
 use Rattle.cspf_search.specs.Source.{IsEdge, IsSource}
@@ -173,15 +173,15 @@ module _ (source : Source) (of : IsSource source) (labels : List Label) (keys : 
     along = by_next d q nodes are at is.within (slice_index_or nodes at nowhere) (there d q nodes at state is) l small
 
     -- whether a route may stand where the link ends, as told for the state there
-    pub link_told : (role : Role) → IsRole d q (state_at d (state - state % 1024 + end)) role → IsTrue role.inside ↔ IsInside d q (state / 1024 + 1) l.to
+    pub link_told : (role : Role) → IsRole d q (state_at d (state - state % 1024 + end)) role → IsTrue role.enter ↔ MayEnter d q (state / 1024 + 1) l.to
     link_told role told =
         let legs = leg d q nodes at state is in
         let same : record { leg = state / 1024 + 1; router = l.to } ≡ state_at d (state - state % 1024 + end) =
         (λ k. record { leg = sym legs k; router = l.to }) ∙ link_state d q nodes at state is row l here end ends listed.few in
-        subst (λ (s : State). IsTrue role.inside ↔ IsInside d q s.leg s.router) (sym same) told.inside
+        subst (λ (s : State). IsTrue role.enter ↔ MayEnter d q s.leg s.router) (sym same) told.enter
 
     -- what may not be used changes nothing
-    pub link_off : (IsUsable d q l → IsInside d q (state / 1024 + 1) l.to → ⊥) → AreLabels d q nodes (CrossesUpTo d q nodes at (state % 1024) (row + 1)) goal labels keys
+    pub link_off : (IsUsable d q l → MayEnter d q (state / 1024 + 1) l.to → ⊥) → AreLabels d q nodes (CrossesUpTo d q nodes at (state % 1024) (row + 1)) goal labels keys
     link_off never =
         labels_same d q nodes (CrossesUpTo d q nodes at (state % 1024) row) (CrossesUpTo d q nodes at (state % 1024) (row + 1))
         (link_left d q nodes at state is row l here end ends listed.few)
@@ -223,13 +223,13 @@ module _ (source : Source) (of : IsSource source) (labels : List Label) (keys : 
           label_tied label (Some l) parent place there_is along link_rank (CrossesUpTo d q nodes at (state % 1024) row) before (state - state % 1024 + end)
           (link_index d q nodes at state is row l here end ends listed.few) (omega (arith, open_leg, before.whole)) tie
 
-      pub link_taken : IsUsable d q l → NodeMayLeave d nodes at state → IsInside d q (state / 1024 + 1) l.to → label.rank ≤ (label_at labels (state - state % 1024 + end)).rank
+      pub link_taken : IsUsable d q l → NodeMayLeave d nodes at state → MayEnter d q (state / 1024 + 1) l.to → label.rank ≤ (label_at labels (state - state % 1024 + end)).rank
           → (key : ℕ) (new : List Label) (new_keys : List Key) → key ≡ label.rank + lift goal (state - state % 1024 + end)
           → StaysAt d nodes (state - state % 1024 + end) label labels new keys new_keys ⊎ GoesTo d nodes (state - state % 1024 + end) label key labels new keys new_keys
           → AreLabels d q nodes (CrossesUpTo d q nodes at (state % 1024) (row + 1)) goal new new_keys
-      link_taken usable leaves inside le key new new_keys is_key choice =
+      link_taken usable leaves enters le key new new_keys is_key choice =
           label_taken label (Some l) parent place there_is along link_rank (CrossesUpTo d q nodes at (state % 1024) row) (CrossesBy d q nodes at l) (CrossesUpTo d q nodes at (state % 1024) (row + 1))
           (link_left d q nodes at state is row l here end ends listed.few) (link_right d q nodes at state is row l here end ends listed.few)
           (link_cases d q nodes at state is row l here end ends listed.few) before (state - state % 1024 + end) (link_index d q nodes at state is row l here end ends listed.few)
           (omega (arith, open_leg, before.whole)) (walk_at (walks nodes) at ++ (l ∷ [])) (link_only d q nodes at state is row l here end ends listed.few)
-          (link_state d q nodes at state is row l here end ends listed.few) refl le (link_passes d q nodes at state is row l here end ends listed.few usable leaves inside) key new new_keys is_key choice
+          (link_state d q nodes at state is row l here end ends listed.few) refl le (link_passes d q nodes at state is row l here end ends listed.few usable leaves enters) key new new_keys is_key choice

@@ -11,14 +11,14 @@ use Rattle.cspf_db.specs.declared.link.Link.{Link}
 use Rattle.cspf_db.specs.declared.request.Request.{Request}
 use Rattle.cspf_db.specs.Database.{Database, IsRouterOf}
 use Rattle.cspf_db.specs.Admissible.{MayLeave}
-use Rattle.cspf_db.specs.Targets.{IsTarget, IsInside}
+use Rattle.cspf_db.specs.Targets.{IsTarget}
 use Rattle.cspf_db.specs.Walks.{cost_of}
 use Rattle.cspf_db.specs.Index.{router_list, links_of, links_from_index}
 use Rattle.cspf_search.specs.declared.arena.Node.{Node}
 use Rattle.cspf_search.specs.declared.goal.Goal.{Goal}
 use Rattle.cspf_search.specs.declared.labels.Label.{Label}
 use Rattle.cspf_search.specs.declared.roles.Role.{Role}
-use Rattle.cspf_search.specs.States.{State}
+use Rattle.cspf_search.specs.States.{State, MayEnter}
 use Rattle.cspf_search.specs.Settled.{Labels, IsNoLater, IsClosed, locals_cmp}
 use Rattle.cspf_search.specs.Arena.{walk_at, walks, walk_of, state_of, index_of, IsNext}
 use Rattle.cspf_search.specs.Rounds.{CrossesFrom, CrossesBelow}
@@ -40,9 +40,9 @@ pub record IsStateIndex (d : Database) (q : Request) (i : ℕ) : Type 0 where
   pub low : i < (length q.hops + 1) * MOST_ROUTERS
   pub place : i % MOST_ROUTERS < length (router_list d)
 
--- whether a route may stand at a state, and whether it may turn to the next leg there
+-- whether a link may lead a route to a state, and whether it may turn to the next leg there
 pub record IsRole (d : Database) (q : Request) (t : State) (role : Role) : Type 0 where
-  pub inside : IsTrue role.inside ↔ IsInside d q t.leg t.router
+  pub enter : IsTrue role.enter ↔ MayEnter d q t.leg t.router
   pub target : IsTrue role.target ↔ IsTarget d q t.leg t.router
 
 -- so it is for each router in each leg
@@ -53,7 +53,7 @@ pub record AreRoles (d : Database) (q : Request) (roles : List Role) : Type 0 wh
 
 -- a stand for the indexes past the end of a list
 abbrev pub nothing : Role
-nothing = record { inside = false; target = false }
+nothing = record { enter = false; target = false }
 
 -- so it is for the routers before an index in each leg, and for the one there in the first legs
 abbrev pub AreRolesUpTo : Database → Request → ℕ → ℕ → List Role → Type 0

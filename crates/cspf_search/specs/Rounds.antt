@@ -5,21 +5,21 @@ use Rattle.cspf_db.specs.declared.link.Link.{Link}
 use Rattle.cspf_db.specs.declared.request.Request.{Request}
 use Rattle.cspf_db.specs.Database.{Database}
 use Rattle.cspf_db.specs.Admissible.{IsUsable, MayLeave}
-use Rattle.cspf_db.specs.Targets.{IsTarget, IsInside}
+use Rattle.cspf_db.specs.Targets.{IsTarget}
 use Rattle.cspf_search.specs.declared.arena.Node.{Node}
-use Rattle.cspf_search.specs.States.{State}
+use Rattle.cspf_search.specs.States.{State, MayEnter}
 use Rattle.cspf_search.specs.Settled.{state_cmp}
 use Rattle.cspf_search.specs.Arena.{walk_at, walks, walk_of, state_of, index_of, IsNext}
 
 -- A link that is usable leads on from the node at an index, whose walk may leave its router, to a
--- router inside the node's leg where no node stands.
+-- router that a route may enter in the node's leg, where no node stands.
 pub record CrossesBy (d : Database) (q : Request) (nodes : List Node) (at : ℕ) (l : Link) (w : List Link) (t : State) : Type 0 where
   pub node : Node
   pub there : slice_get nodes at ≡ Some node
   pub runs : l.from ≡ node.router
   pub usable : IsUsable d q l
   pub leaves : MayLeave d l.from (length (walk_at (walks nodes) at))
-  pub inside : IsInside d q node.leg l.to
+  pub enters : MayEnter d q node.leg l.to
   pub walk : w ≡ walk_at (walks nodes) at ++ (l ∷ [])
   pub state : t ≡ record { leg = node.leg; router = l.to }
   pub still_open : index_of nodes t ≡ None

@@ -1,8 +1,8 @@
 -- Private words of the search: where a walk stands in the legs of a request, and what leads on.
-use Rattle.std.specs.Prelude.{ℕ, suc, ◌+◌, ◌≤◌, List, [], ◌∷◌, ◌++◌, length}
+use Rattle.std.specs.Prelude.{◌≡◌, ◌⊎◌, ℕ, suc, ◌+◌, ◌≤◌, List, [], ◌∷◌, ◌++◌, length}
 use Rattle.cspf_db.specs.declared.link.Link.{Link}
 use Rattle.cspf_db.specs.declared.request.Request.{Request}
-use Rattle.cspf_db.specs.Database.{Database}
+use Rattle.cspf_db.specs.Database.{Database, HasTransit}
 use Rattle.cspf_db.specs.Admissible.{IsAdmissible, MayLeave}
 use Rattle.cspf_db.specs.Targets.{IsTarget, IsInside}
 
@@ -11,11 +11,17 @@ pub record State : Type 0 where
   pub leg : ℕ
   pub router : ℕ
 
+-- A link may lead a route to the router in the leg: it is inside the leg, and the route may go on from
+-- there or end there.
+pub record MayEnter (d : Database) (q : Request) (leg router : ℕ) : Type 0 where
+  pub inside : IsInside d q leg router
+  pub through : HasTransit d router ⊎ (router ≡ q.to)
+
 -- What leads on from a walk that stands at a state, to a walk and its state: where the walk may leave
--- its router, an admissible link to a router inside the leg, and, at a target of the leg to a hop, the
--- turn to the next leg alone.
+-- its router, an admissible link to a router that it may enter in the leg, and, at a target of the leg
+-- to a hop, the turn to the next leg alone.
 pub data IsStep (d : Database) (q : Request) : List Link → State → List Link → State → Type 0 where
-  by_link : {walk : List Link} {leg : ℕ} (l : Link) → IsAdmissible d q l → IsInside d q leg l.to
+  by_link : {walk : List Link} {leg : ℕ} (l : Link) → IsAdmissible d q l → MayEnter d q leg l.to
       → MayLeave d l.from (length walk)
       → IsStep d q walk (record { leg = leg; router = l.from })
       (walk ++ (l ∷ [])) (record { leg = leg; router = l.to })

@@ -138,7 +138,7 @@ fn offer_link(
         return Ok(());
     }
     let role = query.roles[index];
-    if !role.inside {
+    if !role.enter {
         return Ok(());
     }
     if edge.reverse == NO_LINK || !accepts(edge.link, query.request) {

@@ -13,15 +13,15 @@ use std::alloc::{AllocError, Global};
 /// What a route may do at a router in a leg.
 #[derive(Clone, Copy, Debug)]
 pub(crate) struct Role {
-    /// Whether it may stand there.
-    pub(crate) inside: bool,
+    /// Whether a link may lead it there.
+    pub(crate) enter: bool,
     /// Whether the router is a target of the leg.
     pub(crate) target: bool,
 }
 
-/// Where a route may neither stand nor turn to the next leg.
+/// Where a route may neither come by a link nor turn to the next leg.
 const NOTHING: Role = Role {
-    inside: false,
+    enter: false,
     target: false,
 };
 
@@ -69,8 +69,10 @@ fn make_role(table: &Table, request: &Request, routers: &[Addr], roles: &[Role],
     }
     let router = routers[place];
     let target = member_at(table, place, leg, request);
+    let inside = is_loose(request, leg) || is_target_before(request, roles, at, router) || target;
+    let through = table.transit_at(place) || router == request.to;
     Role {
-        inside: is_loose(request, leg) || is_target_before(request, roles, at, router) || target,
+        enter: inside && through,
         target,
     }
 }

@@ -115,7 +115,8 @@ fn look_at_turn(look: Look<'_>, best: &mut Option<Node>)
 }
 
 /// Keeps what a link leads to from the node, whose walk may leave its router, if the request may use
-/// the link and stand where it ends, and it comes before the best. Nothing is settled there.
+/// the link, a route may enter the router where it ends, and it comes before the best. Nothing is
+/// settled there.
 fn look_at_link(look: Look<'_>, edge: Edge<'_>, best: &mut Option<Node>)
     requires look { IsLook look }
     requires leaves { NodeMayLeave look.query.table.now look.nodes.now look.at look.star.state }
@@ -135,7 +136,7 @@ fn look_at_link(look: Look<'_>, edge: Edge<'_>, best: &mut Option<Node>)
         return;
     }
     let role = look.query.roles[state - state % MOST_ROUTERS + edge.end];
-    if !role.inside {
+    if !role.enter {
         return;
     }
     if edge.reverse == NO_LINK || !accepts(edge.link, look.query.request) {
@@ -153,7 +154,7 @@ fn look_at_link(look: Look<'_>, edge: Edge<'_>, best: &mut Option<Node>)
 }
 
 /// Keeps what the link in a row leads to from the node, whose walk may leave its router, if nothing is
-/// settled there, the request may use the link and stand there, and it comes before the best.
+/// settled there, the request may use the link, a route may enter there, and it comes before the best.
 fn look_at_row(look: Look<'_>, row: usize, best: &mut Option<Node>)
     requires look { IsLook look }
     requires leaves { NodeMayLeave look.query.table.now look.nodes.now look.at look.star.state }

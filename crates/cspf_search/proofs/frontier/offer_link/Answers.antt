@@ -53,18 +53,18 @@ pub returns-then-not-role-clause-after : goal.returns-then-not-role-clause-after
 returns-then-not-role-clause-after c =
     let small : c.args.edge.link.now.metric < 2 ^ 32 = omega (arith, c.args.edge.same) in
     let index = link_index c.args.source.query.table.now c.args.source.query.request.now c.args.source.nodes.now c.args.source.at c.args.source.state c.requires.source.node c.args.edge.row c.args.edge.link.now c.requires.edge.row c.args.edge.end c.requires.edge.end c.requires.source.query.listed.few in
-    let no_role : Role = record { inside = false; target = false } in
+    let no_role : Role = record { enter = false; target = false } in
     let told = link_told c.args.source c.requires.source c.args.labels.now (heap_items c.args.heap.now) c.args.edge small c.requires.edge c.requires.before
     (slice_index_or c.args.source.query.roles.now (c.args.source.state - c.args.source.state % 1024 + c.args.edge.end) no_role)
     (c.requires.source.query.roles.each (c.args.source.state - c.args.source.state % 1024 + c.args.edge.end) no_role index) in
     link_off c.args.source c.requires.source c.args.labels.now (heap_items c.args.heap.now) c.args.edge small c.requires.edge c.requires.before
-    (λ admitted inside. false≢true (sym (not-true _ c.if-not-role.true) ∙ told.1 inside))
+    (λ admitted enters. false≢true (sym (not-true _ c.if-not-role.true) ∙ told.1 enters))
 
 pub returns-then-edge-eq-NO_LINK-clause-after : goal.returns-then-edge-eq-NO_LINK-clause-after
 returns-then-edge-eq-NO_LINK-clause-after c =
     let small : c.args.edge.link.now.metric < 2 ^ 32 = omega (arith, c.args.edge.same) in
     link_off c.args.source c.requires.source c.args.labels.now (heap_items c.args.heap.now) c.args.edge small c.requires.edge c.requires.before
-    (λ usable inside.
+    (λ usable enters.
     elim c.then-edge-eq-NO_LINK.branch [
       | then-edge-eq-NO_LINK-via-then-edge-eq-NO_LINK w ↦ c.requires.edge.reverse.none w.if-edge-eq-NO_LINK.true usable.reverse
       | then-edge-eq-NO_LINK-via-else-edge-eq-NO_LINK+then-not-accepts w ↦ false≢true (w.if-not-accepts.ensures.1 usable.admitted)
@@ -104,7 +104,7 @@ returns-clause-after c =
     let index = link_index c.args.source.query.table.now c.args.source.query.request.now c.args.source.nodes.now c.args.source.at c.args.source.state c.requires.source.node c.args.edge.row c.args.edge.link.now c.requires.edge.row c.args.edge.end c.requires.edge.end c.requires.source.query.listed.few in
     let blank : Label = record { rank = 0; parent = 0; place = 0; row = 0 } in
     let read = rank_read c.args.labels.now (c.args.source.state - c.args.source.state % 1024 + c.args.edge.end) blank (omega (arith, index.low, c.requires.before.many)) in
-    let no_role : Role = record { inside = false; target = false } in
+    let no_role : Role = record { enter = false; target = false } in
     let told = link_told c.args.source c.requires.source c.args.labels.now (heap_items c.args.heap.now) c.args.edge small c.requires.edge c.requires.before
     (slice_index_or c.args.source.query.roles.now (c.args.source.state - c.args.source.state % 1024 + c.args.edge.end) no_role)
     (c.requires.source.query.roles.each (c.args.source.state - c.args.source.state % 1024 + c.args.edge.end) no_role index) in

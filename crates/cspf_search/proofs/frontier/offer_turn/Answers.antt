@@ -16,7 +16,7 @@ returns-then-state-len-clause-after c =
 
 pub returns-then-not-role-clause-after : goal.returns-then-not-role-clause-after
 returns-then-not-role-clause-after c =
-    let no_role : Role = record { inside = false; target = false } in
+    let no_role : Role = record { enter = false; target = false } in
     let told = c.requires.source.query.roles.each c.args.source.state no_role c.requires.source.node.index in
     turn_off c.args.source c.requires.source c.args.labels.now
     (heap_items c.args.heap.now) c.requires.before (λ h target. false≢true (sym (not-true _ c.if-not-role.true) ∙ told.target.1 target))
@@ -55,7 +55,7 @@ pub returns-clause-after : goal.returns-clause-after
 returns-clause-after c =
     let h : c.args.source.state / 1024 < length c.args.source.query.request.now.hops = omega (arith, c.len.ensures.value) in
     let label : Label = record { rank = c.args.source.rank; parent = c.args.source.at; place = c.args.source.state % 1024; row = 65535 } in
-    let no_role : Role = record { inside = false; target = false } in
+    let no_role : Role = record { enter = false; target = false } in
     let told = c.requires.source.query.roles.each c.args.source.state no_role c.requires.source.node.index in
     let index = turn_index c.args.source.query.table.now c.args.source.query.request.now c.args.source.nodes.now c.args.source.at c.args.source.state c.requires.source.node h in
     let blank : Label = record { rank = 0; parent = 0; place = 0; row = 0 } in

@@ -36,20 +36,20 @@ returns-then-not-role c =
     let q = c.args.look.query.request.now in
     let nodes = c.args.look.nodes.now in
     let index = link_index d q nodes c.args.look.at c.args.look.star.state c.requires.look.from c.args.edge.row c.args.edge.link.now c.requires.edge.row c.args.edge.end c.requires.edge.end c.requires.look.query.listed.few in
-    let no_role : Role = record { inside = false; target = false } in
+    let no_role : Role = record { enter = false; target = false } in
     let told = c.requires.look.query.roles.each (c.args.look.star.state - c.args.look.star.state % 1024 + c.args.edge.end) no_role index in
     record {
       after =
           no_link d q nodes c.requires.look.arena c.args.look.at c.args.look.star.state c.requires.look.from c.args.best.now c.args.edge.row c.args.edge.link.now c.requires.edge.row
           c.args.edge.end c.requires.edge.end c.requires.look.query.listed.few c.requires.before
-          (λ usable inside. false≢true (sym (not-true _ c.if-not-role.true) ∙ told.inside.1 inside));
+          (λ usable enters. false≢true (sym (not-true _ c.if-not-role.true) ∙ told.enter.1 enters));
     }
 
 pub returns-then-edge-eq-NO_LINK : goal.returns-then-edge-eq-NO_LINK
 returns-then-edge-eq-NO_LINK c = record {
   after =
       no_link c.args.look.query.table.now c.args.look.query.request.now c.args.look.nodes.now c.requires.look.arena c.args.look.at c.args.look.star.state c.requires.look.from c.args.best.now c.args.edge.row c.args.edge.link.now c.requires.edge.row
-      c.args.edge.end c.requires.edge.end c.requires.look.query.listed.few c.requires.before (λ usable inside.
+      c.args.edge.end c.requires.edge.end c.requires.look.query.listed.few c.requires.before (λ usable enters.
       elim c.then-edge-eq-NO_LINK.branch [
         | then-edge-eq-NO_LINK-via-then-edge-eq-NO_LINK w ↦ c.requires.edge.reverse.none w.if-edge-eq-NO_LINK.true usable.reverse
         | then-edge-eq-NO_LINK-via-else-edge-eq-NO_LINK+then-not-accepts w ↦ false≢true (w.if-not-accepts.ensures.1 usable.admitted)
@@ -71,13 +71,13 @@ returns c =
     let nodes = c.args.look.nodes.now in
     let small : c.args.edge.link.now.metric < 2 ^ 32 = omega arith in
     let index = link_index d q nodes c.args.look.at c.args.look.star.state c.requires.look.from c.args.edge.row c.args.edge.link.now c.requires.edge.row c.args.edge.end c.requires.edge.end c.requires.look.query.listed.few in
-    let no_role : Role = record { inside = false; target = false } in
+    let no_role : Role = record { enter = false; target = false } in
     let told = c.requires.look.query.roles.each (c.args.look.star.state - c.args.look.star.state % 1024 + c.args.edge.end) no_role index in
     let from = get_or_read nodes c.args.look.at c.index-nodes-look.result c.requires.look.from.within c.index-nodes-look.is nowhere in
     record {
       after =
           rw c.keep.ensures
           (link_kept d q nodes c.requires.look.arena c.args.look.at c.args.look.star.state c.requires.look.from c.args.best.now c.args.edge.row c.args.edge.link.now c.requires.edge.row c.args.edge.end c.requires.edge.end
-          c.requires.look.query.listed.few c.requires.before small c.requires.left (record { admitted = c.if-not-accepts.ensures.0 refl; reverse = has_reverse d c.requires.look.query.links c.args.edge.link.now c.args.edge.reverse c.requires.edge.reverse c.if-edge-eq-NO_LINK.false }) c.requires.leaves (told.inside.0 (not-false _ c.if-not-role.false))
+          c.requires.look.query.listed.few c.requires.before small c.requires.left (record { admitted = c.if-not-accepts.ensures.0 refl; reverse = has_reverse d c.requires.look.query.links c.args.edge.link.now c.args.edge.reverse c.requires.edge.reverse c.if-edge-eq-NO_LINK.false }) c.requires.leaves (told.enter.0 (not-false _ c.if-not-role.false))
           c.index-nodes-look.result from c.from.result c.from.ensures);
     }

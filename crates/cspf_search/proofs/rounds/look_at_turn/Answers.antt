@@ -29,7 +29,7 @@ returns-then-marks-state c =
 
 pub returns-then-not-role : goal.returns-then-not-role
 returns-then-not-role c =
-    let no_role : Role = record { inside = false; target = false } in
+    let no_role : Role = record { enter = false; target = false } in
     let told = c.requires.look.query.roles.each c.args.look.star.state no_role c.requires.look.from.index in
     record {
       after =
@@ -44,7 +44,7 @@ returns c =
     let nodes = c.args.look.nodes.now in
     let h : c.args.look.star.state / 1024 < length c.args.look.query.request.now.hops = omega (arith, c.len.ensures.value) in
     let index = turn_index d q nodes c.args.look.at c.args.look.star.state c.requires.look.from h in
-    let no_role : Role = record { inside = false; target = false } in
+    let no_role : Role = record { enter = false; target = false } in
     let told = c.requires.look.query.roles.each c.args.look.star.state no_role c.requires.look.from.index in
     let from = get_or_read nodes c.args.look.at c.index-nodes-look.result c.requires.look.from.within c.index-nodes-look.is nowhere in
     record {
