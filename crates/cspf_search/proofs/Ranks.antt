@@ -14,13 +14,12 @@ use Rattle.std.proofs.lemmas.List.Quantifiers.{position-Some}
 use Rattle.cspf_db.specs.declared.link.Link.{Link}
 use Rattle.cspf_db.specs.declared.request.Request.{Request}
 use Rattle.cspf_db.specs.Database.{Database, IsRouterOf}
-use Rattle.cspf_db.specs.Admissible.{IsAdmissible}
 use Rattle.cspf_db.specs.Walks.{cost_of, locals_of}
 use Rattle.cspf_db.specs.Index.{router_list}
 use Rattle.cspf_db.specs.Targets.{IsTarget}
 use Rattle.cspf_search.specs.declared.arena.Node.{Node}
 use Rattle.cspf_search.specs.declared.goal.Goal.{Goal}
-use Rattle.cspf_search.specs.States.{State}
+use Rattle.cspf_search.specs.States.{State, LeadsOn}
 use Rattle.cspf_search.specs.Settled.{IsNoLater, RanksNoLater, IsConsistent, locals_cmp}
 use Rattle.cspf_search.specs.Arena.{walk_at, walks, walk_of, AreNodes, IsNext}
 use Rattle.cspf_search.specs.Bounds.{bound_at, AreBounds}
@@ -209,11 +208,11 @@ module _ (d : Database) (q : Request) (listed : AreListed d) where
         → (i : ℕ) × IsStateIndex d q i × (record { leg = leg; router = router } ≡ state_at d i)
     index_of_end leg router low high known = index_for d q listed (record { leg = leg; router = router }) known low high
 
-    links_keep : (leg : ℕ) (l : Link) → 1 ≤ leg → leg ≤ length q.hops + 1 → IsAdmissible d q l
+    links_keep : (leg : ℕ) (l : Link) → 1 ≤ leg → leg ≤ length q.hops + 1 → LeadsOn d q l
         → potential_of d goal (record { leg = leg; router = l.from }) ≤ potential_of d goal (record { leg = leg; router = l.to }) + l.metric
     links_keep leg l low high a =
-        let i = index_of_end leg l.from low high (l, a.link, inl refl) in
-        let j = index_of_end leg l.to low high (l, a.link, inr refl) in
+        let i = index_of_end leg l.from low high (l, a.admissible.link, inl refl) in
+        let j = index_of_end leg l.to low high (l, a.admissible.link, inr refl) in
         let same : i.0 / 1024 ≡ j.0 / 1024 = omega (arith, ap (λ (s : State). s.leg) i.2, ap (λ (s : State). s.leg) j.2) in
         let up = bounds.links i.0 j.0 i.1 j.1 same l a (ap (λ (s : State). s.router) i.2) (ap (λ (s : State). s.router) j.2) in
         omega (arith, up, ap (potential_of d goal) i.2 ∙ potential_at i.0 i.1, ap (potential_of d goal) j.2 ∙ potential_at j.0 j.1)

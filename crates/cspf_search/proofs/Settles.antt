@@ -9,15 +9,15 @@ use Rattle.std.proofs.lemmas.Cmp.{upto}
 use Rattle.cspf_db.specs.declared.link.Link.{Link}
 use Rattle.cspf_db.specs.declared.request.Request.{Request}
 use Rattle.cspf_db.specs.Database.{Database}
-use Rattle.cspf_db.specs.Admissible.{MayLeave}
+use Rattle.cspf_db.specs.Admissible.{IsAdmissible, MayLeave}
 use Rattle.cspf_db.specs.Targets.{IsTarget}
 use Rattle.cspf_db.specs.Walks.{cost_of}
 use Rattle.cspf_db.specs.Routes.{IsRoute}
 use Rattle.cspf_db.specs.Best.{IsBestRoute}
-use Rattle.cspf_search.specs.States.{State, IsStep, by_link, by_turn, Reaches, starts, steps, end_state}
+use Rattle.cspf_search.specs.States.{State, LeadsOn, IsStep, by_link, by_turn, Reaches, starts, steps, end_state}
 use Rattle.cspf_search.specs.Settled.{Labels, IsNoLater, potential_cmp, RanksNoLater, IsConsistent, AreSettled, Crosses, IsClosed, IsFirstCrossing, IsStuck, locals_cmp}
 use Rattle.cspf_search.proofs.Orders.{walks_total, potentials_total, walk_cmp-push, potential_cmp-push, potential_cmp-turn, walk_from_less, rank_from_walk}
-use Rattle.cspf_search.proofs.Cuts.{reached_leg, route_reaches, reaches_route}
+use Rattle.cspf_search.proofs.Cuts.{reached_walk, reached_leg, route_reaches, reaches_route}
 
 -- Labels keep what they have and get one walk more.
 pub record Adds (old : Labels) (t : State) (w : List Link) (new : Labels) : Type 0 where
@@ -53,12 +53,19 @@ leaves_no_later d router [] w (inr none) h = inr (none_no_later w h)
 leaves_no_later d router (l ∷ v) w (inr none) h = absurd (omega (arith, none))
 
 module _ (d : Database) (q : Request) where
+  -- an admissible link that leaves where a walk may leads on
+  leads_on : (v : List Link) (l : Link) (k : ℕ) → IsAdmissible d q l → MayLeave d l.from (length v) → Reaches d q v (record { leg = k; router = l.from })
+      → LeadsOn d q l
+  leads_on v l k a (inl transit) r = record { admissible = a; left = inl transit }
+  leads_on [] l k a (inr none) r = record { admissible = a; left = inr (sym (reached_walk d q [] (record { leg = k; router = l.from }) r).1) }
+  leads_on (m ∷ v) l k a (inr none) r = absurd (omega (arith, none))
+
   -- a step goes up in rank
   step_grows : (potential : State → ℕ) → IsConsistent d q potential → (v x : List Link) (s t : State) → Reaches d q v s → IsStep d q v s x t
       → potential_cmp potential (s, v) (t, x) ≡ Less
   step_grows potential up v x s t r (by_link {leg = k} l a enters leaves) =
       let leg = reached_leg d q v (record { leg = k; router = l.from }) r in
-      potential_cmp-push potential (record { leg = k; router = l.from }) (record { leg = k; router = l.to }) v l (up.links k l leg.0 leg.1 a)
+      potential_cmp-push potential (record { leg = k; router = l.from }) (record { leg = k; router = l.to }) v l (up.links k l leg.0 leg.1 (leads_on v l k a leaves r))
   step_grows potential up v x s t r (by_turn {leg = k} {router = router} within target) =
       let leg = reached_leg d q v (record { leg = k; router = router }) r in potential_cmp-turn potential k router v (up.turns k router leg.0 within target)
 

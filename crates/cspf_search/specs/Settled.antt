@@ -6,10 +6,9 @@ use Rattle.std.specs.Cmp.Lexicographic.{slice_cmp}
 use Rattle.cspf_db.specs.declared.link.Link.{Link}
 use Rattle.cspf_db.specs.declared.request.Request.{Request}
 use Rattle.cspf_db.specs.Database.{Database}
-use Rattle.cspf_db.specs.Admissible.{IsAdmissible}
 use Rattle.cspf_db.specs.Targets.{IsTarget}
 use Rattle.cspf_db.specs.Walks.{cost_of, locals_of, walk_cmp}
-use Rattle.cspf_search.specs.States.{State, IsStep, Reaches, start_of}
+use Rattle.cspf_search.specs.States.{State, LeadsOn, IsStep, Reaches, start_of}
 
 -- the walk that is settled at each state, if there is one
 abbrev pub Labels : Type 0
@@ -33,10 +32,10 @@ potential_cmp potential a b =
 abbrev pub RanksNoLater : (State → ℕ) → State → List Link → State → List Link → Type 0
 RanksNoLater potential s v t w = is_gt (potential_cmp potential (s, v) (t, w)) ≡ false
 
--- No link that is admissible lowers the potential by more than its metric, and no turn to the next
--- leg lowers it.
+-- No link that leads on lowers the potential by more than its metric, and no turn to the next leg
+-- lowers it.
 pub record IsConsistent (d : Database) (q : Request) (potential : State → ℕ) : Type 0 where
-  pub links : (leg : ℕ) (l : Link) → 1 ≤ leg → leg ≤ length q.hops + 1 → IsAdmissible d q l
+  pub links : (leg : ℕ) (l : Link) → 1 ≤ leg → leg ≤ length q.hops + 1 → LeadsOn d q l
       → potential (record { leg = leg; router = l.from }) ≤ potential (record { leg = leg; router = l.to }) + l.metric
   pub turns : (leg router : ℕ) → 1 ≤ leg → leg ≤ length q.hops → IsTarget d q leg router
       → potential (record { leg = leg; router = router }) ≤ potential (record { leg = suc leg; router = router })

@@ -11,6 +11,15 @@ pub record State : Type 0 where
   pub leg : ℕ
   pub router : ℕ
 
+-- A walk may leave the router: it has transit, or the walk may begin there.
+abbrev pub MayBeLeft : Database → Request → ℕ → Type 0
+MayBeLeft d q router = HasTransit d router ⊎ (router ≡ q.from)
+
+-- an admissible link that some walk may take
+pub record LeadsOn (d : Database) (q : Request) (l : Link) : Type 0 where
+  pub admissible : IsAdmissible d q l
+  pub left : MayBeLeft d q l.from
+
 -- A link may lead a route to the router in the leg: it is inside the leg, and the route may go on from
 -- there or end there.
 pub record MayEnter (d : Database) (q : Request) (leg router : ℕ) : Type 0 where

@@ -1,8 +1,9 @@
-ghost use Rattle.std.specs.Prelude.{◌≡◌, ◌≢◌, ◌+◌, ◌*◌, ◌<◌, ◌≤◌, ◌⊎◌, ℕ, min, false, IsTrue, IfOk, IfSome, OnOk, length, slice_index_or};
+ghost use Rattle.std.specs.Prelude.{◌≡◌, ◌≢◌, ◌+◌, ◌*◌, ◌<◌, ◌≤◌, ◌⊎◌, ◌↔◌, ℕ, min, false, IsTrue, IfOk, IfSome, OnOk, length, slice_index, slice_index_or};
 ghost use Rattle.cspf_search.specs.declared.roles.Role.{Role as Stood};
 ghost use Rattle.cspf_search.specs.Query.{IsQuery};
+ghost use Rattle.cspf_search.specs.States.{MayBeLeft};
 ghost use Rattle.cspf_search.specs.Bounds.{ArePassed, AreBounds, Falls, IsLeg, IsLower, IsPassed, IsRing, bound_at, is_done};
-ghost use Rattle.cspf_db.specs.Index.{links_of};
+ghost use Rattle.cspf_db.specs.Index.{links_of, router_list};
 ghost use Rattle.cspf_db.specs.declared.limits.TheConstants.{NO_LINK};
 
 use crate::query::Query;
@@ -19,8 +20,18 @@ const RING: usize = 32;
 /// How many it settles in a leg to a hop at most, since more is searched before that ends.
 const WIDE: usize = 64;
 
+/// Whether a walk may leave the router at an index: it has transit, or the walk may begin there.
+fn may_be_left(query: Query<'_>, place: u16) -> bool
+    requires { place < length (router_list query.table.now) }
+    ensures { IsTrue result ↔ MayBeLeft query.entry.table.now query.entry.request.now
+        (slice_index (router_list query.entry.table.now) place) }
+{
+    let at = usize::from(place);
+    query.table.transit_at(at) || query.table.routers()[at] == query.request.from
+}
+
 /// Lowers the bound of the router at an index, which the link at another index arrives from, if there
-/// is one and the request admits it.
+/// is one, the request admits it, and a walk may leave that router.
 fn pass(
     query: Query<'_>,
     from: u16,
@@ -29,7 +40,7 @@ fn pass(
     ring: &mut Ring,
 ) -> Result<(), AllocError>
     requires query { IsQuery query }
-    requires from { from < MOST_ROUTERS }
+    requires from { from < length (router_list query.table.now) }
     requires within { reverse ≢ NO_LINK → reverse < length (links_of query.table.now) }
     ensures falls { OnOk result (Falls ring.old ring.new) }
     ensures passed { OnOk result
@@ -42,6 +53,9 @@ fn pass(
     let link = &query.table.links()[usize::from(reverse)];
     let ahead = base.saturating_add(link.metric);
     if near <= ahead || !accepts(link, query.request) {
+        return Ok(());
+    }
+    if !may_be_left(query, from) {
         return Ok(());
     }
     ring.lower(from, ahead)

@@ -1,6 +1,7 @@
-use Rattle.std.proofs.Common.{◌<◌, length, slice_index, subst, arith}
+use Rattle.std.proofs.Common.{◌<◌, length, slice_index, sym, subst, arith}
 use Rattle.cspf_db.specs.Index.{links_from_index}
 use Rattle.cspf_search.specs.Bounds.{IsPassed}
+use Rattle.cspf_search.specs.States.{MayBeLeft}
 use Rattle.cspf_search.proofs.Looked.{some_at}
 use Rattle.cspf_search.proofs.Reversed.{as_many, found_back}
 use Rattle.cspf_search.proofs.bounds.walk.Goals as goal
@@ -13,7 +14,7 @@ pass-requires-clause-within c =
     (c.reverses_at-reverses.ensures.each c.loop-row.row (some_at (links_from_index d c.args.to) c.loop-row.row row).0 row).within
 
 pub returns-clause-passed : goal.returns-clause-passed
-returns-clause-passed c u l admissible from end =
+returns-clause-passed c u l leads from end =
     let d = c.args.query.table.now in
     let q = c.args.query.request.now in
     let ends = c.ends_at-ends.result.now in
@@ -21,6 +22,6 @@ returns-clause-passed c u l admissible from end =
     let many = as_many d c.args.to ends c.ends_at-ends.ensures.each in
     let x =
     found_back d c.requires.query.links c.requires.query.listed c.args.to ends reverses c.ends_at-ends.ensures.within c.ends_at-ends.ensures.each c.reverses_at-reverses.ensures.each l
-    admissible.link admissible.usable.reverse u from end in
+    leads.admissible.link leads.admissible.usable.reverse u from end in
     let passed = c.loop-row.invariant.passed x.0 (omega (arith, x.1, many, c.loop-row-test.false)) in
-    subst (λ i. IsPassed d q c.args.base c.loop-row.ring i (slice_index c.reverses_at-reverses.result.now x.0)) x.2 passed l x.3 admissible.usable.admitted
+    subst (λ i. IsPassed d q c.args.base c.loop-row.ring i (slice_index c.reverses_at-reverses.result.now x.0)) x.2 passed l x.3 leads.admissible.usable.admitted (subst (MayBeLeft d q) (sym from.is) leads.left)
