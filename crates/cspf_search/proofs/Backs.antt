@@ -9,10 +9,9 @@ use Rattle.cspf_db.specs.declared.link.Link.{Link}
 use Rattle.cspf_db.specs.declared.request.Request.{Request}
 use Rattle.cspf_db.specs.Database.{Database}
 use Rattle.cspf_db.specs.Admissible.{IsUsable, MayLeave}
-use Rattle.cspf_db.specs.Targets.{IsTarget}
 use Rattle.cspf_db.specs.Walks.{cost_of, locals_of}
 use Rattle.cspf_search.specs.declared.arena.Node.{Node}
-use Rattle.cspf_search.specs.States.{State, MayEnter}
+use Rattle.cspf_search.specs.States.{State, MayEnter, MayTurn}
 use Rattle.cspf_search.specs.Settled.{state_cmp, locals_cmp}
 use Rattle.cspf_search.specs.Arena.{walk_with, walk_at, walks, walk_of, index_of, IsNumbered, HasLast, AreNodes, IsNext}
 use Rattle.cspf_search.specs.Frontier.{node_by}
@@ -82,7 +81,7 @@ module _ (d : Database) (q : Request) (nodes : List Node) (are : AreNodes nodes)
   }
 
   -- the turn from a target of the leg to an open state crosses, and nothing else does by turning
-  pub turned_first : from.leg ≤ length q.hops → IsTarget d q from.leg from.router → index_of nodes (record { leg = from.leg + 1; router = from.router }) ≡ None
+  pub turned_first : from.leg ≤ length q.hops → MayTurn d q from.leg from.router → index_of nodes (record { leg = from.leg + 1; router = from.router }) ≡ None
       → IsFirstOf nodes (Turns d q nodes at) (node_by at from None)
   turned_first low target left =
       let me : ℕ × List Link = (from.leg + 1, walk_of nodes from) in

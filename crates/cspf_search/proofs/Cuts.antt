@@ -10,7 +10,7 @@ use Rattle.cspf_db.specs.Walks.{AreJoined, IsWalk, end_of, routers_of, routers_p
 use Rattle.cspf_db.specs.Targets.{IsTarget, IsTargetOf, IsInside}
 use Rattle.cspf_db.specs.Legs.{AreLegs, IsCutInto}
 use Rattle.cspf_db.specs.Routes.{IsRoute}
-use Rattle.cspf_search.specs.States.{State, by_link, by_turn, Reaches, starts, steps, end_state}
+use Rattle.cspf_search.specs.States.{State, MayStand, by_link, by_turn, Reaches, starts, steps, end_state}
 
 -- a link that runs to a router with transit, or to the tail-end
 abbrev RunsOn : Database → Request → Link → Type 0
@@ -98,7 +98,7 @@ module _ (d : Database) (q : Request) where
   reached_inside : (w : List Link) (s : State) → Reaches d q w s → IsInside d q s.leg s.router
   reached_inside w s starts = inr (inl refl)
   reached_inside w s (steps r (by_link l a enters leaves)) = enters.inside
-  reached_inside w s (steps r (by_turn within target)) = inr (inl target)
+  reached_inside w s (steps r (by_turn within target)) = inr (inl target.target)
 
   -- a walk that reaches a state is cut into legs together with any legs that are left from there
   reached_cut : (w : List Link) (s : State) → Reaches d q w s → (leg : List Link) (rest : List (List Link)) → AreLegs d q s.leg s.router (leg ∷ rest)
@@ -108,7 +108,7 @@ module _ (d : Database) (q : Request) where
       let longer = reached_cut _ _ r (l ∷ leg) rest (record { arrives = are.0.arrives; within = (reached_inside _ _ r, are.0.within) }, are.1) count in
       (longer.0, rw append_assoc longer.1)
   reached_cut w s (steps r (by_turn within target)) leg rest are count =
-      reached_cut _ _ r [] (leg ∷ rest) (record { arrives = target; within = (reached_inside _ _ r, tt) }, are) (omega arith)
+      reached_cut _ _ r [] (leg ∷ rest) (record { arrives = target.target; within = (reached_inside _ _ r, tt) }, are) (omega arith)
 
   -- so does each link of a walk to the tail-end that passes through routers with transit alone
   run_on : (a : ℕ) (w : List Link) → AreJoined a w → AllByRecursion (HasTransit d) (routers_passed w) → end_of a w ≡ q.to → AllByRecursion (RunsOn d q) w
@@ -138,14 +138,20 @@ module _ (d : Database) (q : Request) where
       rw (← append_assoc v (l ∷ []) ls) (along k l.to ls (v ++ (l ∷ [])) (steps here (by_link l all.0 (record { inside = within.1.0; through = on.0 }) (leaves_at d v l ls passed))) all.1 joined.1 within.1 on.1
       (rw append_assoc passed))
 
+  -- after links that each lead to where a route may go on or end, it may stand
+  stands_on : (a : ℕ) (links : List Link) → MayStand d q a → AllByRecursion (RunsOn d q) links → MayStand d q (end_of a links)
+  stands_on a [] stands on = stands
+  stands_on a (l ∷ links) stands (inl transit, on) = stands_on l.to links (inl transit) on
+  stands_on a (l ∷ links) stands (inr end, on) = stands_on l.to links (inr (inr end)) on
+
   -- so do all legs that are left, up to a target of the last one
-  through : (k : ℕ) (a : ℕ) (first : List Link) (rest : List (List Link)) (v : List Link) → Reaches d q v (record { leg = k; router = a })
+  through : (k : ℕ) (a : ℕ) (first : List Link) (rest : List (List Link)) (v : List Link) → Reaches d q v (record { leg = k; router = a }) → MayStand d q a
       → k + length rest ≡ suc (length q.hops) → AreLegs d q k a (first ∷ rest)
       → AllByRecursion (IsAdmissible d q) (first ++ flat_map (λ links. links) rest) → AreJoined a (first ++ flat_map (λ links. links) rest)
       → AllByRecursion (RunsOn d q) (first ++ flat_map (λ links. links) rest)
       → AllByRecursion (HasTransit d) (routers_passed (v ++ (first ++ flat_map (λ links. links) rest)))
       → (b : ℕ) × IsTarget d q (suc (length q.hops)) b × Reaches d q (v ++ (first ++ flat_map (λ links. links) rest)) (record { leg = suc (length q.hops); router = b })
-  through k a first [] v r count legs all joined on passed =
+  through k a first [] v r stands count legs all joined on passed =
       let here =
       along k a first v r (All-append_parts (IsAdmissible d q) first [] all).0 (AreJoined-append_parts a first [] joined).0 legs.0.within
       (All-append_parts (RunsOn d q) first [] on).0 (rw append-nil at passed) in
@@ -154,14 +160,15 @@ module _ (d : Database) (q : Request) where
         subst (λ i. IsTarget d q i (end_of a first)) last legs.0.arrives,
         rw append-nil (subst (λ i. Reaches d q (v ++ first) (record { leg = i; router = end_of a first })) last here),
       )
-  through k a first (second ∷ rest) v r count legs all joined on passed =
+  through k a first (second ∷ rest) v r stands count legs all joined on passed =
       let alls = All-append_parts (IsAdmissible d q) first (second ++ flat_map (λ links. links) rest) all in
       let ons = All-append_parts (RunsOn d q) first (second ++ flat_map (λ links. links) rest) on in
       let joins = AreJoined-append_parts a first (second ++ flat_map (λ links. links) rest) joined in
       let all_passed = rw (← append_assoc v first (second ++ flat_map (λ links. links) rest)) at passed in
       let here = along k a first v r alls.0 joins.0 legs.0.within ons.0 (passed_before d (v ++ first) (second ++ flat_map (λ links. links) rest) all_passed) in
+      let after_first = stands_on a first stands ons.0 in
       let after =
-      through (suc k) (end_of a first) second rest (v ++ first) (steps here (by_turn (omega arith) legs.0.arrives)) (omega arith) legs.1 alls.1 joins.1 ons.1 all_passed in
+      through (suc k) (end_of a first) second rest (v ++ first) (steps here (by_turn (omega arith) (record { target = legs.0.arrives; stands = after_first }))) after_first (omega arith) legs.1 alls.1 joins.1 ons.1 all_passed in
       (after.0, after.1, rw append_assoc at after.2)
 
   cut_reaches : (w : List Link) (legs : List (List Link)) → IsWalk d q w → IsCutInto d q w legs
@@ -173,7 +180,7 @@ module _ (d : Database) (q : Request) where
       let joined = subst (AreJoined q.from) (sym whole) walk.joined in
       let passed = subst (λ x. AllByRecursion (HasTransit d) (routers_passed x)) (sym whole) walk.transit in
       let all =
-      through 1 q.from first rest [] starts count cut.each (subst (AllByRecursion (IsAdmissible d q)) (sym whole) walk.links) joined
+      through 1 q.from first rest [] starts (inr (inl refl)) count cut.each (subst (AllByRecursion (IsAdmissible d q)) (sym whole) walk.links) joined
       (run_on q.from (first ++ flat_map (λ links. links) rest) joined passed (legs_end 1 q.from first rest count cut.each)) passed in
       (all.0, all.1, subst (λ x. Reaches d q x (record { leg = suc (length q.hops); router = all.0 })) whole all.2)
 

@@ -10,10 +10,9 @@ use Rattle.cspf_db.specs.declared.link.Link.{Link}
 use Rattle.cspf_db.specs.declared.request.Request.{Request}
 use Rattle.cspf_db.specs.Database.{Database}
 use Rattle.cspf_db.specs.Admissible.{IsUsable}
-use Rattle.cspf_db.specs.Targets.{IsTarget}
 use Rattle.cspf_db.specs.Index.{links_of, links_from_index, router_list}
 use Rattle.cspf_search.specs.declared.arena.Node.{Node}
-use Rattle.cspf_search.specs.States.{State, MayEnter}
+use Rattle.cspf_search.specs.States.{State, MayEnter, MayTurn}
 use Rattle.cspf_search.specs.Arena.{walk_at, walks, index_of}
 use Rattle.cspf_search.specs.Rounds.{CrossesBy, Turns, CrossesFrom, CrossesBelow}
 use Rattle.cspf_search.specs.Frontier.{state_at, IsStateIndex, nowhere, IsNodeAt, IsEnd, NodeMayLeave, CrossesUpTo}
@@ -90,7 +89,7 @@ module _ (d : Database) (q : Request) (nodes : List Node) (at state : ℕ) (is :
       let same : x.node ≡ slice_index_or nodes at nowhere = same_Some x.node (slice_index_or nodes at nowhere) (sym x.there ∙ there) in
       (x.state ∙ ap (λ (n : Node). record { leg = n.leg + 1; router = n.router }) same ∙ turn_state, x.walk)
 
-  pub turn_passes : state / 1024 < length q.hops → IsTarget d q (state / 1024 + 1) (slice_index (router_list d) (state % 1024))
+  pub turn_passes : state / 1024 < length q.hops → MayTurn d q (state / 1024 + 1) (slice_index (router_list d) (state % 1024))
       → index_of nodes (state_at d (state + 1024)) ≡ None → Turns d q nodes at (walk_at (walks nodes) at) (state_at d (state + 1024))
   turn_passes h target left = record {
     node = slice_index_or nodes at nowhere;
@@ -103,7 +102,7 @@ module _ (d : Database) (q : Request) (nodes : List Node) (at state : ℕ) (is :
   }
 
   pub turn_within : (w : List Link) (t : State) → Turns d q nodes at w t
-      → (state / 1024 < length q.hops) × IsTarget d q (state / 1024 + 1) (slice_index (router_list d) (state % 1024))
+      → (state / 1024 < length q.hops) × MayTurn d q (state / 1024 + 1) (slice_index (router_list d) (state % 1024))
   turn_within w t x =
       let same : x.node ≡ slice_index_or nodes at nowhere = same_Some x.node (slice_index_or nodes at nowhere) (sym x.there ∙ there) in
       let legs = ap (λ (n : Node). n.leg) same in

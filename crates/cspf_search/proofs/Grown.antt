@@ -10,9 +10,8 @@ use Rattle.cspf_db.specs.declared.link.Link.{Link}
 use Rattle.cspf_db.specs.declared.request.Request.{Request}
 use Rattle.cspf_db.specs.Database.{Database, AreLinksOf, IsLinkOf, IsRouterOf}
 use Rattle.cspf_db.specs.Walks.{cost_of}
-use Rattle.cspf_db.specs.Targets.{IsTarget}
 use Rattle.cspf_search.specs.declared.arena.Node.{Node}
-use Rattle.cspf_search.specs.States.{State, MayEnter, IsStep, by_link, by_turn, Reaches, starts, steps, start_of}
+use Rattle.cspf_search.specs.States.{State, MayEnter, IsStep, by_link, by_turn, Reaches, starts, steps, start_of, MayTurn}
 use Rattle.cspf_search.specs.Settled.{IsNoLater, AreSettled, Crosses, IsFirstCrossing, IsStuck, locals_cmp}
 use Rattle.cspf_search.specs.Arena.{walk_at, walks, walk_of, state_of, labels_of, AreNodes, AreInLegs, IsNext, root_of}
 use Rattle.cspf_search.specs.Rounds.{CrossesBy, Turns, CrossesBelow, IsFirstOf, IsFirst}
@@ -111,7 +110,7 @@ module _ (d : Database) (q : Request) (links : List Link) (listed : AreLinksOf d
           node = slice_index_or nodes at.0 nowhere;
           there = slice_get-get_or nodes at.0 nowhere at.1;
           within = subst (λ (s : State). s.leg ≤ length q.hops) (sym at.2) within;
-          target = subst (λ (s : State). IsTarget d q s.leg s.router) (sym at.2) target;
+          target = subst (λ (s : State). MayTurn d q s.leg s.router) (sym at.2) target;
           walk = sym at.3;
           state = λ i. record { leg = next i; router = router i };
           still_open = open_index nodes (record { leg = suc k; router = r }) left;

@@ -4,13 +4,13 @@ use Rattle.std.proofs.lemmas.Bool.{cases_lt, false≢true}
 use Rattle.std.proofs.lemmas.List.{get_or_past, get_or-drop, get_or-replicate, length-replicate, get_or-set_other}
 use Rattle.cspf_db.specs.declared.request.Request.{Request}
 use Rattle.cspf_db.specs.Database.{Database}
-use Rattle.cspf_db.specs.Targets.{IsTarget}
 use Rattle.cspf_db.specs.Index.{router_list}
 use Rattle.cspf_search.specs.declared.ring.Ring.{Ring}
 use Rattle.cspf_search.specs.declared.roles.Role.{Role}
 use Rattle.cspf_search.specs.Frontier.{AreListed, AreRoles, IsEnd, IsStateIndex, nothing}
 use Rattle.cspf_search.specs.Bounds.{ArePassed, AreBounds, Falls, IsLeg, IsRing, AreLooked, bound_at, is_done}
 use Rattle.cspf_search.proofs.Ranks.{same_or_not}
+use Rattle.cspf_search.specs.States.{MayTurn}
 
 -- where nothing is done nothing was looked at
 pub none_done : (d : Database) (q : Request) (ring : Ring) → ((w : ℕ) → is_done ring w ≡ false) → IsRing d q ring
@@ -43,7 +43,7 @@ module _ (d : Database) (q : Request) (to base : ℕ) (old new : Ring) (ring : I
 -- a leg from its ring
 pub leg_of_ring : (d : Database) (q : Request) (leg : ℕ) (ring : Ring) (edge : ℕ) → AreListed d → IsRing d q ring
     → ((w : ℕ) → w < 1024 → is_done ring w ≡ false → edge ≤ bound_at ring.near.items w) → (ahead : List ℕ)
-    → ((p : ℕ) → p < length (router_list d) → IsTarget d q (leg + 1) (slice_index (router_list d) p) → bound_at ring.near.items p ≤ bound_at ahead p)
+    → ((p : ℕ) → p < length (router_list d) → MayTurn d q (leg + 1) (slice_index (router_list d) p) → bound_at ring.near.items p ≤ bound_at ahead p)
     → IsLeg d q leg ring.near.items edge ahead
 leg_of_ring d q leg ring edge listed links least ahead targets = record {
   links = λ u w l admissible from to.
@@ -57,7 +57,7 @@ leg_of_ring d q leg ring edge listed links least ahead targets = record {
 
 -- the roles tell the targets
 pub told_target : (d : Database) (q : Request) (roles : List Role) (leg p : ℕ) → AreListed d → AreRoles d q roles → leg ≤ length q.hops → p < length (router_list d)
-    → IsTarget d q (leg + 1) (slice_index (router_list d) p) → IsTrue (slice_index_or roles (leg * 1024 + p) nothing).target
+    → MayTurn d q (leg + 1) (slice_index (router_list d) p) → IsTrue (slice_index_or roles (leg * 1024 + p) nothing).target
 told_target d q roles leg p listed are within h target =
     let few : p < 1024 = omega (arith, h, listed.few) in
     let at_leg : (leg * 1024 + p) / 1024 ≡ leg = omega (arith, few) in
@@ -109,10 +109,10 @@ module _ (d : Database) (q : Request) (leg : ℕ) (within : leg ≤ length q.hop
       let whole : leg * 1024 + 1024 + i % 1024 ≡ i + 1024 = omega (arith, same) in
       get_or-drop (leg * 1024 + 1024) old (i % 1024) 0 ∙ ap (bound_at old) whole
 
-  target_ahead : (i : ℕ) → IsStateIndex d q i → i / 1024 ≡ leg → IsTarget d q (i / 1024 + 1) (slice_index (router_list d) (i % 1024))
+  target_ahead : (i : ℕ) → IsStateIndex d q i → i / 1024 ≡ leg → MayTurn d q (i / 1024 + 1) (slice_index (router_list d) (i % 1024))
       → bound_at new i ≤ bound_at old (i + 1024)
   target_ahead i ix same target =
-      let low = is.targets (i % 1024) ix.place (subst (λ k. IsTarget d q (k + 1) (slice_index (router_list d) (i % 1024))) same target) in
+      let low = is.targets (i % 1024) ix.place (subst (λ k. MayTurn d q (k + 1) (slice_index (router_list d) (i % 1024))) same target) in
       omega (arith, low, in_leg i same, behind_leg i same)
 
   pub one_leg_more : AreBounds d q new

@@ -9,13 +9,12 @@ use Rattle.cspf_db.specs.declared.link.Link.{Link}
 use Rattle.cspf_db.specs.declared.request.Request.{Request}
 use Rattle.cspf_db.specs.Database.{Database}
 use Rattle.cspf_db.specs.Admissible.{IsUsable}
-use Rattle.cspf_db.specs.Targets.{IsTarget}
 use Rattle.cspf_db.specs.Walks.{cost_of}
 use Rattle.cspf_db.specs.Index.{links_of, links_from_index, router_list}
 use Rattle.cspf_search.specs.declared.arena.Node.{Node}
 use Rattle.cspf_search.specs.declared.forward_star.ForwardStar.{ForwardStar}
 use Rattle.cspf_search.specs.declared.rounds.Look.{Look}
-use Rattle.cspf_search.specs.States.{State, MayEnter}
+use Rattle.cspf_search.specs.States.{State, MayEnter, MayTurn}
 use Rattle.cspf_search.specs.Settled.{state_cmp}
 use Rattle.cspf_search.specs.Arena.{state_of, walk_of, index_of, AreNodes, IsNext}
 use Rattle.cspf_search.specs.Rounds.{CrossesBy, Turns, CrossesBelow, IsFirst, RanksBefore, earlier_of}
@@ -82,7 +81,7 @@ module _ (d : Database) (q : Request) (nodes : List Node) (are : AreNodes nodes)
         (λ w t x. elim (turn_cases d q nodes at state is w t x) [ inl p ↦ p | inr turn ↦ absurd (never w t turn) ]) a before
 
     -- there is no next leg, or the router is no target
-    pub no_turn : (state / 1024 < length q.hops → IsTarget d q (state / 1024 + 1) (slice_index (router_list d) (state % 1024)) → ⊥)
+    pub no_turn : (state / 1024 < length q.hops → MayTurn d q (state / 1024 + 1) (slice_index (router_list d) (state % 1024)) → ⊥)
         → IsFirst nodes (CrossesUpTo d q nodes at (state % 1024) 0) a
     no_turn never = turn_off (λ w t x. let has = turn_within d q nodes at state is w t x in never has.0 has.1)
 
@@ -92,7 +91,7 @@ module _ (d : Database) (q : Request) (nodes : List Node) (are : AreNodes nodes)
         let left : index_of nodes (state_at d (state + 1024)) ≡ None = rw same at x.still_open in
         absurd (cc))
 
-    pub turn_kept : state / 1024 < length q.hops → IsTarget d q (state / 1024 + 1) (slice_index (router_list d) (state % 1024))
+    pub turn_kept : state / 1024 < length q.hops → MayTurn d q (state / 1024 + 1) (slice_index (router_list d) (state % 1024))
         → is_some (index_of nodes (state_at d (state + 1024))) ≡ false → (from : Node) → from ≡ slice_index_or nodes at nowhere
         → IsFirst nodes (CrossesUpTo d q nodes at (state % 1024) 0) (earlier_of nodes a (Some (node_by at from None)))
     turn_kept h target marked from same =
@@ -102,7 +101,7 @@ module _ (d : Database) (q : Request) (nodes : List Node) (are : AreNodes nodes)
         same_Some passes.node (slice_index_or nodes at nowhere) (sym passes.there ∙ there d q nodes at state is) in
         let first =
         turned_first d q nodes are at is.within (slice_index_or nodes at nowhere) (there d q nodes at state is)
-        (subst (λ (n : Node). n.leg ≤ length q.hops) node passes.within) (subst (λ (n : Node). IsTarget d q n.leg n.router) node passes.target)
+        (subst (λ (n : Node). n.leg ≤ length q.hops) node passes.within) (subst (λ (n : Node). MayTurn d q n.leg n.router) node passes.target)
         (ap (index_of nodes) (turn_state d q nodes at state is) ∙ left) in
         rw same
         (first_both nodes (CrossesBelow d q nodes (links_of d) at) (Turns d q nodes at) (CrossesUpTo d q nodes at (state % 1024) 0) (turn_left d q nodes at state is)

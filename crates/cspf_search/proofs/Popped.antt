@@ -14,7 +14,7 @@ use Rattle.cspf_db.specs.Index.{links_of, router_list}
 use Rattle.cspf_search.specs.declared.arena.Node.{Node}
 use Rattle.cspf_search.specs.declared.goal.Goal.{Goal}
 use Rattle.cspf_search.specs.declared.labels.Label.{Label}
-use Rattle.cspf_search.specs.States.{State, steps, start_of, end_state}
+use Rattle.cspf_search.specs.States.{State, MayTurn, steps, start_of, end_state}
 use Rattle.cspf_search.specs.Settled.{RanksNoLater, AreSettled, Crosses, IsStuck, IsFirstCrossing}
 use Rattle.cspf_search.specs.Arena.{walk_of, state_of, same_state, index_of, labels_of, AreNodes, root_of}
 use Rattle.cspf_search.specs.Rounds.{CrossesBelow}
@@ -65,7 +65,7 @@ module _ (d : Database) (q : Request) (of : AreLinksOf d (links_of d)) (listed :
   goal_lift =
       let last : length q.hops + 1 ≡ suc (length q.hops) = omega arith in
       let target : IsTarget d q (end_state q).leg (end_state q).router = rw last (subst (λ (T : Type 0). T) (sym (last_target d q q.to)) refl) in
-      let there_too : IsTarget d q (goal.at / 1024 + 1) (slice_index (router_list d) (goal.at % 1024)) = subst (λ (s : State). IsTarget d q s.leg s.router) (sym end) target in
+      let there_too : MayTurn d q (goal.at / 1024 + 1) (slice_index (router_list d) (goal.at % 1024)) = subst (λ (s : State). MayTurn d q s.leg s.router) (sym end) (record { target = target; stands = inr (inr refl) }) in
       let none = bounds.last goal.at there (omega (arith, ap (λ (s : State). s.leg) end)) there_too in
       omega (arith, none)
 

@@ -16,10 +16,9 @@ use Rattle.cspf_db.specs.declared.request.Request.{Request}
 use Rattle.cspf_db.specs.Database.{Database, IsRouterOf}
 use Rattle.cspf_db.specs.Walks.{cost_of, locals_of}
 use Rattle.cspf_db.specs.Index.{router_list}
-use Rattle.cspf_db.specs.Targets.{IsTarget}
 use Rattle.cspf_search.specs.declared.arena.Node.{Node}
 use Rattle.cspf_search.specs.declared.goal.Goal.{Goal}
-use Rattle.cspf_search.specs.States.{State, LeadsOn}
+use Rattle.cspf_search.specs.States.{State, LeadsOn, MayTurn}
 use Rattle.cspf_search.specs.Settled.{IsNoLater, RanksNoLater, IsConsistent, locals_cmp}
 use Rattle.cspf_search.specs.Arena.{walk_at, walks, walk_of, AreNodes, IsNext}
 use Rattle.cspf_search.specs.Bounds.{bound_at, AreBounds}
@@ -217,7 +216,7 @@ module _ (d : Database) (q : Request) (listed : AreListed d) where
         let up = bounds.links i.0 j.0 i.1 j.1 same l a (ap (λ (s : State). s.router) i.2) (ap (λ (s : State). s.router) j.2) in
         omega (arith, up, ap (potential_of d goal) i.2 ∙ potential_at i.0 i.1, ap (potential_of d goal) j.2 ∙ potential_at j.0 j.1)
 
-    turns_keep : (leg router : ℕ) → 1 ≤ leg → leg ≤ length q.hops → IsTarget d q leg router
+    turns_keep : (leg router : ℕ) → 1 ≤ leg → leg ≤ length q.hops → MayTurn d q leg router
         → potential_of d goal (record { leg = leg; router = router }) ≤ potential_of d goal (record { leg = suc leg; router = router })
     turns_keep leg router low high target =
         elim (position (λ r. nat_eq r router) (router_list d))

@@ -13,7 +13,7 @@ use Rattle.cspf_search.specs.declared.arena.Node.{Node}
 use Rattle.cspf_search.specs.declared.goal.Goal.{Goal}
 use Rattle.cspf_search.specs.declared.labels.Label.{Label}
 use Rattle.cspf_search.specs.declared.roles.Role.{Role}
-use Rattle.cspf_search.specs.States.{State, end_state}
+use Rattle.cspf_search.specs.States.{State, MayTurn, end_state}
 use Rattle.cspf_search.specs.Settled.{Labels, AreSettled, IsClosed, IsStuck}
 use Rattle.cspf_search.specs.Arena.{walk_at, walks, state_of, index_of, labels_of, AreNodes, root_of}
 use Rattle.cspf_search.specs.Rounds.{CrossesBelow}
@@ -161,7 +161,7 @@ module _ (d : Database) (q : Request) (legs from to : ℕ) (goal : Goal) (asked 
           last_alone : IsRaised roles after i floor → i / 1024 ≡ goal.at / 1024 → i ≡ goal.at
           last_alone raised same =
               let leg : i / 1024 + 1 ≡ suc (length q.hops) = omega (arith, same, ap (λ (t : State). t.leg) goal_end) in
-              let target = rw leg at ((told.each i nothing least.index).target.0 raised.target) in
+              let target = rw leg at ((told.each i nothing least.index).target.0 raised.target).target in
               let arrives : slice_index (router_list d) (i % 1024) ≡ q.to = subst (λ (T : Type 0). T) (last_target d q (slice_index (router_list d) (i % 1024))) target in
               let here : IsEnd d q.to (i % 1024) = record { within = least.index.place; is = arrives } in
               let place = one_place d asked.listed q.to (i % 1024) to here asked.end in
@@ -172,8 +172,8 @@ module _ (d : Database) (q : Request) (legs from to : ℕ) (goal : Goal) (asked 
           closes raised low router target none =
               let s : State = record { leg = floor / 1024; router = router } in
               let leg : floor / 1024 ≡ i / 1024 + 1 = omega (arith, raised.next) in
-              let at = index_for d q asked.listed s (target_known (floor / 1024) router low target) low (omega (arith, leg, least.index.low)) in
-              let there = (told.each at.0 nothing at.1).target.1 (subst (λ (t : State). IsTarget d q t.leg t.router) at.2 target) in
+              let at = index_for d q asked.listed s (target_known (floor / 1024) router low target.target) low (omega (arith, leg, least.index.low)) in
+              let there = (told.each at.0 nothing at.1).target.1 (subst (λ (t : State). MayTurn d q t.leg t.router) at.2 target) in
               let same : at.0 / 1024 ≡ i / 1024 = omega (arith, leg, ap (λ (t : State). t.leg) at.2) in
               let behind : goal.floor ≤ at.0 = omega (arith, same, least.behind, are.whole) in
               let zero = raised.settled at.0 same there in

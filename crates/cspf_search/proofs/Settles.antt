@@ -10,11 +10,10 @@ use Rattle.cspf_db.specs.declared.link.Link.{Link}
 use Rattle.cspf_db.specs.declared.request.Request.{Request}
 use Rattle.cspf_db.specs.Database.{Database}
 use Rattle.cspf_db.specs.Admissible.{IsAdmissible, MayLeave}
-use Rattle.cspf_db.specs.Targets.{IsTarget}
 use Rattle.cspf_db.specs.Walks.{cost_of}
 use Rattle.cspf_db.specs.Routes.{IsRoute}
 use Rattle.cspf_db.specs.Best.{IsBestRoute}
-use Rattle.cspf_search.specs.States.{State, LeadsOn, IsStep, by_link, by_turn, Reaches, starts, steps, end_state}
+use Rattle.cspf_search.specs.States.{State, LeadsOn, IsStep, by_link, by_turn, Reaches, starts, steps, end_state, MayTurn}
 use Rattle.cspf_search.specs.Settled.{Labels, IsNoLater, potential_cmp, RanksNoLater, IsConsistent, AreSettled, Crosses, IsClosed, IsFirstCrossing, IsStuck, locals_cmp}
 use Rattle.cspf_search.proofs.Orders.{walks_total, potentials_total, walk_cmp-push, potential_cmp-push, potential_cmp-turn, walk_from_less, rank_from_walk}
 use Rattle.cspf_search.proofs.Cuts.{reached_walk, reached_leg, route_reaches, reaches_route}
@@ -79,7 +78,7 @@ module _ (d : Database) (q : Request) where
         | inl lt ↦ lt
         | inr ge ↦
             let same : closed ≡ k = omega (arith, h) in
-            absurd (shut (omega (arith, leg.0)) router (subst (λ j. IsTarget d q j router) (sym same) target)
+            absurd (shut (omega (arith, leg.0)) router (subst (λ j. MayTurn d q j router) (sym same) target)
             (subst (λ j. labels (record { leg = j; router = router }) ≡ None) (sym same) left))
       ]
 

@@ -7,7 +7,6 @@ use Rattle.cspf_db.specs.declared.link.Link.{Link}
 use Rattle.cspf_db.specs.declared.request.Request.{Request}
 use Rattle.cspf_db.specs.Database.{Database}
 use Rattle.cspf_db.specs.Admissible.{IsUsable}
-use Rattle.cspf_db.specs.Targets.{IsTarget}
 use Rattle.cspf_db.specs.Index.{links_of, links_from_index, router_list}
 use Rattle.cspf_search.specs.declared.arena.Node.{Node}
 use Rattle.cspf_search.specs.declared.goal.Goal.{Goal}
@@ -15,7 +14,7 @@ use Rattle.cspf_search.specs.declared.edge.Edge.{Edge}
 use Rattle.cspf_search.specs.declared.frontier.Source.{Source}
 use Rattle.cspf_search.specs.declared.labels.Label.{Label}
 use Rattle.cspf_search.specs.declared.roles.Role.{Role}
-use Rattle.cspf_search.specs.States.{State, MayEnter}
+use Rattle.cspf_search.specs.States.{State, MayEnter, MayTurn}
 use Rattle.cspf_search.specs.Arena.{walk_at, walks, walk_of, state_of, index_of, AreNodes, IsNext}
 use Rattle.cspf_search.specs.Rounds.{CrossesBy, Turns, CrossesBelow}
 use Rattle.cspf_search.specs.Source.{IsEdge, IsSource}
@@ -109,7 +108,7 @@ module _ (source : Source) (of : IsSource source) (labels : List Label) (keys : 
 
   module _ (before : AreLabels d q nodes (CrossesBelow d q nodes (links_of d) at) goal labels keys) where
     -- no turn: nothing changes
-    pub turn_off : (state / 1024 < length q.hops → IsTarget d q (state / 1024 + 1) (slice_index (router_list d) (state % 1024)) → ⊥)
+    pub turn_off : (state / 1024 < length q.hops → MayTurn d q (state / 1024 + 1) (slice_index (router_list d) (state % 1024)) → ⊥)
         → AreLabels d q nodes (CrossesUpTo d q nodes at (state % 1024) 0) goal labels keys
     turn_off never =
         labels_same d q nodes (CrossesBelow d q nodes (links_of d) at) (CrossesUpTo d q nodes at (state % 1024) 0) (turn_left d q nodes at state is)
@@ -143,7 +142,7 @@ module _ (source : Source) (of : IsSource source) (labels : List Label) (keys : 
       turn_tied h tie =
           label_tied label None parent place past turned rank (CrossesBelow d q nodes (links_of d) at) before (state + 1024) (turn_index d q nodes at state is h) (omega (arith, open_leg)) tie
 
-      pub turn_taken : state / 1024 < length q.hops → IsTarget d q (state / 1024 + 1) (slice_index (router_list d) (state % 1024))
+      pub turn_taken : state / 1024 < length q.hops → MayTurn d q (state / 1024 + 1) (slice_index (router_list d) (state % 1024))
           → label.rank ≤ (label_at labels (state + 1024)).rank → (key : ℕ) (new : List Label) (new_keys : List Key) → key ≡ label.rank + lift goal (state + 1024)
           → StaysAt d nodes (state + 1024) label labels new keys new_keys ⊎ GoesTo d nodes (state + 1024) label key labels new keys new_keys
           → AreLabels d q nodes (CrossesUpTo d q nodes at (state % 1024) 0) goal new new_keys

@@ -5,11 +5,10 @@ use Rattle.cspf_db.specs.declared.link.Link.{Link}
 use Rattle.cspf_db.specs.declared.request.Request.{Request}
 use Rattle.cspf_db.specs.Database.{Database}
 use Rattle.cspf_db.specs.Admissible.{IsAdmitted}
-use Rattle.cspf_db.specs.Targets.{IsTarget}
 use Rattle.cspf_db.specs.Index.{router_list, links_of}
 use Rattle.cspf_search.specs.declared.ring.Ring.{Ring}
 use Rattle.cspf_search.specs.Frontier.{IsEnd, IsStateIndex}
-use Rattle.cspf_search.specs.States.{LeadsOn, MayBeLeft}
+use Rattle.cspf_search.specs.States.{LeadsOn, MayBeLeft, MayTurn}
 
 -- the bound of the state at an index
 abbrev pub bound_at : List ℕ → ℕ → ℕ
@@ -24,9 +23,9 @@ pub record AreBounds (d : Database) (q : Request) (bounds : List ℕ) : Type 0 w
       → l.from ≡ slice_index (router_list d) (i % MOST_ROUTERS) → l.to ≡ slice_index (router_list d) (j % MOST_ROUTERS)
       → bound_at bounds i ≤ bound_at bounds j + l.metric
   pub turns : (i : ℕ) → IsStateIndex d q i → i / MOST_ROUTERS < length q.hops
-      → IsTarget d q (i / MOST_ROUTERS + 1) (slice_index (router_list d) (i % MOST_ROUTERS)) → bound_at bounds i ≤ bound_at bounds (i + MOST_ROUTERS)
+      → MayTurn d q (i / MOST_ROUTERS + 1) (slice_index (router_list d) (i % MOST_ROUTERS)) → bound_at bounds i ≤ bound_at bounds (i + MOST_ROUTERS)
   pub last : (i : ℕ) → IsStateIndex d q i → i / MOST_ROUTERS ≡ length q.hops
-      → IsTarget d q (i / MOST_ROUTERS + 1) (slice_index (router_list d) (i % MOST_ROUTERS)) → bound_at bounds i ≡ 0
+      → MayTurn d q (i / MOST_ROUTERS + 1) (slice_index (router_list d) (i % MOST_ROUTERS)) → bound_at bounds i ≡ 0
 
 -- The bound of each router from a leg on, as far as an edge, where these are the bounds of its targets
 -- behind it: so it is for the lower of the two.
@@ -34,7 +33,7 @@ pub record IsLeg (d : Database) (q : Request) (leg : ℕ) (near : List ℕ) (edg
   pub links : (u w : ℕ) (l : Link) → LeadsOn d q l → IsEnd d l.from u → IsEnd d l.to w
       → min (bound_at near u) edge ≤ min (bound_at near w) edge + l.metric
   pub targets : (p : ℕ) → p < length (router_list d)
-      → IsTarget d q (leg + 1) (slice_index (router_list d) p) → min (bound_at near p) edge ≤ bound_at ahead p
+      → MayTurn d q (leg + 1) (slice_index (router_list d) p) → min (bound_at near p) edge ≤ bound_at ahead p
 
 -- whether the links that arrive at a router were all looked at
 abbrev pub is_done : Ring → ℕ → Bool

@@ -11,14 +11,13 @@ use Rattle.cspf_db.specs.declared.link.Link.{Link}
 use Rattle.cspf_db.specs.declared.request.Request.{Request}
 use Rattle.cspf_db.specs.Database.{Database, IsRouterOf}
 use Rattle.cspf_db.specs.Admissible.{MayLeave}
-use Rattle.cspf_db.specs.Targets.{IsTarget}
 use Rattle.cspf_db.specs.Walks.{cost_of}
 use Rattle.cspf_db.specs.Index.{router_list, links_of, links_from_index}
 use Rattle.cspf_search.specs.declared.arena.Node.{Node}
 use Rattle.cspf_search.specs.declared.goal.Goal.{Goal}
 use Rattle.cspf_search.specs.declared.labels.Label.{Label}
 use Rattle.cspf_search.specs.declared.roles.Role.{Role}
-use Rattle.cspf_search.specs.States.{State, MayEnter}
+use Rattle.cspf_search.specs.States.{State, MayEnter, MayTurn}
 use Rattle.cspf_search.specs.Settled.{Labels, IsNoLater, IsClosed, locals_cmp}
 use Rattle.cspf_search.specs.Arena.{walk_at, walks, walk_of, state_of, index_of, IsNext}
 use Rattle.cspf_search.specs.Rounds.{CrossesFrom, CrossesBelow}
@@ -43,7 +42,7 @@ pub record IsStateIndex (d : Database) (q : Request) (i : ℕ) : Type 0 where
 -- whether a link may lead a route to a state, and whether it may turn to the next leg there
 pub record IsRole (d : Database) (q : Request) (t : State) (role : Role) : Type 0 where
   pub enter : IsTrue role.enter ↔ MayEnter d q t.leg t.router
-  pub target : IsTrue role.target ↔ IsTarget d q t.leg t.router
+  pub target : IsTrue role.target ↔ MayTurn d q t.leg t.router
 
 -- so it is for each router in each leg
 pub record AreRoles (d : Database) (q : Request) (roles : List Role) : Type 0 where

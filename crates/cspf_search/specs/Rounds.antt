@@ -5,9 +5,8 @@ use Rattle.cspf_db.specs.declared.link.Link.{Link}
 use Rattle.cspf_db.specs.declared.request.Request.{Request}
 use Rattle.cspf_db.specs.Database.{Database}
 use Rattle.cspf_db.specs.Admissible.{IsUsable, MayLeave}
-use Rattle.cspf_db.specs.Targets.{IsTarget}
 use Rattle.cspf_search.specs.declared.arena.Node.{Node}
-use Rattle.cspf_search.specs.States.{State, MayEnter}
+use Rattle.cspf_search.specs.States.{State, MayEnter, MayTurn}
 use Rattle.cspf_search.specs.Settled.{state_cmp}
 use Rattle.cspf_search.specs.Arena.{walk_at, walks, walk_of, state_of, index_of, IsNext}
 
@@ -29,7 +28,7 @@ pub record Turns (d : Database) (q : Request) (nodes : List Node) (at : ℕ) (w 
   pub node : Node
   pub there : slice_get nodes at ≡ Some node
   pub within : node.leg ≤ length q.hops
-  pub target : IsTarget d q node.leg node.router
+  pub target : MayTurn d q node.leg node.router
   pub walk : w ≡ walk_at (walks nodes) at
   pub state : t ≡ record { leg = node.leg + 1; router = node.router }
   pub still_open : index_of nodes t ≡ None

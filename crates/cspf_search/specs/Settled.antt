@@ -6,9 +6,8 @@ use Rattle.std.specs.Cmp.Lexicographic.{slice_cmp}
 use Rattle.cspf_db.specs.declared.link.Link.{Link}
 use Rattle.cspf_db.specs.declared.request.Request.{Request}
 use Rattle.cspf_db.specs.Database.{Database}
-use Rattle.cspf_db.specs.Targets.{IsTarget}
 use Rattle.cspf_db.specs.Walks.{cost_of, locals_of, walk_cmp}
-use Rattle.cspf_search.specs.States.{State, LeadsOn, IsStep, Reaches, start_of}
+use Rattle.cspf_search.specs.States.{State, LeadsOn, IsStep, Reaches, start_of, MayTurn}
 
 -- the walk that is settled at each state, if there is one
 abbrev pub Labels : Type 0
@@ -37,7 +36,7 @@ RanksNoLater potential s v t w = is_gt (potential_cmp potential (s, v) (t, w)) �
 pub record IsConsistent (d : Database) (q : Request) (potential : State → ℕ) : Type 0 where
   pub links : (leg : ℕ) (l : Link) → 1 ≤ leg → leg ≤ length q.hops + 1 → LeadsOn d q l
       → potential (record { leg = leg; router = l.from }) ≤ potential (record { leg = leg; router = l.to }) + l.metric
-  pub turns : (leg router : ℕ) → 1 ≤ leg → leg ≤ length q.hops → IsTarget d q leg router
+  pub turns : (leg router : ℕ) → 1 ≤ leg → leg ≤ length q.hops → MayTurn d q leg router
       → potential (record { leg = leg; router = router }) ≤ potential (record { leg = suc leg; router = router })
 
 abbrev pub locals_cmp : List Link → List Link → Ordering
@@ -64,7 +63,7 @@ pub record Crosses (d : Database) (q : Request) (labels : Labels) (w : List Link
 -- Each target of the leg is settled, so a walk to any leg behind it goes on from a settled state.
 abbrev pub IsClosed : Database → Request → Labels → ℕ → Type 0
 IsClosed d q labels leg =
-    1 ≤ leg → (router : ℕ) → IsTarget d q leg router → labels (record { leg = leg; router = router }) ≡ None → ⊥
+    1 ≤ leg → (router : ℕ) → MayTurn d q leg router → labels (record { leg = leg; router = router }) ≡ None → ⊥
 
 -- no other that crosses into its state is before it, and none that crosses behind the closed legs
 -- ranks before it under a potential of states

@@ -26,6 +26,15 @@ pub record MayEnter (d : Database) (q : Request) (leg router : ℕ) : Type 0 whe
   pub inside : IsInside d q leg router
   pub through : HasTransit d router ⊎ (router ≡ q.to)
 
+-- A route may stand at the router: it goes on from there, begins there or ends there.
+abbrev pub MayStand : Database → Request → ℕ → Type 0
+MayStand d q router = HasTransit d router ⊎ ((router ≡ q.from) ⊎ (router ≡ q.to))
+
+-- A route may turn to the next leg at the router: it is a target of the leg, and a route may stand there.
+pub record MayTurn (d : Database) (q : Request) (leg router : ℕ) : Type 0 where
+  pub target : IsTarget d q leg router
+  pub stands : MayStand d q router
+
 -- What leads on from a walk that stands at a state, to a walk and its state: where the walk may leave
 -- its router, an admissible link to a router that it may enter in the leg, and, at a target of the leg
 -- to a hop, the turn to the next leg alone.
@@ -34,7 +43,7 @@ pub data IsStep (d : Database) (q : Request) : List Link → State → List Link
       → MayLeave d l.from (length walk)
       → IsStep d q walk (record { leg = leg; router = l.from })
       (walk ++ (l ∷ [])) (record { leg = leg; router = l.to })
-  by_turn : {walk : List Link} {leg router : ℕ} → leg ≤ length q.hops → IsTarget d q leg router
+  by_turn : {walk : List Link} {leg router : ℕ} → leg ≤ length q.hops → MayTurn d q leg router
       → IsStep d q walk (record { leg = leg; router = router })
       walk (record { leg = suc leg; router = router })
 

@@ -15,7 +15,7 @@ use std::alloc::{AllocError, Global};
 pub(crate) struct Role {
     /// Whether a link may lead it there.
     pub(crate) enter: bool,
-    /// Whether the router is a target of the leg.
+    /// Whether the router is a target of the leg that a route may stand at.
     pub(crate) target: bool,
 }
 
@@ -68,12 +68,12 @@ fn make_role(table: &Table, request: &Request, routers: &[Addr], roles: &[Role],
         return NOTHING;
     }
     let router = routers[place];
-    let target = member_at(table, place, leg, request);
-    let inside = is_loose(request, leg) || is_target_before(request, roles, at, router) || target;
+    let member = member_at(table, place, leg, request);
+    let inside = is_loose(request, leg) || is_target_before(request, roles, at, router) || member;
     let through = table.transit_at(place) || router == request.to;
     Role {
         enter: inside && through,
-        target,
+        target: member && (through || router == request.from),
     }
 }
 
