@@ -83,6 +83,10 @@ abbrev pub OneRefusal : Type 0
 OneRefusal =
     (d : Database) (b : NumberedChanges) (e f : Refusal) → IsRefusal d b e → IsRefusal d b f → e ≡ f
 
+-- a batch that is refused doesn't fit
+abbrev pub RefusedIsUnfit : Type 0
+RefusedIsUnfit = (d : Database) (b : NumberedChanges) (e : Refusal) → IsRefusal d b e → ¬ Fits d b
+
 -- 10.0.0.9 comes before 10.0.0.10
 abbrev pub AddressesCompareAsNumbers : Type 0
 AddressesCompareAsNumbers =

@@ -3,7 +3,7 @@
 ghost use Rattle.std.specs.Cmp.{IsTotalOrder};
 ghost use Rattle.cspf_db.specs.Walks.{walk_cmp};
 ghost use Rattle.cspf_db.specs.Fields.{AreFieldsOfLinks, AreFieldsOfRequests};
-ghost use Rattle.cspf_db.specs.Laws.{WalksAreTold, RoutesAreRanked, OneBestAnswer, LastChangeDecides, OneDatabase, OneMoreBatch, LawfulByOneMore, FirstBatchesAreLawful, RoutersAreCounted, NoRouterIsLeftOut, LinksAreAtTheirKeys, OneRefusal, AddressesCompareAsNumbers, FewerLinksComeFirst, LastPutStands, LastRemovalStands, ExactBandwidthIsEnough, LessBandwidthIsNot};
+ghost use Rattle.cspf_db.specs.Laws.{WalksAreTold, RoutesAreRanked, OneBestAnswer, LastChangeDecides, OneDatabase, OneMoreBatch, LawfulByOneMore, FirstBatchesAreLawful, RoutersAreCounted, NoRouterIsLeftOut, LinksAreAtTheirKeys, OneRefusal, RefusedIsUnfit, AddressesCompareAsNumbers, FewerLinksComeFirst, LastPutStands, LastRemovalStands, ExactBandwidthIsEnough, LessBandwidthIsNot};
 
 mod hop_laws;
 
@@ -57,9 +57,10 @@ pub fn fields_of_links_and_requests()
     ensures requests { AreFieldsOfRequests }
 {}
 
-/// A batch is refused for one reason at most.
+/// A batch is refused for one reason at most, and only where it doesn't fit.
 pub fn one_refusal()
-    ensures { OneRefusal }
+    ensures one { OneRefusal }
+    ensures unfit { RefusedIsUnfit }
 {}
 
 /// Two orders of routes: addresses compare as numbers, and fewer links go before smaller addresses.

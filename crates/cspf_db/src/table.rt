@@ -1,12 +1,13 @@
 ghost use Rattle.std.specs.Prelude.{◌≡◌, ◌<◌, ◌≤◌, ◌↔◌, ℕ, All, Contains, length, map, slice_index, slice_index_or, IfOk, OnOk, IfErr, OnErr, IfSome, IfNone, IsTrue};
 ghost use Rattle.std.specs.List.Sorted.{IsStrictlyIncreasing};
+ghost use Rattle.std.specs.FinSet as set;
 ghost use Rattle.cspf_db.specs.declared.link.Link.{Link as Linked};
 ghost use Rattle.cspf_db.specs.Database.{AreLinksOf, AreAtTheirKeys, HasReverse, HasTransit, IsRouterOf, link_at, router_count, HaveOwnKeys};
 ghost use Rattle.cspf_db.specs.Index.{links_of, router_list, links_from, links_from_index, IsReverseAt};
 ghost use Rattle.cspf_db.specs.Changes.{no_links, after_changes, Fits};
 ghost use Rattle.cspf_db.specs.Refusals.{IsRefusal};
 ghost use Rattle.cspf_db.specs.Targets.{Owns};
-ghost use Rattle.cspf_db.specs.declared.limits.TheConstants.{MOST_LINKS};
+ghost use Rattle.cspf_db.specs.declared.limits.TheConstants.{MOST_LINKS, MOST_MARKS};
 
 mod check;
 mod insertion;
@@ -187,6 +188,16 @@ impl Table {
         ensures { IsTrue result ↔ IsRouterOf self.now router }
     {
         search(&self.routers, router).is_ok()
+    }
+
+    /// The Router IDs that are marked as without transit (RFC 6987), each once, rising. A router with
+    /// one of them may not be there.
+    pub fn marks(&self) -> &[Addr]
+        ensures all { self.now.marks ≡ set.from_list result.now }
+        ensures rising { IsStrictlyIncreasing result.now }
+        ensures few { length result.now ≤ MOST_MARKS }
+    {
+        self.marks.as_slice()
     }
 
     /// Whether a router with this Router ID, if there is one, has transit: whether routes may pass

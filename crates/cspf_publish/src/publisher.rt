@@ -1,5 +1,6 @@
 ghost use Rattle.std.specs.Prelude.{◌≡◌, ◌<◌, ◌≤◌, ◌↔◌, ◌++◌, [], ◌∷◌, false, length, All, IfOk, OnOk, IfErr, OnErr, vec_len};
 ghost use Rattle.std.specs.Io.KnownBytes.{Appends};
+ghost use Rattle.cspf_publish.specs.Answers.{IsAnswerAfter};
 ghost use Rattle.cspf_publish.specs.ApplyErrors.{IsApplyError, IsNextBatch};
 ghost use Rattle.cspf_rows.specs.BatchText.{batch_text};
 ghost use Rattle.cspf_publish.specs.Histories.{IsHistory};
@@ -7,10 +8,10 @@ ghost use Rattle.cspf_publish.specs.Histories.{IsHistory};
 use crate::batch_list::BatchList;
 use crate::journal::Journal;
 use crate::replicas::Replicas;
-use crate::{ApplyError, Asker, MOST_ASKERS, MOST_VERSIONS, OpenError, Told};
-use cspf_db::Batch;
+use crate::{Answer, ApplyError, Asker, MOST_ASKERS, MOST_VERSIONS, OpenError, Told};
+use cspf_db::{Batch, Request};
 use cspf_rows::batch_text;
-use std::alloc::Global;
+use std::alloc::{AllocError, Global};
 use std::io::Write;
 use std::marker::Model;
 use std::sync::Wait;
@@ -89,6 +90,25 @@ impl<W: Write> Publisher<W> {
         ensures history { IsHistory self.now.batches }
     {
         self.replicas.version()
+    }
+
+    /// Whether a fault of the journal came before. Then no batch is published any more.
+    pub fn is_stopped(&self) -> bool
+        ensures { result ≡ self.now.stopped }
+    {
+        self.journal.is_stopped()
+    }
+
+    /// The best answer in the database of the published version. It waits for nobody.
+    pub fn answer(&self, alloc: Global, request: &Request) -> Result<Answer, AllocError>
+        ensures { IfOk result (IsAnswerAfter self.now.batches request.now) }
+    {
+        let outcome = self.replicas.best(alloc, request)?;
+        Ok(Answer {
+            id: request.id,
+            version: self.replicas.version(),
+            outcome,
+        })
     }
 
     /// Tells what is published. It waits for nobody.

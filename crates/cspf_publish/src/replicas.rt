@@ -4,6 +4,7 @@ ghost use Rattle.left_right.specs.Sides.{view};
 ghost use Rattle.cspf_db.specs.Numbered.{NumberedChanges};
 ghost use Rattle.cspf_db.specs.Changes.{no_links, database_after, Fits};
 ghost use Rattle.cspf_db.specs.Refusals.{IsRefusal};
+ghost use Rattle.cspf_publish.specs.Answers.{IsBestAfter};
 ghost use Rattle.cspf_publish.specs.Histories.{IsHistory, MayFollow};
 ghost use Rattle.cspf_publish.specs.Operations.{known_with, idle_batch};
 ghost use Rattle.cspf_publish.specs.ReplicaStates.{published_state};
@@ -17,7 +18,8 @@ use crate::replica_rule::{FirstNote, Opening, ReplicaRule, Swap};
 use crate::seat_view::SeatView;
 use crate::{Asker, Told};
 use core::mem::replace_with;
-use cspf_db::{Batch, Refusal, Table, absorbing, lawful_batches};
+use cspf_db::{Batch, Refusal, Request, Table, absorbing, lawful_batches};
+use cspf_search::{Outcome, best};
 use left_right::writer::Writer;
 use std::alloc::{AllocError, Global};
 use std::marker::Model;
@@ -215,6 +217,13 @@ impl Replicas {
             IsRefusal (database_after self.now.batches) batch.now refusal) }
     {
         self.writer.published().table.check(batch)
+    }
+
+    /// The best answer in the published database.
+    pub(crate) fn best(&self, alloc: Global, request: &Request) -> Result<Outcome, AllocError>
+        ensures { IfOk result (IsBestAfter self.now.batches request.now) }
+    {
+        best(alloc, &self.writer.published().table, request)
     }
 
     /// Publishes a batch that is recorded, and answers the new version.

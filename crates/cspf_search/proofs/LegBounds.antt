@@ -8,9 +8,9 @@ use Rattle.cspf_db.specs.Index.{router_list}
 use Rattle.cspf_search.specs.declared.ring.Ring.{Ring}
 use Rattle.cspf_search.specs.declared.roles.Role.{Role}
 use Rattle.cspf_search.specs.Frontier.{AreListed, AreRoles, IsEnd, IsStateIndex, nothing}
+use Rattle.cspf_search.specs.States.{MayTurn}
 use Rattle.cspf_search.specs.Bounds.{ArePassed, AreBounds, Falls, IsLeg, IsRing, AreLooked, bound_at, is_done}
 use Rattle.cspf_search.proofs.Ranks.{same_or_not}
-use Rattle.cspf_search.specs.States.{MayTurn}
 
 -- where nothing is done nothing was looked at
 pub none_done : (d : Database) (q : Request) (ring : Ring) → ((w : ℕ) → is_done ring w ≡ false) → IsRing d q ring

@@ -23,7 +23,7 @@ pub record CrossesBy (d : Database) (q : Request) (nodes : List Node) (at : ℕ)
   pub state : t ≡ record { leg = node.leg; router = l.to }
   pub still_open : index_of nodes t ≡ None
 
--- The node at an index is at a target of its leg, and no node stands there in the next leg.
+-- A route may turn from its leg at the node at an index, and no node stands there in the next leg.
 pub record Turns (d : Database) (q : Request) (nodes : List Node) (at : ℕ) (w : List Link) (t : State) : Type 0 where
   pub node : Node
   pub there : slice_get nodes at ≡ Some node

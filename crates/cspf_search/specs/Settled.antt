@@ -60,7 +60,8 @@ pub record Crosses (d : Database) (q : Request) (labels : Labels) (w : List Link
   pub step : IsStep d q front state w t
   pub still_open : labels t ≡ None
 
--- Each target of the leg is settled, so a walk to any leg behind it goes on from a settled state.
+-- Each router at which a route may turn from the leg is settled, so a walk to any leg behind it goes on
+-- from a settled state.
 abbrev pub IsClosed : Database → Request → Labels → ℕ → Type 0
 IsClosed d q labels leg =
     1 ≤ leg → (router : ℕ) → MayTurn d q leg router → labels (record { leg = leg; router = router }) ≡ None → ⊥

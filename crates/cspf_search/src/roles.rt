@@ -111,7 +111,7 @@ pub(crate) fn roles(
     Ok(roles)
 }
 
-/// Whether each target of the leg of a state is settled.
+/// Whether each target of the leg of a state at which a route may stand is settled.
 fn are_settled(roles: &[Role], labels: &[Label], at: usize) -> bool
     requires within { at - at % MOST_ROUTERS + MOST_ROUTERS ≤ length roles.now }
     requires many { length labels.now ≡ length roles.now }
@@ -126,7 +126,8 @@ fn are_settled(roles: &[Role], labels: &[Label], at: usize) -> bool
     true
 }
 
-/// The floor once the state at an index is settled: where each target of its leg is, behind that leg.
+/// The floor once the state at an index is settled: where each target of its leg at which a route may
+/// stand is, behind that leg.
 pub(crate) fn raised(roles: &[Role], labels: &[Label], floor: usize, at: usize) -> usize
     requires within { at - at % MOST_ROUTERS + MOST_ROUTERS ≤ length roles.now }
     requires many { length labels.now ≡ length roles.now }

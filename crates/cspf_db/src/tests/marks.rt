@@ -40,11 +40,15 @@ fn batch(alloc: Global, changes: &[Change]) -> Result<Batch, AllocError> {
     })
 }
 
-// The addresses below 2,048 that are marked, which are these, by both calls.
+// The addresses that are marked, all below 2,048, are these by each call.
 fn assert_marks(rt: &impl Abort, table: &Table, marks: &[u32]) {
     for number in 0..2048 {
         let marked = !table.transit(Addr::new(number));
         assert_eq!(rt; marked, marks.contains(&number), "{number}");
+    }
+    assert_eq!(rt; table.marks().len(), marks.len());
+    for router in table.marks() {
+        assert!(rt; marks.contains(&router.number()), "{router:?}");
     }
     let routers = table.routers();
     for (at, router) in routers.iter().enumerate() {

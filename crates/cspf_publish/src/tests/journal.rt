@@ -98,12 +98,18 @@ fn stops_at_version_1<R: Wait + Abort>(rt: &R, alloc: Global, first: &Batch, req
     let journal = empty_writer(alloc, 1, 175, Some(ErrorKind::Other));
     let (mut publisher, mut asker) = opened(rt, alloc, journal);
     let applied = publisher.apply(rt, alloc, first);
+    let is_going = !publisher.is_stopped();
     let stops = stops_at_batch_2(rt, alloc, &mut publisher);
+    let is_stopped = publisher.is_stopped();
     let versions = versions(&mut publisher, &mut asker);
     let answer = asker.ask(alloc, request);
+    let own = publisher
+        .answer(alloc, request)
+        .map_err(|_| AskError::Memory);
     let held = publisher.close(rt).held;
-    assert!(rt; applied == Ok(1) && stops && versions == (1, 1, 1));
+    assert!(rt; applied == Ok(1) && is_going && stops && is_stopped && versions == (1, 1, 1));
     assert!(rt; route_of(&answer) == Some((7, 1, 10, 1)));
+    assert!(rt; route_of(&own) == Some((7, 1, 10, 1)));
     assert!(rt; held.len() == 175 && held.starts_with(TEXT) && held.ends_with(b"end"));
 }
 

@@ -1,0 +1,4 @@
+pub mod Learning
+pub mod Hearing
+pub mod Forward
+pub mod Requests

@@ -1,0 +1,45 @@
+-- What a request does whose asker heard the news before.
+use Rattle.std.proofs.Common.{◌≡◌, ℕ, Bool, List, Result, Ok, Err, OnErr, inl, refl, sym}
+use Rattle.cspf_db.specs.declared.request.Request.{Request}
+use Rattle.cspf_ero.specs.ReplyLine.{IsReply}
+use Rattle.cspf_publish.specs.Answers.{IsAnswerAfter}
+use Rattle.cspf_publish.specs.Histories.{BeginsWith}
+use Rattle.cspf_publish.specs.KnownBatches.{KnownBatches}
+use Rattle.cspf_publish.specs.declared.answer.Answer.{Answer}
+use Rattle.cspf_search.specs.Outcome.{answer_of}
+use Rattle.cspf_client.specs.ClientRows.{HearsNews, IsRequestAnswered, IsRequestUnanswered}
+use Rattle.cspf_client.specs.NewsStates.{ListenerState, Hears}
+use Rattle.cspf_client.specs.SessionStates.{SessionState}
+use Rattle.cspf_client.proofs.Learning.{Learns-later}
+
+-- what the session is to a clause
+abbrev pub session : KnownBatches → ListenerState → ℕ → Bool → SessionState
+session asker listener refused no_entry = record { known = asker; heard = listener.heard; refused = refused; no_entry = no_entry }
+
+module _ (a b c : KnownBatches) (old new : ListenerState) (refused : ℕ) (hears : Hears old new a b) (source : c.source ≡ b.source) (later : BeginsWith c.batches b.batches) where
+  heard_more : (no_entry : Bool) → HearsNews (session a old refused no_entry) (session c new refused no_entry)
+  heard_more no_entry = record {
+    news = hears.news;
+    heard = hears.heard;
+    learnt = Learns-later a b c hears.news hears.learnt (record { source = sym source; begins = later });
+    refused = refl;
+  }
+
+  pub request_answered : (no_entry : Bool) (q : Request) (answer : Answer) (line : List ℕ) → IsAnswerAfter c.batches q answer
+      → IsReply answer.id answer.version (answer_of answer.outcome) line
+      → IsRequestAnswered q (session a old refused no_entry) line (session c new refused no_entry)
+  request_answered no_entry q answer line is reply = record {
+    hears = heard_more no_entry;
+    entry = refl;
+    answer = answer_of answer.outcome;
+    best = is.best;
+    reply = rw (is.id, is.version) at reply;
+  }
+
+  pub memory_refused : (no_entry : Bool) → IsRequestUnanswered (session a old refused no_entry) (session c new refused no_entry)
+  memory_refused no_entry = record { hears = heard_more no_entry; entry = inl refl }
+
+-- what holds anyway holds at an error
+pub at_error : {T E : Type 0} (P : Type 0) (r : Result T E) → P → OnErr r P
+at_error P (Ok x) holds = tt
+at_error P (Err e) holds = holds

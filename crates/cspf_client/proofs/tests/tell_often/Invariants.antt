@@ -1,0 +1,6 @@
+use Rattle.std.proofs.Common.{◌≡◌}
+use Rattle.cspf_client.proofs.tests.tell_often.Given as goal
+
+-- nothing but the ring changes
+abbrev pub invariant-loop : goal.invariant-loop
+invariant-loop l = (l.publisher ≡ l.fn.publisher) × (l.publisher.source ≡ l.teller.source)

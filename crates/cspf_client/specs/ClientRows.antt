@@ -1,0 +1,59 @@
+-- What the rows of a client are answered.
+use Rattle.std.specs.Prelude.{◌≡◌, ℕ, ◌+◌, ◌⊎◌, true, List, ◌++◌, length, Result, Ok, Err}
+use Rattle.cspf_db.specs.declared.request.Request.{Request}
+use Rattle.cspf_db.specs.Changes.{database_after}
+use Rattle.cspf_db.specs.Best.{Answer, IsBestAnswer}
+use Rattle.cspf_ero.specs.ReplyLine.{IsReply}
+use Rattle.cspf_publish.specs.KnownBatches.{KnownBatches}
+use Rattle.cspf_rows.specs.declared.row.Row.{Row}
+use Rattle.cspf_rows.specs.declared.row.Row.TheVariants as row
+use Rattle.cspf_rows.specs.declared.row_error.RowError.{RowError}
+use Rattle.cspf_rows.specs.declared.row_error.RowError.TheVariants as error
+use Rattle.cspf_stream.specs.RefusedRows.{refused_row_line}
+use Rattle.cspf_client.specs.NewsStates.{Learns}
+use Rattle.cspf_client.specs.SessionStates.{SessionState}
+
+-- the client hears what is new, and its asker learns it and perhaps more
+pub record HearsNews (s t : SessionState) : Type 0 where
+  pub news : List KnownBatches
+  pub heard : t.heard ≡ s.heard ++ news
+  pub learnt : Learns s.known t.known news
+  pub refused : t.refused ≡ s.refused
+
+-- The row is refused by these words, and nothing else changes.
+pub record IsRefusedRow (place : ℕ) (why : RowError) (s : SessionState) (line : List ℕ) (t : SessionState) : Type 0 where
+  pub written : line ≡ refused_row_line place why
+  pub after : t ≡ record s { refused = s.refused + 1 }
+
+-- A request is answered by the best answer in the database of the batches that the asker knows
+-- afterwards, at their number as the version. They begin with all that it knew before, and with all
+-- that was told to the client before.
+pub record IsRequestAnswered (q : Request) (s : SessionState) (line : List ℕ) (t : SessionState) : Type 0 where
+  pub hears : HearsNews s t
+  pub entry : t.no_entry ≡ s.no_entry
+  pub answer : Answer
+  pub best : IsBestAnswer (database_after t.known.batches) q answer
+  pub reply : IsReply q.id (length t.known.batches) answer line
+
+-- what the row at this place, from 1, is answered: from a state to a state
+abbrev pub IsClientAnswered : ℕ → SessionState → Result Row RowError → List ℕ → SessionState → Type 0
+IsClientAnswered place s (Err why) line t = IsRefusedRow place why s line t
+IsClientAnswered place s (Ok (row.Put link)) line t = IsRefusedRow place error.Kind s line t
+IsClientAnswered place s (Ok (row.Remove from local)) line t = IsRefusedRow place error.Kind s line t
+IsClientAnswered place s (Ok (row.Node router transit)) line t = IsRefusedRow place error.Kind s line t
+IsClientAnswered place s (Ok (row.End number count)) line t = IsRefusedRow place error.Kind s line t
+IsClientAnswered place s (Ok (row.Ask q)) line t = IsRequestAnswered q s line t
+
+-- a request isn't answered: memory was refused, or an entry, which is noted
+pub record IsRequestUnanswered (s t : SessionState) : Type 0 where
+  pub hears : HearsNews s t
+  pub entry : (t.no_entry ≡ s.no_entry) ⊎ (t.no_entry ≡ true)
+
+-- what stands where the row at this place isn't answered: only a request changes anything
+abbrev pub IsClientUnanswered : ℕ → SessionState → Result Row RowError → SessionState → Type 0
+IsClientUnanswered place s (Err why) t = t ≡ s
+IsClientUnanswered place s (Ok (row.Put link)) t = t ≡ s
+IsClientUnanswered place s (Ok (row.Remove from local)) t = t ≡ s
+IsClientUnanswered place s (Ok (row.Node router transit)) t = t ≡ s
+IsClientUnanswered place s (Ok (row.End number count)) t = t ≡ s
+IsClientUnanswered place s (Ok (row.Ask q)) t = IsRequestUnanswered s t

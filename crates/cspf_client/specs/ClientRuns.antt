@@ -1,0 +1,41 @@
+-- What a client was answered whose stream has ended, or stopped before its end.
+use Rattle.std.specs.Prelude.{◌≡◌, ℕ, true, false, List, Option, MatchResult}
+use Rattle.csv.specs.Reading.{has_failed}
+use Rattle.cspf_rows.specs.Records.{rows_left}
+use Rattle.cspf_stream.specs.RowAnswers.{AreAnswered, AreAllAnswered}
+use Rattle.cspf_stream.specs.StreamStops.{IsStopped}
+use Rattle.cspf_stream.specs.declared.error.StreamError.TheVariants as stream_error
+use Rattle.cspf_publish.specs.KnownBatches.{AreFirstOf}
+use Rattle.cspf_client.specs.ClientRows.{IsClientAnswered, IsClientUnanswered}
+use Rattle.cspf_client.specs.SessionStates.{SessionState}
+use Rattle.cspf_client.specs.ServingStates.{ServingState}
+use Rattle.cspf_client.specs.declared.error.ClientError.{ClientError}
+use Rattle.cspf_client.specs.declared.error.ClientError.TheVariants as error
+
+-- The client's stream stops: as any stream does, or at a request whose entry was refused. What a client
+-- knows is looked at later.
+abbrev pub IsClientStopped : {Q V : Type 0} → (Q → Option (List ℕ)) → (V → Option (List ℕ)) → ClientError → ServingState Q V → ServingState Q V → Type 0
+IsClientStopped bytes contents (error.Stream why) old new =
+    (why ≡ stream_error.Memory → new.state.no_entry ≡ false)
+    × IsStopped IsClientAnswered IsClientUnanswered why (rows_left bytes old.requests) (rows_left bytes new.requests) (has_failed new.requests)
+    old.state new.state (contents old.replies) (contents new.replies)
+IsClientStopped bytes contents error.NoEntry old new =
+    (new.state.no_entry ≡ true)
+    × IsStopped IsClientAnswered IsClientUnanswered stream_error.Memory (rows_left bytes old.requests) (rows_left bytes new.requests) (has_failed new.requests)
+    old.state new.state (contents old.replies) (contents new.replies)
+IsClientStopped bytes contents error.Ahead old new = ⊥
+
+-- A client was run: all rows of its requests are answered and the lines are written, or its stream
+-- stopped.
+abbrev pub IsRun : {Q V : Type 0} → (Q → Option (List ℕ)) → (V → Option (List ℕ)) → ServingState Q V → ServingState Q V → Type 0
+IsRun bytes contents old new =
+    MatchResult new.end
+    (λ done. AreAllAnswered IsClientAnswered (rows_left bytes old.requests) old.state new.state (contents old.replies) (contents new.replies))
+    (λ why. IsClientStopped bytes contents why old new)
+
+-- Whatever rows a client is answered, what it knew before them begins what it knows after: so its
+-- versions never fall.
+abbrev pub ClientsGoForward : Type 0
+ClientsGoForward =
+    (place : ℕ) (s t : SessionState) (rows : List (List (List ℕ))) (lines : List ℕ) → AreAnswered IsClientAnswered place s rows lines t
+    → AreFirstOf t.known s.known

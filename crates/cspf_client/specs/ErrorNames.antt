@@ -1,0 +1,20 @@
+-- Under which name a stream's end ends a client.
+use Rattle.std.specs.Prelude.{Bool, true, false, Result, Ok, Err}
+use Rattle.cspf_stream.specs.declared.error.StreamError.{StreamError}
+use Rattle.cspf_stream.specs.declared.error.StreamError.TheVariants as stream_error
+use Rattle.cspf_client.specs.declared.error.ClientError.{ClientError}
+use Rattle.cspf_client.specs.declared.error.ClientError.TheVariants as error
+
+-- A refused entry stops a client's stream as refused memory would, but keeps its own name.
+abbrev pub client_error_of : Bool → StreamError → ClientError
+client_error_of true stream_error.Memory = error.NoEntry
+client_error_of false stream_error.Memory = error.Stream stream_error.Memory
+client_error_of no_entry stream_error.Read = error.Stream stream_error.Read
+client_error_of no_entry stream_error.Write = error.Stream stream_error.Write
+client_error_of no_entry stream_error.Flush = error.Stream stream_error.Flush
+client_error_of no_entry stream_error.TooManyRows = error.Stream stream_error.TooManyRows
+
+-- how a client ends whose stream did
+abbrev pub client_end_of : Bool → Result (Unit {0}) StreamError → Result (Unit {0}) ClientError
+client_end_of no_entry (Ok done) = Ok done
+client_end_of no_entry (Err why) = Err (client_error_of no_entry why)

@@ -1,0 +1,6 @@
+pub mod NewsStates
+pub mod ErrorNames
+pub mod SessionStates
+pub mod ClientRows
+pub mod ServingStates
+pub mod ClientRuns

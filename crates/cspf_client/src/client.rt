@@ -1,0 +1,151 @@
+ghost use Rattle.std.specs.Prelude.{◌≡◌};
+ghost use Rattle.std.specs.Option.{option_map};
+ghost use Rattle.cspf_rows.specs.Records.{rows_of, rows_left};
+ghost use Rattle.cspf_publish.specs.KnownBatches.{AreFirstOf};
+ghost use Rattle.cspf_client.specs.ClientRuns.{IsRun};
+ghost use Rattle.cspf_client.specs.ErrorNames.{client_end_of};
+ghost use Rattle.cspf_client.specs.ServingStates.{IsReady, HasMet};
+
+use crate::news::Listener;
+use crate::session::Session;
+use crate::{ClientError, Replies};
+use cspf_publish::{Asker, Told};
+use cspf_rows::open_records;
+use cspf_stream::{StreamError, answer_rows};
+use csv::Reader;
+use std::alloc::Global;
+use std::io::Read;
+use std::marker::Model;
+
+/// The streams of a client.
+#[derive(Drop)]
+pub struct Client<Q, V> {
+    /// A row for each request.
+    pub requests: Q,
+    /// A line for each row.
+    pub replies: V,
+}
+
+/// A client, an asker that answers it, and the news that it hears. One thread runs it.
+#[derive(Drop)]
+pub struct ServingClient<Q, V> {
+    session: Session,
+    requests: Reader<Q>,
+    replies: V,
+    end: Result<(), ClientError>,
+}
+
+impl<Q, V> Model for ServingClient<Q, V> {
+    ghost use Rattle.cspf_client.specs.ServingStates.{ServingState};
+
+    ghost Value = { ServingState Q V };
+
+    ghost view = { λ c. record {
+      state = c.session;
+      requests = c.requests;
+      replies = c.replies;
+      end = c.end;
+    } };
+}
+
+/// What is left of a client.
+#[derive(Drop)]
+pub struct ServedClient<V> {
+    /// The writer of its replies.
+    pub replies: V,
+    /// How its stream ended.
+    pub end: Result<(), ClientError>,
+    /// How many rows were refused.
+    pub refused: u64,
+}
+
+/// How a client ends whose stream did, by whether an entry was refused.
+fn end_of(ended: Result<(), StreamError>, no_entry: bool) -> Result<(), ClientError>
+    ensures { result ≡ client_end_of no_entry ended }
+{
+    match ended {
+        Ok(()) => Ok(()),
+        Err(why) => Err(ClientError::of(why, no_entry)),
+    }
+}
+
+impl<Q: Read + Drop, V: Replies> ServingClient<Q, V> {
+    /// A client whose requests aren't read yet. Its news is of the asker's publisher.
+    pub fn new(
+        alloc: Global,
+        asker: Asker,
+        listener: Listener,
+        client: Client<Q, V>,
+    ) -> ServingClient<Q, V>
+        requires { listener.source ≡ asker.source }
+        ensures ready { IsReady result }
+        ensures state { (result.state.known ≡ asker) × (result.state.heard ≡ listener.heard) }
+        ensures requests { rows_left Q.remaining result.requests
+            ≡ option_map rows_of (Q.remaining client.requests) }
+        ensures replies { result.replies ≡ client.replies }
+    {
+        let Client { requests, replies } = client;
+        ServingClient {
+            session: Session::new(asker, listener),
+            requests: open_records(alloc, requests),
+            replies,
+            end: Ok(()),
+        }
+    }
+
+    /// Answers all rows of its requests, one by one: an `ask` row at the version that its asker then
+    /// knows, after it took the news that is there, and any other row by its refusal. Each line is
+    /// flushed before the next row is read. It waits for nobody but its own streams. The writer of the
+    /// replies is told their end.
+    pub fn run(&mut self, alloc: Global)
+        requires { IsReady self.old }
+        ensures run { IsRun Q.remaining V.contents self.old self.new }
+        ensures known { AreFirstOf self.new.state.known self.old.state.known }
+    {
+        let ended = answer_rows(
+            &(),
+            alloc,
+            &mut self.requests,
+            &mut self.replies,
+            &mut self.session,
+        );
+        self.end = end_of(ended, self.session.has_no_entry());
+        self.replies.end();
+    }
+
+    /// Learns what was told last, which is all that is published. One that knows more ends as `Ahead`.
+    pub fn meet(&mut self, told: Told)
+        requires { told.source ≡ self.old.state.known.source }
+        ensures others { self.new ≡ record self.old {
+          state = record self.old.state { known = self.new.state.known };
+          end = self.new.end;
+        } }
+        ensures known { AreFirstOf self.new.state.known self.old.state.known }
+        ensures met { HasMet told self.old self.new }
+    {
+        if !self.session.meet(told) {
+            self.end = Err(ClientError::Ahead);
+        }
+    }
+
+    /// What is left of it. The reader of its requests is let go.
+    pub fn close(self) -> ServedClient<V>
+        ensures { result ≡ record {
+          replies = self.replies;
+          end = self.end;
+          refused = self.state.refused;
+        } }
+    {
+        let ServingClient {
+            session,
+            requests: _,
+            replies,
+            end,
+        } = self;
+        ServedClient {
+            replies,
+            end,
+            refused: session.refused(),
+        }
+    }
+}

@@ -1,0 +1,169 @@
+ghost use Rattle.std.specs.Prelude.{◌≡◌, ◌+◌, ◌<◌, ◌≤◌, Ok, IfOk, OnOk, OnErr, IsTrue, IsFalse, length};
+ghost use Rattle.cspf_ero.specs.ReplyLine.{IsReply};
+ghost use Rattle.cspf_search.specs.Outcome.{answer_of};
+ghost use Rattle.cspf_publish.specs.KnownBatches.{AreFirstOf};
+ghost use Rattle.cspf_client.specs.ClientRows.{IsClientAnswered, IsClientUnanswered, IsRefusedRow, IsRequestAnswered, IsRequestUnanswered};
+
+use crate::news::Listener;
+use cspf_db::Request;
+use cspf_ero::reply_line;
+use cspf_publish::{Answer, AskError, Asker, Told};
+use cspf_rows::{Row, RowError};
+use cspf_stream::{Answering, refused_row};
+use std::alloc::{AllocError, Global};
+use std::marker::Model;
+
+/// What stands between two rows of a client.
+#[derive(Drop)]
+pub struct Session {
+    asker: Asker,
+    listener: Listener,
+    /// The rows that were refused.
+    refused: u64,
+    /// An entry was refused.
+    no_entry: bool,
+}
+
+impl Model for Session {
+    ghost use Rattle.std.specs.Prelude.{◌≡◌};
+    ghost use Rattle.cspf_client.specs.SessionStates.{SessionState};
+
+    ghost Value = { SessionState };
+
+    ghost view = { λ s. record {
+      known = s.asker;
+      heard = s.listener.heard;
+      refused = s.refused;
+      no_entry = s.no_entry;
+    } };
+
+    ghost invariant = { λ s. s.asker.source ≡ s.listener.source };
+}
+
+/// The reply line of an answer.
+fn line_of(alloc: Global, answer: Answer) -> Result<Vec<u8>, AllocError>
+    ensures { IfOk result (λ line.
+        IsReply answer.id answer.version (answer_of answer.outcome) line.items) }
+{
+    reply_line(alloc, answer.id, answer.version, &answer.outcome)
+}
+
+impl Session {
+    ghost use Rattle.std.specs.Prelude.{false};
+
+    /// Before the first row.
+    pub(crate) fn new(asker: Asker, listener: Listener) -> Session
+        requires { listener.source ≡ asker.source }
+        ensures { result ≡ record {
+          known = asker;
+          heard = listener.heard;
+          refused = 0;
+          no_entry = false;
+        } }
+    {
+        Session {
+            asker,
+            listener,
+            refused: 0,
+            no_entry: false,
+        }
+    }
+
+    /// How many rows were refused.
+    pub(crate) fn refused(&self) -> u64
+        ensures { result ≡ self.now.refused }
+    {
+        self.refused
+    }
+
+    /// Whether an entry was refused.
+    pub(crate) fn has_no_entry(&self) -> bool
+        ensures { result ≡ self.now.no_entry }
+    {
+        self.no_entry
+    }
+
+    /// Learns what was told, and answers whether it knows no more.
+    pub(crate) fn meet(&mut self, told: Told) -> bool
+        requires { told.source ≡ self.old.known.source }
+        ensures others { self.new ≡ record self.old { known = self.new.known } }
+        ensures known { AreFirstOf self.new.known self.old.known }
+        ensures met { IsTrue result → self.new.known ≡ told }
+        ensures ahead { IsFalse result → length told.batches < length self.new.known.batches }
+    {
+        let published = told.version();
+        self.asker.meet(told) == published
+    }
+
+    /// Hears the news, asks, and answers the reply line.
+    fn ask(&mut self, alloc: Global, request: &Request) -> Result<Vec<u8>, AllocError>
+        ensures answered { IfOk result (λ line.
+            IsRequestAnswered request.now self.old line.items self.new) }
+        ensures failed { OnErr result (IsRequestUnanswered self.old self.new) }
+        ensures refused { self.new.refused ≡ self.old.refused }
+    {
+        self.listener.catch_up(&mut self.asker);
+        match self.asker.ask(alloc, request) {
+            Ok(answer) => line_of(alloc, answer),
+            Err(AskError::NoEntry) => {
+                self.no_entry = true;
+                Err(AllocError)
+            }
+            Err(AskError::Memory) => Err(AllocError),
+        }
+    }
+
+    /// Refuses the row at this place.
+    fn refuse(&mut self, alloc: Global, place: u64, why: RowError) -> Result<Vec<u8>, AllocError>
+        requires { self.old.refused < place }
+        ensures answered { IfOk result (λ line.
+            IsRefusedRow place why self.old line.items self.new) }
+        ensures failed { OnErr result (self.new ≡ self.old) }
+        ensures refused { self.new.refused ≤ self.old.refused + 1 }
+    {
+        let line = refused_row(alloc, place, why)?;
+        self.refused += 1;
+        Ok(line)
+    }
+
+    /// Answers the row at this place, which is read.
+    fn answer_read(&mut self, alloc: Global, place: u64, row: &Row) -> Result<Vec<u8>, AllocError>
+        requires { self.old.refused < place }
+        ensures answered { IfOk result (λ line.
+            IsClientAnswered place self.old (Ok row.now) line.items self.new) }
+        ensures failed { OnErr result (IsClientUnanswered place self.old (Ok row.now) self.new) }
+        ensures refused { self.new.refused ≤ self.old.refused + 1 }
+    {
+        match row {
+            Row::Ask(request) => self.ask(alloc, request),
+            Row::Put(_) => self.refuse(alloc, place, RowError::Kind),
+            Row::Remove { .. } => self.refuse(alloc, place, RowError::Kind),
+            Row::Node { .. } => self.refuse(alloc, place, RowError::Kind),
+            Row::End { .. } => self.refuse(alloc, place, RowError::Kind),
+        }
+    }
+}
+
+impl Answering<()> for Session {
+    ghost use Rattle.std.specs.Prelude.{◌<◌};
+    ghost use Rattle.cspf_client.specs.ClientRows.{IsClientAnswered, IsClientUnanswered};
+
+    ghost answers = { IsClientAnswered };
+
+    ghost fails = { IsClientUnanswered };
+
+    ghost may_stand = { λ place s. s.refused < place };
+
+    fn answer(
+        &mut self,
+        _context: &(),
+        alloc: Global,
+        place: u64,
+        row: &Result<Row, RowError>,
+    ) -> Result<Vec<u8>, AllocError> {
+        match row {
+            Ok(row) => self.answer_read(alloc, place, row),
+            Err(why) => self.refuse(alloc, place, *why),
+        }
+    }
+}

@@ -1,0 +1,113 @@
+mod dialogues;
+mod threads;
+
+ghost use Rattle.std.specs.Prelude.{◌≡◌};
+
+use crate::{Client, Listener, Replies, ServedClient, ServingClient, Teller, open_news};
+use cspf_addr::{Addr, Mask};
+use cspf_db::{Batch, Change, Link};
+use cspf_publish::{Asker, Publisher, open};
+use std::alloc::Global;
+use std::io;
+use std::io::{ErrorKind, Write};
+use std::process::Abort;
+use std::sync::Wait;
+use std::test::Fail;
+
+/// The batch with this number that puts a link of metric 10 with 1,000 bytes per second unreserved,
+/// from 1.1.1.1 by 10.0.12.1 to 2.2.2.2, and its reverse without any.
+fn link_batch(alloc: Global, number: u32) -> Result<Batch, Fail> {
+    let (from, local) = (Addr::new(0x01010101), Addr::new(0x0a000c01));
+    let (to, remote) = (Addr::new(0x02020202), Addr::new(0x0a000c02));
+    let link = Link::new(from, local, to, remote, 10, Mask::new(1), [1000; 8])?;
+    let back = Link::new(to, remote, from, local, 10, Mask::new(1), [0; 8])?;
+    Ok(Batch {
+        number,
+        changes: Vec::from_slice(alloc, &[Change::Put(link), Change::Put(back)])?,
+    })
+}
+
+/// A publisher without a batch, its one asker, and a ring for it.
+fn opened<R: Wait + Abort>(rt: &R, alloc: Global) -> (Publisher<Vec<u8>>, Asker, Teller, Listener)
+    ensures asker { result.1.source ≡ result.0.source }
+    ensures teller { result.2.source ≡ result.0.source }
+    ensures listener { result.3.source ≡ result.0.source }
+{
+    match open(rt, alloc, Vec::<u8>::new(alloc), 1) {
+        Ok((mut publisher, mut askers)) => {
+            match (askers.pop(), open_news(alloc, &mut publisher)) {
+                (Some(asker), Ok((teller, listener))) => (publisher, asker, teller, listener),
+                _ => panic!(rt; "no asker or no ring"),
+            }
+        }
+        Err(_) => panic!(rt; "no publisher"),
+    }
+}
+
+/// Takes bytes until it holds `most`, and then fails.
+#[derive(Drop)]
+struct Narrow {
+    held: Vec<u8>,
+    most: usize,
+    /// How often it was told the end of the replies.
+    ends: usize,
+}
+
+impl Replies for Narrow {
+    fn end(&mut self) {
+        self.ends = self.ends.saturating_add(1);
+    }
+}
+
+impl Write for Narrow {
+    fn write(&mut self, buf: &[u8]) -> io::Result<usize> {
+        let taken = buf.len().min(self.most.saturating_sub(self.held.len()));
+        if taken == 0 {
+            return Err(io::Error::from(ErrorKind::BrokenPipe));
+        }
+        match self.held.extend_from_slice(&buf[..taken]) {
+            Ok(()) => Ok(taken),
+            Err(_) => Err(io::Error::from(ErrorKind::OutOfMemory)),
+        }
+    }
+
+    fn flush(&mut self) -> io::Result<()> {
+        Ok(())
+    }
+}
+
+/// Leaves word of what is published this many times.
+fn tell_often(teller: &mut Teller, publisher: &mut Publisher<Vec<u8>>, words: usize)
+    requires { publisher.old.source ≡ teller.old.source }
+    ensures { publisher.new ≡ publisher.old }
+{
+    for _ in 0..words {
+        teller.tell(publisher);
+    }
+}
+
+/// What is left of a client with these requests, once batch 1 is published and word of it left this
+/// many times.
+fn served<R: Wait + Abort>(
+    rt: &R,
+    alloc: Global,
+    first: &Batch,
+    words: usize,
+    requests: &[u8],
+    most: usize,
+) -> ServedClient<Narrow> {
+    let (mut publisher, asker, mut teller, listener) = opened(rt, alloc);
+    let replies = Narrow {
+        held: Vec::new(alloc),
+        most,
+        ends: 0,
+    };
+    let client = Client { requests, replies };
+    let mut serving = ServingClient::new(alloc, asker, listener, client);
+    let _ = publisher.apply(rt, alloc, first);
+    tell_often(&mut teller, &mut publisher, words);
+    serving.run(alloc);
+    serving.meet(publisher.tell());
+    publisher.close(rt);
+    serving.close()
+}

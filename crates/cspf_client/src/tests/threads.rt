@@ -1,0 +1,81 @@
+ghost use Rattle.std.specs.Prelude.{◌≡◌};
+ghost use Rattle.cspf_publish.specs.KnownBatches.{AreFirstOf};
+ghost use Rattle.cspf_client.specs.ServingStates.{IsReady};
+
+use super::{Narrow, link_batch, opened};
+use crate::{Client, ServedClient, ServingClient, Teller};
+use cspf_db::Batch;
+use cspf_publish::Publisher;
+use std::alloc::Global;
+use std::process::Abort;
+use std::sync::Wait;
+use std::test::Fail;
+use std::thread;
+use std::thread::Threads;
+
+/// A client asks in a thread of its own while this one publishes a batch and leaves word of it.
+fn run_beside<R: Threads + Wait + Sync>(
+    rt: &R,
+    alloc: Global,
+    first: &Batch,
+    teller: &mut Teller,
+    publisher: &mut Publisher<Vec<u8>>,
+    serving: &mut ServingClient<&[u8], Narrow>,
+)
+    requires teller { publisher.old.source ≡ teller.old.source }
+    requires ready { IsReady serving.old }
+    ensures source { publisher.new.source ≡ publisher.old.source }
+    ensures known { AreFirstOf serving.new.state.known serving.old.state.known }
+{
+    let mut answer = ||
+        requires { IsReady serving.now }
+        ensures { AreFirstOf serving.exit.now.state.known serving.entry.now.state.known }
+    { serving.run(alloc) };
+    let mut publish = ||
+        requires { publisher.now.source ≡ teller.now.source }
+        ensures { publisher.exit.now.source ≡ publisher.entry.now.source }
+    {
+        let _ = publisher.apply(rt, alloc, first);
+        teller.tell(publisher);
+    };
+    thread::join_mut(rt, &mut answer, &mut publish);
+}
+
+/// What is left of a client that asked beside a publisher.
+fn served_beside<R: Threads + Wait + Abort + Sync>(
+    rt: &R,
+    alloc: Global,
+    first: &Batch,
+    requests: &[u8],
+) -> ServedClient<Narrow> {
+    let (mut publisher, asker, mut teller, listener) = opened(rt, alloc);
+    let replies = Narrow {
+        held: Vec::new(alloc),
+        most: 1000,
+        ends: 0,
+    };
+    let client = Client { requests, replies };
+    let mut serving = ServingClient::new(alloc, asker, listener, client);
+    run_beside(rt, alloc, first, &mut teller, &mut publisher, &mut serving);
+    serving.meet(publisher.tell());
+    publisher.close(rt);
+    serving.close()
+}
+
+/// Each row has its line, at whichever version it was asked.
+#[test]
+fn client_beside_a_publisher(rt: HostRuntime) -> Result<(), Fail> {
+    let first = link_batch(rt.alloc(), 1)?;
+    let requests = b"ask,7,1.1.1.1,2.2.2.2,0,1000,0x0,0x0,0x0,\nend,2,0\n";
+    let left = served_beside(&rt, rt.alloc(), &first, requests);
+    let replies = left.replies.held.as_slice();
+    assert!(rt;
+        replies == b"ask 7 v0 unknown-from\nrow 2 refused: kind\n".as_slice()
+            || replies
+                == b"ask 7 v1 route cost=10 hops=1 again=no ero=000c140101080a000c022000\n\
+row 2 refused: kind\n"
+                    .as_slice()
+    );
+    assert!(rt; left.end == Ok(()) && left.refused == 1 && left.replies.ends == 1);
+    Ok(())
+}

@@ -1,0 +1,3 @@
+pub mod RefusedRows
+pub mod RowAnswers
+pub mod StreamStops

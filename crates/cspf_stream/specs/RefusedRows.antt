@@ -1,0 +1,9 @@
+-- The line that a refused row is answered. It ends with one line feed.
+use Rattle.std.specs.Prelude.{ℕ, List, ◌++◌, codes}
+use Rattle.std.specs.Fmt.{decimal}
+use Rattle.cspf_rows.specs.Words.{words}
+use Rattle.cspf_rows.specs.declared.row_error.RowError.{RowError}
+
+-- the line of the row at this place, which is refused
+abbrev pub refused_row_line : ℕ → RowError → List ℕ
+refused_row_line place error = codes "row " ++ decimal place ++ codes " refused: " ++ words error ++ codes "\n"

@@ -1,0 +1,78 @@
+-- What was read, answered and written where a stream stops before its end.
+use Rattle.std.specs.Prelude.{◌≡◌, ℕ, suc, ◌<◌, ◌⊎◌, Bool, true, List, ◌∷◌, ◌++◌, take, length, Option, Some, Result, IfSome}
+use Rattle.std.specs.Io.KnownBytes.{Appends}
+use Rattle.std.specs.Io.KnownBytes as known
+use Rattle.cspf_rows.specs.Rows.{row_of}
+use Rattle.cspf_rows.specs.declared.row.Row.{Row}
+use Rattle.cspf_rows.specs.declared.row_error.RowError.{RowError}
+use Rattle.cspf_stream.specs.RowAnswers.{AnswersOf, AreAnswered}
+use Rattle.cspf_stream.specs.declared.limits.TheConstants.{MOST_STREAM_ROWS}
+use Rattle.cspf_stream.specs.declared.error.StreamError.{StreamError}
+use Rattle.cspf_stream.specs.declared.error.StreamError.TheVariants as error
+
+-- what refused memory leaves at the row at a place: from a state to a state
+abbrev pub FailsOf : Type 0 → Type 1
+FailsOf S = ℕ → S → Result Row RowError → S → Type 0
+
+-- where the line of a row stops
+abbrev pub IsLineStopped : StreamError → List ℕ → Option (List ℕ) → Option (List ℕ) → Type 0
+IsLineStopped error.Memory line old new = ⊥
+IsLineStopped error.Read line old new = ⊥
+IsLineStopped error.Write line old new = (size : ℕ) × (size < length line) × Appends old new (take size line)
+IsLineStopped error.Flush line old new = Appends old new line
+IsLineStopped error.TooManyRows line old new = ⊥
+
+-- Where the answer to the row at a place stops. Where memory was refused nothing is written. Where a
+-- write failed a part of the line is written, not all of it, and where a flush failed the whole line.
+abbrev pub IsRowStopped : {S : Type 0} → AnswersOf S → FailsOf S → StreamError → ℕ → Result Row RowError → S → S → Option (List ℕ) → Option (List ℕ) → Type 0
+IsRowStopped answers fails error.Memory place row s t old new = fails place s row t × known.Keeps old new
+IsRowStopped answers fails error.Read place row s t old new = ⊥
+IsRowStopped answers fails error.Write place row s t old new =
+    (line : List ℕ) × answers place s row line t × IsLineStopped error.Write line old new
+IsRowStopped answers fails error.Flush place row s t old new =
+    (line : List ℕ) × answers place s row line t × IsLineStopped error.Flush line old new
+IsRowStopped answers fails error.TooManyRows place row s t old new = ⊥
+
+-- The stream stops between two rows: some first rows are answered, and their lines are written.
+pub record StopsBetween {S : Type 0} (answers : AnswersOf S) (all : Option (List (List (List ℕ)))) (s t : S) (old new : Option (List ℕ)) : Type 0 where
+  pub done : List (List (List ℕ))
+  pub rest : List (List (List ℕ))
+  pub lines : List ℕ
+  pub split : IfSome all (λ rows. rows ≡ done ++ rest)
+  pub answered : AreAnswered answers 1 s done lines t
+  pub written : Appends old new lines
+
+-- The stream stops in a row: some first rows are answered, and their lines are written. The row that
+-- comes next stops, and no row behind it was read.
+pub record StopsInRow {S : Type 0} (answers : AnswersOf S) (fails : FailsOf S) (error : StreamError) (all left : Option (List (List (List ℕ)))) (s t : S) (old new : Option (List ℕ)) : Type 0 where
+  pub done : List (List (List ℕ))
+  pub fields : List (List ℕ)
+  pub rest : List (List (List ℕ))
+  pub lines : List ℕ
+  pub before : S
+  pub mid : Option (List ℕ)
+  pub split : IfSome all (λ rows. (rows ≡ done ++ (fields ∷ rest)) × (left ≡ Some rest))
+  pub answered : AreAnswered answers 1 s done lines before
+  pub written : Appends old mid lines
+  pub stops : IsRowStopped answers fails error (suc (length done)) (row_of fields) before t mid new
+
+-- All rows that can be counted are answered, and their lines are written. One more stands there.
+pub record HasTooMany {S : Type 0} (answers : AnswersOf S) (all : Option (List (List (List ℕ)))) (s t : S) (old new : Option (List ℕ)) : Type 0 where
+  pub done : List (List (List ℕ))
+  pub fields : List (List ℕ)
+  pub rest : List (List (List ℕ))
+  pub lines : List ℕ
+  pub count : length done ≡ MOST_STREAM_ROWS
+  pub split : IfSome all (λ rows. rows ≡ done ++ (fields ∷ rest))
+  pub answered : AreAnswered answers 1 s done lines t
+  pub written : Appends old new lines
+
+-- What stands where a stream stops. A read that failed is the reader's fault, and so is memory that
+-- was refused before a row was whole.
+abbrev pub IsStopped : {S : Type 0} → AnswersOf S → FailsOf S → StreamError → Option (List (List (List ℕ))) → Option (List (List (List ℕ))) → Bool → S → S → Option (List ℕ) → Option (List ℕ) → Type 0
+IsStopped answers fails error.Memory all left failed s t old new =
+    ((failed ≡ true) × StopsBetween answers all s t old new) ⊎ StopsInRow answers fails error.Memory all left s t old new
+IsStopped answers fails error.Read all left failed s t old new = (failed ≡ true) × StopsBetween answers all s t old new
+IsStopped answers fails error.Write all left failed s t old new = StopsInRow answers fails error.Write all left s t old new
+IsStopped answers fails error.Flush all left failed s t old new = StopsInRow answers fails error.Flush all left s t old new
+IsStopped answers fails error.TooManyRows all left failed s t old new = HasTooMany answers all s t old new

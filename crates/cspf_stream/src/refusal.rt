@@ -1,0 +1,12 @@
+ghost use Rattle.std.specs.Prelude.{◌≡◌, IfOk};
+ghost use Rattle.cspf_stream.specs.RefusedRows.{refused_row_line};
+
+use cspf_rows::RowError;
+use std::alloc::{AllocError, Global};
+
+/// The line of the row at this place, from 1, which is refused: its bytes, the line feed too.
+pub fn refused_row(alloc: Global, place: u64, error: RowError) -> Result<Vec<u8>, AllocError>
+    ensures { IfOk result (λ line. line.items ≡ refused_row_line place error) }
+{
+    Ok(format!(in alloc; "row {place} refused: {error}\n")?.into_bytes())
+}
