@@ -11,7 +11,7 @@ use Rattle.cspf_stream.specs.StreamStops.{StopsBetween, StopsInRow, IsRowStopped
 use Rattle.cspf_stream.specs.declared.error.StreamError.{StreamError}
 use Rattle.cspf_stream.specs.declared.error.StreamError.TheVariants as stream_error
 use Rattle.cspf_client.specs.ClientRows.{HearsNews, IsRefusedRow, IsClientAnswered, IsClientUnanswered}
-use Rattle.cspf_client.specs.ClientRuns.{ClientsGoForward}
+use Rattle.cspf_client.specs.ClientRuns.{ClientsGoForward, IsStreamStopped}
 use Rattle.cspf_client.specs.SessionStates.{SessionState}
 use Rattle.cspf_client.proofs.Learning.{AreFirstOf-self, AreFirstOf-trans}
 
@@ -75,8 +75,8 @@ module _ (all left : Option Rows) (failed : Bool) (s t : SessionState) (old new 
   forward_stopped stream_error.Flush a = in_row stream_error.Flush a
   forward_stopped stream_error.TooManyRows a = forward 1 s t a.done a.lines a.answered
 
-  -- what a client knows after its stream
-  pub forward_stream : (ended : Result (Unit {0}) StreamError) → OnOk ended (AreAllAnswered IsClientAnswered all s t old new)
-      → IfErr ended (λ why. IsStopped IsClientAnswered IsClientUnanswered why all left failed s t old new) → AreFirstOf t.known s.known
-  forward_stream (Ok done) whole stopped = forward 1 s t whole.done whole.lines whole.answered
-  forward_stream (Err why) whole stopped = forward_stopped why stopped
+-- what a client knows after its stream
+pub forward_stream : (all : Option Rows) (s t : SessionState) (old new : Option (List ℕ)) (ended : Result (Unit {0}) StreamError)
+    → OnOk ended (AreAllAnswered IsClientAnswered all s t old new) → IfErr ended (λ why. IsStreamStopped why all s t old new) → AreFirstOf t.known s.known
+forward_stream all s t old new (Ok done) whole stopped = forward 1 s t whole.done whole.lines whole.answered
+forward_stream all s t old new (Err why) whole stopped = forward_stopped all stopped.0 stopped.1 s t old new why stopped.2

@@ -2,3 +2,4 @@ pub mod Learning
 pub mod Hearing
 pub mod Forward
 pub mod Requests
+pub mod Runs

@@ -1,12 +1,15 @@
 -- What a request does whose asker heard the news before.
-use Rattle.std.proofs.Common.{◌≡◌, ℕ, Bool, List, Result, Ok, Err, OnErr, inl, refl, sym}
+use Rattle.std.proofs.Common.{◌≡◌, ℕ, Bool, true, List, Result, Ok, Err, OnErr, inl, inr, refl, sym}
 use Rattle.cspf_db.specs.declared.request.Request.{Request}
 use Rattle.cspf_ero.specs.ReplyLine.{IsReply}
 use Rattle.cspf_publish.specs.Answers.{IsAnswerAfter}
 use Rattle.cspf_publish.specs.Histories.{BeginsWith}
 use Rattle.cspf_publish.specs.KnownBatches.{KnownBatches}
 use Rattle.cspf_publish.specs.declared.answer.Answer.{Answer}
+use Rattle.cspf_publish.specs.declared.errors.AskError.{AskError}
+use Rattle.cspf_publish.specs.declared.errors.AskError.TheVariants as ask_error
 use Rattle.cspf_search.specs.Outcome.{answer_of}
+use Rattle.cspf_client.specs.ErrorNames.{entry_noted}
 use Rattle.cspf_client.specs.ClientRows.{HearsNews, IsRequestAnswered, IsRequestUnanswered}
 use Rattle.cspf_client.specs.NewsStates.{ListenerState, Hears}
 use Rattle.cspf_client.specs.SessionStates.{SessionState}
@@ -14,13 +17,15 @@ use Rattle.cspf_client.proofs.Learning.{Learns-later}
 
 -- what the session is to a clause
 abbrev pub session : KnownBatches → ListenerState → ℕ → Bool → SessionState
-session asker listener refused no_entry = record { known = asker; heard = listener.heard; refused = refused; no_entry = no_entry }
+session asker listener refused no_entry =
+    record { known = asker; heard = listener.heard; waiting = listener.waiting; refused = refused; no_entry = no_entry }
 
 module _ (a b c : KnownBatches) (old new : ListenerState) (refused : ℕ) (hears : Hears old new a b) (source : c.source ≡ b.source) (later : BeginsWith c.batches b.batches) where
-  heard_more : (no_entry : Bool) → HearsNews (session a old refused no_entry) (session c new refused no_entry)
-  heard_more no_entry = record {
+  heard_more : (no_entry after : Bool) → HearsNews (session a old refused no_entry) (session c new refused after)
+  heard_more no_entry after = record {
     news = hears.news;
     heard = hears.heard;
+    all = hears.all;
     learnt = Learns-later a b c hears.news hears.learnt (record { source = sym source; begins = later });
     refused = refl;
   }
@@ -29,7 +34,7 @@ module _ (a b c : KnownBatches) (old new : ListenerState) (refused : ℕ) (hears
       → IsReply answer.id answer.version (answer_of answer.outcome) line
       → IsRequestAnswered q (session a old refused no_entry) line (session c new refused no_entry)
   request_answered no_entry q answer line is reply = record {
-    hears = heard_more no_entry;
+    hears = heard_more no_entry no_entry;
     entry = refl;
     answer = answer_of answer.outcome;
     best = is.best;
@@ -37,7 +42,13 @@ module _ (a b c : KnownBatches) (old new : ListenerState) (refused : ℕ) (hears
   }
 
   pub memory_refused : (no_entry : Bool) → IsRequestUnanswered (session a old refused no_entry) (session c new refused no_entry)
-  memory_refused no_entry = record { hears = heard_more no_entry; entry = inl refl }
+  memory_refused no_entry = record { hears = heard_more no_entry no_entry; entry = inl refl }
+
+  -- a request isn't answered, as is noted
+  pub unanswered : (no_entry : Bool) (why : AskError)
+      → IsRequestUnanswered (session a old refused no_entry) (session c new refused (entry_noted no_entry why))
+  unanswered no_entry ask_error.NoEntry = record { hears = heard_more no_entry true; entry = inr refl }
+  unanswered no_entry ask_error.Memory = memory_refused no_entry
 
 -- what holds anyway holds at an error
 pub at_error : {T E : Type 0} (P : Type 0) (r : Result T E) → P → OnErr r P

@@ -1,5 +1,5 @@
 -- What the rows of a client are answered.
-use Rattle.std.specs.Prelude.{◌≡◌, ℕ, ◌+◌, ◌⊎◌, true, List, ◌++◌, length, Result, Ok, Err}
+use Rattle.std.specs.Prelude.{◌≡◌, ℕ, ◌+◌, ◌⊎◌, true, List, [], ◌++◌, length, Result, Ok, Err}
 use Rattle.cspf_db.specs.declared.request.Request.{Request}
 use Rattle.cspf_db.specs.Changes.{database_after}
 use Rattle.cspf_db.specs.Best.{Answer, IsBestAnswer}
@@ -12,11 +12,14 @@ use Rattle.cspf_rows.specs.declared.row_error.RowError.TheVariants as error
 use Rattle.cspf_stream.specs.RefusedRows.{refused_row_line}
 use Rattle.cspf_client.specs.NewsStates.{Learns}
 use Rattle.cspf_client.specs.SessionStates.{SessionState}
+use Rattle.cspf_client.specs.declared.limits.TheConstants.{KEPT_NEWS}
 
--- the client hears what is new, and its asker learns it and perhaps more
+-- The client hears all news that is there, unless it is as much as a client takes at once, and its asker
+-- learns it and perhaps more.
 pub record HearsNews (s t : SessionState) : Type 0 where
   pub news : List KnownBatches
   pub heard : t.heard ≡ s.heard ++ news
+  pub all : (t.waiting ≡ []) ⊎ (length news ≡ KEPT_NEWS)
   pub learnt : Learns s.known t.known news
   pub refused : t.refused ≡ s.refused
 

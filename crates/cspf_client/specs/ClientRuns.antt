@@ -1,28 +1,30 @@
 -- What a client was answered whose stream has ended, or stopped before its end.
-use Rattle.std.specs.Prelude.{◌≡◌, ℕ, true, false, List, Option, MatchResult}
-use Rattle.csv.specs.Reading.{has_failed}
-use Rattle.cspf_rows.specs.Records.{rows_left}
+use Rattle.std.specs.Prelude.{◌≡◌, ℕ, Bool, true, false, List, Option, MatchResult}
 use Rattle.cspf_stream.specs.RowAnswers.{AreAnswered, AreAllAnswered}
 use Rattle.cspf_stream.specs.StreamStops.{IsStopped}
+use Rattle.cspf_stream.specs.declared.error.StreamError.{StreamError}
 use Rattle.cspf_stream.specs.declared.error.StreamError.TheVariants as stream_error
 use Rattle.cspf_publish.specs.KnownBatches.{AreFirstOf}
 use Rattle.cspf_client.specs.ClientRows.{IsClientAnswered, IsClientUnanswered}
 use Rattle.cspf_client.specs.SessionStates.{SessionState}
-use Rattle.cspf_client.specs.ServingStates.{ServingState}
+use Rattle.cspf_client.specs.ServingStates.{ServingState, reader_rows}
 use Rattle.cspf_client.specs.declared.error.ClientError.{ClientError}
 use Rattle.cspf_client.specs.declared.error.ClientError.TheVariants as error
+
+-- A stream of requests stops, whatever is left of it and whether its reader has failed.
+abbrev pub IsStreamStopped : StreamError → Option (List (List (List ℕ))) → SessionState → SessionState → Option (List ℕ) → Option (List ℕ) → Type 0
+IsStreamStopped why all s t old new =
+    (left : Option (List (List (List ℕ)))) × (failed : Bool) × IsStopped IsClientAnswered IsClientUnanswered why all left failed s t old new
 
 -- The client's stream stops: as any stream does, or at a request whose entry was refused. What a client
 -- knows is looked at later.
 abbrev pub IsClientStopped : {Q V : Type 0} → (Q → Option (List ℕ)) → (V → Option (List ℕ)) → ClientError → ServingState Q V → ServingState Q V → Type 0
 IsClientStopped bytes contents (error.Stream why) old new =
     (why ≡ stream_error.Memory → new.state.no_entry ≡ false)
-    × IsStopped IsClientAnswered IsClientUnanswered why (rows_left bytes old.requests) (rows_left bytes new.requests) (has_failed new.requests)
-    old.state new.state (contents old.replies) (contents new.replies)
+    × IsStreamStopped why (reader_rows bytes old.requests) old.state new.state (contents old.replies) (contents new.replies)
 IsClientStopped bytes contents error.NoEntry old new =
     (new.state.no_entry ≡ true)
-    × IsStopped IsClientAnswered IsClientUnanswered stream_error.Memory (rows_left bytes old.requests) (rows_left bytes new.requests) (has_failed new.requests)
-    old.state new.state (contents old.replies) (contents new.replies)
+    × IsStreamStopped stream_error.Memory (reader_rows bytes old.requests) old.state new.state (contents old.replies) (contents new.replies)
 IsClientStopped bytes contents error.Ahead old new = ⊥
 
 -- A client was run: all rows of its requests are answered and the lines are written, or its stream
@@ -30,7 +32,7 @@ IsClientStopped bytes contents error.Ahead old new = ⊥
 abbrev pub IsRun : {Q V : Type 0} → (Q → Option (List ℕ)) → (V → Option (List ℕ)) → ServingState Q V → ServingState Q V → Type 0
 IsRun bytes contents old new =
     MatchResult new.end
-    (λ done. AreAllAnswered IsClientAnswered (rows_left bytes old.requests) old.state new.state (contents old.replies) (contents new.replies))
+    (λ done. AreAllAnswered IsClientAnswered (reader_rows bytes old.requests) old.state new.state (contents old.replies) (contents new.replies))
     (λ why. IsClientStopped bytes contents why old new)
 
 -- Whatever rows a client is answered, what it knew before them begins what it knows after: so its

@@ -1,5 +1,7 @@
--- Under which name a stream's end ends a client.
+-- Under which name a client ends whose stream did, or whose request wasn't answered.
 use Rattle.std.specs.Prelude.{Bool, true, false, Result, Ok, Err}
+use Rattle.cspf_publish.specs.declared.errors.AskError.{AskError}
+use Rattle.cspf_publish.specs.declared.errors.AskError.TheVariants as ask_error
 use Rattle.cspf_stream.specs.declared.error.StreamError.{StreamError}
 use Rattle.cspf_stream.specs.declared.error.StreamError.TheVariants as stream_error
 use Rattle.cspf_client.specs.declared.error.ClientError.{ClientError}
@@ -13,6 +15,11 @@ client_error_of no_entry stream_error.Read = error.Stream stream_error.Read
 client_error_of no_entry stream_error.Write = error.Stream stream_error.Write
 client_error_of no_entry stream_error.Flush = error.Stream stream_error.Flush
 client_error_of no_entry stream_error.TooManyRows = error.Stream stream_error.TooManyRows
+
+-- whether an entry was refused before or at a request that isn't answered
+abbrev pub entry_noted : Bool → AskError → Bool
+entry_noted no_entry ask_error.NoEntry = true
+entry_noted no_entry ask_error.Memory = no_entry
 
 -- how a client ends whose stream did
 abbrev pub client_end_of : Bool → Result (Unit {0}) StreamError → Result (Unit {0}) ClientError

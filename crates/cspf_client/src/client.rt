@@ -1,10 +1,12 @@
-ghost use Rattle.std.specs.Prelude.{◌≡◌};
+ghost use Rattle.std.specs.Prelude.{◌≡◌, ◌<◌, None, OnOk, IfErr};
 ghost use Rattle.std.specs.Option.{option_map};
-ghost use Rattle.cspf_rows.specs.Records.{rows_of, rows_left};
+ghost use Rattle.cspf_rows.specs.Records.{IsPlain, rows_of, rows_left};
 ghost use Rattle.cspf_publish.specs.KnownBatches.{AreFirstOf};
-ghost use Rattle.cspf_client.specs.ClientRuns.{IsRun};
+ghost use Rattle.cspf_stream.specs.RowAnswers.{AreAllAnswered};
+ghost use Rattle.cspf_client.specs.ClientRows.{IsClientAnswered};
+ghost use Rattle.cspf_client.specs.ClientRuns.{IsRun, IsStreamStopped};
 ghost use Rattle.cspf_client.specs.ErrorNames.{client_end_of};
-ghost use Rattle.cspf_client.specs.ServingStates.{IsReady, HasMet};
+ghost use Rattle.cspf_client.specs.ServingStates.{IsReady, HasMet, reader_rows};
 
 use crate::news::Listener;
 use crate::session::Session;
@@ -30,7 +32,8 @@ pub struct Client<Q, V> {
 #[derive(Drop)]
 pub struct ServingClient<Q, V> {
     session: Session,
-    requests: Reader<Q>,
+    /// Let go once its stream has ended, so that whoever writes requests doesn't wait for a reader.
+    requests: Option<Reader<Q>>,
     replies: V,
     end: Result<(), ClientError>,
 }
@@ -59,6 +62,24 @@ pub struct ServedClient<V> {
     pub refused: u64,
 }
 
+/// Answers all rows that a reader has left, and lets go of it.
+fn answer_all<Q: Read + Drop, V: Replies>(
+    alloc: Global,
+    requests: Reader<Q>,
+    replies: &mut V,
+    session: &mut Session,
+) -> Result<(), StreamError>
+    requires plain { IsPlain requests }
+    requires state { session.old.refused < 1 }
+    ensures whole { OnOk result (AreAllAnswered IsClientAnswered (rows_left Q.remaining requests)
+        session.old session.new (V.contents replies.old) (V.contents replies.new)) }
+    ensures stopped { IfErr result (λ why. IsStreamStopped why (rows_left Q.remaining requests)
+        session.old session.new (V.contents replies.old) (V.contents replies.new)) }
+{
+    let mut requests = requests;
+    answer_rows(&(), alloc, &mut requests, replies, session)
+}
+
 /// How a client ends whose stream did, by whether an entry was refused.
 fn end_of(ended: Result<(), StreamError>, no_entry: bool) -> Result<(), ClientError>
     ensures { result ≡ client_end_of no_entry ended }
@@ -80,14 +101,14 @@ impl<Q: Read + Drop, V: Replies> ServingClient<Q, V> {
         requires { listener.source ≡ asker.source }
         ensures ready { IsReady result }
         ensures state { (result.state.known ≡ asker) × (result.state.heard ≡ listener.heard) }
-        ensures requests { rows_left Q.remaining result.requests
+        ensures requests { reader_rows Q.remaining result.requests
             ≡ option_map rows_of (Q.remaining client.requests) }
         ensures replies { result.replies ≡ client.replies }
     {
         let Client { requests, replies } = client;
         ServingClient {
             session: Session::new(asker, listener),
-            requests: open_records(alloc, requests),
+            requests: Some(open_records(alloc, requests)),
             replies,
             end: Ok(()),
         }
@@ -95,20 +116,19 @@ impl<Q: Read + Drop, V: Replies> ServingClient<Q, V> {
 
     /// Answers all rows of its requests, one by one: an `ask` row at the version that its asker then
     /// knows, after it took the news that is there, and any other row by its refusal. Each line is
-    /// flushed before the next row is read. It waits for nobody but its own streams. The writer of the
-    /// replies is told their end.
+    /// flushed before the next row is read. It waits for nobody but its own streams. The reader of its
+    /// requests is let go, and then the writer of the replies is told their end.
     pub fn run(&mut self, alloc: Global)
         requires { IsReady self.old }
         ensures run { IsRun Q.remaining V.contents self.old self.new }
         ensures known { AreFirstOf self.new.state.known self.old.state.known }
+        ensures closed { self.new.requests ≡ None }
     {
-        let ended = answer_rows(
-            &(),
-            alloc,
-            &mut self.requests,
-            &mut self.replies,
-            &mut self.session,
-        );
+        let Some(requests) = self.requests.take() else {
+            // Never: nothing was read yet.
+            return;
+        };
+        let ended = answer_all(alloc, requests, &mut self.replies, &mut self.session);
         self.end = end_of(ended, self.session.has_no_entry());
         self.replies.end();
     }
@@ -128,7 +148,7 @@ impl<Q: Read + Drop, V: Replies> ServingClient<Q, V> {
         }
     }
 
-    /// What is left of it. The reader of its requests is let go.
+    /// What is left of it.
     pub fn close(self) -> ServedClient<V>
         ensures { result ≡ record {
           replies = self.replies;

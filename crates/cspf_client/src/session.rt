@@ -2,6 +2,7 @@ ghost use Rattle.std.specs.Prelude.{◌≡◌, ◌+◌, ◌<◌, ◌≤◌, Ok, 
 ghost use Rattle.cspf_ero.specs.ReplyLine.{IsReply};
 ghost use Rattle.cspf_search.specs.Outcome.{answer_of};
 ghost use Rattle.cspf_publish.specs.KnownBatches.{AreFirstOf};
+ghost use Rattle.cspf_client.specs.ErrorNames.{entry_noted};
 ghost use Rattle.cspf_client.specs.ClientRows.{IsClientAnswered, IsClientUnanswered, IsRefusedRow, IsRequestAnswered, IsRequestUnanswered};
 
 use crate::news::Listener;
@@ -33,6 +34,7 @@ impl Model for Session {
     ghost view = { λ s. record {
       known = s.asker;
       heard = s.listener.heard;
+      waiting = s.listener.waiting;
       refused = s.refused;
       no_entry = s.no_entry;
     } };
@@ -57,6 +59,7 @@ impl Session {
         ensures { result ≡ record {
           known = asker;
           heard = listener.heard;
+          waiting = listener.waiting;
           refused = 0;
           no_entry = false;
         } }
@@ -105,11 +108,20 @@ impl Session {
         self.listener.catch_up(&mut self.asker);
         match self.asker.ask(alloc, request) {
             Ok(answer) => line_of(alloc, answer),
-            Err(AskError::NoEntry) => {
-                self.no_entry = true;
+            Err(why) => {
+                self.note(why);
                 Err(AllocError)
             }
-            Err(AskError::Memory) => Err(AllocError),
+        }
+    }
+
+    /// Notes why a request isn't answered.
+    fn note(&mut self, why: AskError)
+        ensures { self.new ≡ record self.old { no_entry = entry_noted self.old.no_entry why } }
+    {
+        match why {
+            AskError::NoEntry => self.no_entry = true,
+            AskError::Memory => {}
         }
     }
 

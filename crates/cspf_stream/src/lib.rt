@@ -17,7 +17,7 @@ pub use answering::Answering;
 pub use error::StreamError;
 pub use limits::MOST_STREAM_ROWS;
 pub use refusal::refused_row;
-pub use stream::answer_rows;
+pub use stream::{answer_rows, put_line};
 
 #[cfg(test)]
 mod tests;

@@ -91,7 +91,7 @@ fn answer_row<W: Write, C, A: Answering<C>>(
 }
 
 /// Writes a line and flushes the writer, unless the line is empty.
-fn put_line<W: Write>(line: &[u8], writer: &mut W) -> Result<(), StreamError>
+pub fn put_line<W: Write>(line: &[u8], writer: &mut W) -> Result<(), StreamError>
     ensures whole { OnOk result (Appends (W.contents writer.old) (W.contents writer.new) line.now) }
     ensures stopped { IfErr result (λ error. IsLineStopped error line.now
         (W.contents writer.old) (W.contents writer.new)) }

@@ -1,12 +1,31 @@
-use Rattle.csv.specs.Reading.{has_failed}
-use Rattle.cspf_rows.specs.Records.{rows_left}
+use Rattle.std.proofs.Common.{sym, subst}
+use Rattle.cspf_client.specs.ClientRuns.{IsRun}
+use Rattle.cspf_client.specs.ServingStates.{ServingState}
 use Rattle.cspf_client.proofs.Forward.{forward_stream}
+use Rattle.cspf_client.proofs.Runs.{run_of}
 use Rattle.cspf_client.proofs.client.ServingClient.run.Goals as goal
+
+pub returns-clause-run : goal.returns-clause-run
+returns-clause-run g c =
+    let e = c.answer_all-ended.ensures in
+    let before : ServingState g.row.Q.Denot g.row.V.Denot = record {
+      state = c.self.inside.session;
+      requests = c.self.inside.requests;
+      replies = c.self.inside.replies;
+      end = c.self.inside.end;
+    } in
+    let after : ServingState g.row.Q.Denot g.row.V.Denot = record {
+      state = c.answer_all-ended.new.session;
+      requests = c.take.new.self;
+      replies = c.end.new.self;
+      end = c.end_of-self-inside.result;
+    } in
+    subst (λ (s : ServingState g.row.Q.Denot g.row.V.Denot). IsRun g.Q.Read.remaining g.V.Write.contents s after) c.self.view_is
+    (run_of g.Q.Read.remaining g.V.Write.contents before after c.in-Some.requests (sym c.in-Some.ensures.value) c.answer_all-ended.result
+    (rw c.has_no_entry.ensures at c.end_of-self-inside.ensures) (rw c.end.ensures e.whole) (rw c.end.ensures e.stopped))
 
 pub returns-clause-known : goal.returns-clause-known
 returns-clause-known g c =
-    let e = c.answer_rows-ended.ensures in
+    let e = c.answer_all-ended.ensures in
     rw (← c.self.view_is)
-    (forward_stream (rows_left g.Q.Read.remaining c.self.inside.requests) (rows_left g.Q.Read.remaining c.answer_rows-ended.new.rows) (has_failed c.answer_rows-ended.new.rows)
-    c.self.inside.session c.answer_rows-ended.new.answering (g.V.Write.contents c.self.inside.replies) (g.V.Write.contents c.answer_rows-ended.new.writer)
-    c.answer_rows-ended.result e.whole e.stopped)
+    (forward_stream _ c.self.inside.session c.answer_all-ended.new.session _ _ c.answer_all-ended.result e.whole e.stopped)

@@ -1,8 +1,8 @@
-use Rattle.std.proofs.Common.{subst}
+use Rattle.std.proofs.Common.{subst, sym}
 use Rattle.std.proofs.lemmas.Result.{IfOk-weaker}
 use Rattle.cspf_client.specs.ClientRows.{IsRequestAnswered, IsRequestUnanswered}
 use Rattle.cspf_client.specs.SessionStates.{SessionState}
-use Rattle.cspf_client.proofs.Requests.{session, request_answered, memory_refused, at_error}
+use Rattle.cspf_client.proofs.Requests.{session, request_answered, memory_refused, unanswered, at_error}
 use Rattle.cspf_client.proofs.session.Session.ask.Goals as goal
 
 pub returns-in-Ok-clause-answered : goal.returns-in-Ok-clause-answered
@@ -21,8 +21,10 @@ returns-in-Ok-clause-failed c =
     (subst (λ (s : SessionState). IsRequestUnanswered s after) c.self.view_is
     (memory_refused c.self.inside.asker c.catch_up.new.asker c.ask.new.self c.self.inside.listener c.catch_up.new.self c.self.inside.refused c.catch_up.ensures c.ask.ensures.source c.ask.ensures.later c.self.inside.no_entry))
 
-pub returns-in-Err-Memory-clause-failed : goal.returns-in-Err-Memory-clause-failed
-returns-in-Err-Memory-clause-failed c =
-    let after = session c.ask.new.self c.catch_up.new.self c.self.inside.refused c.self.inside.no_entry in
-    subst (λ (s : SessionState). IsRequestUnanswered s after) c.self.view_is
-    (memory_refused c.self.inside.asker c.catch_up.new.asker c.ask.new.self c.self.inside.listener c.catch_up.new.self c.self.inside.refused c.catch_up.ensures c.ask.ensures.source c.ask.ensures.later c.self.inside.no_entry)
+pub returns-in-Err-clause-failed : goal.returns-in-Err-clause-failed
+returns-in-Err-clause-failed c =
+    let before = session c.self.inside.asker c.self.inside.listener c.self.inside.refused c.self.inside.no_entry in
+    subst (λ (s : SessionState). IsRequestUnanswered s c.note.new.self) c.self.view_is
+    (subst (λ (t : SessionState). IsRequestUnanswered before t) (sym c.note.ensures)
+    (unanswered c.self.inside.asker c.catch_up.new.asker c.ask.new.self c.self.inside.listener c.catch_up.new.self c.self.inside.refused c.catch_up.ensures c.ask.ensures.source c.ask.ensures.later c.self.inside.no_entry
+    c.in-Err.why))

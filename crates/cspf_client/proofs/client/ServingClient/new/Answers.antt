@@ -1,0 +1,13 @@
+use Rattle.std.proofs.Common.{refl, ap}
+use Rattle.cspf_client.specs.SessionStates.{SessionState}
+use Rattle.cspf_client.proofs.client.ServingClient.new.Goals as goal
+
+pub returns-clause-ready : goal.returns-clause-ready
+returns-clause-ready g c = record {
+  reader = c.open_records.result;
+  held = refl;
+  plain = c.open_records.ensures.plain;
+  refused = ap (λ (s : SessionState). s.refused) c.new.ensures;
+  entry = ap (λ (s : SessionState). s.no_entry) c.new.ensures;
+  end = refl;
+}
