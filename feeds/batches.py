@@ -107,7 +107,7 @@ class Batches:
         place = int(why[1]) if len(why) > 1 else 0
         at_fault = changes[place - 1] if why[0] in ("absent", "duplicate") and 0 < place <= len(changes) else None
         self.vain += 1
-        if why[0] == "exhausted":
+        if why[0] in ("exhausted", "journal", "stopped"):  # no batch is taken any more
             raise Ended(line)
         if at_fault and at_fault.startswith("drop,"):
             self.given.pop(key_of(at_fault), None)
@@ -116,8 +116,9 @@ class Batches:
         elif at_fault:
             self.bar(at_fault, line)
         elif why[0] == "expected":
+            more = "" if self.given else "; what it has and is gone meanwhile stays there"  # of an earlier feed
             self.version = place - 1
-            self.say(f"{line}: going on from version {self.version}")
+            self.say(f"{line}: going on from version {self.version}{more}")
         elif why[0] == "counted":
             self.say(f"{line}: trying again without the rows that were refused")
         elif len(changes) == 1:

@@ -1,4 +1,5 @@
-"""Tests of tools/sweep: failures worked by hand, failures by tests/reference.py, several jobs, and what is refused."""
+"""Tests of tools/sweep and tools/join: failures worked by hand, failures by tests/reference.py, several jobs, parts, and what is refused."""
+import hashlib
 import itertools
 import os
 import random
@@ -12,6 +13,7 @@ from reference import address_number, address_text, publish, requests_of, whole_
 HERE = os.path.dirname(os.path.abspath(__file__))
 TOP = os.path.dirname(HERE)
 SWEEP = os.path.join(TOP, "tools/sweep")
+JOIN = os.path.join(TOP, "tools/join")
 MASKS = "0x0,0x0,0x0"
 
 
@@ -338,6 +340,56 @@ def jobs(program, checks):
         checks.same("a sweep that is ended, and its program with it", (running.returncode, out, alive), (143, BEFORE.encode(), False))
 
 
+def joined(program, checks):
+    """The parts of a sweep, one after the other, are the sweep; and what lacks one or is changed is refused."""
+    def parted(count, *words, asks=ASKS):
+        return [sweep(program.path, RING, asks, "--part", f"{at}/{count}", *words)[1] for at in range(1, count + 1)]
+
+    def join(text, *files):
+        ran = subprocess.run([JOIN, *files], input=text, capture_output=True, text=True)
+        return ran.returncode, ran.stdout, ran.stderr
+
+    digest = hashlib.sha256(f"{RING}\0{ASKS}\0circuits".encode()).hexdigest()[:16]
+    scenarios = re.split(r"(?<=\n)(?=scenario \d+ out|scenarios=)", OF_CIRCUITS)
+    three = parted(3)
+    checks.same("parts of a ring", three, [
+        BEFORE + scenarios[0] + f"part 1/3 input={digest} scenarios=1 lost=0 longer=1 overbooked=1\n",
+        BEFORE + scenarios[1] + f"part 2/3 input={digest} scenarios=1 lost=1 longer=0 overbooked=1\n",
+        BEFORE + scenarios[2] + scenarios[3] + f"part 3/3 input={digest} scenarios=2 lost=0 longer=1 overbooked=1\n"])
+    for name, found, wanted in [("three parts", three, OF_CIRCUITS), ("one part", parted(1), OF_CIRCUITS), ("seven parts of four scenarios, two jobs", parted(7, "--jobs", "2"), OF_CIRCUITS),
+                                ("two parts of routers", parted(2, "--fail", "routers"), OF_ROUTERS)]:
+        checks.same(f"joined: {name}", join("".join(found)), (0, BEFORE + wanted, ""))
+    pairs = sweep(program.path, RING, ASKS, "--fail", "pairs")
+    checks.same("joined: four parts of pairs", join("".join(parted(4, "--fail", "pairs"))), pairs)
+    with tempfile.TemporaryDirectory() as room:
+        for at, text in enumerate(three):
+            with open(os.path.join(room, str(at)), "w", encoding="ascii") as file:
+                file.write(text)
+        checks.same("joined: files", join("", *(os.path.join(room, str(at)) for at in range(3))), (0, BEFORE + OF_CIRCUITS, ""))
+        status, out, err = join("", os.path.join(room, "none"))
+        checks.true("not joined: a file that isn't there", (status, out) == (1, "") and err.startswith("join: [Errno 2] "), err)
+    other, others = parted(3, asks=ASKS.replace(",30,", ",29,")), "another journal, other requests, other failures or another program"
+    one, two, last = three
+    for name, text, why in [
+            ("nothing", "", "part 1/1 isn't there"), ("without the last", one + two, "part 3/3 isn't there"),
+            ("without the first", two + last, "part 2/3 stands where part 1/3 has to be"), ("in another order", one + last + two, "part 3/3 stands where part 2/3 has to be"),
+            ("one twice", one + two + two + last, "part 2/3 stands where part 3/3 has to be"), ("one of another count", one + parted(2)[1], "part 2/2 stands where part 2/3 has to be"),
+            ("cut", one + two + BEFORE, f"a part ends by {BEFORE.splitlines()[-1]!r}, and not by a line that says which part it is"),
+            ("cut before another", one + two[:two.index("part ")] + last, "a part ends by 'scenario 2 lost=1 longer=0 most=0 overbooked=1', and not by a line that says which part it is"),
+            ("without a scenario", one + two.replace(scenarios[1], "") + last, "part 2/3 hasn't the scenarios from 2 to 2"),
+            ("with one twice", one + two.replace(scenarios[1], 2 * scenarios[1]) + last, "part 2/3 hasn't the scenarios from 2 to 2"),
+            ("a whole sweep", BEFORE + OF_CIRCUITS, "a part ends by 'scenario 4 lost=0 longer=0 most=0 overbooked=1', and not by a line that says which part it is")]:
+        status, _, err = join(text)
+        checks.same(f"not joined: {name}", (status, err), (1, f"join: {why}\n"))
+    status, _, err = join(one + other[1] + last)
+    checks.true("not joined: a part of other requests", status == 1 and err == f"join: part 2/3 is of {others}\n", err)
+    status, _, err = join(one + two.replace("unreserved=100", "unreserved=101", 1) + last)
+    checks.true("not joined: a part whose program says otherwise", status == 1 and err == f"join: part 2/3 is of {others}\n", err)
+    for word in ("0/1", "2/1", "1", "1/0", "1/2/3", "-1/2", "x"):
+        ran = subprocess.run([SWEEP, "/dev/null", "/dev/null", "--part", word], capture_output=True, text=True)
+        checks.true(f"no part: {word}", (ran.returncode, ran.stdout) == (2, "") and "sweep: error: " in ran.stderr, ran)
+
+
 def refused(program, checks):
     """Journals and requests that aren't good, and programs that don't answer."""
     for name, rows, asks, words in (
@@ -400,5 +452,5 @@ def page(program, checks):
 
 
 def sweeps(program, checks):
-    for part in (ring, parts, loads, compared, jobs, refused, page):
+    for part in (ring, parts, loads, compared, jobs, joined, refused, page):
         part(program, checks)

@@ -1,0 +1,78 @@
+"""A journal's last version, what can fail of it as one, and requests: what tools/sweep reads."""
+import collections
+import csv
+import io
+
+Link = collections.namedtuple("Link", "key name neighbor remote metric group free")
+Request = collections.namedtuple("Request", "id head tail setup bandwidth exclude_any include_any include_all")
+Part = collections.namedtuple("Part", "name keys")  # what fails as one: a circuit, a link of one way or a router
+
+
+class Refused(Exception):
+    """What was given can't be used; the text says why."""
+
+
+def number(address):
+    return tuple(map(int, address.split(".")))
+
+
+def rows_of(data):
+    """The rows of a file that the program has accepted."""
+    return filter(None, csv.reader(io.StringIO(data.decode("utf-8-sig"), newline="")))
+
+
+def read_database(journal):
+    """The journal's last version, its links in the order of their keys, and its marks. No key is twice in one batch."""
+    links, marks, version = {}, set(), 0
+    for kind, *fields in rows_of(journal):
+        key = tuple(fields[:2])
+        if kind == "put":
+            links[key] = Link(key, " ".join(fields[:4]), *fields[2:4], int(fields[4]), int(fields[5], 16), tuple(map(int, fields[6:])))
+        elif kind == "drop":
+            del links[key]
+        elif kind == "node":
+            (marks.add if fields[1] == "0" else marks.discard)(fields[0])
+        else:
+            version += 1
+    return version, {key: links[key] for key in sorted(links, key=lambda key: (number(key[0]), number(key[1])))}, marks
+
+
+def read_requests(rows):
+    requests = {}
+    for place, fields in enumerate(rows_of(rows), 1):
+        if fields[1] in requests:
+            raise Refused(f"request row {place} refused: same-id")
+        requests[fields[1]] = Request(*fields[1:4], int(fields[4]), int(fields[5]), *(int(mask, 16) for mask in fields[6:9]))
+    return list(requests.values())
+
+
+def reverse_of(link, links):
+    """The other direction of the link's circuit, between the same two interfaces, None where there is none."""
+    back = links.get((link.neighbor, link.remote))
+    return back if back is not None and (back.neighbor, back.remote) == link.key else None
+
+
+def circuits_of(links):
+    """Two links are a circuit where each leads to the other's key. A link without such a reverse fails alone."""
+    parts, seen = [], set()
+    for link in links.values():
+        back = reverse_of(link, links)
+        if link.key not in seen:
+            parts.append(Part(f"{'circuit' if back else 'link'} {link.name}", (link.key, back.key) if back else (link.key,)))
+            seen.update(parts[-1].keys)
+    return parts
+
+
+def routers_of(links):
+    keys = {}
+    for link in links.values():
+        keys.setdefault(link.key[0], []).append(link.key)
+        keys.setdefault(link.neighbor, []).append(link.key)
+    return [Part(f"router {router}", tuple(keys[router])) for router in sorted(keys, key=number)]
+
+
+def accepts(link, request):
+    return (not link.group & request.exclude_any
+            and (not request.include_any or link.group & request.include_any)
+            and link.group & request.include_all == request.include_all
+            and link.free[request.setup] >= request.bandwidth)
