@@ -13,3 +13,8 @@ pub mod PartLines
 pub mod PublishedLines
 pub mod LiveRunLines
 pub mod AuditRunLines
+pub mod UpdatesSteps
+pub mod UpdatesStream
+pub mod Pairs
+pub mod ServedSteps
+pub mod SnapshotRunLines

@@ -17,3 +17,9 @@ pub mod LineTexts
 pub mod LiveRun
 pub mod LiveLines
 pub mod RunFaults
+pub mod OpenChanges
+pub mod Updates
+pub mod UpdatesStates
+pub mod ServedRun
+pub mod ServedSteps
+pub mod SnapshotRun

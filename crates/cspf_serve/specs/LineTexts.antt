@@ -2,7 +2,8 @@
 use Rattle.std.specs.Prelude.{ℕ, List}
 use Rattle.cspf_serve.specs.declared.line.Line.{Line}
 use Rattle.cspf_serve.specs.declared.line.Line.TheVariants as line
-use Rattle.cspf_serve.specs.Lines.{refused_row_line, version_line, refused_batch_line, unended_line, too_many_line}
+use Rattle.cspf_stream.specs.RefusedRows.{refused_row_line}
+use Rattle.cspf_serve.specs.Lines.{version_line, refused_batch_line, unended_line, too_many_line}
 use Rattle.cspf_serve.specs.AuditRun.{fault_line, audited_line, same_id_line}
 use Rattle.cspf_serve.specs.BatchRun.{torn_line, refused_request_line}
 use Rattle.cspf_serve.specs.LiveWords.{applied_line, unpublished_line}

@@ -1,14 +1,8 @@
--- The lines that rows are answered, reply lines aside. Each ends with one line feed.
+-- The lines that rows are answered, those of replies and of refused rows aside. Each ends with one line feed.
 use Rattle.std.specs.Prelude.{ℕ, List, ◌++◌, codes}
 use Rattle.std.specs.Fmt.{decimal}
-use Rattle.cspf_rows.specs.Words.{words}
-use Rattle.cspf_rows.specs.declared.row_error.RowError.{RowError}
 use Rattle.cspf_serve.specs.BatchWords.{batch_words}
 use Rattle.cspf_serve.specs.declared.batch_refusal.BatchRefusal.{BatchRefusal}
-
--- the line of the row with this number, which is refused
-abbrev pub refused_row_line : ℕ → RowError → List ℕ
-refused_row_line row error = codes "row " ++ decimal row ++ codes " refused: " ++ words error ++ codes "\n"
 
 -- the line of a batch that is accepted, by the version that it makes
 abbrev pub version_line : ℕ → List ℕ

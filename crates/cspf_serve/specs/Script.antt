@@ -18,7 +18,8 @@ use Rattle.cspf_rows.specs.Rows.{row_of}
 use Rattle.cspf_serve.specs.declared.batch_refusal.BatchRefusal.{BatchRefusal}
 use Rattle.cspf_serve.specs.declared.batch_refusal.BatchRefusal.TheVariants as refusal
 use Rattle.cspf_serve.specs.declared.solve.summary.Summary.{Summary}
-use Rattle.cspf_serve.specs.Lines.{refused_row_line, version_line, refused_batch_line, unended_line, too_many_line}
+use Rattle.cspf_stream.specs.RefusedRows.{refused_row_line}
+use Rattle.cspf_serve.specs.Lines.{version_line, refused_batch_line, unended_line, too_many_line}
 
 -- what stands between two rows
 pub record RunState : Type 0 where

@@ -15,7 +15,7 @@ pub enum BatchRefusal {
     /// Another count than that of the open changes.
     WrongCount {
         /// The number of the open changes.
-        counted: u32,
+        counted: u64,
     },
     /// The batch doesn't fit the database.
     Unfit(Refusal),

@@ -8,9 +8,12 @@
 //! `batch` publishes the batches of a journal and answers requests: `specs/BatchRun.antt` says what
 //! both are answered, and `specs/BatchLaws.antt` when that is what one script of both is. `live`
 //! publishes batches, each written to the journal first, while workers answer requests:
-//! `specs/LiveRun.antt` defines the lines and the journal of a live run. `audits` judges replies by a
-//! journal and requests: `specs/AuditRun.antt` says what is written of them. `streams` has what these
-//! share, and `specs/RunFaults.antt` says which errors end them.
+//! `specs/LiveRun.antt` defines the lines and the journal of a live run. `serving` publishes updates as
+//! they come in while clients ask: `specs/Updates.antt` defines what updates are answered, and
+//! `specs/ServedRun.antt` what is left of a whole run. `audits` judges replies by a journal and
+//! requests: `specs/AuditRun.antt` says what is written of them. `snapshots` writes the batches that
+//! make a journal's last database from nothing: `specs/SnapshotRun.antt` says what is written of a
+//! journal. `streams` has what these share, and `specs/RunFaults.antt` says which errors end them.
 //!
 //! The workers are those of `cspf_work` and the audit that of `cspf_audit`; their names stand here
 //! too.
@@ -22,6 +25,8 @@ mod batch;
 mod batch_refusal;
 mod line;
 mod live;
+mod serving;
+mod snapshots;
 mod solve;
 mod streams;
 
@@ -29,11 +34,15 @@ pub use audits::run_audit;
 pub use batch::{lines_of_a_script, run_batch};
 pub use batch_refusal::BatchRefusal;
 pub use cspf_audit::{Audit, AuditError, AuditFault, audit};
+pub use cspf_client::{Client, ClientError, Replies, ServedClient};
 pub use cspf_publish::MOST_ASKERS;
+pub use cspf_stream::StreamError;
 pub use cspf_work::{
     Answers, Drawer, Gate, Live, MOST_REQUESTS, NoGate, ServeError, answer_all, answer_latest,
     run_live,
 };
 pub use live::run_live_rows;
+pub use serving::{Served, run_serve};
+pub use snapshots::run_snapshot;
 pub use solve::{SolveError, Summary, rows_have_one_reply, run_solve, stops_at_a_prefix};
 pub use streams::RunError;

@@ -16,7 +16,7 @@ pub(crate) enum Line {
     /// The batch with this number is refused.
     RefusedBatch { number: u32, refusal: BatchRefusal },
     /// This many changes are taken by no batch.
-    Unended { count: u32 },
+    Unended { count: u64 },
     /// In place of rows that aren't read.
     TooManyRows,
     /// A journal has this many batches, and rows behind them.

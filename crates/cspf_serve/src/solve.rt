@@ -9,4 +9,5 @@ mod summary;
 pub use error::SolveError;
 pub use laws::{rows_have_one_reply, stops_at_a_prefix};
 pub use run::run_solve;
+pub(crate) use solver::{KEPT_CHANGES, keep};
 pub use summary::Summary;

@@ -14,6 +14,12 @@ pub const BATCH: &str = "batch";
 /// The command that applies a file of batches while it answers a file of requests.
 pub const LIVE: &str = "live";
 
+/// The command that publishes updates as they come in while clients ask.
+pub const SERVE: &str = "serve";
+
+/// The command that writes the batches that make a journal's last database.
+pub const SNAPSHOT: &str = "snapshot";
+
 /// The command that audits a file of replies.
 pub const AUDIT: &str = "audit";
 
@@ -25,6 +31,9 @@ pub const UPDATES: &str = "updates";
 
 /// The option that names the file of requests.
 pub const REQUESTS: &str = "requests";
+
+/// The option that names the two files of a client.
+pub const CLIENT: &str = "client";
 
 /// The option that names the file of replies.
 pub const REPLIES: &str = "replies";
@@ -54,6 +63,14 @@ const ABOUT_BATCH: &str =
 /// What help says of `live`.
 const ABOUT_LIVE: &str =
     "Applies batches to a new journal while requests are answered on standard output";
+
+/// What help says of `serve`.
+const ABOUT_SERVE: &str =
+    "Publishes the updates of standard input as they come in, and answers clients meanwhile";
+
+/// What help says of `snapshot`.
+const ABOUT_SNAPSHOT: &str =
+    "Writes the few batches that make the last database of a journal from nothing";
 
 /// What help says of `audit`.
 const ABOUT_AUDIT: &str = "Judges the lines of a file of replies by a journal and requests";
@@ -145,6 +162,54 @@ or a batch was refused, 3 where memory was refused, a file or another device fai
 is there already: then the last line of standard error is routed: stopped, and with --explain the
 line before it says why.";
 
+/// What help says below the options of `serve`.
+const SERVE_HELP: &str = "\
+Standard input has put, drop, node, end and ask rows as in solve, without a limit of their number.
+Each batch is written whole to the new journal, then it is in effect, and then its line is written.
+1 to 64 clients each ask on files of their own: --client IN=OUT reads ask rows from IN, and writes
+the line of each to OUT before the next row is read. No client waits for another, nor for a batch.
+Who has read version V on standard output is answered at V or later by every client.
+
+Lines of standard output, as in solve, and of a client's OUT:
+  version V                  a batch is in effect
+  ask ID vV route ..         a request is answered at version V; also none, unknown-from, unknown-to
+  batch N refused: ..        as in solve; also memory, journal W where the journal failed behind W
+                             bytes of the batch, and stopped for every batch behind that
+  row N refused: ..          also for a row of a client that isn't an ask row, which does nothing else
+  unended K                  at the end of the updates, changes that no end row took
+
+IN and OUT are files, pipes with a name (mkfifo) or /dev/fd/N, no name twice; an = in IN can't be
+told from the one between them. They are opened in the order given, IN before OUT, and the journal
+last; an OUT that is there is emptied. The opening of a pipe waits for its other end: a client has to
+open IN for writing first, then OUT for reading. A client ends with its rows, or alone where they can't
+be read or its lines can't be written, and its IN and OUT are closed then (of /dev/fd/N the other end
+sees it when the run ends). The run ends when standard input and all clients have ended.
+
+Status: 0 where all was accepted, 1 where the command line was refused, 2 where a row or a batch was
+refused or changes were left open, 3 where memory was refused for the updates, standard input or
+output failed, a file can't be opened, or the journal is there already: then the last line of standard
+error is routed: stopped, and with --explain the line before it says why. With --explain a line says of
+each client that ended before its rows did why it ended.";
+
+/// What help says below the options of `snapshot`.
+const SNAPSHOT_HELP: &str = "\
+The journal is a file of put, drop, node and end rows: batches with the numbers 1, 2, 3 and so on.
+Standard output gets the rows of at most 5 batches, numbered from 1 on, which make the database of the
+last version from nothing: first the links in order of their routers and addresses, then the routers
+without transit. A database of nothing has no batch. A new run begins with them:
+  routed snapshot --journal old.journal > begin
+  cat begin - | routed serve --journal new.journal ..
+Versions count from 0 again there, so a version means something only beside the journal of its run.
+
+Where the journal is refused standard output has one line instead:
+  journal torn after N       rows behind batch N are no batch; with --accept-torn they are left out
+  batch N refused: ..        batch N doesn't fit
+  too many rows              the journal has more than 1,000,000 rows
+
+Status: 0 where the batches were written, 1 where the command line was refused, 2 where the journal was
+refused, 3 where memory was refused, a file or another device failed: then the last line of standard
+error is routed: stopped, and with --explain the line before it says why.";
+
 /// What help says below the options of `audit`.
 const AUDIT_HELP: &str = "\
 The journal and the requests are files as in batch, and no two requests have one id. The replies are
@@ -190,6 +255,8 @@ pub fn parse<'a>(alloc: Global, words: &'a [String]) -> Result<ArgMatches<'a>, E
         .subcommand(solve)?
         .subcommand(batch(alloc)?)?
         .subcommand(live(alloc)?)?
+        .subcommand(serve(alloc)?)?
+        .subcommand(snapshot(alloc)?)?
         .subcommand(audit(alloc)?)?;
     routed.try_get_matches_from(words)
 }
@@ -198,17 +265,13 @@ pub fn parse<'a>(alloc: Global, words: &'a [String]) -> Result<ArgMatches<'a>, E
 fn batch<'a>(alloc: Global) -> Result<Command<'a>, AllocError> {
     let journal = file(alloc, JOURNAL, "The file of batches");
     let requests = file(alloc, REQUESTS, "The file of requests");
-    let accept_torn = Arg::new(alloc, ACCEPT_TORN)
-        .long(ACCEPT_TORN)
-        .action(ArgAction::SetTrue)
-        .help("Leave out the rows behind the batches");
     Command::new(alloc, BATCH)
         .about(ABOUT_BATCH)
         .after_help(BATCH_HELP)
         .arg(journal)?
         .arg(requests)?
         .arg(workers(alloc))?
-        .arg(accept_torn)?
+        .arg(accept_torn(alloc))?
         .arg(explain(alloc))
 }
 
@@ -227,6 +290,34 @@ fn live<'a>(alloc: Global) -> Result<Command<'a>, AllocError> {
         .arg(explain(alloc))
 }
 
+/// The command `serve` with its options.
+fn serve<'a>(alloc: Global) -> Result<Command<'a>, AllocError> {
+    let journal = file(alloc, JOURNAL, "The file of batches to make");
+    let client = Arg::new(alloc, CLIENT)
+        .long(CLIENT)
+        .value_name("IN=OUT")
+        .required(true)
+        .action(ArgAction::Append)
+        .help("The files of a client's requests and replies; once for each client");
+    Command::new(alloc, SERVE)
+        .about(ABOUT_SERVE)
+        .after_help(SERVE_HELP)
+        .arg(journal)?
+        .arg(client)?
+        .arg(explain(alloc))
+}
+
+/// The command `snapshot` with its options.
+fn snapshot<'a>(alloc: Global) -> Result<Command<'a>, AllocError> {
+    let journal = file(alloc, JOURNAL, "The file of batches");
+    Command::new(alloc, SNAPSHOT)
+        .about(ABOUT_SNAPSHOT)
+        .after_help(SNAPSHOT_HELP)
+        .arg(journal)?
+        .arg(accept_torn(alloc))?
+        .arg(explain(alloc))
+}
+
 /// The command `audit` with its options.
 fn audit<'a>(alloc: Global) -> Result<Command<'a>, AllocError> {
     let journal = file(alloc, JOURNAL, "The file of batches");
@@ -239,6 +330,14 @@ fn audit<'a>(alloc: Global) -> Result<Command<'a>, AllocError> {
         .arg(requests)?
         .arg(replies)?
         .arg(explain(alloc))
+}
+
+/// The flag by which the rows behind the batches of a journal are left out.
+fn accept_torn<'a>(alloc: Global) -> Arg<'a> {
+    Arg::new(alloc, ACCEPT_TORN)
+        .long(ACCEPT_TORN)
+        .action(ArgAction::SetTrue)
+        .help("Leave out the rows behind the batches")
 }
 
 /// The flag by which a run that stops says why.

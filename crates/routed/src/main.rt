@@ -11,17 +11,21 @@ ghost use Rattle.std.specs.Prelude.{◌<◌, ◌≤◌};
 mod command_line;
 mod limited;
 mod noted;
+mod serving;
 mod stopped;
 
 use clap::ArgMatches;
 use clap::error::ErrorKind;
 use command_line::{
-    ACCEPT_TORN, AUDIT, BATCH, EXPLAIN, JOURNAL, LIVE, REPLIES, REQUESTS, UPDATES, parse,
-    workers_of,
+    ACCEPT_TORN, AUDIT, BATCH, CLIENT, EXPLAIN, JOURNAL, LIVE, REPLIES, REQUESTS, SERVE, SNAPSHOT,
+    UPDATES, parse, workers_of,
 };
-use cspf_serve::{MOST_ASKERS, NoGate, run_audit, run_batch, run_live_rows, run_solve};
+use cspf_serve::{
+    MOST_ASKERS, NoGate, run_audit, run_batch, run_live_rows, run_snapshot, run_solve,
+};
 use limited::Limited;
 use noted::{Action, Noted};
+use serving::{are_shared, names_of, serve};
 use std::fs::{File, OpenOptions};
 use std::io::{BufWriter, Printer, Write};
 use std::process::ExitCode;
@@ -48,6 +52,19 @@ fn output(rt: &HostRuntime) -> Result<Noted<BufWriter<Printer<'_, HostRuntime>>>
         Ok(writer) => Ok(Noted::new(OUTPUT, writer)),
         Err(_) => Err(Stopped::Memory),
     }
+}
+
+/// What reads as nothing.
+const NOTHING: &str = "/dev/null";
+
+/// Files that take the places of standard streams which are closed, so that no file that is opened
+/// later is taken for one of these.
+fn held_places(rt: &HostRuntime) -> [Option<File>; 3] {
+    [
+        File::open(rt, NOTHING).ok(),
+        File::open(rt, NOTHING).ok(),
+        File::open(rt, NOTHING).ok(),
+    ]
 }
 
 /// A file to read, which the option of this name gives.
@@ -135,6 +152,7 @@ fn live<T: Threads + Wait + Sync>(
     requires { (0 < workers) × (workers ≤ MOST_ASKERS) }
 {
     let mut out = output(rt)?;
+    let _held = held_places(rt);
     let mut updates = opened(rt, UPDATES, updates)?;
     let mut requests = opened(rt, REQUESTS, requests)?;
     let mut journal = created(rt, journal)?;
@@ -154,6 +172,15 @@ fn live<T: Threads + Wait + Sync>(
     // A write to the journal that fails refuses a batch, and stops nothing.
     let noted = updates.fault().or(requests.fault()).or(out.fault());
     ran.map_err(|error| Stopped::running(error, noted))
+}
+
+/// Writes the batches that make the last database of a journal on standard output.
+fn snapshot(rt: &HostRuntime, journal: &str, accept_torn: bool) -> Result<u8, Stopped> {
+    let mut out = output(rt)?;
+    let mut journal = opened(rt, JOURNAL, journal)?;
+    let ran = run_snapshot(rt.alloc(), &mut journal, &mut out, accept_torn);
+    flush(&mut out)?;
+    ran.map_err(|error| Stopped::running(error, journal.fault().or(out.fault())))
 }
 
 /// Judges a file of replies by a journal and a file of requests. The files are opened before a row is
@@ -214,6 +241,46 @@ fn obey_live<T: Threads + Wait + Sync>(
     live(rt, handle, updates, requests, journal, workers)
 }
 
+/// Does what the words of `serve` ask for.
+fn obey_serve<T: Threads + Wait + Sync>(
+    rt: &HostRuntime,
+    handle: &T,
+    words: &ArgMatches<'_>,
+) -> Result<u8, Stopped> {
+    let (Some(journal), Some(given)) = (words.get_str(JOURNAL), words.get_strs(CLIENT)) else {
+        // Never: the files have to be given.
+        return Ok(REFUSED);
+    };
+    let Some(clients) = names_of(rt.alloc(), given)? else {
+        let _ = eprintln!(rt; "routed: a client is IN=OUT");
+        return Ok(REFUSED);
+    };
+    if clients.is_empty() || clients.len() > MOST_ASKERS {
+        let _ = eprintln!(rt; "routed: there are 1 to {MOST_ASKERS} clients");
+        return Ok(REFUSED);
+    }
+    if are_shared(journal, clients.as_slice()) {
+        let _ = eprintln!(rt; "routed: a file is named twice");
+        return Ok(REFUSED);
+    }
+    serve(
+        rt,
+        handle,
+        journal,
+        clients.as_slice(),
+        words.get_flag(EXPLAIN),
+    )
+}
+
+/// Does what the words of `snapshot` ask for.
+fn obey_snapshot(rt: &HostRuntime, words: &ArgMatches<'_>) -> Result<u8, Stopped> {
+    let Some(journal) = words.get_str(JOURNAL) else {
+        // Never: the file has to be given.
+        return Ok(REFUSED);
+    };
+    snapshot(rt, journal, words.get_flag(ACCEPT_TORN))
+}
+
 /// Does what the words of `audit` ask for.
 fn obey_audit(rt: &HostRuntime, words: &ArgMatches<'_>) -> Result<u8, Stopped> {
     let (journal, requests) = (words.get_str(JOURNAL), words.get_str(REQUESTS));
@@ -238,6 +305,8 @@ fn obey<T: Threads + Wait + Sync>(
     let ran = match name {
         BATCH => obey_batch(rt, handle, words),
         LIVE => obey_live(rt, handle, words),
+        SERVE => obey_serve(rt, handle, words),
+        SNAPSHOT => obey_snapshot(rt, words),
         AUDIT => obey_audit(rt, words),
         _ => solve(rt),
     };

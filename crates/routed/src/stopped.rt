@@ -1,7 +1,7 @@
 //! Why the program stops: what `--explain` says before its last line.
 
 use crate::noted::{Action, Fault};
-use cspf_serve::{RunError, SolveError};
+use cspf_serve::{RunError, SolveError, StreamError};
 use std::alloc::AllocError;
 use std::{fmt, io};
 
@@ -14,7 +14,9 @@ pub enum Stopped {
     Device(Fault),
     /// Another error of `solve`.
     Solve(SolveError),
-    /// Another error of `batch`, `live` or `audit`.
+    /// Another error of the updates of `serve`.
+    Stream(StreamError),
+    /// Another error of `batch`, `live`, `serve`, `snapshot` or `audit`.
     Run(RunError),
 }
 
@@ -34,6 +36,20 @@ impl Stopped {
         match noted {
             Some(fault) => Stopped::Device(fault),
             None => Stopped::Solve(error),
+        }
+    }
+
+    /// The error of the updates of `serve`, where these are the last calls on their streams that failed.
+    pub fn streaming(error: StreamError, read: Option<Fault>, written: Option<Fault>) -> Stopped {
+        let noted = match &error {
+            StreamError::Memory => return Stopped::Memory,
+            StreamError::Read => read,
+            StreamError::Write | StreamError::Flush => written,
+            StreamError::TooManyRows => None,
+        };
+        match noted {
+            Some(fault) => Stopped::Device(fault),
+            None => Stopped::Stream(error),
         }
     }
 
@@ -59,6 +75,7 @@ impl fmt::Display for Stopped {
             Stopped::Memory => f.write_str("out of memory"),
             Stopped::Device(fault) => write!(f, "{fault}"),
             Stopped::Solve(error) => write!(f, "{error}"),
+            Stopped::Stream(error) => write!(f, "{error}"),
             Stopped::Run(error) => write!(f, "{error}"),
         }
     }

@@ -1,4 +1,4 @@
-ghost use Rattle.std.specs.Prelude.{◌≡◌, ℕ, ◌+◌, ◌<◌, ◌≤◌, List, [], ◌∷◌, ◌++◌, take, IfOk, OnOk, MatchResult};
+ghost use Rattle.std.specs.Prelude.{◌≡◌, ℕ, ◌+◌, ◌<◌, ◌≤◌, List, [], ◌∷◌, ◌++◌, take, IfOk, OnOk, OnErr, MatchResult};
 ghost use Rattle.cspf_db.specs.declared.batch.Change.{Change as Changed};
 ghost use Rattle.cspf_db.specs.Best.{Answer, IsBestAnswer};
 ghost use Rattle.cspf_ero.specs.ReplyLine.{IsReply};
@@ -13,7 +13,7 @@ use cspf_search::best;
 use std::alloc::{AllocError, Global};
 
 /// How many open changes are kept at most: one more than a batch may have, which is refused.
-const KEPT_CHANGES: usize = MOST_CHANGES + 1;
+pub(crate) const KEPT_CHANGES: usize = MOST_CHANGES + 1;
 
 /// What stands between two rows. A stream of any length takes no more memory than this.
 #[derive(Drop)]
@@ -178,7 +178,7 @@ impl Solver {
         }
         if count != self.count {
             return Err(BatchRefusal::WrongCount {
-                counted: self.count,
+                counted: u64::from(self.count),
             });
         }
         match self.table.check(&self.batch) {
@@ -235,7 +235,8 @@ impl Solver {
         if too_many {
             Line::TooManyRows.bytes(alloc)
         } else if self.count > 0 {
-            Line::Unended { count: self.count }.bytes(alloc)
+            let count = u64::from(self.count);
+            Line::Unended { count }.bytes(alloc)
         } else {
             Ok(Vec::new(alloc))
         }
@@ -258,9 +259,10 @@ impl Solver {
 }
 
 /// One more change at the end of those that are kept, unless they are as many as are kept.
-fn keep(changes: &mut Vec<Change>, change: Change) -> Result<(), AllocError>
-    ensures { OnOk result ((all : List Changed) → changes.old.items ≡ take KEPT_CHANGES all
+pub(crate) fn keep(changes: &mut Vec<Change>, change: Change) -> Result<(), AllocError>
+    ensures kept { OnOk result ((all : List Changed) → changes.old.items ≡ take KEPT_CHANGES all
         → changes.new.items ≡ take KEPT_CHANGES (all ++ change ∷ [])) }
+    ensures same { OnErr result (changes.new.items ≡ changes.old.items) }
 {
     if changes.len() >= KEPT_CHANGES {
         return Ok(());

@@ -17,7 +17,7 @@ use std::io::Read;
 
 /// The batches of a journal. Rows behind them are left out where that is asked for, and else
 /// refused.
-fn batches_of<R: Read + Drop>(
+pub(crate) fn batches_of<R: Read + Drop>(
     alloc: Global,
     journal: R,
     accept_torn: bool,

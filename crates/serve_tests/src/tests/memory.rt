@@ -2,7 +2,10 @@
 //! refused, alone or with all behind it. It then ends with the whole output and its status, or with
 //! the named refusal. Nothing but the writer is allocated for a test, so a refused one ends it.
 
-use cspf_serve::{NoGate, RunError, ServeError, SolveError, Summary, run_batch, run_solve};
+use cspf_serve::{
+    Client, ClientError, NoGate, RunError, ServeError, Served, ServedClient, SolveError,
+    StreamError, Summary, run_batch, run_serve, run_solve,
+};
 use std::alloc::Global;
 use std::sync::Wait;
 use std::thread::Threads;
@@ -90,5 +93,86 @@ fn accepts_a_torn_journal(rt: HostRuntime) {
         let refused = found == Err(RunError::Memory)
             || found == Err(RunError::Serve(ServeError::Memory));
         assert!(rt; whole || refused);
+    }
+}
+
+/// The link and its reverse in a batch.
+const UPDATES: &[u8] =
+    b"put,1.1.1.1,10.0.12.1,2.2.2.2,10.0.12.2,10,0x1,1000,1000,1000,1000,1000,1000,1000,1000\nput,2.2.2.2,10.0.12.2,1.1.1.1,10.0.12.1,10,0x1,0,0,0,0,0,0,0,0\nend,1,2\n";
+
+/// The text of that batch.
+const JOURNAL: &[u8] =
+    b"put,1.1.1.1,10.0.12.1,2.2.2.2,10.0.12.2,10,0x00000001,1000,1000,1000,1000,1000,1000,1000,1000\nput,2.2.2.2,10.0.12.2,1.1.1.1,10.0.12.1,10,0x00000001,0,0,0,0,0,0,0,0\nend,1,2\n";
+
+/// The line of the batch that is published, and of one that isn't for want of memory.
+const PUBLISHED: &[u8] = b"version 1\n";
+
+const UNPUBLISHED: &[u8] = b"batch 1 refused: memory\n";
+
+/// The reply to the request before the batch is in effect, and behind it.
+const REPLY_BEFORE: &[u8] = b"ask 7 v0 unknown-from\n";
+
+const REPLY_BEHIND: &[u8] =
+    b"ask 7 v1 route cost=10 hops=1 again=no ero=000c140101080a000c022000\n";
+
+/// Whether the batch is published and told, or memory was refused for it or for its line.
+fn is_published_or_refused(said: &[u8], journal: &[u8], ended: Result<(), StreamError>) -> bool {
+    match ended {
+        Ok(()) => {
+            said == PUBLISHED && journal == JOURNAL || said == UNPUBLISHED && journal.is_empty()
+        }
+        Err(error) => error == StreamError::Memory && said.is_empty() && journal.is_empty(),
+    }
+}
+
+/// Whether a client was answered at one of the versions, or memory was refused to it: an entry never
+/// is.
+fn is_answered_or_refused(client: &ServedClient<Vec<u8>>) -> bool {
+    let replies = client.replies.as_slice();
+    match client.end {
+        Ok(()) => replies == REPLY_BEFORE || replies == REPLY_BEHIND,
+        Err(error) => { error == ClientError::Stream(StreamError::Memory) && replies.is_empty() }
+    }
+}
+
+/// What is left of a run over the updates and one client, or the error and whether the writers and the
+/// client are given back untouched. No answer where a writer is refused.
+fn serve_one<T: Threads + Wait + Sync>(
+    rt: &T,
+    alloc: Global,
+) -> Option<Result<Served<Vec<u8>, Vec<u8>, Vec<u8>>, (RunError, bool)>> {
+    let said = Vec::with_capacity(alloc, ROOM).ok()?;
+    let journal = Vec::with_capacity(alloc, 2 * ROOM).ok()?;
+    let replies = Vec::with_capacity(alloc, ROOM).ok()?;
+    let mut clients = Vec::with_capacity(alloc, 1).ok()?;
+    let requests = REQUEST;
+    clients.push_reserved(Client { requests, replies });
+    match run_serve(rt, alloc, UPDATES, said, journal, clients) {
+        Ok(served) => Some(Ok(served)),
+        Err((error, said, journal, clients)) => {
+            let untouched = said.is_empty() && journal.is_empty() && clients.len() == 1;
+            Some(Err((error, untouched)))
+        }
+    }
+}
+
+#[test]
+fn serves_one_client(rt: HostRuntime) {
+    match serve_one(&rt, rt.alloc()) {
+        None => {}
+        Some(Err((error, untouched))) => {
+            assert!(rt; error == RunError::Memory && untouched);
+        }
+        Some(Ok(served)) => {
+            let Served {
+                status: _,
+                updates,
+                said,
+                journal,
+                clients,
+            } = served;
+            assert!(rt; is_published_or_refused(said.as_slice(), journal.as_slice(), updates));
+            assert!(rt; clients.iter().all(is_answered_or_refused));
+        }
     }
 }

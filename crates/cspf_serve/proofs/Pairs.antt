@@ -1,0 +1,83 @@
+-- Lists whose elements are related place by place.
+use Rattle.std.proofs.Common.{◌≡◌, ℕ, suc, ◌<◌, List, [], ◌∷◌, ◌++◌, length, get_or, All, Some, refl, sym, ap, subst, ◌∙◌, append_assoc, append-nil, take, arith}
+use Rattle.std.specs.List.{AllZip}
+use Rattle.std.proofs.Math.Seq.{take-append_seam}
+use Rattle.std.proofs.lemmas.List.Elements.{All-cons, All-head, All-nil, All-pop, All-tail}
+
+-- one pair more
+pub pairs_push : {A B : Type 0} (R : A → B → Type 0) (xs : List A) (ys : List B) (x : A) (y : B) → AllZip R xs ys → R x y → AllZip R (xs ++ x ∷ []) (ys ++ y ∷ [])
+pairs_push R [] [] x y all one = (one, tt)
+pairs_push R [] (b ∷ ys) x y all one = absurd all
+pairs_push R (a ∷ xs) [] x y all one = absurd all
+pairs_push R (a ∷ xs) (b ∷ ys) x y all one = (all.0, pairs_push R xs ys x y all.1 one)
+
+-- one relation behind another
+pub pairs_through : {A B C : Type 0} (R : A → B → Type 0) (S : B → C → Type 0) (xs : List A) (ys : List B) (zs : List C) → AllZip R xs ys → AllZip S ys zs
+    → AllZip (λ x z. (y : B) × R x y × S y z) xs zs
+pairs_through R S [] [] [] r s = tt
+pairs_through R S [] [] (z ∷ zs) r s = absurd s
+pairs_through R S [] (y ∷ ys) zs r s = absurd r
+pairs_through R S (x ∷ xs) [] zs r s = absurd r
+pairs_through R S (x ∷ xs) (y ∷ ys) [] r s = absurd s
+pairs_through R S (x ∷ xs) (y ∷ ys) (z ∷ zs) r s = ((y, r.0, s.0), pairs_through R S xs ys zs r.1 s.1)
+
+pub pairs_weaker : {A B : Type 0} (R S : A → B → Type 0) → ((x : A) (y : B) → R x y → S x y) → (xs : List A) (ys : List B) → AllZip R xs ys → AllZip S xs ys
+pairs_weaker R S weaker [] [] all = tt
+pairs_weaker R S weaker [] (y ∷ ys) all = absurd all
+pairs_weaker R S weaker (x ∷ xs) [] all = absurd all
+pairs_weaker R S weaker (x ∷ xs) (y ∷ ys) all = (weaker x y all.0, pairs_weaker R S weaker xs ys all.1)
+
+-- what holds of each second one by its first one
+pub pairs_second : {A B : Type 0} (R : A → B → Type 0) (P : B → Type 0) → ((x : A) (y : B) → R x y → P y) → (xs : List A) (ys : List B) → AllZip R xs ys → All P ys
+pairs_second R P holds [] [] all = All-nil P
+pairs_second R P holds [] (y ∷ ys) all = absurd all
+pairs_second R P holds (x ∷ xs) [] all = absurd all
+pairs_second R P holds (x ∷ xs) (y ∷ ys) all = All-cons P y ys (holds x y all.0) (pairs_second R P holds xs ys all.1)
+
+pub length_pairs : {A B : Type 0} (R : A → B → Type 0) (xs : List A) (ys : List B) → AllZip R xs ys → length ys ≡ length xs
+length_pairs R [] [] all = refl
+length_pairs R [] (y ∷ ys) all = absurd all
+length_pairs R (x ∷ xs) [] all = absurd all
+length_pairs R (x ∷ xs) (y ∷ ys) all = ap suc (length_pairs R xs ys all.1)
+
+-- lists of one length whose elements are related at each place
+pub pairs_of : {A : Type 0} (R : A → A → Type 0) (xs ys : List A) → length ys ≡ length xs
+    → ((i : ℕ) (d : A) → i < length xs → R (get_or xs i d) (get_or ys i d)) → AllZip R xs ys
+pairs_of R [] [] same each = tt
+pairs_of R [] (y ∷ ys) same each = absurd (omega (arith, same))
+pairs_of R (x ∷ xs) [] same each = absurd (omega (arith, same))
+pairs_of R (x ∷ xs) (y ∷ ys) same each = (
+  each 0 x (omega arith),
+  pairs_of R xs ys (omega (arith, same)) (λ i d less. each (suc i) d (omega (arith, less))),
+)
+
+-- the last one of a list, and those before it
+pub last_of : {X : Type 0} (P : X → Type 0) (all front : List X) (x : X) → all ≡ front ++ x ∷ [] → All P all → P x
+last_of P all front x split each = (All-pop P all front (Some x) split each).1
+
+pub front_of : {X : Type 0} (P : X → Type 0) (all front : List X) (x : X) → all ≡ front ++ x ∷ [] → All P all → All P front
+front_of P all front x split each = (All-pop P all front (Some x) split each).0
+
+-- one more element was taken from the front of what is left
+pub left_step : {X : Type 0} (before : List X) (x : X) (left after all : List X) → before ++ left ≡ all → left ≡ x ∷ after → (before ++ x ∷ []) ++ after ≡ all
+left_step before x left after all whole next = append_assoc before (x ∷ []) after ∙ ap (λ l. before ++ l) (sym next) ∙ whole
+
+all_back : {X : Type 0} (P : X → Type 0) (xs ys : List X) → All P (xs ++ ys) → All P ys
+all_back P [] ys each = each
+all_back P (x ∷ xs) ys each = all_back P xs ys (All-tail P x (xs ++ ys) each)
+
+-- and this holds of it
+pub left_next : {X : Type 0} (P : X → Type 0) (before : List X) (x : X) (left after all : List X) → before ++ left ≡ all → left ≡ x ∷ after → All P all → P x
+left_next P before x left after all whole next holds =
+    let same : before ++ x ∷ after ≡ all = ap (λ l. before ++ l) (sym next) ∙ whole in
+    let here : All P (before ++ x ∷ after) = subst (All P) (sym same) holds in
+    All-head P x after (all_back P before (x ∷ after) here)
+
+-- nothing is left
+pub left_none : {X : Type 0} (before left all : List X) → before ++ left ≡ all → length left ≡ 0 → before ≡ all
+left_none before [] all whole none = sym (append-nil before) ∙ whole
+left_none before (x ∷ left) all whole none = absurd (omega (arith, none))
+
+-- what a slice of a whole list leaves there
+pub written_back : {X : Type 0} (new rest : List X) (n : ℕ) → n ≡ length new → take n (new ++ rest) ≡ new
+written_back new rest n long = ap (λ m. take m (new ++ rest)) long ∙ take-append_seam new rest

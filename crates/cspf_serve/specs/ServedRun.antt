@@ -1,0 +1,101 @@
+-- What a run over updates and clients leaves: one list of published batches, which the updates make, the
+-- journal has, and every client is answered from.
+use Rattle.std.specs.Prelude.{◌≡◌, ℕ, ◌+◌, ◌⊎◌, Bool, Option, List, [], All, Result, Err, MatchResult}
+use Rattle.std.specs.List.{AllZip}
+use Rattle.std.specs.Option.{option_map}
+use Rattle.std.specs.Io.KnownBytes.{Appends, Keeps}
+use Rattle.cspf_db.specs.Numbered.{NumberedChanges}
+use Rattle.cspf_rows.specs.declared.row.Row.{Row}
+use Rattle.cspf_rows.specs.declared.row_error.RowError.{RowError}
+use Rattle.cspf_rows.specs.Records.{rows_of}
+use Rattle.cspf_publish.specs.Histories.{BeginsWith}
+use Rattle.cspf_client.specs.declared.client.Client.{Client}
+use Rattle.cspf_client.specs.declared.client.ServedClient.{ServedClient}
+use Rattle.cspf_client.specs.declared.error.ClientError.TheVariants.{Ahead}
+use Rattle.cspf_client.specs.ServingStates.{ServingState, IsReady, reader_rows}
+use Rattle.cspf_client.specs.ClientRuns.{IsRun}
+use Rattle.cspf_stream.specs.RowAnswers.{AreAllAnswered}
+use Rattle.cspf_stream.specs.StreamStops.{IsStopped, IsLineStopped}
+use Rattle.cspf_stream.specs.declared.error.StreamError.{StreamError}
+use Rattle.cspf_stream.specs.declared.error.StreamError.TheVariants as error
+use Rattle.cspf_serve.specs.Script.{end_line}
+use Rattle.cspf_serve.specs.Updates.{UpdatesState, IsUpdateAnswered, IsUpdateLost, at_next_update, no_updates}
+use Rattle.cspf_serve.specs.declared.serving.run.Served.{Served}
+
+abbrev Rows : Type 0
+Rows = List (List (List ℕ))
+
+-- the row at this place, from 1, is answered
+abbrev pub IsUpdateAnsweredAt : ℕ → UpdatesState → Result Row RowError → List ℕ → UpdatesState → Type 0
+IsUpdateAnsweredAt place s row line t = (place ≡ s.run.rows + 1) × IsUpdateAnswered (at_next_update s) row line t
+
+-- memory is refused at the row at this place
+abbrev pub IsUpdateLostAt : ℕ → UpdatesState → Result Row RowError → UpdatesState → Type 0
+IsUpdateLostAt place s row t = (place ≡ s.run.rows + 1) × IsUpdateLost (at_next_update s) row t
+
+-- where the line of changes that are still open stops: memory for it is refused, or as any line does
+abbrev pub IsLastLineStopped : StreamError → List ℕ → Option (List ℕ) → Option (List ℕ) → Type 0
+IsLastLineStopped error.Memory line old new = Keeps old new
+IsLastLineStopped error.Read line old new = ⊥
+IsLastLineStopped error.Write line old new = IsLineStopped error.Write line old new
+IsLastLineStopped error.Flush line old new = IsLineStopped error.Flush line old new
+IsLastLineStopped error.TooManyRows line old new = ⊥
+
+-- the line of changes that are still open is said, where there are any, or stops
+abbrev pub IsLastLineSaid : Result (Unit {0}) StreamError → List ℕ → Option (List ℕ) → Option (List ℕ) → Type 0
+IsLastLineSaid said line old new =
+    MatchResult said (λ done. Appends old new line) (λ error. IsLastLineStopped error line old new)
+
+-- All rows of the updates are answered, and behind their lines this holds of the line of the changes
+-- that are still open, where there are any.
+pub record AreUpdatesAnswered (Last : List ℕ → Option (List ℕ) → Type 0) (all : Option Rows) (t : UpdatesState) (old : Option (List ℕ)) : Type 0 where
+  pub mid : Option (List ℕ)
+  pub answered : AreAllAnswered IsUpdateAnsweredAt all no_updates t old mid
+  pub last : Last (end_line t.run.changes) mid
+
+-- The updates stop: as any stream does, or in their last line.
+abbrev pub AreUpdatesStopped : StreamError → Option Rows → UpdatesState → Option (List ℕ) → Option (List ℕ) → Type 0
+AreUpdatesStopped error all t old new =
+    ((left : Option Rows) × (failed : Bool) × IsStopped IsUpdateAnsweredAt IsUpdateLostAt error all left failed no_updates t old new)
+    ⊎ AreUpdatesAnswered (λ line mid. IsLastLineStopped error line mid new) all t old
+
+-- what the updates are answered, from the first row on
+abbrev pub IsUpdatesRun : Result (Unit {0}) StreamError → Option Rows → UpdatesState → Option (List ℕ) → Option (List ℕ) → Type 0
+IsUpdatesRun ended all t old new =
+    MatchResult ended
+    (λ done. AreUpdatesAnswered (λ line mid. Appends mid new line) all t old)
+    (λ error. AreUpdatesStopped error all t old new)
+
+-- A client was run, from when nothing was read of its requests until it met what was published in the
+-- end: what it knew after its last row are first batches of these, so each of its replies is the best
+-- answer at a version that was published. One that knew more, which no run shows, ends as ahead.
+pub record IsServedClient {Q V : Type 0} (bytes : Q → Option (List ℕ)) (contents : V → Option (List ℕ)) (published : List NumberedChanges) (client : Client Q V) (served : ServedClient V) : Type 0 where
+  pub before : ServingState Q V
+  pub after : ServingState Q V
+  pub ready : IsReady before
+  pub requests : reader_rows bytes before.requests ≡ option_map rows_of (bytes client.requests)
+  pub empty : before.replies ≡ client.replies
+  pub run : IsRun bytes contents before after
+  pub replies : served.replies ≡ after.replies
+  pub refused : served.refused ≡ after.state.refused
+  pub end : ((served.end ≡ after.end) × BeginsWith published after.state.known.batches) ⊎ (served.end ≡ Err Ahead)
+
+-- no row and no batch was refused on any stream, and no change was left open
+pub record IsAllAccepted {V : Type 0} (t : UpdatesState) (clients : List (ServedClient V)) : Type 0 where
+  pub refused : t.run.refused ≡ 0
+  pub none_open : t.run.changes ≡ []
+  pub each : All (λ c. c.refused ≡ 0) clients
+
+-- 0 where all was accepted, and else 2
+abbrev pub IsServedStatus : {V : Type 0} → UpdatesState → List (ServedClient V) → ℕ → Type 0
+IsServedStatus t clients status =
+    (IsAllAccepted t clients × (status ≡ 0)) ⊎ ((¬ IsAllAccepted t clients) × (status ≡ 2))
+
+-- The updates make the published batches: they are those that their run accepted. The journal has grown
+-- by what that run wrote, and each client was answered from first ones of them.
+pub record IsServedRun {W J Q V : Type 0} (updates : Option (List ℕ)) (said : W → Option (List ℕ)) (recorded : J → Option (List ℕ)) (bytes : Q → Option (List ℕ)) (contents : V → Option (List ℕ)) (writer : W) (journal : J) (clients : List (Client Q V)) (served : Served W J V) : Type 0 where
+  pub state : UpdatesState
+  pub updates_run : IsUpdatesRun served.updates (option_map rows_of updates) state (said writer) (said served.said)
+  pub journal_grown : Appends (recorded journal) (recorded served.journal) state.text
+  pub clients_served : AllZip (IsServedClient bytes contents state.run.accepted) clients served.clients.items
+  pub status_is : IsServedStatus state served.clients.items served.status

@@ -1,0 +1,90 @@
+-- What a stream of updates is answered while clients ask: the script of its rows, but for what only a
+-- run with a journal has, and with no limit of its rows.
+use Rattle.std.specs.Prelude.{◌≡◌, ℕ, ◌<◌, ◌⊎◌, Bool, true, false, List, [], ◌++◌, take, length, Result, Ok, Err}
+use Rattle.cspf_publish.specs.declared.errors.ApplyError.{ApplyError}
+use Rattle.cspf_publish.specs.declared.errors.ApplyError.TheVariants as error
+use Rattle.cspf_rows.specs.BatchText.{batch_text}
+use Rattle.cspf_rows.specs.declared.row.Row.{Row}
+use Rattle.cspf_rows.specs.declared.row.Row.TheVariants as row
+use Rattle.cspf_rows.specs.declared.row_error.RowError.{RowError}
+use Rattle.cspf_serve.specs.LiveWords.{unpublished_line}
+use Rattle.cspf_serve.specs.Script.{RunState, start, at_next_row, after_refused_batch, open_batch, IsAccepted, IsEndAnswered, IsRowAnswered}
+
+-- what stands between two rows
+pub record UpdatesState : Type 0 where
+  -- what stands in a run of the same rows: its accepted batches are those that are published
+  pub run : RunState
+  -- a fault of the journal came before, and nothing is published any more
+  pub stopped : Bool
+  -- what was written to the journal
+  pub text : List ℕ
+
+-- before the first row
+abbrev pub no_updates : UpdatesState
+no_updates = record { run = start; stopped = false; text = [] }
+
+-- What a fault leaves of the journal: refused memory what it was, and a fault of its own a beginning of
+-- the batch's text more, with which it ends for good.
+abbrev pub IsLeftByFault : UpdatesState → ℕ → ApplyError → UpdatesState → Type 0
+IsLeftByFault s number error.Stopped t = ⊥
+IsLeftByFault s number error.Exhausted t = ⊥
+IsLeftByFault s number (error.WrongNumber expected) t = ⊥
+IsLeftByFault s number (error.Refused why) t = ⊥
+IsLeftByFault s number error.Memory t =
+    t ≡ record { run = after_refused_batch s.run; stopped = false; text = s.text }
+IsLeftByFault s number (error.Journal written) t =
+    (written < length (batch_text (open_batch s.run number)))
+    × (t ≡ record {
+      run = after_refused_batch s.run;
+      stopped = true;
+      text = s.text ++ take written (batch_text (open_batch s.run number));
+    })
+
+-- A batch that is accepted isn't published for a fault, which its line names.
+pub record IsUnpublished (s : UpdatesState) (number count : ℕ) (line : List ℕ) (t : UpdatesState) : Type 0 where
+  pub accepted : IsAccepted s.run number count
+  pub why : ApplyError
+  pub left : IsLeftByFault s number why t
+  pub line_is : line ≡ unpublished_line number why
+
+-- The end row is answered as in a script: the batch is refused, or it is published, and then its text
+-- is in the journal.
+pub record IsAsInScript (s : UpdatesState) (number count : ℕ) (line : List ℕ) (t : UpdatesState) : Type 0 where
+  pub answered : IsEndAnswered s.run number count line t.run
+  pub going : t.stopped ≡ false
+  pub published : IsAccepted s.run number count → t.text ≡ s.text ++ batch_text (open_batch s.run number)
+  pub refused : (IsAccepted s.run number count → ⊥) → t.text ≡ s.text
+
+-- Behind a fault of the journal each batch is refused.
+abbrev pub IsRefusedBehindFault : UpdatesState → ℕ → List ℕ → UpdatesState → Type 0
+IsRefusedBehindFault s number line t =
+    (line ≡ unpublished_line number error.Stopped)
+    × (t ≡ record { run = after_refused_batch s.run; stopped = true; text = s.text })
+
+-- an end row is answered
+abbrev pub IsEndUpdate : Bool → UpdatesState → ℕ → ℕ → List ℕ → UpdatesState → Type 0
+IsEndUpdate true s number count line t = IsRefusedBehindFault s number line t
+IsEndUpdate false s number count line t = IsAsInScript s number count line t ⊎ IsUnpublished s number count line t
+
+-- any other row is answered as in a script
+pub record IsOtherUpdate (s : UpdatesState) (r : Result Row RowError) (line : List ℕ) (t : UpdatesState) : Type 0 where
+  pub answered : IsRowAnswered s.run r line t.run
+  pub same : t ≡ record { run = t.run; stopped = s.stopped; text = s.text }
+
+-- one more row is read
+abbrev pub at_next_update : UpdatesState → UpdatesState
+at_next_update s = record s { run = at_next_row s.run }
+
+-- the line that the row with the number `s.run.rows` is answered, and the state after it
+abbrev pub IsUpdateAnswered : UpdatesState → Result Row RowError → List ℕ → UpdatesState → Type 0
+IsUpdateAnswered s (Err why) line t = IsOtherUpdate s (Err why) line t
+IsUpdateAnswered s (Ok (row.Put link)) line t = IsOtherUpdate s (Ok (row.Put link)) line t
+IsUpdateAnswered s (Ok (row.Remove from local)) line t = IsOtherUpdate s (Ok (row.Remove from local)) line t
+IsUpdateAnswered s (Ok (row.Node router transit)) line t = IsOtherUpdate s (Ok (row.Node router transit)) line t
+IsUpdateAnswered s (Ok (row.End number count)) line t = IsEndUpdate s.stopped s number count line t
+IsUpdateAnswered s (Ok (row.Ask q)) line t = IsOtherUpdate s (Ok (row.Ask q)) line t
+
+-- Memory is refused at a row: nothing is published without its line. Else nothing is changed, or what a
+-- line would have told that isn't written: that changes are dropped, or a fault of the journal.
+abbrev pub IsUpdateLost : UpdatesState → Result Row RowError → UpdatesState → Type 0
+IsUpdateLost s row t = (t ≡ s) ⊎ ((line : List ℕ) × IsUpdateAnswered s row line t × (t.run.accepted ≡ s.run.accepted))

@@ -1,0 +1,125 @@
+-- Batches that are full but for the last, and how many they are.
+use Rattle.std.proofs.Common.{◌≡◌, ◌≢◌, ℕ, ◌+◌, ◌*◌, ◌<◌, ◌≤◌, ◌==◌, false, min, List, [], ◌∷◌, ◌++◌, length, take, drop, sym, ap, ◌∙◌, arith, length-append, length-take, length-drop, append_assoc}
+use Rattle.std.specs.List.{AllByRecursion}
+use Rattle.std.proofs.lemmas.List.{append-nil, take-append-drop}
+use Rattle.cspf_db.specs.declared.batch.Change.{Change}
+use Rattle.cspf_db.specs.declared.limits.TheConstants.{MOST_CHANGES}
+use Rattle.cspf_db.specs.Numbered.{NumberedChanges}
+use Rattle.cspf_db.specs.Changes.{changes_of}
+use Rattle.cspf_rows.specs.Journal.{AreNumberedFrom}
+use Rattle.cspf_snapshot.specs.Snapshots.{AreFullButLast}
+
+-- each batch has 4,096 changes
+abbrev pub AreFull : List NumberedChanges → Type 0
+AreFull batches = AllByRecursion (λ b. length b.changes ≡ MOST_CHANGES) batches
+
+-- each batch has at most 4,096 changes
+abbrev pub AreShort : List NumberedChanges → Type 0
+AreShort batches = AllByRecursion (λ b. length b.changes ≤ MOST_CHANGES) batches
+
+-- the changes of one batch more
+pub changes_of-push : (batches : List NumberedChanges) (b : NumberedChanges)
+    → changes_of (batches ++ b ∷ []) ≡ changes_of batches ++ b.changes
+changes_of-push [] b = append-nil b.changes
+changes_of-push (a ∷ batches) b =
+    ap (λ cs. a.changes ++ cs) (changes_of-push batches b)
+    ∙ sym (append_assoc a.changes (changes_of batches) b.changes)
+
+-- one batch more has the next number
+pub numbered_push : (first : ℕ) (batches : List NumberedChanges) (b : NumberedChanges)
+    → AreNumberedFrom first batches → b.number ≡ first + length batches
+    → AreNumberedFrom first (batches ++ b ∷ [])
+numbered_push first [] b numbers next = (omega (arith, next), tt)
+numbered_push first (a ∷ batches) b numbers next =
+    (numbers.0, numbered_push (first + 1) batches b numbers.1 (omega (arith, next)))
+
+-- one full batch more
+pub full_push : (batches : List NumberedChanges) (b : NumberedChanges) → AreFull batches
+    → length b.changes ≡ MOST_CHANGES → AreFull (batches ++ b ∷ [])
+full_push [] b full more = (more, tt)
+full_push (a ∷ batches) b full more = (full.0, full_push batches b full.1 more)
+
+-- behind full batches one that may be shorter is the last
+pub full_but_last_push : (batches : List NumberedChanges) (b : NumberedChanges) → AreFull batches
+    → 0 < length b.changes → length b.changes ≤ MOST_CHANGES → AreFullButLast (batches ++ b ∷ [])
+full_but_last_push [] b full some short = (some, short)
+full_but_last_push (a ∷ []) b full some short = (full.0, (some, short))
+full_but_last_push (a ∷ c ∷ batches) b full some short =
+    (full.0, full_but_last_push (c ∷ batches) b full.1 some short)
+
+-- no batch has too many changes
+pub short_each : (batches : List NumberedChanges) → AreFullButLast batches → AreShort batches
+short_each [] full = tt
+short_each (b ∷ []) full = (full.1, tt)
+short_each (b ∷ c ∷ batches) full = (omega (arith, full.0), short_each (c ∷ batches) full.1)
+
+-- full batches have 4,096 changes each
+pub length-changes_of-full : (batches : List NumberedChanges) → AreFull batches
+    → length (changes_of batches) ≡ length batches * 4096
+length-changes_of-full [] full = omega arith
+length-changes_of-full (b ∷ batches) full =
+    omega (arith, length-append b.changes (changes_of batches), full.0, length-changes_of-full batches full.1)
+
+-- all but the last have 4,096 changes, and the last has one
+pub length-changes_of-lt : (batches : List NumberedChanges) → AreFullButLast batches
+    → length batches * 4096 < length (changes_of batches) + 4096
+length-changes_of-lt [] full = omega arith
+length-changes_of-lt (b ∷ []) full =
+    omega (arith, length-append b.changes [], full.0)
+length-changes_of-lt (b ∷ c ∷ batches) full =
+    omega (arith, length-append b.changes (changes_of (c ∷ batches)), full.0, length-changes_of-lt (c ∷ batches) full.1)
+
+-- changes that aren't none
+module _ (rest : List Change) (is_some : false ≡ (length rest == 0)) where
+  -- there is one at least
+  some_left : 0 < length rest
+  some_left = some rest is_some
+    where
+      some : (cs : List Change) → false ≡ (length cs == 0) → 0 < length cs
+      some [] none = absurd (cc)
+      some (c ∷ cs) any = omega arith
+
+  -- they aren't the empty list
+  not_empty : rest ≢ []
+  not_empty none =
+      let zero_left : length rest ≡ 0 = ap length none in omega (arith, zero_left, some_left)
+
+-- One more batch is cut off changes: the first of those that are left.
+module _ (changes : List Change) (batches : List NumberedChanges) (rest : List Change) (all : changes_of batches ++ rest ≡ changes) (whole : rest ≢ [] → AreFull batches) (is_some : false ≡ (length rest == 0)) where
+  -- the batches so far are full, and few
+  pub few_so_far : length batches * 4096 < length changes
+  few_so_far =
+      omega (arith, ap length all, length-append (changes_of batches) rest, length-changes_of-full batches (whole (not_empty rest is_some)), some_left rest is_some)
+
+  module _ (b : NumberedChanges) (behind : List Change) (front : b.changes ≡ take (min (length rest) 4096) rest) (back : behind ≡ drop (min (length rest) 4096) rest) where
+    -- as many changes as there are, and no more than 4,096
+    size : length b.changes ≡ min (length rest) 4096
+    size = omega (arith, ap length front, length-take (min (length rest) 4096) rest)
+
+    -- no change is left out
+    pub all_next : changes_of (batches ++ b ∷ []) ++ behind ≡ changes
+    all_next =
+        ap (λ cs. cs ++ behind) (changes_of-push batches b)
+        ∙ append_assoc (changes_of batches) b.changes behind
+        ∙ (λ i. changes_of batches ++ (front i ++ back i))
+        ∙ ap (λ cs. changes_of batches ++ cs) (take-append-drop (min (length rest) 4096) rest)
+        ∙ all
+
+    -- the batch has a change at least, and no more than 4,096
+    pub full_next : AreFullButLast (batches ++ b ∷ [])
+    full_next =
+        full_but_last_push batches b (whole (not_empty rest is_some))
+        (omega (arith, size, some_left rest is_some)) (omega (arith, size))
+
+    -- where changes are left it is full
+    pub whole_next : behind ≢ [] → AreFull (batches ++ b ∷ [])
+    whole_next more =
+        full_push batches b (whole (not_empty rest is_some))
+        (at_most_all (length rest) (length b.changes) size (λ short. more (none_left behind (omega (arith, ap length back, length-drop (min (length rest) 4096) rest, short)))))
+      where
+        none_left : (cs : List Change) → length cs ≡ 0 → cs ≡ []
+        none_left [] e = λ i. []
+        none_left (c ∷ cs) e = let no : ⊥ = omega (arith, e) in absurd no
+
+        at_most_all : (n size : ℕ) → size ≡ min n 4096 → (n ≤ 4096 → ⊥) → size ≡ MOST_CHANGES
+        at_most_all n size is more = omega (arith, is, more)

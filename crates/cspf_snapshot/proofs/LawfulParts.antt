@@ -1,0 +1,121 @@
+-- Batches of a database's own changes fit.
+use Rattle.std.proofs.Common.{◌≡◌, ℕ, suc, ◌+◌, ◌≤◌, Bool, true, false, cond, List, [], ◌∷◌, ◌++◌, length, map, sym, ap, ◌∙◌, arith}
+use Rattle.std.specs.Ordering.{nat_cmp, eq_by_cmp}
+use Rattle.std.specs.Cmp.{nat_cmp_total}
+use Rattle.std.specs.List.{AllByRecursion, IsDistinct}
+use Rattle.std.specs.FinSet as set
+use Rattle.std.proofs.lemmas.List.Elements.{All-from_recursion}
+use Rattle.cspf_db.specs.declared.batch.Change.{Change}
+use Rattle.cspf_db.specs.declared.batch.Change.TheVariants.{Put, Remove, Node}
+use Rattle.cspf_db.specs.declared.limits.TheConstants.{MOST_CHANGES, MOST_LINKS, MOST_ROUTERS, MOST_MARKS}
+use Rattle.cspf_db.specs.Numbered.{NumberedChanges}
+use Rattle.cspf_db.specs.Database.{Database, AreAtTheirKeys, link_count, router_count, mark_count}
+use Rattle.cspf_db.specs.Changes.{ChangeKey, change_key_cmp, key_changed, changes_of, after_changes, IsPresent, Fits, AreLawfulAfter}
+use Rattle.cspf_db.specs.Laws.{RoutersAreCounted}
+use Rattle.cspf_snapshot.proofs.FullBatches.{AreShort}
+use Rattle.cspf_snapshot.proofs.Parts.{IsPartOf, IsOwnChange, AreOwnChanges, part_after, after_changes-append, link_count-le, mark_count-le}
+use Rattle.cspf_snapshot.proofs.RouterCounts.{router_count-le}
+
+-- of a list and another behind it, all of the first
+all_front : {X : Type 0} (P : X → Type 0) (xs ys : List X) → AllByRecursion P (xs ++ ys)
+    → AllByRecursion P xs
+all_front P [] ys all = tt
+all_front P (x ∷ xs) ys all = (all.0, all_front P xs ys all.1)
+
+-- and all of the second
+all_back : {X : Type 0} (P : X → Type 0) (xs ys : List X) → AllByRecursion P (xs ++ ys)
+    → AllByRecursion P ys
+all_back P [] ys all = all
+all_back P (x ∷ xs) ys all = all_back P xs ys all.1
+
+-- changes on keys of their own
+abbrev HaveOwnChangeKeys : List Change → Type 0
+HaveOwnChangeKeys cs = IsDistinct (eq_by_cmp change_key_cmp) (map key_changed cs)
+
+-- what holds of the keys of all changes holds of the first ones'
+keys_front : (P : ChangeKey → Type 0) (bs cs : List Change)
+    → AllByRecursion P (map key_changed (bs ++ cs)) → AllByRecursion P (map key_changed bs)
+keys_front P [] cs all = tt
+keys_front P (b ∷ bs) cs all = (all.0, keys_front P bs cs all.1)
+
+-- the first changes are on keys of their own
+own_front : (bs cs : List Change) → HaveOwnChangeKeys (bs ++ cs) → HaveOwnChangeKeys bs
+unfolding IsDistinct
+own_front [] cs own = tt
+own_front (b ∷ bs) cs own =
+    (keys_front (λ k. eq_by_cmp change_key_cmp (key_changed b) k ≡ false) bs cs own.0, own_front bs cs own.1)
+
+-- and the others
+own_back : (bs cs : List Change) → HaveOwnChangeKeys (bs ++ cs) → HaveOwnChangeKeys cs
+unfolding IsDistinct
+own_back [] cs own = own
+own_back (b ∷ bs) cs own = own_back bs cs own.1
+
+-- own changes remove nothing
+all_present : (e d : Database) (cs : List Change) → AreOwnChanges d cs
+    → AllByRecursion (IsPresent e) cs
+all_present e d [] own = tt
+all_present e d (Put l ∷ cs) own = (tt, all_present e d cs own.1)
+all_present e d (Remove from local ∷ cs) own = absurd own.0
+all_present e d (Node router transit ∷ cs) own = (tt, all_present e d cs own.1)
+
+-- a set of a list has no more numbers than the list
+pub len-from_list-le : (ns : List ℕ) → set.len (set.from_list {R = nat_cmp} ns) ≤ length ns
+len-from_list-le [] = omega (arith, set.len-empty nat_cmp)
+len-from_list-le (n ∷ ns) =
+    at_most_one_more (set.contains (set.from_list {R = nat_cmp} ns) n) (set.len (set.from_list {R = nat_cmp} ns)) (set.len (set.from_list {R = nat_cmp} (n ∷ ns)))
+    (set.len-insert nat_cmp_total (set.from_list {R = nat_cmp} ns) n) (length ns) (len-from_list-le ns)
+  where
+    at_most_one_more : (b : Bool) (n m : ℕ) → m ≡ cond b n (n + 1) → (most : ℕ) → n ≤ most → m ≤ suc most
+    at_most_one_more true n m e most le = omega (arith, e, le)
+    at_most_one_more false n m e most le = omega (arith, e, le)
+
+-- A database that fits a table.
+pub record IsSmall (d : Database) : Type 0 where
+  pub keyed : AreAtTheirKeys d
+  pub links : link_count d ≤ MOST_LINKS
+  pub routers : router_count d ≤ MOST_ROUTERS
+  pub marks : mark_count d ≤ MOST_MARKS
+
+-- Behind the first of own changes a part of the database is still a part, and not larger.
+module _ (counted : RoutersAreCounted) (d : Database) (small : IsSmall d) (e : Database) (b : NumberedChanges) (cs : List Change) (part : IsPartOf e d) (own : AreOwnChanges d (b.changes ++ cs)) (made : after_changes e (b.changes ++ cs) ≡ d) where
+  -- what the first changes make
+  abbrev next : Database
+  next = after_changes e b.changes
+
+  -- the others make the database of it
+  made_next : after_changes next cs ≡ d
+  made_next = sym (after_changes-append e b.changes cs) ∙ made
+
+  -- the first are own changes
+  own_first : AreOwnChanges d b.changes
+  own_first = all_front (IsOwnChange d) b.changes cs own
+
+  -- the others are
+  own_others : AreOwnChanges d cs
+  own_others = all_back (IsOwnChange d) b.changes cs own
+
+  -- what they make is a part
+  part_then : IsPartOf next d
+  part_then = part_after e d b.changes part own_first
+
+  -- the batch fits
+  first_fits : HaveOwnChangeKeys (b.changes ++ cs) → length b.changes ≤ MOST_CHANGES → Fits e b
+  first_fits keys short = record {
+    short = short;
+    once = own_front b.changes cs keys;
+    present = All-from_recursion (IsPresent e) b.changes (all_present e d b.changes own_first);
+    links = omega (arith, link_count-le next d cs own_others, ap link_count made_next, small.links);
+    routers = omega (arith, router_count-le counted next d part_then small.keyed, small.routers);
+    marks = omega (arith, mark_count-le next d cs own_others, ap mark_count made_next, small.marks);
+  }
+
+-- own changes in short batches that make the database are lawful
+pub lawful_after : RoutersAreCounted → (d : Database) → IsSmall d → (e : Database) (bs : List NumberedChanges)
+    → IsPartOf e d → AreOwnChanges d (changes_of bs) → HaveOwnChangeKeys (changes_of bs)
+    → AreShort bs → after_changes e (changes_of bs) ≡ d → AreLawfulAfter e bs
+lawful_after counted d small e [] part own keys short made = tt
+lawful_after counted d small e (b ∷ bs) part own keys short made = (
+  first_fits counted d small e b (changes_of bs) part own made keys short.0,
+  lawful_after counted d small (after_changes e b.changes) bs (part_then counted d small e b (changes_of bs) part own made) (own_others counted d small e b (changes_of bs) part own made) (own_back b.changes (changes_of bs) keys) short.1 (made_next counted d small e b (changes_of bs) part own made),
+)

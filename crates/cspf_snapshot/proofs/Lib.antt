@@ -1,0 +1,11 @@
+pub mod FirstUnfit
+pub mod FullBatches
+pub mod KeyOrder
+pub mod Parts
+pub mod RouterCounts
+pub mod OwnChanges
+pub mod MadeDatabase
+pub mod LawfulParts
+pub mod SnapshotMade
+pub mod RisingLists
+pub mod OneSnapshot

@@ -1,0 +1,131 @@
+-- What changes that are part of a database's own make of a part of it.
+use Rattle.std.proofs.Common.{◌≡◌, ℕ, ◌+◌, ◌≤◌, Bool, true, false, cond, Option, Some, None, is_some, List, [], ◌∷◌, ◌++◌, sym, ap, refl, ◌∙◌, arith}
+use Rattle.std.specs.Ordering.{eq_by_cmp}
+use Rattle.std.specs.Cmp.{nat_cmp_total}
+use Rattle.std.specs.List.{AllByRecursion}
+use Rattle.std.specs.FinMap as map
+use Rattle.std.specs.FinSet as set
+use Rattle.cspf_db.specs.declared.link.Link.{Link}
+use Rattle.cspf_db.specs.declared.batch.Change.{Change}
+use Rattle.cspf_db.specs.declared.batch.Change.TheVariants.{Put, Remove, Node}
+use Rattle.cspf_db.specs.Database.{Database, Key, key_of, key_cmp, link_at, IsLinkOf, AreAtTheirKeys, link_count, mark_count}
+use Rattle.cspf_db.specs.Changes.{no_links, marks_after, after_change, after_changes}
+use Rattle.cspf_snapshot.proofs.KeyOrder.{keys_total, keys_same, key_itself}
+
+-- each link of one database is at the same key of the other
+abbrev pub IsPartOf : Database → Database → Type 0
+IsPartOf e d = (k : Key) (l : Link) → link_at e k ≡ Some l → link_at d k ≡ Some l
+
+-- a change puts a link of the database, or marks a router
+abbrev pub IsOwnChange : Database → Change → Type 0
+IsOwnChange d (Put l) = IsLinkOf d l
+IsOwnChange d (Remove from local) = ⊥
+IsOwnChange d (Node router transit) = transit ≡ false
+
+-- each of the changes does
+abbrev pub AreOwnChanges : Database → List Change → Type 0
+AreOwnChanges d cs = AllByRecursion (IsOwnChange d) cs
+
+-- some changes, then others
+pub after_changes-append : (d : Database) (bs cs : List Change)
+    → after_changes d (bs ++ cs) ≡ after_changes (after_changes d bs) cs
+after_changes-append d [] cs = refl
+after_changes-append d (b ∷ bs) cs = after_changes-append (after_change d b) bs cs
+
+-- no link is a part of any database
+pub none_is_part : (d : Database) → IsPartOf no_links d
+none_is_part d k l is = absurd (none_some (sym (map.get-empty key_cmp k) ∙ is))
+  where
+    none_some : ◌≡◌ {A = Option Link} None (Some l) → ⊥
+    none_some e = cc
+
+-- a part of a database has its links at their keys
+pub part_at_keys : (e d : Database) → IsPartOf e d → AreAtTheirKeys d → AreAtTheirKeys e
+part_at_keys e d part keyed k l is = keyed k l (part k l is)
+
+-- a part is still one behind one of the database's own changes
+part_next : (e d : Database) (c : Change) → IsPartOf e d → IsOwnChange d c
+    → IsPartOf (after_change e c) d
+part_next e d (Put l) part own k m is =
+    elim (eq_by_cmp key_cmp k (key_of l)) as (λ t. eq_by_cmp key_cmp k (key_of l) ≡ t → cond t (Some l) (link_at e k) ≡ Some m → link_at d k ≡ Some m) [
+      | true ↦ λ tie here. ap (link_at d) (keys_same k (key_of l) tie) ∙ own ∙ here
+      | false ↦ λ _ there. part k m there
+    ] refl (sym (map.get-insert keys_total e.links (key_of l) l k) ∙ is)
+part_next e d (Remove from local) part own k m is = absurd own
+part_next e d (Node router transit) part own k m is = part k m is
+
+-- and behind all of them
+pub part_after : (e d : Database) (cs : List Change) → IsPartOf e d → AreOwnChanges d cs
+    → IsPartOf (after_changes e cs) d
+part_after e d [] part own = part
+part_after e d (c ∷ cs) part own =
+    part_after (after_change e c) d cs (part_next e d c part own.0) own.1
+
+-- to add an entry takes none away
+least_of : (b : Bool) (n m : ℕ) → m ≡ cond b n (n + 1) → n ≤ m
+least_of true n m e = omega (arith, e)
+least_of false n m e = omega (arith, e)
+
+-- an own change takes no link away
+link_count_next : (e d : Database) (c : Change) → IsOwnChange d c
+    → link_count e ≤ link_count (after_change e c)
+link_count_next e d (Put l) own =
+    least_of (map.contains_key e.links (key_of l)) (link_count e) (link_count (after_change e (Put l)))
+    (map.len-insert keys_total e.links (key_of l) l)
+link_count_next e d (Remove from local) own = absurd own
+link_count_next e d (Node router transit) own = omega arith
+
+-- and no mark
+mark_count_next : (e d : Database) (c : Change) → IsOwnChange d c
+    → mark_count e ≤ mark_count (after_change e c)
+mark_count_next e d (Put l) own = omega arith
+mark_count_next e d (Remove from local) own = absurd own
+mark_count_next e d (Node router transit) own = marked transit own
+  where
+    marked : (transit : Bool) → transit ≡ false
+        → set.len e.marks ≤ set.len (marks_after e.marks router transit)
+    marked true on = absurd (cc)
+    marked false off =
+        least_of (set.contains e.marks router) (set.len e.marks) (set.len (set.insert e.marks router))
+        (set.len-insert nat_cmp_total e.marks router)
+
+-- own changes take no link away
+pub link_count-le : (e d : Database) (cs : List Change) → AreOwnChanges d cs
+    → link_count e ≤ link_count (after_changes e cs)
+link_count-le e d [] own = omega arith
+link_count-le e d (c ∷ cs) own =
+    omega (arith, link_count_next e d c own.0, link_count-le (after_change e c) d cs own.1)
+
+-- and no mark
+pub mark_count-le : (e d : Database) (cs : List Change) → AreOwnChanges d cs
+    → mark_count e ≤ mark_count (after_changes e cs)
+mark_count-le e d [] own = omega arith
+mark_count-le e d (c ∷ cs) own =
+    omega (arith, mark_count_next e d c own.0, mark_count-le (after_change e c) d cs own.1)
+
+-- a key with a link has one behind an own change
+has_link_next : (e d : Database) (c : Change) (k : Key) → IsOwnChange d c
+    → is_some (link_at e k) ≡ true → is_some (link_at (after_change e c) k) ≡ true
+has_link_next e d (Put l) k own there =
+    ap is_some (map.get-insert keys_total e.links (key_of l) l k)
+    ∙ either (eq_by_cmp key_cmp k (key_of l))
+  where
+    either : (b : Bool) → is_some (cond b (Some l) (link_at e k)) ≡ true
+    either true = refl
+    either false = there
+has_link_next e d (Remove from local) k own there = absurd own
+has_link_next e d (Node router transit) k own there = there
+
+-- and behind all of them
+pub has_link_after : (e d : Database) (cs : List Change) (k : Key) → AreOwnChanges d cs
+    → is_some (link_at e k) ≡ true → is_some (link_at (after_changes e cs) k) ≡ true
+has_link_after e d [] k own there = there
+has_link_after e d (c ∷ cs) k own there =
+    has_link_after (after_change e c) d cs k own.1 (has_link_next e d c k own.0 there)
+
+-- a link that is put is there
+pub has_link_put : (e : Database) (l : Link)
+    → is_some (link_at (after_change e (Put l)) (key_of l)) ≡ true
+has_link_put e l =
+    ap is_some (map.get-insert keys_total e.links (key_of l) l (key_of l))
+    ∙ ap (λ b. is_some (cond b (Some l) (link_at e (key_of l)))) (key_itself (key_of l))

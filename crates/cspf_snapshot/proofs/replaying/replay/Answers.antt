@@ -1,0 +1,11 @@
+use Rattle.std.proofs.Common.{ap, subst}
+use Rattle.cspf_db.specs.Numbered.{NumberedChanges}
+use Rattle.cspf_db.specs.Refusals.{IsRefusal}
+use Rattle.cspf_snapshot.proofs.FirstUnfit.{first_unfit}
+use Rattle.cspf_snapshot.proofs.replaying.replay.Goals as goal
+
+pub returns-in-Err-clause-err : goal.returns-in-Err-clause-err
+returns-in-Err-clause-err c =
+    let b = c.batch-item.result in
+    first_unfit c.args.batches.now c.loop-batch.batch-index b c.loop-batch-test.true c.batch-item.is c.batch.inside.number c.in-Err.refusal (ap (λ (n : NumberedChanges). n.number) c.batch.view_is) c.loop-batch.invariant.lawful
+    (subst (λ d. IsRefusal d b c.in-Err.refusal) c.loop-batch.invariant.table c.in-Err.ensures.err)

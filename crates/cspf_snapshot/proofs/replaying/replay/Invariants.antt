@@ -1,0 +1,9 @@
+use Rattle.std.proofs.Common.{◌≡◌, take}
+use Rattle.cspf_db.specs.Changes.{AreLawful, database_after}
+use Rattle.cspf_snapshot.proofs.replaying.replay.Given as goal
+
+abbrev pub invariant-loop-batch : goal.invariant-loop-batch
+invariant-loop-batch l = record {
+  table : l.table ≡ database_after (take l.batch-index l.batches);
+  lawful : AreLawful (take l.batch-index l.batches);
+}

@@ -1,0 +1,11 @@
+-- Laws of the batches that make a database.
+use Rattle.std.specs.Prelude.{◌≡◌, List}
+use Rattle.cspf_db.specs.Numbered.{NumberedChanges}
+use Rattle.cspf_db.specs.Database.{Database}
+use Rattle.cspf_snapshot.specs.Snapshots.{IsSnapshot}
+
+-- a database has one snapshot at most
+abbrev pub OneSnapshot : Type 0
+OneSnapshot =
+    (d : Database) (batches others : List NumberedChanges)
+    → IsSnapshot d batches → IsSnapshot d others → batches ≡ others

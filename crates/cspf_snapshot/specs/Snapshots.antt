@@ -1,0 +1,46 @@
+-- The batches that make a database from nothing.
+use Rattle.std.specs.Prelude.{◌≡◌, ◌<◌, ◌≤◌, ℕ, false, List, [], ◌∷◌, ◌++◌, length, map}
+use Rattle.std.specs.List.Sorted.{IsStrictlyIncreasing}
+use Rattle.std.specs.FinSet as set
+use Rattle.cspf_db.specs.declared.link.Link.{Link}
+use Rattle.cspf_db.specs.declared.batch.Change.{Change}
+use Rattle.cspf_db.specs.declared.batch.Change.TheVariants.{Put, Node}
+use Rattle.cspf_db.specs.declared.limits.TheConstants.{MOST_CHANGES}
+use Rattle.cspf_db.specs.Numbered.{NumberedChanges}
+use Rattle.cspf_db.specs.Database.{Database}
+use Rattle.cspf_db.specs.Index.{links_of}
+use Rattle.cspf_db.specs.Changes.{changes_of, database_after, AreLawful}
+use Rattle.cspf_rows.specs.Journal.{AreNumberedFrom}
+use Rattle.cspf_snapshot.specs.declared.limits.TheConstants.{MOST_SNAPSHOT_BATCHES}
+
+-- the addresses that the database has marked, each once, rising
+pub record AreMarksOf (d : Database) (marks : List ℕ) : Type 0 where
+  pub all : d.marks ≡ set.from_list marks
+  pub rising : IsStrictlyIncreasing marks
+
+-- the change that marks a router as one without transit
+abbrev pub marking : ℕ → Change
+marking router = Node router false
+
+-- a put of each link, and then a change that marks each of the routers
+abbrev pub changes_making : List Link → List ℕ → List Change
+changes_making links marks = map Put links ++ map marking marks
+
+-- Each batch but the last has 4,096 changes, and the last has one at least and 4,096 at most.
+abbrev pub AreFullButLast : List NumberedChanges → Type 0
+AreFullButLast [] = Unit {0}
+AreFullButLast (b ∷ []) = (0 < length b.changes) × (length b.changes ≤ MOST_CHANGES)
+AreFullButLast (b ∷ c ∷ bs) = (length b.changes ≡ MOST_CHANGES) × AreFullButLast (c ∷ bs)
+
+-- The batches put the links of the database, in order of their keys, and then mark its marked
+-- routers, rising. They are numbered from 1 on, full but for the last, and at most 5. Each fits the
+-- database of those before it, and the last leaves the database.
+pub record IsSnapshot (d : Database) (batches : List NumberedChanges) : Type 0 where
+  pub marks : List ℕ
+  pub are_marks : AreMarksOf d marks
+  pub changes : changes_of batches ≡ changes_making (links_of d) marks
+  pub full : AreFullButLast batches
+  pub numbers : AreNumberedFrom 1 batches
+  pub few : length batches ≤ MOST_SNAPSHOT_BATCHES
+  pub lawful : AreLawful batches
+  pub database : database_after batches ≡ d

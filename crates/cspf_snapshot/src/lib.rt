@@ -1,0 +1,22 @@
+//! Between a table and batches: the few batches that make a table's database from nothing, and the
+//! table after the batches of a journal.
+//!
+//! `specs/Snapshots.antt` defines the batches that make a database, `specs/SnapshotLaws.antt` says
+//! that there is one list of them, and `specs/Replays.antt` why batches aren't replayed.
+#![tactic(auto)]
+
+mod cutting;
+mod laws;
+mod limits;
+mod making;
+mod replay_error;
+mod replaying;
+
+pub use laws::one_snapshot;
+pub use limits::MOST_SNAPSHOT_BATCHES;
+pub use making::snapshot;
+pub use replay_error::ReplayError;
+pub use replaying::replay;
+
+#[cfg(test)]
+mod tests;

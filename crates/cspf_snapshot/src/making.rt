@@ -1,0 +1,35 @@
+ghost use Rattle.std.specs.Prelude.{◌≡◌, IfOk};
+ghost use Rattle.cspf_snapshot.specs.Snapshots.{IsSnapshot, changes_making};
+
+use crate::cutting::cut_into_batches;
+use cspf_addr::Addr;
+use cspf_db::{Batch, Change, Link, Table, counted_routers};
+use std::alloc::{AllocError, Global};
+
+/// The batches that make the database of the table from nothing, numbered from 1 on: a put of each
+/// link, in order of the router that it runs from and then of its address there, and then, rising,
+/// a change for each Router ID that is marked as without transit. Each batch but the last has
+/// `MOST_CHANGES` changes, and an empty table has no batch.
+pub fn snapshot(alloc: Global, table: &Table) -> Result<Vec<Batch>, AllocError>
+    ensures { IfOk result (λ batches. IsSnapshot table.now batches.items) }
+{
+    // Law: the routers that are counted are those of the database.
+    counted_routers();
+    let changes = list_changes(alloc, table.links(), table.marks())?;
+    cut_into_batches(alloc, &changes)
+}
+
+/// A put of each link, and then a change that marks each of these as without transit.
+fn list_changes(alloc: Global, links: &[Link], marks: &[Addr]) -> Result<Vec<Change>, AllocError>
+    ensures { IfOk result (λ changes. changes.items ≡ changes_making links.now marks.now) }
+{
+    let mut changes = Vec::with_capacity(alloc, links.len() + marks.len())?;
+    for link in links {
+        changes.push(Change::Put(*link))?;
+    }
+    for mark in marks {
+        let (router, transit) = (*mark, false);
+        changes.push(Change::Node { router, transit })?;
+    }
+    Ok(changes)
+}

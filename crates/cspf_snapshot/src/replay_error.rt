@@ -1,0 +1,30 @@
+ghost use Rattle.std.specs.Prelude.{◌≡◌};
+ghost use Rattle.cspf_snapshot.specs.declared.replay_error.ReplayError.TheVariants as replay_error;
+
+use cspf_db::Refusal;
+use std::alloc::AllocError;
+use thiserror::Error;
+
+/// Why batches aren't replayed.
+#[derive(Clone, Copy, Debug, PartialEq, Eq, Error)]
+pub enum ReplayError {
+    /// Memory was refused.
+    #[error("out of memory")]
+    Memory,
+    /// A batch doesn't fit the database of those before it, each of which fits.
+    #[error("batch {number}: {refusal}")]
+    Refused {
+        /// Its number.
+        number: u32,
+        /// Why it doesn't fit.
+        refusal: Refusal,
+    },
+}
+
+impl From<AllocError> for ReplayError {
+    ghost from_gives = { λ _ error. error ≡ replay_error.Memory };
+
+    fn from(_refused: AllocError) -> ReplayError {
+        ReplayError::Memory
+    }
+}

@@ -1,0 +1,50 @@
+//! Changes, and tables that are made by them.
+
+use cspf_addr::{Addr, Mask};
+use cspf_db::{Batch, Change, Link, LinkError, MOST_CHANGES, Table};
+use std::alloc::{AllocError, Global};
+use std::process::Abort;
+
+/// A put of the link from a router by an interface there to another.
+pub(crate) fn put(from: u32, local: u32, to: u32) -> Result<Change, LinkError> {
+    Ok(Change::Put(Link::new(
+        Addr::new(from),
+        Addr::new(local),
+        Addr::new(to),
+        Addr::new(local),
+        10,
+        Mask::new(1),
+        [1000; 8],
+    )?))
+}
+
+/// A change that says whether a router has transit.
+pub(crate) fn node(router: u32, transit: bool) -> Change {
+    Change::Node {
+        router: Addr::new(router),
+        transit,
+    }
+}
+
+/// A batch of these changes.
+pub(crate) fn batch(alloc: Global, number: u32, changes: &[Change]) -> Result<Batch, AllocError> {
+    Ok(Batch {
+        number,
+        changes: Vec::from_slice(alloc, changes)?,
+    })
+}
+
+/// The table after these changes, which fit.
+pub(crate) fn table_of(
+    rt: &impl Abort,
+    alloc: Global,
+    changes: &[Change],
+) -> Result<Table, AllocError> {
+    let mut table = Table::new(alloc)?;
+    for part in changes.chunks(MOST_CHANGES) {
+        let batch = batch(alloc, 7, part)?;
+        assert_eq!(rt; table.check(&batch), Ok(()));
+        table.absorb(&batch);
+    }
+    Ok(table)
+}

@@ -1,0 +1,6 @@
+use Rattle.std.proofs.Common.{◌≡◌, vec_len}
+use Rattle.routed.proofs.serving.open_clients.Given as goal
+
+-- so many clients' files are open
+abbrev pub invariant-loop-client : goal.invariant-loop-client
+invariant-loop-client l = vec_len l.clients ≡ l.client-index
