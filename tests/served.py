@@ -48,6 +48,8 @@ def served(program, checks):
         silent(program, checks, folder("silent"), versions)
         limited(program, checks, folder("limited"), versions)
         devices(program, checks, folder("devices"))
+        closed(program, checks, folder("closed"))
+        hung_up(program, checks, folder("hung_up"))
         streams(program, checks, folder("streams"), draw)
         refusals(program, checks, folder("refusals"))
         kills(program, checks, folder("kills"), versions, draw)
@@ -318,6 +320,40 @@ def devices(program, checks, room):
         for more, said in [([], ""), (["--explain"], f"routed: client 2: a {name} failed\n")]:
             found = program.run([*given, "--journal", f"{asks}.{name}{len(more)}", *more], b"end,1,0\n")
             checks.same(f"a client's {name} fails {more}", found, (0, b"version 1\n", said.encode()))
+
+
+def closed(program, checks, room):
+    """Standard streams that are closed: no file that the run opens is taken for one of them, so a client's rows are no updates."""
+    rows = os.path.join(room, "rows")
+    with open(rows, "w", encoding="ascii") as file:
+        file.write("end,1,0\nask,7,1.1.1.1,2.2.2.2,0,5,0x0,0x0,0x0,\n")
+    for number, (streams, status, text) in enumerate([
+        ("<&-", 2, ""), (">&-", 3, "end,1,0\n"), ("2>&-", 2, "end,1,0\n"), ("<&- >&-", 2, ""), ("<&- >&- 2>&-", 2, ""),
+    ]):
+        journal, out = (os.path.join(room, f"{kind}{number}") for kind in ("journal", "out"))
+        words = ["sh", "-c", f'exec "$@" {streams}', "sh", program.path, "serve", "--journal", journal, "--client", f"{rows}={out}"]
+        ran = subprocess.run(words, input=b"end,1,0\n", stdout=subprocess.PIPE, stderr=subprocess.PIPE, timeout=PATIENCE)
+        with open(journal, encoding="ascii") as kept, open(out, encoding="ascii") as lines:
+            found = (ran.returncode, kept.read(), re.sub("^(ask 7 v)[01]", r"\1", lines.read(), flags=re.M))
+        checks.same(f"serve with {streams}", found, (status, text, "row 1 refused: kind\nask 7 v unknown-from\n"))
+
+
+def hung_up(program, checks, room):
+    """A client that can't be answered lets go of its rows: who writes them sees that, and doesn't wait for the run's end."""
+    rows, ask = os.path.join(room, "rows"), b"ask,7,1.1.1.1,2.2.2.2,0,5,0x0,0x0,0x0,\n"
+    os.mkfifo(rows)
+    words = [program.path, "serve", "--journal", os.path.join(room, "journal"), "--client", f"{rows}=/dev/full"]
+    with subprocess.Popen(words, stdin=subprocess.PIPE, stdout=subprocess.PIPE) as child, open(rows, "wb", 0) as pipe:
+        end, is_broken = time.monotonic() + PATIENCE, False
+        while not is_broken and time.monotonic() < end:
+            try:
+                pipe.write(ask)
+                time.sleep(0.001)
+            except BrokenPipeError:
+                is_broken = True
+        checks.true("the rows of a client that can't be answered are let go", is_broken and child.poll() is None)
+        checks.same("and the run goes on", child.communicate(b"end,1,0\n", PATIENCE)[0], b"version 1\n")
+        checks.same("to its end", child.returncode, 0)
 
 
 def wait_for(test):
@@ -609,13 +645,20 @@ def listening(program, checks, room, versions):
         told = updating.lines.next()
         front.child.kill()
         front.ended()
-        heard = [told, *updating.lines.rest()]
+        heard = [told, *until_reset(updating.lines)]
         with open(front.journal, encoding="ascii") as kept:
             text = kept.read()
         checks.true("the journal is whole where tools/listen is killed", text in versions.texts[27:-1], text[-200:])
         wanted = [f"version {at}\n" for at in range(27, versions.texts.index(text) + 1 if text in versions.texts else 27)]
         checks.true("what it told before is in the journal", heard == wanted[:len(heard)], heard)
         checks.same("a client of the killed front reads its end", taken.lines.rest(), [])
+
+
+def until_reset(lines):
+    """All lines up to the end, or up to where the other end was killed with rows that it hadn't read."""
+    with contextlib.suppress(ConnectionResetError):
+        while line := lines.next():
+            yield line
 
 
 def silent_peer(checks, together, updating, versions):

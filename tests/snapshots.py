@@ -159,7 +159,7 @@ def stops(program, checks):
     journal = os.path.join(HERE, "journals", "one_link.journal")
     with open("/dev/full", "wb") as out:
         ran = subprocess.run([program.path, "snapshot", "--journal", journal, "--explain"], stdout=out, stderr=subprocess.PIPE, check=False)
-    checks.true("a full device", ran.returncode == 3 and re.fullmatch(b"routed: standard output: (write|flush): " + FULL + STOPPED[2], ran.stderr), ran.stderr)
+    checks.true("a full device", ran.returncode == 3 and re.fullmatch(b"routed: standard output: (write|flush): " + re.escape(FULL + STOPPED[2]), ran.stderr), ran.stderr)
     for words in ([], ["--journal"], ["--journal", journal, "more"], ["--journal", journal, "--requests", journal], ["--journal", journal, "--workers", "2"]):
         status, out, err = program.run(["snapshot", *words])
         checks.true(f"words that are refused: {words}", (status, out) == (1, b"") and err, (status, out))
