@@ -1,10 +1,12 @@
-"""Tests of tools/draw: what a picture shows, and that all of it is inside the picture."""
+"""Tests of tools/draw and tools/draw-failures: what a picture shows, and that all of it is inside the picture."""
 import os
 import re
 import shutil
 import subprocess
 import tempfile
 import xml.etree.ElementTree as xml
+
+from sweeps import BEFORE, OF_CIRCUITS
 
 HERE = os.path.dirname(os.path.abspath(__file__))
 TOP = os.path.dirname(HERE)
@@ -96,12 +98,40 @@ def places(checks):
     status, picture, said = draw(PAIR + "end,1,2\n", places=given)
     checks.same("names that look like markup", [text.text for text in names(picture)], ["<b>&", "East"])
     checks.same("a place of no router", (status, said), (0, "draw: places, line 3: the network has no router 3.3.3.3\n"))
-    status, picture, said = draw(PAIR + "end,1,2\n", places="1.1.1.1 0\n")
-    checks.true("a place with no y is refused", status == 1 and "line 1" in said, said)
+    for name, given in (("with no y", "1.1.1.1 0\n"), ("without numbers", "1.1.1.1 a b\n")):
+        checks.same(f"a place {name} is refused", draw(PAIR + "end,1,2\n", places=given), (1, "", "draw: places, line 1: an address, x and y are wanted\n"))
     status, picture, _ = draw("")
     checks.true("an empty network", status == 0 and xml.fromstring(picture) is not None)
     rows = open(os.path.join(TOP, "examples/nsfnet.journal")).read()
     checks.same("the layout by force is the same each time", draw(rows), draw(rows))
+
+
+def failures(checks):
+    """The failures of a ring of four routers, whose lines are worked by hand."""
+    def drawn(lines, places="".join(f"{at}.{at}.{at}.{at} {at % 2} {at // 3} R{at}\n" for at in (1, 2, 3, 4))):
+        with tempfile.NamedTemporaryFile("w") as file:
+            file.write(places)
+            file.flush()
+            ran = subprocess.run([os.path.join(TOP, "tools/draw-failures"), "--places", file.name], input=lines, capture_output=True, text=True)
+            return ran.returncode, ran.stdout, ran.stderr
+
+    status, picture, err = drawn(BEFORE + OF_CIRCUITS)
+    checks.same("failures are drawn", (status, err), (0, ""))
+    lines = [line.get("class") for line in xml.fromstring(picture).iter(SVG + "line") if line.get("class")]
+    counts = [text.text for text in xml.fromstring(picture).iter(SVG + "text") if text.get("class") == "counts"]
+    checks.same("what each circuit's failure does", (lines, counts), (["longer", "lost", "longer", "none"], ["0/2", "1/0", "0/1"]))
+    checks.same("the routers of failures", sorted(text.text for text in names(picture)), ["R1", "R2", "R3", "R4"])
+    twice = OF_CIRCUITS.replace("scenario 4 out circuit 3.3.3.3 10.0.34.3 4.4.4.4 10.0.34.4", "scenario 4 out circuit 3.3.3.3 10.1.23.3 2.2.2.2 10.1.23.2")
+    ends = [[line.get(end) for end in ("x1", "y1", "x2", "y2")] for line in xml.fromstring(drawn(twice)[1]).iter(SVG + "line") if line.get("class")]
+    checks.true("two circuits of one pair whose failures are drawn are apart", len(ends) == 4 and ends[2] != ends[3], ends)
+    for name, given, why in [
+            ("a sweep that is cut", (OF_CIRCUITS[:OF_CIRCUITS.index("scenarios=")],), "the sweep isn't whole"),
+            ("a scenario that lacks", (OF_CIRCUITS[OF_CIRCUITS.index("scenario 2 out"):],), "the sweep isn't whole"),
+            ("two circuits at once", (OF_CIRCUITS.replace("scenario 2 out", "scenario 1 out"),), "scenario 1 has two circuits out"),
+            ("routers", (OF_CIRCUITS.replace("out circuit", "out router"),), "scenario 1 has no circuit out"),
+            ("a router without a place", (OF_CIRCUITS, "1.1.1.1 0 0\n2.2.2.2 1 1\n3.3.3.3 0 1\n"), "there is no place of 4.4.4.4"),
+            ("a place without numbers", (OF_CIRCUITS, "1.1.1.1 a b\n"), "places, line 1: an address, x and y are wanted")]:
+        checks.same(f"not drawn: {name}", drawn(*given), (1, "", f"draw-failures: {why}\n"))
 
 
 def is_inside(picture):
@@ -130,10 +160,10 @@ def browser_says(picture):
 def examples(program, checks):
     """The pictures of the examples' page are those that its commands draw, with each name inside."""
     page = open(os.path.join(TOP, "examples/README.md")).read()
-    commands = re.findall(r"^    (.*tools/draw .*) > (examples/\S+\.svg)$", page, re.M)
+    commands = re.findall(r"^    (.*tools/draw(?:-failures)? .*) > (examples/\S+\.svg)$", page, re.M)
     checks.true("the page draws pictures", len(commands) > 2, f"{len(commands)} commands")
     for command, path in commands:
-        command = command.replace("crates/routed/out/routed", f'"{program.path}"')
+        command = command.replace("crates/routed/out/routed", f'"{program.path}"').replace("tools/sweep ", f'tools/sweep --program "{program.path}" ')
         drawn = subprocess.run(command, shell=True, cwd=TOP, capture_output=True, text=True).stdout
         checks.same(path, drawn, open(os.path.join(TOP, path)).read())
         checks.true(f"{path}: each name is inside", is_inside(drawn))
@@ -144,6 +174,6 @@ def examples(program, checks):
 
 
 def pictures(program, checks):
-    for part in (circuits, routes, marks, places):
+    for part in (circuits, routes, marks, places, failures):
         part(checks)
     examples(program, checks)

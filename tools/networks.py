@@ -1,4 +1,4 @@
-"""A journal's last version, what can fail of it as one, and requests: what tools/sweep reads."""
+"""Links; and what tools/sweep reads: a journal's last version, what can fail of it as one, and requests."""
 import collections
 import csv
 import io
@@ -10,6 +10,10 @@ Part = collections.namedtuple("Part", "name keys")  # what fails as one: a circu
 
 class Refused(Exception):
     """What was given can't be used; the text says why."""
+
+
+class Stopped(Exception):
+    """A program or a machine stopped, or wrote what it can't write."""
 
 
 def number(address):
