@@ -142,7 +142,7 @@ module _ (d : Database) (q : Request) (links : List Link) (listed : AreLinksOf d
         let leg = reached_leg d q (walk_of nodes n) (state_of n) (steps (settled.reached c.state c.front c.settled) c.step) in
         omega (arith, leg.0);
     potential = λ _. 0;
-    consistent = record { links = λ leg l low high a. omega arith; turns = λ leg router low high target. omega arith };
+    consistent = record { links = λ leg l low high a enters. (omega arith, λ way. way); turns = λ leg router low high target. omega arith };
     first = λ x u c behind. rank_from_state (state_of n) u (walk_of nodes n) x (is.first x u (crosses_to x u c));
   }
 

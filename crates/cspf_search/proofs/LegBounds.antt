@@ -2,55 +2,75 @@
 use Rattle.std.proofs.Common.{◌≡◌, ◌≢◌, ◌⊎◌, inl, inr, ℕ, ◌+◌, ◌*◌, ◌/◌, ◌%◌, ◌^◌, ◌<◌, ◌≤◌, min, true, false, IsTrue, List, drop, length, replicate, set, slice_index, slice_index_or, refl, sym, ap, subst, ◌∙◌, arith}
 use Rattle.std.proofs.lemmas.Bool.{cases_lt, false≢true}
 use Rattle.std.proofs.lemmas.List.{get_or_past, get_or-drop, get_or-replicate, length-replicate, get_or-set_other}
+use Rattle.cspf_db.specs.declared.link.Link.{Link}
 use Rattle.cspf_db.specs.declared.request.Request.{Request}
 use Rattle.cspf_db.specs.Database.{Database}
 use Rattle.cspf_db.specs.Index.{router_list}
 use Rattle.cspf_search.specs.declared.ring.Ring.{Ring}
 use Rattle.cspf_search.specs.declared.roles.Role.{Role}
 use Rattle.cspf_search.specs.Frontier.{AreListed, AreRoles, IsEnd, IsStateIndex, nothing}
-use Rattle.cspf_search.specs.States.{MayTurn}
+use Rattle.cspf_search.specs.declared.limits.TheConstants.{NO_WAY}
+use Rattle.cspf_search.specs.Settled.{IsWithin}
+use Rattle.cspf_search.specs.States.{MayEnter, MayTurn}
 use Rattle.cspf_search.specs.Bounds.{ArePassed, AreBounds, Falls, IsLeg, IsRing, AreLooked, bound_at, is_done}
 use Rattle.cspf_search.proofs.Ranks.{same_or_not}
 
 -- where nothing is done nothing was looked at
-pub none_done : (d : Database) (q : Request) (ring : Ring) → ((w : ℕ) → is_done ring w ≡ false) → IsRing d q ring
-none_done d q ring none u w on l admissible from to = absurd (false≢true (sym (none w) ∙ on))
+pub none_done : (d : Database) (q : Request) (leg : ℕ) (ring : Ring) → ((w : ℕ) → is_done ring w ≡ false) → IsRing d q leg ring
+none_done d q leg ring none u w on l admissible enters from to = absurd (false≢true (sym (none w) ∙ on))
 
 -- what was looked at stays so where bounds fall, and where the ring is the same but for what waits
-pub fallen_ring : (d : Database) (q : Request) (old new : Ring) → Falls old new → IsRing d q old → IsRing d q new
-fallen_ring d q old new falls ring u w on l admissible from end =
+pub fallen_ring : (d : Database) (q : Request) (leg : ℕ) (old new : Ring) → Falls old new → IsRing d q leg old → IsRing d q leg new
+fallen_ring d q leg old new falls ring u w on l admissible enters from end =
     let kept = falls.kept w on in
-    omega (arith, ring u w kept.0 l admissible from end, falls.lower u, kept.1)
+    let within = ring u w kept.0 l admissible enters from end in
+    (omega (arith, within.0, falls.lower u, kept.1), λ way. omega (arith, within.1 (omega (arith, way, kept.1)), falls.lower u))
 
-pub same_ring : (d : Database) (q : Request) (old new : Ring) → new.near ≡ old.near → new.done ≡ old.done → IsRing d q old → IsRing d q new
-same_ring d q old new near marks ring u w on l admissible from end =
-    rw near (ring u w (rw marks at on) l admissible from end)
+pub same_ring : (d : Database) (q : Request) (leg : ℕ) (old new : Ring) → new.near ≡ old.near → new.done ≡ old.done → IsRing d q leg old → IsRing d q leg new
+same_ring d q leg old new near marks ring u w on l admissible enters from end =
+    rw near (ring u w (rw marks at on) l admissible enters from end)
+
+-- a router that no link may lead a route to in the leg has none to look at
+pub one_shut : (d : Database) (q : Request) (leg to : ℕ) (ring : Ring) → IsRing d q leg ring → ((l : Link) → MayEnter d q (leg + 1) l.to → IsEnd d l.to to → ⊥)
+    → AreLooked d q leg ring.near.items (set ring.done.items to true)
+one_shut d q leg to ring is shut u w on l admissible enters from end =
+    elim (same_or_not w to) [
+      | inl here ↦ absurd (shut l enters (subst (IsEnd d l.to) here end))
+      | inr ne ↦ is u w (sym (get_or-set_other ring.done.items to w true false ne) ∙ on) l admissible enters from end
+    ]
 
 -- the links that arrive at one router more are all looked at
-module _ (d : Database) (q : Request) (to base : ℕ) (old new : Ring) (ring : IsRing d q old) (falls : Falls old new)
+module _ (d : Database) (q : Request) (leg to base : ℕ) (old new : Ring) (ring : IsRing d q leg old) (falls : Falls old new)
     (passed : ArePassed d q base new to) (same : bound_at new.near.items to ≡ base) where
-  pub one_router_more : AreLooked d q new.near.items (set new.done.items to true)
-  one_router_more u w on l admissible from end =
+  pub one_router_more : AreLooked d q leg new.near.items (set new.done.items to true)
+  one_router_more u w on l admissible enters from end =
       elim (same_or_not w to) [
         | inl here ↦
             let low = passed u l admissible from (subst (IsEnd d l.to) here end) in
             let is : bound_at new.near.items w ≡ bound_at new.near.items to = ap (bound_at new.near.items) here in
-            omega (arith, low, is, same)
+            (omega (arith, low.0, is, same), λ way. low.1 (omega (arith, way, is, same)))
         | inr ne ↦
-            fallen_ring d q old new falls ring u w (sym (get_or-set_other new.done.items to w true false ne) ∙ on) l admissible from end
+            fallen_ring d q leg old new falls ring u w (sym (get_or-set_other new.done.items to w true false ne) ∙ on) l admissible enters from end
       ]
 
 -- a leg from its ring
-pub leg_of_ring : (d : Database) (q : Request) (leg : ℕ) (ring : Ring) (edge : ℕ) → AreListed d → IsRing d q ring
-    → ((w : ℕ) → w < 1024 → is_done ring w ≡ false → edge ≤ bound_at ring.near.items w) → (ahead : List ℕ)
+pub leg_of_ring : (d : Database) (q : Request) (leg : ℕ) (ring : Ring) (edge : ℕ) → IsRing d q leg ring
+    → ((w : ℕ) → w < length (router_list d) → is_done ring w ≡ false → edge ≤ bound_at ring.near.items w) → (ahead : List ℕ)
     → ((p : ℕ) → p < length (router_list d) → MayTurn d q (leg + 1) (slice_index (router_list d) p) → bound_at ring.near.items p ≤ bound_at ahead p)
     → IsLeg d q leg ring.near.items edge ahead
-leg_of_ring d q leg ring edge listed links least ahead targets = record {
-  links = λ u w l admissible from to.
+leg_of_ring d q leg ring edge links least ahead targets = record {
+  links = λ u w l admissible enters from to.
       let near = ring.near.items in
-      elim (is_done ring w) as (λ b. is_done ring w ≡ b → min (bound_at near u) edge ≤ min (bound_at near w) edge + l.metric) [
-        | true ↦ λ e. omega (arith, links u w e l admissible from to)
-        | false ↦ λ e. omega (arith, least w (omega (arith, to.within, listed.few)) e)
+      elim (is_done ring w) as (λ b. is_done ring w ≡ b → IsWithin (min (bound_at near u) edge) (min (bound_at near w) edge) l.metric) [
+        | true ↦ λ e.
+            let within = links u w e l admissible enters from to in (
+              omega (arith, within.0),
+              λ way. elim (cases_lt (bound_at near w) NO_WAY) [
+                | inl near_way ↦ omega (arith, within.1 near_way)
+                | inr far ↦ omega (arith, way, far)
+              ],
+            )
+        | false ↦ λ e. (omega (arith, least w to.within e), λ way. omega (arith, way, least w to.within e))
       ] refl;
   targets = λ p h target. omega (arith, targets p h target);
 }
@@ -70,7 +90,7 @@ pub zero_bounds : (d : Database) (q : Request) (bounds : List ℕ) → length bo
 zero_bounds d q bounds many zeros = record {
   many = many;
   small = λ i. omega (arith, zeros i);
-  links = λ i j ix jx same l admissible from to. omega (arith, zeros i);
+  links = λ i j ix jx same l admissible enters from to. (omega (arith, zeros i), λ way. omega (arith, zeros i));
   turns = λ i ix within target. omega (arith, zeros i);
   last = λ i ix is_last target. zeros i;
 }
@@ -84,14 +104,14 @@ zeros_at count i =
     ]
 
 -- one leg more, from the last back
-module _ (d : Database) (q : Request) (leg : ℕ) (within : leg ≤ length q.hops) (old new near : List ℕ) (edge : ℕ) (small : edge < 2 ^ 32) (before : AreBounds d q old)
+module _ (d : Database) (q : Request) (leg count : ℕ) (all : count ≡ length (router_list d)) (few : count ≤ 1024) (old new near : List ℕ) (edge : ℕ) (small : edge < 2 ^ 32) (before : AreBounds d q old)
     (zeros : (i : ℕ) → i < (leg + 1) * 1024 → bound_at old i ≡ 0) (is : IsLeg d q leg near edge (drop (leg * 1024 + 1024) old)) (long : length new ≡ length old)
-    (here : (p : ℕ) → p < 1024 → bound_at new (leg * 1024 + p) ≡ min (bound_at near p) edge)
-    (others : (i : ℕ) → (i < leg * 1024) ⊎ (leg * 1024 + 1024 ≤ i) → bound_at new i ≡ bound_at old i) where
-  in_leg : (i : ℕ) → i / 1024 ≡ leg → bound_at new i ≡ min (bound_at near (i % 1024)) edge
-  in_leg i same =
+    (here : (p : ℕ) → p < count → bound_at new (leg * 1024 + p) ≡ min (bound_at near p) edge)
+    (others : (i : ℕ) → (i < leg * 1024) ⊎ (leg * 1024 + count ≤ i) → bound_at new i ≡ bound_at old i) where
+  in_leg : (i : ℕ) → i % 1024 < length (router_list d) → i / 1024 ≡ leg → bound_at new i ≡ min (bound_at near (i % 1024)) edge
+  in_leg i place same =
       let whole : leg * 1024 + i % 1024 ≡ i = omega (arith, same) in
-      ap (bound_at new) (sym whole) ∙ here (i % 1024) (omega arith)
+      ap (bound_at new) (sym whole) ∙ here (i % 1024) (omega (arith, place, all))
 
   off_leg : (i : ℕ) → i / 1024 ≢ leg → bound_at new i ≡ bound_at old i
   off_leg i ne =
@@ -100,7 +120,7 @@ module _ (d : Database) (q : Request) (leg : ℕ) (within : leg ≤ length q.hop
         | inr ge ↦
             elim (cases_lt i (leg * 1024 + 1024)) [
               | inl lt ↦ let same : i / 1024 ≡ leg = omega (arith, ge, lt) in absurd (ne same)
-              | inr past ↦ others i (inr past)
+              | inr past ↦ others i (inr (omega (arith, past, few)))
             ]
       ]
 
@@ -113,26 +133,37 @@ module _ (d : Database) (q : Request) (leg : ℕ) (within : leg ≤ length q.hop
       → bound_at new i ≤ bound_at old (i + 1024)
   target_ahead i ix same target =
       let low = is.targets (i % 1024) ix.place (subst (λ k. MayTurn d q (k + 1) (slice_index (router_list d) (i % 1024))) same target) in
-      omega (arith, low, in_leg i same, behind_leg i same)
+      omega (arith, low, in_leg i ix.place same, behind_leg i same)
 
   pub one_leg_more : AreBounds d q new
   one_leg_more = record {
     many = long ∙ before.many;
     small = λ i.
         elim (same_or_not (i / 1024) leg) [
-          | inl same ↦ omega (arith, in_leg i same, small)
+          | inl same ↦
+              elim (cases_lt (i % 1024) count) [
+                | inl lt ↦ omega (arith, in_leg i (omega (arith, lt, all)) same, small)
+                | inr ge ↦ omega (arith, others i (inr (omega (arith, same, ge))), before.small i)
+              ]
           | inr ne ↦ omega (arith, off_leg i ne, before.small i)
         ];
-    links = λ i j ix jx same l admissible from to.
+    links = λ i j ix jx same l admissible enters from to.
         elim (same_or_not (i / 1024) leg) [
           | inl at ↦
-              let ends = is.links (i % 1024) (j % 1024) l admissible (record { within = ix.place; is = sym from }) (record { within = jx.place; is = sym to }) in
-              omega (arith, in_leg i at, in_leg j (sym same ∙ at), ends)
-          | inr ne ↦ omega (arith, off_leg i ne, off_leg j (λ e. ne (same ∙ e)), before.links i j ix jx same l admissible from to)
+              let entered : MayEnter d q (leg + 1) l.to = subst (λ k. MayEnter d q (k + 1) l.to) (sym same ∙ at) enters in
+              let ends = is.links (i % 1024) (j % 1024) l admissible entered (record { within = ix.place; is = sym from }) (record { within = jx.place; is = sym to }) in
+              let near = in_leg i ix.place at in
+              let ahead = in_leg j jx.place (sym same ∙ at) in
+              (omega (arith, near, ahead, ends.0), λ way. omega (arith, near, ends.1 (omega (arith, ahead, way))))
+          | inr ne ↦
+              let near = off_leg i ne in
+              let ahead = off_leg j (λ e. ne (same ∙ e)) in
+              let ends = before.links i j ix jx same l admissible enters from to in
+              (omega (arith, near, ahead, ends.0), λ way. omega (arith, near, ends.1 (omega (arith, ahead, way))))
         ];
     turns = λ i ix below target.
         elim (same_or_not (i / 1024) leg) [
-          | inl at ↦ omega (arith, target_ahead i ix at target, others (i + 1024) (inr (omega (arith, at))))
+          | inl at ↦ omega (arith, target_ahead i ix at target, others (i + 1024) (inr (omega (arith, at, few))))
           | inr ne ↦
               elim (same_or_not (i / 1024 + 1) leg) [
                 | inl next ↦ omega (arith, off_leg i ne, zeros i (omega (arith, next)))

@@ -9,22 +9,25 @@ use Rattle.std.proofs.lemmas.List.Quantifiers.{position-Some}
 use Rattle.cspf_db.specs.declared.link.Link.{Link}
 use Rattle.cspf_db.specs.declared.request.Request.{Request}
 use Rattle.cspf_db.specs.Database.{Database, AreLinksOf, IsRouterOf}
+use Rattle.cspf_db.specs.Routes.{IsRoute}
 use Rattle.cspf_db.specs.Targets.{IsTarget}
 use Rattle.cspf_db.specs.Index.{links_of, router_list}
 use Rattle.cspf_search.specs.declared.arena.Node.{Node}
 use Rattle.cspf_search.specs.declared.goal.Goal.{Goal}
 use Rattle.cspf_search.specs.declared.labels.Label.{Label}
+use Rattle.cspf_search.specs.declared.limits.TheConstants.{NO_WAY}
 use Rattle.cspf_search.specs.States.{State, MayTurn, steps, start_of, end_state}
 use Rattle.cspf_search.specs.Settled.{RanksNoLater, AreSettled, Crosses, IsStuck, IsFirstCrossing}
 use Rattle.cspf_search.specs.Arena.{walk_of, state_of, same_state, index_of, labels_of, AreNodes, root_of}
 use Rattle.cspf_search.specs.Rounds.{CrossesBelow}
-use Rattle.cspf_search.specs.Bounds.{AreBounds}
+use Rattle.cspf_search.specs.Bounds.{AreBounds, bound_at}
 use Rattle.cspf_search.specs.Frontier.{IsFloor, state_at, IsStateIndex, AreListed, IsEnd, nowhere, node_of, walk_rank, no_rank, lift, IsBeyond, IsReached, IsLabel, is_settled, is_reached, is_unreached, Key, key_cmp, key_at, label_at, IsKey, IsLive, AreLabels, IsLeast}
 use Rattle.cspf_search.proofs.Orders.{potentials_total, rank_from_walk}
+use Rattle.cspf_search.proofs.Settles.{no_way}
 use Rattle.cspf_search.proofs.Cuts.{reached_leg, last_target}
 use Rattle.cspf_search.proofs.Labelled.{same_state-true, open_index, index_at}
 use Rattle.cspf_search.proofs.Grown.{reached_router, crosses_from, crosses_to, root_nodes}
-use Rattle.cspf_search.proofs.Ranks.{same_or_not, before_by_rank, rank_before, rank_tied, rank_is, walk_short, rank_small, crossing_short, state_apart, index_for, potential_of, lift_is, potential_consistent}
+use Rattle.cspf_search.proofs.Ranks.{same_or_not, before_by_rank, rank_before, rank_tied, rank_is, walk_short, rank_small, crossing_short, state_apart, index_for, potential_of, potential_at, lift_is, potential_consistent}
 
 -- the label of an open state isn't 0
 pub open_rank : (d : Database) (nodes : List Node) (P : List Link → State → Type 0) (cap ahead : ℕ) (t : State) (label : Label) → IsLabel d nodes P cap ahead t label
@@ -39,6 +42,14 @@ pub reached_of : (d : Database) (nodes : List Node) (P : List Link → State →
 reached_of d nodes P cap ahead t label (is_settled k none e) some most = absurd (omega (arith, none))
 reached_of d nodes P cap ahead t label (is_reached o r) some most = r
 reached_of d nodes P cap ahead t label (is_unreached o none first) some most = absurd (omega (arith, none))
+
+-- the bound of the tail-end in the last leg is 0
+pub goal_bound : (d : Database) (q : Request) (goal : Goal) → AreBounds d q goal.bounds.now → IsStateIndex d q goal.at → state_at d goal.at ≡ end_state q → bound_at goal.bounds.now goal.at ≡ 0
+goal_bound d q goal bounds there end =
+    let last : length q.hops + 1 ≡ suc (length q.hops) = omega arith in
+    let target : IsTarget d q (end_state q).leg (end_state q).router = rw last (subst (λ (T : Type 0). T) (sym (last_target d q q.to)) refl) in
+    let there_too : MayTurn d q (goal.at / 1024 + 1) (slice_index (router_list d) (goal.at % 1024)) = subst (λ (s : State). MayTurn d q s.leg s.router) (sym end) (record { target = target; stands = inr (inr refl) }) in
+    bounds.last goal.at there (omega (arith, ap (λ (s : State). s.leg) end)) there_too
 
 module _ (d : Database) (q : Request) (of : AreLinksOf d (links_of d)) (listed : AreListed d) (from : IsRouterOf d q.from) (nodes : List Node) (are : AreNodes nodes)
     (settled : AreSettled d q (labels_of nodes)) (goal : Goal) (there : IsStateIndex d q goal.at) (labels : List Label) (keys : List Key)
@@ -63,10 +74,7 @@ module _ (d : Database) (q : Request) (of : AreLinksOf d (links_of d)) (listed :
   -- the goal waits with its rank for a key
   goal_lift : lift goal goal.at ≡ 0
   goal_lift =
-      let last : length q.hops + 1 ≡ suc (length q.hops) = omega arith in
-      let target : IsTarget d q (end_state q).leg (end_state q).router = rw last (subst (λ (T : Type 0). T) (sym (last_target d q q.to)) refl) in
-      let there_too : MayTurn d q (goal.at / 1024 + 1) (slice_index (router_list d) (goal.at % 1024)) = subst (λ (s : State). MayTurn d q s.leg s.router) (sym end) (record { target = target; stands = inr (inr refl) }) in
-      let none = bounds.last goal.at there (omega (arith, ap (λ (s : State). s.leg) end)) there_too in
+      let none = goal_bound d q goal bounds there end in
       omega (arith, none)
 
   goal_waits : cap < no_rank → Contains keys (key_at (cap + lift goal goal.at) goal.at)
@@ -191,6 +199,14 @@ module _ (d : Database) (q : Request) (listed : AreListed d) (place : ℕ) (at :
       let same : place % 1024 ≡ place = omega (arith, at.within, listed.few) in
       let router : q.from ≡ slice_index (router_list d) (place % 1024) = sym (ap (slice_index (router_list d)) same ∙ at.is) in
       λ k. record { leg = leg k; router = router k }
+
+  -- where the bounds say that there is no way from the head-end there is no route
+  pub shut_start : (goal : Goal) → AreBounds d q goal.bounds.now → IsStateIndex d q goal.at → state_at d goal.at ≡ end_state q → bound_at goal.bounds.now place ≡ NO_WAY
+      → (w : List Link) → IsRoute d q w → ⊥
+  shut_start goal bounds there end none =
+      let at_end = ap (potential_of d goal) (sym end) ∙ potential_at d q listed goal bounds goal.at there ∙ goal_bound d q goal bounds there end in
+      let at_start = ap (potential_of d goal) start_state ∙ potential_at d q listed goal bounds place start_index ∙ none in
+      no_way d q (potential_of d goal) (potential_consistent d q listed goal bounds) at_end at_start
 
   pub root_only : (j : ℕ) → IsStateIndex d q j → j ≢ place → index_of (root_of q ∷ []) (state_at d j) ≡ None
   root_only j jx ne =

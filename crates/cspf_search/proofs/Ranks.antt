@@ -1,5 +1,5 @@
 -- Ranks as numbers, and the indexes of states.
-use Rattle.std.proofs.Common.{◌≡◌, ◌≢◌, ◌⊎◌, inl, inr, ℕ, zero, suc, ◌+◌, ◌-◌, ◌*◌, ◌/◌, ◌%◌, ◌^◌, ◌<◌, ◌≤◌, true, false, nat_eq, Option, Some, None, position, List, length, slice_index, slice_index_or, refl, sym, ap, ◌∙◌, arith, add-one}
+use Rattle.std.proofs.Common.{◌≡◌, ◌≢◌, ◌⊎◌, inl, inr, ℕ, zero, suc, ◌+◌, ◌-◌, ◌*◌, ◌/◌, ◌%◌, ◌^◌, ◌<◌, ◌≤◌, true, false, nat_eq, Option, Some, None, position, List, length, slice_index, slice_index_or, refl, sym, ap, ◌∙◌, arith, add-one, subst}
 use Rattle.std.specs.Ordering.{nat_cmp, ordering_then, ordering_reverse, is_gt}
 use Rattle.std.specs.declared.cmp.Ordering.{Ordering}
 use Rattle.std.specs.declared.cmp.Ordering.TheVariants.{Less, Equal, Greater}
@@ -18,8 +18,8 @@ use Rattle.cspf_db.specs.Walks.{cost_of, locals_of}
 use Rattle.cspf_db.specs.Index.{router_list}
 use Rattle.cspf_search.specs.declared.arena.Node.{Node}
 use Rattle.cspf_search.specs.declared.goal.Goal.{Goal}
-use Rattle.cspf_search.specs.States.{State, LeadsOn, MayTurn}
-use Rattle.cspf_search.specs.Settled.{IsNoLater, RanksNoLater, IsConsistent, locals_cmp}
+use Rattle.cspf_search.specs.States.{State, LeadsOn, MayEnter, MayTurn}
+use Rattle.cspf_search.specs.Settled.{IsNoLater, RanksNoLater, IsConsistent, locals_cmp, IsWithin}
 use Rattle.cspf_search.specs.Arena.{walk_at, walks, walk_of, AreNodes, IsNext}
 use Rattle.cspf_search.specs.Bounds.{bound_at, AreBounds}
 use Rattle.cspf_search.specs.Rounds.{CrossesFrom}
@@ -207,14 +207,17 @@ module _ (d : Database) (q : Request) (listed : AreListed d) where
         → (i : ℕ) × IsStateIndex d q i × (record { leg = leg; router = router } ≡ state_at d i)
     index_of_end leg router low high known = index_for d q listed (record { leg = leg; router = router }) known low high
 
-    links_keep : (leg : ℕ) (l : Link) → 1 ≤ leg → leg ≤ length q.hops + 1 → LeadsOn d q l
-        → potential_of d goal (record { leg = leg; router = l.from }) ≤ potential_of d goal (record { leg = leg; router = l.to }) + l.metric
-    links_keep leg l low high a =
+    links_keep : (leg : ℕ) (l : Link) → 1 ≤ leg → leg ≤ length q.hops + 1 → LeadsOn d q l → MayEnter d q leg l.to
+        → IsWithin (potential_of d goal (record { leg = leg; router = l.from })) (potential_of d goal (record { leg = leg; router = l.to })) l.metric
+    links_keep leg l low high a enters =
         let i = index_of_end leg l.from low high (l, a.admissible.link, inl refl) in
         let j = index_of_end leg l.to low high (l, a.admissible.link, inr refl) in
         let same : i.0 / 1024 ≡ j.0 / 1024 = omega (arith, ap (λ (s : State). s.leg) i.2, ap (λ (s : State). s.leg) j.2) in
-        let up = bounds.links i.0 j.0 i.1 j.1 same l a (ap (λ (s : State). s.router) i.2) (ap (λ (s : State). s.router) j.2) in
-        omega (arith, up, ap (potential_of d goal) i.2 ∙ potential_at i.0 i.1, ap (potential_of d goal) j.2 ∙ potential_at j.0 j.1)
+        let entered : MayEnter d q (j.0 / 1024 + 1) l.to = subst (λ k. MayEnter d q k l.to) (ap (λ (s : State). s.leg) j.2) enters in
+        let up = bounds.links i.0 j.0 i.1 j.1 same l a entered (ap (λ (s : State). s.router) i.2) (ap (λ (s : State). s.router) j.2) in
+        let near = ap (potential_of d goal) i.2 ∙ potential_at i.0 i.1 in
+        let ahead = ap (potential_of d goal) j.2 ∙ potential_at j.0 j.1 in
+        (omega (arith, up.0, near, ahead), λ way. omega (arith, up.1 (omega (arith, ahead, way)), near))
 
     turns_keep : (leg router : ℕ) → 1 ≤ leg → leg ≤ length q.hops → MayTurn d q leg router
         → potential_of d goal (record { leg = leg; router = router }) ≤ potential_of d goal (record { leg = suc leg; router = router })

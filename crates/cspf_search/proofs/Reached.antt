@@ -7,6 +7,7 @@ use Rattle.std.proofs.lemmas.List.Elements.{All-weaker, Contains-get_or}
 use Rattle.cspf_db.specs.declared.link.Link.{Link}
 use Rattle.cspf_db.specs.declared.request.Request.{Request}
 use Rattle.cspf_db.specs.Database.{Database, AreLinksOf, IsRouterOf}
+use Rattle.cspf_db.specs.Routes.{IsRoute}
 use Rattle.cspf_db.specs.Targets.{IsTarget, IsTargetOf}
 use Rattle.cspf_db.specs.Index.{links_of, router_list}
 use Rattle.cspf_search.specs.declared.arena.Node.{Node}
@@ -14,10 +15,11 @@ use Rattle.cspf_search.specs.declared.goal.Goal.{Goal}
 use Rattle.cspf_search.specs.declared.labels.Label.{Label}
 use Rattle.cspf_search.specs.declared.roles.Role.{Role}
 use Rattle.cspf_search.specs.States.{State, MayTurn, end_state}
-use Rattle.cspf_search.specs.Settled.{Labels, AreSettled, IsClosed, IsStuck}
+use Rattle.cspf_search.specs.Settled.{Labels, AreSettled, IsClosed}
 use Rattle.cspf_search.specs.Arena.{walk_at, walks, state_of, index_of, labels_of, AreNodes, root_of}
 use Rattle.cspf_search.specs.Rounds.{CrossesBelow}
-use Rattle.cspf_search.specs.Bounds.{AreBounds}
+use Rattle.cspf_search.specs.declared.limits.TheConstants.{NO_WAY}
+use Rattle.cspf_search.specs.Bounds.{AreBounds, bound_at}
 use Rattle.cspf_search.specs.Frontier.{state_at, IsStateIndex, AreListed, AreRoles, IsRaised, nothing, IsEnd, IsNodeAt, nowhere, node_of, IsReached, Key, label_at, no_label, lift, IsKey, IsLive, AreLabels, IsLeast, IsFloor}
 use Rattle.cspf_search.proofs.Few.{HasFewRouters}
 use Rattle.cspf_search.proofs.Cuts.{last_target}
@@ -25,7 +27,8 @@ use Rattle.cspf_search.proofs.Labelled.{open_index}
 use Rattle.cspf_search.proofs.Grown.{settled_by}
 use Rattle.cspf_search.proofs.Ranks.{one_place, state_apart, index_for}
 use Rattle.cspf_search.proofs.Pushed.{index_new, open_old, open_new, labels_settle}
-use Rattle.cspf_search.proofs.Popped.{open_rank, first_popped, popped, nothing_left, root_only, goal_index, goal_state}
+use Rattle.cspf_search.proofs.Settles.{no_route}
+use Rattle.cspf_search.proofs.Popped.{open_rank, shut_start, first_popped, popped, nothing_left, root_only, goal_index, goal_state}
 
 -- what the search is asked, with the indexes of both ends in the list of routers, and its goal
 pub record IsAsked (d : Database) (q : Request) (legs from to : ℕ) (goal : Goal) : Type 0 where
@@ -90,11 +93,15 @@ module _ (d : Database) (q : Request) (legs from to : ℕ) (goal : Goal) (asked 
   pub first_floor : goal.floor ≡ 0 → (labels : Labels) → IsFloor d q labels goal
   first_floor none labels = record { low = omega (arith, none); shut = λ low. absurd (omega (arith, low, none)) }
 
+  -- where the bounds say that there is no way from the head-end there is no route
+  pub no_start : bound_at goal.bounds.now from ≡ NO_WAY → (w : List Link) → IsRoute d q w → ⊥
+  no_start = shut_start d q asked.listed from asked.start goal asked.bounds goal_there goal_end
+
   module _ (nodes : List Node) (labels : List Label) (keys : List Key) (before : IsUnderWay d q goal nodes labels keys) where
-    -- where no key is live nothing crosses behind the closed legs
-    pub ended : ((key : Key) → Contains keys key → IsLive goal labels key → ⊥) → IsStuck d q (labels_of nodes)
+    -- where no key is live there is no route
+    pub ended : ((key : Key) → Contains keys key → IsLive goal labels key → ⊥) → labels_of nodes (end_state q) ≡ None → (w : List Link) → IsRoute d q w → ⊥
     ended none =
-        nothing_left d q asked.links asked.listed known nodes before.arena before.settled goal goal_there labels keys before.labelled before.left asked.bounds goal_end before.floor none
+        no_route d q (labels_of nodes) before.settled (nothing_left d q asked.links asked.listed known nodes before.arena before.settled goal goal_there labels keys before.labelled before.left asked.bounds goal_end before.floor none)
 
     module _ (i : ℕ) (rest : List Key) (least : IsLeast d q goal labels keys i rest) (node : Node) (is : node ≡ node_of d nodes (label_at labels i)) where
       reached : IsReached d nodes (CrossesBelow d q nodes (links_of d) (length nodes)) (label_at labels goal.at).rank (lift goal i) (state_at d i) (label_at labels i)
@@ -158,7 +165,7 @@ module _ (d : Database) (q : Request) (legs from to : ℕ) (goal : Goal) (asked 
 
         module _ (P : List Link → State → Type 0) (after : List Label) (left : List Key) (are : AreLabels d q (nodes ++ (node ∷ [])) P goal after left) where
           -- a target of the last leg is the goal
-          last_alone : IsRaised roles after i floor → i / 1024 ≡ goal.at / 1024 → i ≡ goal.at
+          last_alone : IsRaised d roles after i floor → i / 1024 ≡ goal.at / 1024 → i ≡ goal.at
           last_alone raised same =
               let leg : i / 1024 + 1 ≡ suc (length q.hops) = omega (arith, same, ap (λ (t : State). t.leg) goal_end) in
               let target = rw leg at ((told.each i nothing least.index).target.0 raised.target).target in
@@ -168,7 +175,7 @@ module _ (d : Database) (q : Request) (legs from to : ℕ) (goal : Goal) (asked 
               omega (arith, same, place, asked.at, asked.end.within, asked.listed.few)
 
           -- the leg of a state is closed when each of its targets is settled
-          closes : IsRaised roles after i floor → IsClosed d q (labels_of (nodes ++ (node ∷ []))) (floor / 1024)
+          closes : IsRaised d roles after i floor → IsClosed d q (labels_of (nodes ++ (node ∷ []))) (floor / 1024)
           closes raised low router target none =
               let s : State = record { leg = floor / 1024; router = router } in
               let leg : floor / 1024 ≡ i / 1024 + 1 = omega (arith, raised.next) in
@@ -176,13 +183,13 @@ module _ (d : Database) (q : Request) (legs from to : ℕ) (goal : Goal) (asked 
               let there = (told.each at.0 nothing at.1).target.1 (subst (λ (t : State). MayTurn d q t.leg t.router) at.2 target) in
               let same : at.0 / 1024 ≡ i / 1024 = omega (arith, leg, ap (λ (t : State). t.leg) at.2) in
               let behind : goal.floor ≤ at.0 = omega (arith, same, least.behind, are.whole) in
-              let zero = raised.settled at.0 same there in
+              let zero = raised.settled at.0 at.1.place same there in
               let open_there = ap (index_of (nodes ++ (node ∷ []))) (sym at.2) ∙ open_index (nodes ++ (node ∷ [])) s none in
               let some = open_rank d (nodes ++ (node ∷ [])) P (label_at after goal.at).rank (lift goal at.0) (state_at d at.0) (label_at after at.0) (are.each at.0 at.1 behind) open_there in
               omega (arith, some, zero)
 
           -- so the floor stays below the goal
-          pub floor_on : (i ≡ goal.at → ⊥) → (floor ≡ goal.floor) ⊎ IsRaised roles after i floor
+          pub floor_on : (i ≡ goal.at → ⊥) → (floor ≡ goal.floor) ⊎ IsRaised d roles after i floor
               → IsFloor d q (labels_of (nodes ++ (node ∷ []))) (record { at = goal.at; floor = floor; bounds = goal.bounds })
           floor_on off (inl same) = record {
             low = omega (arith, same, before.floor.low);
@@ -198,7 +205,7 @@ module _ (d : Database) (q : Request) (legs from to : ℕ) (goal : Goal) (asked 
           }
 
           -- and the labels go on above it
-          pub labels_on : (floor ≡ goal.floor) ⊎ IsRaised roles after i floor
+          pub labels_on : (floor ≡ goal.floor) ⊎ IsRaised d roles after i floor
               → AreLabels d q (nodes ++ (node ∷ [])) P (record { at = goal.at; floor = floor; bounds = goal.bounds }) after left
           labels_on choice =
               let up : goal.floor ≤ floor = elim choice [ inl same ↦ omega (arith, same) | inr raised ↦ omega (arith, raised.next, least.behind) ] in

@@ -13,7 +13,8 @@ use Rattle.cspf_db.specs.Admissible.{IsAdmissible, MayLeave}
 use Rattle.cspf_db.specs.Walks.{cost_of}
 use Rattle.cspf_db.specs.Routes.{IsRoute}
 use Rattle.cspf_db.specs.Best.{IsBestRoute}
-use Rattle.cspf_search.specs.States.{State, LeadsOn, IsStep, by_link, by_turn, Reaches, starts, steps, end_state, MayTurn}
+use Rattle.cspf_search.specs.declared.limits.TheConstants.{NO_WAY}
+use Rattle.cspf_search.specs.States.{State, LeadsOn, IsStep, by_link, by_turn, Reaches, starts, steps, start_of, end_state, MayTurn}
 use Rattle.cspf_search.specs.Settled.{Labels, IsNoLater, potential_cmp, RanksNoLater, IsConsistent, AreSettled, Crosses, IsClosed, IsFirstCrossing, IsStuck, locals_cmp}
 use Rattle.cspf_search.proofs.Orders.{walks_total, potentials_total, walk_cmp-push, potential_cmp-push, potential_cmp-turn, walk_from_less, rank_from_walk}
 use Rattle.cspf_search.proofs.Cuts.{reached_walk, reached_leg, route_reaches, reaches_route}
@@ -64,9 +65,25 @@ module _ (d : Database) (q : Request) where
       → potential_cmp potential (s, v) (t, x) ≡ Less
   step_grows potential up v x s t r (by_link {leg = k} l a enters leaves) =
       let leg = reached_leg d q v (record { leg = k; router = l.from }) r in
-      potential_cmp-push potential (record { leg = k; router = l.from }) (record { leg = k; router = l.to }) v l (up.links k l leg.0 leg.1 (leads_on v l k a leaves r))
+      potential_cmp-push potential (record { leg = k; router = l.from }) (record { leg = k; router = l.to }) v l (up.links k l leg.0 leg.1 (leads_on v l k a leaves r) enters).0
   step_grows potential up v x s t r (by_turn {leg = k} {router = router} within target) =
       let leg = reached_leg d q v (record { leg = k; router = router }) r in potential_cmp-turn potential k router v (up.turns k router leg.0 within target)
+
+  -- where the potential says that there is a way, it says so along each walk that leads there
+  way_back : (potential : State → ℕ) → IsConsistent d q potential → (w : List Link) (s : State) → Reaches d q w s → potential s < NO_WAY
+      → potential (start_of q) < NO_WAY
+  way_back potential up w s starts way = way
+  way_back potential up w s (steps {v} r (by_link {leg = k} l a enters leaves)) way =
+      let leg = reached_leg d q v (record { leg = k; router = l.from }) r in
+      way_back potential up v (record { leg = k; router = l.from }) r ((up.links k l leg.0 leg.1 (leads_on v l k a leaves r) enters).1 way)
+  way_back potential up w s (steps {v} r (by_turn {leg = k} {router = router} within target)) way =
+      let leg = reached_leg d q v (record { leg = k; router = router }) r in
+      way_back potential up v (record { leg = k; router = router }) r (omega (arith, up.turns k router leg.0 within target, way))
+
+  -- where it says that there is none from the start, no walk is a route
+  pub no_way : (potential : State → ℕ) → IsConsistent d q potential → potential (end_state q) ≡ 0 → potential (start_of q) ≡ NO_WAY → (w : List Link) → IsRoute d q w → ⊥
+  no_way potential up end start w route =
+      omega (arith, way_back potential up w (end_state q) (route_reaches d q w route) (omega (arith, end)), start)
 
   -- what leads on into a state behind the closed legs, from a state that is open, is behind them
   step_behind : (labels : Labels) (closed : ℕ) → IsClosed d q labels closed → (v x : List Link) (s t : State) → Reaches d q v s → IsStep d q v s x t

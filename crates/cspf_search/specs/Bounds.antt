@@ -8,20 +8,23 @@ use Rattle.cspf_db.specs.Admissible.{IsAdmitted}
 use Rattle.cspf_db.specs.Index.{router_list, links_of}
 use Rattle.cspf_search.specs.declared.ring.Ring.{Ring}
 use Rattle.cspf_search.specs.Frontier.{IsEnd, IsStateIndex}
-use Rattle.cspf_search.specs.States.{LeadsOn, MayBeLeft, MayTurn}
+use Rattle.cspf_search.specs.Settled.{IsWithin}
+use Rattle.cspf_search.specs.States.{LeadsOn, MayBeLeft, MayEnter, MayTurn}
 
 -- the bound of the state at an index
 abbrev pub bound_at : List ℕ → ℕ → ℕ
 bound_at bounds i = slice_index_or bounds i 0
 
--- A bound for each state: no link that leads on lowers it by more than its metric, and no turn to the
--- next leg lowers it; at the tail-end in the last leg it is 0. So it is no more than the cost to go.
+-- A bound for each state: no link that leads on lowers it by more than its metric, nor from what says
+-- that there is no way to what says that there is one, and no turn to the next leg lowers it; at the
+-- tail-end in the last leg it is 0. So it is no more than the cost to go.
 pub record AreBounds (d : Database) (q : Request) (bounds : List ℕ) : Type 0 where
   pub many : length bounds ≡ (length q.hops + 1) * MOST_ROUTERS
   pub small : (i : ℕ) → bound_at bounds i < 2 ^ 32
   pub links : (i j : ℕ) → IsStateIndex d q i → IsStateIndex d q j → i / MOST_ROUTERS ≡ j / MOST_ROUTERS → (l : Link) → LeadsOn d q l
+      → MayEnter d q (j / MOST_ROUTERS + 1) l.to
       → l.from ≡ slice_index (router_list d) (i % MOST_ROUTERS) → l.to ≡ slice_index (router_list d) (j % MOST_ROUTERS)
-      → bound_at bounds i ≤ bound_at bounds j + l.metric
+      → IsWithin (bound_at bounds i) (bound_at bounds j) l.metric
   pub turns : (i : ℕ) → IsStateIndex d q i → i / MOST_ROUTERS < length q.hops
       → MayTurn d q (i / MOST_ROUTERS + 1) (slice_index (router_list d) (i % MOST_ROUTERS)) → bound_at bounds i ≤ bound_at bounds (i + MOST_ROUTERS)
   pub last : (i : ℕ) → IsStateIndex d q i → i / MOST_ROUTERS ≡ length q.hops
@@ -30,24 +33,30 @@ pub record AreBounds (d : Database) (q : Request) (bounds : List ℕ) : Type 0 w
 -- The bound of each router from a leg on, as far as an edge, where these are the bounds of its targets
 -- behind it: so it is for the lower of the two.
 pub record IsLeg (d : Database) (q : Request) (leg : ℕ) (near : List ℕ) (edge : ℕ) (ahead : List ℕ) : Type 0 where
-  pub links : (u w : ℕ) (l : Link) → LeadsOn d q l → IsEnd d l.from u → IsEnd d l.to w
-      → min (bound_at near u) edge ≤ min (bound_at near w) edge + l.metric
+  pub links : (u w : ℕ) (l : Link) → LeadsOn d q l → MayEnter d q (leg + 1) l.to → IsEnd d l.from u → IsEnd d l.to w
+      → IsWithin (min (bound_at near u) edge) (min (bound_at near w) edge) l.metric
   pub targets : (p : ℕ) → p < length (router_list d)
       → MayTurn d q (leg + 1) (slice_index (router_list d) p) → min (bound_at near p) edge ≤ bound_at ahead p
+
+-- the targets of a leg have no greater bounds than these behind it
+abbrev pub AreReached : Database → Request → ℕ → Ring → List ℕ → Type 0
+AreReached d q leg ring ahead =
+    (p : ℕ) → p < length (router_list d) → MayTurn d q (leg + 1) (slice_index (router_list d) p)
+    → bound_at ring.near.items p ≤ bound_at ahead p
 
 -- whether the links that arrive at a router were all looked at
 abbrev pub is_done : Ring → ℕ → Bool
 is_done ring w = slice_index_or ring.done.items w false
 
--- no link that leads on to a router that is marked lowers the bound by more than its metric
-abbrev pub AreLooked : Database → Request → List ℕ → List Bool → Type 0
-AreLooked d q near marks =
-    (u w : ℕ) → slice_index_or marks w false ≡ true → (l : Link) → LeadsOn d q l → IsEnd d l.from u → IsEnd d l.to w
-    → bound_at near u ≤ bound_at near w + l.metric
+-- in a leg the bounds of the routers that are marked are within each link that leads on to them
+abbrev pub AreLooked : Database → Request → ℕ → List ℕ → List Bool → Type 0
+AreLooked d q leg near marks =
+    (u w : ℕ) → slice_index_or marks w false ≡ true → (l : Link) → LeadsOn d q l → MayEnter d q (leg + 1) l.to → IsEnd d l.from u → IsEnd d l.to w
+    → IsWithin (bound_at near u) (bound_at near w) l.metric
 
 -- so it is of the routers that are done
-abbrev pub IsRing : Database → Request → Ring → Type 0
-IsRing d q ring = AreLooked d q ring.near.items ring.done.items
+abbrev pub IsRing : Database → Request → ℕ → Ring → Type 0
+IsRing d q leg ring = AreLooked d q leg ring.near.items ring.done.items
 
 -- the bound is nowhere more than before
 abbrev pub IsLower : Ring → Ring → Type 0
@@ -64,10 +73,10 @@ pub record Falls (old new : Ring) : Type 0 where
 abbrev pub IsPassed : Database → Request → ℕ → Ring → ℕ → ℕ → Type 0
 IsPassed d q base ring from at =
     (l : Link) → slice_get (links_of d) at ≡ Some l → IsAdmitted q l → MayBeLeft d q (slice_index (router_list d) from)
-    → bound_at ring.near.items from ≤ base + l.metric
+    → IsWithin (bound_at ring.near.items from) base l.metric
 
 -- so it is of each link that leads on to a router
 abbrev pub ArePassed : Database → Request → ℕ → Ring → ℕ → Type 0
 ArePassed d q base ring to =
     (u : ℕ) (l : Link) → LeadsOn d q l → IsEnd d l.from u → IsEnd d l.to to
-    → bound_at ring.near.items u ≤ base + l.metric
+    → IsWithin (bound_at ring.near.items u) base l.metric

@@ -54,11 +54,12 @@ pub record AreRoles (d : Database) (q : Request) (roles : List Role) : Type 0 wh
 abbrev pub nothing : Role
 nothing = record { enter = false; target = false }
 
--- so it is for the routers before an index in each leg, and for the one there in the first legs
+-- so it is for each router in the last leg, for the routers before an index in each other, and for the
+-- one there in the first legs
 abbrev pub AreRolesUpTo : Database → Request → ℕ → ℕ → List Role → Type 0
 AreRolesUpTo d q place legs roles =
     (i : ℕ) (e : Role) → IsStateIndex d q i
-    → (i % MOST_ROUTERS < place) ⊎ ((i % MOST_ROUTERS ≡ place) × (i / MOST_ROUTERS < legs))
+    → (i / MOST_ROUTERS ≡ length q.hops) ⊎ (i % MOST_ROUTERS < place) ⊎ ((i % MOST_ROUTERS ≡ place) × (i / MOST_ROUTERS < legs))
     → IsRole d q (state_at d i) (slice_index_or roles i e)
 
 -- a node for the indexes past the end of a list
@@ -151,16 +152,16 @@ abbrev pub label_at : List Label → ℕ → Label
 label_at labels i = slice_index_or labels i no_label
 
 -- each target of the leg of a state has the label of a settled state
-abbrev pub AreTargetsSettled : List Role → List Label → ℕ → Type 0
-AreTargetsSettled roles labels at =
-    (i : ℕ) → i / MOST_ROUTERS ≡ at / MOST_ROUTERS → IsTrue (slice_index_or roles i nothing).target
-    → (label_at labels i).rank ≡ 0
+abbrev pub AreTargetsSettled : Database → List Role → List Label → ℕ → Type 0
+AreTargetsSettled d roles labels at =
+    (i : ℕ) → i % MOST_ROUTERS < length (router_list d) → i / MOST_ROUTERS ≡ at / MOST_ROUTERS
+    → IsTrue (slice_index_or roles i nothing).target → (label_at labels i).rank ≡ 0
 
 -- the floor is behind the leg of a state, where each target is settled
-pub record IsRaised (roles : List Role) (labels : List Label) (at floor : ℕ) : Type 0 where
+pub record IsRaised (d : Database) (roles : List Role) (labels : List Label) (at floor : ℕ) : Type 0 where
   pub target : IsTrue (slice_index_or roles at nothing).target
   pub next : floor ≡ at - at % MOST_ROUTERS + MOST_ROUTERS
-  pub settled : AreTargetsSettled roles labels at
+  pub settled : AreTargetsSettled d roles labels at
 
 -- what a key of a state asks
 pub record IsKey (d : Database) (q : Request) (goal : Goal) (key : Key) : Type 0 where

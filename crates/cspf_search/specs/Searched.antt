@@ -2,15 +2,18 @@
 use Rattle.std.specs.Prelude.{◌≡◌, ◌+◌, ◌*◌, ◌≤◌, None, List, length}
 use Rattle.cspf_db.specs.declared.limits.TheConstants.{MOST_ROUTERS}
 use Rattle.cspf_db.specs.declared.request.Request.{Request}
+use Rattle.cspf_db.specs.declared.link.Link.{Link}
 use Rattle.cspf_db.specs.Database.{Database}
+use Rattle.cspf_db.specs.Routes.{IsRoute}
 use Rattle.cspf_search.specs.declared.arena.Node.{Node}
 use Rattle.cspf_search.specs.States.{end_state}
-use Rattle.cspf_search.specs.Settled.{AreSettled, IsStuck}
+use Rattle.cspf_search.specs.Settled.{AreSettled}
 use Rattle.cspf_search.specs.Arena.{AreNodes, labels_of}
 
--- The nodes that are settled when the tail-end is in the last of the legs, or when nothing leads on.
+-- The nodes that are settled when the tail-end is in the last of the legs, or when it is known that no
+-- route is there.
 pub record IsSearched (d : Database) (q : Request) (nodes : List Node) : Type 0 where
   pub arena : AreNodes nodes
   pub few : length nodes ≤ (length q.hops + 1) * MOST_ROUTERS
   pub settled : AreSettled d q (labels_of nodes)
-  pub whole : labels_of nodes (end_state q) ≡ None → IsStuck d q (labels_of nodes)
+  pub whole : labels_of nodes (end_state q) ≡ None → (w : List Link) → IsRoute d q w → ⊥

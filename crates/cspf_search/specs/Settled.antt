@@ -7,7 +7,8 @@ use Rattle.cspf_db.specs.declared.link.Link.{Link}
 use Rattle.cspf_db.specs.declared.request.Request.{Request}
 use Rattle.cspf_db.specs.Database.{Database}
 use Rattle.cspf_db.specs.Walks.{cost_of, locals_of, walk_cmp}
-use Rattle.cspf_search.specs.States.{State, LeadsOn, IsStep, Reaches, start_of, MayTurn}
+use Rattle.cspf_search.specs.declared.limits.TheConstants.{NO_WAY}
+use Rattle.cspf_search.specs.States.{State, LeadsOn, IsStep, Reaches, start_of, MayEnter, MayTurn}
 
 -- the walk that is settled at each state, if there is one
 abbrev pub Labels : Type 0
@@ -31,11 +32,15 @@ potential_cmp potential a b =
 abbrev pub RanksNoLater : (State → ℕ) → State → List Link → State → List Link → Type 0
 RanksNoLater potential s v t w = is_gt (potential_cmp potential (s, v) (t, w)) ≡ false
 
--- No link that leads on lowers the potential by more than its metric, and no turn to the next leg
--- lowers it.
+-- A potential is no more than one ahead and a metric, and says that there is a way where that does.
+abbrev pub IsWithin : ℕ → ℕ → ℕ → Type 0
+IsWithin potential ahead metric = (potential ≤ ahead + metric) × (ahead < NO_WAY → potential < NO_WAY)
+
+-- No link that leads on to a router that it may enter lowers the potential by more than its metric, and
+-- no turn to the next leg lowers it.
 pub record IsConsistent (d : Database) (q : Request) (potential : State → ℕ) : Type 0 where
-  pub links : (leg : ℕ) (l : Link) → 1 ≤ leg → leg ≤ length q.hops + 1 → LeadsOn d q l
-      → potential (record { leg = leg; router = l.from }) ≤ potential (record { leg = leg; router = l.to }) + l.metric
+  pub links : (leg : ℕ) (l : Link) → 1 ≤ leg → leg ≤ length q.hops + 1 → LeadsOn d q l → MayEnter d q leg l.to
+      → IsWithin (potential (record { leg = leg; router = l.from })) (potential (record { leg = leg; router = l.to })) l.metric
   pub turns : (leg router : ℕ) → 1 ≤ leg → leg ≤ length q.hops → MayTurn d q leg router
       → potential (record { leg = leg; router = router }) ≤ potential (record { leg = suc leg; router = router })
 

@@ -2,10 +2,12 @@ ghost use Rattle.std.specs.Prelude.{◌≡◌, ◌≢◌, ◌+◌, ◌*◌, ◌<
 ghost use Rattle.cspf_search.specs.declared.roles.Role.{Role as Stood};
 ghost use Rattle.cspf_search.specs.Query.{IsQuery};
 ghost use Rattle.cspf_search.specs.States.{MayBeLeft};
-ghost use Rattle.cspf_search.specs.Bounds.{ArePassed, AreBounds, Falls, IsLeg, IsLower, IsPassed, IsRing, bound_at, is_done};
+ghost use Rattle.cspf_search.specs.Frontier.{IsEnd};
+ghost use Rattle.cspf_search.specs.Bounds.{ArePassed, AreReached, AreBounds, Falls, IsLeg, IsLower, IsPassed, IsRing, bound_at, is_done};
 ghost use Rattle.cspf_db.specs.Index.{links_of, router_list};
 ghost use Rattle.cspf_db.specs.declared.limits.TheConstants.{NO_LINK};
 
+use crate::limits::{FARTHEST, NO_WAY};
 use crate::query::Query;
 use crate::ring::Ring;
 use crate::roles::Role;
@@ -15,7 +17,7 @@ use std::alloc::{AllocError, Global};
 use std::cmp::Reverse;
 
 /// How many routers the backward search settles in the last leg at most.
-const RING: usize = 32;
+const RING: usize = 24;
 
 /// How many it settles in a leg to a hop at most, since more is searched before that ends.
 const WIDE: usize = 64;
@@ -51,7 +53,7 @@ fn pass(
         return Ok(());
     }
     let link = &query.table.links()[usize::from(reverse)];
-    let ahead = base.saturating_add(link.metric);
+    let ahead = base.saturating_add(link.metric).min(FARTHEST);
     if near <= ahead || !accepts(link, query.request) {
         return Ok(());
     }
@@ -80,14 +82,21 @@ fn walk(query: Query<'_>, to: usize, base: u32, ring: &mut Ring) -> Result<(), A
     Ok(())
 }
 
-/// Looks at all links that arrive at the router at an index.
-fn take(query: Query<'_>, to: usize, ring: &mut Ring) -> Result<(), AllocError>
+/// Looks at all links that arrive at the router at an index, unless no link may lead a route there in
+/// the leg.
+fn take(query: Query<'_>, leg_index: usize, to: usize, ring: &mut Ring) -> Result<(), AllocError>
     requires query { IsQuery query }
+    requires leg { leg_index ≤ length query.request.now.hops }
     requires within { to < MOST_ROUTERS }
-    requires ring { IsRing query.table.now query.request.now ring.old }
-    ensures ring { OnOk result (IsRing query.entry.table.now query.entry.request.now ring.new) }
+    requires ring { IsRing query.table.now query.request.now leg_index ring.old }
+    ensures ring { OnOk result
+        (IsRing query.entry.table.now query.entry.request.now leg_index ring.new) }
     ensures lower { OnOk result (IsLower ring.old ring.new) }
 {
+    if !query.roles[leg_index * MOST_ROUTERS + to].enter {
+        ring.done[to] = true;
+        return Ok(());
+    }
     let base = ring.near[to];
     walk(query, to, base, ring)?;
     if ring.near[to] == base {
@@ -96,11 +105,20 @@ fn take(query: Query<'_>, to: usize, ring: &mut Ring) -> Result<(), AllocError>
     Ok(())
 }
 
-/// Settles the routers that wait, nearest first, up to a count, whose bounds are less than this.
-fn grow(query: Query<'_>, most: usize, top: u32, ring: &mut Ring) -> Result<(), AllocError>
+/// Settles the routers that wait in a leg, nearest first, up to a count, whose bounds are less than
+/// this.
+fn grow(
+    query: Query<'_>,
+    leg_index: usize,
+    most: usize,
+    top: u32,
+    ring: &mut Ring,
+) -> Result<(), AllocError>
     requires query { IsQuery query }
-    requires ring { IsRing query.table.now query.request.now ring.old }
-    ensures ring { OnOk result (IsRing query.entry.table.now query.entry.request.now ring.new) }
+    requires leg { leg_index ≤ length query.request.now.hops }
+    requires ring { IsRing query.table.now query.request.now leg_index ring.old }
+    ensures ring { OnOk result
+        (IsRing query.entry.table.now query.entry.request.now leg_index ring.new) }
     ensures lower { OnOk result (IsLower ring.old ring.new) }
 {
     for _taken in 0..most {
@@ -110,107 +128,153 @@ fn grow(query: Query<'_>, most: usize, top: u32, ring: &mut Ring) -> Result<(), 
         if ring.near[to] >= top {
             return Ok(());
         }
-        take(query, to, ring)?;
+        take(query, leg_index, to, ring)?;
     }
     Ok(())
 }
 
-/// Begins a leg: nothing is done, and its targets wait, each with its bound in the next leg, which
-/// is nothing in the last one. The states of the leg begin at an index. It answers from where on it
-/// is no use to look further: where there are more targets than are taken, from the farthest of them
-/// on.
-fn begin(roles: &[Role], first: usize, ahead: &[u32], ring: &mut Ring) -> Result<u32, AllocError>
-    requires within { first + MOST_ROUTERS ≤ length roles.now }
+/// Begins a leg to a hop: nothing is done, and its targets wait from which there is a way, each with
+/// its bound in the next leg. The states of the leg begin at an index, one for each of the routers,
+/// which are counted. It answers from where on it is no use to look further: where there are more
+/// targets than are taken, from the farthest of them on.
+fn begin(
+    roles: &[Role],
+    first: usize,
+    count: usize,
+    ahead: &[u32],
+    ring: &mut Ring,
+) -> Result<u32, AllocError>
+    requires within { first + count ≤ length roles.now }
+    requires few { count ≤ MOST_ROUTERS }
     ensures none { OnOk result ((w : ℕ) → is_done ring.new w ≡ false) }
-    ensures targets { OnOk result ((p : ℕ) (e : Stood) → p < MOST_ROUTERS
+    ensures targets { OnOk result ((p : ℕ) (e : Stood) → p < count
         → IsTrue (slice_index_or roles.now (first + p) e).target
         → bound_at ring.new.near.items p ≤ bound_at ahead.now p) }
 {
-    ring.near.fill(u32::MAX);
-    ring.done.fill(false);
-    ring.heap.clear();
+    ring.clear();
     let mut top = 0;
-    for place in 0..MOST_ROUTERS {
+    for place in 0..count {
         if roles[first + place].target {
             let least = match ahead.get(place) {
                 Some(bound) => *bound,
                 None => 0,
             };
             ring.near[place] = least;
-            ring.heap.push(Reverse((least, place as u16)))?;
-            top = least.max(top);
+            if least < NO_WAY {
+                ring.heap.push(Reverse((least, place as u16)))?;
+                top = least.max(top);
+            }
         }
     }
-    Ok(if ring.heap.len() > WIDE {
-        top
-    } else {
-        u32::MAX
-    })
+    Ok(if ring.heap.len() > WIDE { top } else { NO_WAY })
+}
+
+/// Begins the leg behind the last hop: nothing is done, and the tail-end waits, the router at an
+/// index, with the bound 0.
+fn begin_last(to: usize, ring: &mut Ring) -> Result<(), AllocError>
+    requires { to < MOST_ROUTERS }
+    ensures none { OnOk result ((w : ℕ) → is_done ring.new w ≡ false) }
+    ensures target { OnOk result (bound_at ring.new.near.items to ≡ 0) }
+{
+    ring.clear();
+    ring.near[to] = 0;
+    ring.heap.push(Reverse((0, to as u16)))?;
+    Ok(())
+}
+
+/// Searches from the targets of a leg, whose bounds behind it are those ahead, which is nothing behind
+/// the last leg. The tail-end is the router at an index.
+fn search_back(
+    query: Query<'_>,
+    to: usize,
+    leg_index: usize,
+    ahead: &[u32],
+    ring: &mut Ring,
+) -> Result<(), AllocError>
+    requires query { IsQuery query }
+    requires to { IsEnd query.table.now query.request.now.to to }
+    requires leg { leg_index ≤ length query.request.now.hops }
+    ensures ring { OnOk result (IsRing query.entry.table.now query.entry.request.now leg_index ring.new) }
+    ensures targets { OnOk result
+        (AreReached query.entry.table.now query.entry.request.now leg_index ring.new ahead.now) }
+{
+    if leg_index == query.request.hops.len() {
+        begin_last(to, ring)?;
+        return grow(query, leg_index, RING, NO_WAY, ring);
+    }
+    let count = query.table.routers().len();
+    let top = begin(query.roles, leg_index * MOST_ROUTERS, count, ahead, ring)?;
+    grow(query, leg_index, WIDE, top, ring)
 }
 
 /// Finds the bound of each router from a leg on, as far as an edge, where it is known of the next
-/// leg.
+/// leg. The tail-end is the router at an index.
 fn leg_edge(
     query: Query<'_>,
+    to: usize,
     leg_index: usize,
     ahead: &[u32],
     ring: &mut Ring,
 ) -> Result<u32, AllocError>
     requires query { IsQuery query }
+    requires to { IsEnd query.table.now query.request.now.to to }
     requires leg { leg_index ≤ length query.request.now.hops }
     ensures { IfOk result (λ edge.
         IsLeg query.entry.table.now query.entry.request.now leg_index ring.new.near.items edge ahead.now) }
 {
-    let top = begin(query.roles, leg_index * MOST_ROUTERS, ahead, ring)?;
-    let most = if leg_index < query.request.hops.len() {
-        WIDE
-    } else {
-        RING
-    };
-    grow(query, most, top, ring)?;
-    Ok(ring.edge())
+    search_back(query, to, leg_index, ahead, ring)?;
+    Ok(ring.edge(query.table.routers().len()))
 }
 
 /// Sets the bound of each router in a leg, as far as its edge. The states of the leg begin at an
-/// index.
-fn set_leg(bounds: &mut [u32], first: usize, near: &[u32], edge: u32)
-    requires within { first + MOST_ROUTERS ≤ length bounds.old }
-    requires near { length near.now ≡ MOST_ROUTERS }
-    ensures leg { (p : ℕ) → p < MOST_ROUTERS
+/// index, one for each of the routers, which are counted.
+fn set_leg(bounds: &mut [u32], first: usize, count: usize, near: &[u32], edge: u32)
+    requires within { first + count ≤ length bounds.old }
+    requires near { count ≤ length near.now }
+    ensures leg { (p : ℕ) → p < count
         → bound_at bounds.new (first + p) ≡ min (bound_at near.now p) edge }
-    ensures others { (i : ℕ) → (i < first) ⊎ (first + MOST_ROUTERS ≤ i)
+    ensures others { (i : ℕ) → (i < first) ⊎ (first + count ≤ i)
         → bound_at bounds.new i ≡ bound_at bounds.old i }
 {
-    for place in 0..MOST_ROUTERS {
+    for place in 0..count {
         bounds[first + place] = near[place].min(edge);
     }
 }
 
-/// Sets the bound of each router in each leg, from the last leg back to the first.
-fn set_legs(query: Query<'_>, ring: &mut Ring, bounds: &mut [u32]) -> Result<(), AllocError>
+/// Sets the bound of each router in each leg, from the last leg back to the first. The tail-end is the
+/// router at an index.
+fn set_legs(
+    query: Query<'_>,
+    to: usize,
+    ring: &mut Ring,
+    bounds: &mut [u32],
+) -> Result<(), AllocError>
     requires query { IsQuery query }
+    requires to { IsEnd query.table.now query.request.now.to to }
     requires bounds { AreBounds query.table.now query.request.now bounds.old }
     requires zeros { (i : ℕ) → bound_at bounds.old i ≡ 0 }
     ensures { OnOk result (AreBounds query.entry.table.now query.entry.request.now bounds.new) }
 {
+    let count = query.table.routers().len();
     let mut leg_index = query.request.hops.len() + 1;
     while leg_index > 0 {
         leg_index -= 1;
         let ahead = &bounds[leg_index * MOST_ROUTERS + MOST_ROUTERS..];
-        let edge = leg_edge(query, leg_index, ahead, ring)?;
-        set_leg(bounds, leg_index * MOST_ROUTERS, &ring.near, edge);
+        let edge = leg_edge(query, to, leg_index, ahead, ring)?;
+        set_leg(bounds, leg_index * MOST_ROUTERS, count, &ring.near, edge);
     }
     Ok(())
 }
 
 /// For each state a lower bound of the cost from it to the tail-end, which is close to it near the
-/// targets of its leg.
-pub(crate) fn bounds(alloc: Global, query: Query<'_>) -> Result<Vec<u32>, AllocError>
+/// targets of its leg. The tail-end is the router at an index.
+pub(crate) fn bounds(alloc: Global, query: Query<'_>, to: usize) -> Result<Vec<u32>, AllocError>
     requires query { IsQuery query }
+    requires to { IsEnd query.table.now query.request.now.to to }
     ensures { IfOk result (λ bounds. AreBounds query.entry.table.now query.entry.request.now bounds.items) }
 {
     let mut ring = Ring::new(alloc)?;
     let mut bounds = Vec::from_elem(alloc, 0u32, query.legs * MOST_ROUTERS)?;
-    set_legs(query, &mut ring, &mut bounds)?;
+    set_legs(query, to, &mut ring, &mut bounds)?;
     Ok(bounds)
 }

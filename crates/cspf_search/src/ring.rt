@@ -1,6 +1,7 @@
 ghost use Rattle.std.specs.Prelude.{◌≡◌, ◌<◌, ◌≤◌, ℕ, false, IfSome, OnOk, length};
 ghost use Rattle.cspf_db.specs.declared.limits.TheConstants.{MOST_ROUTERS};
 
+use crate::limits::{NO_WAY, ROOM_FOR_WAITING};
 use cspf_db::MOST_ROUTERS;
 use std::alloc::{AllocError, Global};
 use std::cmp::Reverse;
@@ -30,8 +31,17 @@ impl Ring {
         Ok(Ring {
             near: Vec::from_elem(alloc, 0u32, MOST_ROUTERS)?,
             done: Vec::from_elem(alloc, false, MOST_ROUTERS)?,
-            heap: BinaryHeap::new(alloc),
+            heap: BinaryHeap::with_capacity(alloc, ROOM_FOR_WAITING)?,
         })
+    }
+
+    /// Begins anew: nothing is done, and nothing waits.
+    pub(crate) fn clear(&mut self)
+        ensures { (w : ℕ) → is_done self.new w ≡ false }
+    {
+        self.near.fill(NO_WAY);
+        self.done.fill(false);
+        self.heap.clear();
     }
 
     /// Lowers the bound of the router at an index, which then waits, if this is less.
@@ -65,16 +75,17 @@ impl Ring {
         None
     }
 
-    /// The least bound of a router that isn't done.
-    pub(crate) fn edge(&self) -> u32
-        ensures { (w : ℕ) → w < MOST_ROUTERS → is_done self.now w ≡ false
+    /// The least bound of a router that isn't done, of the first ones up to a count.
+    pub(crate) fn edge(&self, count: usize) -> u32
+        requires { count ≤ MOST_ROUTERS }
+        ensures { (w : ℕ) → w < count → is_done self.now w ≡ false
             → result ≤ bound_at self.now.near.items w }
     {
-        let mut least = u32::MAX;
-        for place in 0..MOST_ROUTERS {
-            if !self.done[place] && self.near[place] < least {
-                least = self.near[place];
-            }
+        let mut least = NO_WAY;
+        for place in 0..count {
+            let bound = self.near[place];
+            let open = if self.done[place] { NO_WAY } else { bound };
+            least = least.min(open);
         }
         least
     }

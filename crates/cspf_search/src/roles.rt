@@ -1,10 +1,11 @@
 ghost use Rattle.cspf_search.specs.declared.limits.TheConstants.{MOST_LEGS};
-ghost use Rattle.std.specs.Prelude.{◌≡◌, ℕ, true, ◌+◌, ◌-◌, ◌*◌, ◌/◌, ◌%◌, ◌<◌, ◌≤◌, ◌↔◌, ◌⊎◌, IsTrue, IfOk, length, slice_get, slice_index_or};
+ghost use Rattle.std.specs.Prelude.{◌≡◌, ◌≢◌, ℕ, true, ◌+◌, ◌-◌, ◌*◌, ◌/◌, ◌%◌, ◌<◌, ◌≤◌, ◌↔◌, ◌⊎◌, IsTrue, IfOk, length, slice_get, slice_index, slice_index_or};
 ghost use Rattle.cspf_db.specs.Index.{router_list};
 ghost use Rattle.cspf_db.specs.Targets.{IsLoose};
-ghost use Rattle.cspf_search.specs.Frontier.{AreTargetsSettled, IsRaised, IsRole, AreRoles, AreRolesUpTo, nothing, state_at};
+ghost use Rattle.cspf_search.specs.Frontier.{AreListed, AreTargetsSettled, IsEnd, IsRaised, IsRole, AreRoles, AreRolesUpTo, nothing, state_at};
 
 use crate::labels::Label;
+use crate::query::Query;
 use cspf_addr::Addr;
 use cspf_db::{MOST_ROUTERS, Request, Table};
 use cspf_graph::member_at;
@@ -77,7 +78,53 @@ fn make_role(table: &Table, request: &Request, routers: &[Addr], roles: &[Role],
     }
 }
 
-/// Finds what a route may do at the router at an index in each leg.
+/// What a route may do at the router at an index in the leg behind the last hop. That leg is loose,
+/// and the tail-end is its one target.
+fn last_role(table: &Table, request: &Request, place: usize) -> Role
+    requires { place < length (router_list table.now) }
+    ensures { IsRole table.now request.now (record {
+      leg = length request.now.hops + 1;
+      router = slice_index (router_list table.now) place;
+    }) result }
+{
+    let last = table.routers()[place] == request.to;
+    Role {
+        enter: last || table.transit_at(place),
+        target: last,
+    }
+}
+
+/// The same where the router isn't the tail-end.
+fn passed_role(table: &Table, request: &Request, place: usize) -> Role
+    requires { place < length (router_list table.now) }
+    ensures { slice_index (router_list table.now) place ≢ request.now.to
+        → IsRole table.now request.now (record {
+          leg = length request.now.hops + 1;
+          router = slice_index (router_list table.now) place;
+        }) result }
+{
+    Role {
+        enter: table.transit_at(place),
+        target: false,
+    }
+}
+
+/// Finds what a route may do at each router in the leg behind the last hop. The tail-end is the
+/// router at an index.
+fn set_last_roles(table: &Table, request: &Request, to: usize, roles: &mut [Role])
+    requires listed { AreListed table.now }
+    requires to { IsEnd table.now request.now.to to }
+    requires many { length roles.old ≡ (length request.now.hops + 1) * MOST_ROUTERS }
+    ensures { AreRolesUpTo table.now request.now 0 0 roles.new }
+{
+    let first = request.hops.len() * MOST_ROUTERS;
+    for place in 0..table.routers().len() {
+        roles[first + place] = passed_role(table, request, place);
+    }
+    roles[first + to] = last_role(table, request, to);
+}
+
+/// Finds what a route may do at the router at an index in each leg to a hop.
 fn set_roles(table: &Table, request: &Request, routers: &[Addr], roles: &mut [Role], place: usize)
     requires within { place < MOST_ROUTERS }
     requires listed { routers.now ≡ router_list table.now }
@@ -85,40 +132,51 @@ fn set_roles(table: &Table, request: &Request, routers: &[Addr], roles: &mut [Ro
     requires before { AreRolesUpTo table.now request.now place 0 roles.old }
     ensures after { AreRolesUpTo table.now request.now (place + 1) 0 roles.new }
 {
-    for leg_index in 0..request.hops.len() + 1 {
+    for leg_index in 0..request.hops.len() {
         let at = leg_index * MOST_ROUTERS + place;
         roles[at] = make_role(table, request, routers, roles, at);
     }
 }
 
-/// What a route may do at each router in each leg, router by router, so that the links of each are
-/// looked up once for all legs.
+/// What a route may do at each router in each leg. The legs to hops are looked at router by router,
+/// so that the links of each are looked up once for all of them. The tail-end is the router at an
+/// index.
 pub(crate) fn roles(
     alloc: Global,
     table: &Table,
     request: &Request,
     legs: usize,
+    to: usize,
 ) -> Result<Vec<Role>, AllocError>
+    requires listed { AreListed table.now }
+    requires to { IsEnd table.now request.now.to to }
     requires count { legs ≡ length request.now.hops + 1 }
     requires most { legs ≤ MOST_LEGS }
     ensures { IfOk result (λ roles. AreRoles table.now request.now roles.items) }
 {
     let routers = table.routers();
     let mut roles = Vec::from_elem(alloc, NOTHING, legs * MOST_ROUTERS)?;
-    for place in 0..MOST_ROUTERS {
+    set_last_roles(table, request, to, &mut roles);
+    if request.hops.is_empty() {
+        return Ok(roles);
+    }
+    for place in 0..routers.len() {
         set_roles(table, request, routers, &mut roles, place);
     }
     Ok(roles)
 }
 
 /// Whether each target of the leg of a state at which a route may stand is settled.
-fn are_settled(roles: &[Role], labels: &[Label], at: usize) -> bool
-    requires within { at - at % MOST_ROUTERS + MOST_ROUTERS ≤ length roles.now }
-    requires many { length labels.now ≡ length roles.now }
-    ensures { result ≡ true → AreTargetsSettled roles.now labels.now at }
+fn are_settled(query: Query<'_>, labels: &[Label], at: usize) -> bool
+    requires within { at - at % MOST_ROUTERS + MOST_ROUTERS ≤ length query.roles.now }
+    requires many { length labels.now ≡ length query.roles.now }
+    requires few { length (router_list query.table.now) ≤ MOST_ROUTERS }
+    ensures { result ≡ true
+        → AreTargetsSettled query.entry.table.now query.entry.roles.now labels.now at }
 {
     let first = at - at % MOST_ROUTERS;
-    for index in first..first + MOST_ROUTERS {
+    let roles = query.roles;
+    for index in first..first + query.table.routers().len() {
         if roles[index].target && labels[index].rank != 0 {
             return false;
         }
@@ -128,12 +186,14 @@ fn are_settled(roles: &[Role], labels: &[Label], at: usize) -> bool
 
 /// The floor once the state at an index is settled: where each target of its leg at which a route may
 /// stand is, behind that leg.
-pub(crate) fn raised(roles: &[Role], labels: &[Label], floor: usize, at: usize) -> usize
-    requires within { at - at % MOST_ROUTERS + MOST_ROUTERS ≤ length roles.now }
-    requires many { length labels.now ≡ length roles.now }
-    ensures { (result ≡ floor) ⊎ IsRaised roles.now labels.now at result }
+pub(crate) fn raised(query: Query<'_>, labels: &[Label], floor: usize, at: usize) -> usize
+    requires within { at - at % MOST_ROUTERS + MOST_ROUTERS ≤ length query.roles.now }
+    requires many { length labels.now ≡ length query.roles.now }
+    requires few { length (router_list query.table.now) ≤ MOST_ROUTERS }
+    ensures { (result ≡ floor)
+        ⊎ IsRaised query.entry.table.now query.entry.roles.now labels.now at result }
 {
-    if roles[at].target && are_settled(roles, labels, at) {
+    if query.roles[at].target && are_settled(query, labels, at) {
         at - at % MOST_ROUTERS + MOST_ROUTERS
     } else {
         floor

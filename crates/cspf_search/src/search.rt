@@ -1,5 +1,6 @@
-ghost use Rattle.cspf_search.specs.declared.limits.TheConstants.{MOST_ROUTE_LINKS};
-ghost use Rattle.std.specs.Prelude.{◌≡◌, ◌+◌, ◌*◌, ◌<◌, ◌≤◌, ℕ, None, List, ◌∷◌, [], IfOk, IfSome, IfNone, length, nat_eq};
+ghost use Rattle.cspf_search.specs.Bounds.{bound_at};
+ghost use Rattle.cspf_search.specs.declared.limits.TheConstants.{MOST_ROUTE_LINKS, NO_WAY};
+ghost use Rattle.std.specs.Prelude.{◌≡◌, ◌+◌, ◌*◌, ◌<◌, ◌≤◌, ℕ, None, List, ◌∷◌, [], IfOk, IfSome, IfNone, length, nat_eq, true};
 ghost use Rattle.std.specs.List.{AllByRecursion, IsDistinct};
 ghost use Rattle.cspf_db.specs.declared.link.Link.{Link as Linked};
 ghost use Rattle.cspf_db.specs.Best.{HasEnds, IsBestAnswer};
@@ -21,6 +22,7 @@ use crate::forward_star::star_of;
 use crate::frontier::expand;
 use crate::goal::Goal;
 use crate::labels::{OPEN, SETTLED, least, node_of};
+use crate::limits::{NO_WAY, ROOM_FOR_NODES, ROOM_FOR_WAITING};
 use crate::query::Query;
 use crate::roles::{raised, roles};
 use crate::rounds::{Round, first};
@@ -41,7 +43,9 @@ fn rooted(alloc: Global, request: &Request) -> Result<Vec<Node>, AllocError>
         cost: 0,
         links: 0,
     };
-    Vec::from_slice(alloc, &[root])
+    let mut nodes = Vec::with_capacity(alloc, ROOM_FOR_NODES)?;
+    nodes.extend_from_slice(&[root])?;
+    Ok(nodes)
 }
 
 /// The node to settle next, unless the tail-end is settled in the last of the legs or nothing leads
@@ -112,23 +116,35 @@ fn listed(table: &Table)
     let _routers = table.routers();
 }
 
-/// The same from a heap. The head-end and the tail-end are told by their index in the list of routers.
+/// Whether the bounds say that there is no way from the state at an index.
+fn is_shut(goal: Goal<'_>, at: usize) -> bool
+    requires { at < length goal.bounds.now }
+    ensures { result ≡ true → bound_at goal.entry.bounds.now at ≡ NO_WAY }
+{
+    goal.bounds[at] == NO_WAY
+}
+
+/// The same from a heap. Where the bounds say that there is no way from the head-end, that is all. The
+/// head-end and the tail-end are told by their index in the list of routers.
 fn reached(alloc: Global, query: Query<'_>, from: usize, to: usize) -> Result<Vec<Node>, AllocError>
     requires query { IsQuery query }
     requires from { IsEnd query.table.now query.request.now.from from }
     requires to { IsEnd query.table.now query.request.now.to to }
     ensures { IfOk result (λ nodes. IsSearched query.entry.table.now query.entry.request.now nodes.items) }
 {
-    let bounds = bounds(alloc, query)?;
+    let bounds = bounds(alloc, query, to)?;
     let mut goal = Goal {
         at: (query.legs - 1) * MOST_ROUTERS + to,
         floor: 0,
         bounds: &bounds,
     };
     let mut nodes = rooted(alloc, query.request)?;
+    if is_shut(goal, from) {
+        return Ok(nodes);
+    }
     let mut labels = Vec::from_elem(alloc, OPEN, query.legs * MOST_ROUTERS)?;
     labels[from] = SETTLED;
-    let mut heap = BinaryHeap::new(alloc);
+    let mut heap = BinaryHeap::with_capacity(alloc, ROOM_FOR_WAITING)?;
     expand(query, &nodes, &mut labels, &mut heap, goal, 0, from)?;
     while let Some(at) = least(query.table, query.request, goal, &labels, &mut heap) {
         let node = node_of(query.table, &nodes, &labels[at]);
@@ -139,7 +155,7 @@ fn reached(alloc: Global, query: Query<'_>, from: usize, to: usize) -> Result<Ve
         }
         labels[at] = SETTLED;
         expand(query, &nodes, &mut labels, &mut heap, goal, index, at)?;
-        goal.floor = raised(query.roles, &labels, goal.floor, at);
+        goal.floor = raised(query, &labels, goal.floor, at);
     }
     Ok(nodes)
 }
@@ -174,7 +190,7 @@ pub fn best(alloc: Global, table: &Table, request: &Request) -> Result<Outcome, 
         return Ok(Outcome::UnknownTo);
     };
     let legs = request.hops.len() + 1;
-    let roles = roles(alloc, table, request, legs)?;
+    let roles = roles(alloc, table, request, legs, to)?;
     let query = Query {
         table,
         request,
@@ -199,11 +215,11 @@ pub fn best_by_rounds(
     if !table.has_router(request.from) {
         return Ok(Outcome::UnknownFrom);
     }
-    if !table.has_router(request.to) {
+    let Some(to) = table.place_of(request.to) else {
         return Ok(Outcome::UnknownTo);
-    }
+    };
     let legs = request.hops.len() + 1;
-    let roles = roles(alloc, table, request, legs)?;
+    let roles = roles(alloc, table, request, legs, to)?;
     let query = Query {
         table,
         request,

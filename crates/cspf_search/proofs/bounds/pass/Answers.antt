@@ -16,5 +16,5 @@ returns-clause-passed c =
     ∙ ap (λ ls. slice_index_or ls c.from-2.result link) c.links.ensures.sorted
     ∙ ap (λ n. slice_index_or (links_of d) n link) c.from-2.ensures
     ∙ get_or_from_slice_get (links_of d) c.args.reverse l link here in
-    omega (arith, low, ap (λ (k : Link). k.metric) same, c.saturating_add-ahead.ensures))
+    (omega (arith, low, ap (λ (k : Link). k.metric) same, c.saturating_add.ensures, c.min-ahead.ensures), λ way. omega (arith, low, c.min-ahead.ensures)))
     c.lower.ensures.low

@@ -5,5 +5,5 @@ use Rattle.cspf_search.proofs.bounds.set_leg.Given as goal
 abbrev pub invariant-loop-place : goal.invariant-loop-place
 invariant-loop-place l = record {
   leg : (p : ℕ) → p < l.place → bound_at l.bounds (l.first + p) ≡ min (bound_at l.near p) l.edge;
-  others : (i : ℕ) → (i < l.first) ⊎ (l.first + 1024 ≤ i) → bound_at l.bounds i ≡ bound_at l.fn.bounds i;
+  others : (i : ℕ) → (i < l.first) ⊎ (l.first + l.count ≤ i) → bound_at l.bounds i ≡ bound_at l.fn.bounds i;
 }

@@ -22,10 +22,11 @@ one_more d q place leg roles role at is low within before made i e ix up =
           let there = get_or-set_other roles at i role e ne in
           let known =
           before i e ix (elim up [
-            | inl lt ↦ inl lt
-            | inr both ↦ elim (same_or_not (i / 1024) leg) [
+            | inl last ↦ inl last
+            | inr (inl lt) ↦ inr (inl lt)
+            | inr (inr both) ↦ elim (same_or_not (i / 1024) leg) [
               | inl here ↦ absurd (ne (omega (arith, is, low, here, both.0)))
-              | inr other ↦ inr (both.0, omega (arith, both.1, other))
+              | inr other ↦ inr (inr (both.0, omega (arith, both.1, other)))
             ]
           ]) in
           subst (IsRole d q (state_at d i)) (sym there) known

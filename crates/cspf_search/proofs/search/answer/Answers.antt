@@ -1,6 +1,4 @@
 use Rattle.std.proofs.Common.{arith}
-use Rattle.cspf_search.specs.Arena.{labels_of}
-use Rattle.cspf_search.proofs.Settles.{no_route}
 use Rattle.cspf_search.proofs.Answered.{no_label, best_at, route_some, route_linked, walk_most}
 use Rattle.cspf_search.proofs.search.answer.Goals as goal
 
@@ -9,7 +7,7 @@ returns-in_default c =
     let q = c.args.query.request.now in
     let nodes = c.args.nodes.now in
     let left = no_label q nodes _ c.requires.query.count _ c.index_of.ensures c.in_default.is in
-    (c.requires.ends, no_route c.args.query.table.now q (labels_of nodes) c.requires.searched.settled (c.requires.searched.whole left) left)
+    (c.requires.ends, c.requires.searched.whole left)
 
 pub route_to-requires-clause-some : goal.route_to-requires-clause-some
 route_to-requires-clause-some c =

@@ -2,6 +2,7 @@ use Rattle.std.proofs.Common.{◌≡◌, [], ◌∷◌, ◌++◌, ◌+◌, ◌-�
 use Rattle.std.proofs.lemmas.List.{length_push}
 use Rattle.std.specs.Vec.{with_item, with_items}
 use Rattle.cspf_db.specs.Index.{links_of}
+use Rattle.cspf_search.specs.declared.goal.Goal.{Goal}
 use Rattle.cspf_search.specs.declared.labels.Label.{Label}
 use Rattle.cspf_search.specs.Rounds.{CrossesBelow}
 use Rattle.cspf_search.specs.Arena.{labels_of, root_of}
@@ -9,7 +10,7 @@ use Rattle.cspf_search.specs.Bounds.{AreBounds}
 use Rattle.cspf_search.specs.Frontier.{AreLabels}
 use Rattle.cspf_search.proofs.Grown.{root_nodes, root_settled}
 use Rattle.cspf_search.proofs.Popped.{first_labels}
-use Rattle.cspf_search.proofs.Reached.{IsAsked, taken, ended, first_floor, first_left, stepped, stepped_few, node_there, at_goal, settle, still_left, floor_on, labels_on}
+use Rattle.cspf_search.proofs.Reached.{IsAsked, taken, ended, no_start, first_floor, first_left, stepped, stepped_few, node_there, at_goal, settle, still_left, floor_on, labels_on}
 use Rattle.cspf_search.proofs.Slices.{written_back}
 use Rattle.cspf_search.proofs.search.reached.Goals as goal
 
@@ -23,7 +24,30 @@ expand-requires-clause-before c =
     rw (c.deref-2.ensures.value, c.in_ok-nodes.ensures, c.deref_mut.ensures.value, labels)
     (first_labels c.args.query.table.now c.args.query.request.now c.requires.query.listed c.args.from c.requires.from
     (record { at = (c.args.query.legs - 1) * 1024 + c.args.to; floor = 0; bounds = c.deref.result }) bounds refl blank zero refl refl
-    (heap_items c.new-heap.result) c.new-heap.ensures.items c.new-heap.ensures.heap_order (c.args.query.legs * 1024) (ap (λ n. n * 1024) c.requires.query.count))
+    (heap_items c.in_ok-heap.heap) c.in_ok-heap.ensures.items c.in_ok-heap.ensures.heap_order (c.args.query.legs * 1024) (ap (λ n. n * 1024) c.requires.query.count))
+
+pub returns-then-is_shut : goal.returns-then-is_shut
+returns-then-is_shut c =
+    let d = c.args.query.table.now in
+    let q = c.args.query.request.now in
+    let goal : Goal = record { at = (c.args.query.legs - 1) * 1024 + c.args.to; floor = 0; bounds = c.deref.result } in
+    let asked : IsAsked d q c.args.query.legs c.args.from c.args.to goal = record {
+      links = c.requires.query.links;
+      listed = c.requires.query.listed;
+      few = c.requires.query.few;
+      count = c.requires.query.count;
+      most = c.requires.query.most;
+      start = c.requires.from;
+      end = c.requires.to;
+      at = refl;
+      bounds = rw c.deref.ensures.value c.in_ok-bounds.ensures;
+    } in
+    rw c.in_ok-nodes.ensures (record {
+      arena = root_nodes q;
+      few = omega arith;
+      settled = root_settled d q;
+      whole = λ left. no_start d q c.args.query.legs c.args.from c.args.to goal asked (c.is_shut.ensures c.if-is_shut.true);
+    })
 
 pub loop-at-init : goal.loop-at-init
 loop-at-init c =
@@ -148,5 +172,5 @@ returns c =
       arena = before.arena;
       few = omega (arith, c.loop-at.invariant.few, c.requires.query.count);
       settled = before.settled;
-      whole = λ left. ended _ _ _ _ _ _ c.loop-at.invariant.asked _ _ _ before (rw c.deref-in-loop-at.ensures.value at c.in_default.ensures.none);
+      whole = ended _ _ _ _ _ _ c.loop-at.invariant.asked _ _ _ before (rw c.deref-in-loop-at.ensures.value at c.in_default.ensures.none);
     }

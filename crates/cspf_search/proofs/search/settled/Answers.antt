@@ -3,9 +3,10 @@ use Rattle.std.proofs.lemmas.List.{length_push}
 use Rattle.cspf_db.specs.Database.{IsRouterOf}
 use Rattle.cspf_db.specs.Index.{links_of}
 use Rattle.cspf_search.specs.declared.arena.Node.{Node}
-use Rattle.cspf_search.specs.Arena.{root_of, state_of}
+use Rattle.cspf_search.specs.Arena.{labels_of, root_of, state_of}
 use Rattle.cspf_search.specs.ForwardStars.{IsForwardStar}
 use Rattle.cspf_search.proofs.Grown.{root_nodes, root_settled, nodes_in_legs, nothing_crosses}
+use Rattle.cspf_search.proofs.Settles.{no_route}
 use Rattle.cspf_search.proofs.Marked.{no_stars, no_marks, star_index, stars_push, marks_push, after, new_router, new_leg}
 use Rattle.cspf_search.proofs.search.settled.Goals as goal
 
@@ -111,5 +112,7 @@ returns c =
       arena = before.arena;
       few = omega (arith, before.few, c.requires.query.count);
       settled = before.settled;
-      whole = λ left. nothing_crosses c.args.query.table.now c.args.query.request.now (links_of c.args.query.table.now) c.requires.query.links c.loop-node.nodes.items before.arena.apart (none left);
+      whole = λ left.
+          let stuck = nothing_crosses c.args.query.table.now c.args.query.request.now (links_of c.args.query.table.now) c.requires.query.links c.loop-node.nodes.items before.arena.apart (none left) in
+          no_route c.args.query.table.now c.args.query.request.now (labels_of c.loop-node.nodes.items) before.settled stuck left;
     }
