@@ -5,7 +5,7 @@ import re
 
 IMPORT = re.compile(r"ghost use Rattle\.cspf_\w+\.specs\.([\w.]+)\.\{([^}]*)\}")
 REEXPORT = re.compile(r"pub use [\w:]+?::(?:\{([^}]*)\}|(\w+));")
-FUNCTION = re.compile(r"(?:^|\n)pub fn (\w+)(.*?)\n\{", re.S)
+FUNCTION = re.compile(r'(?:^|\n)pub (?:extern "C" )?fn (\w+)(.*?)\n\{', re.S)
 IMPL = re.compile(r"\nimpl(?:<[^>]*>)? (?:\w+ for )?(\w+)[^\n]*\{\n(.*?)\n\}", re.S)
 METHOD = re.compile(r"(?:^|\n)    pub fn (\w+)(.*?)\n    \{", re.S)
 

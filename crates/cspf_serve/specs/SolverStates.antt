@@ -1,4 +1,4 @@
--- Private: what the code keeps of the state of a run, and what the answer to one row does.
+-- What the code keeps of the state of a run, and what the answer to one row does.
 use Rattle.std.specs.Prelude.{◌≡◌, ℕ, ◌+◌, ◌<◌, ◌≤◌, Option, List, take, length, Result}
 use Rattle.std.specs.Io.KnownBytes.{Appends}
 use Rattle.std.specs.Io.KnownBytes as known
@@ -31,7 +31,7 @@ pub record AreFew (solver : Solver) : Type 0 where
   pub answers : solver.answers ≤ MOST_ROWS
   pub refused : solver.refused ≤ MOST_ROWS
 
--- Where the answer to a row stops: nothing is written where memory was refused, and a prefix of the
+-- Private: where the answer to a row stops: nothing is written where memory was refused, and a prefix of the
 -- line, but not all of it, where the write failed. Before the row these bytes were written.
 abbrev pub IsCut : RunState → Result Row RowError → Option (List ℕ) → Option (List ℕ) → ℕ → SolveError → Type 0
 IsCut s row old new before error.Memory = known.Keeps old new
@@ -40,7 +40,7 @@ IsCut s row old new before (error.Write written) =
     (line : List ℕ) × (after : RunState) × IsRowAnswered s row line after
     × (size : ℕ) × (size < length line) × Appends old new (take size line) × (written ≡ before + size)
 
--- where the last line stops
+-- Private: where the last line stops.
 abbrev pub IsEndCut : List ℕ → Option (List ℕ) → Option (List ℕ) → ℕ → SolveError → Type 0
 IsEndCut line old new before error.Memory = known.Keeps old new
 IsEndCut line old new before error.Read = ⊥

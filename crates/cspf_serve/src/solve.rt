@@ -9,5 +9,6 @@ mod summary;
 pub use error::SolveError;
 pub use laws::{rows_have_one_reply, stops_at_a_prefix};
 pub use run::run_solve;
+pub use solver::Solver;
 pub(crate) use solver::{KEPT_CHANGES, keep};
 pub use summary::Summary;

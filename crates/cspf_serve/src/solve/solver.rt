@@ -17,7 +17,7 @@ pub(crate) const KEPT_CHANGES: usize = MOST_CHANGES + 1;
 
 /// What stands between two rows. A stream of any length takes no more memory than this.
 #[derive(Drop)]
-pub(crate) struct Solver {
+pub struct Solver {
     /// The database of the batches that were accepted.
     table: Table,
     /// The first of the open changes.
@@ -40,7 +40,7 @@ impl Solver {
     ghost use Rattle.cspf_serve.specs.SolverStates.{Keeps, AreFew};
 
     /// Version 0, with the empty database and no open changes.
-    pub(crate) fn new(alloc: Global) -> Result<Solver, AllocError>
+    pub fn new(alloc: Global) -> Result<Solver, AllocError>
         ensures { IfOk result (λ solver. Keeps solver start) }
     {
         Ok(Solver {
@@ -58,7 +58,7 @@ impl Solver {
     }
 
     /// Takes one more row, and answers its line: none, an empty one, for a change.
-    pub(crate) fn answer(
+    pub fn answer(
         &mut self,
         alloc: Global,
         row: &Result<Row, RowError>,
@@ -228,7 +228,7 @@ impl Solver {
     }
 
     /// The last line: rows that aren't read come before changes that are still open.
-    pub(crate) fn last_line(&self, alloc: Global, too_many: bool) -> Result<Vec<u8>, AllocError>
+    pub fn last_line(&self, alloc: Global, too_many: bool) -> Result<Vec<u8>, AllocError>
         ensures { IfOk result (λ line. (s : RunState) → Keeps self.now s
             → line.items ≡ last_line too_many s.changes) }
     {

@@ -1,0 +1,168 @@
+-- One more row, and all rows of a stream.
+use Rattle.std.proofs.Common.{◌≡◌, ℕ, suc, ◌+◌, ◌<◌, ◌≤◌, Bool, true, false, List, [], ◌∷◌, ◌++◌, take, length, length-append, Result, refl, sym, ap, subst, ◌∙◌, append_assoc, append-nil, arith}
+use Rattle.std.proofs.Math.Logic.{∥∥₁_map}
+use Rattle.std.proofs.lemmas.Bool.{lt-ltb, le-ltb}
+use Rattle.std.proofs.lemmas.List.{take_all, take_at}
+use Rattle.cspf_rows.specs.Rows.{row_of}
+use Rattle.cspf_rows.specs.declared.row.Row.{Row}
+use Rattle.cspf_rows.specs.declared.row_error.RowError.{RowError}
+use Rattle.cspf_stream.specs.RowAnswers.{AreAnswered as AreTaken}
+use Rattle.cspf_serve.specs.Script.{RunState, start, at_next_row, IsRowAnswered, AreAnswered, IsRun, is_too_many, last_line, summary_of}
+use Rattle.cspf_serve.specs.declared.solve.summary.Summary.{Summary}
+use Rattle.cspf_serve.specs.SolverStates.{Keeps}
+use Rattle.cspf_c.specs.History.{HasAnswered, IsCounted, IsOneMore, IsPast}
+use Rattle.cspf_c.specs.declared.session.Taken.{Taken}
+use Rattle.cspf_c.proofs.RowCounts.{counted_more}
+
+abbrev Rows : Type 0
+Rows = List (List (List ℕ))
+
+pub none_answered : (s : RunState) → AreAnswered s [] [] s
+unfolding AreAnswered
+none_answered s = (refl, refl)
+
+answered_more : (s t u : RunState) (done : Rows) (fields : List (List ℕ)) (out line : List ℕ) → AreAnswered s done out t
+    → IsRowAnswered (at_next_row t) (row_of fields) line u → AreAnswered s (done ++ (fields ∷ [])) (out ++ line) u
+unfolding AreAnswered
+answered_more s t u [] fields out line before step =
+    let here : IsRowAnswered (at_next_row s) (row_of fields) line u = rw before.1 at step in
+    (line, u, [], here, ap (λ o. o ++ line) before.0 ∙ sym (append-nil line), (refl, refl))
+answered_more s t u (row ∷ done) fields out line before step = (
+  before.0,
+  before.1,
+  before.2 ++ line,
+  before.3,
+  ap (λ o. o ++ line) before.4 ∙ append_assoc before.0 before.2 line,
+  answered_more before.1 t u done fields before.2 line before.5 step,
+)
+
+-- before the first row
+pub none_given : (taken : Taken) → Keeps taken.solver start → taken.answered ≡ 0 → taken.too_many ≡ false → HasAnswered taken [] []
+none_given taken kept none few = record {
+  done = [];
+  rest = [];
+  after = start;
+  split = refl;
+  answered = none_answered start;
+  kept = kept;
+  count = sym none;
+  past = rw few (refl, omega (arith, none));
+}
+
+pub none_counted : (taken : Taken) → Keeps taken.solver start → taken.answered ≡ 0 → IsCounted taken
+none_counted taken kept none = record {
+  state = start;
+  kept = kept;
+  rows = sym none;
+  changes = omega (arith, none);
+  answers = omega (arith, none);
+  refused = omega (arith, none);
+  most = omega (arith, none);
+}
+
+-- ---- a row that is answered
+
+-- where as many rows aren't answered none is behind them
+none_past : (too_many : Bool) (count : ℕ) (rest : Rows) → IsPast too_many count rest → count < 1000000 → (rest ≡ []) × (too_many ≡ false)
+none_past false count rest past room = (past.0, refl)
+none_past true count rest past room = let wrong : ⊥ = omega (arith, past.1, room) in absurd wrong
+
+has_more : (old new : Taken) (line : List ℕ) (rows : Rows) (lines : List ℕ) (fields : List (List ℕ)) → new.answered ≡ old.answered + 1 → new.too_many ≡ old.too_many
+    → old.answered < 1000000 → ((s : RunState) → Keeps old.solver s → (t : RunState) × Keeps new.solver t × IsRowAnswered (at_next_row s) (row_of fields) line t)
+    → HasAnswered old rows lines → HasAnswered new (rows ++ (fields ∷ [])) (lines ++ line)
+has_more old new line rows lines fields one same room step has =
+    let a = step has.after has.kept in
+    let none = none_past old.too_many old.answered has.rest has.past room in
+    record {
+      done = has.done ++ (fields ∷ []);
+      rest = [];
+      after = a.0;
+      split = ap (λ r. r ++ (fields ∷ [])) (has.split ∙ rw none.0 (append-nil has.done)) ∙ sym (append-nil (has.done ++ (fields ∷ [])));
+      answered = answered_more start has.after a.0 has.done fields lines line has.answered a.2;
+      kept = a.1;
+      count = length-append has.done (fields ∷ []) ∙ ap (λ n. n + 1) has.count ∙ sym one;
+      past = rw (same, none.1) (refl, omega (arith, one, room));
+    }
+
+pub one_more : (place : ℕ) (old new : Taken) (r : Result Row RowError) (line : List ℕ) → new.answered ≡ old.answered + 1 → new.too_many ≡ old.too_many
+    → old.answered < 1000000 → ((s : RunState) → Keeps old.solver s → (t : RunState) × Keeps new.solver t × IsRowAnswered (at_next_row s) r line t)
+    → IsOneMore place old r line new
+one_more place old new r line one same room step = record {
+  counted = λ counted. ∥∥₁_map counted (counted_more old new r line one room step);
+  answered = λ rows lines fields is has. has_more old new line rows lines fields one same room (rw is step) has;
+}
+
+-- ---- a row past the 1,000,000th
+
+-- the rows that aren't answered, and one more
+one_past : (too_many : Bool) (count : ℕ) (rest : Rows) (fields : List (List ℕ)) → IsPast too_many count rest → 1000000 ≤ count → IsPast true count (rest ++ (fields ∷ []))
+one_past false count rest fields past full = (omega (arith, length-append rest (fields ∷ [])), omega (arith, past.1, full))
+one_past true count rest fields past full = (omega (arith, length-append rest (fields ∷ [])), past.1)
+
+pub counted_still : (old : Taken) → IsCounted old → IsCounted (record old { too_many = true })
+counted_still old counted = record {
+  state = counted.state;
+  kept = counted.kept;
+  rows = counted.rows;
+  changes = counted.changes;
+  answers = counted.answers;
+  refused = counted.refused;
+  most = counted.most;
+}
+
+pub one_past_all : (place : ℕ) (old new : Taken) (r : Result Row RowError) → new ≡ record old { too_many = true } → 1000000 ≤ old.answered → IsOneMore place old r [] new
+one_past_all place old new r is full = rw is (record {
+  counted = λ counted. ∥∥₁_map counted (counted_still old);
+  answered = λ rows lines fields is has. record {
+    done = has.done;
+    rest = has.rest ++ (fields ∷ []);
+    after = has.after;
+    split = ap (λ r. r ++ (fields ∷ [])) has.split ∙ append_assoc has.done has.rest (fields ∷ []);
+    answered = rw (append-nil lines) has.answered;
+    kept = has.kept;
+    count = has.count;
+    past = one_past old.too_many old.answered has.rest fields has.past full;
+  };
+})
+
+-- ---- all rows of a stream
+
+pub all_counted : (place : ℕ) (old new : Taken) (more : Rows) (out : List ℕ) → AreTaken IsOneMore place old more out new → ∥ IsCounted old ∥₁ → ∥ IsCounted new ∥₁
+unfolding AreTaken
+all_counted place old new [] out a counted = rw a.1 counted
+all_counted place old new (fields ∷ more) out a counted = all_counted (suc place) a.1 new more a.2 a.5 (a.3.counted counted)
+
+pub all_answered : (place : ℕ) (old new : Taken) (more : Rows) (out : List ℕ) (rows : Rows) (lines : List ℕ)
+    → AreTaken IsOneMore place old more out new → HasAnswered old rows lines → HasAnswered new (rows ++ more) (lines ++ out)
+unfolding AreTaken
+all_answered place old new [] out rows lines a has = rw (a.0, a.1, append-nil rows, append-nil lines) has
+all_answered place old new (fields ∷ more) out rows lines a has =
+    let one = a.3.answered rows lines fields refl has in
+    let rest = all_answered (suc place) a.1 new more a.2 (rows ++ (fields ∷ [])) (lines ++ a.0) a.5 one in
+    rw a.4 (subst (λ (l : List ℕ). HasAnswered new (rows ++ (fields ∷ more)) l) (append_assoc lines a.0 a.2)
+    (subst (λ (r : Rows). HasAnswered new r ((lines ++ a.0) ++ a.2)) (append_assoc rows (fields ∷ []) more) rest))
+
+-- ---- the end
+
+rows_read : (too_many : Bool) (count : ℕ) (rows done rest : Rows) → rows ≡ done ++ rest → length done ≡ count → IsPast too_many count rest
+    → (take 1000000 rows ≡ done) × (is_too_many rows ≡ too_many)
+rows_read false count rows done rest split same past =
+    let is : rows ≡ done = split ∙ rw past.0 (append-nil done) in
+    let most : length done ≤ 1000000 = omega (arith, same, past.1) in
+    rw is (take_all 1000000 done most, le-ltb 1000000 (length done) most)
+rows_read true count rows done rest split same past =
+    rw split (take_at done rest 1000000 (same ∙ past.1), lt-ltb 1000000 (length (done ++ rest)) (omega (arith, same, past.0, past.1, length-append done rest)))
+
+pub ended : (taken : Taken) (rows : Rows) (lines last : List ℕ) → ((s : RunState) → Keeps taken.solver s → last ≡ last_line taken.too_many s.changes)
+    → HasAnswered taken rows lines → (summary : Summary) × IsRun rows (lines ++ last) summary
+ended taken rows lines last line has =
+    let read = rows_read taken.too_many taken.answered rows has.done has.rest has.split has.count has.past in (
+      summary_of has.after taken.too_many,
+      record {
+        replies = lines;
+        after = has.after;
+        answered = rw read.0 has.answered;
+        whole = rw read.1 (ap (λ l. lines ++ l) (line has.after has.kept));
+        counts = rw read.1 refl;
+      },
+    )

@@ -1,0 +1,42 @@
+-- What a session has answered.
+use Rattle.std.specs.Prelude.{◌≡◌, ℕ, ◌<◌, ◌≤◌, Bool, true, false, List, [], ◌∷◌, ◌++◌, length, Result}
+use Rattle.cspf_rows.specs.Rows.{row_of}
+use Rattle.cspf_rows.specs.declared.limits.TheConstants.{MOST_ROWS}
+use Rattle.cspf_rows.specs.declared.row.Row.{Row}
+use Rattle.cspf_rows.specs.declared.row_error.RowError.{RowError}
+use Rattle.cspf_serve.specs.Script.{RunState, start, AreAnswered}
+use Rattle.cspf_serve.specs.SolverStates.{Keeps}
+use Rattle.cspf_c.specs.declared.session.Taken.{Taken}
+
+-- rows behind the first 1,000,000: none, or some where as many are answered
+abbrev pub IsPast : Bool → ℕ → List (List (List ℕ)) → Type 0
+IsPast false count rest = (rest ≡ []) × (count ≤ MOST_ROWS)
+IsPast true count rest = (0 < length rest) × (count ≡ MOST_ROWS)
+
+-- These rows were given, one behind the other, and these lines are their answers: of the rows that
+-- are answered, which are the first 1,000,000.
+pub record HasAnswered (taken : Taken) (rows : List (List (List ℕ))) (lines : List ℕ) : Type 0 where
+  pub done : List (List (List ℕ))
+  pub rest : List (List (List ℕ))
+  pub after : RunState
+  pub split : rows ≡ done ++ rest
+  pub answered : AreAnswered start done lines after
+  pub kept : Keeps taken.solver after
+  pub count : length done ≡ taken.answered
+  pub past : IsPast taken.too_many taken.answered rest
+
+-- Private: the counts of a state that is kept, none of them above that of the answered rows.
+pub record IsCounted (taken : Taken) : Type 0 where
+  pub state : RunState
+  pub kept : Keeps taken.solver state
+  pub rows : state.rows ≡ taken.answered
+  pub changes : length state.changes ≤ taken.answered
+  pub answers : state.answers ≤ taken.answered
+  pub refused : state.refused ≤ taken.answered
+  pub most : taken.answered ≤ MOST_ROWS
+
+-- Private: one more row is given, and answered this line.
+pub record IsOneMore (place : ℕ) (old : Taken) (row : Result Row RowError) (line : List ℕ) (new : Taken) : Type 0 where
+  pub counted : ∥ IsCounted old ∥₁ → ∥ IsCounted new ∥₁
+  pub answered : (rows : List (List (List ℕ))) (lines : List ℕ) (fields : List (List ℕ)) → row_of fields ≡ row → HasAnswered old rows lines
+      → HasAnswered new (rows ++ (fields ∷ [])) (lines ++ line)

@@ -1,0 +1,116 @@
+ghost use Rattle.std.specs.Prelude.{◌≡◌, MatchOption};
+ghost use Rattle.std.specs.declared.option.Option.TheVariants.{None, Some};
+ghost use Rattle.cspf_c.specs.Calls.{IsOpened, IsCalled, IsKept, AreGiven, IsEnded, AreCopied, size_of_lines};
+
+use crate::codes::{ANSWERED, CLOSED, MEMORY};
+use crate::handle::Handle;
+use crate::opened::Opened;
+use std::alloc::{AllocError, Global};
+use std::mem::replace;
+
+/// Takes the session out of a handle, which holds none then.
+fn take_session(alloc: Global, handle: &mut Handle) -> Option<Box<Opened>>
+    ensures closed { handle.new.value ≡ None }
+    ensures held { MatchOption result (handle.old.value ≡ None)
+        (λ held. handle.old.value ≡ Some held.value) }
+{
+    replace(handle, Handle::none()).into_session(alloc)
+}
+
+/// Lets a handle hold a session. One that it held is closed.
+fn hold_session(alloc: Global, handle: &mut Handle, session: Box<Opened>)
+    ensures { handle.new.value ≡ Some session.value }
+{
+    drop(replace(handle, Handle::of(session)).into_session(alloc));
+}
+
+/// Lets a handle hold a session, where there is one and its memory is granted, and answers the code
+/// of the call.
+fn keep_session(alloc: Global, handle: &mut Handle, made: Result<Opened, AllocError>) -> u32
+    ensures { IsKept result made handle.new.value }
+{
+    drop(take_session(alloc, handle));
+    let Ok(opened) = made else {
+        return MEMORY;
+    };
+    let Ok(session) = Box::new(alloc, opened) else {
+        return MEMORY;
+    };
+    hold_session(alloc, handle, session);
+    ANSWERED
+}
+
+/// How many bytes of lines a handle holds.
+fn lines_size(made: &Result<Opened, AllocError>) -> usize
+    ensures { result ≡ size_of_lines made.now }
+{
+    match made {
+        Ok(opened) => opened.lines.len(),
+        Err(_) => 0,
+    }
+}
+
+/// Opens a session, with the empty database and no open changes. One that the handle held is closed
+/// first.
+#[unsafe(no_mangle)]
+pub extern "C" fn routed_open(alloc: Global, handle: &mut Handle) -> u32
+    ensures { IsOpened result handle.new.value }
+{
+    keep_session(alloc, handle, Opened::new(alloc))
+}
+
+/// Gives rows to the session, and answers how many bytes their lines have.
+#[unsafe(no_mangle)]
+pub extern "C" fn routed_rows(
+    alloc: Global,
+    handle: &mut Handle,
+    bytes: &[u8],
+    size: &mut usize,
+) -> u32
+    ensures { IsCalled (AreGiven bytes.now size.new) result handle.old.value handle.new.value }
+{
+    let Some(held) = take_session(alloc, handle) else {
+        return CLOSED;
+    };
+    let made = Box::into_inner(held).answer(alloc, bytes);
+    *size = lines_size(&made);
+    keep_session(alloc, handle, made)
+}
+
+/// Ends the rows that were given, and answers how many bytes the last line has.
+#[unsafe(no_mangle)]
+pub extern "C" fn routed_end(alloc: Global, handle: &mut Handle, size: &mut usize) -> u32
+    ensures { IsCalled (IsEnded size.new) result handle.old.value handle.new.value }
+{
+    let Some(held) = take_session(alloc, handle) else {
+        return CLOSED;
+    };
+    let made = Box::into_inner(held).end(alloc);
+    *size = lines_size(&made);
+    keep_session(alloc, handle, made)
+}
+
+/// Copies the lines of the call before to the front of a buffer, as many bytes as it takes, and
+/// answers how many these are.
+#[unsafe(no_mangle)]
+pub extern "C" fn routed_lines(alloc: Global, handle: &mut Handle, buffer: &mut [u8]) -> usize
+    ensures same { handle.new.value ≡ handle.old.value }
+    ensures copied { AreCopied handle.old.value buffer.old buffer.new result }
+{
+    let Some(held) = take_session(alloc, handle) else {
+        return 0;
+    };
+    let size = held.lines.len().min(buffer.len());
+    buffer[..size].copy_from_slice(&held.lines[..size]);
+    hold_session(alloc, handle, held);
+    size
+}
+
+/// Closes the session that a handle holds, if any, and frees its memory.
+#[unsafe(no_mangle)]
+pub extern "C" fn routed_close(alloc: Global, handle: &mut Handle)
+    ensures { handle.new.value ≡ None }
+{
+    let session = take_session(alloc, handle);
+    drop(session);
+}

@@ -1,0 +1,43 @@
+ghost use Rattle.std.specs.Prelude.{◌≡◌, ◌++◌, ℕ, List, [], length, IfOk};
+ghost use Rattle.cspf_c.specs.Calls.{AreGiven, IsEnded};
+ghost use Rattle.cspf_c.specs.History.{HasAnswered};
+
+use crate::session::Session;
+use std::alloc::{AllocError, Global};
+
+/// What a handle holds: a session, and the lines of the call before.
+#[derive(Drop)]
+pub struct Opened {
+    pub(crate) session: Session,
+    pub(crate) lines: Vec<u8>,
+}
+
+impl Opened {
+    /// A session to which no row was given, and no lines.
+    pub(crate) fn new(alloc: Global) -> Result<Opened, AllocError>
+        ensures { IfOk result (λ opened. HasAnswered opened.session.taken [] [] × (opened.lines.items ≡ [])) }
+    {
+        Ok(Opened {
+            session: Session::new(alloc)?,
+            lines: Vec::new(alloc),
+        })
+    }
+
+    /// Gives rows to the session.
+    pub(crate) fn answer(self, alloc: Global, bytes: &[u8]) -> Result<Opened, AllocError>
+        ensures { IfOk result (λ opened. AreGiven bytes.now (length opened.lines.items) self opened) }
+    {
+        let Opened { session, lines: _ } = self;
+        let (session, lines) = session.answer(alloc, bytes)?;
+        Ok(Opened { session, lines })
+    }
+
+    /// Ends the rows of the session, which stays open.
+    pub(crate) fn end(self, alloc: Global) -> Result<Opened, AllocError>
+        ensures { IfOk result (λ opened. IsEnded (length opened.lines.items) self opened) }
+    {
+        let Opened { session, lines: _ } = self;
+        let lines = session.last_line(alloc)?;
+        Ok(Opened { session, lines })
+    }
+}

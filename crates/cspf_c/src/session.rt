@@ -1,0 +1,92 @@
+ghost use Rattle.std.specs.Prelude.{◌≡◌, ◌++◌, ℕ, List, [], IfOk};
+ghost use Rattle.cspf_rows.specs.Records.{rows_of};
+ghost use Rattle.cspf_serve.specs.Script.{IsRun};
+ghost use Rattle.cspf_serve.specs.declared.solve.summary.Summary.{Summary};
+ghost use Rattle.cspf_c.specs.History.{HasAnswered, IsCounted, IsOneMore};
+
+use cspf_rows::{MOST_ROWS, Row, RowError, open_records};
+use cspf_serve::Solver;
+use cspf_stream::{Answering, answer_rows};
+use std::alloc::{AllocError, Global};
+
+/// The rows that a session was given.
+#[derive(Drop)]
+pub struct Taken {
+    /// The solver of the first 1,000,000 of them.
+    solver: Solver,
+    /// How many rows the solver was given.
+    answered: u32,
+    /// There are more rows than these.
+    too_many: bool,
+}
+
+impl Answering<()> for Taken {
+    ghost answers = { IsOneMore };
+
+    ghost fails = { λ place old row new. Unit {0} };
+
+    ghost may_stand = { λ place taken. ∥ IsCounted taken ∥₁ };
+
+    fn answer(
+        &mut self,
+        _context: &(),
+        alloc: Global,
+        _place: u64,
+        row: &Result<Row, RowError>,
+    ) -> Result<Vec<u8>, AllocError> {
+        if self.answered >= MOST_ROWS {
+            self.too_many = true;
+            return Ok(Vec::new(alloc));
+        }
+        let line = self.solver.answer(alloc, row)?;
+        self.answered += 1;
+        Ok(line)
+    }
+}
+
+/// A database, its open changes, and the rows that led to it.
+#[derive(Drop)]
+pub struct Session {
+    taken: Taken,
+    ghost counted: { ∥ IsCounted taken ∥₁ },
+}
+
+impl Session {
+    /// Version 0, with the empty database and no open changes. No row was given.
+    pub fn new(alloc: Global) -> Result<Session, AllocError>
+        ensures { IfOk result (λ session. HasAnswered session.taken [] []) }
+    {
+        let taken = Taken {
+            solver: Solver::new(alloc)?,
+            answered: 0,
+            too_many: false,
+        };
+        Ok(Session { taken })
+    }
+
+    /// Takes the rows of some bytes, which are read as a stream of their own, and answers their
+    /// lines. Where memory is refused the session is over.
+    pub fn answer(self, alloc: Global, bytes: &[u8]) -> Result<(Session, Vec<u8>), AllocError>
+        ensures { IfOk result (λ answer. (rows : List (List (List ℕ))) (lines : List ℕ)
+            → HasAnswered self.taken rows lines → HasAnswered answer.0.taken
+            (rows ++ rows_of bytes.now) (lines ++ answer.1.items)) }
+    {
+        let Session { mut taken } = self;
+        let mut lines = Vec::new(alloc);
+        let mut rows = open_records(alloc, bytes);
+        match answer_rows(&(), alloc, &mut rows, &mut lines, &mut taken) {
+            Ok(()) => Ok((Session { taken }, lines)),
+            // No slice fails, and none has 2^64 rows.
+            Err(_) => Err(AllocError),
+        }
+    }
+
+    /// The last line of a run over the rows that were given.
+    pub fn last_line(&self, alloc: Global) -> Result<Vec<u8>, AllocError>
+        ensures { IfOk result (λ line. (rows : List (List (List ℕ))) (lines : List ℕ)
+            → HasAnswered self.now.taken rows lines
+            → (summary : Summary) × IsRun rows (lines ++ line.items) summary) }
+    {
+        self.taken.solver.last_line(alloc, self.taken.too_many)
+    }
+}
