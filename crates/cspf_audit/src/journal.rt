@@ -43,11 +43,10 @@ fn check_all(alloc: Global, batches: &[Batch]) -> Result<(), AuditError>
     lawful_batches();
     let mut table = Table::new(alloc)?;
     for batch in batches {
-        if let Err(refusal) = table.check(batch) {
+        if let Err(refusal) = table.try_absorb(batch) {
             let number = batch.number;
             return Err(AuditError::Batch { number, refusal });
         }
-        table.absorb(batch);
     }
     Ok(())
 }

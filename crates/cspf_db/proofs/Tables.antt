@@ -6,6 +6,7 @@ pub mod RowSpans
 pub mod TableLimits
 pub mod RouterLists
 pub mod OwnedPrefixes
+pub mod GoneRouters
 pub mod InterfaceRange
 pub mod EndColumn
 pub mod ReverseColumn

@@ -9,3 +9,5 @@ pub mod RowChanges
 pub mod MergeSteps
 pub mod LinkChanges
 pub mod MarkChanges
+pub mod AlikeChanges
+pub mod GoneRouters

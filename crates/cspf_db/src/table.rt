@@ -11,8 +11,10 @@ ghost use Rattle.cspf_db.specs.declared.limits.TheConstants.{MOST_LINKS, MOST_MA
 
 mod check;
 mod insertion;
+mod leaving;
 mod marks;
 mod merging;
+mod overwriting;
 mod places;
 mod reverses;
 mod router_list;
@@ -28,6 +30,7 @@ use crate::limits::{MOST_ROUTERS, NO_LINK, ROOM_FOR_LINKS, ROOM_FOR_MARKS, ROOM_
 use crate::{Batch, Link, Refusal};
 use cspf_addr::{Addr, Prefix};
 use marks::{change_marks, is_marked};
+use overwriting::write_over;
 use reverses::{list_reverses, reverse_index};
 use router_list::search;
 use router_rows::list_spans;
@@ -241,7 +244,7 @@ impl Table {
         ensures err { IfErr result (λ refusal. IsRefusal self.now batch.now refusal) }
         ensures unfit { OnErr result (¬ Fits self.now batch.now) }
     {
-        match check::fits(&self.rows, &self.routers, &self.marks, batch) {
+        match check::fits(&self.rows, &self.routers, &self.ends, &self.marks, batch) {
             Ok(_) => Ok(()),
             Err(refusal) => Err(refusal),
         }
@@ -253,9 +256,23 @@ impl Table {
             → self.new ≡ after_changes self.old batch.now.changes }
         ensures unfit { (¬ Fits self.old batch.now) → self.new ≡ self.old }
     {
-        let Ok(tally) = check::fits(&self.rows, &self.routers, &self.marks, batch) else {
-            return;
-        };
+        let _ = self.try_absorb(batch);
+    }
+
+    /// Makes all changes of a batch that fits. Else it changes nothing, and answers the first reason
+    /// why the batch doesn't fit. The batch's number isn't looked at.
+    pub fn try_absorb(&mut self, batch: &Batch) -> Result<(), Refusal>
+        ensures ok { OnOk result (Fits self.old batch.now) }
+        ensures changed { OnOk result (self.new ≡ after_changes self.old batch.now.changes) }
+        ensures err { IfErr result (λ refusal. IsRefusal self.old batch.now refusal) }
+        ensures unfit { OnErr result (¬ Fits self.old batch.now) }
+        ensures same { OnErr result (self.new ≡ self.old) }
+    {
+        let tally = check::fits(&self.rows, &self.routers, &self.ends, &self.marks, batch)?;
+        if tally.alike {
+            write_over(&mut self.rows, &batch.changes);
+            return Ok(());
+        }
         let follows = change_table(
             &mut self.rows,
             &mut self.routers,
@@ -271,5 +288,6 @@ impl Table {
         if !follows {
             list_reverses(&mut self.reverses, &self.rows, &self.ends, &self.spans);
         }
+        Ok(())
     }
 }

@@ -18,11 +18,10 @@ pub fn replay(alloc: Global, batches: &[Batch]) -> Result<Table, ReplayError>
     lawful_batches();
     let mut table = Table::new(alloc)?;
     for batch in batches {
-        if let Err(refusal) = table.check(batch) {
+        if let Err(refusal) = table.try_absorb(batch) {
             let number = batch.number;
             return Err(ReplayError::Refused { number, refusal });
         }
-        table.absorb(batch);
     }
     Ok(table)
 }

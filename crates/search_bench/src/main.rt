@@ -109,7 +109,7 @@ fn time_searches<R: AllocGlobal + Clock + Print>(
     println!(rt; "agreed {answers}")
 }
 
-/// Times each batch, checked and absorbed.
+/// Times each batch: the look whether it fits, and its changes.
 fn time_batches<R: AllocGlobal + Clock + Print>(
     rt: &R,
     table: &mut Table,
@@ -117,8 +117,7 @@ fn time_batches<R: AllocGlobal + Clock + Print>(
 ) -> io::Result<()> {
     for batch in batches {
         let start = Instant::now(rt)?;
-        let fits = table.check(batch).is_ok();
-        table.absorb(batch);
+        let fits = table.try_absorb(batch).is_ok();
         let took = start.elapsed(rt)?.as_micros();
         if !fits {
             return Err(refused());

@@ -2,7 +2,7 @@
 use Rattle.std.specs.Bool.{OnTrue, OnFalse}
 use mathlib.Core.Bool.{true≢false}
 use Rattle.std.proofs.lemmas.List.{nil_from_length, get_or_default, take_more}
-use Rattle.std.proofs.Common.{◌≡◌, ℕ, zero, suc, All, Contains, take, ◌+◌, ◌-◌, ◌<◌, ◌≤◌, ◌||◌, Bool, true, false, cond, not, Some, None, is_some, List, [], ◌∷◌, ◌++◌, length, map, refl, sym, ap, ◌∙◌, arith, inl, inr, ◌&&◌, IsTrue, ◌↔◌}
+use Rattle.std.proofs.Common.{◌≡◌, ℕ, zero, suc, All, Contains, nat_eq, take, ◌+◌, ◌-◌, ◌<◌, ◌≤◌, ◌||◌, Bool, true, false, cond, not, Some, None, is_some, List, [], ◌∷◌, ◌++◌, length, map, refl, sym, ap, ◌∙◌, arith, inl, inr, ◌&&◌, IsTrue, ◌↔◌}
 use Rattle.std.specs.Ordering.{nat_cmp, eq_by_cmp, is_eq}
 use Rattle.std.specs.declared.cmp.Ordering.TheVariants.{Less, Equal, Greater}
 use Rattle.std.specs.Cmp.{nat_cmp_total, tied_itself, Equal-is}
@@ -17,6 +17,7 @@ use Rattle.cspf_db.specs.declared.batch.Change.{Change}
 use Rattle.cspf_db.specs.declared.batch.Change.TheVariants.{Put}
 use Rattle.cspf_db.specs.Database.{Key, key_of, key_cmp, link_count, router_count, ends_of, EndsAt, HaveOwnKeys}
 use Rattle.cspf_db.specs.Changes.{link_left}
+use Rattle.cspf_db.specs.Tables.GoneRouters.{is_at, HasGone}
 use Rattle.cspf_db.specs.Tables.LinkChanges.{all_relinked}
 use Rattle.cspf_db.specs.Tables.Rows.{database_of}
 use Rattle.cspf_db.specs.Tables.RowsLeft.{is_untouched, rows_left, links_put}
@@ -114,7 +115,7 @@ turn false false true rest = refl
 turn false false false rest = refl
 
 -- what a set with the ends of links contains
-contains-with_ends : (s : set.FinSet nat_cmp) (links : List Link) (q : ℕ)
+pub contains-with_ends : (s : set.FinSet nat_cmp) (links : List Link) (q : ℕ)
     → set.contains (with_ends s links) q ≡ (set.contains s q || list_any (eq_by_cmp nat_cmp q) (ends_of links))
 contains-with_ends s [] q = or_false _
 contains-with_ends s (l ∷ links) q =
@@ -132,7 +133,7 @@ with_ends-empty links =
     ∙ sym (set.contains-from_list nat_cmp_total _ q))
 
 -- the ends of some links, then of others
-with_ends-append : (s : set.FinSet nat_cmp) (xs ys : List Link)
+pub with_ends-append : (s : set.FinSet nat_cmp) (xs ys : List Link)
     → with_ends (with_ends s xs) ys ≡ with_ends s (xs ++ ys)
 with_ends-append s [] ys = refl
 with_ends-append s (x ∷ xs) ys = with_ends-append (set.insert (set.insert s x.from) x.to) xs ys
@@ -155,7 +156,7 @@ len-with_ends-le s (l ∷ links) =
     (arith, len-with_ends-le (set.insert (set.insert s l.from) l.to) links, len-insert-le (set.insert s l.from) l.to, len-insert-le s l.from)
 
 -- the second test is enough
-or_right : (a b : Bool) → b ≡ true → (a || b) ≡ true
+pub or_right : (a b : Bool) → b ≡ true → (a || b) ≡ true
 or_right true b e = refl
 or_right false b e = e
 
@@ -245,21 +246,43 @@ module _ (rows : List Link) (cs : List Change) (apart : HaveOwnKeys rows) (once 
       ∙ ap set.len
       (sym (with_ends-append set.empty (rows_left rows cs) (links_put cs) ∙ with_ends-empty (rows_after rows cs)))
 
+  -- their ends are ends of the rows, or of links that are put
+  in_grown : (q : ℕ) → list_any (eq_by_cmp nat_cmp q) (ends_of (rows_after rows cs)) ≡ true → set.contains (with_ends (set.from_list (ends_of rows)) (links_put cs)) q ≡ true
+  in_grown q is =
+      let all : set.FinSet nat_cmp = set.from_list (ends_of rows) in
+      contains-with_ends all (links_put cs) q
+      ∙ or_split (list_any (λ l. eq_by_cmp nat_cmp q l.from || eq_by_cmp nat_cmp q l.to) (rows_left rows cs)) (list_any (λ l. eq_by_cmp nat_cmp q l.from || eq_by_cmp nat_cmp q l.to) (links_put cs))
+      (sym (list_any-append _ (rows_left rows cs) (links_put cs)) ∙ sym (any-ends_of (eq_by_cmp nat_cmp q) (rows_after rows cs)) ∙ is)
+      (λ left. ap (λ b. b || list_any (eq_by_cmp nat_cmp q) (ends_of (links_put cs))) (set.contains-from_list nat_cmp_total (ends_of rows) q ∙ any-ends_of (eq_by_cmp nat_cmp q) rows ∙ any_left _ rows cs left))
+      (λ put. or_right (set.contains all q) _ (any-ends_of (eq_by_cmp nat_cmp q) (links_put cs) ∙ put))
+
   -- where the changes bring few routers to those of the rows, there are no more than those more
   pub router_count-brought : (routers : List ℕ) (most : ℕ) → All (λ r. set.contains (set.from_list {R = nat_cmp} (ends_of rows)) r ≡ true) routers → BringsAtMost routers cs most
       → router_count (all_relinked (database_of rows) cs) ≤ router_count (database_of rows) + most
   router_count-brought routers most inside brings =
       let all : set.FinSet nat_cmp = set.from_list (ends_of rows) in
-      let grown : set.FinSet nat_cmp = with_ends all (links_put cs) in
-      let within : set.len (set.from_list {R = nat_cmp} (ends_of (rows_after rows cs))) ≤ set.len grown =
-      len-within (ends_of (rows_after rows cs)) grown (λ q is.
-      contains-with_ends all (links_put cs) q
-      ∙ or_split (list_any (λ l. eq_by_cmp nat_cmp q l.from || eq_by_cmp nat_cmp q l.to) (rows_left rows cs)) (list_any (λ l. eq_by_cmp nat_cmp q l.from || eq_by_cmp nat_cmp q l.to) (links_put cs))
-      (sym (list_any-append _ (rows_left rows cs) (links_put cs)) ∙ sym (any-ends_of (eq_by_cmp nat_cmp q) (rows_after rows cs)) ∙ is)
-      (λ left. ap (λ b. b || list_any (eq_by_cmp nat_cmp q) (ends_of (links_put cs))) (set.contains-from_list nat_cmp_total (ends_of rows) q ∙ any-ends_of (eq_by_cmp nat_cmp q) rows ∙ any_left _ rows cs left))
-      (λ put. or_right (set.contains all q) _ (any-ends_of (eq_by_cmp nat_cmp q) (links_put cs) ∙ put))) in
       omega
-      (arith, within, brings all inside, ap router_count (database-rows_after rows cs once), router_count-database_of (rows_after rows cs) (apart-rows_after rows cs apart once), router_count-database_of rows apart)
+      (arith, len-within (ends_of (rows_after rows cs)) (with_ends all (links_put cs)) in_grown, brings all inside, ap router_count (database-rows_after rows cs once), router_count-database_of (rows_after rows cs) (apart-rows_after rows cs apart once), router_count-database_of rows apart)
+
+  -- and one less where a router goes
+  pub router_count-gone : (routers : List ℕ) (most : ℕ) → All (λ r. set.contains (set.from_list {R = nat_cmp} (ends_of rows)) r ≡ true) routers → BringsAtMost routers cs most
+      → HasGone rows routers cs → router_count (all_relinked (database_of rows) cs) + 1 ≤ router_count (database_of rows) + most
+  router_count-gone routers most inside brings (g, known, gone) =
+      let ends : List ℕ = ends_of (rows_after rows cs) in
+      let all : set.FinSet nat_cmp = set.from_list (ends_of rows) in
+      let grown : set.FinSet nat_cmp = with_ends all (links_put cs) in
+      let absent : set.contains (set.from_list {R = nat_cmp} ends) g ≡ false =
+      set.contains-from_list_nat ends g ∙ any-ends_of (λ y. nat_eq y g) (rows_after rows cs) ∙ list_any-append (is_at g) (rows_left rows cs) (links_put cs) ∙ ap (λ b. b || list_any (is_at g) (links_put cs)) gone.left ∙ gone.put in
+      let there : set.contains grown g ≡ true =
+      contains-with_ends all (links_put cs) g ∙ ap (λ b. b || list_any (eq_by_cmp nat_cmp g) (ends_of (links_put cs))) (All-contains (λ r. set.contains all r ≡ true) routers g inside known) in
+      let within : set.len (set.from_list {R = nat_cmp} ends) ≤ set.len (set.remove grown g) =
+      len-within ends (set.remove grown g) (λ q is.
+      set.contains-remove nat_cmp_total grown g q
+      ∙ stays_inside (eq_by_cmp nat_cmp q g) (set.contains (set.from_list {R = nat_cmp} ends) q) (set.contains grown q)
+      (λ tie. sym (set.contains_tied nat_cmp_total (set.from_list {R = nat_cmp} ends) q g ((Equal-is (nat_cmp q g)).0 tie)) ∙ absent)
+      (set.contains-from_list nat_cmp_total ends q ∙ is) (in_grown q is)) in
+      omega
+      (arith, within, len-without grown g there, brings all inside, ap router_count (database-rows_after rows cs once), router_count-database_of (rows_after rows cs) (apart-rows_after rows cs apart once), router_count-database_of rows apart)
 
 -- to add a router adds one at most
 len-insert-most : (s : set.FinSet nat_cmp) (k : ℕ) → set.len (set.insert s k) ≤ set.len s + 1
@@ -271,7 +294,7 @@ len-insert-most s k =
     one_more false n = omega arith
 
 -- to add a router that is there adds none
-one_end : (s : set.FinSet nat_cmp) (k most : ℕ) → (most ≡ 0 → set.contains s k ≡ true) → set.len (set.insert s k) ≤ set.len s + most
+pub one_end : (s : set.FinSet nat_cmp) (k most : ℕ) → (most ≡ 0 → set.contains s k ≡ true) → set.len (set.insert s k) ≤ set.len s + most
 one_end s k zero there = omega (arith, set.len-insert nat_cmp_total s k ∙ ap (λ b. cond b (set.len s) (set.len s + 1)) (there refl))
 one_end s k (suc most) there = omega (arith, len-insert-most s k)
 

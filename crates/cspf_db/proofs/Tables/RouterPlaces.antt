@@ -115,7 +115,7 @@ module _ (routers : List ℕ) (rising : AreRising routers) where
   lower i j le h = ranked (get_or routers i 0) (get_or routers j 0) Less (sym (rises nat_cmp_total with_nothing routers (test_from_true _ rising) i j 0 le h))
 
   -- so they differ
-  one_place : (i j : ℕ) → i < length routers → j < length routers → nat_eq (slice_index routers i) (slice_index routers j) ≡ nat_eq i j
+  pub one_place : (i j : ℕ) → i < length routers → j < length routers → nat_eq (slice_index routers i) (slice_index routers j) ≡ nat_eq i j
   one_place i j hi hj =
       elim (nat_lt i j) as (λ b. nat_lt i j ≡ b → nat_eq (slice_index routers i) (slice_index routers j) ≡ nat_eq i j) [
         | true ↦ λ e. let below = lower i j (grind (arith, nat_tests)) hj in grind (arith, nat_tests)

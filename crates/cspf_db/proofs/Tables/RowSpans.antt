@@ -10,12 +10,12 @@ use Rattle.std.proofs.lemmas.List.Elements.{filter-append, All-tail, All-head}
 use Rattle.cspf_db.specs.declared.link.Link.{Link}
 
 -- where nothing passes, nothing is kept
-none_kept : (p : Link → Bool) (rows : List Link) → All (λ l. p l ≡ false) rows → filter p rows ≡ []
+pub none_kept : (p : Link → Bool) (rows : List Link) → All (λ l. p l ≡ false) rows → filter p rows ≡ []
 none_kept p [] all = refl
 none_kept p (l ∷ rows) all = ap (λ b. cond b (l ∷ filter p rows) (filter p rows)) (All-head (λ m. p m ≡ false) l rows all) ∙ none_kept p rows (All-tail (λ m. p m ≡ false) l rows all)
 
 -- where all pass, all are kept
-all_kept : (p : Link → Bool) (rows : List Link) → All (λ l. p l ≡ true) rows → filter p rows ≡ rows
+pub all_kept : (p : Link → Bool) (rows : List Link) → All (λ l. p l ≡ true) rows → filter p rows ≡ rows
 all_kept p [] all = refl
 all_kept p (l ∷ rows) all = ap (λ b. cond b (l ∷ filter p rows) (filter p rows)) (All-head (λ m. p m ≡ true) l rows all) ∙ ap (λ ls. l ∷ ls) (all_kept p rows (All-tail (λ m. p m ≡ true) l rows all))
 

@@ -7,6 +7,7 @@ use Rattle.cspf_db.specs.declared.link.Link.{Link}
 use Rattle.cspf_db.specs.declared.batch.Change.{Change}
 use Rattle.cspf_db.specs.declared.batch.Change.TheVariants.{Put, Remove, Node}
 use Rattle.cspf_db.specs.Database.{EndsAt}
+use Rattle.cspf_db.specs.Tables.GoneRouters.{puts_at}
 use Rattle.cspf_db.specs.Tables.RowsLeft.{links_put}
 
 -- a set of routers, and both ends of the links
@@ -42,3 +43,10 @@ abbrev pub BringsAtMost : List ℕ → List Change → ℕ → Type 0
 BringsAtMost routers changes most =
     (s : FinSet nat_cmp) → All (λ r. contains s r ≡ true) routers
     → len (with_ends s (links_put changes)) ≤ len s + most
+
+-- the same of one change, to a set that also has the ends of what others put
+abbrev pub BringsBeside : List ℕ → List Change → Change → ℕ → Type 0
+BringsBeside routers others c most =
+    (s : FinSet nat_cmp) → All (λ r. contains s r ≡ true) routers
+    → ((r : ℕ) → list_any (puts_at r) others ≡ true → contains s r ≡ true)
+    → len (with_ends s (links_put (c ∷ []))) ≤ len s + most

@@ -6,8 +6,9 @@ ghost use Rattle.std.specs.Ordering.{eq_by_cmp, is_lt};
 ghost use Rattle.cspf_db.specs.Database.{key_of, link_count, router_count};
 ghost use Rattle.cspf_db.specs.Index.{router_list};
 ghost use Rattle.cspf_db.specs.Changes.{change_key_cmp, key_changed, link_key, Fits};
+ghost use Rattle.cspf_db.specs.Tables.AlikeChanges.{IsAlike};
 ghost use Rattle.cspf_db.specs.Tables.LinkChanges.{all_relinked};
-ghost use Rattle.cspf_db.specs.Tables.Rows.{database_of, marked_database, AreByKey, AreRising};
+ghost use Rattle.cspf_db.specs.Tables.Rows.{database_of, marked_database, AreByKey, AreEndsOf, AreRising};
 ghost use Rattle.cspf_db.specs.Tables.RepeatedKeys.{is_changed, IsNewAt, IsRepeatedAt};
 ghost use Rattle.cspf_db.specs.Tables.RowsLeft.{is_untouched, rows_left, links_put, adds_link, removes_link};
 ghost use Rattle.cspf_db.specs.Tables.CountedEnds.{with_ends, HasListedEnds, BringsAtMost};
@@ -15,9 +16,10 @@ ghost use Rattle.cspf_db.specs.Refusals.{AreOnceEach, ArePresent, IsRefusal};
 ghost use Rattle.cspf_db.specs.declared.limits.TheConstants.{MOST_MARKS};
 
 use crate::limits::{MOST_CHANGES, MOST_LINKS, MOST_ROUTERS};
+use crate::table::leaving::any_goes;
 use crate::table::marks::has_too_many_marks;
 use crate::table::routers::Routers;
-use crate::table::tally::{Tally, tally_all};
+use crate::table::tally::{Tally, count_brought, tally_all};
 use crate::{Batch, Change, Link, Refusal};
 use cspf_addr::Addr;
 
@@ -99,7 +101,12 @@ fn are_apart(changes: &[Change]) -> bool
     are_apart_in(&mut keys[..changes.len()], changes)
 }
 
-/// The index of the first change on the key of an earlier one, searched only where there is one.
+/// Of how many changes all pairs are compared, without putting their keys in order first, and of how
+/// many each is asked for a router that goes.
+const FEW: usize = 16;
+
+/// The index of the first change on the key of an earlier one. Among many it is searched only where
+/// there is one.
 fn repeat(changes: &[Change]) -> Option<usize>
     requires { length changes.now ≤ MOST_CHANGES }
     ensures bound { IfSome result (λ at. at < length changes.now) }
@@ -107,7 +114,7 @@ fn repeat(changes: &[Change]) -> Option<usize>
     ensures before { IfSome result (λ at. (k : ℕ) → k < at → IsNewAt changes.now k) }
     ensures none { IfNone result (AreOnceEach changes.now) }
 {
-    if are_apart(changes) {
+    if changes.len() > FEW && are_apart(changes) {
         None
     } else {
         first_repeat(changes)
@@ -115,7 +122,7 @@ fn repeat(changes: &[Change]) -> Option<usize>
 }
 
 /// Whether none of the changes is on the key of the row.
-fn is_untouched(row: &Link, changes: &[Change]) -> bool
+pub fn is_untouched(row: &Link, changes: &[Change]) -> bool
     ensures { result ≡ is_untouched changes.now row.now }
 {
     !any_on(changes, (row.from, Some(row.local)))
@@ -189,11 +196,34 @@ fn add_puts(routers: &mut Routers, changes: &[Change]) -> bool
     true
 }
 
-/// Whether there are more than 1,024 routers after the changes, which bring some. Where they bring
-/// few enough, the ends of the rows need no count.
-fn has_too_many_routers(rows: &[Link], routers: &[Addr], changes: &[Change], brought: usize) -> bool
+/// Whether it is plain that there are no more than 1,024 routers after the changes: they bring no more
+/// than that, each counted once, or one too many while another goes.
+fn fit_by_one(rows: &[Link], routers: &[Addr], ends: &[u16], changes: &[Change]) -> bool
     requires by_key { AreByKey rows.now }
     requires all { routers.now ≡ router_list (database_of rows.now) }
+    requires ends { AreEndsOf rows.now routers.now ends.now }
+    requires few { router_count (database_of rows.now) ≤ MOST_ROUTERS }
+    requires short { length changes.now ≤ MOST_CHANGES }
+    requires once { AreOnceEach changes.now }
+    ensures { result ≡ true
+        → router_count (all_relinked (database_of rows.now) changes.now) ≤ MOST_ROUTERS }
+{
+    let many = routers.len() + count_brought(routers, changes);
+    many <= MOST_ROUTERS || many == MOST_ROUTERS + 1 && any_goes(rows, routers, ends, changes)
+}
+
+/// Whether there are more than 1,024 routers after the changes, which bring some. Where they bring
+/// few enough, or few changes bring one while another goes, the ends of the rows need no count.
+fn has_too_many_routers(
+    rows: &[Link],
+    routers: &[Addr],
+    ends: &[u16],
+    changes: &[Change],
+    brought: usize,
+) -> bool
+    requires by_key { AreByKey rows.now }
+    requires all { routers.now ≡ router_list (database_of rows.now) }
+    requires ends { AreEndsOf rows.now routers.now ends.now }
     requires few { router_count (database_of rows.now) ≤ MOST_ROUTERS }
     requires short { length changes.now ≤ MOST_CHANGES }
     requires once { AreOnceEach changes.now }
@@ -205,6 +235,9 @@ fn has_too_many_routers(rows: &[Link], routers: &[Addr], changes: &[Change], bro
     if routers.len() + brought <= MOST_ROUTERS {
         return false;
     }
+    if changes.len() <= FEW && fit_by_one(rows, routers, ends, changes) {
+        return false;
+    }
     let mut found = Routers::new();
     !(add_puts(&mut found, changes) && add_rows(&mut found, rows, changes))
 }
@@ -214,11 +247,13 @@ fn has_too_many_routers(rows: &[Link], routers: &[Addr], changes: &[Change], bro
 pub fn fits(
     rows: &[Link],
     routers: &[Addr],
+    ends: &[u16],
     marks: &[Addr],
     batch: &Batch,
 ) -> Result<Tally, Refusal>
     requires by_key { AreByKey rows.now }
     requires all { routers.now ≡ router_list (database_of rows.now) }
+    requires ends { AreEndsOf rows.now routers.now ends.now }
     requires most { length rows.now ≤ MOST_LINKS }
     requires few { router_count (database_of rows.now) ≤ MOST_ROUTERS }
     requires rising { AreRising marks.now }
@@ -230,6 +265,8 @@ pub fn fits(
         ≡ count_by (adds_link (database_of rows.now)) batch.now.changes) }
     ensures listed { IfOk result
         (λ tally. tally.brought ≡ 0 → All (HasListedEnds routers.now) batch.now.changes) }
+    ensures alike { IfOk result
+        (λ tally. tally.alike ≡ true → All (IsAlike rows.now) batch.now.changes) }
 {
     let changes = batch.changes.as_slice();
     if changes.len() > MOST_CHANGES {
@@ -244,7 +281,7 @@ pub fn fits(
             if has_too_many_links(rows, changes, tally.added) {
                 return Err(Refusal::Full);
             }
-            if has_too_many_routers(rows, routers, changes, tally.brought) {
+            if has_too_many_routers(rows, routers, ends, changes, tally.brought) {
                 return Err(Refusal::TooManyRouters);
             }
             if has_too_many_marks(marks, changes) {

@@ -8,11 +8,11 @@ ghost use Rattle.cspf_db.specs.Tables.Rows.{AreRising, AreByKey, IsEndColumn, Ar
 
 use crate::Link;
 use crate::limits::ROOM_FOR_ROUTERS;
-use crate::table::router_list::index_among;
+use crate::table::router_list::index_near;
 use crate::table::table_rows::begins;
 use cspf_addr::Addr;
 
-/// Lists where the routers are in a list that has them all.
+/// Lists where the routers are in a list that has them all. Where both rise, few are searched.
 pub fn list_places(places: &mut Vec<u16>, routers: &[Addr], others: &[Addr])
     requires rising { AreRising others.now }
     requires few { length others.now ≤ ROOM_FOR_ROUTERS }
@@ -23,8 +23,11 @@ pub fn list_places(places: &mut Vec<u16>, routers: &[Addr], others: &[Addr])
     ensures capacity { vec_capacity places.old ≤ vec_capacity places.new }
 {
     places.clear();
+    let mut near = 0;
     for router in routers {
-        places.push_reserved(index_among(others, *router));
+        let place = index_near(others, near, *router);
+        places.push_reserved(place);
+        near = usize::from(place) + 1;
     }
 }
 

@@ -93,3 +93,17 @@ pub fn index_among(routers: &[Addr], router: Addr) -> u16
         Err(_) => unreachable!(),
     }
 }
+
+/// The same, where the index is looked at first at which the router may be.
+pub fn index_near(routers: &[Addr], near: usize, router: Addr) -> u16
+    requires rising { AreRising routers.now }
+    requires few { length routers.now ≤ ROOM_FOR_ROUTERS }
+    requires among { Contains routers.now router }
+    ensures { IsPlaceOf routers.now router result }
+{
+    if near < routers.len() && routers[near] == router {
+        near as u16
+    } else {
+        index_among(routers, router)
+    }
+}

@@ -49,6 +49,15 @@ pub fn index_of(rows: &[Link], from: Addr, local: Addr) -> Option<usize>
     search(rows, from, local).ok()
 }
 
+/// Whether the row at the index, which has the link's key, runs between the same interfaces.
+pub fn is_alike(rows: &[Link], at: usize, link: &Link) -> bool
+    requires within { at < length rows.now }
+    requires key { HoldsAt (λ l. key_of l ≡ key_of link.now) rows.now at }
+    ensures { result ≡ true → HoldsAt (λ l. HasSameEnds l link.now) rows.now at }
+{
+    rows[at].to == link.to && rows[at].remote == link.remote
+}
+
 /// The index of the row with the link's key, if there is one and it runs between the same interfaces.
 pub fn index_alike(rows: &[Link], link: &Link) -> Option<usize>
     requires { AreByKey rows.now }
@@ -56,10 +65,11 @@ pub fn index_alike(rows: &[Link], link: &Link) -> Option<usize>
     ensures alike { IfSome result (HoldsAt (λ l. HasSameEnds l link.now) rows.now) }
 {
     let at = index_of(rows, link.from, link.local)?;
-    if rows[at].to != link.to || rows[at].remote != link.remote {
-        return None;
+    if is_alike(rows, at, link) {
+        Some(at)
+    } else {
+        None
     }
-    Some(at)
 }
 
 /// Where the rows from the router begin and end.

@@ -1,27 +1,32 @@
-//! What the changes of a batch do to the number of links and of routers, by one search for each.
-ghost use Rattle.std.specs.Prelude.{count_by, ◌≡◌, ◌*◌, ◌<◌, ◌≤◌, cond, [], ◌∷◌, All, Contains, length, IfOk, IfErr, IfSome, IfNone};
-ghost use Rattle.std.specs.List.{HoldsAt, AllWithin};
+//! What the changes of a batch do to the rows and to the number of routers, by one search for each.
+ghost use Rattle.std.specs.Prelude.{count_by, ◌≡◌, ◌*◌, ◌<◌, ◌≤◌, ◌⊎◌, cond, true, [], ◌∷◌, All, Contains, length, IfOk, IfErr, IfSome, IfNone};
+ghost use Rattle.std.specs.List.{HoldsAt, AllWithin, list_any};
 ghost use Rattle.cspf_db.specs.Index.{router_list};
 ghost use Rattle.cspf_db.specs.Changes.{IsPresent};
-ghost use Rattle.cspf_db.specs.Tables.CountedEnds.{HasListedEnds, BringsAtMost};
+ghost use Rattle.cspf_db.specs.Tables.AlikeChanges.{IsAlike};
+ghost use Rattle.cspf_db.specs.Tables.CountedEnds.{HasListedEnds, BringsAtMost, BringsBeside};
+ghost use Rattle.cspf_db.specs.Tables.GoneRouters.{puts_at};
 ghost use Rattle.cspf_db.specs.Refusals.{RemovesNothing};
 ghost use Rattle.cspf_db.specs.Tables.Rows.{database_of, AreRising, AreByKey};
 ghost use Rattle.cspf_db.specs.Tables.RowsLeft.{adds_link};
 ghost use Rattle.cspf_db.specs.declared.limits.TheConstants.{MOST_CHANGES};
 
+use crate::table::leaving::any_puts_at;
 use crate::table::router_list::is_among;
-use crate::table::table_rows::index_of;
+use crate::table::table_rows::{index_of, is_alike};
 use crate::{Change, Link};
 use cspf_addr::Addr;
 
-/// How many links changes put where there is none, and how many ends of the links that they put are
-/// not among the routers. An end of several links is counted for each.
+/// How many links changes put where there is none, how many ends of the links that they put are not
+/// among the routers, where an end of several links is counted for each, and whether no row moves.
 #[derive(Clone, Copy)]
 pub struct Tally {
     /// How many links are put where there is none.
     pub added: usize,
     /// How many ends are not among the routers.
     pub brought: usize,
+    /// Whether each puts a link in place of one between the same interfaces.
+    pub alike: bool,
 }
 
 /// 0 where the router is among them, and else 1.
@@ -59,15 +64,18 @@ fn tally_put(rows: &[Link], routers: &[Addr], link: &Link) -> Tally
     ensures few { result.brought ≤ 2 }
     ensures most { BringsAtMost routers.now (Change.Put link.now ∷ []) result.brought }
     ensures listed { result.brought ≡ 0 → HasListedEnds routers.now (Change.Put link.now) }
+    ensures alike { result.alike ≡ true → IsAlike rows.now (Change.Put link.now) }
 {
     match index_of(rows, link.from, link.local) {
         Some(at) => Tally {
             added: 0,
             brought: count_new_end(rows, routers, at, link),
+            alike: is_alike(rows, at, link),
         },
         None => Tally {
             added: 1,
             brought: count_new(routers, link.from) + count_new(routers, link.to),
+            alike: false,
         },
     }
 }
@@ -86,6 +94,7 @@ fn tally_one(rows: &[Link], routers: &[Addr], change: &Change) -> Option<Tally>
         (λ tally. BringsAtMost routers.now (change.now ∷ []) tally.brought) }
     ensures listed { IfSome result
         (λ tally. tally.brought ≡ 0 → HasListedEnds routers.now change.now) }
+    ensures alike { IfSome result (λ tally. tally.alike ≡ true → IsAlike rows.now change.now) }
 {
     match change {
         Change::Put(link) => Some(tally_put(rows, routers, link)),
@@ -96,11 +105,13 @@ fn tally_one(rows: &[Link], routers: &[Addr], change: &Change) -> Option<Tally>
             Some(Tally {
                 added: 0,
                 brought: 0,
+                alike: false,
             })
         }
         Change::Node { .. } => Some(Tally {
             added: 0,
             brought: 0,
+            alike: false,
         }),
     }
 }
@@ -120,15 +131,67 @@ pub fn tally_all(rows: &[Link], routers: &[Addr], changes: &[Change]) -> Result<
     ensures most { IfOk result (λ tally. BringsAtMost routers.now changes.now tally.brought) }
     ensures listed { IfOk result
         (λ tally. tally.brought ≡ 0 → All (HasListedEnds routers.now) changes.now) }
+    ensures alike { IfOk result
+        (λ tally. tally.alike ≡ true → All (IsAlike rows.now) changes.now) }
 {
     let mut added = 0;
     let mut brought = 0;
+    let mut alike = true;
     for (at, change) in changes.iter().enumerate() {
         let Some(one) = tally_one(rows, routers, change) else {
             return Err(at);
         };
         added += one.added;
         brought += one.brought;
+        alike = alike && one.alike;
     }
-    Ok(Tally { added, brought })
+    Ok(Tally {
+        added,
+        brought,
+        alike,
+    })
+}
+
+/// 0 where the router is among the routers, or an end of a link that the changes put, and else 1.
+fn count_first(routers: &[Addr], changes: &[Change], router: Addr) -> usize
+    requires { AreRising routers.now }
+    ensures few { result ≤ 1 }
+    ensures none { result ≡ 0
+        → Contains routers.now router ⊎ (list_any (puts_at router) changes.now ≡ true) }
+{
+    if is_among(routers, router) || any_puts_at(changes, router) {
+        0
+    } else {
+        1
+    }
+}
+
+/// How many ends of the link that the change puts are neither among the routers nor ends of a link
+/// that others put.
+fn count_first_ends(routers: &[Addr], others: &[Change], change: &Change) -> usize
+    requires { AreRising routers.now }
+    ensures few { result ≤ 2 }
+    ensures most { BringsBeside routers.now others.now change.now result }
+{
+    match change {
+        Change::Put(link) => {
+            count_first(routers, others, link.from) + count_first(routers, others, link.to)
+        }
+        _ => 0,
+    }
+}
+
+/// How many ends of the links that the changes put are not among the routers, each counted once. It
+/// takes as long as to compare all pairs of changes.
+pub fn count_brought(routers: &[Addr], changes: &[Change]) -> usize
+    requires rising { AreRising routers.now }
+    requires short { length changes.now ≤ MOST_CHANGES }
+    ensures few { result ≤ 2 * length changes.now }
+    ensures most { BringsAtMost routers.now changes.now result }
+{
+    let mut brought = 0;
+    for (at, change) in changes.iter().enumerate() {
+        brought += count_first_ends(routers, &changes[..at], change);
+    }
+    brought
 }

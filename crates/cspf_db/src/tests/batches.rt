@@ -207,6 +207,67 @@ fn routers_after_a_batch(rt: HostRuntime) -> Result<(), Fail> {
     Ok(())
 }
 
+// A table with one link from the router 0 to each of the routers 1 to 1,023.
+fn full_star(alloc: Global) -> Result<Table, Fail> {
+    let mut table = Table::new(alloc)?;
+    let mut changes = Vec::new(alloc);
+    for to in 1..1024 {
+        changes.push(Change::Put(link(0, to, to)?))?;
+    }
+    table.absorb(&Batch { number: 1, changes });
+    Ok(table)
+}
+
+#[test]
+fn a_router_comes_as_another_goes(rt: HostRuntime) -> Result<(), Fail> {
+    let alloc = rt.alloc();
+    let mut table = full_star(alloc)?;
+    let turned = batch(alloc, &[Change::Put(link(0, 5, 2000)?)])?;
+    assert_eq!(rt; table.try_absorb(&turned), Ok(()));
+    assert!(rt; table.has_router(Addr::new(2000)));
+    assert!(rt; !table.has_router(Addr::new(5)));
+    let to = Change::Put(link(0, 6, 3000)?);
+    let from = Change::Put(link(3000, 3001, 0)?);
+    assert_eq!(rt; table.try_absorb(&batch(alloc, &[to, from])?), Ok(()));
+    assert!(rt; table.has_router(Addr::new(3000)));
+    assert!(rt; !table.has_router(Addr::new(6)));
+    let more = batch(alloc, &[Change::Put(link(7, 7, 4000)?)])?;
+    let refused = table.try_absorb(&more);
+    assert_eq!(rt; refused, Err(Refusal::TooManyRouters));
+    assert!(rt; !table.has_router(Addr::new(4000)));
+    let (one, two) = (link(0, 8, 5000)?, link(0, 9, 6000)?);
+    let both = batch(alloc, &[Change::Put(one), Change::Put(two)])?;
+    assert_eq!(rt; table.try_absorb(&both), Ok(()));
+    assert_eq!(rt; table.routers().len(), 1024);
+    Ok(())
+}
+
+#[test]
+fn new_attributes(rt: HostRuntime) -> Result<(), Fail> {
+    let alloc = rt.alloc();
+    let mut table = Table::new(alloc)?;
+    let there = link(ONE, 4, TWO)?;
+    let back = link(TWO, 5, ONE)?;
+    table.absorb(&batch(alloc, &[Change::Put(there), Change::Put(back)])?);
+    let mut dear = there;
+    dear.metric = 11;
+    let mut full = back;
+    full.free = [0; 8];
+    let both = batch(alloc, &[Change::Put(full), Change::Put(dear)])?;
+    assert_eq!(rt; table.try_absorb(&both), Ok(()));
+    assert_eq!(rt; table.links(), [dear, full].as_slice());
+    assert!(rt; table.has_reverse(&dear));
+    let mark = Change::Node {
+        router: Addr::new(ONE),
+        transit: false,
+    };
+    let marked = batch(alloc, &[Change::Put(there), mark])?;
+    assert_eq!(rt; table.try_absorb(&marked), Ok(()));
+    assert_eq!(rt; table.links(), [there, full].as_slice());
+    assert!(rt; !table.transit(Addr::new(ONE)));
+    Ok(())
+}
+
 #[test]
 fn owners_of_prefixes(rt: HostRuntime) -> Result<(), Fail> {
     let alloc = rt.alloc();

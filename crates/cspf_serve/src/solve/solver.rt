@@ -139,10 +139,8 @@ impl Solver {
             × Keeps self.new (after_refused_batch s)) }
     {
         self.batch.number = number;
-        let found = self.fits(count);
-        if found.is_ok() {
-            self.apply();
-        } else {
+        let found = self.accept(count);
+        if found.is_err() {
             self.refuse();
         }
         found
@@ -160,15 +158,19 @@ impl Solver {
         }
     }
 
-    /// Whether the open changes are accepted as a batch with the count and the number that
-    /// they have, and else the first reason why they aren't.
+    /// Applies the open changes, where they are accepted as a batch with the count and the number that
+    /// they have: none are open then. Else the first reason why they aren't.
     #[tactic(auto, using(crate::proofs::BatchRefusals::refused))]
-    fn fits(&self, count: u32) -> Result<(), BatchRefusal>
-        ensures { (s : RunState) → Keeps self.now s → MatchResult result
-            (λ done. IsAccepted s self.now.batch.number count)
-            (λ why. (¬ IsAccepted s self.now.batch.number count)
-            × IsBatchRefusal s self.now.batch.number count why) }
+    fn accept(&mut self, count: u32) -> Result<(), BatchRefusal>
+        ensures refused { self.new.refused ≡ self.old.refused }
+        ensures done { (s : RunState) → Keeps self.old s → MatchResult result
+            (λ done. IsAccepted s self.old.batch.number count
+            × Keeps self.new (after_batch s self.old.batch.number))
+            (λ why. (¬ IsAccepted s self.old.batch.number count)
+            × IsBatchRefusal s self.old.batch.number count why × Keeps self.new s) }
     {
+        // Law: one more batch makes its changes in the database of the batches before it.
+        absorbing();
         if self.version >= MOST_VERSIONS {
             return Err(BatchRefusal::Exhausted);
         }
@@ -181,22 +183,14 @@ impl Solver {
                 counted: u64::from(self.count),
             });
         }
-        match self.table.check(&self.batch) {
-            Ok(()) => Ok(()),
+        match self.table.try_absorb(&self.batch) {
+            Ok(()) => {
+                self.version = self.batch.number;
+                self.drop_changes();
+                Ok(())
+            }
             Err(why) => Err(BatchRefusal::Unfit(why)),
         }
-    }
-
-    /// Applies the open changes. None are open afterwards.
-    fn apply(&mut self)
-        ensures { (s : RunState) (count : ℕ) → Keeps self.old s → IsAccepted s self.old.batch.number count
-            → Keeps self.new (after_batch s self.old.batch.number) }
-    {
-        // Law: one more batch makes its changes in the database of the batches before it.
-        absorbing();
-        self.table.absorb(&self.batch);
-        self.version = self.batch.number;
-        self.drop_changes();
     }
 
     /// Drops the open changes.

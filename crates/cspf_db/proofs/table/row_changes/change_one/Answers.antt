@@ -3,7 +3,7 @@ use Rattle.cspf_db.specs.Tables.Rows.{database_of}
 use Rattle.cspf_db.specs.Tables.LinkChanges.{relinked}
 use Rattle.std.proofs.Common.{refl, arith}
 use Rattle.std.proofs.lemmas.List.{length-set}
-use Rattle.cspf_db.proofs.Tables.AlikeRows.{ends_alike, reverses_alike}
+use Rattle.cspf_db.proofs.Tables.AlikeRows.{written_alike, ends_alike, reverses_alike}
 use Rattle.cspf_db.proofs.Tables.RowOrder.{entries-hit, by_key-entries, database_of-entries}
 use Rattle.cspf_db.proofs.Tables.EndColumn.{length-ends, column_put, column_remove, within_ends, upto_ends, some_within_ends}
 use Rattle.cspf_db.proofs.Tables.MovedReverses.{column_of_put, column_of_removal, written}
@@ -82,13 +82,13 @@ returns-in-Some-clause-rows c =
       room_for_ends = rows.room_for_ends;
       rising = rows.rising;
       few = rows.few;
-      column = ends_alike c.args.rows.now.items c.in-Some.at at.within c.in-Put.link at.alike c.args.routers.now c.args.ends.now.items rows.column;
+      column = ends_alike c.args.rows.now.items _ (written_alike c.args.rows.now.items c.in-Some.at at.within c.in-Put.link at.alike) c.args.routers.now c.args.ends.now.items rows.column;
     }
 
 pub returns-in-Some-clause-reverses : goal.returns-in-Some-clause-reverses
 returns-in-Some-clause-reverses c =
     let at = rw c.deref.ensures.value at c.in-Some.ensures in
     record {
-      column = reverses_alike c.args.rows.now.items c.in-Some.at at.within c.in-Put.link at.alike c.args.reverses.now.items c.requires.reverses.column;
+      column = reverses_alike c.args.rows.now.items _ (written_alike c.args.rows.now.items c.in-Some.at at.within c.in-Put.link at.alike) c.args.reverses.now.items c.requires.reverses.column;
       room = c.requires.reverses.room;
     }

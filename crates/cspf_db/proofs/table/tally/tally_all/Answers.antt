@@ -1,11 +1,13 @@
-use Rattle.std.proofs.Common.{arith}
+use Rattle.std.proofs.Common.{sym, ◌∙◌, arith}
 use Rattle.cspf_db.specs.Changes.{IsPresent}
+use Rattle.cspf_db.specs.Tables.AlikeChanges.{IsAlike}
 use Rattle.cspf_db.specs.Tables.CountedEnds.{HasListedEnds}
 use Rattle.cspf_db.specs.Tables.Rows.{database_of}
 use Rattle.cspf_db.specs.Tables.RowsLeft.{adds_link}
 use Rattle.cspf_db.proofs.Batches.LinkCounts.{within_more, count_more}
 use Rattle.cspf_db.proofs.Databases.EndCounts.{brings_more}
 use Rattle.cspf_db.proofs.table.tally.tally_all.Goals as goal
+use Rattle.cspf_db.proofs.table.tally.tally_all.Goals.{then-alike, else-alike}
 
 pub loop-at-preserved : goal.loop-at-preserved
 loop-at-preserved c =
@@ -21,5 +23,9 @@ loop-at-preserved c =
       few_added = omega (arith, before.few_added, one.one);
       few = omega (arith, before.few, one.few);
       most = brings_more c.args.routers.now changes at change c.loop-at.brought c.in-Some.one.brought c.loop-at-test.true c.index-changes-at.is before.most one.most;
+      alike = elim c.if-alike.branch [
+        | then-alike w ↦ λ on. within_more (IsAlike c.args.rows.now) changes at change c.loop-at-test.true c.index-changes-at.is (one.alike (sym w.alike-is ∙ on)) (before.alike w.if-alike.true)
+        | else-alike w ↦ λ on. absurd (cc)
+      ];
       listed = λ none. within_more (HasListedEnds c.args.routers.now) changes at change c.loop-at-test.true c.index-changes-at.is (one.listed (omega (arith, none))) (before.listed (omega (arith, none)));
     }

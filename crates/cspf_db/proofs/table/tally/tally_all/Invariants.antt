@@ -1,6 +1,7 @@
-use Rattle.std.proofs.Common.{◌≡◌, ◌≤◌, ◌*◌, take, count_by}
+use Rattle.std.proofs.Common.{◌≡◌, true, ◌≤◌, ◌*◌, take, count_by}
 use Rattle.std.specs.List.{AllWithin}
 use Rattle.cspf_db.specs.Changes.{IsPresent}
+use Rattle.cspf_db.specs.Tables.AlikeChanges.{IsAlike}
 use Rattle.cspf_db.specs.Tables.CountedEnds.{HasListedEnds, BringsAtMost}
 use Rattle.cspf_db.specs.Tables.Rows.{database_of}
 use Rattle.cspf_db.specs.Tables.RowsLeft.{adds_link}
@@ -13,5 +14,6 @@ invariant-loop-at l = record {
   few_added : l.added ≤ l.at;
   few : l.brought ≤ 2 * l.at;
   most : BringsAtMost l.routers (take l.at l.changes) l.brought;
+  alike : l.alike ≡ true → AllWithin (IsAlike l.rows) l.changes 0 l.at;
   listed : l.brought ≡ 0 → AllWithin (HasListedEnds l.routers) l.changes 0 l.at;
 }

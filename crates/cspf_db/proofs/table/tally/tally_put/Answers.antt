@@ -1,5 +1,6 @@
 use Rattle.std.proofs.Common.{Contains, Some, None, true, false, cond, refl, ap, subst, arith}
 use Rattle.cspf_db.proofs.Databases.EndCounts.{brings_put}
+use Rattle.cspf_db.proofs.Tables.AlikeRows.{contains_alike}
 use Rattle.cspf_db.proofs.Tables.RouterColumn.{from_among}
 use Rattle.cspf_db.proofs.Databases.FoundLinks.{tells_addition}
 use Rattle.cspf_db.proofs.Tables.RouterLists.{rising-router_list}
@@ -32,3 +33,6 @@ returns-in-None-clause-added c =
 pub returns-in-None-clause-most : goal.returns-in-None-clause-most
 returns-in-None-clause-most c =
     brings_put c.args.routers.now c.args.link.now c.count_new.result c.count_new-in-None.result c.count_new.ensures.none c.count_new-in-None.ensures.none
+
+pub returns-in-Some-clause-alike : goal.returns-in-Some-clause-alike
+returns-in-Some-clause-alike c on = contains_alike c.args.rows.now c.in-Some.at c.in-Some.ensures.bound c.args.link.now (c.is_alike.ensures on)
