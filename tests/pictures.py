@@ -108,7 +108,7 @@ def places(checks):
 
 def failures(checks):
     """The failures of a ring of four routers, whose lines are worked by hand."""
-    def drawn(lines, places="".join(f"{at}.{at}.{at}.{at} {at % 2} {at // 3} R{at}\n" for at in (1, 2, 3, 4))):
+    def drawn(lines, places="".join(f"{at}.{at}.{at}.{at} {at % 2} {at // 3} Router {at}\n" for at in (1, 2, 3, 4))):
         with tempfile.NamedTemporaryFile("w") as file:
             file.write(places)
             file.flush()
@@ -120,7 +120,7 @@ def failures(checks):
     lines = [line.get("class") for line in xml.fromstring(picture).iter(SVG + "line") if line.get("class")]
     counts = [text.text for text in xml.fromstring(picture).iter(SVG + "text") if text.get("class") == "counts"]
     checks.same("what each circuit's failure does", (lines, counts), (["longer", "lost", "longer", "none"], ["0/2", "1/0", "0/1"]))
-    checks.same("the routers of failures", sorted(text.text for text in names(picture)), ["R1", "R2", "R3", "R4"])
+    checks.same("the routers of failures", sorted(text.text for text in names(picture)), ["Router 1", "Router 2", "Router 3", "Router 4"])
     twice = OF_CIRCUITS.replace("scenario 4 out circuit 3.3.3.3 10.0.34.3 4.4.4.4 10.0.34.4", "scenario 4 out circuit 3.3.3.3 10.1.23.3 2.2.2.2 10.1.23.2")
     ends = [[line.get(end) for end in ("x1", "y1", "x2", "y2")] for line in xml.fromstring(drawn(twice)[1]).iter(SVG + "line") if line.get("class")]
     checks.true("two circuits of one pair whose failures are drawn are apart", len(ends) == 4 and ends[2] != ends[3], ends)

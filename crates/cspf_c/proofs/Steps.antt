@@ -8,6 +8,7 @@ use Rattle.cspf_rows.specs.declared.row.Row.{Row}
 use Rattle.cspf_rows.specs.declared.row_error.RowError.{RowError}
 use Rattle.cspf_stream.specs.RowAnswers.{AreAnswered as AreTaken}
 use Rattle.cspf_serve.specs.Script.{RunState, start, at_next_row, IsRowAnswered, AreAnswered, IsRun, is_too_many, last_line, summary_of}
+use Rattle.cspf_serve.specs.SolveLaws.{CountsByOne, GoesOnByOneRow}
 use Rattle.cspf_serve.specs.declared.solve.summary.Summary.{Summary}
 use Rattle.cspf_serve.specs.SolverStates.{Keeps}
 use Rattle.cspf_c.specs.History.{HasAnswered, IsCounted, IsOneMore, IsPast}
@@ -20,21 +21,6 @@ Rows = List (List (List ℕ))
 pub none_answered : (s : RunState) → AreAnswered s [] [] s
 unfolding AreAnswered
 none_answered s = (refl, refl)
-
-answered_more : (s t u : RunState) (done : Rows) (fields : List (List ℕ)) (out line : List ℕ) → AreAnswered s done out t
-    → IsRowAnswered (at_next_row t) (row_of fields) line u → AreAnswered s (done ++ (fields ∷ [])) (out ++ line) u
-unfolding AreAnswered
-answered_more s t u [] fields out line before step =
-    let here : IsRowAnswered (at_next_row s) (row_of fields) line u = rw before.1 at step in
-    (line, u, [], here, ap (λ o. o ++ line) before.0 ∙ sym (append-nil line), (refl, refl))
-answered_more s t u (row ∷ done) fields out line before step = (
-  before.0,
-  before.1,
-  before.2 ++ line,
-  before.3,
-  ap (λ o. o ++ line) before.4 ∙ append_assoc before.0 before.2 line,
-  answered_more before.1 t u done fields before.2 line before.5 step,
-)
 
 -- before the first row
 pub none_given : (taken : Taken) → Keeps taken.solver start → taken.answered ≡ 0 → taken.too_many ≡ false → HasAnswered taken [] []
@@ -67,10 +53,10 @@ none_past : (too_many : Bool) (count : ℕ) (rest : Rows) → IsPast too_many co
 none_past false count rest past room = (past.0, refl)
 none_past true count rest past room = let wrong : ⊥ = omega (arith, past.1, room) in absurd wrong
 
-has_more : (old new : Taken) (line : List ℕ) (rows : Rows) (lines : List ℕ) (fields : List (List ℕ)) → new.answered ≡ old.answered + 1 → new.too_many ≡ old.too_many
+has_more : GoesOnByOneRow → (old new : Taken) (line : List ℕ) (rows : Rows) (lines : List ℕ) (fields : List (List ℕ)) → new.answered ≡ old.answered + 1 → new.too_many ≡ old.too_many
     → old.answered < 1000000 → ((s : RunState) → Keeps old.solver s → (t : RunState) × Keeps new.solver t × IsRowAnswered (at_next_row s) (row_of fields) line t)
     → HasAnswered old rows lines → HasAnswered new (rows ++ (fields ∷ [])) (lines ++ line)
-has_more old new line rows lines fields one same room step has =
+has_more more old new line rows lines fields one same room step has =
     let a = step has.after has.kept in
     let none = none_past old.too_many old.answered has.rest has.past room in
     record {
@@ -78,18 +64,18 @@ has_more old new line rows lines fields one same room step has =
       rest = [];
       after = a.0;
       split = ap (λ r. r ++ (fields ∷ [])) (has.split ∙ rw none.0 (append-nil has.done)) ∙ sym (append-nil (has.done ++ (fields ∷ [])));
-      answered = answered_more start has.after a.0 has.done fields lines line has.answered a.2;
+      answered = more start has.after a.0 has.done fields lines line has.answered a.2;
       kept = a.1;
       count = length-append has.done (fields ∷ []) ∙ ap (λ n. n + 1) has.count ∙ sym one;
       past = rw (same, none.1) (refl, omega (arith, one, room));
     }
 
-pub one_more : (place : ℕ) (old new : Taken) (r : Result Row RowError) (line : List ℕ) → new.answered ≡ old.answered + 1 → new.too_many ≡ old.too_many
+pub one_more : GoesOnByOneRow → CountsByOne → (place : ℕ) (old new : Taken) (r : Result Row RowError) (line : List ℕ) → new.answered ≡ old.answered + 1 → new.too_many ≡ old.too_many
     → old.answered < 1000000 → ((s : RunState) → Keeps old.solver s → (t : RunState) × Keeps new.solver t × IsRowAnswered (at_next_row s) r line t)
     → IsOneMore place old r line new
-one_more place old new r line one same room step = record {
-  counted = λ counted. ∥∥₁_map counted (counted_more old new r line one room step);
-  answered = λ rows lines fields is has. has_more old new line rows lines fields one same room (rw is step) has;
+one_more more counts place old new r line one same room step = record {
+  counted = λ counted. ∥∥₁_map counted (counted_more counts old new r line one room step);
+  answered = λ rows lines fields is has. has_more more old new line rows lines fields one same room (rw is step) has;
 }
 
 -- ---- a row past the 1,000,000th

@@ -5,7 +5,7 @@ ghost use Rattle.cspf_serve.specs.declared.solve.summary.Summary.{Summary};
 ghost use Rattle.cspf_c.specs.History.{HasAnswered, IsCounted, IsOneMore};
 
 use cspf_rows::{MOST_ROWS, Row, RowError, open_records};
-use cspf_serve::Solver;
+use cspf_serve::{Solver, runs_go_on_row_by_row};
 use cspf_stream::{Answering, answer_rows};
 use std::alloc::{AllocError, Global};
 
@@ -34,6 +34,8 @@ impl Answering<()> for Taken {
         _place: u64,
         row: &Result<Row, RowError>,
     ) -> Result<Vec<u8>, AllocError> {
+        // Law: with one more row a run goes on, and no count grows by more than one.
+        runs_go_on_row_by_row();
         if self.answered >= MOST_ROWS {
             self.too_many = true;
             return Ok(Vec::new(alloc));

@@ -7,15 +7,9 @@ use Rattle.cspf_rows.specs.declared.row.Row.{Row}
 use Rattle.cspf_rows.specs.declared.row.Row.TheVariants as row
 use Rattle.cspf_rows.specs.declared.row_error.RowError.{RowError}
 use Rattle.cspf_serve.specs.Script.{RunState, start, at_next_row, after_change_row, after_batch, after_refused_batch, after_refused_row, after_reply, IsRowAnswered, AreAnswered}
+use Rattle.cspf_serve.specs.SolveLaws.{AreWithin}
 use Rattle.cspf_serve.specs.declared.solve.solver.Solver.{Solver}
 use Rattle.cspf_serve.specs.SolverStates.{Keeps, AreFew}
-
--- the counts after some rows
-pub record AreWithin (s t : RunState) (n : ℕ) : Type 0 where
-  pub rows : t.rows ≡ s.rows + n
-  pub changes : length t.changes ≤ length s.changes + n
-  pub answers : t.answers ≤ s.answers + n
-  pub refused : t.refused ≤ s.refused + n
 
 within_change : (s : RunState) (c : Change) → AreWithin s (after_change_row (at_next_row s) c) 1
 within_change s c = record {
@@ -37,7 +31,7 @@ within_refused_batch s = record { rows = refl; changes = omega arith; answers = 
 within_reply : (s : RunState) → AreWithin s (after_reply (at_next_row s)) 1
 within_reply s = record { rows = refl; changes = omega arith; answers = omega arith; refused = omega arith }
 
-within_row : (s t : RunState) (r : Result Row RowError) (line : List ℕ) → IsRowAnswered (at_next_row s) r line t → AreWithin s t 1
+pub within_row : (s t : RunState) (r : Result Row RowError) (line : List ℕ) → IsRowAnswered (at_next_row s) r line t → AreWithin s t 1
 within_row s t (Err error) line a = rw a.1 (within_refused s)
 within_row s t (Ok (row.Put link)) line a = rw a.1 (within_change s (change.Put link))
 within_row s t (Ok (row.Remove from local)) line a = rw a.1 (within_change s (change.Remove from local))

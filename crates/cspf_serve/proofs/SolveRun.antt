@@ -61,7 +61,7 @@ begins all old solver kept = record {
   split = cut_at_start all;
 }
 
-answered_more : (s t u : RunState) (done : Rows) (fields : List (List ℕ)) (out line : List ℕ) → AreAnswered s done out t
+pub answered_more : (s t u : RunState) (done : Rows) (fields : List (List ℕ)) (out line : List ℕ) → AreAnswered s done out t
     → IsRowAnswered (at_next_row t) (row_of fields) line u → AreAnswered s (done ++ (fields ∷ [])) (out ++ line) u
 unfolding AreAnswered
 answered_more s t u [] fields out line before step =

@@ -1,8 +1,11 @@
 -- What holds of every run.
-use Rattle.std.specs.Prelude.{◌≡◌, ℕ, List, ◌++◌}
+use Rattle.std.specs.Prelude.{◌≡◌, ◌≤◌, ◌+◌, ℕ, List, [], ◌∷◌, ◌++◌, length, Result}
+use Rattle.cspf_rows.specs.Rows.{row_of}
+use Rattle.cspf_rows.specs.declared.row.Row.{Row}
+use Rattle.cspf_rows.specs.declared.row_error.RowError.{RowError}
 use Rattle.cspf_serve.specs.declared.solve.summary.Summary.{Summary}
 use Rattle.cspf_serve.specs.declared.solve.error.SolveError.{SolveError}
-use Rattle.cspf_serve.specs.Script.{IsRun}
+use Rattle.cspf_serve.specs.Script.{RunState, at_next_row, AreAnswered, IsRowAnswered, IsRun}
 use Rattle.cspf_serve.specs.OutputAtError.{IsOutputAtError}
 
 -- rows have one reply: two runs over the same rows have the same lines and the same summary
@@ -13,3 +16,19 @@ HaveOneReply = (rows : List (List (List ℕ))) (first second : List ℕ) (a b : 
 abbrev pub StopsAtAPrefix : Type 0
 StopsAtAPrefix = (error : SolveError) (rows : List (List (List ℕ))) (out lines : List ℕ) (summary : Summary)
     → IsOutputAtError error rows out → IsRun rows lines summary → (more : List ℕ) × (lines ≡ out ++ more)
+
+-- rows with one more behind them are answered where they are, and then that one is
+abbrev pub GoesOnByOneRow : Type 0
+GoesOnByOneRow = (s t u : RunState) (rows : List (List (List ℕ))) (fields : List (List ℕ)) (lines line : List ℕ) → AreAnswered s rows lines t
+    → IsRowAnswered (at_next_row t) (row_of fields) line u → AreAnswered s (rows ++ (fields ∷ [])) (lines ++ line) u
+
+-- The counts after some rows: there are so many rows more, and no other count grew by more than that.
+pub record AreWithin (s t : RunState) (n : ℕ) : Type 0 where
+  pub rows : t.rows ≡ s.rows + n
+  pub changes : length t.changes ≤ length s.changes + n
+  pub answers : t.answers ≤ s.answers + n
+  pub refused : t.refused ≤ s.refused + n
+
+-- no count grows by more than one with a row
+abbrev pub CountsByOne : Type 0
+CountsByOne = (s t : RunState) (row : Result Row RowError) (line : List ℕ) → IsRowAnswered (at_next_row s) row line t → AreWithin s t 1

@@ -44,5 +44,8 @@ pub use cspf_work::{
 pub use live::run_live_rows;
 pub use serving::{Served, run_serve};
 pub use snapshots::run_snapshot;
-pub use solve::{SolveError, Solver, Summary, rows_have_one_reply, run_solve, stops_at_a_prefix};
+pub use solve::{
+    SolveError, Solver, Summary, rows_have_one_reply, run_solve, runs_go_on_row_by_row,
+    stops_at_a_prefix,
+};
 pub use streams::RunError;

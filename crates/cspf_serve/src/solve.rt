@@ -7,7 +7,7 @@ mod solver;
 mod summary;
 
 pub use error::SolveError;
-pub use laws::{rows_have_one_reply, stops_at_a_prefix};
+pub use laws::{rows_have_one_reply, runs_go_on_row_by_row, stops_at_a_prefix};
 pub use run::run_solve;
 pub use solver::Solver;
 pub(crate) use solver::{KEPT_CHANGES, keep};

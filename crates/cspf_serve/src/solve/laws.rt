@@ -1,4 +1,4 @@
-ghost use Rattle.cspf_serve.specs.SolveLaws.{HaveOneReply, StopsAtAPrefix};
+ghost use Rattle.cspf_serve.specs.SolveLaws.{CountsByOne, GoesOnByOneRow, HaveOneReply, StopsAtAPrefix};
 
 use cspf_db::{one_best_answer, one_refusal};
 use cspf_ero::one_reply_line;
@@ -24,3 +24,10 @@ pub fn stops_at_a_prefix()
     one_reply_line();
     one_refusal();
 }
+
+/// Law: a run goes on row by row. Rows are answered with one more behind them where they are answered
+/// and then that one is, and no count of a run grows by more than one with a row.
+pub fn runs_go_on_row_by_row()
+    ensures more { GoesOnByOneRow }
+    ensures counts { CountsByOne }
+{}
