@@ -6,8 +6,10 @@ pub mod RowSpans
 pub mod TableLimits
 pub mod RouterLists
 pub mod OwnedPrefixes
+pub mod OwnerPlaces
 pub mod GoneRouters
 pub mod InterfaceRange
+pub mod CoveredRanges
 pub mod EndColumn
 pub mod ReverseColumn
 pub mod PairedRows

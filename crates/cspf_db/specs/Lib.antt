@@ -7,6 +7,7 @@ pub mod Changes
 pub mod Admissible
 pub mod Walks
 pub mod Targets
+pub mod Owners
 pub mod Legs
 pub mod Routes
 pub mod HopLaws

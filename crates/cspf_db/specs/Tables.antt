@@ -11,3 +11,4 @@ pub mod LinkChanges
 pub mod MarkChanges
 pub mod AlikeChanges
 pub mod GoneRouters
+pub mod AddressRanges

@@ -6,9 +6,12 @@ ghost use Rattle.cspf_db.specs.Database.{AreLinksOf, AreAtTheirKeys, HasReverse,
 ghost use Rattle.cspf_db.specs.Index.{links_of, router_list, links_from, links_from_index, IsReverseAt};
 ghost use Rattle.cspf_db.specs.Changes.{no_links, after_changes, Fits};
 ghost use Rattle.cspf_db.specs.Refusals.{IsRefusal};
+ghost use Rattle.cspf_db.specs.Owners.{AreOwners};
 ghost use Rattle.cspf_db.specs.Targets.{Owns};
+ghost use Rattle.cspf_db.specs.Tables.AddressRanges.{IsRangeOf};
 ghost use Rattle.cspf_db.specs.declared.limits.TheConstants.{MOST_LINKS, MOST_MARKS};
 
+mod address_range;
 mod check;
 mod insertion;
 mod leaving;
@@ -28,28 +31,29 @@ mod transits;
 
 use crate::limits::{MOST_ROUTERS, NO_LINK, ROOM_FOR_LINKS, ROOM_FOR_MARKS, ROOM_FOR_ROUTERS};
 use crate::{Batch, Link, Refusal};
+use address_range::{AddressRange, range_of};
 use cspf_addr::{Addr, Prefix};
 use marks::{change_marks, is_marked};
 use overwriting::write_over;
 use reverses::{list_reverses, reverse_index};
 use router_list::search;
-use router_rows::list_spans;
+use router_rows::{Span, list_spans};
 use row_changes::change_table;
 use scratch::Scratch;
 use std::alloc::{AllocError, Global};
 use std::marker::Model;
-use table_rows::{any_rising_within, index_of, rows_from};
+use table_rows::{any_within, index_of, rows_from};
 use transits::list_transits;
 
 /// A traffic engineering database of at most 16,384 links, 1,024 routers and 1,024 marks of routers
-/// without transit. No call but `new` can fail for memory.
+/// without transit. No call but `new` and `owners` can fail for memory.
 #[derive(Debug, Drop)]
 pub struct Table {
     rows: Vec<Link>,
     routers: Vec<Addr>,
     ends: Vec<u16>,
     reverses: Vec<u16>,
-    spans: Vec<(u16, u16)>,
+    spans: Vec<Span>,
     marks: Vec<Addr>,
     transits: Vec<bool>,
     scratch: Scratch,
@@ -140,8 +144,8 @@ impl Table {
         requires { at < length (router_list self.now) }
         ensures { result.now ≡ links_from_index self.now at }
     {
-        let (first, end) = self.spans[at];
-        &self.rows[usize::from(first)..usize::from(end)]
+        let span = &self.spans[at];
+        &self.rows[usize::from(span.first)..usize::from(span.end)]
     }
 
     /// Beside the links of `out_at`, the index in `routers` of the router that each runs to.
@@ -151,8 +155,8 @@ impl Table {
         ensures each { map (λ end. slice_index (router_list self.now) end) result.now
             ≡ map (λ l. l.to) (links_from_index self.now at) }
     {
-        let (first, end) = self.spans[at];
-        &self.ends[usize::from(first)..usize::from(end)]
+        let span = &self.spans[at];
+        &self.ends[usize::from(span.first)..usize::from(span.end)]
     }
 
     /// Beside the links of `out_at`, the index in `links` of the reverse of each, as `has_reverse`
@@ -164,8 +168,8 @@ impl Table {
             → IsReverseAt self.now (slice_index_or (links_from_index self.now at) nth d)
             (slice_index_or result.now nth 0) }
     {
-        let (first, end) = self.spans[at];
-        &self.reverses[usize::from(first)..usize::from(end)]
+        let span = &self.spans[at];
+        &self.reverses[usize::from(span.first)..usize::from(span.end)]
     }
 
     /// The link with this key, if there is one.
@@ -224,17 +228,43 @@ impl Table {
     pub fn owns(&self, router: Addr, prefix: Prefix) -> bool
         ensures { IsTrue result ↔ Owns self.now prefix router }
     {
-        self.has_router(router)
-            && (prefix.covers(router) || any_rising_within(rows_from(&self.rows, router), prefix))
+        match self.place_of(router) {
+            Some(at) => self.owns_within(at, prefix, &range_of(prefix)),
+            None => false,
+        }
     }
 
-    /// The same as `owns`, of the router at an index of `routers`.
-    pub fn owns_at(&self, at: usize, prefix: Prefix) -> bool
-        requires { at < length (router_list self.now) }
+    /// The same as `owns`, of the router at an index of `routers`, with the range of the addresses that
+    /// the prefix covers.
+    fn owns_within(&self, at: usize, prefix: Prefix, range: &AddressRange) -> bool
+        requires bound { at < length (router_list self.now) }
+        requires range { IsRangeOf prefix range.now }
         ensures { IsTrue result
             ↔ Owns self.now prefix (slice_index (router_list self.now) at) }
     {
-        prefix.covers(self.routers[at]) || any_rising_within(self.out_at(at), prefix)
+        if range.contains(self.routers[at]) {
+            return true;
+        }
+        let span = &self.spans[at];
+        if range.misses(span.lowest, span.highest) {
+            return false;
+        }
+        any_within(self.out_at(at), prefix)
+    }
+
+    /// The indexes in `routers` of those that own an address that the prefix covers, as `owns` says,
+    /// rising. Links are read only from a router between whose interfaces the prefix has addresses.
+    pub fn owners(&self, alloc: Global, prefix: Prefix) -> Result<Vec<u16>, AllocError>
+        ensures { IfOk result (λ owners. AreOwners self.now prefix owners.items) }
+    {
+        let range = range_of(prefix);
+        let mut owners = Vec::new(alloc);
+        for at in 0..self.routers.len() {
+            if self.owns_within(at, prefix, &range) {
+                owners.push(at as u16)?;
+            }
+        }
+        Ok(owners)
     }
 
     /// Whether the batch fits, and else the first reason why it doesn't. The batch's number isn't

@@ -1,4 +1,5 @@
 mod batches;
 mod marks;
+mod owners;
 mod reverses;
 mod rows;

@@ -1,5 +1,4 @@
-ghost use Rattle.std.specs.Prelude.{◌<◌, ◌≤◌, ◌+◌, ◌↔◌, IsTrue, length, slice_index};
-ghost use Rattle.cspf_db.specs.Index.{router_list};
+ghost use Rattle.std.specs.Prelude.{◌≤◌, ◌+◌, ◌↔◌, IsTrue, length};
 ghost use Rattle.cspf_db.specs.Targets.{IsTarget, IsInside};
 
 use cspf_addr::Addr;
@@ -18,22 +17,6 @@ pub fn member(table: &Table, router: Addr, leg: usize, request: &Request) -> boo
     match request.hops.get(leg - 1) {
         Some(hop) => table.owns(router, hop.prefix),
         None => router == request.to,
-    }
-}
-
-/// The same as `member`, of the router at a place, its index in the table's list of routers.
-pub fn member_at(table: &Table, place: usize, leg: usize, request: &Request) -> bool
-    requires listed { place < length (router_list table.now) }
-    requires most { leg ≤ length request.now.hops + 1 }
-    ensures { IsTrue result
-        ↔ IsTarget table.now request.now leg (slice_index (router_list table.now) place) }
-{
-    if leg == 0 {
-        return table.routers()[place] == request.from;
-    }
-    match request.hops.get(leg - 1) {
-        Some(hop) => table.owns_at(place, hop.prefix),
-        None => table.routers()[place] == request.to,
     }
 }
 

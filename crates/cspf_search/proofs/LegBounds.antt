@@ -12,7 +12,7 @@ use Rattle.cspf_search.specs.Frontier.{AreListed, AreRoles, IsEnd, IsStateIndex,
 use Rattle.cspf_search.specs.declared.limits.TheConstants.{NO_WAY}
 use Rattle.cspf_search.specs.Settled.{IsWithin}
 use Rattle.cspf_search.specs.States.{MayEnter, MayTurn}
-use Rattle.cspf_search.specs.Bounds.{ArePassed, AreBounds, Falls, IsLeg, IsRing, AreLooked, bound_at, is_done}
+use Rattle.cspf_search.specs.Bounds.{ArePassed, AreBounds, Falls, IsLeg, IsRing, IsDeadEnd, AreLooked, bound_at, is_done}
 use Rattle.cspf_search.proofs.Ranks.{same_or_not}
 
 -- where nothing is done nothing was looked at
@@ -181,3 +181,39 @@ module _ (d : Database) (q : Request) (leg count : ℕ) (all : count ≡ length 
 
   pub zeros_below : (i : ℕ) → i < leg * 1024 → bound_at new i ≡ 0
   zeros_below i low = others i (inl low) ∙ zeros i (omega (arith, low))
+
+-- from a leg on whose targets have no way there is none either
+module _ (d : Database) (q : Request) (leg : ℕ) (old new : List ℕ) (before : AreBounds d q old) (is : IsDeadEnd d q leg (drop (leg * 1024 + 1024) old)) (long : length new ≡ length old)
+    (here : (i : ℕ) → i < leg * 1024 + 1024 → bound_at new i ≡ NO_WAY) (others : (i : ℕ) → leg * 1024 + 1024 ≤ i → bound_at new i ≡ bound_at old i) where
+  -- a state is before the end of the leg or behind it
+  side : (i : ℕ) → (bound_at new i ≡ NO_WAY) ⊎ (bound_at new i ≡ bound_at old i)
+  side i = elim (cases_lt i (leg * 1024 + 1024)) [ inl low ↦ inl (here i low) | inr high ↦ inr (others i high) ]
+
+  pub no_leg_more : AreBounds d q new
+  no_leg_more = record {
+    many = long ∙ before.many;
+    small = λ i. elim (side i) [ inl shut ↦ omega (arith, shut) | inr same ↦ omega (arith, same, before.small i) ];
+    links = λ i j ix jx same l admissible enters from to.
+        elim (cases_lt i (leg * 1024 + 1024)) [
+          | inl low ↦ (omega (arith, here i low, here j (omega (arith, low, same))), λ way. absurd (omega (arith, way, here j (omega (arith, low, same)))))
+          | inr high ↦
+              let ends = before.links i j ix jx same l admissible enters from to in
+              let near = others i high in
+              let ahead = others j (omega (arith, high, same)) in
+              (omega (arith, near, ahead, ends.0), λ way. omega (arith, near, ends.1 (omega (arith, ahead, way))))
+        ];
+    turns = λ i ix below target.
+        elim (cases_lt i (leg * 1024)) [
+          | inl low ↦ omega (arith, here i (omega (arith, low)), here (i + 1024) (omega (arith, low)))
+          | inr from ↦ elim (cases_lt i (leg * 1024 + 1024)) [
+            | inl within ↦
+                let at : i / 1024 ≡ leg = omega (arith, from, within) in
+                let whole : leg * 1024 + 1024 + i % 1024 ≡ i + 1024 = omega (arith, at) in
+                let ahead : bound_at (drop (leg * 1024 + 1024) old) (i % 1024) ≡ bound_at old (i + 1024) = get_or-drop (leg * 1024 + 1024) old (i % 1024) 0 ∙ ap (bound_at old) whole in
+                let none = is.targets (i % 1024) ix.place (subst (λ k. MayTurn d q (k + 1) (slice_index (router_list d) (i % 1024))) at target) in
+                omega (arith, here i within, others (i + 1024) (omega (arith, from)), ahead, none)
+            | inr high ↦ omega (arith, others i high, others (i + 1024) (omega (arith, high)), before.turns i ix below target)
+          ]
+        ];
+    last = λ i ix is_last target. others i (omega (arith, is_last, is.hop)) ∙ before.last i ix is_last target;
+  }

@@ -21,4 +21,5 @@ pub mod Answered
 pub mod Twice
 pub mod Reversed
 pub mod LegBounds
+mod RoleLists
 pub mod Slices

@@ -6,6 +6,7 @@ use Rattle.cspf_db.specs.declared.request.Request.{Request}
 use Rattle.cspf_db.specs.Database.{Database}
 use Rattle.cspf_db.specs.Admissible.{IsAdmitted}
 use Rattle.cspf_db.specs.Index.{router_list, links_of}
+use Rattle.cspf_search.specs.declared.limits.TheConstants.{NO_WAY}
 use Rattle.cspf_search.specs.declared.ring.Ring.{Ring}
 use Rattle.cspf_search.specs.Frontier.{IsEnd, IsStateIndex}
 use Rattle.cspf_search.specs.Settled.{IsWithin}
@@ -43,6 +44,12 @@ abbrev pub AreReached : Database → Request → ℕ → Ring → List ℕ → T
 AreReached d q leg ring ahead =
     (p : ℕ) → p < length (router_list d) → MayTurn d q (leg + 1) (slice_index (router_list d) p)
     → bound_at ring.near.items p ≤ bound_at ahead p
+
+-- by their bounds behind a leg to a hop there is no way from its targets
+pub record IsDeadEnd (d : Database) (q : Request) (leg : ℕ) (ahead : List ℕ) : Type 0 where
+  pub hop : leg < length q.hops
+  pub targets : (p : ℕ) → p < length (router_list d) → MayTurn d q (leg + 1) (slice_index (router_list d) p)
+      → NO_WAY ≤ bound_at ahead p
 
 -- whether the links that arrive at a router were all looked at
 abbrev pub is_done : Ring → ℕ → Bool

@@ -54,14 +54,6 @@ pub record AreRoles (d : Database) (q : Request) (roles : List Role) : Type 0 wh
 abbrev pub nothing : Role
 nothing = record { enter = false; target = false }
 
--- so it is for each router in the last leg, for the routers before an index in each other, and for the
--- one there in the first legs
-abbrev pub AreRolesUpTo : Database → Request → ℕ → ℕ → List Role → Type 0
-AreRolesUpTo d q place legs roles =
-    (i : ℕ) (e : Role) → IsStateIndex d q i
-    → (i / MOST_ROUTERS ≡ length q.hops) ⊎ (i % MOST_ROUTERS < place) ⊎ ((i % MOST_ROUTERS ≡ place) × (i / MOST_ROUTERS < legs))
-    → IsRole d q (state_at d i) (slice_index_or roles i e)
-
 -- a node for the indexes past the end of a list
 abbrev pub nowhere : Node
 nowhere = record { parent = 0; by = None; leg = 0; router = 0; cost = 0; links = 0 }

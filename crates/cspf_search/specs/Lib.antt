@@ -7,6 +7,7 @@ pub mod Bounds
 pub mod Rounds
 pub mod Frontier
 pub mod ForwardStars
+pub mod Roles
 pub mod Query
 pub mod Searched
 pub mod RoundSteps

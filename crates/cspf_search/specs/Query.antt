@@ -11,8 +11,10 @@ use Rattle.cspf_search.specs.declared.query.Query.{Query}
 use Rattle.cspf_search.specs.States.{State}
 use Rattle.cspf_search.specs.Rounds.{CrossesBelow}
 use Rattle.cspf_search.specs.Frontier.{AreListed, AreRoles, CrossesUpTo}
+use Rattle.cspf_search.specs.Roles.{AreTargets}
 
--- The lists of the table are those of its database, and for each state it is known what a route may do.
+-- The lists of the table are those of its database, for each state it is known what a route may do, and for each leg to
+-- a hop where it ends.
 pub record IsQuery (query : Query) : Type 0 where
   pub listed : AreListed query.table.now
   pub links : AreLinksOf query.table.now (links_of query.table.now)
@@ -21,6 +23,7 @@ pub record IsQuery (query : Query) : Type 0 where
   pub count : query.legs ≡ length query.request.now.hops + 1
   pub most : query.legs ≤ MOST_LEGS
   pub roles : AreRoles query.table.now query.request.now query.roles.now
+  pub targets : AreTargets query.table.now query.request.now query.targets.now
 
 -- the walks that lead on from the nodes before an index
 abbrev pub CrossesBefore : Query → List Node → ℕ → List Link → State → Type 0

@@ -1,16 +1,14 @@
-ghost use Rattle.std.specs.Prelude.{◌≡◌, ◌≢◌, ◌+◌, ◌*◌, ◌<◌, ◌≤◌, ◌⊎◌, ◌↔◌, ℕ, min, false, IsTrue, IfOk, IfSome, OnOk, length, slice_index, slice_index_or};
-ghost use Rattle.cspf_search.specs.declared.roles.Role.{Role as Stood};
+ghost use Rattle.std.specs.Prelude.{◌≡◌, ◌≢◌, ◌+◌, ◌*◌, ◌<◌, ◌≤◌, ◌⊎◌, ◌↔◌, ℕ, min, true, false, IsTrue, IfOk, IfSome, OnOk, length, slice_index, slice_index_or};
 ghost use Rattle.cspf_search.specs.Query.{IsQuery};
 ghost use Rattle.cspf_search.specs.States.{MayBeLeft};
 ghost use Rattle.cspf_search.specs.Frontier.{IsEnd};
-ghost use Rattle.cspf_search.specs.Bounds.{ArePassed, AreReached, AreBounds, Falls, IsLeg, IsLower, IsPassed, IsRing, bound_at, is_done};
+ghost use Rattle.cspf_search.specs.Bounds.{ArePassed, AreReached, AreBounds, Falls, IsLeg, IsLower, IsPassed, IsRing, IsDeadEnd, bound_at, is_done};
 ghost use Rattle.cspf_db.specs.Index.{links_of, router_list};
 ghost use Rattle.cspf_db.specs.declared.limits.TheConstants.{NO_LINK};
 
 use crate::limits::{FARTHEST, NO_WAY};
 use crate::query::Query;
 use crate::ring::Ring;
-use crate::roles::Role;
 use cspf_db::{MOST_ROUTERS, NO_LINK};
 use cspf_graph::accepts;
 use std::alloc::{AllocError, Global};
@@ -133,37 +131,65 @@ fn grow(
     Ok(())
 }
 
-/// Begins a leg to a hop: nothing is done, and its targets wait from which there is a way, each with
-/// its bound in the next leg. The states of the leg begin at an index, one for each of the routers,
-/// which are counted. It answers from where on it is no use to look further: where there are more
-/// targets than are taken, from the farthest of them on.
+/// The bound of the router at an index in the next leg.
+fn bound_ahead(ahead: &[u32], place: usize) -> u32
+    ensures { result ≡ bound_at ahead.now place }
+{
+    match ahead.get(place) {
+        Some(bound) => *bound,
+        None => 0,
+    }
+}
+
+/// Whether there is no way from any target of the leg to the hop at an index, by their bounds in the
+/// next leg.
+fn is_dead_end(query: Query<'_>, leg_index: usize, ahead: &[u32]) -> bool
+    requires query { IsQuery query }
+    ensures { result ≡ true
+        → IsDeadEnd query.entry.table.now query.entry.request.now leg_index ahead.now }
+{
+    if leg_index >= query.targets.len() {
+        return false;
+    }
+    let first = leg_index * MOST_ROUTERS;
+    for place in &query.targets[leg_index] {
+        let at = usize::from(*place);
+        if query.roles[first + at].target && bound_ahead(ahead, at) < NO_WAY {
+            return false;
+        }
+    }
+    true
+}
+
+/// The farther of two bounds, but for one that says that there is no way.
+fn farther(top: u32, bound: u32) -> u32 {
+    if bound < NO_WAY { bound.max(top) } else { top }
+}
+
+/// Begins the leg to the hop at an index: nothing is done, and its targets wait from which there is a way,
+/// each with its bound in the next leg. It answers from where on it is no use to look further: where there
+/// are more targets than are taken, from the farthest of them on.
 fn begin(
-    roles: &[Role],
-    first: usize,
-    count: usize,
+    query: Query<'_>,
+    leg_index: usize,
     ahead: &[u32],
     ring: &mut Ring,
 ) -> Result<u32, AllocError>
-    requires within { first + count ≤ length roles.now }
-    requires few { count ≤ MOST_ROUTERS }
+    requires query { IsQuery query }
+    requires leg { leg_index < length query.request.now.hops }
     ensures none { OnOk result ((w : ℕ) → is_done ring.new w ≡ false) }
-    ensures targets { OnOk result ((p : ℕ) (e : Stood) → p < count
-        → IsTrue (slice_index_or roles.now (first + p) e).target
-        → bound_at ring.new.near.items p ≤ bound_at ahead.now p) }
+    ensures targets { OnOk result
+        (AreReached query.entry.table.now query.entry.request.now leg_index ring.new ahead.now) }
 {
     ring.clear();
+    let first = leg_index * MOST_ROUTERS;
     let mut top = 0;
-    for place in 0..count {
-        if roles[first + place].target {
-            let least = match ahead.get(place) {
-                Some(bound) => *bound,
-                None => 0,
-            };
-            ring.near[place] = least;
-            if least < NO_WAY {
-                ring.heap.push(Reverse((least, place as u16)))?;
-                top = least.max(top);
-            }
+    for place in &query.targets[leg_index] {
+        let at = usize::from(*place);
+        if query.roles[first + at].target {
+            let least = bound_ahead(ahead, at);
+            ring.begin_at(*place, least)?;
+            top = farther(top, least);
         }
     }
     Ok(if ring.heap.len() > WIDE { top } else { NO_WAY })
@@ -202,8 +228,7 @@ fn search_back(
         begin_last(to, ring)?;
         return grow(query, leg_index, RING, NO_WAY, ring);
     }
-    let count = query.table.routers().len();
-    let top = begin(query.roles, leg_index * MOST_ROUTERS, count, ahead, ring)?;
+    let top = begin(query, leg_index, ahead, ring)?;
     grow(query, leg_index, WIDE, top, ring)
 }
 
@@ -241,8 +266,19 @@ fn set_leg(bounds: &mut [u32], first: usize, count: usize, near: &[u32], edge: u
     }
 }
 
-/// Sets the bound of each router in each leg, from the last leg back to the first. The tail-end is the
-/// router at an index.
+/// Sets the bounds before an index so that there is no way from there.
+fn shut(bounds: &mut [u32], end: usize)
+    requires within { end ≤ length bounds.old }
+    ensures before { (i : ℕ) → i < end → bound_at bounds.new i ≡ NO_WAY }
+    ensures others { (i : ℕ) → end ≤ i → bound_at bounds.new i ≡ bound_at bounds.old i }
+{
+    for at in 0..end {
+        bounds[at] = NO_WAY;
+    }
+}
+
+/// Sets the bound of each router in each leg, from the last leg back to the first, and ends at a leg
+/// from whose targets there is no way. The tail-end is the router at an index.
 fn set_legs(
     query: Query<'_>,
     to: usize,
@@ -260,6 +296,10 @@ fn set_legs(
     while leg_index > 0 {
         leg_index -= 1;
         let ahead = &bounds[leg_index * MOST_ROUTERS + MOST_ROUTERS..];
+        if is_dead_end(query, leg_index, ahead) {
+            shut(bounds, leg_index * MOST_ROUTERS + MOST_ROUTERS);
+            return Ok(());
+        }
         let edge = leg_edge(query, to, leg_index, ahead, ring)?;
         set_leg(bounds, leg_index * MOST_ROUTERS, count, &ring.near, edge);
     }

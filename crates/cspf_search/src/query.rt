@@ -1,7 +1,7 @@
 use crate::roles::Role;
 use cspf_db::{Request, Table};
 
-/// What a search is asked, in which table, and what a route may do at each state.
+/// What a search is asked, in which table, what a route may do at each state, and where the legs end.
 #[derive(Clone, Copy)]
 pub(crate) struct Query<'a> {
     /// The table, which stands for its database.
@@ -12,4 +12,6 @@ pub(crate) struct Query<'a> {
     pub(crate) legs: usize,
     /// For each state what a route may do there.
     pub(crate) roles: &'a [Role],
+    /// For each hop the targets of the leg to it, by their index in the list of routers.
+    pub(crate) targets: &'a [Vec<u16>],
 }

@@ -1,4 +1,4 @@
-ghost use Rattle.std.specs.Prelude.{◌≡◌, ◌<◌, ◌≤◌, ℕ, false, IfSome, OnOk, length};
+ghost use Rattle.std.specs.Prelude.{◌≡◌, ◌<◌, ◌≤◌, ℕ, false, IfSome, OnOk, length, set};
 ghost use Rattle.cspf_db.specs.declared.limits.TheConstants.{MOST_ROUTERS};
 
 use crate::limits::{NO_WAY, ROOM_FOR_WAITING};
@@ -42,6 +42,19 @@ impl Ring {
         self.near.fill(NO_WAY);
         self.done.fill(false);
         self.heap.clear();
+    }
+
+    /// Gives the router at an index this bound, with which it waits where there is a way from it.
+    pub(crate) fn begin_at(&mut self, at: u16, least: u32) -> Result<(), AllocError>
+        requires within { at < MOST_ROUTERS }
+        ensures bounds { OnOk result (self.new.near.items ≡ set self.old.near.items at least) }
+        ensures marks { OnOk result (self.new.done ≡ self.old.done) }
+    {
+        self.near[usize::from(at)] = least;
+        if least < NO_WAY {
+            self.heap.push(Reverse((least, at)))?;
+        }
+        Ok(())
     }
 
     /// Lowers the bound of the router at an index, which then waits, if this is less.

@@ -1,14 +1,13 @@
-ghost use Rattle.cspf_search.specs.declared.limits.TheConstants.{MOST_LEGS};
-ghost use Rattle.std.specs.Prelude.{◌≡◌, ◌≢◌, ℕ, true, ◌+◌, ◌-◌, ◌*◌, ◌/◌, ◌%◌, ◌<◌, ◌≤◌, ◌↔◌, ◌⊎◌, IsTrue, IfOk, length, slice_get, slice_index, slice_index_or};
+ghost use Rattle.std.specs.Prelude.{◌≡◌, ◌≢◌, true, ◌+◌, ◌*◌, ◌<◌, ◌↔◌, ◌⊎◌, All, IsTrue, IfOk, length, slice_get, slice_index};
 ghost use Rattle.cspf_db.specs.Index.{router_list};
 ghost use Rattle.cspf_db.specs.Targets.{IsLoose};
-ghost use Rattle.cspf_search.specs.Frontier.{AreListed, AreTargetsSettled, IsEnd, IsRaised, IsRole, AreRoles, AreRolesUpTo, nothing, state_at};
+ghost use Rattle.cspf_search.specs.Frontier.{AreListed, AreTargetsSettled, IsEnd, IsRaised, IsRole, AreRoles};
+ghost use Rattle.cspf_search.specs.Query.{IsQuery};
+ghost use Rattle.cspf_search.specs.Roles.{AreRolesUpTo, AreRows, AreTargets, AreTargetsOf, IsMarked, IsSpread};
 
 use crate::labels::Label;
 use crate::query::Query;
-use cspf_addr::Addr;
 use cspf_db::{MOST_ROUTERS, Request, Table};
-use cspf_graph::member_at;
 use std::alloc::{AllocError, Global};
 
 /// What a route may do at a router in a leg.
@@ -25,58 +24,6 @@ const NOTHING: Role = Role {
     enter: false,
     target: false,
 };
-
-/// Whether the leg is loose: one to a hop where the hop is, and the leg behind the last hop.
-fn is_loose(request: &Request, leg: usize) -> bool
-    requires { 1 ≤ leg }
-    ensures { IsTrue result ↔ IsLoose (slice_get request.now.hops (leg - 1)) }
-{
-    match request.hops.get(leg - 1) {
-        Some(hop) => hop.loose,
-        None => true,
-    }
-}
-
-/// Whether the router of the state at an index is a target of the leg before its own.
-fn is_target_before(request: &Request, roles: &[Role], at: usize, router: Addr) -> bool
-    requires { at ≤ length roles.now }
-    ensures head { at < MOST_ROUTERS → (IsTrue result ↔ router ≡ request.now.from) }
-    ensures later { MOST_ROUTERS ≤ at
-        → result ≡ (slice_index_or roles.now (at - MOST_ROUTERS) nothing).target }
-{
-    if at < MOST_ROUTERS {
-        router == request.from
-    } else {
-        roles[at - MOST_ROUTERS].target
-    }
-}
-
-/// What a route may do at the state at an index, where it is that of a router, and it is known of
-/// the router in the leg before.
-fn make_role(table: &Table, request: &Request, routers: &[Addr], roles: &[Role], at: usize) -> Role
-    requires within { at < (length request.now.hops + 1) * MOST_ROUTERS }
-    requires listed { routers.now ≡ router_list table.now }
-    requires known { at ≤ length roles.now }
-    requires before { MOST_ROUTERS ≤ at → at % MOST_ROUTERS < length (router_list table.now)
-        → IsRole table.now request.now (state_at table.now (at - MOST_ROUTERS))
-        (slice_index_or roles.now (at - MOST_ROUTERS) nothing) }
-    ensures { at % MOST_ROUTERS < length (router_list table.now)
-        → IsRole table.now request.now (state_at table.now at) result }
-{
-    let leg = at / MOST_ROUTERS + 1;
-    let place = at % MOST_ROUTERS;
-    if place >= routers.len() {
-        return NOTHING;
-    }
-    let router = routers[place];
-    let member = member_at(table, place, leg, request);
-    let inside = is_loose(request, leg) || is_target_before(request, roles, at, router) || member;
-    let through = table.transit_at(place) || router == request.to;
-    Role {
-        enter: inside && through,
-        target: member && (through || router == request.from),
-    }
-}
 
 /// What a route may do at the router at an index in the leg behind the last hop. That leg is loose,
 /// and the tail-end is its one target.
@@ -115,7 +62,7 @@ fn set_last_roles(table: &Table, request: &Request, to: usize, roles: &mut [Role
     requires listed { AreListed table.now }
     requires to { IsEnd table.now request.now.to to }
     requires many { length roles.old ≡ (length request.now.hops + 1) * MOST_ROUTERS }
-    ensures { AreRolesUpTo table.now request.now 0 0 roles.new }
+    ensures { AreRolesUpTo table.now request.now 0 roles.new }
 {
     let first = request.hops.len() * MOST_ROUTERS;
     for place in 0..table.routers().len() {
@@ -124,60 +71,172 @@ fn set_last_roles(table: &Table, request: &Request, to: usize, roles: &mut [Role
     roles[first + to] = last_role(table, request, to);
 }
 
-/// Finds what a route may do at the router at an index in each leg to a hop.
-fn set_roles(table: &Table, request: &Request, routers: &[Addr], roles: &mut [Role], place: usize)
-    requires within { place < MOST_ROUTERS }
-    requires listed { routers.now ≡ router_list table.now }
-    requires many { length roles.old ≡ (length request.now.hops + 1) * MOST_ROUTERS }
-    requires before { AreRolesUpTo table.now request.now place 0 roles.old }
-    ensures after { AreRolesUpTo table.now request.now (place + 1) 0 roles.new }
+/// Where in a list of roles those of a leg to a hop begin, and those of the leg behind the last hop,
+/// one for each of the routers, which are counted.
+#[derive(Clone, Copy)]
+struct Rows {
+    first: usize,
+    last: usize,
+    count: usize,
+}
+
+/// Begins a leg to a hop: a link may lead a route to each router that a route may go on from or end at
+/// where the leg is loose, and to none where it is strict. No router is a target.
+fn spread(roles: &mut [Role], rows: Rows, loose: bool)
+    requires rows { AreRows rows roles.old }
+    ensures { IsSpread rows loose roles.old roles.new }
 {
-    for leg_index in 0..request.hops.len() {
-        let at = leg_index * MOST_ROUTERS + place;
-        roles[at] = make_role(table, request, routers, roles, at);
+    for place in 0..rows.count {
+        let enter = loose && roles[rows.last + place].enter;
+        roles[rows.first + place] = Role {
+            enter,
+            target: false,
+        };
     }
 }
 
-/// What a route may do at each router in each leg. The legs to hops are looked at router by router,
-/// so that the links of each are looked up once for all of them. The tail-end is the router at an
-/// index.
-pub(crate) fn roles(
+/// What a route may do besides at a target, where it may stand there, or begins there. Only where the
+/// target is the leg's own may it turn to the next leg.
+fn with_more(old: Role, stands: bool, own: bool, begins: bool) -> Role
+    ensures enter { IsTrue result.enter ↔ (IsTrue old.enter ⊎ IsTrue stands) }
+    ensures target { IsTrue result.target
+        ↔ (IsTrue old.target ⊎ ((own ≡ true) × (IsTrue stands ⊎ IsTrue begins))) }
+{
+    Role {
+        enter: old.enter || stands,
+        target: old.target || (own && (stands || begins)),
+    }
+}
+
+/// What the targets of a leg may do besides, those of the leg before and then its own: a link may lead
+/// a route there, and, where they are its own, a route may turn to the next leg there. The head-end is
+/// the router at an index.
+fn mark(roles: &mut [Role], rows: Rows, places: &[u16], own: bool, from: usize)
+    requires rows { AreRows rows roles.old }
+    requires places { All (λ place. place < rows.count) places.now }
+    ensures { IsMarked rows places.now own from roles.old roles.new }
+{
+    for place in places {
+        let at = usize::from(*place);
+        let stands = roles[rows.last + at].enter;
+        roles[rows.first + at] = with_more(roles[rows.first + at], stands, own, at == from);
+    }
+}
+
+/// The targets of the leg to the hop at an index, by their index in the list of routers.
+fn targets_of(
     alloc: Global,
     table: &Table,
     request: &Request,
-    legs: usize,
-    to: usize,
-) -> Result<Vec<Role>, AllocError>
-    requires listed { AreListed table.now }
-    requires to { IsEnd table.now request.now.to to }
-    requires count { legs ≡ length request.now.hops + 1 }
-    requires most { legs ≤ MOST_LEGS }
-    ensures { IfOk result (λ roles. AreRoles table.now request.now roles.items) }
+    leg_index: usize,
+) -> Result<Vec<u16>, AllocError>
+    requires { leg_index < length request.now.hops }
+    ensures { IfOk result (λ places. AreTargetsOf table.now request.now (leg_index + 1) places.items) }
 {
-    let routers = table.routers();
-    let mut roles = Vec::from_elem(alloc, NOTHING, legs * MOST_ROUTERS)?;
-    set_last_roles(table, request, to, &mut roles);
-    if request.hops.is_empty() {
-        return Ok(roles);
+    match request.hops.get(leg_index) {
+        Some(hop) => table.owners(alloc, hop.prefix),
+        None => Ok(Vec::new(alloc)),
     }
-    for place in 0..routers.len() {
-        set_roles(table, request, routers, &mut roles, place);
-    }
-    Ok(roles)
 }
 
-/// Whether each target of the leg of a state at which a route may stand is settled.
+/// Whether the leg to the hop at an index is loose.
+fn is_loose(request: &Request, leg_index: usize) -> bool
+    requires { leg_index < length request.now.hops }
+    ensures { IsTrue result ↔ IsLoose (slice_get request.now.hops leg_index) }
+{
+    match request.hops.get(leg_index) {
+        Some(hop) => hop.loose,
+        None => true,
+    }
+}
+
+/// Finds what a route may do at each router in the leg to the hop at an index, between the targets of
+/// the leg before and its own. The head-end is the router at an index.
+fn set_roles(
+    table: &Table,
+    request: &Request,
+    leg_index: usize,
+    before: &[u16],
+    own: &[u16],
+    from: usize,
+    roles: &mut [Role],
+)
+    requires within { leg_index < length request.now.hops }
+    requires listed { AreListed table.now }
+    requires before { AreTargetsOf table.now request.now leg_index before.now }
+    requires own { AreTargetsOf table.now request.now (leg_index + 1) own.now }
+    requires from { IsEnd table.now request.now.from from }
+    requires many { length roles.old ≡ (length request.now.hops + 1) * MOST_ROUTERS }
+    requires known { AreRolesUpTo table.now request.now leg_index roles.old }
+    ensures { AreRolesUpTo table.now request.now (leg_index + 1) roles.new }
+{
+    let rows = Rows {
+        first: leg_index * MOST_ROUTERS,
+        last: request.hops.len() * MOST_ROUTERS,
+        count: table.routers().len(),
+    };
+    spread(roles, rows, is_loose(request, leg_index));
+    mark(roles, rows, before, false, from);
+    mark(roles, rows, own, true, from);
+}
+
+/// What a route may do at each router in each leg, and where the legs to hops end.
+#[derive(Drop)]
+pub(crate) struct Roles {
+    /// For each state what a route may do there.
+    pub(crate) states: Vec<Role>,
+    /// For each hop the targets of the leg to it, by their index in the list of routers.
+    pub(crate) targets: Vec<Vec<u16>>,
+}
+
+/// What a route may do at each router in each leg, and where the legs to hops end. The head-end and the
+/// tail-end are the routers at these indexes.
+pub(crate) fn find_roles(
+    alloc: Global,
+    table: &Table,
+    request: &Request,
+    from: usize,
+    to: usize,
+) -> Result<Roles, AllocError>
+    requires listed { AreListed table.now }
+    requires from { IsEnd table.now request.now.from from }
+    requires to { IsEnd table.now request.now.to to }
+    ensures states { IfOk result (λ roles. AreRoles table.now request.now roles.states.items) }
+    ensures targets { IfOk result (λ roles. AreTargets table.now request.now roles.targets.items) }
+{
+    let hops = request.hops.len();
+    let mut states = Vec::from_elem(alloc, NOTHING, (hops + 1) * MOST_ROUTERS)?;
+    set_last_roles(table, request, to, &mut states);
+    let mut targets: Vec<Vec<u16>> = Vec::with_capacity(alloc, hops)?;
+    let head = [from as u16];
+    for leg_index in 0..hops {
+        let own = targets_of(alloc, table, request, leg_index)?;
+        let before = if leg_index == 0 {
+            head.as_slice()
+        } else {
+            targets[leg_index - 1].as_slice()
+        };
+        set_roles(table, request, leg_index, before, &own, from, &mut states);
+        targets.push(own)?;
+    }
+    Ok(Roles { states, targets })
+}
+
+/// Whether each target of the leg to a hop is settled at which a route may stand. The leg is that of the
+/// state at an index.
 fn are_settled(query: Query<'_>, labels: &[Label], at: usize) -> bool
-    requires within { at - at % MOST_ROUTERS + MOST_ROUTERS ≤ length query.roles.now }
+    requires query { IsQuery query }
     requires many { length labels.now ≡ length query.roles.now }
-    requires few { length (router_list query.table.now) ≤ MOST_ROUTERS }
     ensures { result ≡ true
         → AreTargetsSettled query.entry.table.now query.entry.roles.now labels.now at }
 {
     let first = at - at % MOST_ROUTERS;
-    let roles = query.roles;
-    for index in first..first + query.table.routers().len() {
-        if roles[index].target && labels[index].rank != 0 {
+    if at / MOST_ROUTERS >= query.targets.len() {
+        return false;
+    }
+    for place in &query.targets[at / MOST_ROUTERS] {
+        let index = first + usize::from(*place);
+        if query.roles[index].target && labels[index].rank != 0 {
             return false;
         }
     }
@@ -187,9 +246,9 @@ fn are_settled(query: Query<'_>, labels: &[Label], at: usize) -> bool
 /// The floor once the state at an index is settled: where each target of its leg at which a route may
 /// stand is, behind that leg.
 pub(crate) fn raised(query: Query<'_>, labels: &[Label], floor: usize, at: usize) -> usize
-    requires within { at - at % MOST_ROUTERS + MOST_ROUTERS ≤ length query.roles.now }
+    requires query { IsQuery query }
+    requires within { at < length query.roles.now }
     requires many { length labels.now ≡ length query.roles.now }
-    requires few { length (router_list query.table.now) ≤ MOST_ROUTERS }
     ensures { (result ≡ floor)
         ⊎ IsRaised query.entry.table.now query.entry.roles.now labels.now at result }
 {

@@ -24,7 +24,7 @@ use crate::goal::Goal;
 use crate::labels::{OPEN, SETTLED, least, node_of};
 use crate::limits::{NO_WAY, ROOM_FOR_NODES, ROOM_FOR_WAITING};
 use crate::query::Query;
-use crate::roles::{raised, roles};
+use crate::roles::{find_roles, raised};
 use crate::rounds::{Round, first};
 use crate::{Outcome, Route};
 use cspf_db::{MOST_ROUTERS, Request, Table, counted_routers};
@@ -189,13 +189,13 @@ pub fn best(alloc: Global, table: &Table, request: &Request) -> Result<Outcome, 
     let Some(to) = table.place_of(request.to) else {
         return Ok(Outcome::UnknownTo);
     };
-    let legs = request.hops.len() + 1;
-    let roles = roles(alloc, table, request, legs, to)?;
+    let roles = find_roles(alloc, table, request, from, to)?;
     let query = Query {
         table,
         request,
-        legs,
-        roles: &roles,
+        legs: request.hops.len() + 1,
+        roles: &roles.states,
+        targets: &roles.targets,
     };
     let nodes = reached(alloc, query, from, to)?;
     answer(alloc, query, &nodes)
@@ -212,19 +212,19 @@ pub fn best_by_rounds(
         IsBestAnswer table.now request.now (answer_of outcome)) }
 {
     listed(table);
-    if !table.has_router(request.from) {
+    let Some(head) = table.place_of(request.from) else {
         return Ok(Outcome::UnknownFrom);
-    }
+    };
     let Some(to) = table.place_of(request.to) else {
         return Ok(Outcome::UnknownTo);
     };
-    let legs = request.hops.len() + 1;
-    let roles = roles(alloc, table, request, legs, to)?;
+    let roles = find_roles(alloc, table, request, head, to)?;
     let query = Query {
         table,
         request,
-        legs,
-        roles: &roles,
+        legs: request.hops.len() + 1,
+        roles: &roles.states,
+        targets: &roles.targets,
     };
     let nodes = settled(alloc, query)?;
     answer(alloc, query, &nodes)

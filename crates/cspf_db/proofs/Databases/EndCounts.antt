@@ -305,22 +305,6 @@ brings_put routers l m n from to s inside =
     omega
     (arith, one_end s l.from m (λ e. there l.from (from e)), one_end (set.insert s l.from) l.to n (λ e. set.contains-insert nat_cmp_total s l.from l.to ∙ or_right (eq_by_cmp nat_cmp l.to l.from) _ (there l.to (to e))))
 
--- changes and one more bring what both do
-pub brings_more : (routers : List ℕ) (cs : List Change) (at : ℕ) (c : Change) (m n : ℕ) → at < length cs → c ≡ slice_index_or cs at c → BringsAtMost routers (take at cs) m → BringsAtMost routers (c ∷ []) n
-    → BringsAtMost routers (take (at + 1) cs) (m + n)
-brings_more routers cs at c m n h read first second s inside =
-    let before : List Link = links_put (take at cs) in
-    let grown : set.FinSet nat_cmp = with_ends s before in
-    let both : links_put (take (at + 1) cs) ≡ before ++ links_put (c ∷ []) =
-    ap links_put (take_more cs at c h ∙ ap (λ b. take at cs ++ b ∷ []) (sym read)) ∙ filter_map-append link_left (take at cs) (c ∷ []) in
-    omega (
-      arith,
-      first s inside,
-      second grown (All-weaker (λ r. set.contains s r ≡ true) (λ r. set.contains grown r ≡ true) (λ r is. contains-with_ends s before r ∙ ap (λ b. b || list_any (eq_by_cmp nat_cmp r) (ends_of before)) is) routers inside),
-      ap set.len (with_ends-append s before (links_put (c ∷ []))),
-      ap (λ ls. set.len (with_ends s ls)) both,
-    )
-
 -- three tests in another order
 turn_last : (a b e : Bool) → ((a || b) || e) ≡ ((a || e) || b)
 turn_last true b e = refl

@@ -1,6 +1,6 @@
 -- Rows that run, one by one, between the interfaces that others ran between: each column beside them
 -- says what it said.
-use Rattle.std.proofs.Common.{◌≡◌, ◌≢◌, ℕ, ◌+◌, ◌<◌, Bool, true, false, List, [], ◌∷◌, ◌++◌, All, Contains, cond, drop, length, map, nat_eq, slice_index, slice_index_or, slice_set, take, refl, sym, ap, subst, ◌∙◌, inl, inr, arith}
+use Rattle.std.proofs.Common.{◌≡◌, ◌≢◌, ℕ, ◌+◌, ◌<◌, ◌≤◌, Bool, true, false, List, [], ◌∷◌, ◌++◌, All, Contains, cond, drop, length, map, nat_eq, slice_index, slice_index_or, slice_set, take, refl, sym, ap, subst, ◌∙◌, inl, inr, arith}
 use Rattle.std.specs.List.{HoldsAt, filter, between}
 use Rattle.std.specs.Ordering.{nat_cmp}
 use Rattle.std.specs.FinSet as set
@@ -8,6 +8,7 @@ use Rattle.std.proofs.lemmas.List.{length-append, length-map, drop-map, get_or-m
 use Rattle.std.proofs.lemmas.List.Edits.{split_between, length-between, get_or-between}
 use Rattle.std.proofs.lemmas.List.Elements.{All-head, All-tail, Contains-get_or, filter-append, filter_passes}
 use Rattle.cspf_db.specs.declared.link.Link.{Link}
+use Rattle.cspf_db.specs.declared.table.router_rows.Span.{Span}
 use Rattle.cspf_db.specs.declared.batch.Change.{Change}
 use Rattle.cspf_db.specs.declared.batch.Change.TheVariants.{Put, Remove, Node}
 use Rattle.cspf_db.specs.Database.{Key, key_of, IsReverse}
@@ -144,12 +145,20 @@ module _ (rows new : List Link) (same : RunAlike rows new) where
       router_list-column new routers ends (ends_alike routers ends (column_table rows routers ends by_key all are))
       (λ i d h. still_ends _ (listed_end rows routers _ by_key all (Contains-get_or routers i d h))) still (subst AreRising (sym all) (rising-router_list (database_of rows)))
 
+  -- what holds of the addresses of some interfaces
+  locals_alike : (first end : ℕ) → first ≤ end → end ≤ length rows → (P : ℕ → Type 0) → All (λ l. P l.local) (between first end rows) → All (λ l. P l.local) (between first end new)
+  locals_alike first end order bound P all k d h =
+      let within : first + k < end = omega (arith, h, length-between new first end (omega (arith, order, bound, as_many)), order) in
+      let here : (slice_index_or (between first end rows) k d).local ≡ (slice_index_or (between first end new) k d).local =
+      ap (λ (l : Link). l.local) (get_or-between rows first end k d within) ∙ (alike_each (first + k) d (omega (arith, within, bound))).local ∙ sym (ap (λ (l : Link). l.local) (get_or-between new first end k d within)) in
+      subst P here (all k d (omega (arith, within, length-between rows first end bound, order)))
+
   -- where the rows from a router begin and end
-  span_alike : (router : ℕ) (span : ℕ × ℕ) → IsSpanOf rows router span → IsSpanOf new router span
+  span_alike : (router : ℕ) (span : Span) → IsSpanOf rows router span → IsSpanOf new router span
   span_alike router span is =
       let p : Link → Bool = λ l. nat_eq l.from router in
-      let first = span.0 in
-      let end = span.1 in
+      let first = span.first in
+      let end = span.end in
       let froms = column_alike (λ k. k.0.0) in
       let inside : All (λ l. p l ≡ true) (between first end rows) = subst (All (λ l. p l ≡ true)) (sym is.part) (filter_passes p rows) in
       let parts : length (filter p (take first rows)) + (length (between first end rows) + length (filter p (drop end rows))) ≡ length (between first end rows) =
@@ -176,7 +185,9 @@ module _ (rows new : List Link) (same : RunAlike rows new) where
             ∙ ap (λ ls. filter p (between first end new) ++ ls) behind
             ∙ append-nil (filter p (between first end new))
             ∙ all_kept p (between first end new) still);
+        lowest = locals_alike first end is.order is.bound (λ n. span.lowest ≤ n) is.lowest;
+        highest = locals_alike first end is.order is.bound (λ n. n ≤ span.highest) is.highest;
       }
 
-  pub spans_alike : (routers : List ℕ) (spans : List (ℕ × ℕ)) → AreSpansOf rows routers spans → AreSpansOf new routers spans
-  spans_alike routers spans are = record { many = are.many; each = λ at h. span_alike _ _ (are.each at h) }
+  pub spans_alike : (routers : List ℕ) (spans : List Span) → AreSpansOf rows routers spans → AreSpansOf new routers spans
+  spans_alike routers spans are = record { many = are.many; each = λ at d h. span_alike _ _ (are.each at d h) }

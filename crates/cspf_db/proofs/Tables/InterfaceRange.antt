@@ -1,13 +1,14 @@
 -- The rows from one router rise by the address of their interface, so that a prefix below or above
 -- them all covers none of them.
-use Rattle.std.proofs.Common.{◌≡◌, ℕ, ◌-◌, ◌<◌, ◌≤◌, ◌↔◌, inl, inr, Bool, true, false, IsTrue, List, All, length, filter, get_or, nat_eq, slice_index, refl, sym, ap, subst, ◌∙◌, arith}
+use Rattle.std.proofs.Common.{◌≡◌, ℕ, ◌+◌, ◌-◌, ◌<◌, ◌≤◌, ◌↔◌, inl, inr, Bool, true, false, IsTrue, List, All, length, filter, get_or, nat_eq, slice_index, refl, sym, ap, subst, ◌∙◌, arith}
 use Rattle.std.specs.Ordering.{nat_cmp, ordering_then}
 use Rattle.std.specs.declared.cmp.Ordering.TheVariants.{Less, Equal, Greater}
 use Rattle.std.specs.Cmp.{ranked}
-use Rattle.std.specs.List.{HoldsAt}
+use Rattle.std.specs.List.{HoldsAt, between}
 use Rattle.std.specs.List.Sorted.{IsNonDecreasingBy}
 use Rattle.std.proofs.lemmas.Bool.{cases_eq, eqb-true}
 use Rattle.std.proofs.lemmas.List.{get_or_default, get_or_read_under}
+use Rattle.std.proofs.lemmas.List.Edits.{length-between, get_or-between}
 use Rattle.std.proofs.lemmas.List.Elements.{Contains-get_or, filter_passes}
 use Rattle.std.proofs.lemmas.List.Kept.{AllPairs-filter}
 use Rattle.cspf_addr.specs.PrefixParts.{PrefixParts}
@@ -34,7 +35,7 @@ local_le j k is tie =
     ] refl is
 
 -- the rows from a router rise by the address of their interface
-locals_rise : (rows : List Link) (router : ℕ) → AreByKey rows → IsNonDecreasingBy (λ l. l.local) (filter (λ l. nat_eq l.from router) rows)
+pub locals_rise : (rows : List Link) (router : ℕ) → AreByKey rows → IsNonDecreasingBy (λ l. l.local) (filter (λ l. nat_eq l.from router) rows)
 locals_rise rows router by_key i j d le h =
     let p : Link → Bool = λ l. nat_eq l.from router in
     let from_router : (k : ℕ) → k < length (filter p rows) → (get_or (filter p rows) k d).from ≡ router = λ k within. eqb-true _ _ (filter_passes p rows k d within) in
@@ -45,6 +46,25 @@ locals_rise rows router by_key i j d le h =
           (λ a b e low within. local_le (key_of (get_or rows a e)) (key_of (get_or rows b e)) (rises keys_total entry_of rows (test_from_true _ by_key) a b e low within)) i j d (omega (arith, le)) h
           (from_router i (omega (arith, le, h)) ∙ sym (from_router j h))
     ]
+
+-- so the first of some rows that rise has the lowest address, and the last one the highest
+module _ (rows : List Link) (first end : ℕ) (some : first < end) (bound : end ≤ length rows) (rising : IsNonDecreasingBy (λ l. l.local) (between first end rows)) where
+  long : length (between first end rows) ≡ end - first
+  long = length-between rows first end bound
+
+  pub lowest_first : (e : Link) → All (λ l. (get_or rows first e).local ≤ l.local) (between first end rows)
+  lowest_first e k d h =
+      let start : first + 0 ≡ first = omega arith in
+      let bottom : (get_or (between first end rows) 0 d).local ≡ (get_or rows first e).local =
+      ap (λ (l : Link). l.local) (get_or-between rows first end 0 d (omega (arith, some)) ∙ ap (λ i. get_or rows i d) start ∙ get_or_default rows first d e (omega (arith, some, bound))) in
+      omega (arith, bottom, rising 0 k d (omega arith) h)
+
+  pub highest_last : (e : Link) → All (λ l. l.local ≤ (get_or rows (end - 1) e).local) (between first end rows)
+  highest_last e k d h =
+      let last : first + (end - first - 1) ≡ end - 1 = omega (arith, some) in
+      let top : (get_or (between first end rows) (end - first - 1) d).local ≡ (get_or rows (end - 1) e).local =
+      ap (λ (l : Link). l.local) (get_or-between rows first end (end - first - 1) d (omega (arith, some)) ∙ ap (λ i. get_or rows i d) last ∙ get_or_default rows (end - 1) d e (omega (arith, some, bound))) in
+      omega (arith, top, rising k (end - first - 1) d (omega (arith, h, long)) (omega (arith, some, long)))
 
 -- and so do the links of a database from it
 pub links_rise : (d : Database) (rows : List Link) (marks : List ℕ) (part : List Link) (router : ℕ) → marked_database rows marks ≡ d → AreByKey rows → part ≡ links_from d router → IsNonDecreasingBy (λ l. l.local) part

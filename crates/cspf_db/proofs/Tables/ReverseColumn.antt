@@ -5,6 +5,7 @@ use Rattle.std.proofs.lemmas.Bool.{cases_lt, eqb-true, eqb-false, eq-eqb}
 use Rattle.std.proofs.lemmas.List.{get_or_append_left, get_or_at, get_or_default, get_or-map}
 use Rattle.std.proofs.lemmas.List.Edits.{length-between, get_or-between}
 use Rattle.cspf_db.specs.declared.link.Link.{Link}
+use Rattle.cspf_db.specs.declared.table.router_rows.Span.{Span}
 use Rattle.cspf_db.specs.declared.limits.TheConstants.{NO_LINK}
 use Rattle.cspf_db.specs.Database.{Database, Key, key_of, IsLinkOf, IsReverse, HasReverse}
 use Rattle.cspf_db.specs.Index.{links_of, links_from_index, router_list, IsReverseAt}
@@ -69,16 +70,16 @@ as_many_beside d rows column first end at are order bound part =
     length-between column first end (omega (arith, are.many, bound)) ∙ sym (length-between rows first end bound) ∙ ap length part
 
 -- at the span of a router of a table
-pub reverses_at_span : (d : Database) (a : Inside) → IsTable a → marked_database a.rows.items a.marks.items ≡ d → (at : ℕ) (span : ℕ × ℕ) → at < length (router_list d) → span ≡ slice_index_or a.spans.items at span
-    → (length (between span.0 span.1 a.reverses.items) ≡ length (links_from_index d at))
-    × ((nth : ℕ) (l : Link) → nth < length (links_from_index d at) → IsReverseAt d (slice_index_or (links_from_index d at) nth l) (slice_index_or (between span.0 span.1 a.reverses.items) nth 0))
+pub reverses_at_span : (d : Database) (a : Inside) → IsTable a → marked_database a.rows.items a.marks.items ≡ d → (at : ℕ) (span : Span) → at < length (router_list d) → span ≡ slice_index_or a.spans.items at span
+    → (length (between span.first span.end a.reverses.items) ≡ length (links_from_index d at))
+    × ((nth : ℕ) (l : Link) → nth < length (links_from_index d at) → IsReverseAt d (slice_index_or (links_from_index d at) nth l) (slice_index_or (between span.first span.end a.reverses.items) nth 0))
 reverses_at_span d a is makes at span h read =
     let by_key = is.parts.rows.by_key in
     let all = is.parts.routers.all in
     let column = is.reverses.column in
     let part = span_at d a.rows.items a.marks.items a.routers.items a.spans.items at span makes by_key all is.spans h read in
     let order = span_within d a.rows.items a.marks.items a.routers.items a.spans.items at span makes all is.spans h read in
-    (as_many_beside d a.rows.items a.reverses.items span.0 span.1 at column order.0 order.1 part, reverses_beside d a.rows.items a.marks.items a.reverses.items span.0 span.1 at makes by_key column order.0 order.1 part)
+    (as_many_beside d a.rows.items a.reverses.items span.first span.end at column order.0 order.1 part, reverses_beside d a.rows.items a.marks.items a.reverses.items span.first span.end at makes by_key column order.0 order.1 part)
 
 -- where the row with the key of the reverse runs elsewhere, there is no reverse
 pub not_back : (rows : List Link) → AreByKey rows → (l : Link) (at : ℕ) (d : Link) → at < length rows → key_of (slice_index_or rows at d) ≡ (l.to, l.remote)
@@ -112,7 +113,7 @@ kept_each p P (x ∷ xs) all (suc i) d h passes = kept_each p P xs (rest (p x) a
     rest false all = all
 
 -- the rows from the router that a link runs to are all that may be its reverse
-pub none_back_within : (rows : List Link) (l : Link) (span : ℕ × ℕ) → IsSpanOf rows l.to span → All (λ r. key_of r ≢ (l.to, l.remote)) (between span.0 span.1 rows) → IsIndexOfReverse no_key rows l NO_LINK
+pub none_back_within : (rows : List Link) (l : Link) (span : Span) → IsSpanOf rows l.to span → All (λ r. key_of r ≢ (l.to, l.remote)) (between span.first span.end rows) → IsIndexOfReverse no_key rows l NO_LINK
 none_back_within rows l span is none =
     none_back rows l (λ i d h key. kept_each (λ r. eqb r.from l.to) (λ r. key_of r ≢ (l.to, l.remote)) rows (subst (All (λ r. key_of r ≢ (l.to, l.remote))) is.part none) i d h
     (eq-eqb _ _ (λ t. (key t).0)) key)
@@ -123,7 +124,7 @@ key_within rows k first end i bound h has d =
     ap key_of (sym (get_or-between rows first end i d (omega (arith, h, length-between rows first end bound)))) ∙ has d
 
 -- where the rows from the end of each row begin and end
-pub spans_at_ends : (rows : List Link) (routers ends : List ℕ) (spans : List (ℕ × ℕ)) → AreEndsOf rows routers ends → AreSpansOf rows routers spans → AreSpansAtEnds rows ends spans
+pub spans_at_ends : (rows : List Link) (routers ends : List ℕ) (spans : List Span) → AreEndsOf rows routers ends → AreSpansOf rows routers spans → AreSpansAtEnds rows ends spans
 spans_at_ends rows routers ends spans are spanned at d h =
     let many = length-ends rows routers ends are in
     let end = slice_index_or ends at 0 in
@@ -131,7 +132,7 @@ spans_at_ends rows routers ends spans are spanned at d h =
     let to : Link → ℕ = λ r. r.to in
     let found : slice_index routers end ≡ to (slice_index_or rows at d) =
     sym (get_or-map (λ e. slice_index routers e) ends at 0 0 (omega (arith, h, many))) ∙ ap (λ ns. slice_index_or ns at 0) are.each ∙ get_or-map to rows at d 0 h in
-    (omega (arith, inside, spanned.many), subst (λ r. IsSpanOf rows r (slice_index_or spans end (0, 0))) found (spanned.each end inside))
+    (omega (arith, inside, spanned.many), λ e. subst (λ r. IsSpanOf rows r (slice_index_or spans end e)) found (spanned.each end e inside))
 
 -- one more number of the column
 pub one_more : (rows : List Link) (column : List ℕ) (l : Link) (n : ℕ) → l ≡ slice_index_or rows (length column) l → length column < length rows

@@ -10,15 +10,16 @@ use Rattle.std.specs.FinMap as finite
 use Rattle.std.specs.FinMap.{is_sorted, put, entries, entries_sorted, nat_cmp-IsAntisymmetric}
 use Rattle.std.specs.FinMap.Entries.{is_sorted-put, is_some-find}
 use Rattle.std.specs.FinSet as set
-use Rattle.std.proofs.lemmas.List.{get_or_default, length-map, take-map, drop-map, nil_from_length, get_or_read, get_or_read_under}
+use Rattle.std.proofs.lemmas.List.{get_or_default, length-map, take-map, drop-map, nil_from_length, get_or_read_under}
 use Rattle.std.proofs.lemmas.List.Elements.{Contains-get_or}
 use Rattle.std.proofs.lemmas.Map.Views.{list_any-from_Contains, Contains-from_any}
 use Rattle.std.proofs.lemmas.Bool.Decides.{nat_tests}
 use Rattle.cspf_db.specs.declared.link.Link.{Link}
+use Rattle.cspf_db.specs.declared.table.router_rows.Span.{Span}
 use Rattle.cspf_db.specs.Tables.CountedEnds.{AnyEndsAt}
 use Rattle.cspf_db.specs.Database.{Database, IsRouterOf, EndsAt, AreAtTheirKeys, ends_of, all_routers, router_count}
 use Rattle.cspf_db.specs.Index.{with_nothing, numbers_in, links_of, router_list, links_from_index}
-use Rattle.cspf_db.specs.Tables.Rows.{database_of, marked_database, AreRising, AreByKey, AreEndsOf, AreSpansOf}
+use Rattle.cspf_db.specs.Tables.Rows.{database_of, marked_database, AreRising, AreByKey, AreEndsOf, AreSpansOf, IsSpanOf}
 use Rattle.cspf_db.proofs.Tables.SortedEntries.{test_from_true, true_from_test, put-gap, rises, searchable, gap_from}
 use Rattle.cspf_db.proofs.Tables.RowOrder.{links_of-database_of, own_keys}
 use Rattle.cspf_db.proofs.Databases.LinksOfRows.{rows_listed, rows_keyed}
@@ -139,21 +140,26 @@ part_at d rows marks routers at router part e by_key all h read is =
     ∙ ap (filter (λ (l : Link). nat_eq l.from router)) (sym (links_of-database_of rows by_key) ∙ ap links_of e)
     ∙ ap (λ r. filter (λ (l : Link). nat_eq l.from r) (links_of d)) (get_or_read_under routers at (length routers) router 0 read within refl ∙ ap (λ rs. slice_index rs at) listed)
 
+-- the span of a router of the list
+pub span_read : (d : Database) (rows : List Link) (marks : List ℕ) (routers : List ℕ) (spans : List Span) (at : ℕ) (span : Span) → marked_database rows marks ≡ d → routers ≡ router_list (database_of rows)
+    → AreSpansOf rows routers spans → at < length (router_list d) → span ≡ get_or spans at span → IsSpanOf rows (slice_index routers at) span
+span_read d rows marks routers spans at span e all are h read =
+    let within : at < length routers = subst (λ rs. at < length rs) (sym (all ∙ routers_marked rows marks ∙ ap router_list e)) h in
+    subst (IsSpanOf rows (slice_index routers at)) (sym read) (are.each at span within)
+
 -- the rows from a router of the list stand where its span tells
-pub span_at : (d : Database) (rows : List Link) (marks : List ℕ) (routers : List ℕ) (spans : List (ℕ × ℕ)) (at : ℕ) (span : ℕ × ℕ) → marked_database rows marks ≡ d → AreByKey rows → routers ≡ router_list (database_of rows)
-    → AreSpansOf rows routers spans → at < length (router_list d) → span ≡ get_or spans at span → between span.0 span.1 rows ≡ links_from_index d at
+pub span_at : (d : Database) (rows : List Link) (marks : List ℕ) (routers : List ℕ) (spans : List Span) (at : ℕ) (span : Span) → marked_database rows marks ≡ d → AreByKey rows → routers ≡ router_list (database_of rows)
+    → AreSpansOf rows routers spans → at < length (router_list d) → span ≡ get_or spans at span → between span.first span.end rows ≡ links_from_index d at
 span_at d rows marks routers spans at span e by_key all are h read =
     let within : at < length routers = subst (λ rs. at < length rs) (sym (all ∙ routers_marked rows marks ∙ ap router_list e)) h in
-    let is : span ≡ get_or spans at (0, 0) = get_or_read spans at span (omega (arith, within, are.many)) read (0, 0) in
-    part_at d rows marks routers at (slice_index routers at) (between span.0 span.1 rows) e by_key all h (get_or_default routers at 0 (slice_index routers at) within) (rw is (are.each at within).part)
+    part_at d rows marks routers at (slice_index routers at) (between span.first span.end rows) e by_key all h (get_or_default routers at 0 (slice_index routers at) within) (span_read d rows marks routers spans at span e all are h read).part
 
 -- which is within the rows
-pub span_within : (d : Database) (rows : List Link) (marks : List ℕ) (routers : List ℕ) (spans : List (ℕ × ℕ)) (at : ℕ) (span : ℕ × ℕ) → marked_database rows marks ≡ d → routers ≡ router_list (database_of rows)
-    → AreSpansOf rows routers spans → at < length (router_list d) → span ≡ get_or spans at span → (span.0 ≤ span.1) × (span.1 ≤ length rows)
+pub span_within : (d : Database) (rows : List Link) (marks : List ℕ) (routers : List ℕ) (spans : List Span) (at : ℕ) (span : Span) → marked_database rows marks ≡ d → routers ≡ router_list (database_of rows)
+    → AreSpansOf rows routers spans → at < length (router_list d) → span ≡ get_or spans at span → (span.first ≤ span.end) × (span.end ≤ length rows)
 span_within d rows marks routers spans at span e all are h read =
-    let within : at < length routers = subst (λ rs. at < length rs) (sym (all ∙ routers_marked rows marks ∙ ap router_list e)) h in
-    let is : span ≡ get_or spans at (0, 0) = get_or_read spans at span (omega (arith, within, are.many)) read (0, 0) in
-    rw is ((are.each at within).order, (are.each at within).bound)
+    let is = span_read d rows marks routers spans at span e all are h read in
+    (is.order, is.bound)
 
 -- the ends beside them
 pub ends_at_part : (d : Database) (rows : List Link) (marks : List ℕ) (routers ends : List ℕ) (first end at : ℕ) → marked_database rows marks ≡ d → routers ≡ router_list (database_of rows) → AreEndsOf rows routers ends

@@ -4,7 +4,7 @@ use Rattle.std.specs.List.{filter, between}
 use Rattle.std.specs.List.Sorted.{IsPartitionPoint, IsNonDecreasingBy}
 use Rattle.std.proofs.lemmas.Bool.{cases_lt}
 use Rattle.std.proofs.lemmas.Bool.Decides.{nat_tests}
-use Rattle.std.proofs.lemmas.List.{get_or-take, get_or-drop, length-take, length-drop, append-nil}
+use Rattle.std.proofs.lemmas.List.{get_or_read, get_or-take, get_or-drop, length-take, length-drop, append-nil}
 use Rattle.std.proofs.lemmas.List.Edits.{split_between, length-between, get_or-between}
 use Rattle.std.proofs.lemmas.List.Elements.{filter-append, All-tail, All-head}
 use Rattle.cspf_db.specs.declared.link.Link.{Link}
@@ -104,3 +104,11 @@ module _ (rows : List Link) (router first end : ℕ) (rises : IsNonDecreasingBy 
             ]),
         λ k d past h. not_upto (get_or rows k d).from router (behind k d past h),
       )
+
+-- rows between two from one router are from it too
+pub run_between : (rows : List Link) (router first end : ℕ) (l m : Link) → IsNonDecreasingBy (λ l. l.from) rows → first < end → end ≤ length rows → l ≡ get_or rows first l → m ≡ get_or rows (end - 1) m → l.from ≡ router → m.from ≡ router
+    → (k : ℕ) (d : Link) → first ≤ k → k < end → (get_or rows k d).from ≡ router
+run_between rows router first end l m rises some bound reads also from to k d past h =
+    let bottom : l.from ≡ (get_or rows first d).from = ap (λ (n : Link). n.from) (get_or_read rows first l (omega (arith, some, bound)) reads d) in
+    let top : m.from ≡ (get_or rows (end - 1) d).from = ap (λ (n : Link). n.from) (get_or_read rows (end - 1) m (omega (arith, some, bound)) also d) in
+    omega (arith, bottom, top, from, to, rises first k d past (omega (arith, h, bound)), rises k (end - 1) d (omega (arith, h)) (omega (arith, some, bound)))

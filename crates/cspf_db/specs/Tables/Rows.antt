@@ -7,6 +7,7 @@ use Rattle.std.specs.FinMap.{from_entries, is_sorted}
 use Rattle.std.specs.FinSet as set
 use Rattle.cspf_db.specs.declared.link.Link.{Link}
 use Rattle.cspf_db.specs.declared.table.Table.TheInside.{Inside}
+use Rattle.cspf_db.specs.declared.table.router_rows.Span.{Span}
 use Rattle.cspf_db.specs.Database.{Database, Key, key_of, key_cmp, router_count}
 use Rattle.cspf_db.specs.Index.{with_nothing, router_list}
 use Rattle.cspf_db.specs.declared.limits.TheConstants.{MOST_LINKS, MOST_MARKS, MOST_ROUTERS, ROOM_FOR_LINKS, ROOM_FOR_MARKS, ROOM_FOR_ROUTERS}
@@ -89,24 +90,26 @@ pub record AreParts (links : Vec Link Global) (names : Vec ℕ Global) (indices 
   pub ends : AreEndsOf links.items names.items indices.items
   pub room : ROOM_FOR_LINKS ≤ vec_capacity indices
 
--- where the rows from a router begin and end
-pub record IsSpanOf (rows : List Link) (router : ℕ) (span : ℕ × ℕ) : Type 0 where
-  pub order : span.0 ≤ span.1
-  pub bound : span.1 ≤ length rows
-  pub part : slice_range rows span.0 span.1 ≡ filter (λ l. nat_eq l.from router) rows
+-- where the rows from a router begin and end, and between which addresses their interfaces are
+pub record IsSpanOf (rows : List Link) (router : ℕ) (span : Span) : Type 0 where
+  pub order : span.first ≤ span.end
+  pub bound : span.end ≤ length rows
+  pub part : slice_range rows span.first span.end ≡ filter (λ l. nat_eq l.from router) rows
+  pub lowest : All (λ l. span.lowest ≤ l.local) (slice_range rows span.first span.end)
+  pub highest : All (λ l. l.local ≤ span.highest) (slice_range rows span.first span.end)
 
 -- so it is for each router
-pub record AreSpansOf (rows : List Link) (routers : List ℕ) (spans : List (ℕ × ℕ)) : Type 0 where
+pub record AreSpansOf (rows : List Link) (routers : List ℕ) (spans : List Span) : Type 0 where
   pub many : length spans ≡ length routers
-  pub each : (at : ℕ) → at < length routers
-      → IsSpanOf rows (slice_index routers at) (slice_index_or spans at (0, 0))
+  pub each : (at : ℕ) (d : Span) → at < length routers
+      → IsSpanOf rows (slice_index routers at) (slice_index_or spans at d)
 
 -- where the rows begin and end that are from the router that each row runs to
-abbrev pub AreSpansAtEnds : List Link → List ℕ → List (ℕ × ℕ) → Type 0
+abbrev pub AreSpansAtEnds : List Link → List ℕ → List Span → Type 0
 AreSpansAtEnds rows ends spans =
     (at : ℕ) (d : Link) → at < length rows
     → (slice_index_or ends at 0 < length spans)
-    × IsSpanOf rows (slice_index_or rows at d).to (slice_index_or spans (slice_index_or ends at 0) (0, 0))
+    × ((e : Span) → IsSpanOf rows (slice_index_or rows at d).to (slice_index_or spans (slice_index_or ends at 0) e))
 
 -- the set of some addresses
 abbrev pub marks_in : List ℕ → set.FinSet nat_cmp

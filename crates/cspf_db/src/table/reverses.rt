@@ -11,6 +11,7 @@ ghost use Rattle.cspf_db.specs.Tables.Reverses.{AreReversesBut, AreReversesOf, I
 use crate::Link;
 use crate::limits::NO_LINK;
 use crate::table::insertion::insert_within;
+use crate::table::router_rows::Span;
 use crate::table::table_rows::index_of;
 use cspf_addr::Addr;
 
@@ -43,13 +44,13 @@ pub fn reverse_index(rows: &[Link], link: &Link) -> u16
 
 /// The same, where it is known where the rows begin and end that are from the router that the link
 /// runs to.
-fn reverse_within(rows: &[Link], span: (u16, u16), link: &Link) -> u16
+fn reverse_within(rows: &[Link], span: &Span, link: &Link) -> u16
     requires by_key { AreByKey rows.now }
     requires most { length rows.now ≤ MOST_LINKS }
-    requires span { IsSpanOf rows.now link.now.to span }
+    requires span { IsSpanOf rows.now link.now.to span.now }
     ensures { IsIndexOfReverse no_key rows.now link.now result }
 {
-    let (first, end) = (usize::from(span.0), usize::from(span.1));
+    let (first, end) = (usize::from(span.first), usize::from(span.end));
     let Some(at) = index_of(&rows[first..end], link.to, link.remote) else {
         return NO_LINK;
     };
@@ -57,7 +58,7 @@ fn reverse_within(rows: &[Link], span: (u16, u16), link: &Link) -> u16
 }
 
 /// Lists where the reverse of each row is.
-pub fn list_reverses(reverses: &mut Vec<u16>, rows: &[Link], ends: &[u16], spans: &[(u16, u16)])
+pub fn list_reverses(reverses: &mut Vec<u16>, rows: &[Link], ends: &[u16], spans: &[Span])
     requires by_key { AreByKey rows.now }
     requires most { length rows.now ≤ MOST_LINKS }
     requires ends { length ends.now ≡ length rows.now }
@@ -67,7 +68,7 @@ pub fn list_reverses(reverses: &mut Vec<u16>, rows: &[Link], ends: &[u16], spans
 {
     reverses.clear();
     for (at, link) in rows.iter().enumerate() {
-        let span = spans[usize::from(ends[at])];
+        let span = &spans[usize::from(ends[at])];
         reverses.push_reserved(reverse_within(rows, span, link));
     }
 }

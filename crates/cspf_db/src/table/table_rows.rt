@@ -104,37 +104,12 @@ pub fn begins(rows: &[Link], router: Addr) -> bool
 }
 
 /// Whether one of the rows has the address of its interface within the prefix.
-fn any_within(rows: &[Link], prefix: Prefix) -> bool
+pub fn any_within(rows: &[Link], prefix: Prefix) -> bool
     ensures yes { result ≡ true
         → (at : ℕ) × (at < length rows.now) × HoldsAt (λ l. Covers prefix l.local) rows.now at }
     ensures no { result ≡ false → All (λ l. ¬ Covers prefix l.local) rows.now }
 {
     rows.iter().any(|link| prefix.covers(link.local))
-}
-
-/// Whether an address from the first to the last may begin with the bits of the prefix: the prefix
-/// covers an unbroken range of addresses.
-fn may_cover(prefix: Prefix, first: Addr, last: Addr) -> bool
-    ensures { result ≡ false
-        → (address : ℕ) → first ≤ address → address ≤ last → ¬ Covers prefix address }
-{
-    let rest = 32 - prefix.length();
-    let front = u64::from(prefix.address().number()) >> rest;
-    u64::from(first.number()) >> rest <= front && front <= u64::from(last.number()) >> rest
-}
-
-/// The same as `any_within`, of rows in order of the address of their interface.
-pub fn any_rising_within(rows: &[Link], prefix: Prefix) -> bool
-    requires { IsNonDecreasingBy (λ l. l.local) rows.now }
-    ensures yes { result ≡ true
-        → (at : ℕ) × (at < length rows.now) × HoldsAt (λ l. Covers prefix l.local) rows.now at }
-    ensures no { result ≡ false → All (λ l. ¬ Covers prefix l.local) rows.now }
-{
-    if rows.is_empty() {
-        return false;
-    }
-    let (first, last) = (rows[0].local, rows[rows.len() - 1].local);
-    may_cover(prefix, first, last) && any_within(rows, prefix)
 }
 
 /// Puts the link in place of the row with its key, or between the lower keys and the higher ones,

@@ -251,7 +251,7 @@ impl Draw {
     }
 
     // A batch of this many changes that fits the table.
-    fn batch(
+    pub(super) fn batch(
         &mut self,
         alloc: Global,
         table: &Table,

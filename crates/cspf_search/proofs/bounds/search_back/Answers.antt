@@ -1,11 +1,9 @@
-use Rattle.std.proofs.Common.{◌≡◌, ◌+◌, suc, length, ap, subst, slice_index, arith}
+use Rattle.std.proofs.Common.{◌≡◌, ◌+◌, suc, length, subst, slice_index, arith}
 use Rattle.std.proofs.lemmas.Result.{on_ok_weaker}
 use Rattle.cspf_db.specs.Index.{router_list}
 use Rattle.cspf_db.specs.Targets.{IsTarget}
 use Rattle.cspf_search.specs.Bounds.{bound_at}
-use Rattle.cspf_search.specs.Frontier.{nothing}
 use Rattle.cspf_search.proofs.Cuts.{last_target}
-use Rattle.cspf_search.proofs.LegBounds.{told_target}
 use Rattle.cspf_search.proofs.Ranks.{one_place}
 use Rattle.cspf_search.proofs.bounds.search_back.Goals as goal
 
@@ -27,8 +25,5 @@ returns-then-leg_index-len-clause-targets c =
 pub returns-clause-targets : goal.returns-clause-targets
 returns-clause-targets c =
     on_ok_weaker c.grow-2.result
-    (λ lower p h turns.
-    let many = ap length c.routers-count.ensures.all in
-    let told = told_target c.args.query.table.now c.args.query.request.now c.args.query.roles.now c.args.leg_index p c.requires.query.listed c.requires.query.roles c.requires.leg h turns in
-    omega (arith, lower p, c.in_ok-top.ensures.targets p nothing (omega (arith, h, many)) told))
+    (λ lower p h turns. omega (arith, lower p, c.in_ok-top.ensures.targets p h turns))
     c.grow-2.ensures.lower

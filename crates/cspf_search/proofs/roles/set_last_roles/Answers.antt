@@ -53,6 +53,5 @@ returns c i e ix up =
             (c.loop-place.invariant i e ix last (omega (arith, ix.place, many, c.loop-place-test.false))
             (λ same. there (one_place d c.requires.listed q.to (i % 1024) c.args.to (record { within = ix.place; is = same }) c.requires.to)))
       ]
-      | inr (inl none) ↦ absurd (omega (arith, none))
-      | inr (inr both) ↦ absurd (omega (arith, both.1))
+      | inr none ↦ absurd (omega (arith, none))
     ]

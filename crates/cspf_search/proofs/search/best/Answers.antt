@@ -13,4 +13,4 @@ answer-requires-clause-ends c = record {
 }
 
 pub answer-requires-clause-searched : goal.answer-requires-clause-searched
-answer-requires-clause-searched c = rw c.deref-2.ensures.value c.in_ok-nodes.ensures
+answer-requires-clause-searched c = rw c.deref-3.ensures.value c.in_ok-nodes.ensures

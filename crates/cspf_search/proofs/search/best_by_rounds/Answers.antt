@@ -1,17 +1,19 @@
-use Rattle.std.proofs.Common.{refl}
 use Rattle.cspf_search.proofs.search.best_by_rounds.Goals as goal
 
-pub returns-in_default : goal.returns-in_default
-returns-in_default c = (c.if-not-has_router.ensures.0 refl, c.in_default.ensures.none)
+pub returns-in_default-place_of : goal.returns-in_default-place_of
+returns-in_default-place_of c = (
+  c.listed.ensures.known c.args.request.now.from c.in-Some.head (record { within = c.in-Some.ensures.bound; is = c.in-Some.ensures.some }),
+  c.in_default-place_of.ensures.none,
+)
 
 pub settled-requires-clause-known : goal.settled-requires-clause-known
-settled-requires-clause-known c = c.if-not-has_router.ensures.0 refl
+settled-requires-clause-known c = c.listed.ensures.known c.args.request.now.from c.in-Some.head (record { within = c.in-Some.ensures.bound; is = c.in-Some.ensures.some })
 
 pub answer-requires-clause-ends : goal.answer-requires-clause-ends
 answer-requires-clause-ends c = record {
-  from = c.if-not-has_router.ensures.0 refl;
-  to = c.listed.ensures.known c.args.request.now.to c.in-Some.to (record { within = c.in-Some.ensures.bound; is = c.in-Some.ensures.some });
+  from = c.listed.ensures.known c.args.request.now.from c.in-Some.head (record { within = c.in-Some.ensures.bound; is = c.in-Some.ensures.some });
+  to = c.listed.ensures.known c.args.request.now.to c.in-Some-place_of.to (record { within = c.in-Some-place_of.ensures.bound; is = c.in-Some-place_of.ensures.some });
 }
 
 pub answer-requires-clause-searched : goal.answer-requires-clause-searched
-answer-requires-clause-searched c = rw c.deref-2.ensures.value c.in_ok-nodes.ensures
+answer-requires-clause-searched c = rw c.deref-3.ensures.value c.in_ok-nodes.ensures

@@ -20,7 +20,7 @@ invariant_of-result c =
         ends = record { within = rw e.items (All-nil _); each = rw (e.items, r.items) refl };
         room = omega (arith, e.exact);
       };
-      spans = record { many = rw (t.items, s.items) refl; each = rw s.items (λ at h. absurd (omega arith)) };
+      spans = record { many = rw (t.items, s.items) refl; each = rw s.items (λ at d h. absurd (omega arith)) };
       room = omega (arith, t.exact);
       reverses = record { column = record { many = rw (b.items, r.items) refl; each = rw r.items (λ at d h. absurd (omega arith)) }; room = omega (arith, b.exact) };
       marks = record { rising = rw m.items refl; most = rw m.items (omega arith); room = omega (arith, m.exact) };

@@ -1,4 +1,4 @@
-use Rattle.std.proofs.Common.{rules, ◌≡◌, length, slice_index_or, sym, subst, arith}
+use Rattle.std.proofs.Common.{rules, ◌≡◌, length, slice_index_or, sym, ap, subst, ◌∙◌, arith}
 use Rattle.cspf_db.specs.declared.link.Link.{Link}
 use Rattle.cspf_db.specs.Tables.Rows.{IsSpanOf}
 use Rattle.cspf_db.proofs.Tables.ReverseColumn.{one_more}
@@ -10,8 +10,12 @@ bounds-spans-from c = rw c.from.ensures (c.requires.spans c.loop-at.at c.index-r
 pub reverse_within-requires-clause-span : goal.reverse_within-requires-clause-span
 reverse_within-requires-clause-span c =
     let rows = c.args.rows.now in
-    let span = slice_index_or c.args.spans.now (slice_index_or c.args.ends.now c.loop-at.at 0) (0, 0) in
-    rw c.from.ensures (subst (λ (l : Link). IsSpanOf rows l.to span) (sym c.index-rows-at.is) (c.requires.spans c.loop-at.at c.index-rows-at.result c.loop-at-test.true).1)
+    let spans = c.args.spans.now in
+    let span = c.index-spans-from.result in
+    let there : span ≡ slice_index_or spans (slice_index_or c.args.ends.now c.loop-at.at 0) span = c.index-spans-from.is ∙ ap (λ n. slice_index_or spans n span) c.from.ensures in
+    let is = (c.requires.spans c.loop-at.at c.index-rows-at.result c.loop-at-test.true).1 span in
+    subst (λ s. IsSpanOf rows c.index-rows-at.result.to s) (sym there)
+    (subst (λ (l : Link). IsSpanOf rows l.to (slice_index_or spans (slice_index_or c.args.ends.now c.loop-at.at 0) span)) (sym c.index-rows-at.is) is)
 
 pub loop-at-preserved : goal.loop-at-preserved
 loop-at-preserved c =

@@ -9,7 +9,7 @@ index_of-requires c =
     rw (c.from-first.ensures, c.from-end.ensures) (subst AreByKey (sym c.requires.span.part) (by_key-filter (λ r. eqb r.from c.args.link.now.to) c.args.rows.now c.requires.by_key))
 
 pub returns-in_default : goal.returns-in_default
-returns-in_default c = none_back_within c.args.rows.now c.args.link.now c.args.span c.requires.span (rw (c.from-first.ensures, c.from-end.ensures) at c.in_default.ensures.none)
+returns-in_default c = none_back_within c.args.rows.now c.args.link.now c.args.span.now c.requires.span (rw (c.from-first.ensures, c.from-end.ensures) at c.in_default.ensures.none)
 
 pub index_back-requires-clause-key : goal.index_back-requires-clause-key
 index_back-requires-clause-key c =

@@ -5,7 +5,7 @@ use Rattle.cspf_db.specs.Tables.CountedEnds.{HasListedEnds}
 use Rattle.cspf_db.specs.Tables.Rows.{database_of}
 use Rattle.cspf_db.specs.Tables.RowsLeft.{adds_link}
 use Rattle.cspf_db.proofs.Batches.LinkCounts.{within_more, count_more}
-use Rattle.cspf_db.proofs.Databases.EndCounts.{brings_more}
+use Rattle.cspf_db.proofs.Tables.GoneRouters.{brings_once}
 use Rattle.cspf_db.proofs.table.tally.tally_all.Goals as goal
 use Rattle.cspf_db.proofs.table.tally.tally_all.Goals.{then-alike, else-alike}
 
@@ -22,7 +22,7 @@ loop-at-preserved c =
       added = count_more (adds_link d) changes at change c.loop-at.added c.in-Some.one.added c.loop-at-test.true c.index-changes-at.is before.added one.added;
       few_added = omega (arith, before.few_added, one.one);
       few = omega (arith, before.few, one.few);
-      most = brings_more c.args.routers.now changes at change c.loop-at.brought c.in-Some.one.brought c.loop-at-test.true c.index-changes-at.is before.most one.most;
+      most = brings_once c.args.routers.now changes at change c.loop-at.brought c.in-Some.one.brought c.loop-at-test.true c.index-changes-at.is before.most (λ s inside _. one.most s inside);
       alike = elim c.if-alike.branch [
         | then-alike w ↦ λ on. within_more (IsAlike c.args.rows.now) changes at change c.loop-at-test.true c.index-changes-at.is (one.alike (sym w.alike-is ∙ on)) (before.alike w.if-alike.true)
         | else-alike w ↦ λ on. absurd (cc)

@@ -1,6 +1,6 @@
 use Rattle.cspf_db.proofs.Tables.RowOrder.{from_rises}
 use Rattle.cspf_db.proofs.Tables.RowSpans.{filter-run}
-use Rattle.cspf_db.proofs.table.router_rows.span_near.Goals as goal
+use Rattle.cspf_db.proofs.table.router_rows.span_from.Goals as goal
 
 pub returns-then-is_before-clause-rows : goal.returns-then-is_before-clause-rows
 returns-then-is_before-clause-rows c =

@@ -1,0 +1,13 @@
+-- The routers of a database that own a prefix, by their indexes.
+use Rattle.std.specs.Prelude.{◌<◌, ◌↔◌, ℕ, List, All, Contains, length, slice_index}
+use Rattle.std.specs.List.Sorted.{IsStrictlyIncreasing}
+use Rattle.cspf_addr.specs.PrefixParts.{PrefixParts}
+use Rattle.cspf_db.specs.Database.{Database}
+use Rattle.cspf_db.specs.Index.{router_list}
+use Rattle.cspf_db.specs.Targets.{Owns}
+
+-- the indexes in the list of routers of those that own an address that a prefix covers, rising
+pub record AreOwners (d : Database) (prefix : PrefixParts) (places : List ℕ) : Type 0 where
+  pub within : All (λ at. at < length (router_list d)) places
+  pub each : (at : ℕ) → at < length (router_list d) → Contains places at ↔ Owns d prefix (slice_index (router_list d) at)
+  pub rising : IsStrictlyIncreasing places

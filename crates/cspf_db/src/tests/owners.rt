@@ -1,0 +1,222 @@
+//! Which routers own an address that a prefix covers, and where their links stand, after batches that
+//! put and drop links and that move rows.
+use super::reverses::Draw;
+use crate::{Batch, Change, Link, LinkError, Table};
+use cspf_addr::{Addr, Mask, Prefix};
+use std::alloc::{AllocError, Global};
+use std::process::Abort;
+use std::test::Fail;
+
+// Three routers: 10.0.0.1, 10.0.0.2 and 10.0.0.3.
+const FIRST: u32 = 0x0a00_0001;
+
+const SECOND: u32 = 0x0a00_0002;
+
+const THIRD: u32 = 0x0a00_0003;
+
+// An interface 192.168.x.y.
+fn interface(x: u32, y: u32) -> u32 {
+    0xc0a8_0000 | (x & 255) << 8 | y & 255
+}
+
+fn put(from: u32, local: u32, to: u32) -> Result<Change, LinkError> {
+    Ok(Change::Put(Link::new(
+        Addr::new(from),
+        Addr::new(local),
+        Addr::new(to),
+        Addr::new(0xac10_0001),
+        10,
+        Mask::new(1),
+        [1000; 8],
+    )?))
+}
+
+fn drop_of(from: u32, local: u32) -> Change {
+    Change::Remove {
+        from: Addr::new(from),
+        local: Addr::new(local),
+    }
+}
+
+// Makes the changes.
+fn change(
+    rt: &impl Abort,
+    alloc: Global,
+    table: &mut Table,
+    changes: &[Change],
+) -> Result<(), AllocError> {
+    let batch = Batch {
+        number: 1,
+        changes: Vec::from_slice(alloc, changes)?,
+    };
+    assert_eq!(rt; table.try_absorb(&batch), Ok(()), "{changes:?}");
+    Ok(())
+}
+
+// The owners of the prefix are the routers that own it by a look at each. How many there are is the
+// result.
+fn assert_alike(
+    rt: &impl Abort,
+    alloc: Global,
+    table: &Table,
+    prefix: Prefix,
+) -> Result<usize, AllocError> {
+    let mut wanted = Vec::new(alloc);
+    for (at, router) in table.routers().iter().enumerate() {
+        let owns = table.owns(*router, prefix);
+        assert_eq!(rt; table.owns_at(at, prefix), owns, "{router:?} {prefix:?}");
+        if owns {
+            wanted.push(at as u16)?;
+        }
+    }
+    let owners = table.owners(alloc, prefix)?;
+    assert_eq!(rt; owners.as_slice(), wanted.as_slice(), "{prefix:?}");
+    Ok(wanted.len())
+}
+
+// The routers at these indexes own the prefix of this length with the first bits of the address.
+fn assert_owners(
+    rt: &impl Abort,
+    alloc: Global,
+    table: &Table,
+    prefix: (u32, u8),
+    wanted: &[u16],
+) -> Result<(), Fail> {
+    let prefix = Prefix::new(Addr::new(prefix.0), prefix.1)?;
+    let owners = table.owners(alloc, prefix)?;
+    assert_eq!(rt; owners.as_slice(), wanted, "{prefix:?}");
+    assert_alike(rt, alloc, table, prefix)?;
+    Ok(())
+}
+
+// A table with four links from the first router, one from the second, and none from the third.
+fn small_table(rt: &impl Abort, alloc: Global) -> Result<Table, Fail> {
+    let mut table = Table::new(alloc)?;
+    let links = [
+        put(FIRST, interface(1, 5), SECOND)?,
+        put(FIRST, interface(1, 1), SECOND)?,
+        put(FIRST, interface(1, 9), THIRD)?,
+        put(FIRST, interface(7, 1), THIRD)?,
+        put(SECOND, interface(2, 1), THIRD)?,
+    ];
+    change(rt, alloc, &mut table, &links)?;
+    Ok(table)
+}
+
+#[test]
+fn owners_of_prefixes(rt: HostRuntime) -> Result<(), Fail> {
+    let alloc = rt.alloc();
+    let table = small_table(&rt, alloc)?;
+    // the address of a router
+    assert_owners(&rt, alloc, &table, (FIRST, 32), &[0])?;
+    assert_owners(&rt, alloc, &table, (SECOND, 32), &[1])?;
+    assert_owners(&rt, alloc, &table, (THIRD, 32), &[2])?;
+    assert_owners(&rt, alloc, &table, (FIRST, 24), &[0, 1, 2])?;
+    assert_owners(&rt, alloc, &table, (SECOND, 31), &[1, 2])?;
+    // of an interface at either end of a router's rows, and in their middle
+    assert_owners(&rt, alloc, &table, (interface(1, 1), 32), &[0])?;
+    assert_owners(&rt, alloc, &table, (interface(1, 5), 32), &[0])?;
+    assert_owners(&rt, alloc, &table, (interface(7, 1), 32), &[0])?;
+    assert_owners(&rt, alloc, &table, (interface(1, 8), 30), &[0])?;
+    // of another router's between them, and of none between them
+    assert_owners(&rt, alloc, &table, (interface(2, 0), 24), &[1])?;
+    assert_owners(&rt, alloc, &table, (interface(1, 6), 32), &[])?;
+    // of none at all, below, above, and by its remote address
+    assert_owners(&rt, alloc, &table, (interface(1, 0), 32), &[])?;
+    assert_owners(&rt, alloc, &table, (interface(7, 2), 32), &[])?;
+    assert_owners(&rt, alloc, &table, (0xac10_0001, 32), &[])?;
+    assert_owners(&rt, alloc, &table, (0xac10_0000, 12), &[])?;
+    // of several, and all
+    assert_owners(&rt, alloc, &table, (interface(0, 0), 16), &[0, 1])?;
+    assert_owners(&rt, alloc, &table, (interface(2, 0), 23), &[1])?;
+    assert_owners(&rt, alloc, &table, (0, 0), &[0, 1, 2])?;
+    let empty = Table::new(alloc)?;
+    assert_owners(&rt, alloc, &empty, (0, 0), &[])?;
+    Ok(())
+}
+
+#[test]
+fn owners_after_batches(rt: HostRuntime) -> Result<(), Fail> {
+    let alloc = rt.alloc();
+    let mut table = small_table(&rt, alloc)?;
+    // an interface goes, and another comes in its place
+    let changes = [
+        drop_of(FIRST, interface(1, 5)),
+        put(FIRST, interface(1, 6), SECOND)?,
+    ];
+    change(&rt, alloc, &mut table, &changes)?;
+    assert_owners(&rt, alloc, &table, (interface(1, 5), 32), &[])?;
+    assert_owners(&rt, alloc, &table, (interface(1, 6), 32), &[0])?;
+    // the highest one goes, and a lower one comes
+    let changes = [
+        drop_of(FIRST, interface(7, 1)),
+        put(FIRST, interface(0, 1), THIRD)?,
+    ];
+    change(&rt, alloc, &mut table, &changes)?;
+    assert_owners(&rt, alloc, &table, (interface(7, 1), 32), &[])?;
+    assert_owners(&rt, alloc, &table, (interface(0, 1), 32), &[0])?;
+    assert_owners(&rt, alloc, &table, (interface(1, 9), 32), &[0])?;
+    assert_owners(&rt, alloc, &table, (interface(2, 1), 32), &[1])?;
+    // new attributes alone, and a link from a router that had none
+    let changes = [put(SECOND, interface(2, 1), THIRD)?];
+    change(&rt, alloc, &mut table, &changes)?;
+    assert_owners(&rt, alloc, &table, (interface(2, 1), 32), &[1])?;
+    let changes = [put(THIRD, interface(3, 1), FIRST)?];
+    change(&rt, alloc, &mut table, &changes)?;
+    assert_owners(&rt, alloc, &table, (interface(3, 1), 32), &[2])?;
+    assert_owners(&rt, alloc, &table, (interface(0, 0), 16), &[0, 1, 2])?;
+    // the first router goes, and the others move up
+    let changes = [
+        drop_of(FIRST, interface(0, 1)),
+        drop_of(FIRST, interface(1, 1)),
+        drop_of(FIRST, interface(1, 6)),
+        drop_of(FIRST, interface(1, 9)),
+        drop_of(THIRD, interface(3, 1)),
+    ];
+    change(&rt, alloc, &mut table, &changes)?;
+    assert_eq!(rt;
+        table.routers(),
+        [Addr::new(SECOND), Addr::new(THIRD)].as_slice()
+    );
+    assert_owners(&rt, alloc, &table, (FIRST, 32), &[])?;
+    assert_owners(&rt, alloc, &table, (interface(1, 1), 32), &[])?;
+    assert_owners(&rt, alloc, &table, (interface(2, 1), 32), &[0])?;
+    assert_owners(&rt, alloc, &table, (interface(3, 1), 32), &[])?;
+    assert_owners(&rt, alloc, &table, (THIRD, 32), &[1])?;
+    assert_owners(&rt, alloc, &table, (0, 0), &[0, 1])?;
+    Ok(())
+}
+
+// The links from each router stand where a look at each of the links finds them.
+fn assert_spans(rt: &impl Abort, table: &Table) {
+    let mut count = 0;
+    for (at, router) in table.routers().iter().enumerate() {
+        let mut out = table.out_at(at).iter();
+        for link in table.links().iter().filter(|link| link.from == *router) {
+            assert_eq!(rt; out.next(), Some(link), "{router:?}");
+            count += 1;
+        }
+        assert_eq!(rt; out.next(), None, "{router:?}");
+    }
+    assert_eq!(rt; count, table.links().len());
+}
+
+#[test]
+fn owners_after_drawn_batches(rt: HostRuntime) -> Result<(), Fail> {
+    let alloc = rt.alloc();
+    let mut table = Table::new(alloc)?;
+    let mut draw = Draw { state: 11 };
+    let mut owners = 0;
+    for _ in 0..150 {
+        let count = draw.below(6) as usize + 1;
+        let batch = draw.batch(alloc, &table, count, 40)?;
+        assert_eq!(rt; table.try_absorb(&batch), Ok(()));
+        assert_spans(&rt, &table);
+        for length in [0, 27, 29, 30, 31, 32] {
+            let prefix = Prefix::new(Addr::new(draw.below(64)), length)?;
+            owners += assert_alike(&rt, alloc, &table, prefix)?;
+        }
+    }
+    assert!(rt; owners > 2000, "{owners}");
+    Ok(())
+}

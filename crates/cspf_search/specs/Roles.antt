@@ -1,0 +1,67 @@
+-- Private words of the search: where the legs to hops end, and what a route may do in them.
+use Rattle.std.specs.Prelude.{◌≡◌, ℕ, Bool, true, false, ◌+◌, ◌/◌, ◌<◌, ◌≤◌, ◌⊎◌, ◌↔◌, ◌&&◌, IsTrue, List, All, Contains, length, slice_index, slice_index_or}
+use Rattle.std.specs.Prelude.{Vec}
+use Rattle.std.specs.declared.alloc.Global.{Global}
+use Rattle.cspf_db.specs.declared.limits.TheConstants.{MOST_ROUTERS}
+use Rattle.cspf_db.specs.declared.request.Request.{Request}
+use Rattle.cspf_db.specs.Database.{Database}
+use Rattle.cspf_db.specs.Index.{router_list}
+use Rattle.cspf_db.specs.Targets.{IsTarget}
+use Rattle.cspf_search.specs.declared.roles.Role.{Role}
+use Rattle.cspf_search.specs.declared.roles.Rows.{Rows}
+use Rattle.cspf_search.specs.Frontier.{IsRole, IsStateIndex, nothing, state_at}
+
+-- the router at an index of the list
+abbrev pub router_at : Database → ℕ → ℕ
+router_at d p = slice_index (router_list d) p
+
+-- the indexes in the list of routers of the targets of a leg
+pub record AreTargetsOf (d : Database) (q : Request) (leg : ℕ) (places : List ℕ) : Type 0 where
+  pub within : All (λ p. p < length (router_list d)) places
+  pub each : (p : ℕ) → p < length (router_list d)
+      → Contains places p ↔ IsTarget d q leg (router_at d p)
+
+-- so it is for the leg to each hop
+pub record AreTargets (d : Database) (q : Request) (targets : List (Vec ℕ Global)) : Type 0 where
+  pub many : length targets ≡ length q.hops
+  pub each : (i : ℕ) (e : Vec ℕ Global) → i < length q.hops
+      → AreTargetsOf d q (i + 1) (slice_index_or targets i e).items
+
+-- the roles are known in the last leg and in the first legs
+abbrev pub AreRolesUpTo : Database → Request → ℕ → List Role → Type 0
+AreRolesUpTo d q legs roles =
+    (i : ℕ) (e : Role) → IsStateIndex d q i → (i / MOST_ROUTERS ≡ length q.hops) ⊎ (i / MOST_ROUTERS < legs)
+    → IsRole d q (state_at d i) (slice_index_or roles i e)
+
+-- the role at an index
+abbrev pub role_at : List Role → ℕ → Role
+role_at roles i = slice_index_or roles i nothing
+
+-- the roles of a leg stand before those of the last
+pub record AreRows (rows : Rows) (roles : List Role) : Type 0 where
+  pub few : rows.count ≤ MOST_ROUTERS
+  pub apart : rows.first + MOST_ROUTERS ≤ rows.last
+  pub within : rows.last + rows.count ≤ length roles
+
+-- the roles outside of a leg stay
+pub record StayElsewhere (rows : Rows) (old new : List Role) : Type 0 where
+  pub many : length new ≡ length old
+  pub below : (i : ℕ) → i < rows.first → role_at new i ≡ role_at old i
+  pub behind : (i : ℕ) → rows.first + rows.count ≤ i → role_at new i ≡ role_at old i
+
+-- in a loose leg a link may lead where it may in the last one, in a strict one nowhere, and nothing is a target
+pub record IsSpread (rows : Rows) (loose : Bool) (old new : List Role) : Type 0 where
+  pub here : (p : ℕ) → p < rows.count → role_at new (rows.first + p)
+      ≡ record { enter = loose && (role_at old (rows.last + p)).enter; target = false }
+  pub elsewhere : StayElsewhere rows old new
+
+-- Besides, a link may lead to each of some routers where it may in the last leg, and where these are the
+-- targets of the leg, a route may turn there if it may enter there in the last leg or begins there.
+pub record IsMarked (rows : Rows) (places : List ℕ) (own : Bool) (from : ℕ) (old new : List Role) : Type 0 where
+  pub enter : (p : ℕ) → p < rows.count → IsTrue (role_at new (rows.first + p)).enter
+      ↔ (IsTrue (role_at old (rows.first + p)).enter
+      ⊎ (Contains places p × IsTrue (role_at old (rows.last + p)).enter))
+  pub target : (p : ℕ) → p < rows.count → IsTrue (role_at new (rows.first + p)).target
+      ↔ (IsTrue (role_at old (rows.first + p)).target
+      ⊎ (Contains places p × ((own ≡ true) × (IsTrue (role_at old (rows.last + p)).enter ⊎ (p ≡ from)))))
+  pub elsewhere : StayElsewhere rows old new
