@@ -63,9 +63,7 @@ fn assert_alike(
 ) -> Result<usize, AllocError> {
     let mut wanted = Vec::new(alloc);
     for (at, router) in table.routers().iter().enumerate() {
-        let owns = table.owns(*router, prefix);
-        assert_eq!(rt; table.owns_at(at, prefix), owns, "{router:?} {prefix:?}");
-        if owns {
+        if table.owns(*router, prefix) {
             wanted.push(at as u16)?;
         }
     }
