@@ -12,6 +12,7 @@ pub mod PlainFields
 pub mod CutLines
 pub mod BatchRecords
 pub mod WholeBatches
-pub mod JournalParserLemmas
+pub mod JournalParts
 pub mod ProgressLemmas
+pub mod JournalSteps
 pub mod RequestLemmas

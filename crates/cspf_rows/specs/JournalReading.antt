@@ -1,12 +1,21 @@
--- Private: what the code keeps of a journal, as far as its records were read.
-use Rattle.std.specs.Prelude.{◌≡◌, ◌≢◌, ◌+◌, ℕ, List, [], ◌∷◌, ◌++◌, map, length, Result, Ok, Err}
+-- Private: what the rows of a journal are, as far as they were read.
+use Rattle.std.specs.Prelude.{◌≡◌, ◌≢◌, ◌+◌, ◌≤◌, ℕ, Bool, false, Option, IfSome, List, [], ◌∷◌, ◌++◌, map, length, Result, Ok, Err}
 use Rattle.std.specs.Bool.{MatchBool}
+use Rattle.cspf_db.specs.declared.batch.Change.{Change}
+use Rattle.cspf_db.specs.Numbered.{NumberedChanges}
+use Rattle.cspf_rows.specs.declared.journal.JournalStep.{JournalStep}
+use Rattle.cspf_rows.specs.declared.journal.JournalStep.TheVariants as step
+use Rattle.cspf_rows.specs.declared.journal_reader.JournalReader.{JournalReader}
+use Rattle.cspf_rows.specs.declared.journal_row.Taken.{Taken}
+use Rattle.cspf_rows.specs.declared.journal_row.Taken.TheVariants as taken
+use Rattle.cspf_rows.specs.declared.limits.TheConstants.{MOST_ROWS}
 use Rattle.cspf_rows.specs.declared.row.Row.{Row}
 use Rattle.cspf_rows.specs.declared.row.Row.TheVariants as row
 use Rattle.cspf_rows.specs.declared.row_error.RowError.{RowError}
-use Rattle.cspf_rows.specs.declared.journal_parser.JournalParser.{JournalParser}
 use Rattle.cspf_rows.specs.Rows.{row_of}
-use Rattle.cspf_rows.specs.Journal.{AreNumberedFrom, journal_rows, change_row}
+use Rattle.cspf_rows.specs.Records.{rows_left}
+use Rattle.cspf_rows.specs.Journal.{AreNumberedFrom, IsJournal, journal_rows, change_row}
+use Rattle.cspf_rows.specs.Progress.{HasSeen}
 
 -- a row that is neither a change nor the end of the batch with this number and this many changes
 abbrev pub EndsBatches : ℕ → ℕ → Result Row RowError → Type 0
@@ -22,15 +31,40 @@ abbrev pub AreBehind : ℕ → ℕ → List (Result Row RowError) → Type 0
 AreBehind number count [] = Unit {0}
 AreBehind number count (row ∷ rows) = EndsBatches number count row
 
--- The records so far are those of the whole batches, then those of the open changes, and then, once
--- a row came that no batch has, the others.
-pub record HasRead (parser : JournalParser) (seen : List (List (List ℕ))) : Type 0 where
-  pub numbers : AreNumberedFrom 1 parser.batches.items
+-- what a row is behind the open changes of the batch that has the next number
+abbrev pub IsTaken : Result Row RowError → ℕ → NumberedChanges → NumberedChanges → Taken → Type 0
+IsTaken read next old new taken.Change =
+    (change : Change) × (read ≡ Ok (change_row change)) × (new.changes ≡ old.changes ++ change ∷ [])
+IsTaken read next old new taken.Batch =
+    (read ≡ Ok (row.End next (length old.changes))) × (new.number ≡ next) × (new.changes ≡ old.changes)
+IsTaken read next old new taken.Behind =
+    EndsBatches next (length old.changes) read × (new.changes ≡ old.changes)
+
+-- Records are those of whole batches, then those of open changes, and then, once a row came that no
+-- batch has, the others.
+pub record AreParts (batches : List NumberedChanges) (changes : List Change) (has_ended : Bool)
+    (seen : List (List (List ℕ))) : Type 0 where
+  pub numbers : AreNumberedFrom 1 batches
   pub whole : List (List (List ℕ))
   pub open_ones : List (List (List ℕ))
   pub behind : List (List (List ℕ))
   pub split : seen ≡ whole ++ (open_ones ++ behind)
-  pub whole_rows : map row_of whole ≡ map Ok (journal_rows parser.batches.items)
-  pub open_rows : map row_of open_ones ≡ map Ok (map change_row parser.changes.items)
-  pub ends : AreBehind (1 + length parser.batches.items) (length parser.changes.items) (map row_of behind)
-  pub has_ended : MatchBool parser.has_ended (behind ≢ []) (behind ≡ [])
+  pub whole_rows : map row_of whole ≡ map Ok (journal_rows batches)
+  pub open_rows : map row_of open_ones ≡ map Ok (map change_row changes)
+  pub ends : AreBehind (1 + length batches) (length changes) (map row_of behind)
+  pub ended : MatchBool has_ended (behind ≢ []) (behind ≡ [])
+
+-- Of all records of a journal a reader has read those of these batches, of these open changes, and
+-- others where a row came that no batch has.
+pub record HasRead {R : Type 0} (rem : R → Option (List ℕ)) (all : Option (List (List (List ℕ))))
+    (reader : JournalReader R) (batches : List NumberedChanges) (changes : List Change)
+    (has_ended : Bool) : Type 0 where
+  pub count : reader.count ≡ length batches
+  pub seen : HasSeen (AreParts batches changes has_ended) all (rows_left rem reader.records) reader.rows
+
+-- what a reader comes to behind batches: one more, or the end
+abbrev pub ComesTo : {R : Type 0} → (R → Option (List ℕ)) → Option (List (List (List ℕ))) → JournalReader R
+    → List NumberedChanges → NumberedChanges → JournalStep → Type 0
+ComesTo rem all reader batches batch step.Batch = HasRead rem all reader (batches ++ batch ∷ []) [] false
+ComesTo rem all reader batches batch (step.End rest) =
+    IfSome all (λ rows. IsJournal rows batches rest × (length rows ≤ MOST_ROWS))

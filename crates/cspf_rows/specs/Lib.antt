@@ -10,8 +10,9 @@ pub mod RecordFaults
 pub mod RowRefusals
 pub mod Journal
 pub mod JournalLaws
-pub mod JournalReading
 pub mod ReadFaults
 pub mod Requests
 pub mod RequestReading
 pub mod Progress
+pub mod JournalReading
+pub mod GivenBatches

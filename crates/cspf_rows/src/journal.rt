@@ -9,6 +9,15 @@ pub enum Rest {
     Torn,
 }
 
+/// What a reader of a journal comes to.
+#[derive(Clone, Copy, Debug, PartialEq, Eq)]
+pub enum JournalStep {
+    /// One more whole batch.
+    Batch,
+    /// The end: there are no more batches, and this stands behind them.
+    End(Rest),
+}
+
 /// What a journal says: its batches, numbered 1, 2, 3 and so on, and what stands behind them.
 #[derive(Debug, Drop)]
 pub struct Journal {

@@ -1,3 +1,4 @@
+mod batches;
 mod cuts;
 mod ends;
 mod journals;

@@ -11,6 +11,7 @@ pub mod BatchRun
 pub mod BatchLaws
 pub mod AuditRun
 pub mod EarlyEnds
+pub mod PublishedBatches
 pub mod AnswerLines
 pub mod LiveWords
 pub mod LineTexts

@@ -4,6 +4,7 @@ mod answering;
 mod laws;
 mod publishing;
 mod run;
+mod versions;
 
 pub use laws::lines_of_a_script;
 pub use run::run_batch;

@@ -1,9 +1,11 @@
 //! Readers while memory is refused: each call answers in full or that memory is refused, and it
 //! answers in full once there is memory again.
 
-use crate::{ReadError, RequestsError, Rest, read_journal, read_requests};
+use crate::{
+    JournalReader, JournalStep, ReadError, RequestsError, Rest, read_journal, read_requests,
+};
 use cspf_addr::{Addr, Hops, Mask, parse_hops};
-use cspf_db::{Change, Link, Request, RequestError};
+use cspf_db::{Batch, Change, Link, Request, RequestError};
 use std::alloc::Global;
 use std::test::Fail;
 
@@ -45,7 +47,34 @@ fn journals_while_memory_is_refused(rt: HostRuntime) -> Result<(), Fail> {
     let (to, remote) = (Addr::new(0x0202_0202), Addr::new(0x0a00_0c02));
     let link = Link::new(from, local, to, remote, 10, Mask::new(1), [1000; 8])?;
     assert!(rt; is_read_at_last(rt.alloc(), &link));
+    assert!(rt; is_given_at_last(rt.alloc(), &link));
     Ok(())
+}
+
+/// Whether a reader of the journal gives its batch, and comes to a torn rest.
+fn is_given(alloc: Global, link: &Link) -> Result<bool, ReadError> {
+    let mut journal = JournalReader::new(alloc, TORN);
+    let mut batch = Batch {
+        number: 0,
+        changes: Vec::new(alloc),
+    };
+    if journal.read_batch(&mut batch)? != JournalStep::Batch || batch.number != 1 {
+        return Ok(false);
+    }
+    if batch.changes.as_slice() != [Change::Put(*link)].as_slice() {
+        return Ok(false);
+    }
+    Ok(journal.read_batch(&mut batch)? == JournalStep::End(Rest::Torn))
+}
+
+/// Whether the batch is given, at the second try where memory is there again, or memory is refused
+/// for good.
+fn is_given_at_last(alloc: Global, link: &Link) -> bool {
+    let given = is_given(alloc, link);
+    if given == Err(ReadError::Memory) {
+        return !has_memory(alloc) || is_given(alloc, link) == Ok(true);
+    }
+    given == Ok(true)
 }
 
 /// A request without hops, and the same with a list of hops and with an object.

@@ -1,87 +1,119 @@
-ghost use Rattle.std.specs.Prelude.{◌≡◌, ◌+◌, ◌≤◌, ◌∷◌, ◌++◌, List, ℕ, [], length, IfOk, IfErr, OnOk, OnErr, false};
-ghost use Rattle.std.specs.Io.KnownBytes.{Appends};
-ghost use Rattle.std.specs.Io.KnownBytes.{Keeps as HoldsAsBefore};
-ghost use Rattle.cspf_db.specs.declared.refusal.Refusal.{Refusal as IsWhy};
-ghost use Rattle.cspf_db.specs.Changes.{database_after, AreLawful};
-ghost use Rattle.cspf_db.specs.Refusals.{IsRefusal};
-ghost use Rattle.cspf_publish.specs.Histories.{MayFollow};
-ghost use Rattle.cspf_rows.specs.Journal.{AreNumberedFrom};
-ghost use Rattle.cspf_serve.specs.declared.batch_refusal.BatchRefusal.TheVariants.{Unfit as IsUnfit};
-ghost use Rattle.cspf_serve.specs.Lines.{version_line, refused_batch_line};
-ghost use Rattle.cspf_serve.specs.BatchRun.{version_lines, IsOneUnfit};
-ghost use Rattle.cspf_serve.specs.EarlyEnds.{IfRefused, IfFailed, WritesAllBut, IsOwnFaultLine, IsFaultBeyond, IsPublishingFault};
-ghost use Rattle.cspf_serve.specs.RunFaults.{IsStreamFault};
+ghost use Rattle.std.specs.Prelude.{◌≡◌, ◌+◌, ◌≤◌, ◌∷◌, ◌++◌, List, Option, ℕ, [], None, length, IfOk, IfErr, IfSome, OnOk, OnErr, false};
+ghost use Rattle.cspf_db.specs.Numbered.{NumberedChanges};
 ghost use Rattle.cspf_publish.specs.declared.limits.TheConstants.{MOST_VERSIONS};
+ghost use Rattle.cspf_rows.specs.GivenBatches.{CanRead, HasGiven};
+ghost use Rattle.cspf_rows.specs.Journal.{AreNumberedFrom};
+ghost use Rattle.cspf_rows.specs.Records.{rows_of};
+ghost use Rattle.cspf_serve.specs.BatchRun.{AreBatchesOf, IsJournalRefused};
+ghost use Rattle.cspf_serve.specs.EarlyEnds.{IfRefused, IfFailed, IsOwnFaultLine, IsFaultBeyond, IsPublishingFault};
+ghost use Rattle.cspf_serve.specs.PublishedBatches.{ArePublished};
+ghost use Rattle.cspf_serve.specs.RunFaults.{IsStreamFault};
 
 use crate::line::Line;
 use crate::streams::early_end::EarlyEnd;
-use crate::streams::output::put_line;
+use crate::streams::input::{accept_rest, journal_end_of};
 use crate::{BatchRefusal, RunError};
-use cspf_db::{Batch, lawful_batches};
+use cspf_db::Batch;
 use cspf_publish::{ApplyError, Publisher};
+use cspf_rows::{JournalReader, JournalStep};
 use std::alloc::Global;
-use std::io::Write;
+use std::io::{Read, Write};
 use std::sync::Wait;
 
-/// Publishes batches, one after the other, and writes the version that each makes.
-pub(crate) fn publish_all<J: Write, W: Write, R: Wait>(
-    rt: &R,
+/// Publishes the batches of a journal as they are read, one after the other, and keeps one at a
+/// time. From the first one on that doesn't fit none is published, and its line is answered. The
+/// journal is read to its end. Rows behind the batches are left out where that is asked for, and
+/// else refused.
+pub(crate) fn publish_journal<R: Read + Drop, J: Write, T: Wait>(
+    rt: &T,
     alloc: Global,
-    batches: &[Batch],
+    journal: R,
+    accept_torn: bool,
     publisher: &mut Publisher<J>,
-    writer: &mut W,
-) -> Result<(), EarlyEnd>
+) -> Result<Option<Line>, EarlyEnd>
     requires fresh { (publisher.old.batches ≡ []) × (publisher.old.stopped ≡ false) }
-    requires few { length batches.now ≤ MOST_VERSIONS }
     ensures source { publisher.new.source ≡ publisher.old.source }
-    ensures published { OnOk result (publisher.new.batches ≡ batches.now) }
-    ensures lawful { OnOk result (AreLawful batches.now) }
-    ensures text { OnOk result (Appends (W.contents writer.old) (W.contents writer.new)
-        (version_lines batches.now)) }
-    ensures err { AreNumberedFrom 1 batches.now → IfErr result (λ end. IfRefused end (λ line.
-        WritesAllBut line (W.contents writer.old) (W.contents writer.new)
-        (IsOneUnfit batches.now))) }
+    ensures ok { IfOk result (λ unfit. IfSome (R.remaining journal) (λ bytes.
+        (batches : List NumberedChanges) × AreBatchesOf accept_torn (rows_of bytes) batches
+        × ArePublished batches publisher.new.batches unfit)) }
+    ensures err { IfErr result (λ end. IfRefused end (λ line. IfSome (R.remaining journal)
+        (λ bytes. IsJournalRefused accept_torn (rows_of bytes) line))) }
     ensures failed { IfErr result (λ end. IfFailed end IsStreamFault) }
 {
-    // Law: one more batch that fits keeps the batches lawful.
-    lawful_batches();
-    for batch in batches {
-        publish(rt, alloc, batch, publisher, writer)?;
-    }
-    Ok(())
+    let mut journal = JournalReader::new(alloc, journal);
+    let mut batch = Batch {
+        number: 0,
+        changes: Vec::new(alloc),
+    };
+    publish_all(rt, alloc, &mut journal, &mut batch, accept_torn, publisher)
 }
 
-/// Publishes a batch and writes the version that it makes, or refuses it.
-fn publish<J: Write, W: Write, R: Wait>(
-    rt: &R,
+/// Publishes the batches that a reader of a journal gives, by the room of one batch.
+fn publish_all<R: Read, J: Write, T: Wait>(
+    rt: &T,
+    alloc: Global,
+    journal: &mut JournalReader<R>,
+    batch: &mut Batch,
+    accept_torn: bool,
+    publisher: &mut Publisher<J>,
+) -> Result<Option<Line>, EarlyEnd>
+    requires can { CanRead journal.old }
+    requires fresh { (publisher.old.batches ≡ []) × (publisher.old.stopped ≡ false) }
+    ensures source { publisher.new.source ≡ publisher.old.source }
+    ensures ok { IfOk result (λ unfit. (all : Option (List (List (List ℕ))))
+        → HasGiven R.remaining all journal.old [] → IfSome all (λ rows.
+        (batches : List NumberedChanges) × AreBatchesOf accept_torn rows batches
+        × ArePublished batches publisher.new.batches unfit)) }
+    ensures err { IfErr result (λ end. IfRefused end (λ line.
+        (all : Option (List (List (List ℕ)))) → HasGiven R.remaining all journal.old []
+        → IfSome all (λ rows. IsJournalRefused accept_torn rows line))) }
+    ensures failed { IfErr result (λ end. IfFailed end IsStreamFault) }
+{
+    let mut unfit = None;
+    let mut count = 0;
+    loop {
+        match journal.read_batch(batch) {
+            Ok(JournalStep::Batch) => {
+                unfit = publish(rt, alloc, batch, unfit, publisher)?;
+                count += 1;
+            }
+            Ok(JournalStep::End(rest)) => {
+                accept_rest(rest, count, accept_torn)?;
+                return Ok(unfit);
+            }
+            Err(error) => return Err(journal_end_of(error)),
+        }
+    }
+}
+
+/// Publishes the next batch, or answers its line where it doesn't fit. It does nothing where an
+/// earlier one didn't fit.
+fn publish<J: Write, T: Wait>(
+    rt: &T,
     alloc: Global,
     batch: &Batch,
+    unfit: Option<Line>,
     publisher: &mut Publisher<J>,
-    writer: &mut W,
-) -> Result<(), EarlyEnd>
-    requires going { publisher.old.stopped ≡ false }
+) -> Result<Option<Line>, RunError>
+    requires going { unfit ≡ None → publisher.old.stopped ≡ false }
     ensures source { publisher.new.source ≡ publisher.old.source }
-    ensures next { OnOk result (MayFollow publisher.old.batches batch.now) }
-    ensures published { OnOk result
-        (publisher.new.batches ≡ publisher.old.batches ++ batch.now ∷ []) }
-    ensures going { OnOk result (publisher.new.stopped ≡ false) }
-    ensures text { OnOk result (Appends (W.contents writer.old) (W.contents writer.new)
-        (version_line batch.now.number)) }
-    ensures err { batch.now.number ≡ length publisher.old.batches + 1
-        → (length publisher.old.batches + 1 ≤ MOST_VERSIONS)
-        → IfErr result (λ end. IfRefused end (λ line. (why : IsWhy)
-        × IsRefusal (database_after publisher.old.batches) batch.now why
-        × (line ≡ refused_batch_line batch.now.number (IsUnfit why))
-        × HoldsAsBefore (W.contents writer.old) (W.contents writer.new))) }
-    ensures failed { IfErr result (λ end. IfFailed end
-        (IsPublishingFault publisher.old publisher.new batch.now)) }
+    ensures going { result ≡ Ok None → publisher.new.stopped ≡ false }
+    ensures published { IfOk result (λ found. (given : List NumberedChanges)
+        → AreNumberedFrom 1 (given ++ batch.now ∷ []) → (length given + 1 ≤ MOST_VERSIONS)
+        → ArePublished given publisher.old.batches unfit
+        → ArePublished (given ++ batch.now ∷ []) publisher.new.batches found) }
+    ensures error { IfErr result
+        (IsPublishingFault publisher.old publisher.new batch.now) }
 {
+    if let Some(line) = unfit {
+        return Ok(Some(line));
+    }
     match publisher.apply(rt, alloc, batch) {
-        Ok(version) => {
-            put_line(alloc, Line::Version { version }, writer)?;
-            Ok(())
-        }
-        Err(error) => Err(end_of(batch.number, error)),
+        Ok(_) => Ok(None),
+        Err(error) => match end_of(batch.number, error) {
+            EarlyEnd::Refused(line) => Ok(Some(line)),
+            EarlyEnd::Failed(error) => Err(error),
+        },
     }
 }
 

@@ -1,4 +1,4 @@
-ghost use Rattle.std.specs.Prelude.{◌≡◌, ◌≤◌, List, ℕ, true, false, length, IfOk, IfErr, OnErr, IfSome};
+ghost use Rattle.std.specs.Prelude.{◌≡◌, ◌≤◌, List, ℕ, true, false, length, IfOk, IfErr, OnOk, OnErr, IfSome};
 ghost use Rattle.cspf_rows.specs.Records.{rows_of};
 ghost use Rattle.cspf_rows.specs.declared.journal.Rest.TheVariants.{Torn as IsTorn};
 ghost use Rattle.cspf_serve.specs.BatchRun.{torn_line, AreBatchesOf, IsJournalRefused, AreRequestsOf, AreRequestsRefused, IsFaultLine};
@@ -37,7 +37,7 @@ pub(crate) fn batches_of<R: Read + Drop>(
 }
 
 /// How a run ends whose journal can't be read.
-fn journal_end_of(error: ReadError) -> EarlyEnd
+pub(crate) fn journal_end_of(error: ReadError) -> EarlyEnd
     ensures refused { IfRefused result (IsJournalLine error) }
     ensures failed { IfFailed result (IsJournalError error) }
 {
@@ -56,17 +56,25 @@ fn whole_batches(journal: Journal, accept_torn: bool) -> Result<Vec<Batch>, Earl
         × (accept_torn ≡ false) × (line ≡ torn_line (length journal.batches.items)))) }
     ensures failed { IfErr result (λ end. IfFailed end (λ e. ⊥)) }
 {
-    match journal.rest {
-        Rest::Torn if !accept_torn => {
-            let count = journal.batches.len();
-            Err(EarlyEnd::Refused(Line::Torn { count }))
-        }
-        _ => Ok(journal.batches),
+    accept_rest(journal.rest, journal.batches.len(), accept_torn)?;
+    Ok(journal.batches)
+}
+
+/// Refuses rows behind this many batches of a journal, unless they are to be left out.
+pub(crate) fn accept_rest(rest: Rest, count: usize, accept_torn: bool) -> Result<(), EarlyEnd>
+    ensures ok { OnOk result (rest ≡ IsTorn → accept_torn ≡ true) }
+    ensures err { IfErr result (λ end. IfRefused end (λ line. (rest ≡ IsTorn)
+        × (accept_torn ≡ false) × (line ≡ torn_line count))) }
+    ensures failed { IfErr result (λ end. IfFailed end (λ e. ⊥)) }
+{
+    match rest {
+        Rest::Torn if !accept_torn => Err(EarlyEnd::Refused(Line::Torn { count })),
+        _ => Ok(()),
     }
 }
 
 /// The requests of a stream.
-fn requests_of<R: Read + Drop>(alloc: Global, requests: R) -> Result<Vec<Request>, EarlyEnd>
+pub(crate) fn requests_of<R: Read + Drop>(alloc: Global, requests: R) -> Result<Vec<Request>, EarlyEnd>
     ensures ok { IfOk result (λ asked. IfSome (R.remaining requests) (λ bytes.
         AreRequestsOf (rows_of bytes) asked.items)) }
     ensures most { IfOk result (λ asked. length asked.items ≤ MOST_REQUESTS) }

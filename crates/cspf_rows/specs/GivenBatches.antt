@@ -1,0 +1,31 @@
+-- Which batches a reader has given of a journal, and whether it can give more.
+use Rattle.std.specs.Prelude.{◌≡◌, ◌≤◌, ℕ, true, false, Option, List, [], length}
+use Rattle.csv.specs.Reading.{has_failed}
+use Rattle.cspf_db.specs.Numbered.{NumberedChanges}
+use Rattle.cspf_rows.specs.declared.journal_reader.JournalReader.{JournalReader}
+use Rattle.cspf_rows.specs.declared.limits.TheConstants.{MOST_ROWS}
+use Rattle.cspf_rows.specs.Journal.{AreNumberedFrom}
+use Rattle.cspf_rows.specs.JournalReading.{HasRead}
+use Rattle.cspf_rows.specs.Records.{IsPlain}
+
+-- how many rows a reader has read
+abbrev pub rows_read : {R : Type 0} → JournalReader R → ℕ
+rows_read reader = reader.rows
+
+-- A reader can be asked for a batch: it hasn't failed, nor come to the end of its batches.
+pub record CanRead {R : Type 0} (reader : JournalReader R) : Type 0 where
+  pub plain : IsPlain reader.records
+  pub rows : rows_read reader ≤ MOST_ROWS
+  pub count : reader.count ≤ rows_read reader
+
+-- a read below failed
+abbrev pub HasFailed : {R : Type 0} → JournalReader R → Type 0
+HasFailed reader = has_failed reader.records ≡ true
+
+-- Of a journal with these records, where they are known, a reader has given these batches, which
+-- have the numbers 1, 2, 3 and so on, and it stands right behind their rows.
+pub record HasGiven {R : Type 0} (rem : R → Option (List ℕ)) (all : Option (List (List (List ℕ))))
+    (reader : JournalReader R) (batches : List NumberedChanges) : Type 0 where
+  pub numbers : AreNumberedFrom 1 batches
+  pub few : length batches ≤ rows_read reader
+  pub read : HasRead rem all reader batches [] false

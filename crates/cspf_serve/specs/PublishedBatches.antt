@@ -1,0 +1,24 @@
+-- Private: which batches of a journal are published.
+use Rattle.std.specs.Prelude.{◌≡◌, ℕ, Option, Some, None, List, ◌∷◌, ◌++◌}
+use Rattle.cspf_db.specs.declared.refusal.Refusal.{Refusal}
+use Rattle.cspf_db.specs.Numbered.{NumberedChanges}
+use Rattle.cspf_db.specs.Changes.{database_after}
+use Rattle.cspf_db.specs.Refusals.{IsRefusal}
+use Rattle.cspf_serve.specs.declared.batch_refusal.BatchRefusal.TheVariants as refusal
+use Rattle.cspf_serve.specs.declared.line.Line.{Line}
+use Rattle.cspf_serve.specs.Lines.{refused_batch_line}
+use Rattle.cspf_serve.specs.LineTexts.{line_text}
+
+-- the batch behind those that are published doesn't fit, as the line says
+pub record IsUnfitBehind (batches published : List NumberedChanges) (line : List ℕ) : Type 0 where
+  pub batch : NumberedChanges
+  pub after : List NumberedChanges
+  pub split : batches ≡ published ++ (batch ∷ after)
+  pub why : Refusal
+  pub refused : IsRefusal (database_after published) batch why
+  pub is_line : line ≡ refused_batch_line batch.number (refusal.Unfit why)
+
+-- the batches are published, or else those before the first one that doesn't fit, as a line says
+abbrev pub ArePublished : List NumberedChanges → List NumberedChanges → Option Line → Type 0
+ArePublished batches published None = published ≡ batches
+ArePublished batches published (Some line) = IsUnfitBehind batches published (line_text line)
