@@ -1,27 +1,30 @@
 -- The lines of batches and of requests, and where a run over a journal ends early.
-use Rattle.std.proofs.Common.{◌≡◌, ℕ, suc, ◌<◌, ◌≤◌, Bool, Option, Some, None, IfSome, List, ◌∷◌, ◌++◌, take, drop, get_or, length, take-append-drop, drop-cons, inl, inr, refl, sym, ap, ◌∙◌, Result, Ok, Err, IfOk}
-use Rattle.std.proofs.KnownBytes.{Appends-trans, Appends-kept}
+use Rattle.std.proofs.Common.{◌≡◌, ℕ, ◌<◌, ◌≤◌, ◌⊎◌, Bool, Option, Some, None, IfSome, List, ◌++◌, length, inl, inr, refl, ap, arith, Result, Ok, Err, IfOk, IfErr, OnOk}
+use Rattle.std.proofs.KnownBytes.{Appends-trans}
+use Rattle.std.proofs.lemmas.List.{length-map}
 use Rattle.std.specs.Io.KnownBytes.{Appends}
-use Rattle.std.specs.Io.KnownBytes as known
-use Rattle.cspf_db.specs.declared.refusal.Refusal.{Refusal}
 use Rattle.cspf_db.specs.declared.request.Request.{Request}
 use Rattle.cspf_db.specs.Numbered.{NumberedChanges}
 use Rattle.cspf_db.specs.Database.{Database}
 use Rattle.cspf_db.specs.Changes.{database_after, AreLawful}
-use Rattle.cspf_db.specs.Refusals.{IsRefusal}
+use Rattle.cspf_rows.specs.declared.row.Row.{Row}
+use Rattle.cspf_rows.specs.declared.row.Row.TheVariants as row
+use Rattle.cspf_rows.specs.declared.row_error.RowError.{RowError}
+use Rattle.cspf_rows.specs.Rows.{row_of}
 use Rattle.cspf_rows.specs.Journal.{AreNumberedFrom}
 use Rattle.cspf_rows.specs.Records.{rows_of}
-use Rattle.cspf_serve.specs.declared.batch_refusal.BatchRefusal.TheVariants as refusal
+use Rattle.cspf_serve.specs.declared.line.Line.{Line}
 use Rattle.cspf_serve.specs.declared.streams.early_end.EarlyEnd.{EarlyEnd}
 use Rattle.cspf_serve.specs.declared.streams.early_end.EarlyEnd.TheVariants as early_end
 use Rattle.cspf_serve.specs.declared.streams.error.RunError.{RunError}
 use Rattle.cspf_serve.specs.declared.solve.summary.Summary.{Summary}
-use Rattle.cspf_serve.specs.Lines.{refused_batch_line}
 use Rattle.cspf_serve.specs.Script.{IsRun}
 use Rattle.cspf_serve.specs.BatchRun.{Records, AreReplies, AreAccepted, IsOneUnfit, version_lines, AreBatchesOf, AreRequestsOf, IsBatchRun}
 use Rattle.cspf_serve.specs.BatchLaws.{IsCleanJournal, AreLinesOfAScript}
 use Rattle.cspf_serve.specs.LineTexts.{line_text}
-use Rattle.cspf_serve.specs.EarlyEnds.{IfRefused, Writes, WritesAllBut, IsRefusalWritten, AreStreamsRefused, AreAnsweredInTurn}
+use Rattle.cspf_serve.specs.EarlyEnds.{IfRefused, IfFailed, Writes, WritesAllBut, IsRefusalWritten, IsLastError}
+use Rattle.cspf_serve.specs.PublishedBatches.{IsUnfitBehind, ArePublished}
+use Rattle.cspf_serve.specs.RunFaults.{IsStreamFault, IsAnsweringFault, IsStrayInBatchRun, IsBatchFault}
 
 -- what holds of the line that refuses
 pub IfRefused-weaker : (s : EarlyEnd) (P Q : List ℕ → Type 0) → ((line : List ℕ) → P line → Q line) → IfRefused s P → IfRefused s Q
@@ -29,22 +32,21 @@ IfRefused-weaker (early_end.Refused line) P Q f refused = f (line_text line) ref
 IfRefused-weaker (early_end.Failed error) P Q f refused = tt
 
 -- the batches before one are applied, and that one is refused
-pub unfit_written : (bs : List NumberedChanges) (i : ℕ) (b : NumberedChanges) (d : Database) (why : Refusal) (line : List ℕ) (old mid new : Option (List ℕ))
-    → i < length bs → b ≡ get_or bs i b → AreLawful (take i bs) → d ≡ database_after (take i bs) → Appends old mid (version_lines (take i bs))
-    → IsRefusal d b why → line ≡ refused_batch_line b.number (refusal.Unfit why) → known.Keeps mid new → WritesAllBut line old new (IsOneUnfit bs)
-unfit_written bs i b d why line old mid new within is lawful database written refused is_line kept = (
-  version_lines (take i bs),
+pub unfit_written : (bs published : List NumberedChanges) (line : List ℕ) (old new : Option (List ℕ)) → IsUnfitBehind bs published line → AreLawful published
+    → Appends old new (version_lines published) → WritesAllBut line old new (IsOneUnfit bs)
+unfit_written bs published line old new is lawful written = (
+  version_lines published,
   record {
-    before = take i bs;
-    batch = b;
-    after = drop (suc i) bs;
-    split = sym (take-append-drop i bs) ∙ ap (λ r. take i bs ++ r) (drop-cons bs i b within ∙ ap (λ x. x ∷ drop (suc i) bs) (sym is));
+    before = published;
+    batch = is.batch;
+    after = is.after;
+    split = is.split;
     lawful = lawful;
-    why = why;
-    refused = rw database at refused;
-    whole = rw is_line refl;
+    why = is.why;
+    refused = is.refused;
+    whole = rw is.is_line refl;
   },
-  Appends-kept old mid new (version_lines (take i bs)) written kept,
+  written,
 )
 
 -- the batches are applied, and the requests answered
@@ -61,15 +63,6 @@ accepted_written bs qs d old mid new lawful database written replies = (
   Appends-trans old mid new (version_lines bs) replies.0 written replies.2,
 )
 
--- what is accepted, or refused by its line
-pub unfit_answered : (bs : List NumberedChanges) (qs : List Request) (s : EarlyEnd) (r : Result ℕ RunError) (old mid new : Option (List ℕ))
-    → IfRefused s (λ line. WritesAllBut line old mid (IsOneUnfit bs)) → IfOk r (λ status. status ≡ 2) → IfOk r (λ status. IsRefusalWritten s mid new)
-    → IfOk r (λ status. Writes old new (λ lines. AreAnsweredInTurn bs qs lines status))
-unfit_answered bs qs s (Err e) old mid new refused two written = tt
-unfit_answered bs qs (early_end.Failed error) (Ok status) old mid new refused two written = absurd written
-unfit_answered bs qs (early_end.Refused line) (Ok status) old mid new refused two written =
-    (refused.0 ++ line_text line, inr (refused.1, two), Appends-trans old mid new refused.0 (line_text line) refused.2 written)
-
 -- ---- the whole run
 
 -- the numbers of batches that were read from a journal
@@ -84,34 +77,102 @@ abbrev pub IsWrittenRun : Bool → Option (List ℕ) → Option (List ℕ) → �
 IsWrittenRun accept_torn kept asked status old new =
     IfSome kept (λ journal. IfSome asked (λ requests. Writes old new (λ lines. IsBatchRun accept_torn (rows_of journal) (rows_of requests) lines status)))
 
--- the streams are read, and the run is over what they say
-pub batch_ran : (accept_torn : Bool) (kept asked : Option (List ℕ)) (bs : List NumberedChanges) (qs : List Request) (r : Result ℕ RunError) (old new : Option (List ℕ))
-    → IfSome kept (λ bytes. AreBatchesOf accept_torn (rows_of bytes) bs) → IfSome asked (λ bytes. AreRequestsOf (rows_of bytes) qs)
-    → (AreNumberedFrom 1 bs → IfOk r (λ status. Writes old new (λ lines. AreAnsweredInTurn bs qs lines status)))
-    → IfOk r (λ status. IsWrittenRun accept_torn kept asked status old new)
-batch_ran accept_torn kept asked bs qs (Err e) old new batches requests ran = tt
-batch_ran accept_torn None asked bs qs (Ok status) old new batches requests ran = tt
-batch_ran accept_torn (Some journal) None bs qs (Ok status) old new batches requests ran = tt
-batch_ran accept_torn (Some journal) (Some rows) bs qs (Ok status) old new batches requests ran =
-    let is = ran (numbers_of accept_torn (rows_of journal) bs batches) in
-    (is.0, inr (bs, batches, inr (qs, requests, is.1)), is.2)
+-- the requests that records ask for are as many as these
+rows_asked : (records : Records) (qs : List Request) (index : ℕ) → AreRequestsOf records qs → index < length qs → index < length records
+rows_asked records qs index is within =
+    let asks = length-map {B = Result Row RowError} qs (λ (q : Request). Ok (row.Ask q)) in
+    let rows = length-map records row_of in
+    let same = ap length is.asked in
+    omega (arith, within, rows, asks, same)
 
-streams_refused : (accept_torn : Bool) (journal requests : Records) (line : List ℕ) (status : ℕ) → AreStreamsRefused accept_torn journal requests line → status ≡ 2
-    → IsBatchRun accept_torn journal requests line status
-streams_refused accept_torn journal requests line status (inl refused) two = inl (refused, two)
-streams_refused accept_torn journal requests line status (inr refused) two = inr (refused.0, refused.1, inl (refused.2, two))
+-- what is said of a run that is refused, but for the last line
+abbrev pub IsRefusedRun : Bool → Option (List ℕ) → Option (List ℕ) → List ℕ → Option (List ℕ) → Option (List ℕ) → Type 0
+IsRefusedRun accept_torn kept asked line old new =
+    IfSome kept (λ journal. IfSome asked (λ requests. WritesAllBut line old new (λ lines. IsBatchRun accept_torn (rows_of journal) (rows_of requests) lines 2)))
 
--- the streams are refused
-pub batch_refused : (accept_torn : Bool) (kept asked : Option (List ℕ)) (s : EarlyEnd) (r : Result ℕ RunError) (old new : Option (List ℕ))
-    → IfRefused s (λ line. IfSome kept (λ journal. IfSome asked (λ requests. AreStreamsRefused accept_torn (rows_of journal) (rows_of requests) line)))
-    → IfOk r (λ status. status ≡ 2) → IfOk r (λ status. IsRefusalWritten s old new)
+-- what is said of a journal that was read
+abbrev pub IsPublished : Bool → Option (List ℕ) → List NumberedChanges → Option Line → Type 0
+IsPublished accept_torn kept published unfit =
+    IfSome kept (λ bytes. (batches : List NumberedChanges) × AreBatchesOf accept_torn (rows_of bytes) batches × ArePublished batches published unfit)
+
+module _ (accept_torn : Bool) (kept asked : Option (List ℕ)) (published : List NumberedChanges) (unfit : Option Line) (qs : List Request)
+    (old new : Option (List ℕ)) (read : IsPublished accept_torn kept published unfit) (of_rows : IfSome asked (λ bytes. AreRequestsOf (rows_of bytes) qs)) where
+  accepted_run : (kept asked : Option (List ℕ)) → IsPublished accept_torn kept published unfit → IfSome asked (λ bytes. AreRequestsOf (rows_of bytes) qs)
+      → ((batches : List NumberedChanges) → ArePublished batches published unfit → Writes old new (AreAccepted batches qs)) → IsWrittenRun accept_torn kept asked 0 old new
+  accepted_run None asked read of_rows accepted = tt
+  accepted_run (Some journal) None read of_rows accepted = tt
+  accepted_run (Some journal) (Some requests) read of_rows accepted =
+      let is = accepted read.0 read.2 in
+      (is.0, inr (read.0, read.1, inr (qs, of_rows, inl (is.1, refl))), is.2)
+
+  unfit_run : (kept asked : Option (List ℕ)) (line : List ℕ) → IsPublished accept_torn kept published unfit → IfSome asked (λ bytes. AreRequestsOf (rows_of bytes) qs)
+      → ((batches : List NumberedChanges) → ArePublished batches published unfit → WritesAllBut line old new (IsOneUnfit batches)) → IsRefusedRun accept_torn kept asked line old new
+  unfit_run None asked line read of_rows refused = tt
+  unfit_run (Some journal) None line read of_rows refused = tt
+  unfit_run (Some journal) (Some requests) line read of_rows refused =
+      let is = refused read.0 read.2 in
+      (is.0, inr (read.0, read.1, inr (qs, of_rows, inr (is.1, refl))), is.2)
+
+  -- all is accepted
+  pub batch_ran : (r : Result (Unit {0}) EarlyEnd) → OnOk r ((batches : List NumberedChanges) → ArePublished batches published unfit → Writes old new (AreAccepted batches qs))
+      → OnOk r (IsWrittenRun accept_torn kept asked 0 old new)
+  batch_ran (Err end) accepted = tt
+  batch_ran (Ok done) accepted = accepted_run kept asked read of_rows accepted
+
+  -- a batch doesn't fit
+  pub batch_refused : (r : Result (Unit {0}) EarlyEnd)
+      → IfErr r (λ end. IfRefused end (λ line. (batches : List NumberedChanges) → ArePublished batches published unfit → WritesAllBut line old new (IsOneUnfit batches)))
+      → IfErr r (λ end. IfRefused end (λ line. IsRefusedRun accept_torn kept asked line old new))
+  batch_refused (Ok done) refused = tt
+  batch_refused (Err (early_end.Failed error)) refused = tt
+  batch_refused (Err (early_end.Refused line)) refused = unfit_run kept asked (line_text line) read of_rows refused
+
+  -- a request is answered at a version above the number of the batches
+  pub stray_in_run : (kept asked : Option (List ℕ)) (index version : ℕ) → IsPublished accept_torn kept published unfit → IfSome asked (λ bytes. AreRequestsOf (rows_of bytes) qs)
+      → index < length qs → ((batches : List NumberedChanges) → ArePublished batches published unfit → length batches < version)
+      → IsStrayInBatchRun accept_torn kept asked index version
+  stray_in_run None None index version read of_rows within above = (tt, tt)
+  stray_in_run None (Some requests) index version read of_rows within above = (rows_asked (rows_of requests) qs index of_rows within, tt)
+  stray_in_run (Some journal) None index version read of_rows within above = (tt, (read.0, read.1, above read.0 read.2))
+  stray_in_run (Some journal) (Some requests) index version read of_rows within above =
+      (rows_asked (rows_of requests) qs index of_rows within, (read.0, read.1, above read.0 read.2))
+
+  -- the answers end the run
+  pub run_ended : (e : RunError) → IsStreamFault e ⊎ IsAnsweringFault (λ index version. (index < length qs)
+      × ((batches : List NumberedChanges) → ArePublished batches published unfit → length batches < version)) e → IsBatchFault accept_torn kept asked e
+  run_ended e (inl fault) = inl fault
+  run_ended e (inr (inl gave_up)) = inr (inr (inl gave_up))
+  run_ended e (inr (inr stray)) =
+      inr (inr (inr (stray.0, stray.1, stray.2, stray_in_run kept asked stray.0 stray.1 read of_rows stray.3.0 stray.3.1)))
+
+  pub batch_failed : (r : Result (Unit {0}) EarlyEnd)
+      → IfErr r (λ end. IfFailed end (λ e. IsStreamFault e ⊎ IsAnsweringFault (λ index version. (index < length qs)
+      × ((batches : List NumberedChanges) → ArePublished batches published unfit → length batches < version)) e))
+      → IfErr r (λ end. IfFailed end (IsBatchFault accept_torn kept asked))
+  batch_failed (Ok done) failed = tt
+  batch_failed (Err (early_end.Refused line)) failed = tt
+  batch_failed (Err (early_end.Failed error)) failed = run_ended error failed
+
+-- what ends a run is refused by its last line
+pub run_refused : (accept_torn : Bool) (kept asked : Option (List ℕ)) (s : EarlyEnd) (r : Result ℕ RunError) (old mid new : Option (List ℕ))
+    → IfRefused s (λ line. IsRefusedRun accept_torn kept asked line old mid) → IfOk r (λ status. status ≡ 2) → IfOk r (λ status. IsRefusalWritten s mid new)
     → IfOk r (λ status. IsWrittenRun accept_torn kept asked status old new)
-batch_refused accept_torn kept asked s (Err e) old new refused two written = tt
-batch_refused accept_torn None asked s (Ok status) old new refused two written = tt
-batch_refused accept_torn (Some journal) None s (Ok status) old new refused two written = tt
-batch_refused accept_torn (Some journal) (Some requests) (early_end.Failed error) (Ok status) old new refused two written = absurd written
-batch_refused accept_torn (Some journal) (Some requests) (early_end.Refused line) (Ok status) old new refused two written =
-    (line_text line, streams_refused accept_torn (rows_of journal) (rows_of requests) (line_text line) status refused two, written)
+run_refused accept_torn kept asked s (Err e) old mid new refused two written = tt
+run_refused accept_torn None asked s (Ok status) old mid new refused two written = tt
+run_refused accept_torn (Some journal) None s (Ok status) old mid new refused two written = tt
+run_refused accept_torn (Some journal) (Some requests) (early_end.Failed error) (Ok status) old mid new refused two written = absurd written
+run_refused accept_torn (Some journal) (Some requests) (early_end.Refused line) (Ok status) old mid new refused two written = (
+  refused.0 ++ line_text line,
+  rw two refused.1,
+  Appends-trans old mid new refused.0 (line_text line) refused.2 written,
+)
+
+-- the last error of a run that fails or is refused
+pub run_failed : (accept_torn : Bool) (kept asked : Option (List ℕ)) (s : EarlyEnd) (r : Result ℕ RunError) → IfFailed s (IsBatchFault accept_torn kept asked)
+    → IfErr r (IsLastError s) → IfErr r (IsBatchFault accept_torn kept asked)
+run_failed accept_torn kept asked s (Ok status) failed last = tt
+run_failed accept_torn kept asked (early_end.Refused line) (Err e) failed last = inl last
+run_failed accept_torn kept asked (early_end.Failed error) (Err e) failed last = rw last failed
 
 -- what is written is the lines of a script
 pub script_written : AreLinesOfAScript → (accept_torn : Bool) (kept asked old new : Option (List ℕ)) → IsWrittenRun accept_torn kept asked 0 old new

@@ -1,19 +1,34 @@
--- The lines of batches that are published, and of one that isn't.
-use Rattle.std.proofs.Common.{◌≡◌, ℕ, zero, suc, ◌+◌, ◌<◌, ◌≤◌, Option, List, [], ◌∷◌, get_or, length, arith, false}
-use Rattle.std.proofs.KnownBytes.{Keeps-refl}
-use Rattle.std.specs.Io.KnownBytes as known
+-- Which batches of a journal are published, one batch after the other, and the lines of their versions.
+use Rattle.std.proofs.Common.{◌≡◌, ℕ, zero, suc, ◌+◌, ◌<◌, ◌≤◌, Bool, true, false, Option, Some, None, IfSome, List, [], ◌∷◌, ◌++◌, take, get_or, length, inl, inr, refl, sym, ap, ◌∙◌, subst, append_assoc, append-nil, add-one, arith, Result, Ok, Err, IfOk, IfErr}
+use Rattle.std.proofs.lemmas.Grind.{flat_map-append}
+use Rattle.std.proofs.Math.Seq.{take-suc}
+use Rattle.std.specs.Option.{option_map}
 use Rattle.cspf_db.specs.declared.refusal.Refusal.{Refusal}
 use Rattle.cspf_db.specs.Numbered.{NumberedChanges}
 use Rattle.cspf_db.specs.Changes.{database_after}
 use Rattle.cspf_db.specs.Refusals.{IsRefusal}
 use Rattle.cspf_publish.specs.ApplyErrors.{IsApplyError}
+use Rattle.cspf_publish.specs.Histories as history
 use Rattle.cspf_publish.specs.PublisherStates.{PublisherState}
 use Rattle.cspf_publish.specs.declared.errors.ApplyError.{ApplyError}
 use Rattle.cspf_publish.specs.declared.errors.ApplyError.TheVariants as error
-use Rattle.cspf_rows.specs.Journal.{AreNumberedFrom}
+use Rattle.cspf_rows.specs.declared.journal.Rest.{Rest}
+use Rattle.cspf_rows.specs.declared.journal.Rest.TheVariants as rest
+use Rattle.cspf_rows.specs.declared.journal_reader.JournalReader.{JournalReader}
+use Rattle.cspf_rows.specs.declared.read_error.ReadError.{ReadError}
+use Rattle.cspf_rows.specs.declared.read_error.ReadError.TheVariants as read_error
+use Rattle.cspf_rows.specs.GivenBatches.{HasGiven}
+use Rattle.cspf_rows.specs.Journal.{AreNumberedFrom, IsJournal}
+use Rattle.cspf_rows.specs.Records.{rows_of}
 use Rattle.cspf_serve.specs.declared.batch_refusal.BatchRefusal.TheVariants as refusal
-use Rattle.cspf_serve.specs.Lines.{refused_batch_line}
-use Rattle.cspf_serve.specs.EarlyEnds.{IsOwnFaultLine}
+use Rattle.cspf_serve.specs.declared.line.Line.{Line}
+use Rattle.cspf_serve.specs.declared.streams.early_end.EarlyEnd.{EarlyEnd}
+use Rattle.cspf_serve.specs.declared.streams.early_end.EarlyEnd.TheVariants as early_end
+use Rattle.cspf_serve.specs.Lines.{version_line, refused_batch_line}
+use Rattle.cspf_serve.specs.LineTexts.{line_text}
+use Rattle.cspf_serve.specs.BatchRun.{Records, version_lines, torn_line, AreBatchesOf, IsJournalRefused}
+use Rattle.cspf_serve.specs.EarlyEnds.{IfRefused, IsOwnFaultLine, IsJournalLine}
+use Rattle.cspf_serve.specs.PublishedBatches.{IsUnfitBehind, ArePublished}
 
 -- the number of the batch at a place
 pub number_at : (first : ℕ) (bs : List NumberedChanges) (i : ℕ) (d : NumberedChanges) → AreNumberedFrom first bs → i < length bs
@@ -22,18 +37,116 @@ number_at first [] i d numbered within = absurd (omega arith)
 number_at first (b ∷ bs) zero d numbered within = let is = numbered.0 in omega arith
 number_at first (b ∷ bs) (suc i) d numbered within = let is = number_at (first + 1) bs i d numbered.1 (omega arith) in omega arith
 
--- what is said of a batch that doesn't fit
-abbrev pub IsShownUnfit : List NumberedChanges → NumberedChanges → List ℕ → Option (List ℕ) → Option (List ℕ) → Type 0
-IsShownUnfit published b line old new =
-    (why : Refusal) × IsRefusal (database_after published) b why × (line ≡ refused_batch_line b.number (refusal.Unfit why)) × known.Keeps old new
+-- one more version
+pub version_more : (bs : List NumberedChanges) (made : ℕ) → AreNumberedFrom 1 bs → made < length bs
+    → version_lines (take made bs) ++ version_line (made + 1) ≡ version_lines (take (made + 1) bs)
+version_more bs made numbered within =
+    let none : NumberedChanges = record { number = 0; changes = [] } in
+    let number : (get_or bs made none).number ≡ made + 1 = number_at 1 bs made none numbered within ∙ omega arith in
+    rw (add-one made, take-suc bs made none within, ← add-one made) (simp flat_map-append (rw (number, append-nil (version_line (made + 1))) refl))
+
+-- the numbers of a history
+pub numbered_history : (first : ℕ) (bs : List NumberedChanges) → history.AreNumberedFrom first bs → AreNumberedFrom first bs
+numbered_history first [] numbered = tt
+numbered_history first (b ∷ bs) numbered = (numbered.0, rw (add-one first) (numbered_history (suc first) bs numbered.1))
+
+-- the number of the last batch
+last_number : (first : ℕ) (bs : List NumberedChanges) (b : NumberedChanges) → AreNumberedFrom first (bs ++ (b ∷ [])) → b.number ≡ first + length bs
+last_number first [] b numbered = let is = numbered.0 in omega arith
+last_number first (x ∷ bs) b numbered = let is = last_number (first + 1) bs b numbered.1 in omega arith
 
 -- a batch with the next number is refused for its changes alone
-pub shown_unfit : {W : Type 0} (contents : W → Option (List ℕ)) (p after : PublisherState W) (b : NumberedChanges) (e : ApplyError) (line : List ℕ) (old : Option (List ℕ))
-    → p.stopped ≡ false → b.number ≡ length p.batches + 1 → length p.batches + 1 ≤ 1000000 → IsApplyError contents p after b e → IsOwnFaultLine e b.number line
-    → IsShownUnfit p.batches b line old old
-shown_unfit contents p after b error.Stopped line old going number room is shown = absurd shown
-shown_unfit contents p after b error.Exhausted line old going number room is shown = let full = is.1 in absurd (omega arith)
-shown_unfit contents p after b (error.WrongNumber expected) line old going number room is shown = absurd (is.1 number)
-shown_unfit contents p after b (error.Refused why) line old going number room is shown = (why, is.2, shown, Keeps-refl old)
-shown_unfit contents p after b error.Memory line old going number room is shown = absurd shown
-shown_unfit contents p after b (error.Journal written) line old going number room is shown = absurd shown
+shown_unfit : {W : Type 0} (contents : W → Option (List ℕ)) (p after : PublisherState W) (b : NumberedChanges) (e : ApplyError) (line : List ℕ)
+    → b.number ≡ length p.batches + 1 → length p.batches + 1 ≤ 1000000 → IsApplyError contents p after b e → IsOwnFaultLine e b.number line
+    → (why : Refusal) × IsRefusal (database_after p.batches) b why × (line ≡ refused_batch_line b.number (refusal.Unfit why))
+shown_unfit contents p after b error.Stopped line number room is shown = absurd shown
+shown_unfit contents p after b error.Exhausted line number room is shown = let full = is.1 in absurd (omega arith)
+shown_unfit contents p after b (error.WrongNumber expected) line number room is shown = absurd (is.1 number)
+shown_unfit contents p after b (error.Refused why) line number room is shown = (why, is.2, shown)
+shown_unfit contents p after b error.Memory line number room is shown = absurd shown
+shown_unfit contents p after b (error.Journal written) line number room is shown = absurd shown
+
+-- the next batch doesn't fit
+pub unfit_here : {W : Type 0} (contents : W → Option (List ℕ)) (p after : PublisherState W) (given : List NumberedChanges) (b : NumberedChanges) (e : ApplyError) (line : List ℕ)
+    → AreNumberedFrom 1 (given ++ (b ∷ [])) → length given + 1 ≤ 1000000 → p.batches ≡ given → after.batches ≡ p.batches
+    → IsApplyError contents p after b e → IsOwnFaultLine e b.number line → IsUnfitBehind (given ++ (b ∷ [])) after.batches line
+unfit_here contents p after given b e line numbered room published same is shown =
+    let count : length p.batches ≡ length given = ap length published in
+    let number : b.number ≡ length p.batches + 1 = last_number 1 given b numbered ∙ omega arith in
+    let unfit = shown_unfit contents p after b e line number (omega arith) is shown in
+    record {
+      batch = b;
+      after = [];
+      split = rw (same, published) refl;
+      why = unfit.0;
+      refused = subst (λ (l : List NumberedChanges). IsRefusal (database_after l) b unfit.0) (sym same) unfit.1;
+      is_line = unfit.2;
+    }
+
+-- one more batch behind the one that doesn't fit
+pub unfit_more : (given published : List NumberedChanges) (b : NumberedChanges) (line : List ℕ) → IsUnfitBehind given published line
+    → IsUnfitBehind (given ++ (b ∷ [])) published line
+unfit_more given published b line is = record {
+  batch = is.batch;
+  after = is.after ++ (b ∷ []);
+  split = ap (λ (l : List NumberedChanges). l ++ (b ∷ [])) is.split ∙ append_assoc published (is.batch ∷ is.after) (b ∷ []);
+  why = is.why;
+  refused = is.refused;
+  is_line = is.is_line;
+}
+
+-- ---- the end of a journal
+
+module _ (accept_torn : Bool) (given published : List NumberedChanges) (unfit : Option Line) (is : ArePublished given published unfit) where
+  accepted : (rows : Records) (left : Rest) → (left ≡ rest.Torn → accept_torn ≡ true) → IsJournal rows given left → length rows ≤ 1000000 → AreBatchesOf accept_torn rows given
+  accepted rows rest.Clean torn journal few = record { few = few; journal = inl journal }
+  accepted rows rest.Torn torn journal few = record { few = few; journal = inr (journal, torn refl) }
+
+  -- the batches of a journal that is read
+  pub journal_read : (all : Option (List (List (List ℕ)))) (left : Rest) → (left ≡ rest.Torn → accept_torn ≡ true)
+      → IfSome all (λ rows. IsJournal rows given left × (length rows ≤ 1000000))
+      → IfSome all (λ rows. (batches : List NumberedChanges) × AreBatchesOf accept_torn rows batches × ArePublished batches published unfit)
+  journal_read None left torn journal = tt
+  journal_read (Some rows) left torn journal = (given, accepted rows left torn journal.0 journal.1, is)
+
+-- rows are left behind the batches
+pub journal_torn : (accept_torn : Bool) (given : List NumberedChanges) (count : ℕ) (all : Option (List (List (List ℕ)))) (left : Rest) (line : List ℕ)
+    → length given ≡ count → IfSome all (λ rows. IsJournal rows given left × (length rows ≤ 1000000))
+    → (left ≡ rest.Torn) × (accept_torn ≡ false) × (line ≡ torn_line count) → IfSome all (λ rows. IsJournalRefused accept_torn rows line)
+journal_torn accept_torn given count None left line counted journal is = tt
+journal_torn accept_torn given count (Some rows) left line counted journal is =
+    inr (journal.1, is.1, (given, rw is.0 at journal.0, rw counted is.2))
+
+-- a journal that can't be read has too many rows, or no line
+pub journal_unread : (accept_torn : Bool) (all : Option (List (List (List ℕ)))) (why : ReadError) (line : List ℕ)
+    → (why ≡ read_error.TooManyRows → IfSome all (λ rows. 1000000 < length rows)) → IsJournalLine why line → IfSome all (λ rows. IsJournalRefused accept_torn rows line)
+journal_unread accept_torn all read_error.Memory line many is = absurd is
+journal_unread accept_torn all read_error.Device line many is = absurd is
+journal_unread accept_torn None read_error.TooManyRows line many is = tt
+journal_unread accept_torn (Some rows) read_error.TooManyRows line many is = inl (many refl, is)
+
+-- ---- the bytes of a journal
+
+of_bytes : (bytes : Option (List ℕ)) (Holds : Records → Type 0) → IfSome (option_map rows_of bytes) Holds → IfSome bytes (λ text. Holds (rows_of text))
+of_bytes None Holds is = tt
+of_bytes (Some text) Holds is = is
+
+module _ {R : Type 0} (accept_torn : Bool) (rem : R → Option (List ℕ)) (reader : JournalReader R) (bytes : Option (List ℕ)) where
+  -- what was read of all records, where the bytes are known
+  pub read_of_bytes : (published : List NumberedChanges) (r : Result (Option Line) EarlyEnd) → HasGiven rem (option_map rows_of bytes) reader []
+      → IfOk r (λ unfit. (all : Option (List (List (List ℕ)))) → HasGiven rem all reader []
+      → IfSome all (λ rows. (batches : List NumberedChanges) × AreBatchesOf accept_torn rows batches × ArePublished batches published unfit))
+      → IfOk r (λ unfit. IfSome bytes (λ text. (batches : List NumberedChanges) × AreBatchesOf accept_torn (rows_of text) batches × ArePublished batches published unfit))
+  read_of_bytes published (Err end) none is = tt
+  read_of_bytes published (Ok unfit) none is =
+      of_bytes bytes (λ rows. (batches : List NumberedChanges) × AreBatchesOf accept_torn rows batches × ArePublished batches published unfit)
+      (is (option_map rows_of bytes) none)
+
+  pub refused_of_bytes : (r : Result (Option Line) EarlyEnd) → HasGiven rem (option_map rows_of bytes) reader []
+      → IfErr r (λ end. IfRefused end (λ line. (all : Option (List (List (List ℕ)))) → HasGiven rem all reader []
+      → IfSome all (λ rows. IsJournalRefused accept_torn rows line)))
+      → IfErr r (λ end. IfRefused end (λ line. IfSome bytes (λ text. IsJournalRefused accept_torn (rows_of text) line)))
+  refused_of_bytes (Ok unfit) none is = tt
+  refused_of_bytes (Err (early_end.Failed e)) none is = tt
+  refused_of_bytes (Err (early_end.Refused line)) none is =
+      of_bytes bytes (λ rows. IsJournalRefused accept_torn rows (line_text line)) (is (option_map rows_of bytes) none)

@@ -18,8 +18,7 @@ use Rattle.cspf_serve.specs.declared.streams.error.RunError.{RunError}
 use Rattle.cspf_serve.specs.declared.streams.error.RunError.TheVariants.{Memory, Device}
 use Rattle.cspf_serve.specs.Lines.{refused_batch_line, too_many_line}
 use Rattle.cspf_serve.specs.LineTexts.{line_text}
-use Rattle.cspf_db.specs.declared.request.Request.{Request}
-use Rattle.cspf_serve.specs.BatchRun.{Records, AreBatchesOf, IsJournalRefused, AreRequestsRefused, AreAccepted, IsOneUnfit}
+use Rattle.cspf_serve.specs.BatchRun.{Records, AreBatchesOf, IsJournalRefused, AreRequestsRefused}
 use Rattle.cspf_serve.specs.declared.streams.early_end.EarlyEnd.{EarlyEnd}
 use Rattle.cspf_serve.specs.declared.streams.early_end.EarlyEnd.TheVariants as early_end
 
@@ -111,11 +110,6 @@ abbrev pub AreStreamsRefused : Bool → Records → Records → List ℕ → Typ
 AreStreamsRefused accept_torn journal requests line =
     IsJournalRefused accept_torn journal line
     ⊎ ((batches : List NumberedChanges) × AreBatchesOf accept_torn journal batches × AreRequestsRefused requests line)
-
--- what batches and requests are answered, and the status: all is accepted, or else a batch is refused
-abbrev pub AreAnsweredInTurn : List NumberedChanges → List Request → List ℕ → ℕ → Type 0
-AreAnsweredInTurn batches requests lines status =
-    (AreAccepted batches requests lines × (status ≡ 0)) ⊎ (IsOneUnfit batches lines × (status ≡ 2))
 
 -- the error of a part of a list of requests, with the index of a request in the whole list
 abbrev pub IsErrorOfPart : ℕ → ServeError → ServeError → Type 0

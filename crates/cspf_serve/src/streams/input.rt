@@ -74,7 +74,10 @@ pub(crate) fn accept_rest(rest: Rest, count: usize, accept_torn: bool) -> Result
 }
 
 /// The requests of a stream.
-pub(crate) fn requests_of<R: Read + Drop>(alloc: Global, requests: R) -> Result<Vec<Request>, EarlyEnd>
+pub(crate) fn requests_of<R: Read + Drop>(
+    alloc: Global,
+    requests: R,
+) -> Result<Vec<Request>, EarlyEnd>
     ensures ok { IfOk result (λ asked. IfSome (R.remaining requests) (λ bytes.
         AreRequestsOf (rows_of bytes) asked.items)) }
     ensures most { IfOk result (λ asked. length asked.items ≤ MOST_REQUESTS) }

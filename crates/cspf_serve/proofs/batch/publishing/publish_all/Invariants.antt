@@ -1,15 +1,20 @@
-use Rattle.std.proofs.Common.{◌≡◌, take, false}
-use Rattle.std.specs.Io.KnownBytes.{Appends}
-use Rattle.cspf_db.specs.Changes.{AreLawful}
-use Rattle.cspf_serve.specs.BatchRun.{version_lines}
+use Rattle.std.proofs.Common.{◌≡◌, ◌-◌, ◌≤◌, ℕ, List, [], length, Option, None, false}
+use Rattle.cspf_db.specs.Numbered.{NumberedChanges}
+use Rattle.cspf_rows.specs.GivenBatches.{CanRead, HasGiven, rows_read}
+use Rattle.cspf_serve.specs.PublishedBatches.{ArePublished}
 use Rattle.cspf_serve.proofs.batch.publishing.publish_all.Given as goal
 
--- the batches so far are published, and their versions written
+-- the batches so far are published, or those before the first one that doesn't fit
 abbrev pub invariant-loop-batch : goal.invariant-loop-batch
 invariant-loop-batch g l = record {
-  published : l.publisher.batches ≡ take l.batch-index l.batches;
+  can : CanRead l.journal;
+  count : l.count ≤ rows_read l.journal;
   source : l.publisher.source ≡ l.fn.publisher.source;
-  going : l.publisher.stopped ≡ false;
-  lawful : AreLawful (take l.batch-index l.batches);
-  text : Appends (g.W.Write.contents l.fn.writer) (g.W.Write.contents l.writer) (version_lines (take l.batch-index l.batches));
+  going : l.unfit ≡ None → l.publisher.stopped ≡ false;
+  given : (all : Option (List (List (List ℕ)))) → HasGiven g.R.Read.remaining all l.fn.journal []
+      → (given : List NumberedChanges) × HasGiven g.R.Read.remaining all l.journal given × (length given ≡ l.count)
+      × ArePublished given l.publisher.batches l.unfit;
 }
+
+abbrev pub decreases-loop-batch : goal.decreases-loop-batch
+decreases-loop-batch g l = 1000000 - rows_read l.journal

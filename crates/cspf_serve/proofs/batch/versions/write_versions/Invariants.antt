@@ -1,0 +1,12 @@
+use Rattle.std.proofs.Common.{◌≡◌, List, take, length}
+use Rattle.std.specs.Io.KnownBytes.{Appends}
+use Rattle.cspf_db.specs.Numbered.{NumberedChanges}
+use Rattle.cspf_rows.specs.Journal.{AreNumberedFrom}
+use Rattle.cspf_serve.specs.BatchRun.{version_lines}
+use Rattle.cspf_serve.proofs.batch.versions.write_versions.Given as goal
+
+-- the versions so far are written
+abbrev pub invariant-loop-made : goal.invariant-loop-made
+invariant-loop-made g l =
+    (batches : List NumberedChanges) → AreNumberedFrom 1 batches → length batches ≡ l.count
+    → Appends (g.W.Write.contents l.fn.writer) (g.W.Write.contents l.writer) (version_lines (take l.made batches))
