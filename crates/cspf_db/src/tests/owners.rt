@@ -72,18 +72,37 @@ fn assert_alike(
     Ok(wanted.len())
 }
 
-// The routers at these indexes own the prefix of this length with the first bits of the address.
-fn assert_owners(
-    rt: &impl Abort,
-    alloc: Global,
-    table: &Table,
+// A prefix, and the routers that own it: its first bits and its length, and from which index in the
+// list of routers on up to which.
+#[derive(Clone, Copy)]
+struct Case {
     prefix: (u32, u8),
-    wanted: &[u16],
-) -> Result<(), Fail> {
-    let prefix = Prefix::new(Addr::new(prefix.0), prefix.1)?;
+    owners: (u16, u16),
+}
+
+// A case.
+fn owned(prefix: (u32, u8), owners: (u16, u16)) -> Case {
+    Case { prefix, owners }
+}
+
+// The routers of the case own its prefix, and no others.
+fn assert_owners(rt: &impl Abort, alloc: Global, table: &Table, case: &Case) -> Result<(), Fail> {
+    let prefix = Prefix::new(Addr::new(case.prefix.0), case.prefix.1)?;
+    let mut wanted = Vec::new(alloc);
+    for at in case.owners.0..case.owners.1 {
+        wanted.push(at)?;
+    }
     let owners = table.owners(alloc, prefix)?;
-    assert_eq!(rt; owners.as_slice(), wanted, "{prefix:?}");
+    assert_eq!(rt; owners.as_slice(), wanted.as_slice(), "{prefix:?}");
     assert_alike(rt, alloc, table, prefix)?;
+    Ok(())
+}
+
+// So it is for each case.
+fn assert_cases(rt: &impl Abort, alloc: Global, table: &Table, cases: &[Case]) -> Result<(), Fail> {
+    for case in cases {
+        assert_owners(rt, alloc, table, case)?;
+    }
     Ok(())
 }
 
@@ -102,87 +121,88 @@ fn small_table(rt: &impl Abort, alloc: Global) -> Result<Table, Fail> {
 }
 
 #[test]
-fn owners_of_prefixes(rt: HostRuntime) -> Result<(), Fail> {
+fn owners_by_the_router(rt: HostRuntime) -> Result<(), Fail> {
     let alloc = rt.alloc();
     let table = small_table(&rt, alloc)?;
-    // the address of a router
-    assert_owners(&rt, alloc, &table, (FIRST, 32), &[0])?;
-    assert_owners(&rt, alloc, &table, (SECOND, 32), &[1])?;
-    assert_owners(&rt, alloc, &table, (THIRD, 32), &[2])?;
-    assert_owners(&rt, alloc, &table, (FIRST, 24), &[0, 1, 2])?;
-    assert_owners(&rt, alloc, &table, (SECOND, 31), &[1, 2])?;
-    // of an interface at either end of a router's rows, and in their middle
-    assert_owners(&rt, alloc, &table, (interface(1, 1), 32), &[0])?;
-    assert_owners(&rt, alloc, &table, (interface(1, 5), 32), &[0])?;
-    assert_owners(&rt, alloc, &table, (interface(7, 1), 32), &[0])?;
-    assert_owners(&rt, alloc, &table, (interface(1, 8), 30), &[0])?;
-    // of another router's between them, and of none between them
-    assert_owners(&rt, alloc, &table, (interface(2, 0), 24), &[1])?;
-    assert_owners(&rt, alloc, &table, (interface(1, 6), 32), &[])?;
-    // of none at all, below, above, and by its remote address
-    assert_owners(&rt, alloc, &table, (interface(1, 0), 32), &[])?;
-    assert_owners(&rt, alloc, &table, (interface(7, 2), 32), &[])?;
-    assert_owners(&rt, alloc, &table, (0xac10_0001, 32), &[])?;
-    assert_owners(&rt, alloc, &table, (0xac10_0000, 12), &[])?;
-    // of several, and all
-    assert_owners(&rt, alloc, &table, (interface(0, 0), 16), &[0, 1])?;
-    assert_owners(&rt, alloc, &table, (interface(2, 0), 23), &[1])?;
-    assert_owners(&rt, alloc, &table, (0, 0), &[0, 1, 2])?;
-    let empty = Table::new(alloc)?;
-    assert_owners(&rt, alloc, &empty, (0, 0), &[])?;
-    Ok(())
+    let cases = [
+        owned((FIRST, 32), (0, 1)),
+        owned((SECOND, 32), (1, 2)),
+        owned((THIRD, 32), (2, 3)),
+        owned((FIRST, 24), (0, 3)),
+        owned((SECOND, 31), (1, 3)),
+        owned((0, 0), (0, 3)),
+    ];
+    assert_cases(&rt, alloc, &table, &cases)
 }
 
 #[test]
-fn owners_after_batches(rt: HostRuntime) -> Result<(), Fail> {
+fn owners_by_an_interface(rt: HostRuntime) -> Result<(), Fail> {
+    let alloc = rt.alloc();
+    let table = small_table(&rt, alloc)?;
+    // at either end of a router's rows, in their middle, of another router's between them, and of several
+    let cases = [
+        owned((interface(1, 1), 32), (0, 1)),
+        owned((interface(7, 1), 32), (0, 1)),
+        owned((interface(1, 5), 32), (0, 1)),
+        owned((interface(1, 8), 30), (0, 1)),
+        owned((interface(2, 0), 24), (1, 2)),
+        owned((interface(0, 0), 16), (0, 2)),
+    ];
+    assert_cases(&rt, alloc, &table, &cases)
+}
+
+#[test]
+fn no_owners(rt: HostRuntime) -> Result<(), Fail> {
+    let alloc = rt.alloc();
+    let table = small_table(&rt, alloc)?;
+    // between a router's interfaces, below and above them, and by the remote address
+    let cases = [
+        owned((interface(1, 6), 32), (0, 0)),
+        owned((interface(1, 0), 32), (0, 0)),
+        owned((interface(7, 2), 32), (0, 0)),
+        owned((0xac10_0001, 32), (0, 0)),
+    ];
+    assert_cases(&rt, alloc, &table, &cases)
+}
+
+#[test]
+fn owners_as_an_interface_moves(rt: HostRuntime) -> Result<(), Fail> {
     let alloc = rt.alloc();
     let mut table = small_table(&rt, alloc)?;
-    // an interface goes, and another comes in its place
-    let changes = [
-        drop_of(FIRST, interface(1, 5)),
-        put(FIRST, interface(1, 6), SECOND)?,
-    ];
-    change(&rt, alloc, &mut table, &changes)?;
-    assert_owners(&rt, alloc, &table, (interface(1, 5), 32), &[])?;
-    assert_owners(&rt, alloc, &table, (interface(1, 6), 32), &[0])?;
     // the highest one goes, and a lower one comes
     let changes = [
         drop_of(FIRST, interface(7, 1)),
         put(FIRST, interface(0, 1), THIRD)?,
     ];
     change(&rt, alloc, &mut table, &changes)?;
-    assert_owners(&rt, alloc, &table, (interface(7, 1), 32), &[])?;
-    assert_owners(&rt, alloc, &table, (interface(0, 1), 32), &[0])?;
-    assert_owners(&rt, alloc, &table, (interface(1, 9), 32), &[0])?;
-    assert_owners(&rt, alloc, &table, (interface(2, 1), 32), &[1])?;
-    // new attributes alone, and a link from a router that had none
-    let changes = [put(SECOND, interface(2, 1), THIRD)?];
-    change(&rt, alloc, &mut table, &changes)?;
-    assert_owners(&rt, alloc, &table, (interface(2, 1), 32), &[1])?;
-    let changes = [put(THIRD, interface(3, 1), FIRST)?];
-    change(&rt, alloc, &mut table, &changes)?;
-    assert_owners(&rt, alloc, &table, (interface(3, 1), 32), &[2])?;
-    assert_owners(&rt, alloc, &table, (interface(0, 0), 16), &[0, 1, 2])?;
-    // the first router goes, and the others move up
+    let cases = [
+        owned((interface(7, 1), 32), (0, 0)),
+        owned((interface(0, 1), 32), (0, 1)),
+        owned((interface(1, 9), 32), (0, 1)),
+        owned((interface(2, 1), 32), (1, 2)),
+    ];
+    assert_cases(&rt, alloc, &table, &cases)
+}
+
+#[test]
+fn owners_behind_a_router_that_goes(rt: HostRuntime) -> Result<(), Fail> {
+    let alloc = rt.alloc();
+    let mut table = small_table(&rt, alloc)?;
     let changes = [
-        drop_of(FIRST, interface(0, 1)),
         drop_of(FIRST, interface(1, 1)),
-        drop_of(FIRST, interface(1, 6)),
+        drop_of(FIRST, interface(1, 5)),
         drop_of(FIRST, interface(1, 9)),
-        drop_of(THIRD, interface(3, 1)),
+        drop_of(FIRST, interface(7, 1)),
     ];
     change(&rt, alloc, &mut table, &changes)?;
-    assert_eq!(rt;
-        table.routers(),
-        [Addr::new(SECOND), Addr::new(THIRD)].as_slice()
-    );
-    assert_owners(&rt, alloc, &table, (FIRST, 32), &[])?;
-    assert_owners(&rt, alloc, &table, (interface(1, 1), 32), &[])?;
-    assert_owners(&rt, alloc, &table, (interface(2, 1), 32), &[0])?;
-    assert_owners(&rt, alloc, &table, (interface(3, 1), 32), &[])?;
-    assert_owners(&rt, alloc, &table, (THIRD, 32), &[1])?;
-    assert_owners(&rt, alloc, &table, (0, 0), &[0, 1])?;
-    Ok(())
+    let cases = [
+        owned((FIRST, 32), (0, 0)),
+        owned((interface(1, 1), 32), (0, 0)),
+        owned((interface(2, 1), 32), (0, 1)),
+        owned((THIRD, 32), (1, 2)),
+        owned((0, 0), (0, 2)),
+    ];
+    assert_cases(&rt, alloc, &table, &cases)
 }
 
 // The links from each router stand where a look at each of the links finds them.
