@@ -2,6 +2,7 @@ use super::{by_bytes, failing, repeated};
 use crate::{JournalReader, JournalStep, MOST_ROWS, ReadError, Rest, batch_text};
 use cspf_db::Batch;
 use std::alloc::{AllocError, Global};
+use std::process::Abort;
 use std::test::Fail;
 
 /// A batch of no changes.
@@ -39,25 +40,33 @@ const BEHIND: [(&[u8], Rest); 8] = [
     ),
 ];
 
+/// A reader gives the three batches of a text, each in the room of the first, and says what stands behind
+/// them.
+fn assert_given(rt: &impl Abort, alloc: Global, behind: &[u8], rest: Rest) -> Result<(), Fail> {
+    let mut text = Vec::new(alloc);
+    for one in THREE {
+        text.extend_from_slice(one)?;
+    }
+    text.extend_from_slice(behind)?;
+    let [first, second, third] = THREE;
+    let mut journal = JournalReader::new(alloc, by_bytes(text.as_slice()));
+    let mut batch = empty_batch(alloc);
+    assert_eq!(rt; journal.read_batch(&mut batch), Ok(JournalStep::Batch));
+    assert!(rt; has_text(alloc, &batch, first)?);
+    assert_eq!(rt; journal.read_batch(&mut batch), Ok(JournalStep::Batch));
+    assert!(rt; has_text(alloc, &batch, second)?);
+    assert_eq!(rt; journal.read_batch(&mut batch), Ok(JournalStep::Batch));
+    assert!(rt; has_text(alloc, &batch, third)?);
+    assert!(rt; batch.changes.capacity() >= 3);
+    let end = journal.read_batch(&mut batch);
+    assert_eq!(rt; end, Ok(JournalStep::End(rest)), "{behind:?}");
+    Ok(())
+}
+
 #[test]
 fn batch_after_batch(rt: HostRuntime) -> Result<(), Fail> {
-    let alloc = rt.alloc();
     for (behind, rest) in BEHIND {
-        let mut text = Vec::new(alloc);
-        for one in THREE {
-            text.extend_from_slice(one)?;
-        }
-        text.extend_from_slice(behind)?;
-        let mut journal = JournalReader::new(alloc, by_bytes(text.as_slice()));
-        let mut batch = empty_batch(alloc);
-        for wanted in THREE {
-            assert_eq!(rt; journal.read_batch(&mut batch), Ok(JournalStep::Batch));
-            assert!(rt; has_text(alloc, &batch, wanted)?, "{wanted:?}");
-            // The room of the first batch is used again.
-            assert!(rt; batch.changes.capacity() >= 3);
-        }
-        let end = journal.read_batch(&mut batch);
-        assert_eq!(rt; end, Ok(JournalStep::End(rest)), "{behind:?}");
+        assert_given(&rt, rt.alloc(), behind, rest)?;
     }
     Ok(())
 }
