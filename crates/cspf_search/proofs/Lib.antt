@@ -21,5 +21,6 @@ pub mod Answered
 pub mod Twice
 pub mod Reversed
 pub mod LegBounds
+mod Broken
 mod RoleLists
 pub mod Slices

@@ -8,10 +8,10 @@ use Rattle.cspf_db.specs.Database.{Database, HasTransit}
 use Rattle.cspf_db.specs.Index.{router_list}
 use Rattle.cspf_db.specs.Targets.{IsInside, IsLoose, IsTarget}
 use Rattle.cspf_search.specs.declared.roles.Role.{Role}
-use Rattle.cspf_search.specs.declared.roles.Rows.{Rows}
+use Rattle.cspf_search.specs.declared.roles.RoleRows.{RoleRows}
 use Rattle.cspf_search.specs.States.{MayTurn}
 use Rattle.cspf_search.specs.Frontier.{AreListed, AreRoles, IsEnd, IsRole, IsStateIndex, nothing}
-use Rattle.cspf_search.specs.Roles.{AreRolesUpTo, AreRows, AreTargets, AreTargetsOf, IsMarked, IsSpread, StayElsewhere, role_at, router_at}
+use Rattle.cspf_search.specs.Roles.{AreRolesUpTo, AreRoleRows, AreTargets, AreTargetsOf, IsMarked, IsSpread, StayElsewhere, role_at, router_at}
 use Rattle.std.proofs.lemmas.Option.{slice_get_past}
 use Rattle.cspf_search.proofs.Ranks.{one_place, same_or_not}
 
@@ -42,7 +42,7 @@ with_index Old More Now Next n front place before here there p low =
     ]
 
 -- the roles that are set in a leg leave what stands elsewhere
-stays_set : (rows : Rows) (old now : List Role) (place : ℕ) (role : Role) → place < rows.count → StayElsewhere rows old now → StayElsewhere rows old (set now (rows.first + place) role)
+stays_set : (rows : RoleRows) (old now : List Role) (place : ℕ) (role : Role) → place < rows.count → StayElsewhere rows old now → StayElsewhere rows old (set now (rows.first + place) role)
 stays_set rows old now place role within stays = record {
   many = length-set now (rows.first + place) role ∙ stays.many;
   below = λ i low. get_or-set_other now (rows.first + place) i role nothing (λ e. omega (arith, e, low)) ∙ stays.below i low;
@@ -50,7 +50,7 @@ stays_set rows old now place role within stays = record {
 }
 
 -- one target more
-pub one_marked : (rows : Rows) (front : List ℕ) (place : ℕ) (own : Bool) (from : ℕ) (old now : List Role) (role : Role) → AreRows rows old → place < rows.count
+pub one_marked : (rows : RoleRows) (front : List ℕ) (place : ℕ) (own : Bool) (from : ℕ) (old now : List Role) (role : Role) → AreRoleRows rows old → place < rows.count
     → IsMarked rows front own from old now
     → (IsTrue role.enter ↔ (IsTrue (role_at now (rows.first + place)).enter ⊎ IsTrue (role_at now (rows.last + place)).enter))
     → (IsTrue role.target ↔ (IsTrue (role_at now (rows.first + place)).target ⊎ ((own ≡ true) × (IsTrue (role_at now (rows.last + place)).enter ⊎ IsTrue (nat_eq place from)))))
@@ -83,7 +83,7 @@ and_is true b = (λ on. (refl, on), λ both. both.1)
 and_is false b = (λ on. absurd (false≢true on), λ both. absurd (false≢true both.0))
 
 -- a leg to a hop, where the roles behind the last hop are known
-module _ (d : Database) (q : Request) (listed : AreListed d) (leg from : ℕ) (within : leg < length q.hops) (start : IsEnd d q.from from) (rows : Rows) (first : rows.first ≡ leg * 1024)
+module _ (d : Database) (q : Request) (listed : AreListed d) (leg from : ℕ) (within : leg < length q.hops) (start : IsEnd d q.from from) (rows : RoleRows) (first : rows.first ≡ leg * 1024)
     (last : rows.last ≡ length q.hops * 1024) (count : rows.count ≡ length (router_list d)) (before own : List ℕ) (are_before : AreTargetsOf d q leg before) (are_own : AreTargetsOf d q (leg + 1) own)
     (loose : Bool) (is_loose : IsTrue loose ↔ IsLoose (slice_get q.hops leg)) (old spread some new : List Role) (known : AreRolesUpTo d q leg old) (spreads : IsSpread rows loose old spread)
     (many : length old ≡ (length q.hops + 1) * 1024) (marks : IsMarked rows before false from spread some) (marks_own : IsMarked rows own true from some new) where

@@ -1,6 +1,7 @@
 pub mod Routes
 pub mod Outcome
 pub mod States
+pub mod Strict
 pub mod Settled
 pub mod Arena
 pub mod Bounds

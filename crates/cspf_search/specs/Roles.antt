@@ -8,7 +8,7 @@ use Rattle.cspf_db.specs.Database.{Database}
 use Rattle.cspf_db.specs.Index.{router_list}
 use Rattle.cspf_db.specs.Targets.{IsTarget}
 use Rattle.cspf_search.specs.declared.roles.Role.{Role}
-use Rattle.cspf_search.specs.declared.roles.Rows.{Rows}
+use Rattle.cspf_search.specs.declared.roles.RoleRows.{RoleRows}
 use Rattle.cspf_search.specs.Frontier.{IsRole, IsStateIndex, nothing, state_at}
 
 -- the router at an index of the list
@@ -38,26 +38,26 @@ abbrev pub role_at : List Role → ℕ → Role
 role_at roles i = slice_index_or roles i nothing
 
 -- the roles of a leg stand before those of the last
-pub record AreRows (rows : Rows) (roles : List Role) : Type 0 where
+pub record AreRoleRows (rows : RoleRows) (roles : List Role) : Type 0 where
   pub few : rows.count ≤ MOST_ROUTERS
   pub apart : rows.first + MOST_ROUTERS ≤ rows.last
   pub within : rows.last + rows.count ≤ length roles
 
 -- the roles outside of a leg stay
-pub record StayElsewhere (rows : Rows) (old new : List Role) : Type 0 where
+pub record StayElsewhere (rows : RoleRows) (old new : List Role) : Type 0 where
   pub many : length new ≡ length old
   pub below : (i : ℕ) → i < rows.first → role_at new i ≡ role_at old i
   pub behind : (i : ℕ) → rows.first + rows.count ≤ i → role_at new i ≡ role_at old i
 
 -- in a loose leg a link may lead where it may in the last one, in a strict one nowhere, and nothing is a target
-pub record IsSpread (rows : Rows) (loose : Bool) (old new : List Role) : Type 0 where
+pub record IsSpread (rows : RoleRows) (loose : Bool) (old new : List Role) : Type 0 where
   pub here : (p : ℕ) → p < rows.count → role_at new (rows.first + p)
       ≡ record { enter = loose && (role_at old (rows.last + p)).enter; target = false }
   pub elsewhere : StayElsewhere rows old new
 
 -- Besides, a link may lead to each of some routers where it may in the last leg, and where these are the
 -- targets of the leg, a route may turn there if it may enter there in the last leg or begins there.
-pub record IsMarked (rows : Rows) (places : List ℕ) (own : Bool) (from : ℕ) (old new : List Role) : Type 0 where
+pub record IsMarked (rows : RoleRows) (places : List ℕ) (own : Bool) (from : ℕ) (old new : List Role) : Type 0 where
   pub enter : (p : ℕ) → p < rows.count → IsTrue (role_at new (rows.first + p)).enter
       ↔ (IsTrue (role_at old (rows.first + p)).enter
       ⊎ (Contains places p × IsTrue (role_at old (rows.last + p)).enter))

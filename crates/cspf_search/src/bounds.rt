@@ -1,14 +1,15 @@
-ghost use Rattle.std.specs.Prelude.{◌≡◌, ◌≢◌, ◌+◌, ◌*◌, ◌<◌, ◌≤◌, ◌⊎◌, ◌↔◌, ℕ, min, true, false, IsTrue, IfOk, IfSome, OnOk, length, slice_index, slice_index_or};
+ghost use Rattle.std.specs.Prelude.{◌≡◌, ◌≢◌, ◌+◌, ◌*◌, ◌<◌, ◌≤◌, ◌⊎◌, ◌↔◌, ℕ, min, true, false, IsTrue, IfOk, IfSome, OnOk, length, slice_index, slice_index_or, All, Contains};
 ghost use Rattle.cspf_search.specs.Query.{IsQuery};
-ghost use Rattle.cspf_search.specs.States.{MayBeLeft};
 ghost use Rattle.cspf_search.specs.Frontier.{IsEnd};
+ghost use Rattle.cspf_search.specs.Roles.{AreTargetsOf};
 ghost use Rattle.cspf_search.specs.Bounds.{ArePassed, AreReached, AreBounds, Falls, IsLeg, IsLower, IsPassed, IsRing, IsDeadEnd, bound_at, is_done};
 ghost use Rattle.cspf_db.specs.Index.{links_of, router_list};
 ghost use Rattle.cspf_db.specs.declared.limits.TheConstants.{NO_LINK};
 
 use crate::limits::{FARTHEST, NO_WAY};
-use crate::query::Query;
+use crate::query::{Query, may_be_left};
 use crate::ring::Ring;
+use crate::strict::{first_broken, starts_of};
 use cspf_db::{MOST_ROUTERS, NO_LINK};
 use cspf_graph::accepts;
 use std::alloc::{AllocError, Global};
@@ -19,16 +20,6 @@ const RING: usize = 24;
 
 /// How many it settles in a leg to a hop at most, since more is searched before that ends.
 const WIDE: usize = 64;
-
-/// Whether a walk may leave the router at an index: it has transit, or the walk may begin there.
-fn may_be_left(query: Query<'_>, place: u16) -> bool
-    requires { place < length (router_list query.table.now) }
-    ensures { IsTrue result ↔ MayBeLeft query.entry.table.now query.entry.request.now
-        (slice_index (router_list query.entry.table.now) place) }
-{
-    let at = usize::from(place);
-    query.table.transit_at(at) || query.table.routers()[at] == query.request.from
-}
 
 /// Lowers the bound of the router at an index, which the link at another index arrives from, if there
 /// is one, the request admits it, and a walk may leave that router.
@@ -166,9 +157,14 @@ fn farther(top: u32, bound: u32) -> u32 {
     if bound < NO_WAY { bound.max(top) } else { top }
 }
 
+/// From which bound on it is no use to look further: where more targets wait than routers are taken, from
+/// that of the farthest on.
+fn far_enough(waiting: usize, farthest: u32) -> u32 {
+    if waiting > WIDE { farthest } else { NO_WAY }
+}
+
 /// Begins the leg to the hop at an index: nothing is done, and its targets wait from which there is a way,
-/// each with its bound in the next leg. It answers from where on it is no use to look further: where there
-/// are more targets than are taken, from the farthest of them on.
+/// each with its bound in the next leg. It answers from which bound on it is no use to look further.
 fn begin(
     query: Query<'_>,
     leg_index: usize,
@@ -192,7 +188,7 @@ fn begin(
             top = farther(top, least);
         }
     }
-    Ok(if ring.heap.len() > WIDE { top } else { NO_WAY })
+    Ok(far_enough(ring.heap.len(), top))
 }
 
 /// Begins the leg behind the last hop: nothing is done, and the tail-end waits, the router at an
@@ -306,15 +302,57 @@ fn set_legs(
     Ok(())
 }
 
-/// For each state a lower bound of the cost from it to the tail-end, which is close to it near the
-/// targets of its leg. The tail-end is the router at an index.
-pub(crate) fn bounds(alloc: Global, query: Query<'_>, to: usize) -> Result<Vec<u32>, AllocError>
+/// Sets the bounds of some routers in a leg, whose states begin at an index, so that there is no way from
+/// there.
+fn shut_at(bounds: &mut [u32], first: usize, places: &[u16])
+    requires within { All (λ place. first + place < length bounds.old) places.now }
+    ensures shut { (p : ℕ) → Contains places.now p → bound_at bounds.new (first + p) ≡ NO_WAY }
+    ensures others { (i : ℕ) → (bound_at bounds.new i ≡ bound_at bounds.old i)
+        ⊎ ((p : ℕ) × Contains places.now p × (i ≡ first + p)) }
+{
+    for place in places {
+        bounds[first + usize::from(*place)] = NO_WAY;
+    }
+}
+
+/// Looks for a strict leg that no route comes through, and sets the bounds so that there is no way to
+/// it. It answers whether there is one. The head-end is the router at an index.
+fn shut_broken(query: Query<'_>, from: usize, bounds: &mut [u32]) -> bool
     requires query { IsQuery query }
+    requires from { IsEnd query.table.now query.request.now.from from }
+    requires many { length bounds.old ≡ (length query.request.now.hops + 1) * MOST_ROUTERS }
+    requires zeros { (i : ℕ) → bound_at bounds.old i ≡ 0 }
+    ensures found { result ≡ true → AreBounds query.entry.table.now query.entry.request.now bounds.new }
+    ensures none { result ≡ false → bounds.new ≡ bounds.old }
+{
+    let head = [from as u16];
+    let Some(leg_index) = first_broken(query, &head) else {
+        return false;
+    };
+    let first = leg_index * MOST_ROUTERS;
+    shut(bounds, first);
+    shut_at(bounds, first, starts_of(query, &head, leg_index));
+    true
+}
+
+/// For each state a lower bound of the cost from it to the tail-end, which is close to it near the
+/// targets of its leg. The head-end and the tail-end are the routers at these indexes.
+pub(crate) fn bounds(
+    alloc: Global,
+    query: Query<'_>,
+    from: usize,
+    to: usize,
+) -> Result<Vec<u32>, AllocError>
+    requires query { IsQuery query }
+    requires from { IsEnd query.table.now query.request.now.from from }
     requires to { IsEnd query.table.now query.request.now.to to }
     ensures { IfOk result (λ bounds. AreBounds query.entry.table.now query.entry.request.now bounds.items) }
 {
-    let mut ring = Ring::new(alloc)?;
     let mut bounds = Vec::from_elem(alloc, 0u32, query.legs * MOST_ROUTERS)?;
+    if shut_broken(query, from, &mut bounds) {
+        return Ok(bounds);
+    }
+    let mut ring = Ring::new(alloc)?;
     set_legs(query, to, &mut ring, &mut bounds)?;
     Ok(bounds)
 }

@@ -18,6 +18,7 @@ mod roles;
 mod rounds;
 mod route;
 mod search;
+mod strict;
 
 pub use limits::MOST_ROUTE_LINKS;
 pub use outcome::Outcome;

@@ -3,7 +3,7 @@ ghost use Rattle.cspf_db.specs.Index.{router_list};
 ghost use Rattle.cspf_db.specs.Targets.{IsLoose};
 ghost use Rattle.cspf_search.specs.Frontier.{AreListed, AreTargetsSettled, IsEnd, IsRaised, IsRole, AreRoles};
 ghost use Rattle.cspf_search.specs.Query.{IsQuery};
-ghost use Rattle.cspf_search.specs.Roles.{AreRolesUpTo, AreRows, AreTargets, AreTargetsOf, IsMarked, IsSpread};
+ghost use Rattle.cspf_search.specs.Roles.{AreRolesUpTo, AreRoleRows, AreTargets, AreTargetsOf, IsMarked, IsSpread};
 
 use crate::labels::Label;
 use crate::query::Query;
@@ -74,7 +74,7 @@ fn set_last_roles(table: &Table, request: &Request, to: usize, roles: &mut [Role
 /// Where in a list of roles those of a leg to a hop begin, and those of the leg behind the last hop,
 /// one for each of the routers, which are counted.
 #[derive(Clone, Copy)]
-struct Rows {
+struct RoleRows {
     first: usize,
     last: usize,
     count: usize,
@@ -82,8 +82,8 @@ struct Rows {
 
 /// Begins a leg to a hop: a link may lead a route to each router that a route may go on from or end at
 /// where the leg is loose, and to none where it is strict. No router is a target.
-fn spread(roles: &mut [Role], rows: Rows, loose: bool)
-    requires rows { AreRows rows roles.old }
+fn spread(roles: &mut [Role], rows: RoleRows, loose: bool)
+    requires rows { AreRoleRows rows roles.old }
     ensures { IsSpread rows loose roles.old roles.new }
 {
     for place in 0..rows.count {
@@ -111,8 +111,8 @@ fn with_more(old: Role, stands: bool, own: bool, begins: bool) -> Role
 /// What the targets of a leg may do besides, those of the leg before and then its own: a link may lead
 /// a route there, and, where they are its own, a route may turn to the next leg there. The head-end is
 /// the router at an index.
-fn mark(roles: &mut [Role], rows: Rows, places: &[u16], own: bool, from: usize)
-    requires rows { AreRows rows roles.old }
+fn mark(roles: &mut [Role], rows: RoleRows, places: &[u16], own: bool, from: usize)
+    requires rows { AreRoleRows rows roles.old }
     requires places { All (λ place. place < rows.count) places.now }
     ensures { IsMarked rows places.now own from roles.old roles.new }
 {
@@ -140,7 +140,7 @@ fn targets_of(
 }
 
 /// Whether the leg to the hop at an index is loose.
-fn is_loose(request: &Request, leg_index: usize) -> bool
+pub(crate) fn is_loose(request: &Request, leg_index: usize) -> bool
     requires { leg_index < length request.now.hops }
     ensures { IsTrue result ↔ IsLoose (slice_get request.now.hops leg_index) }
 {
@@ -150,34 +150,37 @@ fn is_loose(request: &Request, leg_index: usize) -> bool
     }
 }
 
-/// Finds what a route may do at each router in the leg to the hop at an index, between the targets of
-/// the leg before and its own. The head-end is the router at an index.
-fn set_roles(
-    table: &Table,
-    request: &Request,
-    leg_index: usize,
-    before: &[u16],
-    own: &[u16],
-    from: usize,
-    roles: &mut [Role],
-)
-    requires within { leg_index < length request.now.hops }
+/// A leg to a hop, with the routers at which it begins and its targets, by their index in the list of
+/// routers.
+#[derive(Clone, Copy)]
+struct Leg<'a> {
+    /// The index of the hop.
+    index: usize,
+    /// The head-end in the first leg, and the targets of the leg before in each other one.
+    starts: &'a [u16],
+    /// The targets.
+    targets: &'a [u16],
+}
+
+/// Finds what a route may do at each router in the leg to a hop. The head-end is the router at an index.
+fn set_roles(table: &Table, request: &Request, leg: Leg<'_>, from: usize, roles: &mut [Role])
+    requires within { leg.index < length request.now.hops }
     requires listed { AreListed table.now }
-    requires before { AreTargetsOf table.now request.now leg_index before.now }
-    requires own { AreTargetsOf table.now request.now (leg_index + 1) own.now }
+    requires starts { AreTargetsOf table.now request.now leg.index leg.starts.now }
+    requires targets { AreTargetsOf table.now request.now (leg.index + 1) leg.targets.now }
     requires from { IsEnd table.now request.now.from from }
     requires many { length roles.old ≡ (length request.now.hops + 1) * MOST_ROUTERS }
-    requires known { AreRolesUpTo table.now request.now leg_index roles.old }
-    ensures { AreRolesUpTo table.now request.now (leg_index + 1) roles.new }
+    requires known { AreRolesUpTo table.now request.now leg.index roles.old }
+    ensures { AreRolesUpTo table.now request.now (leg.entry.index + 1) roles.new }
 {
-    let rows = Rows {
-        first: leg_index * MOST_ROUTERS,
+    let rows = RoleRows {
+        first: leg.index * MOST_ROUTERS,
         last: request.hops.len() * MOST_ROUTERS,
         count: table.routers().len(),
     };
-    spread(roles, rows, is_loose(request, leg_index));
-    mark(roles, rows, before, false, from);
-    mark(roles, rows, own, true, from);
+    spread(roles, rows, is_loose(request, leg.index));
+    mark(roles, rows, leg.starts, false, from);
+    mark(roles, rows, leg.targets, true, from);
 }
 
 /// What a route may do at each router in each leg, and where the legs to hops end.
@@ -211,12 +214,17 @@ pub(crate) fn find_roles(
     let head = [from as u16];
     for leg_index in 0..hops {
         let own = targets_of(alloc, table, request, leg_index)?;
-        let before = if leg_index == 0 {
+        let starts = if leg_index == 0 {
             head.as_slice()
         } else {
             targets[leg_index - 1].as_slice()
         };
-        set_roles(table, request, leg_index, before, &own, from, &mut states);
+        let leg = Leg {
+            index: leg_index,
+            starts,
+            targets: &own,
+        };
+        set_roles(table, request, leg, from, &mut states);
         targets.push(own)?;
     }
     Ok(Roles { states, targets })

@@ -132,7 +132,7 @@ fn reached(alloc: Global, query: Query<'_>, from: usize, to: usize) -> Result<Ve
     requires to { IsEnd query.table.now query.request.now.to to }
     ensures { IfOk result (λ nodes. IsSearched query.entry.table.now query.entry.request.now nodes.items) }
 {
-    let bounds = bounds(alloc, query, to)?;
+    let bounds = bounds(alloc, query, from, to)?;
     let mut goal = Goal {
         at: (query.legs - 1) * MOST_ROUTERS + to,
         floor: 0,

@@ -1,4 +1,5 @@
 mod marks;
+mod strict;
 
 use super::*;
 use cspf_addr::{Addr, Mask, parse_hops};

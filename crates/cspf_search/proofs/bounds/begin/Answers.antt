@@ -47,18 +47,8 @@ loop-place-preserved c =
           })
     ]
 
-pub returns-then-len-gt-WIDE-clause-targets : goal.returns-then-len-gt-WIDE-clause-targets
-returns-then-len-gt-WIDE-clause-targets c p low turns =
-    let d = c.args.query.table.now in
-    let q = c.args.query.request.now in
-    let leg = c.args.leg_index in
-    let places = c.deref-place-items.result.now in
-    let are = read_targets d q c.args.query.targets.now leg c.index-query-leg_index.result places c.requires.query.targets c.requires.leg c.deref-place-items.ensures.value in
-    let all = take_all c.loop-place.place-index places c.loop-place-test.false in
-    c.loop-place.invariant.targets p (rw all ((are.each p low).1 turns.target)) (told_target d q c.args.query.roles.now leg p c.requires.query.listed c.requires.query.roles (omega (arith, c.requires.leg)) low turns)
-
-pub returns-else-len-gt-WIDE-clause-targets : goal.returns-else-len-gt-WIDE-clause-targets
-returns-else-len-gt-WIDE-clause-targets c p low turns =
+pub returns-clause-targets : goal.returns-clause-targets
+returns-clause-targets c p low turns =
     let d = c.args.query.table.now in
     let q = c.args.query.request.now in
     let leg = c.args.leg_index in

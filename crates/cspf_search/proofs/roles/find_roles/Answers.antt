@@ -8,17 +8,17 @@ use Rattle.cspf_search.proofs.Slices.{written_back}
 use Rattle.cspf_search.proofs.roles.find_roles.Goals as goal
 use Rattle.cspf_search.proofs.roles.find_roles.Goals.{then-leg_index-eq0, else-leg_index-eq0}
 
-pub set_roles-requires-clause-before : goal.set_roles-requires-clause-before
-set_roles-requires-clause-before c =
+pub set_roles-requires-clause-starts : goal.set_roles-requires-clause-starts
+set_roles-requires-clause-starts c =
     let d = c.args.table.now in
     let q = c.args.request.now in
     elim c.if-leg_index-eq0.branch [
       | then-leg_index-eq0 w ↦
-          rw (w.before-is, w.as_slice-before.ensures, c.loop-leg_index.invariant.head, w.if-leg_index-eq0.true) (head_alone d q c.requires.listed c.args.from c.requires.from)
+          rw (w.starts-is, w.as_slice-starts.ensures, c.loop-leg_index.invariant.head, w.if-leg_index-eq0.true) (head_alone d q c.requires.listed c.args.from c.requires.from)
       | else-leg_index-eq0 w ↦
           let one : c.loop-leg_index.leg_index - 1 + 1 ≡ c.loop-leg_index.leg_index = omega (arith, w.if-leg_index-eq0.false) in
           let known = c.loop-leg_index.invariant.targets (c.loop-leg_index.leg_index - 1) w.index.result.now (omega (arith, one)) in
-          rw (w.before-is, w.as_slice-before-else-leg_index-eq0.ensures.value, w.index.ensures)
+          rw (w.starts-is, w.as_slice-starts-else-leg_index-eq0.ensures.value, w.index.ensures)
           (subst (λ k. AreTargetsOf d q k (slice_index_or c.loop-leg_index.targets.items (c.loop-leg_index.leg_index - 1) w.index.result.now).items) one known)
     ]
 

@@ -4,5 +4,5 @@ use Rattle.cspf_search.proofs.roles.set_roles.Goals as goal
 
 pub returns : goal.returns
 returns c =
-    roles_on c.args.table.now c.args.request.now c.requires.listed c.args.leg_index c.args.from c.requires.within c.requires.from _ refl (ap (λ n. n * 1024) c.len.ensures.value) (ap length c.routers.ensures.all) c.args.before.now c.args.own.now
-    c.requires.before c.requires.own c.is_loose.result c.is_loose.ensures c.args.roles.now c.spread.new.roles c.mark.new.roles c.mark-2.new.roles c.requires.known c.spread.ensures c.requires.many c.mark.ensures c.mark-2.ensures
+    roles_on c.args.table.now c.args.request.now c.requires.listed c.args.leg.index c.args.from c.requires.within c.requires.from _ refl (ap (λ n. n * 1024) c.len.ensures.value) (ap length c.routers.ensures.all) c.args.leg.starts.now c.args.leg.targets.now
+    c.requires.starts c.requires.targets c.is_loose.result c.is_loose.ensures c.args.roles.now c.spread.new.roles c.mark.new.roles c.mark-2.new.roles c.requires.known c.spread.ensures c.requires.many c.mark.ensures c.mark-2.ensures

@@ -1,0 +1,20 @@
+-- Private words of the search: strict legs that no route comes through.
+use Rattle.std.specs.Prelude.{◌≡◌, ℕ, ◌+◌, ◌<◌, length, slice_get}
+use Rattle.cspf_db.specs.declared.link.Link.{Link}
+use Rattle.cspf_db.specs.declared.request.Request.{Request}
+use Rattle.cspf_db.specs.Database.{Database}
+use Rattle.cspf_db.specs.Index.{router_list}
+use Rattle.cspf_db.specs.Targets.{IsLoose, IsTarget}
+use Rattle.cspf_search.specs.States.{LeadsOn, MayTurn}
+use Rattle.cspf_search.specs.Roles.{router_at}
+
+-- a route in the leg to a hop, which stands at the router, may turn to the next leg neither there nor behind one link
+pub record IsApart (d : Database) (q : Request) (leg router : ℕ) : Type 0 where
+  pub turns : MayTurn d q (leg + 1) router → ⊥
+  pub links : (l : Link) → LeadsOn d q l → l.from ≡ router → MayTurn d q (leg + 1) l.to → ⊥
+
+-- the leg to a hop is strict, and so it is of each router at which the leg begins
+pub record IsBroken (d : Database) (q : Request) (leg : ℕ) : Type 0 where
+  pub hop : leg < length q.hops
+  pub strict : IsLoose (slice_get q.hops leg) → ⊥
+  pub apart : (p : ℕ) → p < length (router_list d) → IsTarget d q leg (router_at d p) → IsApart d q leg (router_at d p)

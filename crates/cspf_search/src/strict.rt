@@ -1,0 +1,87 @@
+ghost use Rattle.std.specs.Prelude.{◌≡◌, ◌<◌, true, false, IfSome, length};
+ghost use Rattle.cspf_db.specs.Index.{router_list};
+ghost use Rattle.cspf_search.specs.Query.{IsQuery};
+ghost use Rattle.cspf_search.specs.Roles.{AreTargetsOf, router_at};
+ghost use Rattle.cspf_search.specs.Strict.{IsApart, IsBroken};
+
+use crate::query::{Query, may_be_left};
+use crate::roles::is_loose;
+use cspf_db::MOST_ROUTERS;
+use cspf_graph::admissible;
+
+/// Whether a route that stands at the router at an index may turn to the leg behind that to a hop, there
+/// or behind one link.
+fn joins(query: Query<'_>, leg_index: usize, place: u16) -> bool
+    requires query { IsQuery query }
+    requires leg { leg_index < length query.request.now.hops }
+    requires place { place < length (router_list query.table.now) }
+    ensures { result ≡ false → IsApart query.entry.table.now query.entry.request.now leg_index
+        (router_at query.entry.table.now place) }
+{
+    let first = leg_index * MOST_ROUTERS;
+    let at = usize::from(place);
+    if query.roles[first + at].target {
+        return true;
+    }
+    if !may_be_left(query, place) {
+        return false;
+    }
+    let links = query.table.out_at(at);
+    let ends = query.table.ends_at(at);
+    for row in 0..links.len() {
+        let end = usize::from(ends[row]);
+        if query.roles[first + end].target && admissible(query.table, &links[row], query.request) {
+            return true;
+        }
+    }
+    false
+}
+
+/// Whether the leg to a hop is strict, and no route comes through it from the routers at which it begins,
+/// by their indexes in the list of routers.
+pub(crate) fn is_broken(query: Query<'_>, leg_index: usize, starts: &[u16]) -> bool
+    requires query { IsQuery query }
+    requires leg { leg_index < length query.request.now.hops }
+    requires starts { AreTargetsOf query.table.now query.request.now leg_index starts.now }
+    ensures { result ≡ true → IsBroken query.entry.table.now query.entry.request.now leg_index }
+{
+    if is_loose(query.request, leg_index) {
+        return false;
+    }
+    for place in starts {
+        if joins(query, leg_index, *place) {
+            return false;
+        }
+    }
+    true
+}
+
+/// Where the leg to the hop at an index begins, by index in the list of routers: the first leg at the
+/// head-end, and each other one at the targets of the leg before.
+pub(crate) fn starts_of<'a>(query: Query<'a>, head: &'a [u16], leg_index: usize) -> &'a [u16]
+    requires query { IsQuery query }
+    requires head { AreTargetsOf query.table.now query.request.now 0 head.now }
+    requires leg { leg_index < length query.request.now.hops }
+    ensures { AreTargetsOf query.entry.table.now query.entry.request.now leg_index result.now }
+{
+    if leg_index == 0 {
+        head
+    } else {
+        query.targets[leg_index - 1].as_slice()
+    }
+}
+
+/// The first leg, by the index of its hop, that is strict and that no route comes through, if there is
+/// one. The head-end is told by its index in the list of routers, alone in a list.
+pub(crate) fn first_broken(query: Query<'_>, head: &[u16]) -> Option<usize>
+    requires query { IsQuery query }
+    requires head { AreTargetsOf query.table.now query.request.now 0 head.now }
+    ensures { IfSome result (λ leg. IsBroken query.entry.table.now query.entry.request.now leg) }
+{
+    for leg_index in 0..query.targets.len() {
+        if is_broken(query, leg_index, starts_of(query, head, leg_index)) {
+            return Some(leg_index);
+        }
+    }
+    None
+}
