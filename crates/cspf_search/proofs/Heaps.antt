@@ -1,5 +1,5 @@
 -- What comes out of a heap of keys.
-use Rattle.std.proofs.Common.{◌≡◌, ◌⊎◌, inl, inr, ℕ, zero, suc, ◌+◌, ◌<◌, ◌≤◌, false, List, [], ◌∷◌, length, slice_index_or, refl, sym, ap, subst, arith}
+use Rattle.std.proofs.Common.{◌≡◌, ◌⊎◌, inl, inr, ℕ, zero, suc, ◌+◌, ◌<◌, ◌≤◌, false, List, [], ◌∷◌, ◌++◌, length, take, slice_index_or, refl, sym, ap, subst, arith}
 use Rattle.std.specs.List.{All, Contains}
 use Rattle.std.specs.List.Sorted.{IsPermutation}
 use Rattle.std.specs.BinaryHeap.{IsHeap, IsUpperBound, PopsGreatest, lt_by_cmp}
@@ -7,14 +7,17 @@ use Rattle.std.specs.Ordering.{nat_cmp, ordering_then, is_lt}
 use Rattle.std.specs.declared.cmp.Ordering.{Ordering}
 use Rattle.std.proofs.lemmas.Bool.{cases_lt}
 use Rattle.std.proofs.lemmas.Bool.Decides.{nat_tests}
-use Rattle.std.proofs.lemmas.List.{get_or_default}
-use Rattle.std.proofs.lemmas.List.Elements.{All-contains, All-from_recursion, All-tail, Contains-append_cases}
+use Rattle.std.proofs.lemmas.List.{get_or_default, take_more}
+use Rattle.std.proofs.lemmas.List.Elements.{All-contains, All-from_recursion, All-tail, Contains-append_cases, Contains-append_right, Contains-push_cases}
 use Rattle.std.proofs.lemmas.List.Sorted.{All-permutation, Contains-permutation, IsPermutation-sym}
+use Rattle.cspf_db.specs.declared.link.Link.{Link}
 use Rattle.cspf_db.specs.declared.request.Request.{Request}
 use Rattle.cspf_db.specs.Database.{Database}
+use Rattle.cspf_search.specs.declared.arena.Node.{Node}
 use Rattle.cspf_search.specs.declared.goal.Goal.{Goal}
 use Rattle.cspf_search.specs.declared.labels.Label.{Label}
-use Rattle.cspf_search.specs.Frontier.{Key, key_cmp, no_label, label_at, lift, IsKey, IsLive, IsUpTo, IsLeast}
+use Rattle.cspf_search.specs.States.{State}
+use Rattle.cspf_search.specs.Frontier.{AreLabels, Key, key_cmp, no_label, label_at, lift, IsKey, IsLive, IsOpenOf, IsUpTo, IsLeast}
 
 no_less_rank : (k rank : ℕ) (o : Ordering) → is_lt (ordering_then (nat_cmp k rank) o) ≡ false → rank ≤ k
 no_less_rank k rank o h = grind (arith, nat_tests)
@@ -91,3 +94,56 @@ module _ (d : Database) (q : Request) (goal : Goal) (labels : List Label) (old h
               | inr left ↦ inr left
             ];
       }
+
+-- a key for the indexes past the end of a list
+abbrev pub blank : Key
+blank = record { 0 = (0, 0) }
+
+-- One key more was looked at of those of a heap, of which the ones from a floor on are kept.
+module _ (floor : ℕ) (items left : List Key) (k : ℕ) (within : k < length items)
+    (kept : (key : Key) → Contains (take k items) key → floor ≤ key.0.1 → Contains left key) (none_else : (key : Key) → Contains left key → Contains items key) where
+  abbrev pub looked : Key
+  looked = slice_index_or items k blank
+
+  cases : (key : Key) → Contains (take (k + 1) items) key → Contains (take k items) key ⊎ (looked ≡ key)
+  cases key has = let more : take (k + 1) items ≡ take k items ++ looked ∷ [] = take_more items k blank within in Contains-push_cases (take k items) looked key (rw more at has)
+
+  -- it is below the floor
+  pub key_dropped : looked.0.1 < floor → (key : Key) → Contains (take (k + 1) items) key → floor ≤ key.0.1 → Contains left key
+  key_dropped low key has up =
+      elim (cases key has) [
+        | inl front ↦ kept key front up
+        | inr is ↦ absurd (omega (arith, low, up, ap (λ (x : Key). x.0.1) is))
+      ]
+
+  -- it is kept
+  module _ (new : List Key) (moved : IsPermutation (looked ∷ left) new) where
+    pub key_kept : (key : Key) → Contains (take (k + 1) items) key → floor ≤ key.0.1 → Contains new key
+    key_kept key has up =
+        Contains-permutation (looked ∷ left) new key moved (elim (cases key has) [
+          | inl front ↦ Contains-append_right (looked ∷ []) left key (kept key front up)
+          | inr is ↦ subst (Contains (looked ∷ left)) is (0, omega arith, refl)
+        ])
+
+    pub none_new : (key : Key) → Contains new key → Contains items key
+    none_new key has =
+        elim (others_left looked new left (IsPermutation-sym (looked ∷ left) new moved) key has) [
+          | inl is ↦ subst (Contains items) is (k, within, get_or_default items k looked blank within)
+          | inr there ↦ none_else key there
+        ]
+
+-- labels go on with the keys of states in legs that aren't closed
+pub labels_open : (d : Database) (q : Request) (nodes : List Node) (P : List Link → State → Type 0) (goal : Goal) (labels : List Label) (old new : List Key)
+    → AreLabels d q nodes P goal labels old → IsOpenOf goal.floor old new → AreLabels d q nodes P goal labels new
+labels_open d q nodes P goal labels old new are left = record {
+  small = are.small;
+  bounds = are.bounds;
+  whole = are.whole;
+  many = are.many;
+  each = are.each;
+  ordered = left.ordered;
+  keyed = λ k e low.
+      let key = slice_index_or new k e in
+      All-contains (IsKey d q goal) old key are.keyed (left.only key (k, low, get_or_default new k key e low));
+  waiting = λ i ix behind some most. left.kept _ (are.waiting i ix behind some most) behind;
+}

@@ -241,6 +241,12 @@ pub record IsLeast (d : Database) (q : Request) (goal : Goal) (labels : List Lab
   pub others : (key : Key) → Contains old key → IsLive goal labels key
       → (key.0.1 ≡ i) ⊎ Contains new key
 
+-- the keys of states in legs that aren't closed are kept, and there are no others than before
+pub record IsOpenOf (floor : ℕ) (old new : List Key) : Type 0 where
+  pub ordered : IsHeap key_cmp new
+  pub kept : (key : Key) → Contains old key → floor ≤ key.0.1 → Contains new key
+  pub only : (key : Key) → Contains new key → Contains old key
+
 -- the label that a state has stays, since that which is offered ties in rank and is not before it
 pub record StaysAt (d : Database) (nodes : List Node) (i : ℕ) (label : Label)
     (old new : List Label) (old_keys new_keys : List Key) : Type 0 where

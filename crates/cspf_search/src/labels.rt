@@ -3,10 +3,11 @@ ghost use Rattle.std.specs.Prelude.{◌≡◌, ◌+◌, ◌*◌, ◌<◌, ◌≤
 ghost use Rattle.std.specs.BinaryHeap.{IsHeap, heap_items, heap_len};
 ghost use Rattle.cspf_db.specs.Index.{router_list};
 ghost use Rattle.cspf_search.specs.Arena.{AreNodes};
-ghost use Rattle.cspf_search.specs.Frontier.{lift, node_of, key_at, key_cmp, Gains, IsKey, IsLeast, IsLive, Key};
+ghost use Rattle.cspf_search.specs.Frontier.{lift, node_of, key_at, key_cmp, Gains, IsKey, IsLeast, IsLive, IsOpenOf, Key};
 
 use crate::arena::Node;
 use crate::goal::{Goal, lift};
+use crate::limits::ROOM_FOR_WAITING;
 use cspf_db::{Request, Table};
 use std::alloc::{AllocError, Global};
 use std::cmp::Reverse;
@@ -127,4 +128,23 @@ pub(crate) fn least(
         }
     }
     None
+}
+
+/// Lets go of what waits in a leg that is closed: those are the legs of the states below an index.
+pub(crate) fn drop_closed(
+    alloc: Global,
+    heap: &mut BinaryHeap<Waiting, Global>,
+    floor: usize,
+) -> Result<(), AllocError>
+    ensures left { OnOk result (IsOpenOf floor (heap_items heap.old) (heap_items heap.new)) }
+    ensures fewer { OnOk result (heap_len heap.new ≤ heap_len heap.old) }
+{
+    let mut left = BinaryHeap::with_capacity(alloc, ROOM_FOR_WAITING)?;
+    for key in heap.as_slice() {
+        if key.0.1 >= floor as u64 {
+            left.push(*key)?;
+        }
+    }
+    *heap = left;
+    Ok(())
 }

@@ -1,6 +1,6 @@
 ghost use Rattle.cspf_search.specs.Bounds.{bound_at};
 ghost use Rattle.cspf_search.specs.declared.limits.TheConstants.{MOST_ROUTE_LINKS, NO_WAY};
-ghost use Rattle.std.specs.Prelude.{◌≡◌, ◌+◌, ◌*◌, ◌<◌, ◌≤◌, ℕ, None, List, ◌∷◌, [], IfOk, IfSome, IfNone, length, nat_eq, true};
+ghost use Rattle.std.specs.Prelude.{◌≡◌, ◌+◌, ◌*◌, ◌<◌, ◌≤◌, ◌⊎◌, ℕ, None, List, ◌∷◌, [], IfOk, IfSome, IfNone, OnOk, length, nat_eq, true};
 ghost use Rattle.std.specs.List.{AllByRecursion, IsDistinct};
 ghost use Rattle.cspf_db.specs.declared.link.Link.{Link as Linked};
 ghost use Rattle.cspf_db.specs.Best.{HasEnds, IsBestAnswer};
@@ -9,7 +9,8 @@ ghost use Rattle.cspf_search.specs.Outcome.{answer_of};
 ghost use Rattle.cspf_search.specs.States.{end_state};
 ghost use Rattle.cspf_search.specs.Arena.{AreNodes, labels_of, root_of, walk_at, walks};
 ghost use Rattle.cspf_db.specs.Index.{links_of};
-ghost use Rattle.cspf_search.specs.Frontier.{AreListed, IsEnd};
+ghost use Rattle.cspf_search.specs.Frontier.{AreListed, IsEnd, IsOpenOf, IsRaised, key_cmp};
+ghost use Rattle.std.specs.BinaryHeap.{IsHeap, heap_items, heap_len};
 ghost use Rattle.cspf_search.specs.Query.{IsQuery, CrossesBefore};
 ghost use Rattle.cspf_search.specs.Routes.{AreLinked};
 ghost use Rattle.cspf_search.specs.Rounds.{IsFirst, IsFirstOf};
@@ -21,7 +22,7 @@ use crate::bounds::bounds;
 use crate::forward_star::star_of;
 use crate::frontier::expand;
 use crate::goal::Goal;
-use crate::labels::{OPEN, SETTLED, least, node_of};
+use crate::labels::{Label, OPEN, SETTLED, Waiting, drop_closed, least, node_of};
 use crate::limits::{NO_WAY, ROOM_FOR_NODES, ROOM_FOR_WAITING};
 use crate::query::Query;
 use crate::roles::{find_roles, raised};
@@ -124,6 +125,31 @@ fn is_shut(goal: Goal<'_>, at: usize) -> bool
     goal.bounds[at] == NO_WAY
 }
 
+/// The floor once the state at an index is settled, below which nothing waits any more.
+fn close(
+    alloc: Global,
+    query: Query<'_>,
+    labels: &[Label],
+    floor: usize,
+    at: usize,
+    heap: &mut BinaryHeap<Waiting, Global>,
+) -> Result<usize, AllocError>
+    requires query { IsQuery query }
+    requires within { at < length query.roles.now }
+    requires many { length labels.now ≡ length query.roles.now }
+    requires ordered { IsHeap key_cmp (heap_items heap.old) }
+    ensures floor { IfOk result (λ next. (next ≡ floor)
+        ⊎ IsRaised query.entry.table.now query.entry.roles.now labels.now at next) }
+    ensures left { IfOk result (λ next. IsOpenOf next (heap_items heap.old) (heap_items heap.new)) }
+    ensures fewer { OnOk result (heap_len heap.new ≤ heap_len heap.old) }
+{
+    let next = raised(query, labels, floor, at);
+    if next > floor {
+        drop_closed(alloc, heap, next)?;
+    }
+    Ok(next)
+}
+
 /// The same from a heap. Where the bounds say that there is no way from the head-end, that is all. The
 /// head-end and the tail-end are told by their index in the list of routers.
 fn reached(alloc: Global, query: Query<'_>, from: usize, to: usize) -> Result<Vec<Node>, AllocError>
@@ -155,7 +181,7 @@ fn reached(alloc: Global, query: Query<'_>, from: usize, to: usize) -> Result<Ve
         }
         labels[at] = SETTLED;
         expand(query, &nodes, &mut labels, &mut heap, goal, index, at)?;
-        goal.floor = raised(query, &labels, goal.floor, at);
+        goal.floor = close(alloc, query, &labels, goal.floor, at, &mut heap)?;
     }
     Ok(nodes)
 }

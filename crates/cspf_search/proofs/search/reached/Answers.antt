@@ -9,6 +9,7 @@ use Rattle.cspf_search.specs.Arena.{labels_of, root_of}
 use Rattle.cspf_search.specs.Bounds.{AreBounds}
 use Rattle.cspf_search.specs.Frontier.{AreLabels}
 use Rattle.cspf_search.proofs.Grown.{root_nodes, root_settled}
+use Rattle.cspf_search.proofs.Heaps.{labels_open}
 use Rattle.cspf_search.proofs.Popped.{first_labels}
 use Rattle.cspf_search.proofs.Reached.{IsAsked, taken, ended, no_start, first_floor, first_left, stepped, stepped_few, node_there, at_goal, settle, still_left, floor_on, labels_on}
 use Rattle.cspf_search.proofs.Slices.{written_back}
@@ -117,7 +118,7 @@ loop-at-smaller c =
     let node = c.node_of-node.result in
     let t = taken _ _ _ _ _ _ _ _ _ _ _ _ c.loop-at.invariant.asked c.loop-at.invariant.under_way (rw c.deref-in-loop-at.ensures.value at c.in-Some.ensures.some) _ c.index.ensures (rw c.deref-in-Some.ensures.value at c.node_of-node.ensures) in
     let new = stepped _ _ _ _ _ _ t.asked _ _ _ t.before _ _ t.least _ t.is in
-    rw c.in_ok-extend_from_slice.ensures.items (omega (arith, new.2, length_push nodes node, t.asked.count, c.in_ok-expand-2.ensures.few, c.in-Some.ensures.fewer))
+    rw c.in_ok-extend_from_slice.ensures.items (omega (arith, new.2, length_push nodes node, t.asked.count, c.in_ok-goal.ensures.fewer, c.in_ok-expand-2.ensures.few, c.in-Some.ensures.fewer))
 
 pub loop-at-preserved : goal.loop-at-preserved
 loop-at-preserved c =
@@ -132,7 +133,7 @@ loop-at-preserved c =
     written_back c.loop-at.labels.len c.expand-in-Some.new.labels c.deref_mut-in-Some.result.now (set c.loop-at.labels.items c.in-Some.at (record { rank = 0; parent = 0; place = 0; row = 0 }))
     c.expand-in-Some.auto.labels c.deref_mut-in-Some.ensures.value (c.loop-at.labels.ok.0 ∙ sym (length-set c.loop-at.labels.items c.in-Some.at (record { rank = 0; parent = 0; place = 0; row = 0 }))) in
     let told = c.requires.query.roles in
-    let choice = rw c.deref-in-Some-3.ensures.value at c.raised.ensures in
+    let choice = rw c.deref-in-Some-3.ensures.value at c.in_ok-goal.ensures.floor in
     let on : AreLabels c.args.query.table.now c.args.query.request.now (c.loop-at.nodes.items ++ (c.node_of-node.result ∷ []))
     (CrossesBelow c.args.query.table.now c.args.query.request.now (c.loop-at.nodes.items ++ (c.node_of-node.result ∷ [])) (links_of c.args.query.table.now) (length (c.loop-at.nodes.items ++ (c.node_of-node.result ∷ []))))
     c.loop-at.goal (with_items (with_item c.loop-at.labels c.in-Some.at (record { rank = 0; parent = 0; place = 0; row = 0 })) c.expand-in-Some.new.labels).items (heap_items c.expand-in-Some.new.heap) =
@@ -155,13 +156,15 @@ loop-at-preserved c =
         settled = new.1;
         left = still_left _ _ _ _ _ _ t.asked _ _ _ t.before _ _ t.least _ t.is c.if-at-goal.false;
         floor =
-            floor_on _ _ _ _ _ _ t.asked _ _ _ t.before _ _ t.least _ t.is c.args.query.roles.now told c.raised.result (CrossesBelow d c.args.query.request.now (nodes ++ (node ∷ [])) (links_of d) (length (nodes ++ (node ∷ []))))
+            floor_on _ _ _ _ _ _ t.asked _ _ _ t.before _ _ t.least _ t.is c.args.query.roles.now told c.in_ok-goal.field-0 (CrossesBelow d c.args.query.request.now (nodes ++ (node ∷ [])) (links_of d) (length (nodes ++ (node ∷ []))))
             (with_items (with_item c.loop-at.labels c.in-Some.at (record { rank = 0; parent = 0; place = 0; row = 0 })) c.expand-in-Some.new.labels).items (heap_items c.expand-in-Some.new.heap)
             on c.if-at-goal.false choice;
         labelled =
-            labels_on _ _ _ _ _ _ t.asked _ _ _ t.before _ _ t.least _ t.is c.args.query.roles.now told c.raised.result (CrossesBelow d c.args.query.request.now (nodes ++ (node ∷ [])) (links_of d) (length (nodes ++ (node ∷ []))))
+            labels_open _ _ _ _ _ _ _ _
+            (labels_on _ _ _ _ _ _ t.asked _ _ _ t.before _ _ t.least _ t.is c.args.query.roles.now told c.in_ok-goal.field-0 (CrossesBelow d c.args.query.request.now (nodes ++ (node ∷ [])) (links_of d) (length (nodes ++ (node ∷ []))))
             (with_items (with_item c.loop-at.labels c.in-Some.at (record { rank = 0; parent = 0; place = 0; row = 0 })) c.expand-in-Some.new.labels).items (heap_items c.expand-in-Some.new.heap)
-            on choice;
+            on choice)
+            c.in_ok-goal.ensures.left;
       };
     })
 
