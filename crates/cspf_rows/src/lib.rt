@@ -9,6 +9,7 @@
 //!
 //! `specs/BatchText.antt` defines the text of a batch, `specs/Journal.antt` which batches the records
 //! of a journal are, and `specs/Requests.antt` which requests the records of a stream ask for.
+//! `specs/GivenBatches.antt` defines what a reader of a journal has given of its batches, and
 //! `specs/JournalLaws.antt` has the laws of journals.
 #![tactic(auto)]
 
