@@ -44,14 +44,15 @@ typedef struct {
 enum {
     /* It did what it says. */
     ROUTED_ANSWERED = 0,
-    /* Memory was refused. The session is closed and its memory free, and the call has no lines. */
+    /* Memory was refused. The session is closed and its memory free, and the call has no lines.
+     * `*size` may have been written and means nothing. */
     ROUTED_MEMORY = 1,
-    /* The handle holds no session. Nothing was done. */
+    /* The handle held no session and holds none. What `*size` then is isn't said. */
     ROUTED_CLOSED = 2
 };
 
 /* Opens a session: version 0, the empty database, no open changes, and no row was given. A session
- * that the handle held is closed first. ROUTED_ANSWERED or ROUTED_MEMORY. */
+ * that the handle held is closed, with either code. ROUTED_ANSWERED or ROUTED_MEMORY. */
 uint32_t routed_open(routed_handle *handle);
 
 /* Gives rows to the session. The bytes are read as `routed solve` reads a stream of its own: no, one
@@ -66,12 +67,13 @@ uint32_t routed_open(routed_handle *handle);
 uint32_t routed_rows(routed_handle *handle, const uint8_t *rows, size_t length, size_t *size);
 
 /* Lets the session hold the last line of `routed solve`, in place of the lines before, were there no
- * more rows: `unended N` where changes are open, `too many rows`, or none. `*size` is how many bytes
- * it has. The session stays as it is, and may be given more rows. */
+ * more rows: `unended N` where changes are open, `too many rows`, or none. Where it answers
+ * ROUTED_ANSWERED `*size` is how many bytes that line has, and the session may be given more rows. */
 uint32_t routed_end(routed_handle *handle, size_t *size);
 
 /* Copies the lines that the session holds to the front of the buffer, at most `room` bytes of them,
- * and answers how many it copied: 0 where no session is open. The session holds them still. */
+ * and answers how many it copied: 0 where no session is open. The rest of the buffer stays as it was,
+ * and the session holds the lines still. */
 size_t routed_lines(routed_handle *handle, uint8_t *buffer, size_t room);
 
 /* Closes the session that the handle holds, if any, and frees all its memory. */
