@@ -1,4 +1,5 @@
 """The OSPF API of a router (FRR's `ospfd -a`): one connection for requests and one, which the router makes, for events."""
+import contextlib
 import random
 import socket
 import struct
@@ -14,6 +15,17 @@ PATIENCE = 2  # seconds for a connection to come about
 
 class ApiError(Exception):
     """Why the connection can't go on."""
+
+
+@contextlib.contextmanager
+def naming(what=""):
+    """Says why the system refuses something."""
+    try:
+        yield
+    except OSError as fault:
+        raise ApiError(f"{what}{fault.strerror or fault}") from None
+    except UnicodeError:
+        raise ApiError("no name of a host") from None
 
 
 def pair_of_sockets(address):
@@ -45,17 +57,21 @@ class Api:
 
     def __init__(self, router, port):
         self.sockets, self.unread = [], {}
-        asking, listening = pair_of_sockets(address_towards(router, port))
+        with naming():
+            asking, listening = pair_of_sockets(address_towards(router, port))
         self.sockets = [asking]
         try:
-            asking.connect((router, port))
-            hearing, peer = listening.accept()
+            with naming():
+                asking.connect((router, port))
+            with naming(f"it doesn't connect back to port {listening.getsockname()[1]}: "):
+                hearing, peer = listening.accept()
             self.sockets.append(hearing)
-            if peer[0] != asking.getpeername()[0]:
-                raise ApiError(f"{peer[0]} connected back, and not the router")
-            for number, kind in enumerate((REGISTER_EVENT, SYNC_LSDB), 1):
-                asking.sendall(HEADER.pack(VERSION, kind, len(FILTER), number) + FILTER)
-        except (OSError, ApiError):
+            with naming():
+                if peer[0] != asking.getpeername()[0]:
+                    raise ApiError(f"{peer[0]} connected back, and not the router")
+                for number, kind in enumerate((REGISTER_EVENT, SYNC_LSDB), 1):
+                    asking.sendall(HEADER.pack(VERSION, kind, len(FILTER), number) + FILTER)
+        except ApiError:
             self.close()
             raise
         finally:
@@ -68,7 +84,8 @@ class Api:
 
     def messages(self, made):
         """The whole messages that one of the sockets has: the kind and the body of each."""
-        data = made.recv(1 << 16)
+        with naming():
+            data = made.recv(1 << 16)
         if not data:
             raise ApiError("the router closed the connection")
         data, found = self.unread[made] + data, []

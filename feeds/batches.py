@@ -3,6 +3,10 @@ import re
 from lsas import rank
 
 MOST = 4096  # changes in a batch
+MOST_VAIN = 8  # refusals in a row from which nothing followed
+REFUSED_ROW = re.compile(r"row \d+ refused: .+")
+OTHERS = "another program has published, and the feed has to be the only one: end that program, and start the feed again"
+UNKNOWN = "the program's database isn't the one that the feed began with: start the feed again"
 
 
 class Ended(Exception):
@@ -23,6 +27,14 @@ def is_removal(change):
     return change == removal_of(key_of(change))
 
 
+def apply(change, given):
+    """Changes rows by key as the program changes its database."""
+    if is_removal(change):
+        given.pop(key_of(change), None)
+    else:
+        given[key_of(change)] = change
+
+
 def named(change):
     """The change without its figures: its word, the router and the local address, or what a mark is."""
     return " ".join(change.split(",")[:3])
@@ -31,15 +43,13 @@ def named(change):
 class Batches:
     """One batch at a time: the next is written once the line of the last has come."""
 
-    def __init__(self, say):
+    def __init__(self, say, given, version):
         self.say = say
-        self.given = {}  # rows by key: the links and marks that the program has
+        self.given, self.version = given, version  # rows by key: the links and marks that the program has at its version
         self.barred = {}  # rows by key: those that it refused
-        self.version = 0
         self.sent = []  # the changes of the batch whose line hasn't come
-        self.number = 0  # of that batch
-        self.rows = 0  # that the program was sent
-        self.first = 0  # the number of the first row of the batch that was sent
+        self.before, self.behind = 0, 0  # asks whose lines haven't come: sent before that batch, and behind it
+        self.row = ""  # the last line by which a row of that batch was refused
         self.size = MOST
         self.is_cut = False  # whether there is more to do than that batch
         self.vain = 0  # refusals in a row from which nothing followed
@@ -56,92 +66,73 @@ class Batches:
         puts = [key for key, row in wanted.items() if self.given.get(key) != row]
         changes = [removal_of(key) for key in sorted(gone, key=rank)]
         changes += [wanted[key] for key in sorted(puts, key=rank)]
-        self.sent, self.is_cut = changes[:self.size], len(changes) > self.size
-        if not self.sent:
-            return ""
-        self.number, self.first = self.version + 1, self.rows + 1
-        self.rows += len(self.sent) + 1
-        return "\n".join([*self.sent, f"end,{self.number},{len(self.sent)}\n"])
+        self.sent, self.is_cut, self.row = changes[:self.size], len(changes) > self.size, ""
+        return "\n".join([*self.sent, f"end,{self.version + 1},{len(self.sent)}\n"]) if self.sent else ""
+
+    def ask(self):
+        """Counts an ask row that was sent. Its line comes in its turn."""
+        if self.sent:
+            self.behind += 1
+        else:
+            self.before += 1
 
     def read(self, line):
         """Takes a line of the program; whether it was about batches and their rows."""
-        found = re.fullmatch(r"(version|batch|row) (\d+)(?: refused: (.+))?", line)
         if line == "too many rows":
             raise Ended("the program takes no more rows")
-        if not found or (found[1] == "version") != (found[3] is None):
+        is_row = REFUSED_ROW.fullmatch(line)
+        if re.match(r"ask \d+ v", line) or is_row and (self.before or not self.sent):
+            self.before = max(0, self.before - 1)
             return False
-        number = int(found[2])
-        if found[1] == "row":
-            return self.row_refused(line, number)
-        is_own = self.sent and number == self.number
-        if found[1] == "version":
-            self.version = number
-            if is_own:
-                self.accepted()
-        elif is_own:
+        if is_row:
+            self.row = line
+            return True
+        found = re.fullmatch(r"version (\d+)|batch (\d+) refused: (.+)", line)
+        if not found:
+            return False
+        if not self.sent or int(found[1] or found[2]) != self.version + 1:
+            raise Ended(f"{line}: {OTHERS}")
+        self.before, self.behind = self.behind, 0
+        if found[1]:
+            self.accepted(line)
+        else:
             self.refused(line, found[3].split())
-        return bool(is_own)
-
-    def accepted(self):
-        for change in self.sent:
-            if is_removal(change):
-                self.given.pop(key_of(change), None)
-                self.is_cut |= bool(self.barred)
-                self.barred.clear()  # there is room again
-            else:
-                self.given[key_of(change)] = change
-        self.version, self.sent, self.vain = self.number, [], 0
-        self.size = min(MOST, 2 * self.size)
-
-    def row_refused(self, line, number):
-        """The change that a refused row was, which the batch then lacks."""
-        place = number - self.first
-        if not 0 <= place < len(self.sent):
-            return False
-        self.bar(self.sent[place], line)
         return True
 
+    def accepted(self, line):
+        if self.row:  # a change that was left open made up for it
+            raise Ended(f"{self.row}, and then {line}: {UNKNOWN}")
+        for change in self.sent:
+            apply(change, self.given)
+        if any(map(is_removal, self.sent)):  # there is room again
+            self.is_cut |= bool(self.barred)
+            self.barred.clear()
+        self.version, self.sent, self.vain = self.version + 1, [], 0
+        self.size = min(MOST, 2 * self.size)
+
     def refused(self, line, why):
-        """Goes on with what can be put: without the change that was at fault, or in smaller batches until it is known."""
+        """Goes on with what can be put: in smaller batches, until the change that is at fault is the only one of its batch."""
         changes, self.sent, self.is_cut = self.sent, [], True
-        place = int(why[1]) if len(why) > 1 else 0
-        at_fault = changes[place - 1] if why[0] in ("absent", "duplicate") and 0 < place <= len(changes) else None
-        self.vain += 1
         if why[0] in ("exhausted", "journal", "stopped"):  # no batch is taken any more
             raise Ended(line)
-        if at_fault and at_fault.startswith("drop,"):
-            self.given.pop(key_of(at_fault), None)
+        if why[0] in ("expected", "absent"):
+            raise Ended(f"{line}: {OTHERS if why[0] == 'expected' else UNKNOWN}")
+        self.vain += 1
+        if why[0] == "counted" and not self.row:
+            self.say(f"{line}: changes were left open, which are dropped with this batch; trying again")
+        elif len(changes) > 1:
+            self.size, self.vain = len(changes) // 2, 0
+        elif not is_removal(changes[0]):  # it is left out until the link changes, or another is dropped
+            self.say(f"{self.row or line}: {named(changes[0])} is left out")
+            self.barred[key_of(changes[0])] = changes[0]
             self.vain = 0
-            self.say(f"{line}: {named(at_fault)}: the program doesn't have it")
-        elif at_fault:
-            self.bar(at_fault, line)
-        elif why[0] == "expected":
-            more = "" if self.given else "; what it has and is gone meanwhile stays there"  # of an earlier feed
-            self.version = place - 1
-            self.say(f"{line}: going on from version {self.version}{more}")
-        elif why[0] == "counted":
-            self.say(f"{line}: trying again without the rows that were refused")
-        elif len(changes) == 1:
-            self.bar(changes[0], line)
-        else:
-            self.size = len(changes) // 2
-            self.vain = 0
-        if self.vain > 8:
-            raise Ended(f"{line}: for the {self.vain}th time in a row")
-
-    def bar(self, change, line):
-        """Leaves the change out until the link changes, or another is dropped."""
-        self.say(f"{line}: {named(change)} is left out")
-        if not is_removal(change):
-            self.barred[key_of(change)] = change
-        else:
-            self.given.pop(key_of(change), None)
-        self.vain = 0
+        if self.vain > MOST_VAIN:
+            raise Ended(f"{line}: {named(changes[0])}: for the {self.vain}th time in a row")
 
 
 def journal(rows):
     """The rows as the batches of a journal from nothing."""
-    batches = Batches(None)
+    batches = Batches(None, {}, 0)
     while text := batches.next(rows):
         yield text
-        batches.accepted()
+        batches.accepted("")

@@ -67,12 +67,14 @@ class Chain:
             self.known.append(float(line))
 
     def take_rows(self):
-        """Passes the feed's batches to the program, each in one write."""
+        """Passes the feed's asks and batches to the program, each in one write."""
         text = b""
         for row in self.feed.stdout:
             text += row
-            if row.startswith(b"end,"):
-                self.batches[int(row.split(b",")[1])] = time.monotonic()
+            fields = row.split(b",")
+            if fields[0] == b"end":
+                self.batches[int(fields[1])] = time.monotonic()
+            if fields[0] in (b"ask", b"end"):
                 put(self.program.stdin, text)
                 text = b""
         with contextlib.suppress(OSError):

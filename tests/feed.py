@@ -4,6 +4,7 @@ However slow the machine is, the same comes of them: the feed goes by a clock th
 read all that it was sent and has nothing more to do. Where the real program is beside it, the clock is the real one,
 and what has to come is waited for.
 """
+import contextlib
 import os
 import re
 import runpy
@@ -13,11 +14,13 @@ import socket
 import struct
 import subprocess
 import sys
+import tempfile
 import time
 
 HERE = os.path.dirname(os.path.abspath(__file__))
 TOP = os.path.dirname(HERE)
 FEED = os.path.join(TOP, "feeds/ospf")
+LISTEN = os.path.join(TOP, "tools/listen")
 NAN, INFINITE = float("nan"), float("inf")
 A, B, C = "1.1.1.1", "2.2.2.2", "3.3.3.3"
 A_B, B_A = "10.0.0.0", "10.0.0.1"  # addresses of the circuit between A and B; the first ends in .0
@@ -26,6 +29,7 @@ PATIENCE = 120  # real seconds that a test waits for what has to come
 COLLECT = 0.2  # seconds that the feed collects changes for
 QUIET = 3 * COLLECT  # seconds in which nothing may come
 LATE = 10.0  # seconds of the test's clock by which what has to come is there
+HOLD = 20.0  # seconds that the feed holds links by default
 NOON = 1000.0  # what the test's clock shows first
 REPORT = struct.Struct("dQ")  # the time, and the bytes that were read by then
 
@@ -84,8 +88,8 @@ PAIR_ROWS = [row(A, A_B, B, B_A), row(B, B_A, A, A_B)]
 class Router:
     """An OSPF API: takes a connection, connects back, and sends what it is told."""
 
-    def __init__(self):
-        self.listening = socket.create_server(("127.0.0.1", 0))
+    def __init__(self, port=0):
+        self.listening = socket.create_server(("127.0.0.1", port))
         self.listening.settimeout(PATIENCE)
         self.port = self.listening.getsockname()[1]
         self.sent = 0  # bytes; the end of a connection counts as one
@@ -153,9 +157,10 @@ def played(clock, reports, *words):
 
 
 class Feed:
-    """A feed at work, whose program is the test, or a command; then it goes by the real clock."""
+    """A feed at work, whose program is the test, or a command; then it goes by the real clock. The program is at a version,
+    and at a greater one than 0 it answers what the feed asks next by the lines that are told."""
 
-    def __init__(self, router, *words, command=()):
+    def __init__(self, router, *words, command=(), version=0, told=(), is_accepted=True):
         ends = ("-1", "-1")
         self.is_real = bool(command)
         if not self.is_real:
@@ -171,11 +176,34 @@ class Feed:
         if not self.is_real:
             os.close(clock)
             os.close(reports)
-        router.accept()
+            if "--once" not in words:
+                self.begin(version, told)
+        if is_accepted:
+            router.accept()
 
     def __del__(self):
         for end in () if self.is_real else (self.clock, self.reports):
             os.close(end)
+
+    def begin(self, version, told):
+        """Answers the feed's first rows: at which version the program is, and what is there."""
+        asked = re.fullmatch(r"ask,(\d+),0\.0\.0\.0,0\.0\.0\.1,0,0,0x0,0x0,0x0,", first := self.line() or "")
+        if not asked:
+            raise AssertionError(f"the feed doesn't ask for the version at first: {first}")
+        if version is None:
+            return
+        self.say(f"version 9\nask 9 v9 none\nbatch 3 refused: expected 9\nrow 9 refused: kind\nask {asked[1]} v{version} unknown-from")
+        if version and (row := self.line()) != "snapshot":
+            raise AssertionError(f"the feed doesn't ask what is there: {row}")
+        for line in told:
+            self.say(line)
+
+    def ended(self):
+        """The status of a feed that ends by itself, what it wrote since, and what it said."""
+        status = self.process.wait(PATIENCE)
+        while self.hear(0):
+            pass
+        return status, self.unread.decode(), self.said.decode()
 
     def hear(self, patience=PATIENCE):
         """Takes what the feed wrote, once there is something; whether there was."""
@@ -483,10 +511,9 @@ def anew(checks):
     checks.true("nothing is dropped at first", feed.is_quiet())
     router.send(update(*ROUTERS, te_lsa(A, A_B, B, B_A, metric=9)))
     checks.same("what is there again is put as it is", feed.batch(), ([row(A, A_B, B, B_A, metric=9)], 2))
-    found = feed.batch()
-    took = feed.at - back
-    checks.same("what doesn't come back is dropped", found, ([f"drop,{B},{B_A}"], 3))
-    checks.true("when it was held for its time since the last came back", 2.4 < took < 5, f"{took:.2f} s")
+    checks.true("what doesn't come back is held", feed.line(back + 2 - 0.01 - feed.at) is None)
+    checks.same("until that time is over", feed.line(0.02), f"drop,{B},{B_A}")
+    checks.same("and then dropped", (feed.line(), feed.say("version 3")), ("end,3,1", None))
     router.send(removal(te_lsa(A, A_B, B, B_A, metric=9)))
     checks.same("after that nothing is held", feed.batch(), ([f"drop,{A},{A_B}"], 4))
     router.send(PAIR)
@@ -520,15 +547,9 @@ def refusals(checks):
     checks.same("a batch", first, [*rows, "end,1,4"])
     checks.true("is the only one before its line comes", feed.is_quiet())
     feed.say("version 1")
-    checks.same("then comes the next", feed.batch("batch 2 refused: expected 6"), ([row(A, A_B, B, B_A, metric=8)], 2))
-    checks.same("with the number that is expected", feed.batch(), ([row(A, A_B, B, B_A, metric=8)], 6))
-    router.send(removal(te_lsa(B, B_A, A, A_B), te_lsa(C, C_B, B, B_C)))
-    gone = [f"drop,{B},{B_A}", f"drop,{C},{C_B}"]
-    checks.same("drops", feed.batch("batch 7 refused: absent 2"), (gone, 7))
-    checks.same("without the one that was at fault", feed.batch(), (gone[:1], 7))
+    checks.same("then comes the next", feed.batch(), ([row(A, A_B, B, B_A, metric=8)], 2))
     checks.true("and nothing more", feed.is_quiet())
-    checks.same("what is said", feed.end(), "ospf: batch 2 refused: expected 6: going on from version 5\n"
-                f"ospf: batch 7 refused: absent 2: drop {C} {C_B}: the program doesn't have it\n")
+    checks.same("nothing is said of it", feed.end(), "")
 
     _, feed = begun()
     batches = [feed.batch(answer)[0] for answer in ("batch 1 refused: full", "batch 1 refused: full", "batch 1 refused: full",
@@ -537,19 +558,381 @@ def refusals(checks):
     checks.true("which isn't tried again", feed.is_quiet())
     checks.same("and is said", feed.end(), f"ospf: batch 1 refused: full: put {A} {A_B} is left out\n")
 
-    router, feed = begun()
-    feed.batch("row 2 refused: number 6\nbatch 1 refused: counted 3")
-    checks.same("a row that is refused is left out", feed.batch(), ([rows[0], *rows[2:]], 1))
-    router.send(removal(te_lsa(A, A_B, B, B_A)))
-    checks.same("a drop", feed.batch()[0], [f"drop,{A},{A_B}"])
-    checks.same("after which it is tried again", feed.batch()[0], rows[1:2])
-    checks.true("what is said of it", f"ospf: row 2 refused: number 6: put {B} {B_A} is left out\n" in feed.end())
+    for first in (0, 4711):  # rows of earlier feeds count, too, where the program outlives them
+        router, feed = begun()
+        batches = [feed.batch(answer)[0] for answer in (
+            f"row {first + 2} refused: number 6\nbatch 1 refused: counted 3", f"row {first + 7} refused: number 6\nbatch 1 refused: counted 1",
+            "version 1", f"row {first + 11} refused: number 6\nbatch 2 refused: counted 1",
+            f"row {first + 14} refused: number 6\nbatch 2 refused: counted 0", "version 2", "version 3")]
+        checks.same("halves until it is known which row is refused", batches,
+                    [rows, rows[:2], rows[:1], rows[1:3], rows[1:2], rows[2:3], rows[3:]])
+        checks.true("which is left out", feed.is_quiet())
+        router.send(removal(te_lsa(A, A_B, B, B_A)))
+        checks.same("a drop", feed.batch()[0], [f"drop,{A},{A_B}"])
+        checks.same("after which it is tried again", feed.batch()[0], rows[1:2])
+        checks.same("what is said of it", feed.end(), f"ospf: row {first + 14} refused: number 6: put {B} {B_A} is left out\n")
 
-    for answer in ("batch 1 refused: exhausted", "too many rows"):
-        _, feed = begun()
+    _, feed = begun()
+    checks.same("changes that were left open", [feed.batch("batch 1 refused: counted 6"), feed.batch()], [(rows, 1)] * 2)
+    checks.same("are gone with the refused batch", (feed.is_quiet(), feed.end()),
+                (True, "ospf: batch 1 refused: counted 6: changes were left open, which are dropped with this batch; trying again\n"))
+
+    router, feed = begun()
+    feed.batch()
+    router.send(removal(te_lsa(A, A_B, B, B_A)))
+    drops = [feed.batch("batch 2 refused: memory") for _ in range(9)]
+    checks.same("a drop that is refused is tried again", drops, [([f"drop,{A},{A_B}"], 2)] * 9)
+    checks.same("and is never left out", feed.ended(), (1, "", f"ospf: batch 2 refused: memory: drop {A} {A_B}: for the 9th time in a row\n"))
+
+    others = "another program has published, and the feed has to be the only one: end that program, and start the feed again"
+    unknown = "the program's database isn't the one that the feed began with: start the feed again"
+    for answer, said in [("batch 1 refused: exhausted", ""), ("batch 1 refused: expected 4", others), ("batch 1 refused: expected 1", others),
+                         ("version 2", others), ("batch 2 refused: long", others), ("batch 1 refused: absent 2", unknown)]:
+        router, feed = begun()
         feed.batch(answer)
-        status = feed.process.wait(PATIENCE)
-        checks.true(f"{answer} ends the feed", status == 1 and len(feed.end().splitlines()) == 1)
+        checks.same(f"{answer} ends the feed", feed.ended(), (1, "", f"ospf: {answer}{said and ': '}{said}\n"))
+    for answer, said in [("too many rows", "the program takes no more rows"), ("version 1\nversion 2", f"version 2: {others}"),
+                         ("row 9 refused: kind\nversion 1", f"row 9 refused: kind, and then version 1: {unknown}")]:
+        router, feed = begun()
+        feed.batch(answer)
+        checks.same(f"{answer!r} ends the feed", feed.ended(), (1, "", f"ospf: {said}\n"))
+
+
+# ---- a feed that comes to a program which has a database
+
+
+CHAIN_ROUTERS = router_lsa(A, (B, A_B, 1)), router_lsa(B, (A, B_A, 1), (C, B_C, 1)), router_lsa(C, (B, C_B, 1))
+CHAIN_LINKS = te_lsa(A, A_B, B, B_A), te_lsa(B, B_A, A, A_B), te_lsa(B, B_C, C, C_B, number="1.0.0.3"), te_lsa(C, C_B, B, B_C)
+CHAIN = update(*CHAIN_ROUTERS, *CHAIN_LINKS)
+CHAIN_ROWS = [*PAIR_ROWS, row(B, B_C, C, C_B), row(C, C_B, B, B_C)]
+BROKEN = update(CHAIN_ROUTERS[0], router_lsa(B, (A, B_A, 1), sequence=2), router_lsa(C, sequence=2), *CHAIN_LINKS)  # without the circuit B-C
+BROKEN_DROPS = [f"drop,{B},{B_C}", f"drop,{C},{C_B}"]
+
+
+def snapshot(version, rows):
+    """What `tools/listen` answers to the row `snapshot`."""
+    parts = [rows[first:first + 4096] for first in range(0, len(rows), 4096)]
+    batches = [line for number, part in enumerate(parts, 1) for line in (*part, f"end,{number},{len(part)}")]
+    return [f"version {version}", *batches, "snapshot end"]
+
+
+def going_on(version, links, marks=0, hold=HOLD):
+    return (f"ospf: going on from version {version}, of {links} links and {marks} marks; "
+            f"what the router doesn't tell of within {hold:g} s is dropped\n")
+
+
+def restarted(checks):
+    """A feed that is killed, and one that comes to what it left behind: what went meanwhile is dropped in time."""
+    router = Router()
+    feed = Feed(router)
+    router.send(CHAIN)
+    checks.same("a feed that will be killed", feed.batch(), (CHAIN_ROWS, 1))
+    feed.process.kill()
+    feed.process.wait()
+    router.hang_up()
+    feed = Feed(router, version=1, told=snapshot(1, CHAIN_ROWS))
+    begun = feed.at
+    router.send(BROKEN)
+    checks.true("a circuit that went meanwhile is held at first", feed.line(HOLD - 0.01) is None)
+    drops = feed.batch()
+    checks.same("and dropped when the hold is over", (drops, feed.at <= begun + HOLD + 0.2), ((BROKEN_DROPS, 2), True))
+    router.send(CHAIN)
+    checks.same("it goes on as ever", feed.batch(), (CHAIN_ROWS[2:], 3))
+    checks.same("what is said of it", feed.end(), going_on(1, 4))
+    router.hang_up()
+
+    feed = Feed(router, "--hold", "3", version=7, told=snapshot(7, CHAIN_ROWS))
+    begun = feed.at
+    router.send(PAIR + update(te_lsa(A, A_B, B, B_A, metric=9, sequence=2)))
+    checks.same("what changed meanwhile is put at once", feed.batch(), ([row(A, A_B, B, B_A, metric=9)], 8))
+    feed.waits(begun + 2.9 - feed.at)
+    router.send(update(te_lsa(B, B_A, A, A_B, metric=8, sequence=2)))
+    checks.same("drops come first", feed.batch(), ([*BROKEN_DROPS, row(B, B_A, A, A_B, metric=8)], 9))
+    feed.end()
+    router.hang_up()
+
+    feed = Feed(router, "--hold", "0", version=7, told=snapshot(7, CHAIN_ROWS))
+    router.send(CHAIN)
+    checks.same("without a hold all that isn't told yet is dropped", [*sorted(feed.rest())],
+                sorted([f"drop,{A},{A_B}", f"drop,{B},{B_A}", *BROKEN_DROPS, *CHAIN_ROWS]))
+    feed.end()
+    router.hang_up()
+
+    feed = Feed(router, version=3, told=snapshot(3, []))
+    router.send(CHAIN)
+    checks.same("a program whose links are all gone", feed.batch(), (CHAIN_ROWS, 4))
+    feed.end()
+    router.hang_up()
+
+    marked, stub = f"node,{A},0", router_lsa(A, (B, A_B, 65535), sequence=2)
+    for name, play, wanted in [("that is gone meanwhile", PAIR, [f"node,{A},1"]), ("that is still there", PAIR + update(stub), [])]:
+        feed = Feed(router, "--hold", "3", version=2, told=snapshot(2, [*PAIR_ROWS, marked]))
+        router.send(play)
+        checks.true(f"a mark {name} is held", feed.line(3 - 0.01) is None)
+        checks.same(f"a mark {name}", (feed.rest(), feed.end()), (wanted, going_on(2, 2, 1, 3)))
+        router.hang_up()
+
+    rows = [row(A, f"12.{n >> 8}.{n & 255}.1", B, f"12.{n >> 8}.{n & 255}.2") for n in range(5000)]
+    feed = Feed(router, "--hold", "3", version=2, told=snapshot(2, rows))
+    begun = feed.at
+    router.send(CHAIN)
+    checks.same("what is there is put beside a database of two batches", feed.batch(), (CHAIN_ROWS, 3))
+    feed.waits(begun + 3 - feed.at)
+    drops = [",".join(["drop", *each.split(",")[1:3]]) for each in rows]
+    checks.same("whose links go in two batches", (feed.batch(), feed.batch(), feed.at), ((drops[:4096], 4), (drops[4096:], 5), begun + 3))
+    checks.same("and no more", (feed.is_quiet(), feed.end()), (True, going_on(2, 5000, 0, 3)))
+    router.hang_up()
+
+
+def trickle(checks):
+    """Links that come back one by one, and events without rest, hold nothing for longer."""
+    names = [f"10.7.0.{n}" for n in range(8)]
+    rows = [row(A, name, B, name.replace("7", "8")) for name in names]
+    links = [te_lsa(A, name, B, name.replace("7", "8"), number=f"1.0.0.{n}") for n, name in enumerate(names)]
+    routers = (router_lsa(A, *[(B, name, 1) for name in names]), router_lsa(B, *[(A, name.replace("7", "8"), 1) for name in names]))
+    for name in ("restarted", "lost"):
+        router = Router()
+        if name == "lost":
+            feed = Feed(router, "--hold", "4")
+            router.send(update(*routers, *links))
+            feed.batch()
+            router.hang_up()
+            feed.again()
+        else:
+            feed = Feed(router, "--hold", "4", version=1, told=snapshot(1, rows))
+        begun, number = feed.at, 0
+        router.send(update(*routers))
+        while number < len(links) - 1 and feed.line(0.5) is None:
+            router.send(update(links[number]))
+            number += 1
+        checks.same(f"{name}: while links come back nothing is dropped", (number, feed.unread), (7, b""))
+        checks.true(f"{name}: nor before the time is over", feed.line(begun + 4 - 0.01 - feed.at) is None)
+        checks.same(f"{name}: one that doesn't come back is dropped then", feed.line(0.02), f"drop,{A},{names[-1]}")
+        feed.end()
+        router.hang_up()
+    router = Router()
+    feed = Feed(router, "--hold", "2", version=1, told=snapshot(1, rows))
+    begun = feed.at
+    router.send(update(*routers, *links[:-1]))
+    while (line := feed.line(0.004)) is None and feed.at < begun + 5:
+        router.send(update(links[0]) + removal(links[0]) + update(links[0]))
+    took = feed.at - begun
+    checks.true("a router that never rests", line == f"drop,{A},{names[-1]}" and took < 2 + 0.01, f"{line} after {took:.3f} s")
+    feed.end()
+
+
+def unreached(checks):
+    """A feed that comes to a program with a database, whose router is gone: what is there stays, and the hold begins with the router."""
+    router = Router()
+    router.listening.close()
+    feed = Feed(router, "--hold", "3", version=1, told=snapshot(1, CHAIN_ROWS), is_accepted=False)
+    checks.true("nothing is dropped", feed.line(60) is None)
+    router = feed.router = Router(router.port)
+    feed.told += router.sent
+    feed.again()
+    begun = feed.at
+    router.send(BROKEN)
+    checks.true("what it doesn't tell of is held", feed.line(begun + 3 - 0.01 - feed.at) is None)
+    checks.same("and dropped", feed.batch(), (BROKEN_DROPS, 2))
+    checks.same("what is said", feed.end(), going_on(1, 4, 0, 3) +
+                f"ospf: no connection to 127.0.0.1 port {router.port}: Connection refused; what was put stays\n"
+                "ospf: connected again; links that were there are held for 3 s\n")
+
+
+def not_begun(checks):
+    """Programs of which the feed doesn't learn what they have: it ends, and has written nothing."""
+    def ended(version, *told, words=()):
+        feed = Feed(router, *words, version=version, told=told, is_accepted=False)
+        if not told:
+            feed.process.stdin.close()
+        return feed.ended()
+
+    router, pipes = Router(), "ospf: standard input and output: "
+    unknown = f"{pipes}it is at version 7, and its database isn't known"
+    checks.same("no front and no journal", ended(7, "row 2 refused: kind"),
+                (1, "", f"{unknown}: give --journal FILE, the journal of its run, or start the program again, too\n"))
+    for line in ("snapshot refused: too many rows", "snapshot refused: No such file", "version 8", "snapshot end", "row 2 refused: fields"):
+        checks.same(f"no database: {line}", ended(7, line), (1, "", f"{unknown}, for it answered: {line}\n"))
+    whole = snapshot(7, CHAIN_ROWS)
+    for name, lines, bad in [("a batch without its end", [*whole[:-2], whole[-1]], whole[1]),
+                             ("a row that is none", [*whole[:3], "put,1", *whole[3:]], whole[1]),
+                             ("a batch of another number", [*whole[:-2], "end,2,4", whole[-1]], whole[1]),
+                             ("a line behind the batches", [*whole[:-1], "version 7", whole[-1]], "version 7"),
+                             ("a row of another kind", [*whole[:-1], "ask,1", whole[-1]], "ask,1")]:
+        checks.same(f"a snapshot with {name}", ended(7, *lines), (1, "", f"{pipes}its snapshot has a line that is part of no batch: {bad}\n"))
+    checks.same("the program ends before its snapshot", ended(7), (1, "", f"{pipes}the program ended\n"))
+    feed = Feed(router, version=7, told=whole[:3], is_accepted=False)
+    feed.process.stdin.close()
+    checks.same("the program ends within its snapshot", feed.ended(), (1, "", f"{pipes}the program ended\n"))
+
+    for line in ("busy", "refused", "unended 3", "version", "version one", ""):
+        feed = Feed(router, version=None, is_accepted=False)
+        feed.say(line)
+        checks.same(f"no version, but {line!r}", feed.ended(), (1, "", f"{pipes}its version was asked for, and it answered: {line}\n"))
+    feed = Feed(router, version=None, is_accepted=False)
+    feed.process.stdin.close()
+    checks.same("no version, but the end", feed.ended(), (1, "", f"{pipes}the program ended\n"))
+    for version, told in (None, ()), (7, ()), (7, whole[:3]):
+        feed = Feed(router, version=version, told=told, is_accepted=False)
+        feed.waits(59.9)
+        feed.go(0.2)
+        checks.same(f"no line for a minute: {version}, {len(told)} lines", feed.ended(),
+                    (1, "", f"{pipes}no line came for 60 s, by which the feed learns what is there\n"))
+
+
+def journals(checks):
+    """A program without a front, whose journal the feed reads."""
+    first = "\n".join([*CHAIN_ROWS, f"node,{A},0", "end,1,5\n"])
+    whole = first + "\n".join([f"drop,{A},{A_B}", f"node,{A},1", row(B, B_C, C, C_B, metric=9), "end,2,3\n"])
+    with tempfile.TemporaryDirectory() as room:
+        path = os.path.join(room, "day.journal")
+        router = Router()
+
+        def feed_of(text, version):
+            with open(path, "w", encoding="ascii") as file:
+                file.write(text)
+            return Feed(router, "--hold", "3", "--journal", path, version=version, told=["row 2 refused: kind"], is_accepted=False)
+
+        last = whole + f"put,{C},10.5.5.5,{A}"
+        for name, text in [("", whole), (", without its last line feed", whole[:-1]), (", torn behind its last batch", last),
+                           (", in which a batch is being written", f"{whole}drop,{B},{B_A}\n"),
+                           (", behind which a number is left out", whole + "end,4,0\n")]:
+            feed = feed_of(text, 2)
+            router.accept()
+            router.send(update(CHAIN_ROUTERS[0], router_lsa(B, (A, B_A, 1), sequence=2), *CHAIN_LINKS))
+            checks.same(f"a journal{name}", [feed.batch(), feed.batch()], [(PAIR_ROWS[:1], 3), (BROKEN_DROPS, 4)])
+            checks.same(f"and no more{name}", (feed.is_quiet(), feed.end()), (True, going_on(2, 3, 0, 3)))
+            router.hang_up()
+        for name, text, version, count in [("fewer batches", first, 2, 1), ("more batches", whole, 1, 2), ("a torn batch", whole[:-9], 2, 1),
+                                           ("none", "", 2, 0), ("another count", whole.replace("end,2,3", "end,2,4"), 2, 1),
+                                           ("no journal's rows", "put,1\nend,1,1\n", 1, 0)]:
+            why = f"it has {count} batches, and the program is at version {version}: give the journal of its run"
+            checks.same(f"a journal that doesn't agree: {name}", feed_of(text, version).ended(), (1, "", f"ospf: --journal {path}: {why}\n"))
+        for name, why in [("nowhere", "No such file or directory"), ("", "Is a directory")]:
+            path = os.path.join(room, name)
+            feed = Feed(router, "--journal", path, version=2, told=["row 2 refused: kind"], is_accepted=False)
+            checks.same(f"a journal that can't be read: {why}", feed.ended(), (1, "", f"ospf: --journal {path}: {why}\n"))
+        feed = Feed(router, "--journal", "/nowhere", version=1, told=snapshot(1, PAIR_ROWS))
+        checks.same("behind a front it isn't read", feed.end(), going_on(1, 2))
+
+
+def until(test, what):
+    """Waits until it is so; answers what it found."""
+    end = time.monotonic() + PATIENCE
+    while not (found := test()):
+        if time.monotonic() > end:
+            raise AssertionError(f"{what} didn't come")
+        time.sleep(0.02)
+    return found
+
+
+def beside_server(program, checks):
+    """The real `routed serve` on pipes that outlive feeds, which go by its journal; and its end."""
+    begun = "\n".join([*CHAIN_ROWS, "end,1,4\n"])
+    with tempfile.TemporaryDirectory() as room, contextlib.ExitStack() as clean:
+        path = os.path.join(room, "day.journal")
+        server = subprocess.Popen([program.path, "serve", "--journal", path, "--client", "/dev/null=/dev/zero"],
+                                  stdin=subprocess.PIPE, stdout=subprocess.PIPE)
+        clean.callback(server.wait)
+        clean.callback(server.kill)
+        router = Router()
+
+        def started(*words):
+            given = [sys.executable, os.path.abspath(__file__), "-1", "-1", "--port", str(router.port), "--hold", "1", *words]
+            return subprocess.Popen(given, stdin=server.stdout, stdout=server.stdin, stderr=subprocess.PIPE, text=True)
+
+        def journal():
+            with open(path, encoding="ascii") as file:
+                return file.read()
+
+        feed = started()
+        router.accept()
+        router.send(CHAIN)
+        until(lambda: journal() == begun, "the first batch")
+        feed.kill()
+        feed.communicate()
+        router.hang_up()
+        feed = started()
+        said = feed.communicate(timeout=PATIENCE)[1]
+        checks.true("without the journal it ends", feed.returncode == 1 and "its database isn't known: give --journal FILE" in said, said)
+        feed = started("--journal", path)
+        router.accept()
+        router.send(BROKEN)
+        wanted = begun + "\n".join([*BROKEN_DROPS, "end,2,2\n"])
+        until(lambda: len(journal()) >= len(wanted), "the second batch")
+        checks.same("with it, what went is dropped, and nothing else is written", journal(), wanted)
+        server.kill()
+        said = feed.communicate(timeout=PATIENCE)[1]
+        checks.same("the server is killed", (feed.returncode, said), (1, going_on(1, 4, 0, 1) + "ospf: standard input and output: the program ended\n"))
+
+
+RELAY = """import os, select, socket, sys
+front, readers = socket.socket(socket.AF_UNIX), [0]
+front.connect(sys.argv[1])
+readers.append(front)
+while front in readers:
+    for source in select.select(readers, [], [])[0]:
+        data = os.read(0, 65536) if source == 0 else front.recv(65536)
+        if not data:
+            readers.remove(source)
+        if source != 0:
+            os.write(1, data)
+        elif data:
+            front.sendall(data)
+        else:
+            front.shutdown(socket.SHUT_WR)
+"""
+
+
+def behind_front(program, checks):
+    """Behind the real tools/listen: a feed is killed, a circuit goes, and the next feed drops it; then the server is killed."""
+    with tempfile.TemporaryDirectory() as room, contextlib.ExitStack() as clean:
+        journal, ask, updates = (os.path.join(room, name) for name in ("day.journal", "ask", "updates"))
+        given = [LISTEN, "--program", program.path, "--journal", journal, "--ask", ask, "--updates", updates]
+        front = subprocess.Popen(given, stdout=subprocess.PIPE)
+        clean.callback(front.wait)
+        clean.callback(front.terminate)
+        checks.same("a front", front.stdout.readline(), b"ready\n")
+        asker = socket.socket(socket.AF_UNIX)
+        asker.connect(ask)
+        router, replies = Router(), asker.makefile("r")
+
+        def started(*words):
+            """A feed, once the place of the one before is free."""
+            while True:
+                feed = Feed(router, "--hold", "1", command=("--", sys.executable, "-c", RELAY, updates), is_accepted=False)
+                until(lambda: feed.process.poll() is not None or select.select([router.listening], [], [], 0)[0], "a feed")
+                if feed.process.poll() is None:
+                    router.accept()
+                    return feed
+                if not feed.ended()[2].endswith("answered: busy\n"):
+                    raise AssertionError(feed.said.decode())
+
+        def reply():
+            asker.sendall(f"ask,7,{A},{C},0,1000,0x0,0x0,0x0,\n".encode())
+            return replies.readline()
+
+        feed = started()
+        router.send(CHAIN)
+        until(lambda: " v1 " in reply(), "version 1")
+        checks.same("what a feed put is answered", reply(), "ask 7 v1 route cost=14 hops=2 again=no ero=0014140101080a000001200001080a0000032000\n")
+        feed.process.kill()
+        feed.process.wait()
+        router.hang_up()
+        feed = started()
+        router.send(BROKEN)
+        until(lambda: " v1 " not in reply(), "version 2")
+        checks.same("what went meanwhile isn't", reply(), "ask 7 v2 unknown-to\n")
+        with open(journal, encoding="ascii") as file:
+            checks.same("and nothing else was written", file.read(), "\n".join([*CHAIN_ROWS, "end,1,4", *BROKEN_DROPS, "end,2,2\n"]))
+        with open(f"/proc/{front.pid}/task/{front.pid}/children", encoding="ascii") as children:
+            for child in map(int, children.read().split()):
+                os.kill(child, signal.SIGKILL)
+        status, out, said = feed.ended()
+        name = re.sub(r"\s+", " ", f"{sys.executable} -c '{RELAY}' {updates}")
+        checks.same("the server is killed", (status, out, said), (1, "", f"{going_on(1, 4, 0, 1)}ospf: {name}: the program ended\n"))
+        checks.same("and the front with it", front.wait(PATIENCE), 137)
+        router.hang_up()
 
 
 def with_program(program, checks):
@@ -558,7 +941,8 @@ def with_program(program, checks):
     router = Router()
     feed = Feed(router, command=(program.path, "solve"))
     router.send(PAIR)
-    feed.say("put,1.1.1.1,10.0.0.0\nask,1,2\"")
+    feed.say("put,1.1.1.1,10.0.0.0\nask,1,2\"\nask,1\nask,2")
+    checks.same("asks that are refused", (feed.line(), feed.line()), ("row 2 refused: fields", "row 3 refused: fields"))
     end, reply = time.monotonic() + PATIENCE, None
     while time.monotonic() < end and "none" not in (reply or "") and "route" not in (reply or ""):
         feed.say(ask)
@@ -707,7 +1091,7 @@ def once(program, checks):
     port = closed.getsockname()[1]
     closed.close()
     ended = subprocess.run([FEED, "--port", str(port), "--once"], capture_output=True, text=True)
-    checks.same("no router", (ended.returncode, ended.stdout, ended.stderr), (1, "", "ospf: [Errno 111] Connection refused\n"))
+    checks.same("no router", (ended.returncode, ended.stdout, ended.stderr), (1, "", f"ospf: no connection to 127.0.0.1 port {port}: Connection refused\n"))
 
 
 def words(program, checks):
@@ -718,9 +1102,11 @@ def words(program, checks):
     for given in (["--port", "0"], ["--port", "65536"], ["--collect", "-1"], ["--hold", "nan"], ["--collect", "inf"], ["--twice"]):
         found = ran(*given)
         checks.true(f"refused: {given}", found.returncode == 2 and found.stdout == "" and "Traceback" not in found.stderr, found)
-    for command, why in (["/nowhere/routed"], "ospf: [Errno 2] No such file or directory: '/nowhere/routed'\n"), (["true"], "ospf: the program ended\n"):
+    for command, why in [(["/nowhere/routed"], "can't start /nowhere/routed: No such file or directory"),
+                         (["/etc"], "can't start /etc: Permission denied"), (["true"], "true: the program ended"),
+                         (["echo", "a b"], "echo 'a b': its version was asked for, and it answered: a b")]:
         found = ran("--port", "9", "--", *command)
-        checks.true(f"a program that isn't there: {command}", found.returncode == 1 and found.stderr.endswith(why), found)
+        checks.same(f"a program that isn't there: {command}", (found.returncode, found.stdout, found.stderr), (1, "", f"ospf: {why}\n"))
     router = Router()
     for turn in (1, 2):
         feed = Feed(router, command=("--", program.path, "solve"))
@@ -743,11 +1129,11 @@ def feed(program, checks):
     except OSError as fault:
         print(f"skipped: the feed, since no socket can be had: {fault}")
         return
-    for part in (columns, left_out, wrapped, changes, marks, runs, streams, anew, refusals, many, lab):
+    for part in (columns, left_out, wrapped, changes, marks, runs, streams, anew, refusals, restarted, trickle, unreached, not_begun, journals,
+                 many, lab):
         part(checks)
-    with_program(program, checks)
-    once(program, checks)
-    words(program, checks)
+    for part in (with_program, beside_server, once, words, behind_front):
+        part(program, checks)
 
 
 if __name__ == "__main__":
