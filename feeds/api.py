@@ -24,8 +24,6 @@ def naming(what=""):
         yield
     except OSError as fault:
         raise ApiError(f"{what}{fault.strerror or fault}") from None
-    except UnicodeError:
-        raise ApiError("no name of a host") from None
 
 
 def pair_of_sockets(address):

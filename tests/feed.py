@@ -1091,7 +1091,17 @@ def once(program, checks):
     port = closed.getsockname()[1]
     closed.close()
     ended = subprocess.run([FEED, "--port", str(port), "--once"], capture_output=True, text=True)
-    checks.same("no router", (ended.returncode, ended.stdout, ended.stderr), (1, "", f"ospf: no connection to 127.0.0.1 port {port}: Connection refused\n"))
+    checks.same("no router", (ended.returncode, ended.stdout, ended.stderr),
+                (1, "", f"ospf: no connection to 127.0.0.1 port {port}: Connection refused\n"))
+    with socket.create_server(("127.0.0.1", 0)) as mute:
+        port = mute.getsockname()[1]
+        ended = subprocess.run([FEED, "--port", str(port), "--once"], capture_output=True, text=True)
+    wanted = rf"ospf: no connection to 127\.0\.0\.1 port {port}: it doesn't connect back to port 5\d{{4}}: timed out\n"
+    checks.true("a router that doesn't connect back", ended.returncode == 1 and re.fullmatch(wanted, ended.stderr), ended)
+    with open("/dev/full", "wb") as full:
+        ask = f"ask,7,{A},{B},0,1000,0x0,0x0,0x0,\n"
+        ended = subprocess.run([FEED, "--port", "9", "--", program.path, "solve"], input=ask, stdout=full, stderr=subprocess.PIPE, text=True)
+    checks.same("standard output is full", (ended.returncode, ended.stderr.splitlines()[-1:]), (1, ["ospf: standard output: No space left on device"]))
 
 
 def words(program, checks):
@@ -1099,7 +1109,7 @@ def words(program, checks):
     def ran(*given):
         return subprocess.run([FEED, *given], stdin=subprocess.DEVNULL, capture_output=True, text=True)
 
-    for given in (["--port", "0"], ["--port", "65536"], ["--collect", "-1"], ["--hold", "nan"], ["--collect", "inf"], ["--twice"]):
+    for given in (["--router", ""], ["--router", 64 * "a"], ["--router", b"\xff"], ["--router", "a..b"], ["--port", "0"], ["--port", "65536"], ["--collect", "-1"], ["--hold", "nan"], ["--collect", "inf"], ["--twice"]):
         found = ran(*given)
         checks.true(f"refused: {given}", found.returncode == 2 and found.stdout == "" and "Traceback" not in found.stderr, found)
     for command, why in [(["/nowhere/routed"], "can't start /nowhere/routed: No such file or directory"),
