@@ -8,8 +8,11 @@ import tempfile
 from versions import Versions
 
 TOP = os.path.dirname(os.path.dirname(os.path.abspath(__file__)))
-ABSENT, FOLDER, FULL = (f"{text}\n".encode() for text in (
+ABSENT, FOLDER, FULL = (f"{text}\n" for text in (
     "No such file or directory (os error 2)", "Is a directory (os error 21)", "No space left on device (os error 28)"))
+PUT = "put,1.1.1.1,10.0.12.1,2.2.2.2,10.0.12.2,10,0x1,5,5,5,5,5,5,5,5\n"
+MARK = "node,1.1.1.1,0\n"
+ASK = "ask,1,1.1.1.1,2.2.2.2,0,5,0x0,0x0,0x0,\n"
 AUDITED = ("journal", "requests", "replies")
 
 
@@ -18,27 +21,63 @@ def explained(program, checks):
         absent, journal = os.path.join(room, "absent"), os.path.join(room, "journal")
         null = "/dev/null"
         for words, line in [
-            (["batch", "--journal", absent, "--requests", null], b"journal: open: " + ABSENT),
-            (["batch", "--journal", null, "--requests", absent], b"requests: open: " + ABSENT),
-            (["batch", "--journal", room, "--requests", null], b"journal: read: " + FOLDER),
-            (["batch", "--journal", null, "--requests", room], b"requests: read: " + FOLDER),
-            (["live", "--updates", absent, "--requests", null, "--journal", journal], b"updates: open: " + ABSENT),
-            (["live", "--updates", null, "--requests", absent, "--journal", journal], b"requests: open: " + ABSENT),
-            (["live", "--updates", null, "--requests", null, "--journal", room], b"journal: open: File exists (os error 17)\n"),
-            (["live", "--updates", room, "--requests", null, "--journal", journal], b"updates: read: " + FOLDER),
-            *((["audit", *(word for other in AUDITED for word in (f"--{other}", path if other == name else null))], name.encode() + said)
-              for name in AUDITED for path, said in ((absent, b": open: " + ABSENT), (room, b": read: " + FOLDER))),
+            (["batch", "--journal", absent, "--requests", null], f"journal {absent}: open: {ABSENT}"),
+            (["batch", "--journal", null, "--requests", absent], f"requests {absent}: open: {ABSENT}"),
+            (["batch", "--journal", room, "--requests", null], f"journal {room}: read: {FOLDER}"),
+            (["batch", "--journal", null, "--requests", room], f"requests {room}: read: {FOLDER}"),
+            (["live", "--updates", absent, "--requests", null, "--journal", journal], f"updates {absent}: open: {ABSENT}"),
+            (["live", "--updates", null, "--requests", absent, "--journal", journal], f"requests {absent}: open: {ABSENT}"),
+            (["live", "--updates", null, "--requests", null, "--journal", room], f"journal {room}: open: File exists (os error 17)\n"),
+            (["live", "--updates", room, "--requests", null, "--journal", journal], f"updates {room}: read: {FOLDER}"),
+            (["snapshot", "--journal", absent], f"journal {absent}: open: {ABSENT}"),
+            (["snapshot", "--journal", room], f"journal {room}: read: {FOLDER}"),
+            *((["audit", *(word for other in AUDITED for word in (f"--{other}", path if other == name else null))], f"{name} {path}: {said}")
+              for name in AUDITED for path, said in ((absent, f"open: {ABSENT}"), (room, f"read: {FOLDER}"))),
         ]:
             checks.same(f"a stop that isn't explained: {words}", program.run(words), (3, b"", b"routed: stopped\n"))
             if os.path.exists(journal):
                 os.remove(journal)
             checks.same(f"a stop that is explained: {words}", program.run([*words, "--explain"]),
-                        (3, b"", b"routed: " + line + b"routed: stopped\n"))
+                        (3, b"", f"routed: {line}routed: stopped\n".encode()))
             if os.path.exists(journal):
                 os.remove(journal)
+        rows(program, checks, room)
         streams(program, checks)
         limited(program, checks, room)
         closed(program, checks)
+
+
+def rows(program, checks, room):
+    """A torn journal and a bad row: the file, the row and the reason; nothing of a file that is good, nor of one that can't be read twice."""
+    def refused(command, name, path, text, said, *more):
+        with open(path, "w", encoding="ascii") as file:
+            file.write(text)
+        words, made = [command, f"--{name}", path, *more], f"{path}.new"
+        ran = program.run(words)
+        if os.path.exists(made):
+            os.remove(made)
+        told = program.run([*words, "--explain"])
+        checks.same(f"{command}: {said}", (told[:2], told[2].decode()), (ran[:2], f"routed: {name} {path}: {said}\n" if said else ""))
+        checks.true(f"{command} refuses: {said}", ran[0] == 2 and ran[2] == b"", ran)
+
+    empty = os.path.join(room, "empty")
+    with open(empty, "wb"):
+        pass
+    for at, (text, said) in enumerate([
+        ("end,1,0\nput,1\n", "row 2: fields"), (f"{PUT}end,1,1\nend,1,0\n", "row 3: expected 2"), (f"{PUT}end,1,2\n", "row 2: counted 1"),
+        (f"end,1,0\n{PUT}{MARK}", "row 3: unended 2"), (f"end,1,0\n{ASK}", "row 2: kind"), (f"{MARK}hello\nend,1,0\n", "row 2: kind"),
+        (f"{MARK}{MARK}end,1,2\n", ""),
+    ]):
+        path = os.path.join(room, f"refused{at}")
+        refused("batch", "journal", path, text, said, "--requests", empty)
+        refused("snapshot", "journal", path, text, said)
+        refused("live", "updates", path, text, said, "--requests", empty, "--journal", f"{path}.new")
+        refused("audit", "journal", path, text, said, "--requests", empty, "--replies", empty)
+    refused("snapshot", "journal", path, "bad\n" + "end,1,0\n" * 1_000_000, "row 1000001: too many rows")
+    for text, said in [(f"{ASK}ask,1\n", "row 2: fields"), (f"{ASK}{ASK}end,1,0\n", "row 3: kind")]:
+        refused("batch", "requests", path, text, said, "--journal", empty)
+    ran = subprocess.run([program.path, "snapshot", "--explain", "--journal", "/dev/stdin"], input=b"bad\n", capture_output=True, timeout=60)
+    checks.same("a journal by a pipe", (ran.returncode, ran.stdout, ran.stderr), (2, b"journal torn after 0\n", b""))
 
 
 def streams(program, checks):
@@ -50,15 +89,15 @@ def streams(program, checks):
     folder = os.open(TOP, os.O_RDONLY)
     with open("/dev/full", "wb") as full, open(rows, "rb") as source:
         for name, words, stdin, line in [
-            ("standard output is full", [program.path, "solve", "--explain"], source, b"standard output: write: " + FULL),
-            ("standard output of a batch is full", batch, subprocess.DEVNULL, b"standard output: flush: " + FULL),
-            ("standard output of an audit is full", audit, subprocess.DEVNULL, b"standard output: flush: " + FULL),
+            ("standard output is full", [program.path, "solve", "--explain"], source, f"standard output: write: {FULL}"),
+            ("standard output of a batch is full", batch, subprocess.DEVNULL, f"standard output: flush: {FULL}"),
+            ("standard output of an audit is full", audit, subprocess.DEVNULL, f"standard output: flush: {FULL}"),
         ]:
             ran = subprocess.run(words, stdin=stdin, stdout=full, stderr=subprocess.PIPE)
-            checks.same(f"explained: {name}", (ran.returncode, ran.stderr), (3, b"routed: " + line + b"routed: stopped\n"))
+            checks.same(f"explained: {name}", (ran.returncode, ran.stderr.decode()), (3, f"routed: {line}routed: stopped\n"))
     ran = subprocess.run([program.path, "solve", "--explain"], stdin=folder, capture_output=True)
-    checks.same("explained: standard input is a folder", (ran.returncode, ran.stderr),
-                (3, b"routed: standard input: read: " + FOLDER + b"routed: stopped\n"))
+    checks.same("explained: standard input is a folder", (ran.returncode, ran.stderr.decode()),
+                (3, f"routed: standard input: read: {FOLDER}routed: stopped\n"))
     os.close(folder)
     with open(rows, "rb") as source:
         text = source.read()

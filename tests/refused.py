@@ -6,6 +6,8 @@ from collections import Counter
 
 import reference
 from refusal import COMPILER, Refuser, each
+from reference import Network
+from snapshots import snapshot_of
 from versions import Versions
 
 TOP = os.path.dirname(os.path.dirname(os.path.abspath(__file__)))
@@ -31,11 +33,11 @@ def lines_of(versions):
 # What --explain says of a refused call.
 CAUSES = {
     "malloc": rb"(routed: out of memory\n)?",  # nothing while the command line is read
-    "read": rb"routed: (standard input|journal|updates|requests|replies): read: Input/output error \(os error 5\)\n",
+    "read": rb"routed: (standard input|(journal|updates|requests|replies) /\S+): read: Input/output error \(os error 5\)\n",
     "write": rb"routed: standard output: (write|flush): No space left on device \(os error 28\)\n",
-    "open": rb"routed: (journal|updates|requests|replies): open: Too many open files \(os error 24\)\n",
+    "open": rb"routed: (journal|updates|requests|replies|a client's requests|a client's replies) /\S+: open: Too many open files \(os error 24\)\n",
     "thread": rb"routed: a worker couldn't be started\n",
-    "break": rb"routed: [a-z ]*: (read|write|flush): Interrupted system call \(os error 4\)\n",
+    "break": rb"routed: [a-z ]*(/\S+)?: (read|write|flush): Interrupted system call \(os error 4\)\n",
 }
 
 
@@ -129,12 +131,73 @@ class Audit:
         return ran, whole, whole or is_stopped(ran, flags)
 
 
+class Snapshot:
+    """`snapshot` of NSFNET's journal."""
+
+    def __init__(self, program):
+        self.words = [program.path, "snapshot", "--journal", UPDATES, "--explain"]
+        network = Network()
+        for row in text_of(UPDATES).splitlines():
+            if not row.startswith("end,"):
+                network.change(row.split(","))
+        self.lines = snapshot_of(network).encode()
+
+    def run(self, refuser, number, flags):
+        ran = refuser.run(self.words, flags[0], number, *flags[1:])
+        whole = (ran.status, ran.out, ran.err) == (0, self.lines, b"")
+        return ran, whole, whole or is_stopped(ran, flags)
+
+
+class Serve:
+    """`serve` with NSFNET's updates on standard input, and a client whose requests are a file."""
+
+    def __init__(self, program):
+        self.program, self.versions = program.path, Versions(text_of(UPDATES), text_of(REQUESTS).splitlines())
+
+    def run(self, refuser, number, flags):
+        journal, replies = (os.path.join(refuser.room.name, f"{kind} of serve {flags} {number}".replace(" ", "-")) for kind in ("journal", "replies"))
+        words = [self.program, "serve", "--explain", "--journal", journal, "--client", f"{REQUESTS}={replies}"]
+        ran = refuser.run(words, flags[0], number, *flags[1:], stdin=UPDATES)
+        kept, lines = (text_of(path) if os.path.exists(path) else "" for path in (journal, replies))
+        for path in (journal, replies):
+            if os.path.exists(path):
+                os.remove(path)
+        most = len(self.versions.texts) - 1
+        told = "".join(f"version {at}\n" for at in range(1, most + 1)).encode()
+        whole = ran.status == 0 and (ran.out, ran.err, kept) == (told, b"", self.versions.texts[most]) and self.is_answered(lines, len(self.versions.asks))
+        return ran, whole, whole or self.is_right(ran, flags, kept, lines)
+
+    def is_answered(self, lines, count):
+        """Whether so many first requests at least are answered rightly, and nothing is written behind their lines."""
+        answered = lines.splitlines()
+        return len(answered) >= count and (not lines or lines.endswith("\n")) and self.versions.are_right(answered)
+
+    def is_right(self, ran, flags, kept, lines):
+        """What is told of is in the journal, the client's lines are right as far as they go, and each refusal has its name."""
+        recorded = self.versions.recorded(kept)
+        versions = re.findall(rb"(?m)^version (\d+)$", ran.out)
+        *whole, rest = lines.split("\n")
+        if recorded is None or versions and int(versions[-1]) > recorded or not self.versions.are_right(whole):
+            return False
+        if rest and not flags[0] == "write":
+            return False
+        if ran.status == 3:
+            return bool(is_stopped(ran, flags)) or re.fullmatch(CLIENT_ENDS + b"(routed: [^\n]*\n)?routed: stopped\n", ran.err) is not None
+        named = all(re.fullmatch(NAMED, line) for line in ran.out.splitlines())
+        return ran.status in (0, 2) and named and re.fullmatch(CLIENT_ENDS, ran.err) is not None
+
+
+# A client that ended before its rows, as --explain says it, and the lines that updates are answered by.
+CLIENT_ENDS = rb"(routed: client 1: (out of memory|no entry|/\S+: a (read|write|flush) failed)\n)?"
+NAMED = rb"version \d+|batch \d+ refused: (memory|stopped|journal \d+|expected \d+|counted \d+|absent \d+)|row \d+ refused: \S+( \d+)?|unended \d+"
+
+
 def refused(program, checks):
     if COMPILER is None:
         print("refused calls: skipped, there is no C compiler")
         return
     refuser, tried, start = Refuser(), Counter(), time.monotonic()
-    for command in [Solve(program), Batch(program), Live(program), Audit(program, refuser.room.name)]:
+    for command in [Solve(program), Batch(program), Live(program), Audit(program, refuser.room.name), Snapshot(program), Serve(program)]:
         for flags in REFUSALS:
             def judge(number):
                 ran, is_whole, is_right = command.run(refuser, number, flags)

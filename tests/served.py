@@ -262,7 +262,7 @@ def silent(program, checks, room, versions):
         pouring.join(PATIENCE)
         named = {judged(checks, "a client that reads late", versions, [(0, line) for line in lines])}
         checks.same("it is answered at the last version in the end", named, {BATCHES})
-        checks.same("the end beside a closed client", run.end(), (["", "", ""], 0, "routed: client 2: a write failed\n"))
+        checks.same("the end beside a closed client", run.end(), (["", "", ""], 0, f"routed: client 2: {room}/lines2: a write failed\n"))
 
 
 # ---- faults
@@ -315,9 +315,9 @@ def devices(program, checks, room):
     asks = os.path.join(room, "asks")
     with open(asks, "w", encoding="ascii") as file:
         file.write(ask)
-    for name, client in [("read", f"{room}={asks}.out"), ("write", f"{asks}=/dev/full")]:
+    for name, path, client in [("read", room, f"{room}={asks}.out"), ("write", "/dev/full", f"{asks}=/dev/full")]:
         given = ["serve", "--client", f"/dev/null={asks}.none", "--client", client]
-        for more, said in [([], ""), (["--explain"], f"routed: client 2: a {name} failed\n")]:
+        for more, said in [([], ""), (["--explain"], f"routed: client 2: {path}: a {name} failed\n")]:
             found = program.run([*given, "--journal", f"{asks}.{name}{len(more)}", *more], b"end,1,0\n")
             checks.same(f"a client's {name} fails {more}", found, (0, b"version 1\n", said.encode()))
 
@@ -373,15 +373,24 @@ def refusals(program, checks, room):
         given = [word.replace("@", f"{room}/") for word in words]
         return program.run(["serve", *(part for word in given for part in (["--client", word] if "=" in word else [word]))], rows)
 
-    pair, twice, unexpected = "routed: a client is IN=OUT\n", "routed: a file is named twice\n", "error: unexpected argument"
+    pair, unexpected = "routed: a client is IN=OUT\n", "error: unexpected argument"
+
+    full = f"routed: an OUT has to be empty or new: {there}\n"
+
+    def twice(name):
+        return f"routed: a file is named twice: {room}/{name}\n"
+
     for name, words, said in [
         ("no client", [], f"{missing}\n  --client <IN=OUT>"),
         ("65 clients", [f"@in{number}=@out{number}" for number in range(65)], "routed: there are 1 to 64 clients\n"),
         ("a client without =", ["--client", "@a"], pair), ("a client of no words", ["--client", ""], pair),
         ("a client without IN", ["=@b"], pair), ("a client without OUT", ["@a="], pair),
-        ("one file as both", ["@a=@a"], twice), ("one OUT of two", ["@a=@b", "@c=@b"], twice), ("one IN of two", ["@a=@b", "@a=@c"], twice),
-        ("an OUT that is an IN", ["@a=@b", "@b=@c"], twice), ("an IN that is an OUT", ["@a=@b", "@c=@a"], twice),
-        ("the journal as IN", ["@new=@a"], twice), ("the journal as OUT", ["@a=@new"], twice),
+        ("one file as both", ["@a=@a"], twice("a")), ("one OUT of two", ["@a=@b", "@c=@b"], twice("b")),
+        ("one IN of two", ["@a=@b", "@a=@c"], twice("a")), ("an OUT that is an IN", ["@a=@b", "@b=@c"], twice("b")),
+        ("an IN that is an OUT", ["@a=@b", "@c=@a"], twice("a")), ("the journal as IN", ["@new=@a"], twice("new")),
+        ("the journal as OUT", ["@a=@new"], twice("new")), ("one new file by two names", ["@a=@./a"], twice("./a")),
+        ("the journal by another name", ["@a=@./new"], twice("./new")), ("an OUT with bytes", ["/dev/null=@there"], full),
+        ("an OUT with bytes behind others", ["@a=@b", "/dev/null=@there"], full),
         ("another word", ["@a=@b", "more"], f"{unexpected} 'more' found"),
         ("workers", ["@a=@b", "--workers", "2"], f"{unexpected} '--workers' found"),
         ("two journals", ["@a=@b", "--journal", "@new"], "error: the argument '--journal <FILE>' cannot be used multiple times"),
@@ -395,11 +404,11 @@ def refusals(program, checks, room):
         checks.true(f"help of serve names {word.decode()}", word in text.lower(), text)
     absent = "open: No such file or directory (os error 2)\n"
     for name, journal, client, why in [
-        ("requests that aren't there", "@new", "@none=@out", f"a client's requests: {absent}"),
-        ("replies in no folder", "@new", "/dev/null=@none/out", f"a client's replies: {absent}"),
-        ("a folder as replies", "@new", "/dev/null=@", "a client's replies: open: Is a directory (os error 21)\n"),
-        ("a journal in no folder", "@none/new", "/dev/null=/dev/stdout", f"journal: {absent}"),
-        ("a journal that is there", "@there", "/dev/null=/dev/stdout", "journal: open: File exists (os error 17)\n"),
+        ("requests that aren't there", "@new", "@none=@out", f"a client's requests {room}/none: {absent}"),
+        ("replies in no folder", "@new", "/dev/null=@none/out", f"a client's replies {room}/none/out: {absent}"),
+        ("a folder as replies", "@new", "/dev/null=@", f"a client's replies {room}/: open: Is a directory (os error 21)\n"),
+        ("a journal in no folder", "@none/new", "/dev/null=/dev/stdout", f"journal {room}/none/new: {absent}"),
+        ("a journal that is there", "@there", "/dev/null=/dev/stdout", f"journal {there}: open: File exists (os error 17)\n"),
     ]:
         for more, said in [([], ""), (["--explain"], f"routed: {why}")]:
             found = serve(["--journal", journal, client, *more], b"end,1,0\n")

@@ -155,7 +155,7 @@ def stops(program, checks):
         words = ["snapshot", "--journal", path]
         checks.same(f"a journal that can't be read: {said}", program.run(words), STOPPED)
         checks.same(f"a journal that can't be read, explained: {said}", program.run([*words, "--explain"]),
-                    (3, b"", b"routed: journal: " + said + STOPPED[2]))
+                    (3, b"", f"routed: journal {path}: ".encode() + said + STOPPED[2]))
     journal = os.path.join(HERE, "journals", "one_link.journal")
     with open("/dev/full", "wb") as out:
         ran = subprocess.run([program.path, "snapshot", "--journal", journal, "--explain"], stdout=out, stderr=subprocess.PIPE, check=False)

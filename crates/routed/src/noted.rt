@@ -4,6 +4,43 @@ ghost use Rattle.std.specs.Prelude.{◌≡◌};
 use std::io::{Read, Write};
 use std::{fmt, io};
 
+/// What a device is called: a standard stream, or an option and the path that it gives.
+#[derive(Clone, Copy)]
+pub struct Name<'a> {
+    word: &'static str,
+    path: Option<&'a str>,
+}
+
+impl<'a> Name<'a> {
+    /// A standard stream.
+    pub fn of_stream(word: &'static str) -> Name<'a> {
+        Name { word, path: None }
+    }
+
+    /// The file at the path that an option gives.
+    pub fn of_file(word: &'static str, path: &'a str) -> Name<'a> {
+        Name {
+            word,
+            path: Some(path),
+        }
+    }
+
+    /// The path of a file.
+    pub fn path(self) -> Option<&'a str> {
+        self.path
+    }
+}
+
+impl<'a> fmt::Display for Name<'a> {
+    fn fmt<W: fmt::Write>(&self, f: &mut fmt::Formatter<W>) -> fmt::Result {
+        f.write_str(self.word)?;
+        match self.path {
+            Some(path) => write!(f, " {path}"),
+            None => Ok(()),
+        }
+    }
+}
+
 /// What was done with a file or a stream.
 #[derive(Clone, Copy)]
 pub enum Action {
@@ -30,45 +67,40 @@ impl fmt::Display for Action {
 
 /// A call on a file or a stream that failed.
 #[derive(Clone, Copy)]
-pub struct Fault {
-    device: &'static str,
+pub struct Fault<'a> {
+    name: Name<'a>,
     action: Action,
     error: io::Error,
 }
 
-impl Fault {
+impl<'a> Fault<'a> {
     /// This call on this device failed by this error.
-    pub fn new(device: &'static str, action: Action, error: io::Error) -> Fault {
+    pub fn new(name: Name<'a>, action: Action, error: io::Error) -> Fault<'a> {
         Fault {
-            device,
+            name,
             action,
             error,
         }
     }
 }
 
-impl fmt::Display for Fault {
+impl<'a> fmt::Display for Fault<'a> {
     fn fmt<W: fmt::Write>(&self, f: &mut fmt::Formatter<W>) -> fmt::Result {
-        let Fault {
-            device,
-            action,
-            error,
-        } = self;
-        write!(f, "{device}: {action}: {error}")
+        write!(f, "{}: {}: {}", self.name, self.action, self.error)
     }
 }
 
 /// A reader or a writer that notes the last call that failed. Bytes and errors pass as they are.
 #[derive(Drop)]
-pub struct Noted<D> {
-    name: &'static str,
+pub struct Noted<'a, D> {
+    name: Name<'a>,
     device: D,
-    fault: Option<Fault>,
+    fault: Option<Fault<'a>>,
 }
 
-impl<D> Noted<D> {
+impl<'a, D> Noted<'a, D> {
     /// No call on this device has failed yet.
-    pub fn new(name: &'static str, device: D) -> Noted<D>
+    pub fn new(name: Name<'a>, device: D) -> Noted<'a, D>
         ensures { result.device ≡ device }
     {
         Noted {
@@ -79,12 +111,12 @@ impl<D> Noted<D> {
     }
 
     /// What the device is called.
-    pub fn name(&self) -> &'static str {
+    pub fn name(&self) -> Name<'a> {
         self.name
     }
 
     /// The last call that failed.
-    pub fn fault(&self) -> Option<Fault> {
+    pub fn fault(&self) -> Option<Fault<'a>> {
         self.fault
     }
 
@@ -96,7 +128,7 @@ impl<D> Noted<D> {
     }
 }
 
-impl<R: Read> Read for Noted<R> {
+impl<'a, R: Read> Read for Noted<'a, R> {
     ghost remaining = { λ r. R.remaining r.device };
 
     fn read(&mut self, buf: &mut [u8]) -> io::Result<usize> {
@@ -108,7 +140,7 @@ impl<R: Read> Read for Noted<R> {
     }
 }
 
-impl<W: Write> Write for Noted<W> {
+impl<'a, W: Write> Write for Noted<'a, W> {
     ghost contents = { λ w. W.contents w.device };
 
     fn write(&mut self, buf: &[u8]) -> io::Result<usize> {

@@ -1,17 +1,17 @@
 //! Why the program stops: what `--explain` says before its last line.
 
-use crate::noted::{Action, Fault};
+use crate::noted::{Action, Fault, Name};
 use cspf_serve::{RunError, SolveError, StreamError};
 use std::alloc::AllocError;
 use std::{fmt, io};
 
 /// Why the program stops.
 #[derive(Drop)]
-pub enum Stopped {
+pub enum Stopped<'a> {
     /// Memory was refused.
     Memory,
     /// A call on a file or a stream failed.
-    Device(Fault),
+    Device(Fault<'a>),
     /// Another error of `solve`.
     Solve(SolveError),
     /// Another error of the updates of `serve`.
@@ -20,14 +20,18 @@ pub enum Stopped {
     Run(RunError),
 }
 
-impl Stopped {
+impl<'a> Stopped<'a> {
     /// This call on this device failed.
-    pub fn by(device: &'static str, action: Action, error: io::Error) -> Stopped {
-        Stopped::Device(Fault::new(device, action, error))
+    pub fn by(name: Name<'a>, action: Action, error: io::Error) -> Stopped<'a> {
+        Stopped::Device(Fault::new(name, action, error))
     }
 
     /// The error of `solve`, where these are the last calls on its devices that failed.
-    pub fn solving(error: SolveError, read: Option<Fault>, written: Option<Fault>) -> Stopped {
+    pub fn solving(
+        error: SolveError,
+        read: Option<Fault<'a>>,
+        written: Option<Fault<'a>>,
+    ) -> Stopped<'a> {
         let noted = match &error {
             SolveError::Memory => return Stopped::Memory,
             SolveError::Read => read,
@@ -40,7 +44,11 @@ impl Stopped {
     }
 
     /// The error of the updates of `serve`, where these are the last calls on their streams that failed.
-    pub fn streaming(error: StreamError, read: Option<Fault>, written: Option<Fault>) -> Stopped {
+    pub fn streaming(
+        error: StreamError,
+        read: Option<Fault<'a>>,
+        written: Option<Fault<'a>>,
+    ) -> Stopped<'a> {
         let noted = match &error {
             StreamError::Memory => return Stopped::Memory,
             StreamError::Read => read,
@@ -53,8 +61,8 @@ impl Stopped {
         }
     }
 
-    /// The error of `batch`, `live` or `audit`, where this is the call on a device that failed, if any.
-    pub fn running(error: RunError, noted: Option<Fault>) -> Stopped {
+    /// The error of `batch`, `live`, `serve`, `snapshot` or `audit`, where this is the call on a device that failed, if any.
+    pub fn running(error: RunError, noted: Option<Fault<'a>>) -> Stopped<'a> {
         match (error, noted) {
             (RunError::Memory, _) => Stopped::Memory,
             (RunError::Device, Some(fault)) => Stopped::Device(fault),
@@ -63,13 +71,22 @@ impl Stopped {
     }
 }
 
-impl From<AllocError> for Stopped {
-    fn from(_refused: AllocError) -> Stopped {
+/// What a run of `batch`, `live`, `snapshot` or `audit` answered, where this is the call on a device
+/// that failed, if any.
+pub fn ended<'a>(ran: Result<u8, RunError>, noted: Option<Fault<'a>>) -> Result<u8, Stopped<'a>> {
+    match ran {
+        Ok(status) => Ok(status),
+        Err(error) => Err(Stopped::running(error, noted)),
+    }
+}
+
+impl<'a> From<AllocError> for Stopped<'a> {
+    fn from(_refused: AllocError) -> Stopped<'a> {
         Stopped::Memory
     }
 }
 
-impl fmt::Display for Stopped {
+impl<'a> fmt::Display for Stopped<'a> {
     fn fmt<W: fmt::Write>(&self, f: &mut fmt::Formatter<W>) -> fmt::Result {
         match self {
             Stopped::Memory => f.write_str("out of memory"),

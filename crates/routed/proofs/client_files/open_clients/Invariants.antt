@@ -1,5 +1,5 @@
 use Rattle.std.proofs.Common.{◌≡◌, vec_len}
-use Rattle.routed.proofs.serving.open_clients.Given as goal
+use Rattle.routed.proofs.client_files.open_clients.Given as goal
 
 -- so many clients' files are open
 abbrev pub invariant-loop-client : goal.invariant-loop-client

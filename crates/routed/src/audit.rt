@@ -1,0 +1,107 @@
+//! `routed audit` judges a file of replies by a journal and requests.
+
+use crate::devices::{flush, opened, output};
+use crate::noted::Name;
+use crate::options::{JOURNAL, REQUESTS, explain, file};
+use crate::refused_rows::RowFiles;
+use crate::stopped::{Stopped, ended};
+use clap::{ArgMatches, Command};
+use cspf_serve::run_audit;
+use std::alloc::{AllocError, Global};
+
+/// The word of the command.
+pub const NAME: &str = "audit";
+
+/// What help says of it.
+const ABOUT: &str = "Judges the lines of a file of replies by a journal and requests";
+
+/// What help says below its options.
+const HELP: &str = "\
+The journal and the requests are files as in batch, and no two requests have one id. The replies are
+lines as batch and live write them. Each line that begins with another word than version, applied or
+batch is judged: it has to be the reply to its request at the version that it names, byte for byte.
+
+Lines of standard output:
+  line L unread              line L doesn't begin as a reply does, with ask, an id and a version
+  line L foreign             no request has its id
+  line L doubled             an earlier line has its id
+  line L no-version          the journal has fewer batches than its version
+  line L altered             it isn't the reply to its request at its version
+  request ID unanswered      no line has the id of this request
+  good=G faults=N            the last one: G judged lines have no fault
+or one of these alone:
+  journal torn after N       rows are left behind N batches of the journal
+  batch N refused: ..        a batch of the journal doesn't fit
+  request row N refused: ..  a row of the requests can't be read, asks for nothing, or has the id of
+                             an earlier one: same-id
+  too many rows              a file has more than 1,000,000 rows or lines
+
+Every route is sought again, by a search that is plainer than that of the other commands.
+
+Names of files are UTF-8. A row or a line has no limit of length but memory. Standard output has to
+be blocking. A file as standard output that reaches a limit of a file's size (ulimit -f) ends the
+program by the signal XFSZ, and with status 3 after trap '' XFSZ in the shell.
+
+Status: 0 where there is no fault, 1 where the command line was refused, 2 where there is a fault or a
+file was refused, 3 where memory was refused or a file or another device failed: then the last line
+of standard error is routed: stopped, and with --explain the line before it says why.";
+
+/// The option that names the file of replies.
+const REPLIES: &str = "replies";
+
+/// The command with its options.
+pub fn command<'a>(alloc: Global) -> Result<Command<'a>, AllocError> {
+    Command::new(alloc, NAME)
+        .about(ABOUT)
+        .after_help(HELP)
+        .arg(file(alloc, JOURNAL, "The file of batches"))?
+        .arg(file(alloc, REQUESTS, "The file of requests"))?
+        .arg(file(alloc, REPLIES, "The file of replies"))?
+        .arg(explain(alloc))
+}
+
+/// What the words of the command say.
+#[derive(Clone, Copy)]
+pub struct AuditWords<'a> {
+    journal: &'a str,
+    requests: &'a str,
+    replies: &'a str,
+}
+
+impl<'a> AuditWords<'a> {
+    /// The words that `clap` found.
+    pub fn read(words: &ArgMatches<'a>) -> Option<AuditWords<'a>> {
+        Some(AuditWords {
+            journal: words.get_str(JOURNAL)?,
+            requests: words.get_str(REQUESTS)?,
+            replies: words.get_str(REPLIES)?,
+        })
+    }
+
+    /// The files whose rows may be refused.
+    pub fn row_files(self) -> RowFiles<'a> {
+        RowFiles {
+            journal: Some(Name::of_file(JOURNAL, self.journal)),
+            requests: Some(Name::of_file(REQUESTS, self.requests)),
+        }
+    }
+
+    /// Judges the replies, and writes what it finds on standard output. The files are opened before a
+    /// row is read.
+    pub fn run(self, rt: &HostRuntime) -> Result<u8, Stopped<'a>> {
+        let mut out = output(rt)?;
+        let mut journal = opened(rt, JOURNAL, self.journal)?;
+        let mut requests = opened(rt, REQUESTS, self.requests)?;
+        let mut replies = opened(rt, REPLIES, self.replies)?;
+        let ran = run_audit(
+            rt.alloc(),
+            &mut journal,
+            &mut requests,
+            &mut replies,
+            &mut out,
+        );
+        flush(&mut out)?;
+        let read = journal.fault().or(requests.fault()).or(replies.fault());
+        ended(ran, read.or(out.fault()))
+    }
+}

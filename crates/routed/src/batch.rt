@@ -1,0 +1,109 @@
+//! `routed batch` applies the batches of a journal, and answers a file of requests.
+
+use crate::devices::{flush, opened, output};
+use crate::noted::Name;
+use crate::options::{
+    ACCEPT_TORN, JOURNAL, REQUESTS, WorkerCount, accept_torn, explain, file, workers,
+};
+use crate::refused_rows::RowFiles;
+use crate::stopped::{Stopped, ended};
+use clap::{ArgMatches, Command};
+use cspf_serve::{NoGate, run_batch};
+use std::alloc::{AllocError, Global};
+use std::sync::Wait;
+use std::thread::Threads;
+
+/// The word of the command.
+pub const NAME: &str = "batch";
+
+/// What help says of it.
+const ABOUT: &str = "Applies the batches of a journal, and answers requests on standard output";
+
+/// What help says below its options.
+const HELP: &str = "\
+The journal is a file of put, drop, node and end rows: batches with the numbers 1, 2, 3 and so on.
+The requests are a file of ask rows, which are answered at the last version. Both are read before
+the first batch is applied.
+
+Lines of standard output:
+  version V                  a batch is accepted
+  ask ID vV route ..         a request is answered at version V; also none, unknown-from, unknown-to
+  journal torn after N       rows are left behind N batches, and --accept-torn wasn't given
+  request row N refused: ..  a row of the requests can't be read, or asks for nothing
+  batch N refused: ..        a batch doesn't fit, and nothing is answered
+  too many rows              a file has more than 1,000,000 rows
+
+Names of files are UTF-8. A row has no limit of length but memory. Standard output has to be
+blocking. A file as standard output that reaches a limit of a file's size (ulimit -f) ends the
+program by the signal XFSZ, and with status 3 after trap '' XFSZ in the shell.
+
+Status: 0 where all was accepted, 1 where the command line was refused, 2 where the journal, a row
+or a batch was refused, 3 where memory was refused or a file or another device failed: then the last
+line of standard error is routed: stopped, and with --explain the line before it says why.";
+
+/// The command with its options.
+pub fn command<'a>(alloc: Global) -> Result<Command<'a>, AllocError> {
+    Command::new(alloc, NAME)
+        .about(ABOUT)
+        .after_help(HELP)
+        .arg(file(alloc, JOURNAL, "The file of batches"))?
+        .arg(file(alloc, REQUESTS, "The file of requests"))?
+        .arg(workers(alloc))?
+        .arg(accept_torn(alloc))?
+        .arg(explain(alloc))
+}
+
+/// What the words of the command say.
+#[derive(Clone, Copy)]
+pub struct BatchWords<'a> {
+    journal: &'a str,
+    requests: &'a str,
+    workers: WorkerCount,
+    accept_torn: bool,
+}
+
+impl<'a> BatchWords<'a> {
+    /// The words that `clap` found.
+    pub fn read(words: &ArgMatches<'a>) -> Option<BatchWords<'a>> {
+        Some(BatchWords {
+            journal: words.get_str(JOURNAL)?,
+            requests: words.get_str(REQUESTS)?,
+            workers: WorkerCount::read(words)?,
+            accept_torn: words.get_flag(ACCEPT_TORN),
+        })
+    }
+
+    /// The files whose rows may be refused.
+    pub fn row_files(self) -> RowFiles<'a> {
+        let journal = Name::of_file(JOURNAL, self.journal);
+        RowFiles {
+            journal: (!self.accept_torn).then_some(journal),
+            requests: Some(Name::of_file(REQUESTS, self.requests)),
+        }
+    }
+
+    /// Applies the batches and answers the requests on standard output. The files are opened before a
+    /// row is read.
+    pub fn run<T: Threads + Wait + Sync>(
+        self,
+        rt: &HostRuntime,
+        handle: &T,
+    ) -> Result<u8, Stopped<'a>> {
+        let mut out = output(rt)?;
+        let mut journal = opened(rt, JOURNAL, self.journal)?;
+        let mut requests = opened(rt, REQUESTS, self.requests)?;
+        let ran = run_batch(
+            handle,
+            rt.alloc(),
+            &mut journal,
+            &mut requests,
+            &mut out,
+            self.workers.count(),
+            self.accept_torn,
+            &NoGate,
+        );
+        flush(&mut out)?;
+        let noted = journal.fault().or(requests.fault()).or(out.fault());
+        ended(ran, noted)
+    }
+}

@@ -1,0 +1,76 @@
+//! The files and the standard streams of a run, each with its name.
+
+use crate::limited::Limited;
+use crate::noted::{Action, Name, Noted};
+use crate::options::JOURNAL;
+use crate::stopped::Stopped;
+use std::fs::{File, OpenOptions};
+use std::io;
+use std::io::{BufWriter, Printer, Write};
+
+/// Standard input, as `--explain` names it.
+pub const INPUT: &str = "standard input";
+
+/// Standard output, as `--explain` names it.
+pub const OUTPUT: &str = "standard output";
+
+/// What reads as nothing.
+const NOTHING: &str = "/dev/null";
+
+/// Standard output, behind a buffer.
+pub type Output<'a, 'r> = Noted<'a, BufWriter<Printer<'r, HostRuntime>>>;
+
+/// Standard output, behind a buffer.
+pub fn output<'a, 'r>(rt: &'r HostRuntime) -> Result<Output<'a, 'r>, Stopped<'a>> {
+    match BufWriter::new(rt.alloc(), io::writer(rt)) {
+        Ok(writer) => Ok(Noted::new(Name::of_stream(OUTPUT), writer)),
+        Err(_) => Err(Stopped::Memory),
+    }
+}
+
+/// Files that take the places of standard streams which are closed, so that no file that is opened
+/// later is taken for one of these.
+pub fn held_places(rt: &HostRuntime) -> [Option<File>; 3] {
+    [
+        File::open(rt, NOTHING).ok(),
+        File::open(rt, NOTHING).ok(),
+        File::open(rt, NOTHING).ok(),
+    ]
+}
+
+/// A file to read, which the option of this name gives.
+pub fn opened<'a>(
+    rt: &HostRuntime,
+    option: &'static str,
+    path: &'a str,
+) -> Result<Noted<'a, File>, Stopped<'a>> {
+    let name = Name::of_file(option, path);
+    match File::open(rt, path) {
+        Ok(file) => Ok(Noted::new(name, file)),
+        Err(error) => Err(Stopped::by(name, Action::Open, error)),
+    }
+}
+
+/// A journal to write, which isn't there yet.
+pub fn created<'a>(
+    rt: &HostRuntime,
+    path: &'a str,
+) -> Result<Noted<'a, Limited<File>>, Stopped<'a>> {
+    let name = Name::of_file(JOURNAL, path);
+    let made = OpenOptions::new()
+        .write(true)
+        .create_new(true)
+        .open(rt, path);
+    match made {
+        Ok(file) => Ok(Noted::new(name, Limited::new(rt, file))),
+        Err(error) => Err(Stopped::by(name, Action::Open, error)),
+    }
+}
+
+/// Flushes a writer.
+pub fn flush<'a, W: Write>(writer: &mut Noted<'a, W>) -> Result<(), Stopped<'a>> {
+    match writer.flush() {
+        Ok(()) => Ok(()),
+        Err(error) => Err(Stopped::by(writer.name(), Action::Flush, error)),
+    }
+}

@@ -1,0 +1,122 @@
+//! `routed live` applies batches to a new journal while it answers a file of requests.
+
+use crate::devices::{created, flush, held_places, opened, output};
+use crate::noted::Name;
+use crate::options::{JOURNAL, REQUESTS, WorkerCount, explain, file, workers};
+use crate::refused_rows::RowFiles;
+use crate::stopped::{Stopped, ended};
+use clap::{ArgMatches, Command};
+use cspf_serve::{NoGate, run_live_rows};
+use std::alloc::{AllocError, Global};
+use std::sync::Wait;
+use std::thread::Threads;
+
+/// The word of the command.
+pub const NAME: &str = "live";
+
+/// What help says of it.
+const ABOUT: &str =
+    "Applies batches to a new journal while requests are answered on standard output";
+
+/// What help says below its options.
+const HELP: &str = "\
+The updates are a file of put, drop, node and end rows, and the requests a file of ask rows, both
+as in batch. Both are read before the first batch is applied. Each batch is written whole to the new
+journal before it is published. Meanwhile the workers answer the requests, each at the version that
+is the last one then.
+
+Lines of standard output:
+  ask ID vV route ..         a request is answered at version V; also none, unknown-from, unknown-to
+  applied K                  behind the replies: how many batches were applied
+  batch N refused: ..        the first batch that wasn't applied, if any; also memory, and journal W
+                             where the journal failed behind W bytes of the batch
+  journal torn after N       rows are left behind N batches of the updates
+  request row N refused: ..  a row of the requests can't be read, or asks for nothing
+  too many rows              a file has more than 1,000,000 rows
+
+Requests that are answered before the first batch is published are answered at version 0, at which
+there is no router. Updates or requests that are refused leave an empty journal. A journal that
+reaches a limit of a file's size (ulimit -f) is refused as on a full device: journal W.
+
+Names of files are UTF-8. A row has no limit of length but memory. Standard output has to be
+blocking. A file as standard output that reaches a limit of a file's size ends the program by the
+signal XFSZ, and with status 3 after trap '' XFSZ in the shell.
+
+Status: 0 where all was accepted, 1 where the command line was refused, 2 where the updates, a row
+or a batch was refused, 3 where memory was refused, a file or another device failed, or the journal
+is there already: then the last line of standard error is routed: stopped, and with --explain the
+line before it says why.";
+
+/// The option that names the file of batches to apply.
+const UPDATES: &str = "updates";
+
+/// The command with its options.
+pub fn command<'a>(alloc: Global) -> Result<Command<'a>, AllocError> {
+    Command::new(alloc, NAME)
+        .about(ABOUT)
+        .after_help(HELP)
+        .arg(file(alloc, UPDATES, "The file of batches to apply"))?
+        .arg(file(alloc, REQUESTS, "The file of requests"))?
+        .arg(file(alloc, JOURNAL, "The file of batches to make"))?
+        .arg(workers(alloc))?
+        .arg(explain(alloc))
+}
+
+/// What the words of the command say.
+#[derive(Clone, Copy)]
+pub struct LiveWords<'a> {
+    updates: &'a str,
+    requests: &'a str,
+    journal: &'a str,
+    workers: WorkerCount,
+}
+
+impl<'a> LiveWords<'a> {
+    /// The words that `clap` found.
+    pub fn read(words: &ArgMatches<'a>) -> Option<LiveWords<'a>> {
+        Some(LiveWords {
+            updates: words.get_str(UPDATES)?,
+            requests: words.get_str(REQUESTS)?,
+            journal: words.get_str(JOURNAL)?,
+            workers: WorkerCount::read(words)?,
+        })
+    }
+
+    /// The files whose rows may be refused.
+    pub fn row_files(self) -> RowFiles<'a> {
+        RowFiles {
+            journal: Some(Name::of_file(UPDATES, self.updates)),
+            requests: Some(Name::of_file(REQUESTS, self.requests)),
+        }
+    }
+
+    /// Applies the batches and answers the requests on standard output. The files are opened before a
+    /// row is read, the journal last. A journal that is there already is left as it is.
+    pub fn run<T: Threads + Wait + Sync>(
+        self,
+        rt: &HostRuntime,
+        handle: &T,
+    ) -> Result<u8, Stopped<'a>> {
+        let mut out = output(rt)?;
+        let _held = held_places(rt);
+        let mut updates = opened(rt, UPDATES, self.updates)?;
+        let mut requests = opened(rt, REQUESTS, self.requests)?;
+        let mut journal = created(rt, self.journal)?;
+        let (ran, _journal) = run_live_rows(
+            handle,
+            rt.alloc(),
+            &mut updates,
+            &mut requests,
+            &mut journal,
+            &mut out,
+            self.workers.count(),
+            &NoGate,
+        );
+        let kept = flush(&mut journal);
+        flush(&mut out)?;
+        kept?;
+        // A write to the journal that fails refuses a batch, and stops nothing.
+        let noted = updates.fault().or(requests.fault()).or(out.fault());
+        ended(ran, noted)
+    }
+}

@@ -1,0 +1,84 @@
+//! The options that several commands have.
+ghost use Rattle.std.specs.Prelude.{◌<◌, ◌≤◌};
+ghost use Rattle.cspf_publish.specs.declared.limits.TheConstants.{MOST_ASKERS};
+
+use clap::{Arg, ArgAction, ArgMatches, value_parser};
+use cspf_serve::MOST_ASKERS;
+use std::alloc::Global;
+
+/// The option that names the file of batches, which `live` and `serve` make.
+pub const JOURNAL: &str = "journal";
+
+/// The option that names the file of requests.
+pub const REQUESTS: &str = "requests";
+
+/// The flag by which rows behind the batches are left out.
+pub const ACCEPT_TORN: &str = "accept-torn";
+
+/// The flag by which a run that stops says why.
+pub const EXPLAIN: &str = "explain";
+
+/// The option that says how many workers answer.
+const WORKERS: &str = "workers";
+
+/// An option that has to name a file.
+pub fn file<'a>(alloc: Global, name: &'a str, help: &'a str) -> Arg<'a> {
+    Arg::new(alloc, name)
+        .long(name)
+        .value_name("FILE")
+        .required(true)
+        .action(ArgAction::Set)
+        .help(help)
+}
+
+/// The flag by which the rows behind the batches of a journal are left out.
+pub fn accept_torn<'a>(alloc: Global) -> Arg<'a> {
+    Arg::new(alloc, ACCEPT_TORN)
+        .long(ACCEPT_TORN)
+        .action(ArgAction::SetTrue)
+        .help("Leave out the rows behind the batches")
+}
+
+/// The flag by which a run that stops says why.
+pub fn explain<'a>(alloc: Global) -> Arg<'a> {
+    Arg::new(alloc, EXPLAIN)
+        .long(EXPLAIN)
+        .action(ArgAction::SetTrue)
+        .help("Say on standard error why a run stops, and which row a file is refused for")
+}
+
+/// The option that says how many workers answer.
+pub fn workers<'a>(alloc: Global) -> Arg<'a> {
+    Arg::new(alloc, WORKERS)
+        .long(WORKERS)
+        .value_name("N")
+        .value_parser(value_parser!(u8).range(1..=MOST_ASKERS as i64))
+        .default_value("1")
+        .action(ArgAction::Set)
+        .help("How many workers answer, 1 to 64")
+}
+
+/// How many workers answer: 1 to 64.
+#[derive(Clone, Copy)]
+pub struct WorkerCount {
+    count: usize,
+    ghost within: { (0 < count) × (count ≤ MOST_ASKERS) },
+}
+
+impl WorkerCount {
+    /// The number that the words give; none where it is outside these bounds, which `clap` refuses.
+    pub fn read(words: &ArgMatches<'_>) -> Option<WorkerCount> {
+        let count = words.get_one::<u8>(WORKERS)? as usize;
+        if count == 0 || count > MOST_ASKERS {
+            return None;
+        }
+        Some(WorkerCount { count })
+    }
+
+    /// Their number.
+    pub fn count(self) -> usize
+        ensures { (0 < result) × (result ≤ MOST_ASKERS) }
+    {
+        self.count
+    }
+}

@@ -1,0 +1,171 @@
+//! `routed serve` publishes updates as they come in on standard input, while each client asks on files
+//! of its own.
+ghost use Rattle.std.specs.Prelude.{◌<◌, ◌≤◌, length};
+
+use crate::client_files::{ClientNames, Closing, NamesError, client_names, open_clients};
+use crate::devices::{INPUT, OUTPUT, created, flush, held_places};
+use crate::noted::{Name, Noted};
+use crate::options::{EXPLAIN, JOURNAL, explain, file};
+use crate::statuses::REFUSED;
+use crate::stopped::Stopped;
+use clap::{Arg, ArgAction, ArgMatches, Command};
+use cspf_serve::{ClientError, MOST_ASKERS, Served, ServedClient, StreamError, run_serve};
+use std::alloc::{AllocError, Global};
+use std::io;
+use std::sync::Wait;
+use std::thread::Threads;
+
+/// The word of the command.
+pub const NAME: &str = "serve";
+
+/// What help says of it.
+const ABOUT: &str =
+    "Publishes the updates of standard input as they come in, and answers clients meanwhile";
+
+/// What help says below its options.
+const HELP: &str = "\
+Standard input has put, drop, node, end and ask rows as in solve, without a limit of their number.
+Each batch is written whole to the new journal, then it is in effect, and then its line is written.
+1 to 64 clients each ask on files of their own: --client IN=OUT reads ask rows from IN, and writes
+the line of each to OUT before the next row is read. No client waits for another, nor for a batch.
+Who has read version V on standard output is answered at V or later by every client.
+
+Lines of standard output, as in solve, and of a client's OUT:
+  version V                  a batch is in effect
+  ask ID vV route ..         a request is answered at version V; also none, unknown-from, unknown-to
+  batch N refused: ..        as in solve; also memory, journal W where the journal failed behind W
+                             bytes of the batch, and stopped for every batch behind that
+  row N refused: ..          also for a row of a client that isn't an ask row, which does nothing else
+  unended K                  at the end of the updates, changes that no end row took
+
+IN and OUT are files, pipes with a name (mkfifo) or /dev/fd/N, no name twice; an = in IN can't be
+told from the one between them. No OUT is written over: one that is a file with bytes, or the same
+file as another name, is refused before anything is opened. They are opened in the order given, IN
+before OUT, and the journal last. The opening of a pipe waits for its other end: a client has to open
+IN for writing first, then OUT for reading. A client ends with its rows, or alone where they can't be
+read or its lines can't be written, and its IN and OUT are closed then (of /dev/fd/N the other end
+sees it when the run ends). The run ends when standard input and all clients have ended.
+
+Status: 0 where all was accepted, 1 where the command line was refused, 2 where a row or a batch was
+refused or changes were left open, 3 where memory was refused for the updates, standard input or
+output failed, a file can't be opened, or the journal is there already: then the last line of standard
+error is routed: stopped, and with --explain the line before it says why. With --explain a line says of
+each client that ended before its rows did why it ended.";
+
+/// The option that names the two files of a client.
+const CLIENT: &str = "client";
+
+/// The command with its options.
+pub fn command<'a>(alloc: Global) -> Result<Command<'a>, AllocError> {
+    let client = Arg::new(alloc, CLIENT)
+        .long(CLIENT)
+        .value_name("IN=OUT")
+        .required(true)
+        .action(ArgAction::Append)
+        .help("The files of a client's requests and replies; once for each client");
+    Command::new(alloc, NAME)
+        .about(ABOUT)
+        .after_help(HELP)
+        .arg(file(alloc, JOURNAL, "The file of batches to make"))?
+        .arg(client)?
+        .arg(explain(alloc))
+}
+
+/// What the words of the command say.
+#[derive(Clone, Copy)]
+pub struct ServeWords<'m, 'a> {
+    journal: &'a str,
+    clients: &'m [&'a str],
+    explain: bool,
+}
+
+impl<'m, 'a> ServeWords<'m, 'a> {
+    /// The words that `clap` found.
+    pub fn read(words: &'m ArgMatches<'a>) -> Option<ServeWords<'m, 'a>> {
+        Some(ServeWords {
+            journal: words.get_str(JOURNAL)?,
+            clients: words.get_strs(CLIENT)?,
+            explain: words.get_flag(EXPLAIN),
+        })
+    }
+
+    /// Publishes the updates and answers the clients, where their files may be had.
+    pub fn run<T: Threads + Wait + Sync>(
+        self,
+        rt: &HostRuntime,
+        handle: &T,
+    ) -> Result<u8, Stopped<'a>> {
+        match client_names(rt, self.journal, self.clients) {
+            Ok(names) => self.serve(rt, handle, &names),
+            Err(NamesError::Memory) => Err(Stopped::Memory),
+            Err(why) => {
+                let _ = eprintln!(rt; "routed: {why}");
+                Ok(REFUSED)
+            }
+        }
+    }
+
+    /// Publishes the updates of standard input, each in the new journal first, and answers the clients
+    /// meanwhile. The files are opened before a row is read, the journal last.
+    fn serve<T: Threads + Wait + Sync>(
+        self,
+        rt: &HostRuntime,
+        handle: &T,
+        names: &[ClientNames<'a>],
+    ) -> Result<u8, Stopped<'a>>
+        requires { (0 < length names.now) × (length names.now ≤ MOST_ASKERS) }
+    {
+        let _held = held_places(rt);
+        let clients = open_clients(rt, names)?;
+        let mut updates = Noted::new(Name::of_stream(INPUT), rt.reader());
+        let mut said = Noted::new(Name::of_stream(OUTPUT), io::writer(rt));
+        let mut journal = created(rt, self.journal)?;
+        let ran = run_serve(
+            handle,
+            rt.alloc(),
+            &mut updates,
+            &mut said,
+            &mut journal,
+            clients,
+        );
+        match ran {
+            Ok(served) => {
+                let Served {
+                    status,
+                    updates: ended,
+                    said: _,
+                    journal: _,
+                    clients,
+                } = served;
+                if self.explain {
+                    explain_ends(rt, names, &clients);
+                }
+                flush(&mut journal)?;
+                match ended {
+                    Ok(()) => Ok(status),
+                    Err(error) => Err(Stopped::streaming(error, updates.fault(), said.fault())),
+                }
+            }
+            Err((error, _said, _journal, _clients)) => Err(Stopped::running(error, None)),
+        }
+    }
+}
+
+/// Says which clients ended before their rows did, and why.
+fn explain_ends(rt: &HostRuntime, names: &[ClientNames<'_>], clients: &[ServedClient<Closing>]) {
+    let mut number: usize = 1;
+    for (client, names) in clients.iter().zip(names) {
+        if let Err(error) = client.end {
+            let _ = match error {
+                ClientError::Stream(StreamError::Read) => {
+                    eprintln!(rt; "routed: client {number}: {}: {error}", names.requests)
+                }
+                ClientError::Stream(StreamError::Write | StreamError::Flush) => {
+                    eprintln!(rt; "routed: client {number}: {}: {error}", names.replies)
+                }
+                _ => eprintln!(rt; "routed: client {number}: {error}"),
+            };
+        }
+        number = number.saturating_add(1);
+    }
+}

@@ -1,0 +1,80 @@
+//! `routed snapshot` writes the few batches that make the last database of a journal from nothing.
+
+use crate::devices::{flush, opened, output};
+use crate::noted::Name;
+use crate::options::{ACCEPT_TORN, JOURNAL, accept_torn, explain, file};
+use crate::refused_rows::RowFiles;
+use crate::stopped::{Stopped, ended};
+use clap::{ArgMatches, Command};
+use cspf_serve::run_snapshot;
+use std::alloc::{AllocError, Global};
+
+/// The word of the command.
+pub const NAME: &str = "snapshot";
+
+/// What help says of it.
+const ABOUT: &str = "Writes the few batches that make the last database of a journal from nothing";
+
+/// What help says below its options.
+const HELP: &str = "\
+The journal is a file of put, drop, node and end rows: batches with the numbers 1, 2, 3 and so on.
+Standard output gets the rows of at most 5 batches, numbered from 1 on, which make the database of the
+last version from nothing: first the links in order of their routers and addresses, then the routers
+without transit. A database of nothing has no batch. A new run begins with them:
+  routed snapshot --journal old.journal > begin
+  cat begin - | routed serve --journal new.journal ..
+Versions count from 0 again there, so a version means something only beside the journal of its run.
+
+Where the journal is refused standard output has one line instead:
+  journal torn after N       rows behind batch N are no batch; with --accept-torn they are left out
+  batch N refused: ..        batch N doesn't fit
+  too many rows              the journal has more than 1,000,000 rows
+
+Status: 0 where the batches were written, 1 where the command line was refused, 2 where the journal was
+refused, 3 where memory was refused, a file or another device failed: then the last line of standard
+error is routed: stopped, and with --explain the line before it says why.";
+
+/// The command with its options.
+pub fn command<'a>(alloc: Global) -> Result<Command<'a>, AllocError> {
+    Command::new(alloc, NAME)
+        .about(ABOUT)
+        .after_help(HELP)
+        .arg(file(alloc, JOURNAL, "The file of batches"))?
+        .arg(accept_torn(alloc))?
+        .arg(explain(alloc))
+}
+
+/// What the words of the command say.
+#[derive(Clone, Copy)]
+pub struct SnapshotWords<'a> {
+    journal: &'a str,
+    accept_torn: bool,
+}
+
+impl<'a> SnapshotWords<'a> {
+    /// The words that `clap` found.
+    pub fn read(words: &ArgMatches<'a>) -> Option<SnapshotWords<'a>> {
+        Some(SnapshotWords {
+            journal: words.get_str(JOURNAL)?,
+            accept_torn: words.get_flag(ACCEPT_TORN),
+        })
+    }
+
+    /// The file whose rows may be refused.
+    pub fn row_files(self) -> RowFiles<'a> {
+        let journal = Name::of_file(JOURNAL, self.journal);
+        RowFiles {
+            journal: (!self.accept_torn).then_some(journal),
+            requests: None,
+        }
+    }
+
+    /// Writes the batches on standard output.
+    pub fn run(self, rt: &HostRuntime) -> Result<u8, Stopped<'a>> {
+        let mut out = output(rt)?;
+        let mut journal = opened(rt, JOURNAL, self.journal)?;
+        let ran = run_snapshot(rt.alloc(), &mut journal, &mut out, self.accept_torn);
+        flush(&mut out)?;
+        ended(ran, journal.fault().or(out.fault()))
+    }
+}
