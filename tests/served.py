@@ -1,4 +1,4 @@
-"""`routed serve`: 64 clients at once beside updates, clients that stop, kills at any moment, and tools/listen by real sockets."""
+"""`routed serve`: 64 clients at once beside updates, clients that stop, and kills at any moment."""
 import contextlib
 import fcntl
 import itertools
@@ -8,7 +8,6 @@ import re
 import resource
 import select
 import signal
-import socket
 import subprocess
 import tempfile
 import threading
@@ -19,15 +18,12 @@ from reference import Network, Refused, batch_text, ended, records, row, solve
 from refusal import COMPILER, Refuser
 from versions import Versions
 
-HERE = os.path.dirname(os.path.abspath(__file__))
-LISTEN = os.path.join(os.path.dirname(HERE), "tools", "listen")
 ROUTERS, BATCHES = 12, 60
 CLIENTS = 64  # the most of one run
 SILENT = 600  # requests by a client that doesn't read, more than its pipes hold
 NARROW = 4096  # bytes that these hold
 STREAMS, STREAM_CLIENTS = 30, 6  # runs over streams of any bytes, and the clients of each
 KILLS, TERMINATED = 100, 10  # runs that are killed, and every so many of them by SIGTERM
-CONNECTIONS, LEFT = 200, 20  # connections one after another, and such as go before their replies
 MOMENT, PATIENCE = 0.01, 60  # seconds: between batches and before a kill at most, and that a line is awaited
 AT = re.compile(r"ask \d+ v(\d+) ")
 
@@ -53,9 +49,7 @@ def served(program, checks):
         streams(program, checks, folder("streams"), draw)
         refusals(program, checks, folder("refusals"))
         kills(program, checks, folder("kills"), versions, draw)
-        listening(program, checks, folder("listening"), versions)
-        stopping(program, checks, folder("stopping"), versions)
-    print(f"served: {CLIENTS} clients, {KILLS} kills, {CONNECTIONS} connections, {time.monotonic() - start:.0f} s")
+    print(f"served: {CLIENTS} clients, {KILLS} kills, {time.monotonic() - start:.0f} s")
 
 
 # ---- runs
@@ -542,203 +536,3 @@ def update(run, versions, told, draw):
             if line == f"version {told[0] + 1}\n":
                 told[0] += 1
             time.sleep(draw.random() * MOMENT if draw else 0)
-
-
-# ---- tools/listen
-
-
-class Connection:
-    """A connection to tools/listen."""
-
-    def __init__(self, place):
-        kind = socket.AF_UNIX if isinstance(place, str) else socket.AF_INET
-        self.socket = socket.socket(kind)
-        self.socket.connect(place)
-        self.lines = Lines(self.socket.fileno())
-
-    def say(self, rows):
-        self.socket.sendall(rows.encode("latin-1"))
-
-    def talk(self, rows):
-        self.say(rows)
-        return self.lines.next()
-
-    def leave(self):
-        """Ends its rows, and hears its lines to their end."""
-        self.socket.shutdown(socket.SHUT_WR)
-        lines = self.lines.rest()
-        self.socket.close()
-        return "".join(lines)
-
-
-class Front:
-    """A run of tools/listen."""
-
-    def __init__(self, program, room, *more, ask=None, updates=None):
-        self.journal = os.path.join(room, "journal")
-        self.ask, self.updates = (os.path.join(room, name) for name in ("ask", "updates"))
-        words = ["--journal", self.journal, "--ask", ask or self.ask, "--updates", updates or self.updates, *more]
-        self.child = subprocess.Popen([LISTEN, "--program", program.path, *words], stdout=subprocess.PIPE, stderr=subprocess.PIPE)
-        self.errors = Lines(self.child.stderr.fileno())
-
-    def __enter__(self):
-        self.first = Lines(self.child.stdout.fileno()).next()
-        return self
-
-    def __exit__(self, *fault):
-        self.child.kill()
-        self.ended()
-        self.child.stdout.close()
-        self.child.stderr.close()
-
-    def ended(self):
-        """The status and standard error, once the server has ended too: it has the latter as well."""
-        return self.child.wait(PATIENCE), "".join(self.errors.rest())
-
-
-def admitted(place, row):
-    """A connection and the line of its first row, once there is a place for it."""
-    end = time.monotonic() + PATIENCE
-    while time.monotonic() < end:
-        taken = Connection(place)
-        try:
-            line = taken.talk(row)
-        except OSError:  # it was busy, and has ended already
-            line = "busy\n"
-        if line != "busy\n":
-            return taken, line
-        taken.socket.close()
-        time.sleep(0.01)
-    raise TimeoutError(place)
-
-
-def busy(place):
-    """What a connection over the limit reads."""
-    taken = Connection(place)
-    said = "".join(taken.lines.rest())
-    taken.socket.close()
-    return said
-
-
-def listening(program, checks, room, versions):
-    """Many connections, one too many, updates by one at a time, and a kill of the front in the middle."""
-    batches, asks = batches_of(versions), [f"{ask}\n" for ask in versions.asks]
-    with Front(program, room) as front:
-        checks.same("tools/listen is ready", front.first, "ready\n")
-        checks.same("its sockets are its user's alone", [os.stat(path).st_mode & 0o777 for path in (front.ask, front.updates)], [0o600] * 2)
-        updating = Connection(front.updates)
-        for number, batch in enumerate(batches[:20], 1):
-            checks.same(f"batch {number} by a socket", updating.talk(batch), f"version {number}\n")
-        checks.same("a second connection for updates", busy(front.updates), "busy\n")
-        found = []
-        for at in range(CONNECTIONS):
-            taken = Connection(front.ask)
-            found.append((20, taken.talk(asks[at % len(asks)])))
-            checks.same(f"the end of connection {at}", taken.leave(), "")
-        judged(checks, f"{CONNECTIONS} connections one after another", versions, found, 20)
-        together = [Connection(front.ask) for _ in range(CLIENTS)]
-        found = [(20, taken.talk(asks[at % len(asks)])) for at, taken in enumerate(together)]
-        judged(checks, f"{CLIENTS} connections at once", versions, found, 20)
-        checks.same("one connection too many", busy(front.ask), "busy\n")
-        silent_peer(checks, together, updating, versions)
-        updating.say("drop,10.0.0.1,10.0.0.1\n")  # left open: the next connection doesn't have it
-        for taken in [*together, updating]:
-            taken.socket.close()
-        updating, line = admitted(front.updates, asks[0])
-        judged(checks, "an ask by the updates' socket", versions, [(25, line)], 25)
-        checks.same("changes that a connection left open are dropped", updating.talk(batches[25]), "version 26\n")
-        taken, line = admitted(front.ask, asks[0])
-        judged(checks, "a place that is free again", versions, [(26, line)], 26)
-        *most, last = batches[26:]
-        updating.say("".join(most) + last[:last.index("end,")])  # its end row never comes
-        told = updating.lines.next()
-        front.child.kill()
-        front.ended()
-        heard = [told, *until_reset(updating.lines)]
-        with open(front.journal, encoding="ascii") as kept:
-            text = kept.read()
-        checks.true("the journal is whole where tools/listen is killed", text in versions.texts[27:-1], text[-200:])
-        wanted = [f"version {at}\n" for at in range(27, versions.texts.index(text) + 1 if text in versions.texts else 27)]
-        checks.true("what it told before is in the journal", heard == wanted[:len(heard)], heard)
-        checks.same("a client of the killed front reads its end", taken.lines.rest(), [])
-
-
-def until_reset(lines):
-    """All lines up to the end, or up to where the other end was killed with rows that it hadn't read."""
-    with contextlib.suppress(ConnectionResetError):
-        while line := lines.next():
-            yield line
-
-
-def silent_peer(checks, together, updating, versions):
-    """A connection that doesn't read keeps no other waiting."""
-    text, asks = "".join(f"{ask}\n" for ask in versions.asks).encode() * 2000, versions.asks  # a megabyte
-    together[0].socket.setblocking(False)
-    sent, quiet = 0, time.monotonic()
-    while time.monotonic() < quiet + 0.2:  # until no more is taken
-        try:
-            sent, quiet = sent + together[0].socket.send(text[sent:sent + (1 << 16)]), time.monotonic()
-        except BlockingIOError:
-            time.sleep(0.01)
-    checks.true("a connection that doesn't read holds its own rows up", 0 < sent < len(text), sent)
-    found = [[] for _ in together]
-    for number, batch in enumerate(batches_of(versions)[20:25], 21):
-        checks.same(f"batch {number} beside a connection that doesn't read", updating.talk(batch), f"version {number}\n")
-        for at, taken in enumerate(together[1:]):
-            found[at].append((number, taken.talk(f"{asks[len(found[at]) % len(asks)]}\n")))
-    checks.true("others beside a connection that doesn't read", all(versions.are_right([line.strip() for _, line in lines]) for lines in found))
-
-
-def stopping(program, checks, room, versions):
-    """Connections that end in the middle leave nothing to the next one; loopback TCP; modes, SIGTERM, and sockets that can't be had."""
-    ask, batch = f"{versions.asks[0]}\n", versions.texts[1]
-    said = subprocess.run([LISTEN, "--help"], capture_output=True, text=True).stdout
-    for word in ["--journal", "--ask", "--updates", "--clients", "--mode", "--program", "busy", "refused", "ready", "SIGTERM", "127.0.0.1", "65,536"]:
-        checks.true(f"help of tools/listen names {word}", word in said, said)
-    with Front(program, room, "--clients", "1", "--mode", "660") as front:
-        checks.same("the mode of its sockets", [os.stat(path).st_mode & 0o777 for path in (front.ask, front.updates)], [0o660] * 2)
-        for at in range(LEFT):
-            taken, line = admitted(front.ask, f"ask,{900 + at},1.1.1.1,2.2.2.2,0,5,0x0,0x0,0x0,\n")
-            checks.same(f"connection {at} has no other's lines", line, f"ask {900 + at} v0 unknown-from\n")
-            taken.say(ask * 200 + "ask,5,1.1")  # half a row, and gone
-            taken.socket.close()
-        taken, _ = admitted(front.ask, ask)
-        taken.say(ask * 3 + "ask,5")
-        checks.same("a half-closed connection is answered to its last whole line", taken.leave(), f"{versions.replies[0][0]}\n" * 3)
-        for name, row in [("a quotation mark", 'ask,"5\n'), ("a line too long", "9" * 70_000 + "\n"), ("no end of a line", "9" * 200_000)]:
-            taken, _ = admitted(front.ask, ask)
-            taken.say(ask + row)
-            checks.same(f"a connection with {name}", "".join(taken.lines.rest()), f"{versions.replies[0][0]}\nrefused\n")
-            taken.socket.close()
-        taken, _ = admitted(front.ask, ask)
-        taken.say("9" * 60_000 + "\n")
-        checks.true("a long line is passed on", re.fullmatch(r"row \d+ refused: kind\n", taken.lines.next()))
-        updating, _ = admitted(front.updates, ask)
-        checks.same("a batch before the end", updating.talk(batch), "version 1\n")
-        with Front(program, room) as second:
-            checks.same("sockets that are listened on", (second.first, *second.ended()), ("", 3, "listen: [Errno 98] Address already in use\n"))
-        front.child.send_signal(signal.SIGTERM)
-        checks.same("after SIGTERM", (front.ended(), updating.lines.rest()), ((128 + signal.SIGTERM, ""), []))
-        checks.same("its sockets are gone", sorted(os.listdir(room)), ["journal"])
-        with open(front.journal, encoding="ascii") as kept:
-            checks.same("the journal after SIGTERM", kept.read(), batch)
-    with Front(program, room) as front:
-        found = (front.first, *front.ended())
-        checks.same("a journal that is there", found, ("", 3, "routed: journal: open: File exists (os error 17)\nrouted: stopped\n"))
-        checks.same("no socket stays", os.listdir(room), ["journal"])
-    os.remove(front.journal)
-    with socket.socket(socket.AF_UNIX) as stale:
-        stale.bind(front.updates)
-    with socket.create_server(("127.0.0.1", 0)) as one, socket.create_server(("127.0.0.1", 0)) as other:
-        ports = [one.getsockname()[1], other.getsockname()[1]]
-    with Front(program, room, ask=str(ports[0])) as front:
-        updating, taken = Connection(front.updates), Connection(("127.0.0.1", ports[0]))
-        checks.same("a socket in place of one that nobody listens on", updating.talk(batch), "version 1\n")
-        checks.same("a port", (taken.talk(ask), taken.leave()), (f"{versions.replies[1][0]}\n", ""))
-        with socket.socket() as probe:
-            checks.true("it listens on 127.0.0.1 alone", probe.connect_ex(("127.0.0.2", ports[0])) != 0)
-    os.remove(front.journal)
-    with Front(program, room, ask=f"127.0.0.2:{ports[0]}", updates=str(ports[1])) as front:
-        updating, taken = Connection(("127.0.0.1", ports[1])), Connection(("127.0.0.2", ports[0]))
-        found = [updating.talk(batch), taken.talk(ask), taken.leave(), updating.leave()]
-        checks.same("an address and a port", found, ["version 1\n", f"{versions.replies[1][0]}\n", "", ""])

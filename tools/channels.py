@@ -1,0 +1,355 @@
+"""The connections of tools/listen: one event loop, the streams of `routed serve`, and who uses them.
+
+One thread does everything, so nothing here may wait but the loop itself: all files are non-blocking. At each turn of the
+loop a connection gets one read and one write each way, of at most 64 KiB, so that none holds another up for longer."""
+import collections
+import contextlib
+import ctypes
+import heapq
+import itertools
+import os
+import re
+import secrets
+import selectors
+import signal
+import socket
+import subprocess
+import time
+
+READ, WRITE = selectors.EVENT_READ, selectors.EVENT_WRITE
+LONGEST = 1 << 16  # bytes of a line and of a turn; the longest row that is accepted is far shorter
+LINGER, PAUSE = 1, 0.1  # seconds: for what a closing connection still sends, and until accepting is tried again
+MARK = b"\xef\xbb\xbf"  # the byte order mark, which the server's reader skips at the beginning of a stream alone
+SNAPSHOT = (b"snapshot\n", b"snapshot\r\n")
+# The whole lines that are passed on. No row needs a quotation mark, and left open it would swallow the rows of others.
+ASKED = re.compile(rb'(?:[^"\n]*\n)*+')
+# A carriage return ends a row of the server, too.
+UPDATES = re.compile(rb'(?:(?:(?:put|drop|node|end|ask)(?:,[^"\r\n]*)?)?[\r\n])*+')
+PRCTL, PR_SET_PDEATHSIG = ctypes.CDLL(None).prctl, 1
+
+
+class Loop:
+    """Calls what is to be done when a file can be read or written, and when a time has come."""
+
+    def __init__(self):
+        self.selector, self.keys, self.times, self.numbers = selectors.DefaultSelector(), {}, [], itertools.count()
+
+    def want(self, file, events, call=None):
+        """From now on calls this with the events that are there, and not at all without events."""
+        key = self.keys.get(file)
+        if events == (key.events if key else 0):
+            return
+        if not events:
+            self.selector.unregister(self.keys.pop(file).fd)
+        else:
+            self.keys[file] = self.selector.modify(file, events, call) if key else self.selector.register(file, events, call)
+
+    def after(self, seconds, call):
+        heapq.heappush(self.times, (time.monotonic() + seconds, next(self.numbers), call))
+
+    def turn(self):
+        """Waits for an event or a time, and calls all that are there."""
+        ready = self.selector.select(max(self.times[0][0] - time.monotonic(), 0) if self.times else None)
+        for key, events in ready:
+            if self.keys.get(key.fd) is key:  # else it was changed in this turn
+                key.data(events)
+        while self.times and self.times[0][0] <= time.monotonic():
+            heapq.heappop(self.times)[2]()
+
+
+class Listener:
+    """A socket that is listened on, and the channels that its connections use."""
+
+    def __init__(self, loop, listener, channels, idle):
+        self.loop, self.listener, self.channels, self.idle = loop, listener, channels, idle
+        self.free = collections.deque(channels)
+        for channel in channels:
+            channel.free = self.free
+        listener.setblocking(False)
+        self.listen()
+        if idle:
+            loop.after(idle, self.end_idle)
+
+    def listen(self):
+        self.loop.want(self.listener.fileno(), READ, self.accept)
+
+    def accept(self, _):
+        """Gives a connection a free channel for as long as it lasts."""
+        try:
+            connection, _ = self.listener.accept()
+            connection.setblocking(False)
+            if connection.family != socket.AF_UNIX:
+                connection.setsockopt(socket.IPPROTO_TCP, socket.TCP_NODELAY, 1)
+                connection.setsockopt(socket.SOL_SOCKET, socket.SO_KEEPALIVE, 1)
+        except OSError:  # it has gone already, or too many files are open
+            self.loop.want(self.listener.fileno(), 0)
+            self.loop.after(PAUSE, self.listen)
+            return
+        if self.free:
+            self.free.popleft().begin(connection)
+        else:
+            hang_up(self.loop, connection, b"busy\n")
+
+    def end_idle(self):
+        """Ends the connections that are idle, and comes again when the next one may be."""
+        now = time.monotonic()
+        for channel in self.channels:
+            if channel.connection and channel.moved + self.idle <= now:
+                channel.end_idle(now)
+        self.loop.after(min((channel.moved for channel in self.channels if channel.connection), default=now) + self.idle - now, self.end_idle)
+
+
+def hang_up(loop, connection, last=b"", is_read=False):
+    """Ends a connection by its last line. What it still sends is read for a moment: closed before that, it could lose lines."""
+    def close():
+        if connection.fileno() >= 0:
+            loop.want(connection.fileno(), 0)
+            connection.close()
+
+    def drop(_):
+        try:
+            if not connection.recv(LONGEST):
+                close()
+        except BlockingIOError:
+            pass
+        except OSError:
+            close()
+
+    with contextlib.suppress(OSError):
+        connection.sendall(last)
+        connection.shutdown(socket.SHUT_WR)
+    if is_read:
+        connection.close()
+    else:
+        loop.want(connection.fileno(), READ, drop)
+        loop.after(LINGER, close)
+
+
+def rest_of(file, data):
+    """Writes what the file takes now, and answers what is left: nothing where nobody reads it any more."""
+    try:
+        return data[os.write(file, data[:LONGEST]):]
+    except BlockingIOError:
+        return data
+    except OSError:
+        return b""
+
+
+class Channel:
+    """A stream of the server, which connections use one after the other.
+
+    Behind the rows of a connection stands a request of our own, which nobody can guess, and the lines before its reply are that
+    connection's, also where it has gone. A connection is read while the server takes its rows, and the server while the connection
+    takes its lines. So one that doesn't read holds itself up."""
+
+    passed = ASKED
+
+    def __init__(self, loop, rows, lines):
+        self.loop, self.rows, self.lines, self.free = loop, rows, lines, collections.deque()
+        self.to_server, self.to_client, self.unsaid = b"", b"", b""  # what waits to be written, and the beginning of a line
+        self.awaited, self.answered = b"", None  # how the reply to our own request begins, and what is called with its version
+        self.connection, self.is_taking, self.is_heard, self.is_over, self.is_ended = None, False, False, False, False
+        for file in (rows, lines):
+            os.set_blocking(file, False)
+
+    def begin(self, connection):
+        self.connection, self.unread, self.last, self.moved = connection, b"", b"", time.monotonic()
+        self.is_new, self.is_taking, self.is_heard, self.is_over, self.is_read = True, True, True, False, False
+        self.settle()
+
+    def settle(self, _=0):
+        """Writes what can be written, and waits for what comes next."""
+        if self.to_server:
+            self.to_server = rest_of(self.rows, self.to_server)
+        if self.to_client:
+            before, self.to_client = self.to_client, rest_of(self.connection.fileno(), self.to_client)
+            if self.to_client is not before:
+                self.moved = time.monotonic()
+        if self.is_over and not self.to_client:
+            self.release()
+        self.loop.want(self.rows, WRITE if self.to_server else 0, self.settle)
+        self.loop.want(self.lines, 0 if self.to_client or self.is_ended else READ, self.read_lines)
+        if self.connection:
+            events = (READ if self.is_taking and not self.to_server else 0) | (WRITE if self.to_client else 0)
+            self.loop.want(self.connection.fileno(), events, self.read_rows)
+
+    def read_rows(self, events):
+        """Reads once from the connection."""
+        if events & READ and self.is_taking and not self.to_server:
+            try:
+                data = os.read(self.connection.fileno(), LONGEST - len(self.unread))
+            except BlockingIOError:
+                return
+            except OSError:
+                data = b""
+            self.moved = time.monotonic()
+            self.unread += data
+            if data:
+                self.take()
+            else:
+                self.is_read = True
+                self.end_rows()
+        self.settle()
+
+    def take(self):
+        """Passes on the whole lines that were read, up to one that isn't passed on."""
+        end = self.unread.rfind(b"\n") + 1
+        if self.is_new and end:
+            self.unread, self.is_new = self.unread.removeprefix(MARK), False
+            end = self.unread.rfind(b"\n") + 1
+        passed = self.passed.match(self.unread, 0, end).end()
+        self.to_server += self.unread[:passed]
+        self.unread = self.unread[passed:]
+        if passed < end:
+            self.meet(self.unread[:self.unread.index(b"\n") + 1])
+        elif len(self.unread) == LONGEST:
+            self.end_rows(b"refused\n")
+
+    def meet(self, _):
+        """Takes a line that isn't passed on."""
+        self.end_rows(b"refused\n")
+
+    def ask(self, answered):
+        """Sends our own request, and calls this with the version of its reply."""
+        number = secrets.randbits(64)
+        self.to_server += f"ask,{number},0.0.0.0,0.0.0.1,0,0,0x0,0x0,0x0,\n".encode()
+        self.awaited, self.answered = f"ask {number} v".encode(), answered
+
+    def read_lines(self, _=0):
+        """Reads once from the server, and passes the whole lines on."""
+        try:
+            data = os.read(self.lines, LONGEST)
+        except BlockingIOError:
+            return
+        if not data:  # of the stream alone, or of the server
+            self.is_ended, self.is_taking = True, False
+            self.finish()
+        data, version = self.unsaid + data, None
+        end = data.rfind(b"\n") + 1
+        said, self.unsaid = data[:end], data[end:]
+        if self.awaited and (at := said.find(self.awaited)) >= 0:
+            version, said = int(said[at + len(self.awaited):].split(b" ", 1)[0]), said[:at]
+        if self.is_heard:
+            self.to_client += said
+        if version is not None:
+            self.awaited = b""
+            self.answered(version)
+        self.settle()
+
+    def read_rest(self):
+        """Passes on what a server that has ended has written, as far as the connection takes it."""
+        while not self.is_ended and not self.to_client:
+            self.read_lines()
+
+    def end_rows(self, last=b""):
+        """Takes no more rows. This line stands behind the lines of those that were taken."""
+        self.is_taking, self.last = False, last
+        self.ask(self.finish)
+
+    def finish(self, _=0):
+        """All lines of the connection have been read."""
+        self.is_heard, self.is_over = False, True
+        if self.connection:
+            self.to_client += self.last
+
+    def release(self):
+        """Is free again before the connection sees its end."""
+        connection, self.connection, self.is_over = self.connection, None, False
+        if self.is_ended:
+            with contextlib.suppress(ValueError):
+                self.free.remove(self)
+        else:
+            self.free.append(self)
+        if connection:
+            self.loop.want(connection.fileno(), 0)
+            hang_up(self.loop, connection, is_read=self.is_read)
+
+    def end_idle(self, now):
+        """Ends a connection that neither sends nor takes anything. The lines that it doesn't take are dropped."""
+        if self.to_client:
+            self.to_client, self.is_heard, self.last = b"", False, b""
+        self.moved = now
+        if self.is_taking:
+            self.end_rows()
+        self.settle()
+
+
+class Updates(Channel):
+    """The stream of the updates: changes that a connection leaves open are dropped, and its row `snapshot` is answered."""
+
+    passed = UPDATES
+
+    def __init__(self, loop, rows, lines, snapshots):
+        super().__init__(loop, rows, lines)
+        self.snapshots = snapshots
+
+    def end_rows(self, last=b""):
+        self.is_taking, self.last = False, last
+        self.ask(self.drop_changes)
+
+    def drop_changes(self, _):
+        """A batch that is refused takes the open changes away. Its line is nobody's."""
+        self.is_heard = False
+        self.to_server += b"end,0,0\n"
+        self.ask(self.finish)
+
+    def meet(self, line):
+        if line not in SNAPSHOT:
+            super().meet(line)
+            return
+        self.unread, self.is_taking = self.unread[len(line):], False
+        self.ask(lambda version: self.snapshots.begin(version, self.go_on))
+
+    def go_on(self, text):
+        """Passes the text of a snapshot on, and then the rows behind its row."""
+        self.to_client += text
+        if not self.is_ended:
+            self.is_taking = True
+            self.take()
+        self.settle()
+
+
+class Snapshots:
+    """Snapshots of the running journal, which `routed snapshot` makes beside the loop, one at a time."""
+
+    def __init__(self, program, journal):
+        self.words, self.journal, self.child = [program, "snapshot", "--accept-torn", "--explain", "--journal", journal], journal, None
+
+    def begin(self, version, say):
+        """Gives `say` all lines of a snapshot once they are there, or the one that refuses it."""
+        self.head, self.say, self.files = f"version {version}\n".encode(), say, []
+        try:
+            self.files += [os.memfd_create(name) for name in ("rows", "errors")]
+            if self.is_cut_in_an_end():
+                self.end(1, b"the journal has failed inside an end row")
+            else:
+                self.child = subprocess.Popen(self.words, stdin=subprocess.DEVNULL, stdout=self.files[0], stderr=self.files[1], preexec_fn=die_with_us)
+        except OSError as error:
+            self.end(1, f"{error.filename or self.words[0]}: {error.strerror}".encode())
+
+    def is_cut_in_an_end(self):
+        """Whether the journal's last row could be read as the end of a batch that isn't published."""
+        with open(self.journal, "rb") as kept:
+            kept.seek(max(kept.seek(0, os.SEEK_END) - LONGEST, 0))
+            return kept.read().rpartition(b"\n")[2].startswith(b"end,")
+
+    def look(self):
+        """Sees whether the program has ended."""
+        if self.child and self.child.poll() is not None:
+            rows, errors = (os.pread(file, os.fstat(file).st_size, 0) for file in self.files)
+            status, self.child = self.child.returncode, None
+            self.end(status, rows if status == 0 else (rows if status == 2 else errors).partition(b"\n")[0] or f"status {status}".encode())
+
+    def end(self, status, text):
+        for file in self.files:
+            os.close(file)
+        self.say(self.head + text + b"snapshot end\n" if status == 0 else b"snapshot refused: " + text + b"\n")
+
+    def stop(self):
+        if self.child:
+            self.child.kill()
+
+
+def die_with_us():
+    """The child of a program that is killed is killed, too."""
+    PRCTL(PR_SET_PDEATHSIG, signal.SIGKILL)
