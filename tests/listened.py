@@ -1,6 +1,8 @@
 """`tools/listen` by real sockets: who may connect, what connections are told, snapshots of the running journal, signals and causes."""
 import argparse
 import contextlib
+import ctypes
+import functools
 import itertools
 import os
 import random
@@ -28,6 +30,7 @@ LISTEN = os.environ.get("LISTEN", os.path.join(TOP, "tools", "listen"))  # anoth
 CONNECTIONS, LEFT = 200, 20  # connections one after another, and such as go before their replies
 SIGNALS, SOON = 20, 10  # runs that are ended by SIGTERM, and the seconds that they may take on a machine that others use
 MARK = "\xef\xbb\xbf"  # the byte order mark
+TGKILL = functools.partial(ctypes.CDLL(None).syscall, 234)  # sends a signal to one thread (x86-64)
 
 
 def listened(program, checks):
@@ -37,16 +40,14 @@ def listened(program, checks):
     asks = [f"ask,{at},10.0.0.{at},10.0.0.{(at * 5 + 1) % ROUTERS},{at % 8},{draw.choice([0, 5])},0x0,0x0,0x0," for at in range(ROUTERS)]
     versions = Versions(updates, asks)
     with tempfile.TemporaryDirectory() as room:
-        for part in (listening, stopping, one_thread, signals, places, ports, modes, posted, marks, idle, snapshot, beside_asks, failed_journal,
+        for part in (listening, stopping, held_up, one_thread, signals, places, ports, modes, posted, marks, idle, snapshot, beside_asks, failed_journal,
                      failed_snapshots, server_ends, causes):
             inner = os.path.join(room, part.__name__)
             os.mkdir(inner)
-            before = time.monotonic()
             try:
                 part(program, checks, inner, versions)
             except Exception as fault:  # the others go on
                 checks.fail(f"{part.__name__}: {type(fault).__name__}: {fault}")
-            print(part.__name__, f"{time.monotonic() - before:.1f}")
     print(f"listened: {CONNECTIONS} connections, {SIGNALS} signals, {time.monotonic() - start:.0f} s")
 
 
@@ -268,12 +269,50 @@ def stopping(program, checks, room, versions):
         checks.same("an address and a port", found, ["version 1\n", f"{versions.replies[1][0]}\n", "", ""])
 
 
+LONG_LINES = '''#!/usr/bin/env python3
+import sys, threading
+def serve(rows, lines):
+    for row in rows:
+        lines.write(b"ask %s v0 %s\\n" % (row.split(b",")[1], b"x" * 100_000))
+        lines.flush()
+pairs = [word.split("=") for word in sys.argv if "=" in word]
+threads = [threading.Thread(target=serve, args=(open(rows, "rb"), open(lines, "wb"))) for rows, lines in pairs]
+for thread in threads:
+    thread.start()
+serve(sys.stdin.buffer, sys.stdout.buffer)
+'''
+
+
+def held_up(program, checks, room, versions):
+    """A connection that doesn't read holds the server's lines up, too: they don't fill the memory of tools/listen. By a program of long lines."""
+    class Long:
+        path = os.path.join(room, "routed")
+
+    with open(Long.path, "w", encoding="ascii") as script:
+        script.write(LONG_LINES)
+    os.chmod(Long.path, 0o700)
+    with Front(Long, room, "--clients", "2") as front:
+        before, many, line = memory_of(front, "VmRSS"), 300, f"ask 1 v0 {'x' * 100_000}\n"
+        silent, taken = Connection(front.ask), Connection(front.ask)
+        silent.say("ask,1,\n" * many)
+        found = [taken.talk("ask,1,\n") == line for _ in range(100)]
+        checks.same("beside a connection that doesn't read long lines", found, [True] * 100)
+        more = memory_of(front, "VmRSS") - before
+        checks.true("lines that aren't read don't fill the memory", more < 8 << 20, more)
+        checks.true("a connection that reads long lines late", all(silent.lines.next() == line for _ in range(many)))
+        checks.same("and its end", silent.leave(), "")
+
+
+def memory_of(front, kind):
+    """Bytes of the front's memory."""
+    with open(f"/proc/{front.child.pid}/status", encoding="ascii") as status:
+        return next(int(line.split()[1]) for line in status if line.startswith(kind)) << 10
+
+
 def one_thread(program, checks, room, versions):
     """64 connections need no thread, and next to no memory."""
     with Front(program, room) as front:
-        with open(f"/proc/{front.child.pid}/status", encoding="ascii") as status:
-            size = next(int(line.split()[1]) for line in status if line.startswith("VmSize")) << 10
-        resource.prlimit(front.child.pid, resource.RLIMIT_AS, (size + (24 << 20),) * 2)  # the stacks of three threads
+        resource.prlimit(front.child.pid, resource.RLIMIT_AS, (memory_of(front, "VmSize") + (24 << 20),) * 2)  # the stacks of three threads
         together = [Connection(front.ask) for _ in range(CLIENTS)]
         for taken in together:
             taken.socket.settimeout(SOON)
@@ -285,7 +324,7 @@ def one_thread(program, checks, room, versions):
 
 
 def signals(program, checks, room, versions):
-    """SIGTERM is heard, also where connections have just ended."""
+    """SIGTERM is heard, whichever thread takes it, where connections have just ended."""
     with contextlib.ExitStack() as kept:
         fronts, ended = [], []
         for at in range(SIGNALS):
@@ -293,14 +332,17 @@ def signals(program, checks, room, versions):
             fronts.append(Front(program, inner, "--clients", "8"))
         for front in fronts:
             kept.enter_context(front)
-        for front in fronts:
+        for at, front in enumerate(fronts):
             together = [Connection(front.ask) for _ in range(8)]
             for taken in together:
                 taken.say(f"{versions.asks[0]}\n")
             for taken in together:
                 taken.lines.next()
                 taken.socket.close()
-            front.child.terminate()
+            if at % 2:
+                front.child.terminate()
+            else:  # the system may choose any thread that there is
+                TGKILL(front.child.pid, max(map(int, os.listdir(f"/proc/{front.child.pid}/task"))), signal.SIGTERM)
             with contextlib.suppress(subprocess.TimeoutExpired):
                 ended.append(front.child.wait(SOON))
         checks.same("SIGTERM behind connections that have ended", ended, [128 + signal.SIGTERM] * SIGNALS)
@@ -311,7 +353,7 @@ def signals(program, checks, room, versions):
 
 def places(program, checks, room, versions):
     """A place that is none is refused, and nothing is made."""
-    wrong = ["", ":8001", "::1:8001", "[::1]", "[]:80", "[::1]:65536", "65536", "localhost:", "name:x"]
+    wrong = ["", ":8001", "::1:8001", "[::1]", "[]:80", "[::1]:65536", "65536", "100000", "localhost:", "name:x"]
     for option, those in (("--ask", wrong[:2]), ("--updates", wrong)):
         for place in those:
             given = {"--ask": "./a", "--updates": "./u", option: place}
@@ -365,32 +407,28 @@ def modes(program, checks, room, versions):
 def posted(program, checks, room, versions):
     """Where updates come in, only their rows are passed on: an HTTP request publishes nothing."""
     text, ask, batches = versions.texts[1], f"{versions.asks[0]}\n", batches_of(versions)
-    with Front(program, room, updates="0") as front:
-        place = ("127.0.0.1", int(front.first.rpartition(":")[2]) if front.first != "ready\n" else 0)
+    with socket.create_server(("127.0.0.1", 0)) as other:
+        place = other.getsockname()
+    with Front(program, room, updates=str(place[1])) as front:
         for name in ("POST", "PUT", "put", "end"):
             taken = Connection(place)
             taken.say(f"{name} / HTTP/1.1\r\nHost: 127.0.0.1\r\nContent-Type: text/plain\r\nContent-Length: {len(text)}\r\n\r\n{text}")
-            checks.same(f"an HTTP request: {name}", taken.rest(), "refused\n")
+            checks.same(f"an HTTP request: {name}", taken.leave(), "refused\n")
         updating, line = admitted(place, ask)
         checks.same("and nothing is published by it", (line, front.kept()), (f"{versions.replies[0][0]}\n", ""))
         updating.leave()
-        number = 0
-        for row in ["foo", "version 1", " end,1,0", "END,1,0", "ends,1,0", "putt", "snapshots", "snapshot,1", "snapshot ", f"{MARK}end,1,0", "#", "foo\rask,1",
-                    f"end,{{}},0\rfoo", '"end",1,0', "end,1,\"0", "\0", ",", "ask\tx", "9" * 70_000]:
-            number += 1
-            front_row = row.format(number + 1)
+        rows = ["foo", "version 1", " end,1,0", "END,1,0", "ends,1,0", "putt", "snapshots", "snapshot,1", "snapshot ", f"{MARK}end,1,0", "#",
+                "foo\rask,1", "ask,1\rfoo", '"end",1,0', 'end,1,"0', "\0", ",", "ask\tx", "9" * 70_000]
+        for number, row in enumerate(rows, 1):
             taken, line = admitted(place, ask)
-            taken.say(f"{batches[number - 1]}{front_row}\nend,{number + 1},0\n")
-            both = front_row.startswith("end,") and "\r" in row
-            wanted = f"version {number}\n" + (f"version {number + 1}\n" if both else "") + "refused\n"
-            checks.same(f"a row that isn't passed on: {row[:20]!r}", taken.rest(), wanted)
-            checks.same(f"nothing behind it is: {row[:20]!r}", front.kept(), versions.texts[number] + (f"end,{number + 1},0\n" if both else ""))
-            if both:
-                break
+            taken.say(f"{batches[number - 1]}{row}\nend,{number + 1},0\n")
+            found = re.sub(r"row \d+ refused: fields\n", "", taken.rest())  # of what stands before a carriage return, which ends a row, too
+            checks.same(f"a row that isn't passed on: {row[:20]!r}", found, f"version {number}\nrefused\n")
+            checks.same(f"nothing behind it is: {row[:20]!r}", front.kept(), versions.texts[number])
         taken, _ = admitted(place, ask)
         taken.say("\n\r\n" + ask + "drop\nput,1\nnode\nend\nask\n" + ask)
         found = re.sub(r"row \d+", "row", taken.leave())
-        reply = f"ask {ask.split(',')[1]} v{number + 1} "
+        reply = f"ask {ask.split(',')[1]} v{number} "
         checks.true("rows of the updates that the server refuses", re.fullmatch(rf"{reply}.*\n(row refused: fields\n){{5}}{reply}.*\n", found), found)
 
 
@@ -418,7 +456,7 @@ def marks(program, checks, room, versions):
 def idle(program, checks, room, versions):
     """An asking connection that neither sends nor reads is ended, and its place is free then."""
     ask, reply = f"{versions.asks[0]}\n", f"{versions.replies[0][0]}\n"
-    with Front(program, room, "--clients", "4", "--idle", "0.8") as front:
+    with Front(program, room, "--clients", "4", "--idle", "1.5") as front:
         start, updating = time.monotonic(), Connection(front.updates)
         silent, half, asking, reading = (Connection(front.ask) for _ in range(4))
         half.say(ask + "ask,1")
@@ -431,15 +469,14 @@ def idle(program, checks, room, versions):
         pouring = threading.Thread(target=pour, daemon=True)
         pouring.start()
         checks.same("what was sent is answered", half.hear(1), reply)
-        for at in range(15):
+        for at in range(20):
             time.sleep(0.1)
             checks.same(f"a connection that asks, {at}", asking.talk(ask), reply)
-            reading.hear(100)  # it sends nothing more, and takes its lines
+            checks.same(f"a connection whose lines are read, {at}", reading.hear(50), reply * 50)
         checks.same("a silent connection, and one in the middle of a row, read their ends", (silent.rest(), half.rest()), ("", ""))
         checks.true("after the time of --idle", time.monotonic() - start < PATIENCE)
         checks.same("a connection that brings updates isn't ended", updating.talk("end,1,0\n"), "version 1\n")
-        time.sleep(2.5)  # now one doesn't read
-        taken = [admitted(front.ask, ask)[0] for _ in range(4)]
+        taken = [admitted(front.ask, ask)[0] for _ in range(4)]  # now one doesn't read
         checks.same("places are free again", len(taken), 4)
         pouring.join(PATIENCE)
         checks.true("one that doesn't read is let go", not pouring.is_alive())
@@ -559,7 +596,7 @@ def failed_snapshots(program, checks, room, versions):
         for text, line in [
             ("echo put,1; echo 'routed: journal: read: Input/output error (os error 5)' >&2; echo 'routed: stopped' >&2; exit 3",
              "routed: journal: read: Input/output error (os error 5)"),
-            ("echo too many rows; exit 2", "too many rows"), ("exit 3", "status 3"), ("echo put,1; kill -9 $$", "status -9"),
+            ("echo too many rows; exit 2", "too many rows"), ("exit 3", "status 3"), ("echo put,1; kill -9 $$", "signal 9"),
         ]:
             wrap(text)
             updating.say(f"snapshot\n{ask}")

@@ -1,22 +1,17 @@
-"""The connections of tools/listen: one event loop, the streams of `routed serve`, and who uses them.
+"""The connections of tools/listen, and the streams of `routed serve` that they use.
 
-One thread does everything, so nothing here may wait but the loop itself: all files are non-blocking. At each turn of the
-loop a connection gets one read and one write each way, of at most 64 KiB, so that none holds another up for longer."""
+One thread does everything, so nothing waits but its loop: all files are non-blocking. At each turn of the loop a
+connection gets one read and one write each way, of at most 64 KiB, so that none holds another up for longer."""
 import collections
 import contextlib
-import ctypes
-import heapq
-import itertools
 import os
 import re
 import secrets
-import selectors
-import signal
 import socket
-import subprocess
 import time
 
-READ, WRITE = selectors.EVENT_READ, selectors.EVENT_WRITE
+from loop import READ, WRITE  # beside this file
+
 LONGEST = 1 << 16  # bytes of a line and of a turn; the longest row that is accepted is far shorter
 LINGER, PAUSE = 1, 0.1  # seconds: for what a closing connection still sends, and until accepting is tried again
 MARK = b"\xef\xbb\xbf"  # the byte order mark, which the server's reader skips at the beginning of a stream alone
@@ -25,36 +20,6 @@ SNAPSHOT = (b"snapshot\n", b"snapshot\r\n")
 ASKED = re.compile(rb'(?:[^"\n]*\n)*+')
 # A carriage return ends a row of the server, too.
 UPDATES = re.compile(rb'(?:(?:(?:put|drop|node|end|ask)(?:,[^"\r\n]*)?)?[\r\n])*+')
-PRCTL, PR_SET_PDEATHSIG = ctypes.CDLL(None).prctl, 1
-
-
-class Loop:
-    """Calls what is to be done when a file can be read or written, and when a time has come."""
-
-    def __init__(self):
-        self.selector, self.keys, self.times, self.numbers = selectors.DefaultSelector(), {}, [], itertools.count()
-
-    def want(self, file, events, call=None):
-        """From now on calls this with the events that are there, and not at all without events."""
-        key = self.keys.get(file)
-        if events == (key.events if key else 0):
-            return
-        if not events:
-            self.selector.unregister(self.keys.pop(file).fd)
-        else:
-            self.keys[file] = self.selector.modify(file, events, call) if key else self.selector.register(file, events, call)
-
-    def after(self, seconds, call):
-        heapq.heappush(self.times, (time.monotonic() + seconds, next(self.numbers), call))
-
-    def turn(self):
-        """Waits for an event or a time, and calls all that are there."""
-        ready = self.selector.select(max(self.times[0][0] - time.monotonic(), 0) if self.times else None)
-        for key, events in ready:
-            if self.keys.get(key.fd) is key:  # else it was changed in this turn
-                key.data(events)
-        while self.times and self.times[0][0] <= time.monotonic():
-            heapq.heappop(self.times)[2]()
 
 
 class Listener:
@@ -96,7 +61,8 @@ class Listener:
         for channel in self.channels:
             if channel.connection and channel.moved + self.idle <= now:
                 channel.end_idle(now)
-        self.loop.after(min((channel.moved for channel in self.channels if channel.connection), default=now) + self.idle - now, self.end_idle)
+        first = min((channel.moved for channel in self.channels if channel.connection), default=now)
+        self.loop.after(first + self.idle - now, self.end_idle)
 
 
 def hang_up(loop, connection, last=b"", is_read=False):
@@ -149,6 +115,7 @@ class Channel:
         self.to_server, self.to_client, self.unsaid = b"", b"", b""  # what waits to be written, and the beginning of a line
         self.awaited, self.answered = b"", None  # how the reply to our own request begins, and what is called with its version
         self.connection, self.is_taking, self.is_heard, self.is_over, self.is_ended = None, False, False, False, False
+        self.state = None
         for file in (rows, lines):
             os.set_blocking(file, False)
 
@@ -167,6 +134,10 @@ class Channel:
                 self.moved = time.monotonic()
         if self.is_over and not self.to_client:
             self.release()
+        # what is waited for hangs on these alone, and is the same most of the time
+        before, self.state = self.state, (self.connection, self.is_taking, self.is_ended, not self.to_server, not self.to_client)
+        if self.state == before:
+            return
         self.loop.want(self.rows, WRITE if self.to_server else 0, self.settle)
         self.loop.want(self.lines, 0 if self.to_client or self.is_ended else READ, self.read_lines)
         if self.connection:
@@ -302,54 +273,8 @@ class Updates(Channel):
 
     def go_on(self, text):
         """Passes the text of a snapshot on, and then the rows behind its row."""
-        self.to_client += text
-        if not self.is_ended:
-            self.is_taking = True
-            self.take()
+        if self.is_ended:
+            return
+        self.to_client, self.is_taking = self.to_client + text, True
+        self.take()
         self.settle()
-
-
-class Snapshots:
-    """Snapshots of the running journal, which `routed snapshot` makes beside the loop, one at a time."""
-
-    def __init__(self, program, journal):
-        self.words, self.journal, self.child = [program, "snapshot", "--accept-torn", "--explain", "--journal", journal], journal, None
-
-    def begin(self, version, say):
-        """Gives `say` all lines of a snapshot once they are there, or the one that refuses it."""
-        self.head, self.say, self.files = f"version {version}\n".encode(), say, []
-        try:
-            self.files += [os.memfd_create(name) for name in ("rows", "errors")]
-            if self.is_cut_in_an_end():
-                self.end(1, b"the journal has failed inside an end row")
-            else:
-                self.child = subprocess.Popen(self.words, stdin=subprocess.DEVNULL, stdout=self.files[0], stderr=self.files[1], preexec_fn=die_with_us)
-        except OSError as error:
-            self.end(1, f"{error.filename or self.words[0]}: {error.strerror}".encode())
-
-    def is_cut_in_an_end(self):
-        """Whether the journal's last row could be read as the end of a batch that isn't published."""
-        with open(self.journal, "rb") as kept:
-            kept.seek(max(kept.seek(0, os.SEEK_END) - LONGEST, 0))
-            return kept.read().rpartition(b"\n")[2].startswith(b"end,")
-
-    def look(self):
-        """Sees whether the program has ended."""
-        if self.child and self.child.poll() is not None:
-            rows, errors = (os.pread(file, os.fstat(file).st_size, 0) for file in self.files)
-            status, self.child = self.child.returncode, None
-            self.end(status, rows if status == 0 else (rows if status == 2 else errors).partition(b"\n")[0] or f"status {status}".encode())
-
-    def end(self, status, text):
-        for file in self.files:
-            os.close(file)
-        self.say(self.head + text + b"snapshot end\n" if status == 0 else b"snapshot refused: " + text + b"\n")
-
-    def stop(self):
-        if self.child:
-            self.child.kill()
-
-
-def die_with_us():
-    """The child of a program that is killed is killed, too."""
-    PRCTL(PR_SET_PDEATHSIG, signal.SIGKILL)
