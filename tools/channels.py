@@ -16,9 +16,7 @@ LONGEST = 1 << 16  # bytes of a line and of a turn; the longest row that is acce
 LINGER, PAUSE = 1, 0.1  # seconds: for what a closing connection still sends, and until accepting is tried again
 MARK = b"\xef\xbb\xbf"  # the byte order mark, which the server's reader skips at the beginning of a stream alone
 SNAPSHOT = (b"snapshot\n", b"snapshot\r\n")
-# The whole lines that are passed on. No row needs a quotation mark, and left open it would swallow the rows of others.
-ASKED = re.compile(rb'(?:[^"\n]*\n)*+')
-# A carriage return ends a row of the server, too.
+# Rows of the updates. A carriage return ends one, too.
 UPDATES = re.compile(rb'(?:(?:(?:put|drop|node|end|ask)(?:,[^"\r\n]*)?)?[\r\n])*+')
 
 
@@ -108,8 +106,6 @@ class Channel:
     connection's, also where it has gone. A connection is read while the server takes its rows, and the server while the connection
     takes its lines. So one that doesn't read holds itself up."""
 
-    passed = ASKED
-
     def __init__(self, loop, rows, lines):
         self.loop, self.rows, self.lines, self.free = loop, rows, lines, collections.deque()
         self.to_server, self.to_client, self.unsaid = b"", b"", b""  # what waits to be written, and the beginning of a line
@@ -168,13 +164,18 @@ class Channel:
         if self.is_new and end:
             self.unread, self.is_new = self.unread.removeprefix(MARK), False
             end = self.unread.rfind(b"\n") + 1
-        passed = self.passed.match(self.unread, 0, end).end()
+        passed = self.passed(end)
         self.to_server += self.unread[:passed]
         self.unread = self.unread[passed:]
         if passed < end:
             self.meet(self.unread[:self.unread.index(b"\n") + 1])
         elif len(self.unread) == LONGEST:
             self.end_rows(b"refused\n")
+
+    def passed(self, end):
+        """How far whole lines are passed on. No row needs a quotation mark, and left open it would swallow the rows of others."""
+        at = self.unread.find(b'"', 0, end)
+        return end if at < 0 else self.unread.rfind(b"\n", 0, at) + 1
 
     def meet(self, _):
         """Takes a line that isn't passed on."""
@@ -248,11 +249,12 @@ class Channel:
 class Updates(Channel):
     """The stream of the updates: changes that a connection leaves open are dropped, and its row `snapshot` is answered."""
 
-    passed = UPDATES
-
     def __init__(self, loop, rows, lines, snapshots):
         super().__init__(loop, rows, lines)
         self.snapshots = snapshots
+
+    def passed(self, end):
+        return UPDATES.match(self.unread, 0, end).end()
 
     def end_rows(self, last=b""):
         self.is_taking, self.last = False, last
