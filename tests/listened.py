@@ -342,7 +342,8 @@ def signals(program, checks, room, versions):
             if at % 2:
                 front.child.terminate()
             else:  # the system may choose any thread that there is
-                TGKILL(front.child.pid, max(map(int, os.listdir(f"/proc/{front.child.pid}/task"))), signal.SIGTERM)
+                first, *more = sorted(map(int, os.listdir(f"/proc/{front.child.pid}/task")))
+                checks.same("a signal is sent to a thread", TGKILL(front.child.pid, (more or [first])[0], signal.SIGTERM), 0)
             with contextlib.suppress(subprocess.TimeoutExpired):
                 ended.append(front.child.wait(SOON))
         checks.same("SIGTERM behind connections that have ended", ended, [128 + signal.SIGTERM] * SIGNALS)
