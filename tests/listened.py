@@ -249,7 +249,7 @@ def stopping(program, checks, room, versions):
             checks.same("the journal after SIGTERM", kept.read(), batch)
     with Front(program, room) as front:
         found = (front.first, *front.ended())
-        checks.same("a journal that is there", found, ("", 3, "routed: journal: open: File exists (os error 17)\nrouted: stopped\n"))
+        checks.same("a journal that is there", found, ("", 3, f"routed: journal {front.journal}: open: File exists (os error 17)\nrouted: stopped\n"))
         checks.same("no socket stays", os.listdir(room), ["journal"])
     os.remove(front.journal)
     with socket.socket(socket.AF_UNIX) as stale:

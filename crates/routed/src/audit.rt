@@ -1,6 +1,7 @@
 //! `routed audit` judges a file of replies by a journal and requests.
 
 use crate::devices::{flush, opened, output};
+use crate::ends::end;
 use crate::noted::Name;
 use crate::options::{JOURNAL, REQUESTS, explain, file};
 use crate::refused_rows::RowFiles;
@@ -79,7 +80,7 @@ impl<'a> AuditWords<'a> {
     }
 
     /// The files whose rows may be refused.
-    pub fn row_files(self) -> RowFiles<'a> {
+    fn row_files(self) -> RowFiles<'a> {
         RowFiles {
             journal: Some(Name::of_file(JOURNAL, self.journal)),
             requests: Some(Name::of_file(REQUESTS, self.requests)),
@@ -88,7 +89,7 @@ impl<'a> AuditWords<'a> {
 
     /// Judges the replies, and writes what it finds on standard output. The files are opened before a
     /// row is read.
-    pub fn run(self, rt: &HostRuntime) -> Result<u8, Stopped<'a>> {
+    fn judge(self, rt: &HostRuntime) -> Result<u8, Stopped<'a>> {
         let mut out = output(rt)?;
         let mut journal = opened(rt, JOURNAL, self.journal)?;
         let mut requests = opened(rt, REQUESTS, self.requests)?;
@@ -103,5 +104,11 @@ impl<'a> AuditWords<'a> {
         flush(&mut out)?;
         let read = journal.fault().or(requests.fault()).or(replies.fault());
         ended(ran, read.or(out.fault()))
+    }
+
+    /// Runs the command, and answers the status.
+    pub fn run(self, rt: &HostRuntime, explain: bool) -> u8 {
+        let ran = self.judge(rt);
+        end(rt, ran, self.row_files(), explain)
     }
 }

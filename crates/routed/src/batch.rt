@@ -1,6 +1,7 @@
 //! `routed batch` applies the batches of a journal, and answers a file of requests.
 
 use crate::devices::{flush, opened, output};
+use crate::ends::end;
 use crate::noted::Name;
 use crate::options::{
     ACCEPT_TORN, JOURNAL, REQUESTS, WorkerCount, accept_torn, explain, file, workers,
@@ -74,7 +75,7 @@ impl<'a> BatchWords<'a> {
     }
 
     /// The files whose rows may be refused.
-    pub fn row_files(self) -> RowFiles<'a> {
+    fn row_files(self) -> RowFiles<'a> {
         let journal = Name::of_file(JOURNAL, self.journal);
         RowFiles {
             journal: (!self.accept_torn).then_some(journal),
@@ -84,7 +85,7 @@ impl<'a> BatchWords<'a> {
 
     /// Applies the batches and answers the requests on standard output. The files are opened before a
     /// row is read.
-    pub fn run<T: Threads + Wait + Sync>(
+    fn answer<T: Threads + Wait + Sync>(
         self,
         rt: &HostRuntime,
         handle: &T,
@@ -105,5 +106,11 @@ impl<'a> BatchWords<'a> {
         flush(&mut out)?;
         let noted = journal.fault().or(requests.fault()).or(out.fault());
         ended(ran, noted)
+    }
+
+    /// Runs the command, and answers the status.
+    pub fn run<T: Threads + Wait + Sync>(self, rt: &HostRuntime, handle: &T, explain: bool) -> u8 {
+        let ran = self.answer(rt, handle);
+        end(rt, ran, self.row_files(), explain)
     }
 }

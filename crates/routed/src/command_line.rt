@@ -3,11 +3,8 @@
 use crate::audit::AuditWords;
 use crate::batch::BatchWords;
 use crate::live::LiveWords;
-use crate::options::EXPLAIN;
-use crate::refused_rows::RowFiles;
 use crate::serve::ServeWords;
 use crate::snapshot::SnapshotWords;
-use crate::stopped::Stopped;
 use crate::{audit, batch, live, serve, snapshot, solve};
 use clap::{ArgMatches, Command, Error};
 use std::alloc::Global;
@@ -38,7 +35,7 @@ pub fn parse<'a>(alloc: Global, words: &'a [String]) -> Result<ArgMatches<'a>, E
 
 /// A command with what its words say.
 #[derive(Clone, Copy)]
-enum Asked<'m, 'a> {
+pub enum Asked<'m, 'a> {
     Solve,
     Batch(BatchWords<'a>),
     Live(LiveWords<'a>),
@@ -47,57 +44,30 @@ enum Asked<'m, 'a> {
     Audit(AuditWords<'a>),
 }
 
-/// What the command line asks for.
-#[derive(Clone, Copy)]
-pub struct Words<'m, 'a> {
-    asked: Asked<'m, 'a>,
-    /// Whether a run says why it stops.
-    pub explain: bool,
-}
-
-impl<'m, 'a> Words<'m, 'a> {
-    /// The words that `clap` found. None where one lacks that `clap` wants, which it refuses itself.
-    pub fn read(found: &'m ArgMatches<'a>) -> Option<Words<'m, 'a>> {
-        let (name, words) = found.subcommand()?;
-        let asked = match name {
+impl<'m, 'a> Asked<'m, 'a> {
+    /// The command that has this name, with the words that `clap` found. None where one lacks that
+    /// `clap` wants, which it refuses itself.
+    pub fn read(name: &str, words: &'m ArgMatches<'a>) -> Option<Asked<'m, 'a>> {
+        Some(match name {
             batch::NAME => Asked::Batch(BatchWords::read(words)?),
             live::NAME => Asked::Live(LiveWords::read(words)?),
             serve::NAME => Asked::Serve(ServeWords::read(words)?),
             snapshot::NAME => Asked::Snapshot(SnapshotWords::read(words)?),
             audit::NAME => Asked::Audit(AuditWords::read(words)?),
             _ => Asked::Solve,
-        };
-        let explain = words.get_flag(EXPLAIN);
-        Some(Words { asked, explain })
+        })
     }
 
-    /// Does what is asked for, and answers the status.
-    pub fn run<T: Threads + Wait + Sync>(
-        self,
-        rt: &HostRuntime,
-        handle: &T,
-    ) -> Result<u8, Stopped<'a>> {
-        match self.asked {
-            Asked::Solve => solve::run(rt),
-            Asked::Batch(words) => words.run(rt, handle),
-            Asked::Live(words) => words.run(rt, handle),
-            Asked::Serve(words) => words.run(rt, handle),
-            Asked::Snapshot(words) => words.run(rt),
-            Asked::Audit(words) => words.run(rt),
-        }
-    }
-
-    /// The files whose rows may be refused.
-    pub fn row_files(self) -> RowFiles<'a> {
-        match self.asked {
-            Asked::Batch(words) => words.row_files(),
-            Asked::Live(words) => words.row_files(),
-            Asked::Snapshot(words) => words.row_files(),
-            Asked::Audit(words) => words.row_files(),
-            Asked::Solve | Asked::Serve(_) => RowFiles {
-                journal: None,
-                requests: None,
-            },
+    /// Runs the command, and answers the status. With `explain` a run says why it stops, and which row
+    /// its files are refused for.
+    pub fn run<T: Threads + Wait + Sync>(self, rt: &HostRuntime, handle: &T, explain: bool) -> u8 {
+        match self {
+            Asked::Solve => solve::run(rt, explain),
+            Asked::Batch(words) => words.run(rt, handle, explain),
+            Asked::Live(words) => words.run(rt, handle, explain),
+            Asked::Serve(words) => words.run(rt, handle, explain),
+            Asked::Snapshot(words) => words.run(rt, explain),
+            Asked::Audit(words) => words.run(rt, explain),
         }
     }
 }

@@ -1,6 +1,7 @@
 //! `routed live` applies batches to a new journal while it answers a file of requests.
 
 use crate::devices::{created, flush, held_places, opened, output};
+use crate::ends::end;
 use crate::noted::Name;
 use crate::options::{JOURNAL, REQUESTS, WorkerCount, explain, file, workers};
 use crate::refused_rows::RowFiles;
@@ -83,7 +84,7 @@ impl<'a> LiveWords<'a> {
     }
 
     /// The files whose rows may be refused.
-    pub fn row_files(self) -> RowFiles<'a> {
+    fn row_files(self) -> RowFiles<'a> {
         RowFiles {
             journal: Some(Name::of_file(UPDATES, self.updates)),
             requests: Some(Name::of_file(REQUESTS, self.requests)),
@@ -92,7 +93,7 @@ impl<'a> LiveWords<'a> {
 
     /// Applies the batches and answers the requests on standard output. The files are opened before a
     /// row is read, the journal last. A journal that is there already is left as it is.
-    pub fn run<T: Threads + Wait + Sync>(
+    fn answer<T: Threads + Wait + Sync>(
         self,
         rt: &HostRuntime,
         handle: &T,
@@ -118,5 +119,11 @@ impl<'a> LiveWords<'a> {
         // A write to the journal that fails refuses a batch, and stops nothing.
         let noted = updates.fault().or(requests.fault()).or(out.fault());
         ended(ran, noted)
+    }
+
+    /// Runs the command, and answers the status.
+    pub fn run<T: Threads + Wait + Sync>(self, rt: &HostRuntime, handle: &T, explain: bool) -> u8 {
+        let ran = self.answer(rt, handle);
+        end(rt, ran, self.row_files(), explain)
     }
 }

@@ -10,6 +10,7 @@ mod batch;
 mod client_files;
 mod command_line;
 mod devices;
+mod ends;
 mod limited;
 mod live;
 mod noted;
@@ -23,37 +24,23 @@ mod stopped;
 
 use clap::ArgMatches;
 use clap::error::ErrorKind;
-use command_line::{Words, parse};
-use statuses::{REFUSED, STOPPED, UNFIT};
+use command_line::{Asked, parse};
+use ends::stop;
+use options::EXPLAIN;
+use statuses::REFUSED;
 use std::process::ExitCode;
 use std::sync::Wait;
 use std::thread::Threads;
 use std::{env, io};
 
-/// Says that the run stops.
-fn stop(rt: &HostRuntime) -> u8 {
-    let _ = eprintln!(rt; "routed: stopped");
-    STOPPED
-}
-
-/// Does what a command line that was accepted asks for, and says why it stops where it is to.
+/// Does what a command line that was accepted asks for.
 fn obey<T: Threads + Wait + Sync>(rt: &HostRuntime, handle: &T, found: &ArgMatches<'_>) -> u8 {
-    let Some(words) = Words::read(found) else {
+    let Some((name, words)) = found.subcommand() else {
         return REFUSED;
     };
-    match words.run(rt, handle) {
-        Ok(status) => {
-            if status == UNFIT && words.explain {
-                words.row_files().explain(rt);
-            }
-            status
-        }
-        Err(why) => {
-            if words.explain {
-                let _ = eprintln!(rt; "routed: {why}");
-            }
-            stop(rt)
-        }
+    match Asked::read(name, words) {
+        Some(asked) => asked.run(rt, handle, words.get_flag(EXPLAIN)),
+        None => REFUSED,
     }
 }
 

@@ -165,6 +165,14 @@ pub struct RowFiles<'a> {
 }
 
 impl<'a> RowFiles<'a> {
+    /// No such files.
+    pub fn none() -> RowFiles<'a> {
+        RowFiles {
+            journal: None,
+            requests: None,
+        }
+    }
+
     /// Says which row the first of the files that are refused is refused for.
     pub fn explain(self, rt: &HostRuntime) {
         if let Some((name, row)) = self.refused(rt) {

@@ -4,8 +4,10 @@ ghost use Rattle.std.specs.Prelude.{◌<◌, ◌≤◌, length};
 
 use crate::client_files::{ClientNames, Closing, NamesError, client_names, open_clients};
 use crate::devices::{INPUT, OUTPUT, created, flush, held_places};
+use crate::ends::end;
 use crate::noted::{Name, Noted};
-use crate::options::{EXPLAIN, JOURNAL, explain, file};
+use crate::options::{JOURNAL, explain, file};
+use crate::refused_rows::RowFiles;
 use crate::statuses::REFUSED;
 use crate::stopped::Stopped;
 use clap::{Arg, ArgAction, ArgMatches, Command};
@@ -76,7 +78,6 @@ pub fn command<'a>(alloc: Global) -> Result<Command<'a>, AllocError> {
 pub struct ServeWords<'m, 'a> {
     journal: &'a str,
     clients: &'m [&'a str],
-    explain: bool,
 }
 
 impl<'m, 'a> ServeWords<'m, 'a> {
@@ -85,69 +86,68 @@ impl<'m, 'a> ServeWords<'m, 'a> {
         Some(ServeWords {
             journal: words.get_str(JOURNAL)?,
             clients: words.get_strs(CLIENT)?,
-            explain: words.get_flag(EXPLAIN),
         })
     }
 
-    /// Publishes the updates and answers the clients, where their files may be had.
-    pub fn run<T: Threads + Wait + Sync>(
-        self,
-        rt: &HostRuntime,
-        handle: &T,
-    ) -> Result<u8, Stopped<'a>> {
+    /// Runs the command where the files may be had, and answers the status.
+    pub fn run<T: Threads + Wait + Sync>(self, rt: &HostRuntime, handle: &T, explain: bool) -> u8 {
         match client_names(rt, self.journal, self.clients) {
-            Ok(names) => self.serve(rt, handle, &names),
-            Err(NamesError::Memory) => Err(Stopped::Memory),
+            Ok(names) => {
+                let ran = serve(rt, handle, self.journal, &names, explain);
+                end(rt, ran, RowFiles::none(), explain)
+            }
+            Err(NamesError::Memory) => end(rt, Err(Stopped::Memory), RowFiles::none(), explain),
             Err(why) => {
                 let _ = eprintln!(rt; "routed: {why}");
-                Ok(REFUSED)
+                REFUSED
             }
         }
     }
+}
 
-    /// Publishes the updates of standard input, each in the new journal first, and answers the clients
-    /// meanwhile. The files are opened before a row is read, the journal last.
-    fn serve<T: Threads + Wait + Sync>(
-        self,
-        rt: &HostRuntime,
-        handle: &T,
-        names: &[ClientNames<'a>],
-    ) -> Result<u8, Stopped<'a>>
-        requires { (0 < length names.now) × (length names.now ≤ MOST_ASKERS) }
-    {
-        let _held = held_places(rt);
-        let clients = open_clients(rt, names)?;
-        let mut updates = Noted::new(Name::of_stream(INPUT), rt.reader());
-        let mut said = Noted::new(Name::of_stream(OUTPUT), io::writer(rt));
-        let mut journal = created(rt, self.journal)?;
-        let ran = run_serve(
-            handle,
-            rt.alloc(),
-            &mut updates,
-            &mut said,
-            &mut journal,
-            clients,
-        );
-        match ran {
-            Ok(served) => {
-                let Served {
-                    status,
-                    updates: ended,
-                    said: _,
-                    journal: _,
-                    clients,
-                } = served;
-                if self.explain {
-                    explain_ends(rt, names, &clients);
-                }
-                flush(&mut journal)?;
-                match ended {
-                    Ok(()) => Ok(status),
-                    Err(error) => Err(Stopped::streaming(error, updates.fault(), said.fault())),
-                }
+/// Publishes the updates of standard input, each in the new journal first, and answers the clients
+/// meanwhile. The files are opened before a row is read, the journal last.
+fn serve<'a, T: Threads + Wait + Sync>(
+    rt: &HostRuntime,
+    handle: &T,
+    journal: &'a str,
+    names: &[ClientNames<'a>],
+    explain: bool,
+) -> Result<u8, Stopped<'a>>
+    requires { (0 < length names.now) × (length names.now ≤ MOST_ASKERS) }
+{
+    let _held = held_places(rt);
+    let clients = open_clients(rt, names)?;
+    let mut updates = Noted::new(Name::of_stream(INPUT), rt.reader());
+    let mut said = Noted::new(Name::of_stream(OUTPUT), io::writer(rt));
+    let mut journal = created(rt, journal)?;
+    let ran = run_serve(
+        handle,
+        rt.alloc(),
+        &mut updates,
+        &mut said,
+        &mut journal,
+        clients,
+    );
+    match ran {
+        Ok(served) => {
+            let Served {
+                status,
+                updates: ended,
+                said: _,
+                journal: _,
+                clients,
+            } = served;
+            if explain {
+                explain_ends(rt, names, &clients);
             }
-            Err((error, _said, _journal, _clients)) => Err(Stopped::running(error, None)),
+            flush(&mut journal)?;
+            match ended {
+                Ok(()) => Ok(status),
+                Err(error) => Err(Stopped::streaming(error, updates.fault(), said.fault())),
+            }
         }
+        Err((error, _said, _journal, _clients)) => Err(Stopped::running(error, None)),
     }
 }
 

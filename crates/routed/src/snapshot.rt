@@ -1,6 +1,7 @@
 //! `routed snapshot` writes the few batches that make the last database of a journal from nothing.
 
 use crate::devices::{flush, opened, output};
+use crate::ends::end;
 use crate::noted::Name;
 use crate::options::{ACCEPT_TORN, JOURNAL, accept_torn, explain, file};
 use crate::refused_rows::RowFiles;
@@ -61,7 +62,7 @@ impl<'a> SnapshotWords<'a> {
     }
 
     /// The file whose rows may be refused.
-    pub fn row_files(self) -> RowFiles<'a> {
+    fn row_files(self) -> RowFiles<'a> {
         let journal = Name::of_file(JOURNAL, self.journal);
         RowFiles {
             journal: (!self.accept_torn).then_some(journal),
@@ -70,11 +71,17 @@ impl<'a> SnapshotWords<'a> {
     }
 
     /// Writes the batches on standard output.
-    pub fn run(self, rt: &HostRuntime) -> Result<u8, Stopped<'a>> {
+    fn write(self, rt: &HostRuntime) -> Result<u8, Stopped<'a>> {
         let mut out = output(rt)?;
         let mut journal = opened(rt, JOURNAL, self.journal)?;
         let ran = run_snapshot(rt.alloc(), &mut journal, &mut out, self.accept_torn);
         flush(&mut out)?;
         ended(ran, journal.fault().or(out.fault()))
+    }
+
+    /// Runs the command, and answers the status.
+    pub fn run(self, rt: &HostRuntime, explain: bool) -> u8 {
+        let ran = self.write(rt);
+        end(rt, ran, self.row_files(), explain)
     }
 }

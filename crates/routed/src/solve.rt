@@ -1,8 +1,10 @@
 //! `routed solve` answers the rows of standard input, each line when it is known.
 
 use crate::devices::{INPUT, OUTPUT, flush};
+use crate::ends::end;
 use crate::noted::{Name, Noted};
 use crate::options::explain;
+use crate::refused_rows::RowFiles;
 use crate::stopped::Stopped;
 use clap::Command;
 use cspf_serve::run_solve;
@@ -61,7 +63,7 @@ pub fn command<'a>(alloc: Global) -> Result<Command<'a>, AllocError> {
 
 /// Answers the rows of standard input on standard output. What was written before a fault stays
 /// written.
-pub fn run<'a>(rt: &HostRuntime) -> Result<u8, Stopped<'a>> {
+fn answer<'a>(rt: &HostRuntime) -> Result<u8, Stopped<'a>> {
     let mut reader = Noted::new(Name::of_stream(INPUT), rt.reader());
     let mut out = Noted::new(Name::of_stream(OUTPUT), io::writer(rt));
     match run_solve(rt.alloc(), &mut reader, &mut out) {
@@ -71,4 +73,9 @@ pub fn run<'a>(rt: &HostRuntime) -> Result<u8, Stopped<'a>> {
         }
         Err(error) => Err(Stopped::solving(error, reader.fault(), out.fault())),
     }
+}
+
+/// Runs the command, and answers the status.
+pub fn run(rt: &HostRuntime, explain: bool) -> u8 {
+    end(rt, answer(rt), RowFiles::none(), explain)
 }
