@@ -22,6 +22,3 @@ mod words;
 pub use audit_error::AuditError;
 pub use auditing::audit;
 pub use faults::{Audit, AuditFault};
-
-#[cfg(test)]
-mod tests;

@@ -19,6 +19,3 @@ pub use laws::{objects_are_read, one_head, one_reply_line, routes_are_read_back}
 pub use reader::{FIRST_BYTES, read_ero, read_ero_front};
 pub use reply::reply_line;
 pub use writer::write_ero;
-
-#[cfg(test)]
-mod tests;

@@ -47,6 +47,3 @@ pub use requests_error::RequestsError;
 pub use row::Row;
 pub use row_error::{HopsFault, RowError};
 pub use whole_journal::read_journal;
-
-#[cfg(test)]
-mod tests;

@@ -17,6 +17,3 @@ pub use limits::MOST_SNAPSHOT_BATCHES;
 pub use making::snapshot;
 pub use replay_error::ReplayError;
 pub use replaying::replay;
-
-#[cfg(test)]
-mod tests;

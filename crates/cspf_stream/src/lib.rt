@@ -18,6 +18,3 @@ pub use error::StreamError;
 pub use limits::MOST_STREAM_ROWS;
 pub use refusal::refused_row;
 pub use stream::{answer_rows, put_line};
-
-#[cfg(test)]
-mod tests;

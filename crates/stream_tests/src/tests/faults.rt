@@ -1,0 +1,137 @@
+use super::{Lines, Refusals, Rows, no_events};
+use cspf_rows::open_records;
+use cspf_stream::{StreamError, answer_rows};
+use std::alloc::Global;
+
+const ROWS: [&[u8]; 3] = [b"a\n", b"end,1,0\n", b"b\n"];
+
+const ANSWERS: &[u8] = b"row 1 refused: kind\nrow 3 refused: kind\n";
+
+/// Where a stream goes wrong, and what stands then.
+struct Fault {
+    /// The bytes that the writer takes.
+    most: usize,
+    /// The flushes that the writer makes.
+    most_flushes: u32,
+    /// At this place memory is refused.
+    no_memory_at: u64,
+    /// The error, where the read behind the rows fails too.
+    error: StreamError,
+    /// The bytes that are written.
+    written: usize,
+    /// The rows that were read.
+    read: usize,
+    /// The rows that were refused.
+    refused: u64,
+}
+
+const FAULTS: [Fault; 7] = [
+    Fault {
+        most: 100,
+        most_flushes: 9,
+        no_memory_at: 0,
+        error: StreamError::Read,
+        written: 40,
+        read: 3,
+        refused: 2,
+    },
+    Fault {
+        most: 0,
+        most_flushes: 9,
+        no_memory_at: 0,
+        error: StreamError::Write,
+        written: 0,
+        read: 1,
+        refused: 1,
+    },
+    Fault {
+        most: 25,
+        most_flushes: 9,
+        no_memory_at: 0,
+        error: StreamError::Write,
+        written: 25,
+        read: 3,
+        refused: 2,
+    },
+    Fault {
+        most: 40,
+        most_flushes: 0,
+        no_memory_at: 0,
+        error: StreamError::Flush,
+        written: 20,
+        read: 1,
+        refused: 1,
+    },
+    Fault {
+        most: 40,
+        most_flushes: 1,
+        no_memory_at: 0,
+        error: StreamError::Flush,
+        written: 40,
+        read: 3,
+        refused: 2,
+    },
+    Fault {
+        most: 40,
+        most_flushes: 9,
+        no_memory_at: 2,
+        error: StreamError::Memory,
+        written: 20,
+        read: 2,
+        refused: 1,
+    },
+    Fault {
+        most: 19,
+        most_flushes: 9,
+        no_memory_at: 1,
+        error: StreamError::Memory,
+        written: 0,
+        read: 1,
+        refused: 0,
+    },
+];
+
+/// What stands where a stream goes wrong: the error, how much is written, and how many rows were read
+/// and refused.
+fn stopped(alloc: Global, fault: &Fault) -> (Result<(), StreamError>, Vec<u8>, usize, u64) {
+    let events = no_events();
+    let mut reader = Rows {
+        rows: &ROWS,
+        at: 0,
+        rest: &[],
+        fails: true,
+        events: &events,
+    };
+    let mut writer = Lines {
+        held: Vec::new(alloc),
+        most: fault.most,
+        most_flushes: fault.most_flushes,
+        events: &events,
+    };
+    let mut answering = Refusals {
+        refused: 0,
+        no_memory_at: fault.no_memory_at,
+    };
+    let mut rows = open_records(alloc, &mut reader);
+    let found = answer_rows(&(), alloc, &mut rows, &mut writer, &mut answering);
+    (found, writer.held, rows.get_ref().at, answering.refused)
+}
+
+#[test]
+fn what_stands_at_a_fault(rt: HostRuntime) {
+    for fault in &FAULTS {
+        let (found, held, read, refused) = stopped(rt.alloc(), fault);
+        assert!(rt; found == Err(fault.error), "{:?}", fault.error);
+        assert!(rt;
+            held.as_slice() == &ANSWERS[..fault.written],
+            "{:?}",
+            fault.error
+        );
+        assert_eq!(rt;
+            (read, refused),
+            (fault.read, fault.refused),
+            "{:?}",
+            fault.error
+        );
+    }
+}
