@@ -1,4 +1,7 @@
-use super::{by_bytes, failing, repeated};
+ghost use Rattle.std.specs.Prelude.{OnOk};
+ghost use Rattle.cspf_rows.specs.GivenBatches.{CanRead};
+
+use super::{Pieces, by_bytes, failing, repeated};
 use cspf_db::Batch;
 use cspf_rows::{JournalReader, JournalStep, MOST_ROWS, ReadError, Rest, batch_text};
 use std::alloc::{AllocError, Global};
@@ -40,24 +43,43 @@ const BEHIND: [(&[u8], Rest); 8] = [
     ),
 ];
 
-/// A reader gives the three batches of a text, each in the room of the first, and says what stands behind
-/// them.
-fn assert_given(rt: &impl Abort, alloc: Global, behind: &[u8], rest: Rest) -> Result<(), Fail> {
+/// The texts of the three batches, and this text behind them.
+fn text_of_three(alloc: Global, behind: &[u8]) -> Result<Vec<u8>, AllocError> {
     let mut text = Vec::new(alloc);
     for one in THREE {
         text.extend_from_slice(one)?;
     }
     text.extend_from_slice(behind)?;
+    Ok(text)
+}
+
+/// A reader gives the three batches, each in the room of the first.
+fn assert_three(
+    rt: &impl Abort,
+    alloc: Global,
+    journal: &mut JournalReader<Pieces<'_>>,
+    batch: &mut Batch,
+) -> Result<(), AllocError>
+    requires { CanRead journal.old }
+    ensures { OnOk result (CanRead journal.new) }
+{
     let [first, second, third] = THREE;
+    assert_eq!(rt; journal.read_batch(batch), Ok(JournalStep::Batch));
+    assert!(rt; has_text(alloc, batch, first)?);
+    assert_eq!(rt; journal.read_batch(batch), Ok(JournalStep::Batch));
+    assert!(rt; has_text(alloc, batch, second)?);
+    assert_eq!(rt; journal.read_batch(batch), Ok(JournalStep::Batch));
+    assert!(rt; has_text(alloc, batch, third)?);
+    assert!(rt; batch.changes.capacity() >= 3);
+    Ok(())
+}
+
+/// A reader gives the three batches of a text, and says what is behind them.
+fn assert_given(rt: &impl Abort, alloc: Global, behind: &[u8], rest: Rest) -> Result<(), Fail> {
+    let text = text_of_three(alloc, behind)?;
     let mut journal = JournalReader::new(alloc, by_bytes(text.as_slice()));
     let mut batch = empty_batch(alloc);
-    assert_eq!(rt; journal.read_batch(&mut batch), Ok(JournalStep::Batch));
-    assert!(rt; has_text(alloc, &batch, first)?);
-    assert_eq!(rt; journal.read_batch(&mut batch), Ok(JournalStep::Batch));
-    assert!(rt; has_text(alloc, &batch, second)?);
-    assert_eq!(rt; journal.read_batch(&mut batch), Ok(JournalStep::Batch));
-    assert!(rt; has_text(alloc, &batch, third)?);
-    assert!(rt; batch.changes.capacity() >= 3);
+    assert_three(rt, alloc, &mut journal, &mut batch)?;
     let end = journal.read_batch(&mut batch);
     assert_eq!(rt; end, Ok(JournalStep::End(rest)), "{behind:?}");
     Ok(())

@@ -3,6 +3,7 @@ use cspf_addr::{Addr, Mask};
 use cspf_db::{Batch, Change, Link};
 use cspf_rows::{Journal, MOST_ROWS, ReadError, Rest, batch_text, read_journal};
 use std::alloc::{AllocError, Global};
+use std::process::Abort;
 use std::test::Fail;
 
 /// The texts of the batches, one behind the other.
@@ -18,8 +19,8 @@ fn text_of(alloc: Global, journal: &Journal) -> Result<Vec<u8>, AllocError> {
 const ONE_PUT: &[u8] = b"put,1.1.1.1,10.0.12.1,2.2.2.2,10.0.12.2,10,0x00000001,\
 1000,1000,1000,1000,1000,1000,1000,1000\nend,1,1\n";
 
-#[test]
-fn text_of_one_put(rt: HostRuntime) -> Result<(), Fail> {
+/// That batch.
+fn one_put(alloc: Global) -> Result<Batch, Fail> {
     let link = Link::new(
         Addr::new(0x0101_0101),
         Addr::new(0x0a00_0c01),
@@ -29,13 +30,20 @@ fn text_of_one_put(rt: HostRuntime) -> Result<(), Fail> {
         Mask::new(1),
         [1000; 8],
     )?;
-    let batch = Batch {
-        number: 1,
-        changes: Vec::from_slice(rt.alloc(), &[Change::Put(link)])?,
-    };
-    let text = batch_text(rt.alloc(), &batch)?;
-    assert!(rt; text.as_slice() == ONE_PUT);
+    let changes = Vec::from_slice(alloc, &[Change::Put(link)])?;
+    Ok(Batch { number: 1, changes })
+}
+
+fn assert_text_of_one_put(rt: &impl Abort, text: &[u8]) {
+    assert!(rt; text == ONE_PUT);
     assert_eq!(rt; text.len(), 102);
+}
+
+#[test]
+fn text_of_one_put(rt: HostRuntime) -> Result<(), Fail> {
+    let batch = one_put(rt.alloc())?;
+    let text = batch_text(rt.alloc(), &batch)?;
+    assert_text_of_one_put(&rt, &text);
     Ok(())
 }
 
@@ -67,13 +75,19 @@ fn whole_part(cut: usize) -> (usize, bool) {
     }
 }
 
+/// The text of the three batches.
+fn three_batches(alloc: Global) -> Result<Vec<u8>, AllocError> {
+    let mut text = Vec::new(alloc);
+    for one in [PUTS, DROP, DROPS] {
+        text.extend_from_slice(one)?;
+    }
+    Ok(text)
+}
+
 #[test]
 fn three_batches_cut_at_each_byte(rt: HostRuntime) -> Result<(), Fail> {
     let alloc = rt.alloc();
-    let mut text = Vec::new(alloc);
-    text.extend_from_slice(PUTS)?;
-    text.extend_from_slice(DROP)?;
-    text.extend_from_slice(DROPS)?;
+    let text = three_batches(alloc)?;
     assert_eq!(rt; text.len(), 469);
     for cut in 0..470 {
         let journal = read_journal(alloc, text.get(..cut).unwrap_or(&[]))?;
@@ -86,28 +100,53 @@ fn three_batches_cut_at_each_byte(rt: HostRuntime) -> Result<(), Fail> {
     Ok(())
 }
 
+/// Whether a router has transit, and the text of a batch that says so of 1.1.1.1.
+const ONE_NODE: [(bool, &[u8]); 2] = [
+    (false, b"node,1.1.1.1,0\nend,1,1\n"),
+    (true, b"node,1.1.1.1,1\nend,1,1\n"),
+];
+
+/// The change of that batch.
+fn node(transit: bool) -> Change {
+    let router = Addr::new(0x0101_0101);
+    Change::Node { router, transit }
+}
+
+/// That batch.
+fn one_node(alloc: Global, transit: bool) -> Result<Batch, AllocError> {
+    let changes = Vec::from_slice(alloc, &[node(transit)])?;
+    Ok(Batch { number: 1, changes })
+}
+
+fn assert_node_text(rt: &impl Abort, text: &[u8], wanted: &[u8]) {
+    assert!(rt; text == wanted, "{wanted:?}");
+    assert_eq!(rt; text.len(), 23);
+}
+
+fn assert_node_read(rt: &impl Abort, journal: &Journal, transit: bool) {
+    assert_eq!(rt; journal.rest, Rest::Clean);
+    assert_eq!(rt; journal.batches.len(), 1);
+    assert_eq!(rt; journal.batches[0].number, 1);
+    let changes = journal.batches[0].changes.as_slice();
+    assert!(rt; changes == [node(transit)].as_slice(), "{changes:?}");
+}
+
 #[test]
 fn text_of_one_node(rt: HostRuntime) -> Result<(), Fail> {
     let alloc = rt.alloc();
-    let texts = [
-        (false, b"node,1.1.1.1,0\nend,1,1\n".as_slice()),
-        (true, b"node,1.1.1.1,1\nend,1,1\n".as_slice()),
-    ];
-    for (transit, wanted) in texts {
-        let router = Addr::new(0x0101_0101);
-        let batch = Batch {
-            number: 1,
-            changes: Vec::from_slice(alloc, &[Change::Node { router, transit }])?,
-        };
+    for (transit, wanted) in ONE_NODE {
+        let batch = one_node(alloc, transit)?;
         let text = batch_text(alloc, &batch)?;
-        assert!(rt; text.as_slice() == wanted, "{transit}");
-        assert_eq!(rt; text.len(), 23);
-        let journal = read_journal(alloc, text.as_slice())?;
-        assert_eq!(rt; journal.rest, Rest::Clean);
-        assert_eq!(rt; journal.batches.len(), 1);
-        assert_eq!(rt; journal.batches[0].number, 1);
-        let changes = journal.batches[0].changes.as_slice();
-        assert!(rt; changes == batch.changes.as_slice(), "{changes:?}");
+        assert_node_text(&rt, &text, wanted);
+    }
+    Ok(())
+}
+
+#[test]
+fn a_journal_of_one_node(rt: HostRuntime) -> Result<(), Fail> {
+    for (transit, text) in ONE_NODE {
+        let journal = read_journal(rt.alloc(), text)?;
+        assert_node_read(&rt, &journal, transit);
     }
     Ok(())
 }
@@ -211,17 +250,23 @@ fn changes_take_the_room_they_need(rt: HostRuntime) -> Result<(), Fail> {
     Ok(())
 }
 
+/// A row that is read as a change.
+const CHANGE: &[u8] = b"drop,1.1.1.1,10.0.0.1\n";
+
 #[test]
 fn rows_of_a_journal_are_counted(rt: HostRuntime) -> Result<(), Fail> {
-    let row = b"drop,1.1.1.1,10.0.0.1\n";
-    let most = read_journal(rt.alloc(), repeated(row, MOST_ROWS))?;
+    let most = read_journal(rt.alloc(), repeated(CHANGE, MOST_ROWS))?;
     assert!(rt; most.batches.is_empty());
     assert_eq!(rt; most.rest, Rest::Torn);
-    let more = read_journal(rt.alloc(), repeated(row, MOST_ROWS + 1));
+    Ok(())
+}
+
+#[test]
+fn one_row_more_than_is_read(rt: HostRuntime) {
+    let more = read_journal(rt.alloc(), repeated(CHANGE, MOST_ROWS + 1));
     assert_eq!(rt; more.err(), Some(ReadError::TooManyRows));
     let torn = read_journal(rt.alloc(), repeated(b"foo\n", MOST_ROWS + 1));
     assert_eq!(rt; torn.err(), Some(ReadError::TooManyRows));
-    Ok(())
 }
 
 #[test]

@@ -23,6 +23,18 @@ const TEXTS: [(&[u8], &[&str]); 9] = [
     (b" a , b\nc", &[" a | b", "c"]),
 ];
 
+/// The fields of a row, joined by bars.
+fn joined(alloc: Global, fields: &ByteRecord) -> Result<String, Fail> {
+    let mut row = String::new(alloc);
+    for (at, field) in fields.iter().enumerate() {
+        if at > 0 {
+            row.push_str("|")?;
+        }
+        row.push_str(std::str::from_utf8(field)?)?;
+    }
+    Ok(row)
+}
+
 /// The rows of a text that is read at most `width` bytes at a time.
 fn rows_of(alloc: Global, text: &[u8], width: usize) -> Result<Vec<String>, Fail> {
     let reader = Pieces {
@@ -39,14 +51,7 @@ fn rows_of(alloc: Global, text: &[u8], width: usize) -> Result<Vec<String>, Fail
         if !next_record(&mut rows, &mut fields)? {
             break;
         }
-        let mut row = String::new(alloc);
-        for (at, field) in fields.iter().enumerate() {
-            if at > 0 {
-                row.push_str("|")?;
-            }
-            row.push_str(std::str::from_utf8(field)?)?;
-        }
-        found.push(row)?;
+        found.push(joined(alloc, &fields)?)?;
     }
     Ok(found)
 }

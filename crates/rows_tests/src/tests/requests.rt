@@ -1,5 +1,7 @@
 use super::{by_bytes, failing, repeated};
+use cspf_db::Request;
 use cspf_rows::{MOST_ROWS, RequestsError, RowError, read_requests};
+use std::process::Abort;
 use std::test::Fail;
 
 /// Two requests, the second without a line feed.
@@ -7,18 +9,36 @@ const ASKS: &[u8] = b"ask,7,1.1.1.1,2.2.2.2,0,1000,0x0,0x0,0x0,\n\n\
 ask,8,2.2.2.2,1.1.1.1,7,0,0x0,0x0,0x0,";
 
 #[test]
-fn requests_in_pieces(rt: HostRuntime) -> Result<(), Fail> {
+fn no_request(rt: HostRuntime) -> Result<(), Fail> {
     let none = read_requests(rt.alloc(), by_bytes(b"\n"))?;
     assert!(rt; none.is_empty());
+    Ok(())
+}
+
+fn assert_first(rt: &impl Abort, requests: &[Request]) {
+    assert_eq!(rt; requests.len(), 1);
+    assert_eq!(rt; requests[0].id, 7);
+}
+
+#[test]
+fn the_first_request_in_pieces(rt: HostRuntime) -> Result<(), Fail> {
     let one = read_requests(rt.alloc(), by_bytes(&ASKS[..41]))?;
-    assert_eq!(rt; one.len(), 1);
-    assert_eq!(rt; one[0].id, 7);
+    assert_first(&rt, &one);
+    Ok(())
+}
+
+fn assert_both(rt: &impl Abort, requests: &[Request]) {
+    assert_eq!(rt; requests.len(), 2);
+    assert_eq!(rt; requests[0].id, 7);
+    assert_eq!(rt; requests[0].bandwidth, 1000);
+    assert_eq!(rt; requests[1].id, 8);
+    assert_eq!(rt; requests[1].setup, 7);
+}
+
+#[test]
+fn requests_in_pieces(rt: HostRuntime) -> Result<(), Fail> {
     let two = read_requests(rt.alloc(), by_bytes(ASKS))?;
-    assert_eq!(rt; two.len(), 2);
-    assert_eq!(rt; two[0].id, 7);
-    assert_eq!(rt; two[0].bandwidth, 1000);
-    assert_eq!(rt; two[1].id, 8);
-    assert_eq!(rt; two[1].setup, 7);
+    assert_both(&rt, &two);
     Ok(())
 }
 
@@ -76,14 +96,20 @@ fn refused_requests(rt: HostRuntime) {
     }
 }
 
+/// A row that is read as a request.
+const ASK: &[u8] = b"ask,8,1.1.1.1,2.2.2.2,0,0,0x0,0x0,0x0,\n";
+
 #[test]
 fn requests_are_counted(rt: HostRuntime) -> Result<(), Fail> {
-    let row = b"ask,8,1.1.1.1,2.2.2.2,0,0,0x0,0x0,0x0,\n";
-    let most = read_requests(rt.alloc(), repeated(row, MOST_ROWS))?;
+    let most = read_requests(rt.alloc(), repeated(ASK, MOST_ROWS))?;
     assert_eq!(rt; most.len(), MOST_ROWS as usize);
-    let more = read_requests(rt.alloc(), repeated(row, MOST_ROWS + 1));
-    assert_eq!(rt; more.err(), Some(RequestsError::TooManyRows));
     Ok(())
+}
+
+#[test]
+fn one_request_more_than_is_read(rt: HostRuntime) {
+    let more = read_requests(rt.alloc(), repeated(ASK, MOST_ROWS + 1));
+    assert_eq!(rt; more.err(), Some(RequestsError::TooManyRows));
 }
 
 #[test]

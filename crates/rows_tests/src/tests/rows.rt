@@ -1,7 +1,9 @@
 use cspf_addr::Addr;
+use cspf_db::{Link, Request};
 use cspf_rows::{Row, RowError};
 use csv::{ByteRecord, Reader, ReaderBuilder};
 use std::alloc::{AllocError, Global};
+use std::process::Abort;
 use std::test::Fail;
 
 /// The words of refusals, `read` where there is none, and the rows behind them. `F` stands for eight bandwidths
@@ -179,13 +181,19 @@ pub(super) fn only_row(alloc: Global, text: &[u8]) -> Result<Result<Row, RowErro
     Ok(Row::read(&fields))
 }
 
+/// The link of a row that is a put.
+fn put_link(rt: &impl Abort, alloc: Global, text: &[u8]) -> Result<Link, Fail> {
+    let Row::Put(link) = only_row(alloc, text)?? else {
+        panic!(rt; "no put");
+    };
+    Ok(link)
+}
+
 #[test]
 fn what_a_put_says(rt: HostRuntime) -> Result<(), Fail> {
     let text =
         b"put,1.2.3.4,10.0.12.1,2.2.2.2,10.0.12.2,4294967295,0xA,1,2,3,4,5,6,7,18446744073709551615";
-    let Row::Put(link) = only_row(rt.alloc(), text)?? else {
-        panic!(rt; "no put");
-    };
+    let link = put_link(&rt, rt.alloc(), text)?;
     assert_eq!(rt; link.from.number(), 0x0102_0304);
     assert_eq!(rt; link.local.number(), 0x0a00_0c01);
     assert_eq!(rt; link.to.number(), 0x0202_0202);
@@ -225,12 +233,18 @@ fn what_a_node_says(rt: HostRuntime) -> Result<(), Fail> {
     Ok(())
 }
 
+/// The request of a row that is an ask.
+fn asked(rt: &impl Abort, alloc: Global, text: &[u8]) -> Result<Request, Fail> {
+    let Row::Ask(request) = only_row(alloc, text)?? else {
+        panic!(rt; "no ask");
+    };
+    Ok(request)
+}
+
 #[test]
 fn what_an_ask_says(rt: HostRuntime) -> Result<(), Fail> {
     let text = b"ask,9,1.2.3.4,2.2.2.2,7,1000,0x1,0x2,0x4,10.9.0.1/16s 4.4.4.4/32l";
-    let Row::Ask(request) = only_row(rt.alloc(), text)?? else {
-        panic!(rt; "no ask");
-    };
+    let request = asked(&rt, rt.alloc(), text)?;
     assert_eq!(rt; request.id, 9);
     assert_eq!(rt; request.from.number(), 0x0102_0304);
     assert_eq!(rt; request.to.number(), 0x0202_0202);
@@ -261,9 +275,7 @@ fn objects_and_refusals(rt: HostRuntime) -> Result<(), Fail> {
 fn hops_of_an_object(rt: HostRuntime) -> Result<(), Fail> {
     let text =
         b"ask,9,1.2.3.4,2.2.2.2,7,0,0x0,0x0,0x0,ero:0014140181080AFfffff08010108040404042000";
-    let Row::Ask(request) = only_row(rt.alloc(), text)?? else {
-        panic!(rt; "no ask");
-    };
+    let request = asked(&rt, rt.alloc(), text)?;
     let hops = cspf_addr::parse_hops(b"10.0.0.0/8l 4.4.4.4/32s")?;
     assert!(rt; request.hops == hops);
     Ok(())
