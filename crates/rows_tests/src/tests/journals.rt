@@ -84,10 +84,8 @@ fn three_batches(alloc: Global) -> Result<Vec<u8>, AllocError> {
     Ok(text)
 }
 
-#[test]
-fn three_batches_cut_at_each_byte(rt: HostRuntime) -> Result<(), Fail> {
-    let alloc = rt.alloc();
-    let text = three_batches(alloc)?;
+/// The journal that is left of the text, where it is cut at each byte.
+fn assert_cuts(rt: &impl Abort, alloc: Global, text: &[u8]) -> Result<(), Fail> {
     assert_eq!(rt; text.len(), 469);
     for cut in 0..470 {
         let journal = read_journal(alloc, text.get(..cut).unwrap_or(&[]))?;
@@ -98,6 +96,13 @@ fn three_batches_cut_at_each_byte(rt: HostRuntime) -> Result<(), Fail> {
         assert_eq!(rt; journal.rest == Rest::Clean, clean, "cut at {cut}");
     }
     Ok(())
+}
+
+#[test]
+fn three_batches_cut_at_each_byte(rt: HostRuntime) -> Result<(), Fail> {
+    let alloc = rt.alloc();
+    let text = three_batches(alloc)?;
+    assert_cuts(&rt, alloc, &text)
 }
 
 /// Whether a router has transit, and the text of a batch that says so of 1.1.1.1.

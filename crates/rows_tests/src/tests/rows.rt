@@ -189,15 +189,19 @@ fn put_link(rt: &impl Abort, alloc: Global, text: &[u8]) -> Result<Link, Fail> {
     Ok(link)
 }
 
+fn assert_interfaces(rt: &impl Abort, link: &Link) {
+    assert_eq!(rt; link.from.number(), 0x0102_0304);
+    assert_eq!(rt; link.local.number(), 0x0a00_0c01);
+    assert_eq!(rt; link.to.number(), 0x0202_0202);
+    assert_eq!(rt; link.remote.number(), 0x0a00_0c02);
+}
+
 #[test]
 fn what_a_put_says(rt: HostRuntime) -> Result<(), Fail> {
     let text =
         b"put,1.2.3.4,10.0.12.1,2.2.2.2,10.0.12.2,4294967295,0xA,1,2,3,4,5,6,7,18446744073709551615";
     let link = put_link(&rt, rt.alloc(), text)?;
-    assert_eq!(rt; link.from.number(), 0x0102_0304);
-    assert_eq!(rt; link.local.number(), 0x0a00_0c01);
-    assert_eq!(rt; link.to.number(), 0x0202_0202);
-    assert_eq!(rt; link.remote.number(), 0x0a00_0c02);
+    assert_interfaces(&rt, &link);
     assert_eq!(rt; link.metric, u32::MAX);
     assert_eq!(rt; link.group.bits(), 10);
     assert_eq!(rt; link.free, [1, 2, 3, 4, 5, 6, 7, u64::MAX]);
@@ -241,18 +245,26 @@ fn asked(rt: &impl Abort, alloc: Global, text: &[u8]) -> Result<Request, Fail> {
     Ok(request)
 }
 
-#[test]
-fn what_an_ask_says(rt: HostRuntime) -> Result<(), Fail> {
-    let text = b"ask,9,1.2.3.4,2.2.2.2,7,1000,0x1,0x2,0x4,10.9.0.1/16s 4.4.4.4/32l";
-    let request = asked(&rt, rt.alloc(), text)?;
+fn assert_numbers(rt: &impl Abort, request: &Request) {
     assert_eq!(rt; request.id, 9);
     assert_eq!(rt; request.from.number(), 0x0102_0304);
     assert_eq!(rt; request.to.number(), 0x0202_0202);
     assert_eq!(rt; request.setup, 7);
     assert_eq!(rt; request.bandwidth, 1000);
+}
+
+fn assert_masks(rt: &impl Abort, request: &Request) {
     assert_eq!(rt; request.exclude_any.bits(), 1);
     assert_eq!(rt; request.include_any.bits(), 2);
     assert_eq!(rt; request.include_all.bits(), 4);
+}
+
+#[test]
+fn what_an_ask_says(rt: HostRuntime) -> Result<(), Fail> {
+    let text = b"ask,9,1.2.3.4,2.2.2.2,7,1000,0x1,0x2,0x4,10.9.0.1/16s 4.4.4.4/32l";
+    let request = asked(&rt, rt.alloc(), text)?;
+    assert_numbers(&rt, &request);
+    assert_masks(&rt, &request);
     assert_eq!(rt; request.hops.len(), 2);
     Ok(())
 }
