@@ -22,6 +22,3 @@ pub use laws::clients_go_forward;
 pub use limits::KEPT_NEWS;
 pub use news::{Listener, Teller, open_news};
 pub use replies::Replies;
-
-#[cfg(test)]
-mod tests;

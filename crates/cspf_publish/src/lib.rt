@@ -29,6 +29,3 @@ pub use errors::{ApplyError, AskError, OpenError};
 pub use limits::{MOST_ASKERS, MOST_VERSIONS};
 pub use publisher::{Publisher, open};
 pub use told::Told;
-
-#[cfg(test)]
-mod tests;

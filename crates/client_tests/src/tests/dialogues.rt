@@ -1,5 +1,5 @@
 use super::{link_batch, served};
-use crate::ClientError;
+use cspf_client::ClientError;
 use cspf_stream::StreamError;
 use std::test::Fail;
 

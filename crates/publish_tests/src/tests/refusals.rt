@@ -1,8 +1,8 @@
 //! Batches and numbers of askers that are refused.
 
 use super::fixtures::{TEXT, apply_empty, batch, first_batch, only_link, opened};
-use crate::{ApplyError, OpenError, open};
 use cspf_db::{Batch, Change, Refusal};
+use cspf_publish::{ApplyError, OpenError, open};
 use std::alloc::Global;
 use std::io;
 use std::process::Abort;

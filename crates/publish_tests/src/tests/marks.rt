@@ -1,9 +1,9 @@
 //! Marks of routers without transit, which stand at each later version.
 
 use super::fixtures::{ONE, TWO, back, batch, only_link, opened, request, route_of};
-use crate::{Answer, AskError};
 use cspf_addr::{Addr, Mask};
 use cspf_db::{Batch, Change, Link, LinkError, Request};
+use cspf_publish::{Answer, AskError};
 use cspf_search::Outcome;
 use std::alloc::{AllocError, Global};
 use std::process::Abort;

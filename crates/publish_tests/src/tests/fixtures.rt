@@ -1,9 +1,9 @@
 //! What the tests share: batches, requests, publishers, and a writer that fails.
 ghost use Rattle.std.specs.Prelude.{◌≡◌};
 
-use crate::{Answer, ApplyError, AskError, Asker, Publisher, open};
 use cspf_addr::{Addr, Hops, Mask};
 use cspf_db::{Batch, Change, Link, LinkError, Request, RequestError};
+use cspf_publish::{Answer, ApplyError, AskError, Asker, Publisher, open};
 use cspf_search::Outcome;
 use std::alloc::{AllocError, Global};
 use std::io;

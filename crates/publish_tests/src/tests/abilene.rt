@@ -8,9 +8,9 @@
 //! first batch is published.
 
 use super::fixtures::{batch, request};
-use crate::{AskError, Asker, Publisher, open};
 use cspf_addr::{Addr, Mask};
 use cspf_db::{Batch, Change, Link, LinkError, Request, Table};
+use cspf_publish::{AskError, Asker, Publisher, open};
 use cspf_search::{Outcome, best};
 use std::alloc::{AllocError, Global};
 use std::io::Write;

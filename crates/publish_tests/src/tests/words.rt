@@ -1,7 +1,7 @@
 //! The words of errors.
 
-use crate::{ApplyError, AskError, OpenError};
 use cspf_db::Refusal;
+use cspf_publish::{ApplyError, AskError, OpenError};
 use std::alloc::{AllocError, Global};
 use std::fmt::Display;
 use std::process::Abort;

@@ -3,7 +3,7 @@ ghost use Rattle.cspf_publish.specs.KnownBatches.{AreFirstOf};
 ghost use Rattle.cspf_client.specs.ServingStates.{IsReady};
 
 use super::{Narrow, link_batch, opened};
-use crate::{Client, ServedClient, ServingClient, Teller};
+use cspf_client::{Client, ServedClient, ServingClient, Teller};
 use cspf_db::Batch;
 use cspf_publish::Publisher;
 use std::alloc::Global;

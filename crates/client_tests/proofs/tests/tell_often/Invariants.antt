@@ -1,5 +1,5 @@
 use Rattle.std.proofs.Common.{◌≡◌}
-use Rattle.cspf_client.proofs.tests.tell_often.Given as goal
+use Rattle.client_tests.proofs.tests.tell_often.Given as goal
 
 -- nothing but the ring changes
 abbrev pub invariant-loop : goal.invariant-loop
