@@ -1,6 +1,6 @@
 //! The files of the clients of `serve`: their names, what is refused before any is opened, and how
 //! they are opened.
-ghost use Rattle.std.specs.Prelude.{◌≡◌, length, IfOk, vec_len};
+ghost use Rattle.std.specs.Prelude.{◌≡◌, ◌<◌, ◌≤◌, length, IfOk, vec_len};
 
 use crate::noted::{Action, Name};
 use crate::stopped::Stopped;
@@ -88,7 +88,9 @@ pub fn client_names<'a>(
     rt: &HostRuntime,
     journal: &'a str,
     words: &[&'a str],
-) -> Result<Vec<ClientNames<'a>>, NamesError<'a>> {
+) -> Result<Vec<ClientNames<'a>>, NamesError<'a>>
+    ensures { IfOk result (λ names. (0 < vec_len names) × (vec_len names ≤ MOST_ASKERS)) }
+{
     let Some(clients) = read_all(rt.alloc(), words)? else {
         return Err(NamesError::Pair);
     };
