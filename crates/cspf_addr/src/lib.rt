@@ -27,6 +27,3 @@ pub use hop_reader::{HopsError, hop_lists_are_read, hop_lists_are_read_back, par
 pub use hops::{Hops, MOST_HOPS};
 pub use mask::{Mask, MaskError, masks_are_spelled};
 pub use prefix::{Prefix, PrefixError, prefixes_are_spelled};
-
-#[cfg(test)]
-mod tests;

@@ -22,6 +22,3 @@ pub use link::{Link, LinkError};
 pub use refusal::Refusal;
 pub use request::{Request, RequestError};
 pub use table::Table;
-
-#[cfg(test)]
-mod tests;

@@ -24,6 +24,3 @@ pub use limits::MOST_ROUTE_LINKS;
 pub use outcome::Outcome;
 pub use route::Route;
 pub use search::{best, best_by_rounds};
-
-#[cfg(test)]
-mod tests;

@@ -1,6 +1,6 @@
 //! Where the reverses of links are, after batches that put and drop them and that move rows.
-use crate::{Batch, Change, Link, LinkError, NO_LINK, Table};
 use cspf_addr::{Addr, Mask};
+use cspf_db::{Batch, Change, Link, LinkError, NO_LINK, Table};
 use std::alloc::{AllocError, Global};
 use std::process::Abort;
 use std::test::Fail;

@@ -1,9 +1,9 @@
 mod marks;
 mod strict;
 
-use super::*;
 use cspf_addr::{Addr, Mask, parse_hops};
 use cspf_db::{Batch, Change, Link, Request, Table};
+use cspf_search::{Outcome, best, best_by_rounds};
 use std::alloc::{AllocError, Global};
 use std::test::Fail;
 

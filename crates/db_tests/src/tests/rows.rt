@@ -1,5 +1,5 @@
-use crate::{Batch, Change, Link, LinkError, Table};
 use cspf_addr::{Addr, Mask};
+use cspf_db::{Batch, Change, Link, LinkError, Table};
 use std::alloc::Global;
 use std::process::Abort;
 use std::test::Fail;

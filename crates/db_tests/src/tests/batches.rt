@@ -1,5 +1,5 @@
-use crate::{Batch, Change, Link, LinkError, Refusal, Request, RequestError, Table};
 use cspf_addr::{Addr, Hop, Hops, Mask, Prefix};
+use cspf_db::{Batch, Change, Link, LinkError, Refusal, Request, RequestError, Table};
 use std::alloc::{AllocError, Global};
 use std::test::Fail;
 

@@ -1,4 +1,4 @@
-use crate::{Addr, Prefix, PrefixError};
+use cspf_addr::{Addr, Prefix, PrefixError};
 use std::test::Fail;
 
 #[test]

@@ -1,8 +1,8 @@
 //! Which routers own an address that a prefix covers, and where their links stand, after batches that
 //! put and drop links and that move rows.
 use super::reverses::Draw;
-use crate::{Batch, Change, Link, LinkError, Table};
 use cspf_addr::{Addr, Mask, Prefix};
+use cspf_db::{Batch, Change, Link, LinkError, Table};
 use std::alloc::{AllocError, Global};
 use std::process::Abort;
 use std::test::Fail;

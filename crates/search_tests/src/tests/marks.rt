@@ -1,8 +1,8 @@
 //! Routes in networks with routers without transit.
 use super::{FOUR, ONE, Row, THREE, TWO, answered, by_hops, is_route, mark, request, table};
-use crate::Outcome;
 use cspf_addr::Addr;
 use cspf_db::{Batch, Change, Table};
+use cspf_search::Outcome;
 use std::alloc::Global;
 use std::process::Abort;
 use std::test::Fail;

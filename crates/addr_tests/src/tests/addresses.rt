@@ -1,4 +1,4 @@
-use crate::{Addr, AddrError};
+use cspf_addr::{Addr, AddrError};
 use std::test::Fail;
 
 #[test]

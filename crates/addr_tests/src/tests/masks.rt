@@ -1,4 +1,4 @@
-use crate::{Mask, MaskError};
+use cspf_addr::{Mask, MaskError};
 use std::test::Fail;
 
 #[test]

@@ -1,4 +1,4 @@
-use crate::{Addr, Hop, Hops, HopsError, MOST_HOPS, Prefix, parse_hops};
+use cspf_addr::{Addr, Hop, Hops, HopsError, MOST_HOPS, Prefix, parse_hops};
 use std::test::Fail;
 
 #[test]

@@ -1,4 +1,4 @@
-use crate::number;
+use cspf_addr::number;
 
 #[test]
 fn numbers_below_2_to_64(rt: HostRuntime) {

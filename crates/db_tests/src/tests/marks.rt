@@ -1,7 +1,7 @@
 //! Which routers have transit, after batches that mark them and take their marks away.
 use super::reverses::Draw;
-use crate::{Batch, Change, Link, LinkError, MOST_CHANGES, MOST_MARKS, Refusal, Table};
 use cspf_addr::{Addr, Mask};
+use cspf_db::{Batch, Change, Link, LinkError, MOST_CHANGES, MOST_MARKS, Refusal, Table};
 use std::alloc::{AllocError, Global};
 use std::process::Abort;
 use std::test::Fail;
