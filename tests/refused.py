@@ -83,7 +83,7 @@ class Live:
         self.versions = Versions(text_of(UPDATES), text_of(REQUESTS).splitlines())
 
     def run(self, refuser, number, flags):
-        journal = os.path.join(refuser.room.name, f"journal {flags} {number}")
+        journal = os.path.join(refuser.room.name, f"journal {flags} {number}".replace(" ", "-"))
         ran = refuser.run([*self.words, journal], flags[0], number, *flags[1:])
         kept = text_of(journal) if os.path.exists(journal) else ""
         if os.path.exists(journal):
