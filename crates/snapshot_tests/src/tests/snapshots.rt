@@ -3,21 +3,39 @@
 use super::tables::{node, put, table_of};
 use cspf_db::{Batch, Change, Table};
 use cspf_snapshot::{replay, snapshot};
-use std::alloc::Global;
+use std::alloc::{AllocError, Global};
 use std::process::Abort;
+use std::slice::Iter;
 use std::test::Fail;
+
+/// The batches have the numbers 1, 2 and so on.
+fn assert_numbers(rt: &impl Abort, batches: &[Batch]) {
+    let mut numbers = 1..=5;
+    for batch in batches {
+        assert_eq!(rt; Some(batch.number), numbers.next());
+    }
+}
+
+/// These changes come next.
+fn assert_next(rt: &impl Abort, changes: &[Change], wanted: &mut Iter<'_, Change>) {
+    for change in changes {
+        assert_eq!(rt; Some(change), wanted.next());
+    }
+}
 
 /// The batches have the numbers 1, 2 and so on, and together these changes.
 fn assert_changes(rt: &impl Abort, batches: &[Batch], changes: &[Change]) {
-    let mut numbers = 1..=5;
+    assert_numbers(rt, batches);
     let mut wanted = changes.iter();
     for batch in batches {
-        assert_eq!(rt; Some(batch.number), numbers.next());
-        for change in &batch.changes {
-            assert_eq!(rt; Some(change), wanted.next());
-        }
+        assert_next(rt, &batch.changes, &mut wanted);
     }
     assert_eq!(rt; wanted.next(), None);
+}
+
+fn assert_same(rt: &impl Abort, again: &Table, table: &Table) {
+    assert!(rt; again.links() == table.links());
+    assert!(rt; again.marks() == table.marks());
 }
 
 /// The batches make a table with the same links and the same marks.
@@ -28,8 +46,7 @@ fn assert_made_again(
     batches: &[Batch],
 ) -> Result<(), Fail> {
     let again = replay(alloc, batches)?;
-    assert!(rt; again.links() == table.links());
-    assert!(rt; again.marks() == table.marks());
+    assert_same(rt, &again, table);
     Ok(())
 }
 
@@ -78,6 +95,21 @@ fn full_changes(alloc: Global, links: u32, marks: u32) -> Result<Vec<Change>, Fa
     Ok(changes)
 }
 
+fn reversed(alloc: Global, changes: &[Change]) -> Result<Vec<Change>, AllocError> {
+    let mut reversed = Vec::new(alloc);
+    for change in changes.iter().rev() {
+        reversed.push(*change)?;
+    }
+    Ok(reversed)
+}
+
+fn assert_each_size(rt: &impl Abort, batches: &[Batch], sizes: &[usize]) {
+    assert_eq!(rt; batches.len(), sizes.len());
+    for (batch, size) in batches.iter().zip(sizes) {
+        assert_eq!(rt; batch.changes.len(), *size);
+    }
+}
+
 /// The snapshot of the table after these changes, from the last to the first, has batches of these
 /// sizes, makes the changes in order, and makes the table again.
 fn assert_sizes(
@@ -86,16 +118,9 @@ fn assert_sizes(
     changes: &[Change],
     sizes: &[usize],
 ) -> Result<(), Fail> {
-    let mut reversed = Vec::new(alloc);
-    for change in changes.iter().rev() {
-        reversed.push(*change)?;
-    }
-    let table = table_of(rt, alloc, &reversed)?;
+    let table = table_of(rt, alloc, &reversed(alloc, changes)?)?;
     let batches = snapshot(alloc, &table)?;
-    assert_eq!(rt; batches.len(), sizes.len());
-    for (batch, size) in batches.iter().zip(sizes) {
-        assert_eq!(rt; batch.changes.len(), *size);
-    }
+    assert_each_size(rt, &batches, sizes);
     assert_changes(rt, &batches, changes);
     assert_made_again(rt, alloc, &table, &batches)
 }

@@ -27,11 +27,20 @@ pub(crate) fn node(router: u32, transit: bool) -> Change {
 }
 
 /// A batch of these changes.
-pub(crate) fn batch(alloc: Global, number: u32, changes: &[Change]) -> Result<Batch, AllocError> {
+fn batch(alloc: Global, number: u32, changes: &[Change]) -> Result<Batch, AllocError> {
     Ok(Batch {
         number,
         changes: Vec::from_slice(alloc, changes)?,
     })
+}
+
+/// Batches of these numbers and changes.
+pub(crate) fn batches(alloc: Global, given: &[(u32, &[Change])]) -> Result<Vec<Batch>, AllocError> {
+    let mut made = Vec::new(alloc);
+    for (number, changes) in given {
+        made.push(batch(alloc, *number, changes)?)?;
+    }
+    Ok(made)
 }
 
 /// The table after these changes, which fit.
