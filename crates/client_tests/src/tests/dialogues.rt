@@ -1,6 +1,10 @@
 use super::{link_batch, served};
 use cspf_client::ClientError;
+use cspf_db::Batch;
 use cspf_stream::StreamError;
+use std::alloc::Global;
+use std::process::Abort;
+use std::sync::Wait;
 use std::test::Fail;
 
 const REQUESTS: &[u8] = b"ask,7,1.1.1.1,2.2.2.2,0,1000,0x0,0x0,0x0,\nend,2,0\n\nask,8\n\
@@ -34,18 +38,25 @@ ask 9 v0 unknown-from\n";
     Ok(())
 }
 
-/// A client whose replies aren't taken has a part of them.
+/// A client whose replies are taken up to a byte has these alone, and is stopped by the write.
+fn stops_at<R: Wait + Abort>(rt: &R, alloc: Global, first: &Batch, most: usize, refused: u64) {
+    let left = served(rt, alloc, first, 1, REQUESTS, most);
+    assert!(rt;
+        REPLIES.get(..most) == Some(left.replies.held.as_slice()),
+        "{most}"
+    );
+    assert!(rt;
+        left.end == Err(ClientError::Stream(StreamError::Write)),
+        "{most}"
+    );
+    assert!(rt; left.refused == refused && left.replies.ends == 1, "{most}");
+}
+
 #[test]
 fn replies_that_are_not_taken(rt: HostRuntime) -> Result<(), Fail> {
     let first = link_batch(rt.alloc(), 1)?;
     for (most, refused) in [(0, 0), (67, 0), (68, 1), (90, 2), (121, 2)] {
-        let left = served(&rt, rt.alloc(), &first, 1, REQUESTS, most);
-        assert!(rt; left.replies.held.as_slice() == &REPLIES[..most], "{most}");
-        assert!(rt;
-            left.end == Err(ClientError::Stream(StreamError::Write)),
-            "{most}"
-        );
-        assert!(rt; left.refused == refused && left.replies.ends == 1, "{most}");
+        stops_at(&rt, rt.alloc(), &first, most, refused);
     }
     Ok(())
 }
