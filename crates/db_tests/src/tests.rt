@@ -1,4 +1,5 @@
 mod batches;
+mod edits;
 mod marks;
 mod owners;
 mod reverses;

@@ -138,53 +138,45 @@ fn is_route(outcome: &Outcome, cost: u64, again: bool, remotes: &[u32]) -> bool 
     same && route.cost() == cost && route.again() == again
 }
 
+// Addresses compare as numbers.
 #[test]
-fn ties(rt: HostRuntime) -> Result<(), Fail> {
+fn ties_of_parallel_links(rt: HostRuntime) -> Result<(), Fail> {
     let alloc = rt.alloc();
-    // addresses compare as numbers
-    let parallel = table(
-        alloc,
-        &[
-            (ONE, 0x0a00_000a, TWO, 0x0a00_010a, 5, 1000),
-            (ONE, 0x0a00_0009, TWO, 0x0a00_0109, 5, 1000),
-        ],
-    )?;
-    assert!(rt;
-        is_route(
-            &by_hops(alloc, &parallel, TWO, b"")?,
-            5,
-            false,
-            &[0x0a00_0109]
-        )
-    );
-    // fewer links go before smaller addresses
-    let direct = table(
-        alloc,
-        &[
-            (ONE, 0x0a00_6301, TWO, 0x0a00_6302, 20, 1000),
-            (ONE, 0x0a00_0d01, THREE, 0x0a00_0d03, 10, 1000),
-            (THREE, 0x0a00_1703, TWO, 0x0a00_1702, 10, 1000),
-        ],
-    )?;
-    assert!(rt;
-        is_route(
-            &by_hops(alloc, &direct, TWO, b"")?,
-            20,
-            false,
-            &[0x0a00_6302]
-        )
-    );
-    // the first address decides, and not the last
-    let first = table(
-        alloc,
-        &[
-            (ONE, 0x0a00_0301, THREE, 1, 1, 1000),
-            (THREE, 0x0a00_0001, FOUR, 2, 1, 1000),
-            (ONE, 0x0a00_0201, TWO, 3, 1, 1000),
-            (TWO, 0x0a09_0909, FOUR, 4, 1, 1000),
-        ],
-    )?;
-    assert!(rt; is_route(&by_hops(alloc, &first, FOUR, b"")?, 2, false, &[3, 4]));
+    let rows = [
+        (ONE, 0x0a00_000a, TWO, 0x0a00_010a, 5, 1000),
+        (ONE, 0x0a00_0009, TWO, 0x0a00_0109, 5, 1000),
+    ];
+    let outcome = by_hops(alloc, &table(alloc, &rows)?, TWO, b"")?;
+    assert!(rt; is_route(&outcome, 5, false, &[0x0a00_0109]));
+    Ok(())
+}
+
+// Fewer links go before smaller addresses.
+#[test]
+fn ties_of_fewer_links(rt: HostRuntime) -> Result<(), Fail> {
+    let alloc = rt.alloc();
+    let rows = [
+        (ONE, 0x0a00_6301, TWO, 0x0a00_6302, 20, 1000),
+        (ONE, 0x0a00_0d01, THREE, 0x0a00_0d03, 10, 1000),
+        (THREE, 0x0a00_1703, TWO, 0x0a00_1702, 10, 1000),
+    ];
+    let outcome = by_hops(alloc, &table(alloc, &rows)?, TWO, b"")?;
+    assert!(rt; is_route(&outcome, 20, false, &[0x0a00_6302]));
+    Ok(())
+}
+
+// The first address decides, and not the last.
+#[test]
+fn ties_of_first_addresses(rt: HostRuntime) -> Result<(), Fail> {
+    let alloc = rt.alloc();
+    let rows = [
+        (ONE, 0x0a00_0301, THREE, 1, 1, 1000),
+        (THREE, 0x0a00_0001, FOUR, 2, 1, 1000),
+        (ONE, 0x0a00_0201, TWO, 3, 1, 1000),
+        (TWO, 0x0a09_0909, FOUR, 4, 1, 1000),
+    ];
+    let outcome = by_hops(alloc, &table(alloc, &rows)?, FOUR, b"")?;
+    assert!(rt; is_route(&outcome, 2, false, &[3, 4]));
     Ok(())
 }
 
@@ -201,10 +193,13 @@ fn links_of_no_cost(rt: HostRuntime) -> Result<(), Fail> {
     Ok(())
 }
 
+// A link from ONE to TWO.
+const LINK: Row = (ONE, 0x0a00_0c01, TWO, 0x0a00_0c02, 10, 1000);
+
 #[test]
 fn requests_without_hops(rt: HostRuntime) -> Result<(), Fail> {
     let alloc = rt.alloc();
-    let table = table(alloc, &[(ONE, 0x0a00_0c01, TWO, 0x0a00_0c02, 10, 1000)])?;
+    let table = table(alloc, &[LINK])?;
     let any = (0, 0, 0);
     // setup priority, affinities, whether there is a route: nothing is unreserved at priority 7
     let cases = [
@@ -225,10 +220,25 @@ fn requests_without_hops(rt: HostRuntime) -> Result<(), Fail> {
             "{setup} {masks:?}"
         );
     }
-    // nothing is unreserved on the link back
-    let back = answered(alloc, &table, &request((TWO, ONE), 0, any, b"")?)?;
+    Ok(())
+}
+
+// Nothing is unreserved on the link back.
+#[test]
+fn requests_for_the_link_back(rt: HostRuntime) -> Result<(), Fail> {
+    let alloc = rt.alloc();
+    let request = request((TWO, ONE), 0, (0, 0, 0), b"")?;
+    let back = answered(alloc, &table(alloc, &[LINK])?, &request)?;
     assert!(rt; matches!(back, Outcome::NoRoute));
-    // an unknown head-end comes before an unknown tail-end
+    Ok(())
+}
+
+// An unknown head-end comes before an unknown tail-end.
+#[test]
+fn unknown_ends(rt: HostRuntime) -> Result<(), Fail> {
+    let alloc = rt.alloc();
+    let table = table(alloc, &[LINK])?;
+    let any = (0, 0, 0);
     let from = answered(alloc, &table, &request((THREE, FOUR), 0, any, b"")?)?;
     assert!(rt; matches!(from, Outcome::UnknownFrom));
     let to = answered(alloc, &table, &request((ONE, FOUR), 0, any, b"")?)?;
@@ -236,18 +246,17 @@ fn requests_without_hops(rt: HostRuntime) -> Result<(), Fail> {
     Ok(())
 }
 
-// Whether a link from ONE to TWO, beside another link, is a route.
+// Whether the link, beside another one, is a route.
 fn is_usable(alloc: Global, other: Row) -> Result<bool, Fail> {
-    let rows = [(ONE, 0x0a00_0c01, TWO, 0x0a00_0c02, 10, 1000), other];
-    let outcome = by_hops(alloc, &one_way(alloc, &rows)?, TWO, b"")?;
+    let outcome = by_hops(alloc, &one_way(alloc, &[LINK, other])?, TWO, b"")?;
     Ok(is_route(&outcome, 10, false, &[0x0a00_0c02]))
 }
 
 #[test]
-fn links_that_run_both_ways(rt: HostRuntime) -> Result<(), Fail> {
+fn a_link_without_its_reverse(rt: HostRuntime) -> Result<(), Fail> {
     let alloc = rt.alloc();
-    let alone = one_way(alloc, &[(ONE, 0x0a00_0c01, TWO, 0x0a00_0c02, 10, 1000)])?;
-    assert!(rt; matches!(by_hops(alloc, &alone, TWO, b"")?, Outcome::NoRoute));
+    let outcome = by_hops(alloc, &one_way(alloc, &[LINK])?, TWO, b"")?;
+    assert!(rt; matches!(outcome, Outcome::NoRoute));
     // links back by another interface at one end or at both, and one to another router
     let others = [
         (TWO, 0x0a00_0d02, ONE, 0x0a00_0d01, 10, 1000),
@@ -258,19 +267,24 @@ fn links_that_run_both_ways(rt: HostRuntime) -> Result<(), Fail> {
     for other in others {
         assert!(rt; !is_usable(alloc, other)?, "{other:?}");
     }
-    // whatever the reverse's metric and bandwidth
+    Ok(())
+}
+
+// Whatever the reverse's metric and bandwidth.
+#[test]
+fn links_that_run_both_ways(rt: HostRuntime) -> Result<(), Fail> {
+    let alloc = rt.alloc();
     assert!(rt; is_usable(alloc, (TWO, 0x0a00_0c02, ONE, 0x0a00_0c01, 10, 1000))?);
     assert!(rt; is_usable(alloc, (TWO, 0x0a00_0c02, ONE, 0x0a00_0c01, 7, 0))?);
     Ok(())
 }
 
-// A link from ONE to TWO, and its reverse of other groups.
+// The link, and its reverse of other groups.
 fn other_groups(alloc: Global) -> Result<Table, Fail> {
-    let row = (ONE, 0x0a00_0c01, TWO, 0x0a00_0c02, 10, 1000);
-    let mut back = link(&reverse(&row))?;
+    let mut back = link(&reverse(&LINK))?;
     back.group = Mask::new(0x8);
     let mut changes = Vec::new(alloc);
-    changes.push(Change::Put(link(&row)?))?;
+    changes.push(Change::Put(link(&LINK)?))?;
     changes.push(Change::Put(back))?;
     let mut table = Table::new(alloc)?;
     table.absorb(&Batch { number: 1, changes });
@@ -312,29 +326,40 @@ fn strict_and_loose_hops(rt: HostRuntime) -> Result<(), Fail> {
     Ok(())
 }
 
+// The route stands at the tail-end before the hop, and again behind it.
 #[test]
-fn routers_met_by_hops(rt: HostRuntime) -> Result<(), Fail> {
+fn a_tail_end_before_a_hop(rt: HostRuntime) -> Result<(), Fail> {
     let alloc = rt.alloc();
-    let there_and_back = [
-        (ONE, 0x0a00_0c01, TWO, 0x0a00_0c02, 10, 1000),
+    let rows = [
+        LINK,
         (TWO, 0x0a00_1702, THREE, 0x0a00_1703, 10, 1000),
         (THREE, 0x0a00_1703, TWO, 0x0a00_1702, 10, 1000),
     ];
-    let table_of = table(alloc, &there_and_back)?;
-    // the route stands at the tail-end before the hop, and again behind it
-    let outcome = by_hops(alloc, &table_of, TWO, b"3.3.3.3/32l")?;
+    let outcome = by_hops(alloc, &table(alloc, &rows)?, TWO, b"3.3.3.3/32l")?;
     assert!(rt; is_route(&outcome, 30, true, &[0x0a00_0c02, 0x0a00_1703, 0x0a00_1702]));
-    // a router has the address of its interface on a link that the request can't use
-    let unusable = [
-        (ONE, 0x0a00_0c01, TWO, 0x0a00_0c02, 10, 1000),
+    Ok(())
+}
+
+// A router has the address of its interface on a link that the request can't use.
+#[test]
+fn a_hop_by_an_unusable_link(rt: HostRuntime) -> Result<(), Fail> {
+    let alloc = rt.alloc();
+    let rows = [
+        LINK,
         (TWO, 0x0a00_1702, THREE, 0x0a00_1703, 10, 1000),
         (TWO, 0xac10_0002, FOUR, 0xac10_0004, 10, 0),
     ];
-    let outcome = by_hops(alloc, &table(alloc, &unusable)?, THREE, b"172.16.0.0/12s")?;
+    let outcome = by_hops(alloc, &table(alloc, &rows)?, THREE, b"172.16.0.0/12s")?;
     assert!(rt; is_route(&outcome, 20, false, &[0x0a00_0c02, 0x0a00_1703]));
-    // seven hops that each router meets change nothing
+    Ok(())
+}
+
+// Seven hops that each router meets change nothing.
+#[test]
+fn hops_that_each_router_meets(rt: HostRuntime) -> Result<(), Fail> {
+    let alloc = rt.alloc();
     let seven = b"0.0.0.0/0l 0.0.0.0/0l 0.0.0.0/0l 0.0.0.0/0l 0.0.0.0/0l 0.0.0.0/0l 0.0.0.0/0l";
-    let outcome = by_hops(alloc, &table(alloc, &unusable[..1])?, TWO, seven)?;
+    let outcome = by_hops(alloc, &table(alloc, &[LINK])?, TWO, seven)?;
     assert!(rt; is_route(&outcome, 10, false, &[0x0a00_0c02]));
     Ok(())
 }

@@ -1,43 +1,19 @@
 //! Which routers have transit, after batches that mark them and take their marks away.
+use super::edits::Edit::{self, Node, Put, Remove};
+use super::edits::{batch_of, drop_of, node, put};
 use super::reverses::Draw;
-use cspf_addr::{Addr, Mask};
-use cspf_db::{Batch, Change, Link, LinkError, MOST_CHANGES, MOST_MARKS, Refusal, Table};
+use cspf_addr::Addr;
+use cspf_db::{Batch, Change, LinkError, MOST_CHANGES, MOST_MARKS, Refusal, Table};
 use std::alloc::{AllocError, Global};
 use std::process::Abort;
 use std::test::Fail;
 
-fn node(router: u32, transit: bool) -> Change {
-    Change::Node {
-        router: Addr::new(router),
-        transit,
+// Each router is marked by its index where its Router ID is one of these.
+fn assert_marked_routers(rt: &impl Abort, table: &Table, marks: &[u32]) {
+    for (at, router) in table.routers().iter().enumerate() {
+        let marked = !table.transit_at(at);
+        assert_eq!(rt; marked, marks.contains(&router.number()), "{router:?}");
     }
-}
-
-// A put of the link from a router by an interface there to another.
-fn put(from: u32, local: u32, to: u32) -> Result<Change, LinkError> {
-    Ok(Change::Put(Link::new(
-        Addr::new(from),
-        Addr::new(local),
-        Addr::new(to),
-        Addr::new(local),
-        10,
-        Mask::new(1),
-        [1000; 8],
-    )?))
-}
-
-fn drop_of(from: u32, local: u32) -> Change {
-    Change::Remove {
-        from: Addr::new(from),
-        local: Addr::new(local),
-    }
-}
-
-fn batch(alloc: Global, changes: &[Change]) -> Result<Batch, AllocError> {
-    Ok(Batch {
-        number: 1,
-        changes: Vec::from_slice(alloc, changes)?,
-    })
 }
 
 // The addresses that are marked, all below 2,048, are these by each call.
@@ -50,11 +26,7 @@ fn assert_marks(rt: &impl Abort, table: &Table, marks: &[u32]) {
     for router in table.marks() {
         assert!(rt; marks.contains(&router.number()), "{router:?}");
     }
-    let routers = table.routers();
-    for (at, router) in routers.iter().enumerate() {
-        let marked = !table.transit_at(at);
-        assert_eq!(rt; marked, marks.contains(&router.number()), "{router:?}");
-    }
+    assert_marked_routers(rt, table, marks);
 }
 
 // The changes fit, and then these routers are marked.
@@ -62,13 +34,26 @@ fn change(
     rt: &impl Abort,
     alloc: Global,
     table: &mut Table,
-    changes: &[Change],
+    edits: &[Edit],
     marks: &[u32],
-) -> Result<(), AllocError> {
-    let batch = batch(alloc, changes)?;
-    assert_eq!(rt; table.check(&batch), Ok(()), "{changes:?}");
+) -> Result<(), Fail> {
+    let batch = batch_of(alloc, edits)?;
+    assert_eq!(rt; table.check(&batch), Ok(()), "{batch:?}");
     table.absorb(&batch);
     assert_marks(rt, table, marks);
+    Ok(())
+}
+
+// The changes of each step fit, and then the routers of the step are marked.
+fn make(
+    rt: &impl Abort,
+    alloc: Global,
+    table: &mut Table,
+    steps: &[(&[Edit], &[u32])],
+) -> Result<(), Fail> {
+    for (edits, marks) in steps {
+        change(rt, alloc, table, edits, marks)?;
+    }
     Ok(())
 }
 
@@ -80,29 +65,46 @@ fn refuse(rt: &impl Abort, table: &mut Table, batch: &Batch, refusal: Refusal, m
 }
 
 #[test]
-fn marks_that_come_and_go(rt: HostRuntime) -> Result<(), Fail> {
+fn marks_that_come(rt: HostRuntime) -> Result<(), Fail> {
     let alloc = rt.alloc();
     let mut table = Table::new(alloc)?;
     assert_marks(&rt, &table, &[]);
     // a mark makes no router, and may be set again
-    change(&rt, alloc, &mut table, &[node(1, false)], &[1])?;
+    change(&rt, alloc, &mut table, &[Node(1, false)], &[1])?;
     assert!(rt; !table.has_router(Addr::new(1)));
-    change(&rt, alloc, &mut table, &[node(1, false)], &[1])?;
-    // an address that isn't marked has transit already
-    change(&rt, alloc, &mut table, &[node(2, true)], &[1])?;
-    // the router that is marked comes, and another one with its mark
-    let changes = [put(1, 7, 2)?, node(3, false), put(3, 8, 1)?];
-    change(&rt, alloc, &mut table, &changes, &[1, 3])?;
+    let steps: [(&[Edit], &[u32]); 3] = [
+        (&[Node(1, false)], &[1]),
+        // an address that isn't marked has transit already
+        (&[Node(2, true)], &[1]),
+        // the router that is marked comes, and another one with its mark
+        (&[Put(1, 7, 2, 7), Node(3, false), Put(3, 8, 1, 8)], &[1, 3]),
+    ];
+    make(&rt, alloc, &mut table, &steps)?;
     assert_eq!(rt; table.routers().len(), 3);
-    let changes = [node(1, true), node(2, false)];
-    change(&rt, alloc, &mut table, &changes, &[2, 3])?;
-    // the routers go, and their marks stay
-    let changes = [drop_of(1, 7), drop_of(3, 8)];
-    change(&rt, alloc, &mut table, &changes, &[2, 3])?;
-    assert!(rt; table.routers().is_empty());
-    let changes = [node(3, true), node(2, true)];
-    change(&rt, alloc, &mut table, &changes, &[])?;
     Ok(())
+}
+
+#[test]
+fn marks_that_go(rt: HostRuntime) -> Result<(), Fail> {
+    let alloc = rt.alloc();
+    let mut table = Table::new(alloc)?;
+    let steps: [(&[Edit], &[u32]); 3] = [
+        (
+            &[
+                Put(1, 7, 2, 7),
+                Node(3, false),
+                Put(3, 8, 1, 8),
+                Node(1, false),
+            ],
+            &[1, 3],
+        ),
+        (&[Node(1, true), Node(2, false)], &[2, 3]),
+        // the routers go, and their marks stay
+        (&[Remove(1, 7), Remove(3, 8)], &[2, 3]),
+    ];
+    make(&rt, alloc, &mut table, &steps)?;
+    assert!(rt; table.routers().is_empty());
+    change(&rt, alloc, &mut table, &[Node(3, true), Node(2, true)], &[])
 }
 
 #[test]
@@ -113,33 +115,46 @@ fn keys_of_marks(rt: HostRuntime) -> Result<(), Fail> {
     assert_eq!(rt; node(5, false).key(), (five, None));
     assert_eq!(rt; node(5, true).key(), (five, None));
     // a router's key is that of none of its links, whatever their addresses there
-    let changes = [put(5, 0, 6)?, put(5, 5, 6)?, node(5, false)];
-    change(&rt, alloc, &mut table, &changes, &[5])?;
-    let changes = [node(5, true), drop_of(5, 0), put(5, 5, 7)?];
-    change(&rt, alloc, &mut table, &changes, &[])?;
+    let steps: [(&[Edit], &[u32]); 2] = [
+        (&[Put(5, 0, 6, 0), Put(5, 5, 6, 5), Node(5, false)], &[5]),
+        (&[Node(5, true), Remove(5, 0), Put(5, 5, 7, 5)], &[]),
+    ];
+    make(&rt, alloc, &mut table, &steps)
+}
+
+// A table with one mark.
+fn with_a_mark(rt: &impl Abort, alloc: Global) -> Result<Table, Fail> {
+    let mut table = Table::new(alloc)?;
+    change(rt, alloc, &mut table, &[Node(9, false)], &[9])?;
+    Ok(table)
+}
+
+// A router twice in a batch, to whichever effect.
+#[test]
+fn repeated_marks(rt: HostRuntime) -> Result<(), Fail> {
+    let alloc = rt.alloc();
+    let mut table = with_a_mark(&rt, alloc)?;
+    for (first, second) in [(false, false), (false, true), (true, false), (true, true)] {
+        let edits = [
+            Node(5, first),
+            Put(5, 1, 6, 1),
+            Node(9, true),
+            Node(5, second),
+        ];
+        let refusal = Refusal::Duplicate { at: 4 };
+        refuse(&rt, &mut table, &batch_of(alloc, &edits)?, refusal, &[9]);
+    }
+    assert!(rt; table.routers().is_empty());
     Ok(())
 }
 
+// A batch that is refused for its links.
 #[test]
-fn refused_marks(rt: HostRuntime) -> Result<(), Fail> {
+fn marks_beside_a_refused_link(rt: HostRuntime) -> Result<(), Fail> {
     let alloc = rt.alloc();
-    let mut table = Table::new(alloc)?;
-    change(&rt, alloc, &mut table, &[node(9, false)], &[9])?;
-    // a router twice in a batch, to whichever effect
-    for (first, second) in [(false, false), (false, true), (true, false), (true, true)] {
-        let changes = [
-            node(5, first),
-            put(5, 1, 6)?,
-            node(9, true),
-            node(5, second),
-        ];
-        let refusal = Refusal::Duplicate { at: 4 };
-        refuse(&rt, &mut table, &batch(alloc, &changes)?, refusal, &[9]);
-    }
-    // a batch that is refused for its links
-    let changes = [node(5, false), node(9, true), drop_of(5, 1)];
-    let refusal = Refusal::Absent { at: 3 };
-    refuse(&rt, &mut table, &batch(alloc, &changes)?, refusal, &[9]);
+    let mut table = with_a_mark(&rt, alloc)?;
+    let batch = batch_of(alloc, &[Node(5, false), Node(9, true), Remove(5, 1)])?;
+    refuse(&rt, &mut table, &batch, Refusal::Absent { at: 3 }, &[9]);
     assert!(rt; table.routers().is_empty());
     Ok(())
 }
@@ -157,11 +172,11 @@ fn change_both(
     rt: &impl Abort,
     alloc: Global,
     table: &mut Table,
-    changes: &[Change],
+    edits: &[Edit],
     marks: &[u32],
     routers: usize,
-) -> Result<(), AllocError> {
-    change(rt, alloc, table, changes, marks)?;
+) -> Result<(), Fail> {
+    change(rt, alloc, table, edits, marks)?;
     assert_eq!(rt; table.routers().len(), routers);
     assert_alike(rt, table);
     Ok(())
@@ -171,22 +186,33 @@ fn change_both(
 fn routers_and_marks_that_come_and_go(rt: HostRuntime) -> Result<(), Fail> {
     let alloc = rt.alloc();
     let mut table = Table::new(alloc)?;
-    // marks below, between, at and above the routers
-    let changes = [put(3, 1, 6)?, node(1, false), node(4, false)];
-    change_both(&rt, alloc, &mut table, &changes, &[1, 4], 2)?;
-    let changes = [node(6, false), node(9, false)];
-    change_both(&rt, alloc, &mut table, &changes, &[1, 4, 6, 9], 2)?;
-    // routers come before, between and behind these, marked and unmarked ones
-    let changes = [put(1, 1, 4)?, put(9, 1, 2)?];
-    change_both(&rt, alloc, &mut table, &changes, &[1, 4, 6, 9], 6)?;
-    // routers and marks go in one batch, and others come
-    let changes = [drop_of(1, 1), node(6, true), node(2, false)];
-    change_both(&rt, alloc, &mut table, &changes, &[1, 2, 4, 9], 4)?;
-    let changes = [drop_of(3, 1), put(9, 2, 8)?, node(8, false)];
-    change_both(&rt, alloc, &mut table, &changes, &[1, 2, 4, 8, 9], 3)?;
-    // a router that stays follows one that goes before it
-    let changes = [drop_of(9, 1), node(8, true)];
-    change_both(&rt, alloc, &mut table, &changes, &[1, 2, 4, 9], 2)?;
+    let steps: [(&[Edit], &[u32], usize); 6] = [
+        // marks below, between, at and above the routers
+        (
+            &[Put(3, 1, 6, 1), Node(1, false), Node(4, false)],
+            &[1, 4],
+            2,
+        ),
+        (&[Node(6, false), Node(9, false)], &[1, 4, 6, 9], 2),
+        // routers come before, between and behind these, marked and unmarked ones
+        (&[Put(1, 1, 4, 1), Put(9, 1, 2, 1)], &[1, 4, 6, 9], 6),
+        // routers and marks go in one batch, and others come
+        (
+            &[Remove(1, 1), Node(6, true), Node(2, false)],
+            &[1, 2, 4, 9],
+            4,
+        ),
+        (
+            &[Remove(3, 1), Put(9, 2, 8, 2), Node(8, false)],
+            &[1, 2, 4, 8, 9],
+            3,
+        ),
+        // a router that stays follows one that goes before it
+        (&[Remove(9, 1), Node(8, true)], &[1, 2, 4, 9], 2),
+    ];
+    for (edits, marks, routers) in steps {
+        change_both(&rt, alloc, &mut table, edits, marks, routers)?;
+    }
     Ok(())
 }
 
@@ -200,8 +226,10 @@ fn nodes(alloc: Global, first: u32, end: u32, transit: bool) -> Result<Vec<Chang
 }
 
 // A batch of these changes and then more.
-fn with(mut changes: Vec<Change>, more: &[Change]) -> Result<Batch, AllocError> {
-    changes.extend_from_slice(more)?;
+fn with(mut changes: Vec<Change>, more: &[Edit]) -> Result<Batch, Fail> {
+    for edit in more {
+        changes.push(edit.change()?)?;
+    }
     Ok(Batch { number: 1, changes })
 }
 
@@ -221,14 +249,10 @@ fn refuse_more(
     rt: &impl Abort,
     alloc: Global,
     table: &mut Table,
-    changes: &[Change],
-) -> Result<(), AllocError> {
-    let more = batch(alloc, changes)?;
-    assert_eq!(rt;
-        table.check(&more),
-        Err(Refusal::TooManyMarks),
-        "{changes:?}"
-    );
+    edits: &[Edit],
+) -> Result<(), Fail> {
+    let more = batch_of(alloc, edits)?;
+    assert_eq!(rt; table.check(&more), Err(Refusal::TooManyMarks), "{more:?}");
     table.absorb(&more);
     assert_eq!(rt; count_marks(table), 1024);
     assert!(rt; table.transit(Addr::new(1024)) && table.routers().is_empty());
@@ -242,37 +266,68 @@ fn mark_instead(
     table: &mut Table,
     set: u32,
     taken: u32,
-) -> Result<(), AllocError> {
-    let other = batch(alloc, &[node(set, false), node(taken, true)])?;
+) -> Result<(), Fail> {
+    let other = batch_of(alloc, &[Node(set, false), Node(taken, true)])?;
     table.absorb(&other);
     assert_eq!(rt; count_marks(table), 1024);
     assert!(rt; !table.transit(Addr::new(set)) && table.transit(Addr::new(taken)));
     Ok(())
 }
 
+// A table with a mark of each of the addresses 0 to 1,023.
+fn full_table(rt: &impl Abort, alloc: Global) -> Result<Table, Fail> {
+    let mut table = Table::new(alloc)?;
+    let all = with(nodes(alloc, 0, 1024, false)?, &[])?;
+    assert_eq!(rt; table.check(&all), Ok(()));
+    table.absorb(&all);
+    assert_eq!(rt; count_marks(&table), 1024);
+    Ok(table)
+}
+
 #[test]
-fn as_many_marks_as_are_kept(rt: HostRuntime) -> Result<(), Fail> {
+fn more_marks_than_are_kept(rt: HostRuntime) -> Result<(), Fail> {
     let alloc = rt.alloc();
     let mut table = Table::new(alloc)?;
     assert_eq!(rt; MOST_MARKS, 1024);
     let more = with(nodes(alloc, 0, 1025, false)?, &[])?;
     refuse(&rt, &mut table, &more, Refusal::TooManyMarks, &[]);
+    Ok(())
+}
+
+// One more, and one more in place of one that isn't marked, or twice, or beside a link.
+#[test]
+fn one_mark_more_than_are_kept(rt: HostRuntime) -> Result<(), Fail> {
+    let alloc = rt.alloc();
+    let mut table = full_table(&rt, alloc)?;
+    let cases = [
+        [Node(1024, false), Node(1025, true)],
+        [Node(1024, false), Node(1023, false)],
+        [Node(1024, false), Put(0, 0, 1, 0)],
+    ];
+    for edits in cases {
+        refuse_more(&rt, alloc, &mut table, &edits)?;
+    }
+    Ok(())
+}
+
+// The same ones again, and another in place of one, there and back.
+#[test]
+fn as_many_marks_as_are_kept(rt: HostRuntime) -> Result<(), Fail> {
+    let alloc = rt.alloc();
+    let mut table = full_table(&rt, alloc)?;
     let all = with(nodes(alloc, 0, 1024, false)?, &[])?;
     assert_eq!(rt; table.check(&all), Ok(()));
-    table.absorb(&all);
-    assert_eq!(rt; count_marks(&table), 1024);
-    // one more, and one more in place of one that isn't marked, or twice
-    let (more, less) = (node(1024, false), node(1025, true));
-    refuse_more(&rt, alloc, &mut table, &[more, less])?;
-    refuse_more(&rt, alloc, &mut table, &[more, node(1023, false)])?;
-    refuse_more(&rt, alloc, &mut table, &[more, put(0, 0, 1)?])?;
-    // the same ones again, and another in place of one, there and back
-    assert_eq!(rt; table.check(&all), Ok(()));
     mark_instead(&rt, alloc, &mut table, 1024, 0)?;
-    mark_instead(&rt, alloc, &mut table, 0, 1024)?;
-    let back = nodes(alloc, 0, 1024, true)?;
-    let others = with(nodes(alloc, 1024, 2048, false)?, &back)?;
-    table.absorb(&others);
+    mark_instead(&rt, alloc, &mut table, 0, 1024)
+}
+
+#[test]
+fn all_marks_in_place_of_others(rt: HostRuntime) -> Result<(), Fail> {
+    let alloc = rt.alloc();
+    let mut table = full_table(&rt, alloc)?;
+    let mut changes = nodes(alloc, 1024, 2048, false)?;
+    changes.extend_from_slice(&nodes(alloc, 0, 1024, true)?)?;
+    table.absorb(&Batch { number: 1, changes });
     assert_eq!(rt; count_marks(&table), 1024);
     assert!(rt; table.transit(Addr::new(1023)) && !table.transit(Addr::new(1024)));
     Ok(())
@@ -283,9 +338,16 @@ fn star(alloc: Global, count: u32) -> Result<Vec<Change>, Fail> {
     let mut changes = Vec::new(alloc);
     for to in 0..count {
         let local = to.wrapping_add(1);
-        changes.push(put(0, local, local)?)?;
+        changes.push(put(0, local, local, local)?)?;
     }
     Ok(changes)
+}
+
+// A batch of the links of a star, marks of the routers from 0 on, and more changes.
+fn star_with_marks(alloc: Global, links: u32, marks: u32, more: &[Edit]) -> Result<Batch, Fail> {
+    let mut changes = star(alloc, links)?;
+    changes.extend_from_slice(&nodes(alloc, 0, marks, false)?)?;
+    with(changes, more)
 }
 
 // Too many marks are the last reason for which a batch is refused.
@@ -293,27 +355,32 @@ fn star(alloc: Global, count: u32) -> Result<Vec<Change>, Fail> {
 fn marks_behind_other_refusals(rt: HostRuntime) -> Result<(), Fail> {
     let alloc = rt.alloc();
     let mut table = Table::new(alloc)?;
-    let marks = nodes(alloc, 0, 1025, false)?;
-    let routers = with(star(alloc, 1024)?, &marks)?;
-    refuse(&rt, &mut table, &routers, Refusal::TooManyRouters, &[]);
-    let fewer = with(star(alloc, 1023)?, &marks)?;
-    refuse(&rt, &mut table, &fewer, Refusal::TooManyMarks, &[]);
-    let absent = with(nodes(alloc, 0, 1025, false)?, &[drop_of(0, 1)])?;
-    let refusal = Refusal::Absent { at: 1026 };
-    refuse(&rt, &mut table, &absent, refusal, &[]);
-    let twice = with(
-        nodes(alloc, 0, 1025, false)?,
-        &[drop_of(0, 1), node(0, true)],
-    )?;
-    let refusal = Refusal::Duplicate { at: 1027 };
-    refuse(&rt, &mut table, &twice, refusal, &[]);
-    let most = with(nodes(alloc, 0, 4096, false)?, &[])?;
-    assert_eq!(rt; most.changes.len(), MOST_CHANGES);
-    refuse(&rt, &mut table, &most, Refusal::TooManyMarks, &[]);
-    let long = with(nodes(alloc, 0, 4096, false)?, &[node(0, true)])?;
-    refuse(&rt, &mut table, &long, Refusal::TooLong, &[]);
-    let most_marks = nodes(alloc, 0, 1024, false)?;
-    let fits = with(star(alloc, 1023)?, &most_marks)?;
+    assert_eq!(rt; MOST_CHANGES, 4096);
+    let cases: [(u32, u32, &[Edit], Refusal); 6] = [
+        (1024, 1025, &[], Refusal::TooManyRouters),
+        (1023, 1025, &[], Refusal::TooManyMarks),
+        (0, 1025, &[Remove(0, 1)], Refusal::Absent { at: 1026 }),
+        (
+            0,
+            1025,
+            &[Remove(0, 1), Node(0, true)],
+            Refusal::Duplicate { at: 1027 },
+        ),
+        (0, 4096, &[], Refusal::TooManyMarks),
+        (0, 4096, &[Node(0, true)], Refusal::TooLong),
+    ];
+    for (links, marks, more, refusal) in cases {
+        let batch = star_with_marks(alloc, links, marks, more)?;
+        refuse(&rt, &mut table, &batch, refusal, &[]);
+    }
+    Ok(())
+}
+
+#[test]
+fn as_many_marks_and_routers_as_are_kept(rt: HostRuntime) -> Result<(), Fail> {
+    let alloc = rt.alloc();
+    let mut table = Table::new(alloc)?;
+    let fits = star_with_marks(alloc, 1023, 1024, &[])?;
     assert_eq!(rt; table.check(&fits), Ok(()));
     table.absorb(&fits);
     assert_eq!(rt; (count_marks(&table), table.routers().len()), (1024, 1024));
@@ -328,7 +395,8 @@ fn drawn_change(draw: &mut Draw, table: &Table) -> Result<Change, LinkError> {
         (0 | 1 | 2, _) => {
             let from = draw.below(8);
             let to = from.wrapping_add(1).wrapping_add(draw.below(7)) % 8;
-            put(from, draw.below(4), to)
+            let local = draw.below(4);
+            put(from, local, to, local)
         }
         _ => Ok(node(draw.below(12), draw.below(2) == 0)),
     }
@@ -369,6 +437,24 @@ fn mark_plainly(marks: &mut Vec<u32>, changes: &[Change]) -> Result<(), AllocErr
     Ok(())
 }
 
+// A drawn batch is absorbed where no two of its changes are on one key, and else refused. Whether it
+// is refused is the result.
+fn absorb_drawn(
+    rt: &impl Abort,
+    table: &mut Table,
+    marks: &mut Vec<u32>,
+    batch: &Batch,
+) -> Result<bool, AllocError> {
+    let unfit = has_twins(&batch.changes);
+    assert_eq!(rt; table.check(batch).is_err(), unfit, "{batch:?}");
+    table.absorb(batch);
+    if !unfit {
+        mark_plainly(marks, &batch.changes)?;
+    }
+    assert_marks(rt, table, marks);
+    Ok(unfit)
+}
+
 #[test]
 fn marks_after_drawn_batches(rt: HostRuntime) -> Result<(), Fail> {
     let alloc = rt.alloc();
@@ -378,15 +464,9 @@ fn marks_after_drawn_batches(rt: HostRuntime) -> Result<(), Fail> {
     let (mut refused, mut marked) = (0u32, 0usize);
     for _ in 0..200 {
         let batch = drawn_batch(alloc, &mut draw, &table)?;
-        let unfit = has_twins(&batch.changes);
-        assert_eq!(rt; table.check(&batch).is_err(), unfit, "{batch:?}");
-        table.absorb(&batch);
-        if unfit {
+        if absorb_drawn(&rt, &mut table, &mut marks, &batch)? {
             refused = refused.saturating_add(1);
-        } else {
-            mark_plainly(&mut marks, &batch.changes)?;
         }
-        assert_marks(&rt, &table, &marks);
         marked = marked.saturating_add(marks.len());
     }
     assert!(rt; refused > 10 && marked > 400, "{refused} {marked}");
@@ -403,15 +483,22 @@ fn each_second(alloc: Global, first: u32) -> Result<Vec<Change>, AllocError> {
     Ok(changes)
 }
 
+// The routers are 0 to 1,023, and each second of them, from 0 on, is marked.
+fn even_marked(rt: &impl Abort, alloc: Global) -> Result<Table, Fail> {
+    let mut table = Table::new(alloc)?;
+    let mut changes = star(alloc, 1023)?;
+    changes.extend_from_slice(&each_second(alloc, 0)?)?;
+    table.absorb(&Batch { number: 1, changes });
+    assert_eq!(rt; (table.routers().len(), count_marks(&table)), (1024, 512));
+    assert!(rt; !table.transit_at(0) && table.transit_at(1023));
+    assert_alike(rt, &table);
+    Ok(table)
+}
+
 #[test]
 fn each_second_router_marked(rt: HostRuntime) -> Result<(), Fail> {
     let alloc = rt.alloc();
-    let mut table = Table::new(alloc)?;
-    let even = with(star(alloc, 1023)?, &each_second(alloc, 0)?)?;
-    table.absorb(&even);
-    assert_eq!(rt; (table.routers().len(), count_marks(&table)), (1024, 512));
-    assert!(rt; !table.transit_at(0) && table.transit_at(1023));
-    assert_alike(&rt, &table);
+    let mut table = even_marked(&rt, alloc)?;
     let odd = with(each_second(alloc, 1)?, &[])?;
     table.absorb(&odd);
     assert_eq!(rt; (table.routers().len(), count_marks(&table)), (1024, 512));

@@ -1,8 +1,10 @@
 //! Which routers own an address that a prefix covers, and where their links stand, after batches that
 //! put and drop links and that move rows.
+use super::edits::Edit::{self, Put, Remove};
+use super::edits::batch_of;
 use super::reverses::Draw;
-use cspf_addr::{Addr, Mask, Prefix};
-use cspf_db::{Batch, Change, Link, LinkError, Table};
+use cspf_addr::{Addr, Prefix};
+use cspf_db::{Batch, Table};
 use std::alloc::{AllocError, Global};
 use std::process::Abort;
 use std::test::Fail;
@@ -19,37 +21,15 @@ fn interface(x: u32, y: u32) -> u32 {
     0xc0a8_0000 | (x & 255) << 8 | y & 255
 }
 
-fn put(from: u32, local: u32, to: u32) -> Result<Change, LinkError> {
-    Ok(Change::Put(Link::new(
-        Addr::new(from),
-        Addr::new(local),
-        Addr::new(to),
-        Addr::new(0xac10_0001),
-        10,
-        Mask::new(1),
-        [1000; 8],
-    )?))
-}
-
-fn drop_of(from: u32, local: u32) -> Change {
-    Change::Remove {
-        from: Addr::new(from),
-        local: Addr::new(local),
-    }
+// A put of a link to the interface 172.16.0.1 of its router.
+fn put(from: u32, local: u32, to: u32) -> Edit {
+    Put(from, local, to, 0xac10_0001)
 }
 
 // Makes the changes.
-fn change(
-    rt: &impl Abort,
-    alloc: Global,
-    table: &mut Table,
-    changes: &[Change],
-) -> Result<(), AllocError> {
-    let batch = Batch {
-        number: 1,
-        changes: Vec::from_slice(alloc, changes)?,
-    };
-    assert_eq!(rt; table.try_absorb(&batch), Ok(()), "{changes:?}");
+fn change(rt: &impl Abort, alloc: Global, table: &mut Table, edits: &[Edit]) -> Result<(), Fail> {
+    let batch = batch_of(alloc, edits)?;
+    assert_eq!(rt; table.try_absorb(&batch), Ok(()), "{batch:?}");
     Ok(())
 }
 
@@ -110,11 +90,11 @@ fn assert_cases(rt: &impl Abort, alloc: Global, table: &Table, cases: &[Case]) -
 fn small_table(rt: &impl Abort, alloc: Global) -> Result<Table, Fail> {
     let mut table = Table::new(alloc)?;
     let links = [
-        put(FIRST, interface(1, 5), SECOND)?,
-        put(FIRST, interface(1, 1), SECOND)?,
-        put(FIRST, interface(1, 9), THIRD)?,
-        put(FIRST, interface(7, 1), THIRD)?,
-        put(SECOND, interface(2, 1), THIRD)?,
+        put(FIRST, interface(1, 5), SECOND),
+        put(FIRST, interface(1, 1), SECOND),
+        put(FIRST, interface(1, 9), THIRD),
+        put(FIRST, interface(7, 1), THIRD),
+        put(SECOND, interface(2, 1), THIRD),
     ];
     change(rt, alloc, &mut table, &links)?;
     Ok(table)
@@ -171,8 +151,8 @@ fn owners_as_an_interface_moves(rt: HostRuntime) -> Result<(), Fail> {
     let mut table = small_table(&rt, alloc)?;
     // the highest one goes, and a lower one comes
     let changes = [
-        drop_of(FIRST, interface(7, 1)),
-        put(FIRST, interface(0, 1), THIRD)?,
+        Remove(FIRST, interface(7, 1)),
+        put(FIRST, interface(0, 1), THIRD),
     ];
     change(&rt, alloc, &mut table, &changes)?;
     let cases = [
@@ -189,10 +169,10 @@ fn owners_behind_a_router_that_goes(rt: HostRuntime) -> Result<(), Fail> {
     let alloc = rt.alloc();
     let mut table = small_table(&rt, alloc)?;
     let changes = [
-        drop_of(FIRST, interface(1, 1)),
-        drop_of(FIRST, interface(1, 5)),
-        drop_of(FIRST, interface(1, 9)),
-        drop_of(FIRST, interface(7, 1)),
+        Remove(FIRST, interface(1, 1)),
+        Remove(FIRST, interface(1, 5)),
+        Remove(FIRST, interface(1, 9)),
+        Remove(FIRST, interface(7, 1)),
     ];
     change(&rt, alloc, &mut table, &changes)?;
     let cases = [
@@ -216,6 +196,24 @@ fn assert_spans(rt: &impl Abort, table: &Table) {
     }
 }
 
+// A drawn batch is absorbed, and drawn prefixes have their owners. The most that one has is the result.
+fn absorb_drawn(
+    rt: &impl Abort,
+    alloc: Global,
+    table: &mut Table,
+    draw: &mut Draw,
+    batch: &Batch,
+) -> Result<usize, Fail> {
+    assert_eq!(rt; table.try_absorb(batch), Ok(()));
+    assert_spans(rt, table);
+    let mut most = 0;
+    for length in [0, 27, 29, 30, 31, 32] {
+        let prefix = Prefix::new(Addr::new(draw.below(64)), length)?;
+        most = assert_alike(rt, alloc, table, prefix)?.max(most);
+    }
+    Ok(most)
+}
+
 #[test]
 fn owners_after_drawn_batches(rt: HostRuntime) -> Result<(), Fail> {
     let alloc = rt.alloc();
@@ -225,12 +223,7 @@ fn owners_after_drawn_batches(rt: HostRuntime) -> Result<(), Fail> {
     for _ in 0..150 {
         let count = draw.below(6) as usize + 1;
         let batch = draw.batch(alloc, &table, count, 40)?;
-        assert_eq!(rt; table.try_absorb(&batch), Ok(()));
-        assert_spans(&rt, &table);
-        for length in [0, 27, 29, 30, 31, 32] {
-            let prefix = Prefix::new(Addr::new(draw.below(64)), length)?;
-            owners = assert_alike(&rt, alloc, &table, prefix)?.max(owners);
-        }
+        owners = absorb_drawn(&rt, alloc, &mut table, &mut draw, &batch)?.max(owners);
     }
     assert!(rt; owners > 5, "{owners}");
     Ok(())

@@ -1,22 +1,11 @@
 //! Where the reverses of links are, after batches that put and drop them and that move rows.
-use cspf_addr::{Addr, Mask};
+use super::edits::Edit::{self, Put, Remove};
+use super::edits::{batch_of, link};
+use cspf_addr::Mask;
 use cspf_db::{Batch, Change, Link, LinkError, NO_LINK, Table};
 use std::alloc::{AllocError, Global};
 use std::process::Abort;
 use std::test::Fail;
-
-// A link from a router by an interface there to another by an interface there.
-fn link(from: u32, local: u32, to: u32, remote: u32) -> Result<Link, LinkError> {
-    Link::new(
-        Addr::new(from),
-        Addr::new(local),
-        Addr::new(to),
-        Addr::new(remote),
-        10,
-        Mask::new(1),
-        [1000; 8],
-    )
-}
 
 // The link back over the same two interfaces, with other attributes.
 fn back(link: &Link) -> Result<Link, LinkError> {
@@ -29,17 +18,6 @@ fn back(link: &Link) -> Result<Link, LinkError> {
         Mask::new(2),
         [0; 8],
     )
-}
-
-fn put(from: u32, local: u32, to: u32, remote: u32) -> Result<Change, LinkError> {
-    Ok(Change::Put(link(from, local, to, remote)?))
-}
-
-fn drop_of(from: u32, local: u32) -> Change {
-    Change::Remove {
-        from: Addr::new(from),
-        local: Addr::new(local),
-    }
 }
 
 fn is_reverse(link: &Link, other: &Link) -> bool {
@@ -57,24 +35,29 @@ fn plain_reverse(links: &[Link], link: &Link) -> Option<usize> {
     None
 }
 
-// Each link of the table has the reverse that a plain search finds, or none. How many have one is
-// the result.
+// The link has the reverse that a plain search finds, or none. Whether it has one is the result.
+fn assert_reverse(rt: &impl Abort, table: &Table, link: &Link, reverse: u16) -> bool {
+    let wanted = plain_reverse(table.links(), link);
+    let found = if reverse == NO_LINK {
+        None
+    } else {
+        Some(usize::from(reverse))
+    };
+    assert_eq!(rt; found, wanted, "{link:?}");
+    assert_eq!(rt; table.has_reverse(link), wanted.is_some(), "{link:?}");
+    wanted.is_some()
+}
+
+// So it is for each link of the table. How many have a reverse is the result.
 fn assert_reverses(rt: &impl Abort, table: &Table) -> u32 {
-    let (links, routers) = (table.links(), table.routers());
     let mut both = 0u32;
-    for (at, router) in routers.iter().enumerate() {
+    for (at, router) in table.routers().iter().enumerate() {
         let (out, reverses) = (table.out_at(at), table.reverses_at(at));
         assert_eq!(rt; out.len(), reverses.len(), "{router:?}");
         for (link, reverse) in out.iter().zip(reverses) {
-            let wanted = plain_reverse(links, link);
-            let found = if *reverse == NO_LINK {
-                None
-            } else {
-                Some(usize::from(*reverse))
-            };
-            assert_eq!(rt; found, wanted, "{link:?}");
-            assert_eq!(rt; table.has_reverse(link), wanted.is_some(), "{link:?}");
-            both = both.saturating_add(if wanted.is_some() { 1 } else { 0 });
+            if assert_reverse(rt, table, link, *reverse) {
+                both = both.saturating_add(1);
+            }
         }
     }
     both
@@ -95,18 +78,47 @@ fn change(
     rt: &impl Abort,
     alloc: Global,
     table: &mut Table,
-    changes: &[Change],
+    edits: &[Edit],
     wanted: &[u16],
-) -> Result<(), AllocError> {
-    let batch = Batch {
-        number: 1,
-        changes: Vec::from_slice(alloc, changes)?,
-    };
-    assert_eq!(rt; table.check(&batch), Ok(()), "{changes:?}");
+) -> Result<(), Fail> {
+    let batch = batch_of(alloc, edits)?;
+    assert_eq!(rt; table.check(&batch), Ok(()), "{batch:?}");
     table.absorb(&batch);
     let found = reverses_of(alloc, table)?;
-    assert_eq!(rt; found.as_slice(), wanted, "{changes:?}");
+    assert_eq!(rt; found.as_slice(), wanted, "{batch:?}");
     assert_reverses(rt, table);
+    Ok(())
+}
+
+// Makes the changes of each step, and then the reverses of all links are those of the step.
+fn make(
+    rt: &impl Abort,
+    alloc: Global,
+    table: &mut Table,
+    steps: &[(&[Edit], &[u16])],
+) -> Result<(), Fail> {
+    for (edits, wanted) in steps {
+        change(rt, alloc, table, edits, wanted)?;
+    }
+    Ok(())
+}
+
+// A link and its reverse.
+const THERE: Edit = Put(20, 1, 30, 2);
+
+const BACK: Edit = Put(30, 2, 20, 1);
+
+#[test]
+fn reverses_that_come(rt: HostRuntime) -> Result<(), Fail> {
+    let alloc = rt.alloc();
+    let mut table = Table::new(alloc)?;
+    let one_way = link(20, 1, 30, 2)?;
+    assert!(rt; !table.has_reverse(&one_way));
+    // a link alone, and its reverse in a later batch
+    change(&rt, alloc, &mut table, &[THERE], &[NO_LINK])?;
+    assert!(rt; !table.has_reverse(&one_way));
+    change(&rt, alloc, &mut table, &[BACK], &[1, 0])?;
+    assert!(rt; table.has_reverse(&one_way));
     Ok(())
 }
 
@@ -114,22 +126,20 @@ fn change(
 fn reverses_that_come_and_go(rt: HostRuntime) -> Result<(), Fail> {
     let alloc = rt.alloc();
     let mut table = Table::new(alloc)?;
-    let (there, back) = (put(20, 1, 30, 2)?, put(30, 2, 20, 1)?);
     let one_way = link(20, 1, 30, 2)?;
-    assert!(rt; !table.has_reverse(&one_way));
-    // a link alone, and its reverse in a later batch and in the same one
-    change(&rt, alloc, &mut table, &[there], &[NO_LINK])?;
-    assert!(rt; !table.has_reverse(&one_way));
-    change(&rt, alloc, &mut table, &[back], &[1, 0])?;
+    // both come one after the other and in one batch, and one of the two goes: the table has the
+    // reverse of a link that it doesn't have
+    let first: [(&[Edit], &[u16]); 5] = [
+        (&[THERE], &[NO_LINK]),
+        (&[BACK], &[1, 0]),
+        (&[Remove(30, 2), Remove(20, 1)], &[]),
+        (&[BACK, THERE], &[1, 0]),
+        (&[Remove(20, 1)], &[NO_LINK]),
+    ];
+    make(&rt, alloc, &mut table, &first)?;
     assert!(rt; table.has_reverse(&one_way));
-    let drops = [drop_of(30, 2), drop_of(20, 1)];
-    change(&rt, alloc, &mut table, &drops, &[])?;
-    change(&rt, alloc, &mut table, &[back, there], &[1, 0])?;
-    // one of the two goes: the table has the reverse of a link that it doesn't have
-    change(&rt, alloc, &mut table, &[drop_of(20, 1)], &[NO_LINK])?;
-    assert!(rt; table.has_reverse(&one_way));
-    change(&rt, alloc, &mut table, &[there], &[1, 0])?;
-    change(&rt, alloc, &mut table, &[drop_of(30, 2)], &[NO_LINK])?;
+    let second: [(&[Edit], &[u16]); 2] = [(&[THERE], &[1, 0]), (&[Remove(30, 2)], &[NO_LINK])];
+    make(&rt, alloc, &mut table, &second)?;
     assert!(rt; !table.has_reverse(&one_way));
     Ok(())
 }
@@ -138,53 +148,56 @@ fn reverses_that_come_and_go(rt: HostRuntime) -> Result<(), Fail> {
 fn reverses_of_replaced_links(rt: HostRuntime) -> Result<(), Fail> {
     let alloc = rt.alloc();
     let mut table = Table::new(alloc)?;
-    let (there, back) = (put(20, 1, 30, 2)?, put(30, 2, 20, 1)?);
-    let none = [NO_LINK, NO_LINK];
-    change(&rt, alloc, &mut table, &[there, back], &[1, 0])?;
-    // either end has another remote address
-    change(&rt, alloc, &mut table, &[put(20, 1, 30, 3)?], &none)?;
-    change(&rt, alloc, &mut table, &[there], &[1, 0])?;
-    change(&rt, alloc, &mut table, &[put(30, 2, 20, 3)?], &none)?;
-    change(&rt, alloc, &mut table, &[back], &[1, 0])?;
-    // or runs to another router
-    change(&rt, alloc, &mut table, &[put(20, 1, 40, 2)?], &none)?;
-    change(&rt, alloc, &mut table, &[there], &[1, 0])?;
-    change(&rt, alloc, &mut table, &[put(30, 2, 10, 1)?], &none)?;
-    // links back between the same routers over other interfaces
-    let others = [drop_of(30, 2), put(30, 3, 20, 4)?, put(30, 4, 20, 3)?];
-    let none = [NO_LINK, NO_LINK, NO_LINK];
-    change(&rt, alloc, &mut table, &others, &none)?;
-    // a second pair of interfaces, with its own reverse
-    let second = [put(20, 4, 30, 3)?];
-    change(&rt, alloc, &mut table, &second, &[NO_LINK, 2, 1, NO_LINK])?;
-    Ok(())
+    let steps: [(&[Edit], &[u16]); 10] = [
+        (&[THERE, BACK], &[1, 0]),
+        // either end has another remote address
+        (&[Put(20, 1, 30, 3)], &[NO_LINK, NO_LINK]),
+        (&[THERE], &[1, 0]),
+        (&[Put(30, 2, 20, 3)], &[NO_LINK, NO_LINK]),
+        (&[BACK], &[1, 0]),
+        // or runs to another router
+        (&[Put(20, 1, 40, 2)], &[NO_LINK, NO_LINK]),
+        (&[THERE], &[1, 0]),
+        (&[Put(30, 2, 10, 1)], &[NO_LINK, NO_LINK]),
+        // links back between the same routers over other interfaces
+        (
+            &[Remove(30, 2), Put(30, 3, 20, 4), Put(30, 4, 20, 3)],
+            &[NO_LINK, NO_LINK, NO_LINK],
+        ),
+        // a second pair of interfaces, with its own reverse
+        (&[Put(20, 4, 30, 3)], &[NO_LINK, 2, 1, NO_LINK]),
+    ];
+    make(&rt, alloc, &mut table, &steps)
 }
 
 #[test]
 fn reverses_that_move(rt: HostRuntime) -> Result<(), Fail> {
     let alloc = rt.alloc();
     let mut table = Table::new(alloc)?;
-    let both = [put(20, 1, 30, 2)?, put(30, 2, 20, 1)?];
-    change(&rt, alloc, &mut table, &both, &[1, 0])?;
-    // rows before both, between them, and behind them
-    let before = [put(10, 1, 20, 7)?, put(10, 2, 30, 7)?];
-    change(&rt, alloc, &mut table, &before, &[NO_LINK, NO_LINK, 3, 2])?;
-    let between = [put(20, 5, 30, 5)?];
-    let wanted = [NO_LINK, NO_LINK, 4, NO_LINK, 2];
-    change(&rt, alloc, &mut table, &between, &wanted)?;
-    let behind = [put(40, 1, 20, 9)?];
-    let wanted = [NO_LINK, NO_LINK, 4, NO_LINK, 2, NO_LINK];
-    change(&rt, alloc, &mut table, &behind, &wanted)?;
-    let one = [drop_of(10, 2)];
-    let wanted = [NO_LINK, 3, NO_LINK, 1, NO_LINK];
-    change(&rt, alloc, &mut table, &one, &wanted)?;
-    // one comes as another goes, and the reverse of one that stays
-    let mixed = [drop_of(10, 1), put(20, 7, 10, 1)?, put(20, 9, 40, 1)?];
-    let wanted = [4, NO_LINK, NO_LINK, 5, 0, 3];
-    change(&rt, alloc, &mut table, &mixed, &wanted)?;
-    let rest = [drop_of(20, 5), drop_of(20, 7), drop_of(40, 1)];
-    change(&rt, alloc, &mut table, &rest, &[2, NO_LINK, 0])?;
-    Ok(())
+    let steps: [(&[Edit], &[u16]); 7] = [
+        (&[THERE, BACK], &[1, 0]),
+        // rows before both, between them, and behind them
+        (
+            &[Put(10, 1, 20, 7), Put(10, 2, 30, 7)],
+            &[NO_LINK, NO_LINK, 3, 2],
+        ),
+        (&[Put(20, 5, 30, 5)], &[NO_LINK, NO_LINK, 4, NO_LINK, 2]),
+        (
+            &[Put(40, 1, 20, 9)],
+            &[NO_LINK, NO_LINK, 4, NO_LINK, 2, NO_LINK],
+        ),
+        (&[Remove(10, 2)], &[NO_LINK, 3, NO_LINK, 1, NO_LINK]),
+        // one comes as another goes, and the reverse of one that stays
+        (
+            &[Remove(10, 1), Put(20, 7, 10, 1), Put(20, 9, 40, 1)],
+            &[4, NO_LINK, NO_LINK, 5, 0, 3],
+        ),
+        (
+            &[Remove(20, 5), Remove(20, 7), Remove(40, 1)],
+            &[2, NO_LINK, 0],
+        ),
+    ];
+    make(&rt, alloc, &mut table, &steps)
 }
 
 // Draws numbers, the same each time.

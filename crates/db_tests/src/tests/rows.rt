@@ -1,4 +1,6 @@
-use cspf_addr::{Addr, Mask};
+use super::edits::Edit::{Put, Remove};
+use super::edits::{batch_of, link};
+use cspf_addr::Addr;
 use cspf_db::{Batch, Change, Link, LinkError, Table};
 use std::alloc::Global;
 use std::process::Abort;
@@ -8,15 +10,7 @@ use std::test::Fail;
 fn numbered(n: u32) -> Result<Link, LinkError> {
     let from = n / 16;
     let local = n % 16;
-    Link::new(
-        Addr::new(from),
-        Addr::new(local),
-        Addr::new((from + 1 + local * 64) % 1024),
-        Addr::new(local),
-        10,
-        Mask::new(1),
-        [1000; 8],
-    )
+    link(from, local, (from + 1 + local * 64) % 1024, local)
 }
 
 // The number of the i-th change: rising, falling or mixed.
@@ -64,6 +58,22 @@ fn assert_links(rt: &impl Abort, table: &Table, dropped: bool) -> Result<(), Fai
     Ok(())
 }
 
+// Each of the links is from a router, and has the index of the router that it runs to.
+fn assert_ends(
+    rt: &impl Abort,
+    routers: &[Addr],
+    from: Addr,
+    out: &[Link],
+    ends: &[u16],
+) -> Result<(), Fail> {
+    for (link, end) in out.iter().zip(ends) {
+        assert_eq!(rt; link.from, from);
+        let to = routers.get(*end as usize).ok_or("no such router")?;
+        assert_eq!(rt; link.to, *to);
+    }
+    Ok(())
+}
+
 // Each router has its own links, and each link the index of the router that it runs to.
 fn assert_routers(rt: &impl Abort, table: &Table, count: usize) -> Result<(), Fail> {
     let routers = table.routers();
@@ -74,13 +84,22 @@ fn assert_routers(rt: &impl Abort, table: &Table, count: usize) -> Result<(), Fa
         assert_eq!(rt; out.len(), count);
         assert_eq!(rt; table.out(*router).len(), count);
         assert_eq!(rt; ends.len(), count);
-        for (link, end) in out.iter().zip(ends) {
-            assert_eq!(rt; link.from, *router);
-            let to = routers.get(*end as usize).ok_or("no such router")?;
-            assert_eq!(rt; link.to, *to);
-        }
+        assert_ends(rt, routers, *router, out, ends)?;
     }
     Ok(())
+}
+
+// All links are put, or each third one is dropped, and then the rows are those that are left.
+fn assert_rows(
+    rt: &impl Abort,
+    alloc: Global,
+    table: &mut Table,
+    order: u32,
+    put: bool,
+) -> Result<(), Fail> {
+    change_all(alloc, table, order, put)?;
+    assert_links(rt, table, !put)?;
+    assert_routers(rt, table, if put { 16 } else { 10 })
 }
 
 #[test]
@@ -88,47 +107,38 @@ fn rows_in_any_order(rt: HostRuntime) -> Result<(), Fail> {
     let alloc = rt.alloc();
     for order in [0, 1, 2] {
         let mut table = Table::new(alloc)?;
-        change_all(alloc, &mut table, order, true)?;
-        assert_links(&rt, &table, false)?;
-        assert_routers(&rt, &table, 16)?;
-        change_all(alloc, &mut table, 2 - order, false)?;
-        assert_links(&rt, &table, true)?;
-        assert_routers(&rt, &table, 10)?;
+        assert_rows(&rt, alloc, &mut table, order, true)?;
+        assert_rows(&rt, alloc, &mut table, 2 - order, false)?;
     }
     Ok(())
 }
 
-#[test]
-fn routers_that_come_and_go(rt: HostRuntime) -> Result<(), Fail> {
-    let alloc = rt.alloc();
+// A table with one link, from router 0 to router 1.
+fn one_link(alloc: Global) -> Result<Table, Fail> {
     let mut table = Table::new(alloc)?;
-    let link = numbered(0)?; // from 0 by 0 to 1
-    let changes = [Change::Put(link)].to_vec(alloc)?;
-    table.absorb(&Batch { number: 1, changes });
+    table.absorb(&batch_of(alloc, &[Put(0, 0, 1, 0)])?);
+    Ok(table)
+}
+
+#[test]
+fn routers_that_come(rt: HostRuntime) -> Result<(), Fail> {
+    let table = one_link(rt.alloc())?;
     assert_eq!(rt; table.routers().len(), 2);
     assert_eq!(rt; table.place_of(Addr::new(1)), Some(1));
     assert_eq!(rt; table.place_of(Addr::new(2)), None);
     assert!(rt; table.out(Addr::new(1)).is_empty());
     assert!(rt; table.out(Addr::new(2)).is_empty());
-    let (from, local) = (Addr::new(0), Addr::new(0));
-    let changes = [Change::Remove { from, local }].to_vec(alloc)?;
-    table.absorb(&Batch { number: 2, changes });
-    assert!(rt; table.routers().is_empty());
-    assert_eq!(rt; table.place_of(Addr::new(1)), None);
     Ok(())
 }
 
-// A link between these routers.
-fn between(from: u32, to: u32) -> Result<Link, LinkError> {
-    Link::new(
-        Addr::new(from),
-        Addr::new(to),
-        Addr::new(to),
-        Addr::new(from),
-        10,
-        Mask::new(1),
-        [1000; 8],
-    )
+#[test]
+fn routers_that_go(rt: HostRuntime) -> Result<(), Fail> {
+    let alloc = rt.alloc();
+    let mut table = one_link(alloc)?;
+    table.absorb(&batch_of(alloc, &[Remove(0, 0)])?);
+    assert!(rt; table.routers().is_empty());
+    assert_eq!(rt; table.place_of(Addr::new(1)), None);
+    Ok(())
 }
 
 // Puts or removes the links between these pairs of routers in one batch.
@@ -138,17 +148,30 @@ fn change_pairs(
     pairs: &[(u32, u32)],
     put: bool,
 ) -> Result<(), Fail> {
-    let mut changes = Vec::new(alloc);
+    let mut edits = Vec::new(alloc);
     for (from, to) in pairs {
-        let link = between(*from, *to)?;
-        let (from, local) = (link.from, link.local);
-        changes.push(if put {
-            Change::Put(link)
+        edits.push(if put {
+            Put(*from, *to, *to, *from)
         } else {
-            Change::Remove { from, local }
+            Remove(*from, *to)
         })?;
     }
-    table.absorb(&Batch { number: 1, changes });
+    table.absorb(&batch_of(alloc, &edits)?);
+    Ok(())
+}
+
+// Each of the links is from a router, and has the index of the router that it runs to among these.
+fn assert_named(
+    rt: &impl Abort,
+    names: &[u32],
+    from: u32,
+    out: &[Link],
+    ends: &[u16],
+) -> Result<(), Fail> {
+    for (link, end) in out.iter().zip(ends) {
+        let to = names.get(*end as usize).ok_or("no such router")?;
+        assert_eq!(rt; (link.from.number(), link.to.number()), (from, *to));
+    }
     Ok(())
 }
 
@@ -159,55 +182,56 @@ fn assert_listed(rt: &impl Abort, table: &Table, names: &[u32]) -> Result<(), Fa
         assert_eq!(rt; table.place_of(Addr::new(*name)), Some(at));
         let (out, ends) = (table.out_at(at), table.ends_at(at));
         assert_eq!(rt; out.len(), ends.len());
-        for (link, end) in out.iter().zip(ends) {
-            let to = names.get(*end as usize).ok_or("no such router")?;
-            assert_eq!(rt; (link.from.number(), link.to.number()), (*name, *to));
-        }
+        assert_named(rt, names, *name, out, ends)?;
     }
     Ok(())
 }
+
+const MANY: [(u32, u32); 18] = [
+    (1, 2),
+    (2, 3),
+    (3, 4),
+    (4, 5),
+    (5, 6),
+    (6, 7),
+    (7, 8),
+    (8, 9),
+    (11, 12),
+    (12, 13),
+    (13, 14),
+    (14, 21),
+    (21, 22),
+    (22, 31),
+    (31, 32),
+    (32, 33),
+    (33, 34),
+    (34, 1),
+];
+
+const ALL: [u32; 22] = [
+    1, 2, 3, 4, 5, 6, 7, 8, 9, 10, 11, 12, 13, 14, 20, 21, 22, 30, 31, 32, 33, 34,
+];
 
 #[test]
 fn routers_between_others(rt: HostRuntime) -> Result<(), Fail> {
     let alloc = rt.alloc();
     let mut table = Table::new(alloc)?;
-    change_pairs(alloc, &mut table, &[(10, 30), (30, 20), (20, 10)], true)?;
-    assert_listed(&rt, &table, &[10, 20, 30])?;
-    change_pairs(alloc, &mut table, &[(30, 5), (15, 40), (10, 25)], true)?;
-    assert_listed(&rt, &table, &[5, 10, 15, 20, 25, 30, 40])?;
-    change_pairs(alloc, &mut table, &[(30, 5)], false)?;
-    assert_listed(&rt, &table, &[10, 15, 20, 25, 30, 40])?;
-    change_pairs(alloc, &mut table, &[(15, 40), (10, 25)], false)?;
-    assert_listed(&rt, &table, &[10, 20, 30])?;
-    let many = [
-        (1, 2),
-        (2, 3),
-        (3, 4),
-        (4, 5),
-        (5, 6),
-        (6, 7),
-        (7, 8),
-        (8, 9),
-        (11, 12),
-        (12, 13),
-        (13, 14),
-        (14, 21),
-        (21, 22),
-        (22, 31),
-        (31, 32),
-        (32, 33),
-        (33, 34),
-        (34, 1),
+    // pairs that are joined or parted, and the routers after it
+    let steps: [(&[(u32, u32)], bool, &[u32]); 6] = [
+        (&[(10, 30), (30, 20), (20, 10)], true, &[10, 20, 30]),
+        (
+            &[(30, 5), (15, 40), (10, 25)],
+            true,
+            &[5, 10, 15, 20, 25, 30, 40],
+        ),
+        (&[(30, 5)], false, &[10, 15, 20, 25, 30, 40]),
+        (&[(15, 40), (10, 25)], false, &[10, 20, 30]),
+        (&MANY, true, &ALL),
+        (&MANY, false, &[10, 20, 30]),
     ];
-    change_pairs(alloc, &mut table, &many, true)?;
-    assert_listed(
-        &rt,
-        &table,
-        &[
-            1, 2, 3, 4, 5, 6, 7, 8, 9, 10, 11, 12, 13, 14, 20, 21, 22, 30, 31, 32, 33, 34,
-        ],
-    )?;
-    change_pairs(alloc, &mut table, &many, false)?;
-    assert_listed(&rt, &table, &[10, 20, 30])?;
+    for (pairs, put, names) in steps {
+        change_pairs(alloc, &mut table, pairs, put)?;
+        assert_listed(&rt, &table, names)?;
+    }
     Ok(())
 }
