@@ -450,30 +450,59 @@ fn drawn_request(seed: &mut u32, hops: &[u8]) -> Result<Request, Fail> {
     request((router(from), router(to)), 0, (0, 0, 0), hops)
 }
 
+// A network, its marked routers, and tables of it with these marks and without.
+#[derive(Drop)]
+struct Network {
+    rows: Vec<Row>,
+    marks: Vec<u32>,
+    marked: Table,
+    open: Table,
+}
+
+fn drawn_network(alloc: Global, seed: &mut u32) -> Result<Network, Fail> {
+    let (rows, marks) = (drawn(alloc, seed)?, drawn_marks(alloc, seed)?);
+    let mut marked = one_way(alloc, &rows)?;
+    mark(alloc, &mut marked, &marks)?;
+    let open = unmarked(alloc, &rows, &marks, 0)?;
+    Ok(Network {
+        rows,
+        marks,
+        marked,
+        open,
+    })
+}
+
+// What a request is answered in a network without marks.
+fn without_marks(alloc: Global, network: &Network, request: &Request) -> Result<Outcome, Fail> {
+    let from = request.from.number();
+    if network.marks.contains(&from) {
+        let open = unmarked(alloc, &network.rows, &network.marks, from)?;
+        Ok(best(alloc, &open, request)?)
+    } else {
+        Ok(best(alloc, &network.open, request)?)
+    }
+}
+
+// Whether a request has a route. Where there are marks, it is the one without them.
+fn has_route(alloc: Global, network: &Network, request: &Request) -> Result<bool, Fail> {
+    let outcome = answered(alloc, &network.marked, request)?;
+    if !network.marks.is_empty() {
+        let wanted = without_marks(alloc, network, request)?;
+        if !is_same(&outcome, &wanted) {
+            return Err(Fail::new(format_args!("{outcome:?} and {wanted:?}")));
+        }
+    }
+    Ok(matches!(outcome, Outcome::Route(_)))
+}
+
 // How many of 16 requests in a network have a route.
 fn drawn_routes(alloc: Global, seed: &mut u32) -> Result<u32, Fail> {
-    let (rows, marks) = (drawn(alloc, seed)?, drawn_marks(alloc, seed)?);
-    let mut table = one_way(alloc, &rows)?;
-    mark(alloc, &mut table, &marks)?;
-    let open = unmarked(alloc, &rows, &marks, 0)?;
+    let network = drawn_network(alloc, seed)?;
     let mut routes = 0u32;
     for i in 0..16 {
         let request = drawn_request(seed, HOPS[i % 6])?;
-        let outcome = answered(alloc, &table, &request)?;
-        if let Outcome::Route(_) = outcome {
+        if has_route(alloc, &network, &request)? {
             routes = routes.saturating_add(1);
-        }
-        if marks.is_empty() {
-            continue;
-        }
-        let from = request.from.number();
-        let wanted = if marks.contains(&from) {
-            best(alloc, &unmarked(alloc, &rows, &marks, from)?, &request)?
-        } else {
-            best(alloc, &open, &request)?
-        };
-        if !is_same(&outcome, &wanted) {
-            return Err(Fail::new(format_args!("{outcome:?} and {wanted:?}")));
         }
     }
     Ok(routes)

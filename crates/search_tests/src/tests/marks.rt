@@ -3,7 +3,7 @@ use super::{FOUR, ONE, Row, THREE, TWO, answered, by_hops, is_route, mark, reque
 use cspf_addr::Addr;
 use cspf_db::{Batch, Change, Table};
 use cspf_search::Outcome;
-use std::alloc::Global;
+use std::alloc::{AllocError, Global};
 use std::process::Abort;
 use std::test::Fail;
 
@@ -101,19 +101,24 @@ fn there_and_back(metric: u32) -> [Row; 4] {
     ]
 }
 
-// The least way by the hop comes back through the head-end.
+// The least way by the hop comes back through the head-end, whether or not the tail-end is marked.
+fn assert_way_back(rt: &impl Abort, alloc: Global, rows: &[Row], metric: u32) -> Result<(), Fail> {
+    let back = [0x0a00_0c02, 0x0a00_0c01, 0x0a00_0d03];
+    for marks in [[].as_slice(), [THREE].as_slice()] {
+        let table = marked(alloc, rows, marks)?;
+        let found = by_hops(alloc, &table, THREE, b"2.2.2.2/32l")?;
+        let right = is_route(&found, 3 * u64::from(metric), true, &back);
+        assert!(rt; right, "{marks:?}: {found:?}");
+    }
+    Ok(())
+}
+
 #[test]
 fn ways_back_through_the_head_end(rt: HostRuntime) -> Result<(), Fail> {
     let alloc = rt.alloc();
     for metric in [0, 1] {
         let rows = there_and_back(metric);
-        let back = [0x0a00_0c02, 0x0a00_0c01, 0x0a00_0d03];
-        for marks in [[].as_slice(), [THREE].as_slice()] {
-            let table = marked(alloc, &rows, marks)?;
-            let found = by_hops(alloc, &table, THREE, b"2.2.2.2/32l")?;
-            let right = is_route(&found, 3 * u64::from(metric), true, &back);
-            assert!(rt; right, "{marks:?}: {found:?}");
-        }
+        assert_way_back(&rt, alloc, &rows, metric)?;
         let cost = u64::from(metric) + 9;
         let other: [(&[u32], u64, &[u32]); 2] = [
             (&[ONE], cost, &[0x0a00_0c02, 0x0a00_1703]),
@@ -144,22 +149,36 @@ fn ways_through_the_tail_end(rt: HostRuntime) -> Result<(), Fail> {
     Ok(())
 }
 
-// A mark that is taken away is gone, and marks of addresses that no link has make no routers.
+// Marks of addresses that no link has make no routers.
 #[test]
-fn marks_that_go_and_of_no_routers(rt: HostRuntime) -> Result<(), Fail> {
+fn marks_of_no_routers(rt: HostRuntime) -> Result<(), Fail> {
     let alloc = rt.alloc();
     let nine = 0x0909_0909;
-    let mut table = marked(alloc, &SQUARE, &[TWO, nine])?;
-    let (any, router) = ((0, 0, 0), Addr::new(TWO));
+    let table = marked(alloc, &SQUARE, &[TWO, nine])?;
+    let any = (0, 0, 0);
     let from = answered(alloc, &table, &request((nine, ONE), 0, any, b"")?)?;
     assert!(rt; matches!(from, Outcome::UnknownFrom), "{from:?}");
     let to = answered(alloc, &table, &request((ONE, nine), 0, any, b"")?)?;
     assert!(rt; matches!(to, Outcome::UnknownTo), "{to:?}");
-    let round = by_hops(alloc, &table, FOUR, b"")?;
-    assert!(rt; is_route(&round, 4, false, BY_THREE), "{round:?}");
-    let transit = true;
+    Ok(())
+}
+
+// The router has transit from then on.
+fn unmark(alloc: Global, table: &mut Table, router: u32) -> Result<(), AllocError> {
+    let (router, transit) = (Addr::new(router), true);
     let changes = Vec::from_slice(alloc, &[Change::Node { router, transit }])?;
     table.absorb(&Batch { number: 3, changes });
+    Ok(())
+}
+
+// A mark that is taken away is gone.
+#[test]
+fn marks_that_go(rt: HostRuntime) -> Result<(), Fail> {
+    let alloc = rt.alloc();
+    let mut table = marked(alloc, &SQUARE, &[TWO, 0x0909_0909])?;
+    let round = by_hops(alloc, &table, FOUR, b"")?;
+    assert!(rt; is_route(&round, 4, false, BY_THREE), "{round:?}");
+    unmark(alloc, &mut table, TWO)?;
     let through = by_hops(alloc, &table, FOUR, b"")?;
     assert!(rt; is_route(&through, 2, false, BY_TWO), "{through:?}");
     Ok(())
