@@ -1,5 +1,5 @@
-//! Tests of the table: its links, routers, reverses, marks and owners of prefixes after batches that
-//! come in any order, that fill it, and that it refuses.
+//! Tests of links, requests and the table: its rows, routers, reverses, marks and owners of prefixes,
+//! after batches in any order, batches that fill it, and batches that it refuses.
 #![tactic(auto)]
 
 #[cfg(test)]

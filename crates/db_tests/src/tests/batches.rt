@@ -12,6 +12,8 @@ const TWO: u32 = 33686018; // 2.2.2.2
 
 const THREE: u32 = 50529027; // 3.3.3.3
 
+const INTERFACE: u32 = 167775233; // 10.0.12.1
+
 // The link from 1.1.1.1 to 2.2.2.2 with this local address. The addresses of its two interfaces differ
 // in their last bit.
 fn one_to_two(local: u32) -> Result<Link, LinkError> {
@@ -140,16 +142,23 @@ fn replaced(alloc: Global) -> Result<Table, Fail> {
 }
 
 #[test]
-fn a_replaced_link(rt: HostRuntime) -> Result<(), Fail> {
-    let (old, new, beside) = (one_to_two(5)?, other_link()?, one_to_two(7)?);
+fn a_link_and_the_one_beside_it(rt: HostRuntime) -> Result<(), Fail> {
     let (one, five, seven) = (Addr::new(ONE), Addr::new(5), Addr::new(7));
+    let (old, beside) = (one_to_two(5)?, one_to_two(7)?);
     let before = two_links(rt.alloc())?;
     assert_eq!(rt; before.find(one, five), Some(old));
+    let after = replaced(rt.alloc())?;
+    assert_eq!(rt; after.find(one, seven), Some(beside));
+    Ok(())
+}
+
+#[test]
+fn a_replaced_link(rt: HostRuntime) -> Result<(), Fail> {
+    let new = other_link()?;
     let table = replaced(rt.alloc())?;
     assert_eq!(rt; table.links().len(), 2);
     assert!(rt; table.links().contains(&new));
-    assert_eq!(rt; table.find(one, five), Some(new));
-    assert_eq!(rt; table.find(one, seven), Some(beside));
+    assert_eq!(rt; table.find(Addr::new(ONE), Addr::new(5)), Some(new));
     Ok(())
 }
 
@@ -363,18 +372,29 @@ fn new_attributes_and_a_mark(rt: HostRuntime) -> Result<(), Fail> {
     Ok(())
 }
 
+// A table with the link from 1.1.1.1 by 10.0.12.1 to 2.2.2.2.
+fn one_link(alloc: Global) -> Result<Table, Fail> {
+    let mut table = Table::new(alloc)?;
+    table.absorb(&batch_of(alloc, &[put(INTERFACE)])?);
+    Ok(table)
+}
+
+#[test]
+fn owners_of_an_interface(rt: HostRuntime) -> Result<(), Fail> {
+    let table = one_link(rt.alloc())?;
+    let interface = Prefix::new(Addr::new(INTERFACE), 24)?;
+    assert!(rt; table.owns(Addr::new(ONE), interface));
+    assert!(rt; !table.owns(Addr::new(TWO), interface));
+    Ok(())
+}
+
 #[test]
 fn owners_of_prefixes(rt: HostRuntime) -> Result<(), Fail> {
-    let alloc = rt.alloc();
-    let mut table = Table::new(alloc)?;
-    let local = 167775233; // 10.0.12.1
-    table.absorb(&batch_of(alloc, &[put(local)])?);
+    let table = one_link(rt.alloc())?;
     let (one, two, three) = (Addr::new(ONE), Addr::new(TWO), Addr::new(THREE));
-    let interface = Prefix::new(Addr::new(local), 24)?;
-    assert!(rt; table.owns(one, interface));
-    assert!(rt; !table.owns(two, interface));
-    assert!(rt; table.owns(two, Prefix::new(two, 8)?));
-    assert!(rt; !table.owns(one, Prefix::new(two, 8)?));
-    assert!(rt; !table.owns(three, Prefix::new(three, 8)?));
+    let (second, third) = (Prefix::new(two, 8)?, Prefix::new(three, 8)?);
+    assert!(rt; table.owns(two, second));
+    assert!(rt; !table.owns(one, second));
+    assert!(rt; !table.owns(three, third));
     Ok(())
 }
