@@ -3,6 +3,7 @@ use cspf_addr::{Addr, Mask};
 use cspf_db::{Batch, Change, Link};
 use cspf_rows::{Journal, MOST_ROWS, ReadError, Rest, batch_text, read_journal};
 use std::alloc::{AllocError, Global};
+use std::io::Read;
 use std::process::Abort;
 use std::test::Fail;
 
@@ -13,6 +14,13 @@ fn text_of(alloc: Global, journal: &Journal) -> Result<Vec<u8>, AllocError> {
         text.extend_from_slice(&batch_text(alloc, batch)?)?;
     }
     Ok(text)
+}
+
+/// The texts of the batches of a journal, and whether nothing is left behind these.
+fn read_texts<R: Read + Drop>(alloc: Global, reader: R) -> Result<(Vec<u8>, bool), Fail> {
+    let journal = read_journal(alloc, reader)?;
+    let texts = text_of(alloc, &journal)?;
+    Ok((texts, journal.rest == Rest::Clean))
 }
 
 /// The text of a batch of one link, 102 bytes.
@@ -88,12 +96,11 @@ fn three_batches(alloc: Global) -> Result<Vec<u8>, AllocError> {
 fn assert_cuts(rt: &impl Abort, alloc: Global, text: &[u8]) -> Result<(), Fail> {
     assert_eq!(rt; text.len(), 469);
     for cut in 0..470 {
-        let journal = read_journal(alloc, text.get(..cut).unwrap_or(&[]))?;
+        let (found, is_clean) = read_texts(alloc, text.get(..cut).unwrap_or(&[]))?;
         let (whole, clean) = whole_part(cut);
-        let found = text_of(alloc, &journal)?;
         let wanted = text.get(..whole).unwrap_or(&[]);
         assert!(rt; found.as_slice() == wanted, "cut at {cut}");
-        assert_eq!(rt; journal.rest == Rest::Clean, clean, "cut at {cut}");
+        assert_eq!(rt; is_clean, clean, "cut at {cut}");
     }
     Ok(())
 }
@@ -179,12 +186,11 @@ fn batches_of_nodes_cut_at_each_byte(rt: HostRuntime) -> Result<(), Fail> {
     let alloc = rt.alloc();
     assert_eq!(rt; NODES.len(), 115);
     for cut in 0..116 {
-        let journal = read_journal(alloc, NODES.get(..cut).unwrap_or(&[]))?;
+        let (found, is_clean) = read_texts(alloc, NODES.get(..cut).unwrap_or(&[]))?;
         let (whole, clean) = whole_part_of_nodes(cut);
-        let found = text_of(alloc, &journal)?;
         let wanted = NODES.get(..whole).unwrap_or(&[]);
         assert!(rt; found.as_slice() == wanted, "cut at {cut}");
-        assert_eq!(rt; journal.rest == Rest::Clean, clean, "cut at {cut}");
+        assert_eq!(rt; is_clean, clean, "cut at {cut}");
     }
     Ok(())
 }
@@ -234,15 +240,22 @@ const JOURNALS: [(&[u8], &[u8], bool); 20] = [
     (b"node,1.1.1.1,2\nend,1,1\nend,1,0\n", b"", false),
 ];
 
-#[test]
-fn journals_in_pieces(rt: HostRuntime) -> Result<(), Fail> {
-    for (text, batches, clean) in JOURNALS {
-        let journal = read_journal(rt.alloc(), by_bytes(text))?;
-        let found = text_of(rt.alloc(), &journal)?;
+fn assert_journals(
+    rt: &impl Abort,
+    alloc: Global,
+    journals: &[(&[u8], &[u8], bool)],
+) -> Result<(), Fail> {
+    for &(text, batches, clean) in journals {
+        let (found, is_clean) = read_texts(alloc, by_bytes(text))?;
         assert!(rt; found.as_slice() == batches, "{text:?}");
-        assert_eq!(rt; journal.rest == Rest::Clean, clean, "{text:?}");
+        assert_eq!(rt; is_clean, clean, "{text:?}");
     }
     Ok(())
+}
+
+#[test]
+fn journals_in_pieces(rt: HostRuntime) -> Result<(), Fail> {
+    assert_journals(&rt, rt.alloc(), &JOURNALS)
 }
 
 #[test]

@@ -2,6 +2,7 @@ use super::Pieces;
 use cspf_rows::{RecordError, next_record, open_records};
 use csv::ByteRecord;
 use std::alloc::Global;
+use std::process::Abort;
 use std::test::Fail;
 
 /// More rows than a text has.
@@ -56,15 +57,19 @@ fn rows_of(alloc: Global, text: &[u8], width: usize) -> Result<Vec<String>, Fail
     Ok(found)
 }
 
+fn assert_rows(rt: &impl Abort, found: &[String], rows: &[&str], width: usize) {
+    assert!(rt; found.len() == rows.len(), "{rows:?} by {width}");
+    for (row, wanted) in found.iter().zip(rows.iter()) {
+        assert!(rt; row.as_str() == *wanted, "{rows:?} by {width}");
+    }
+}
+
 #[test]
 fn rows_in_pieces(rt: HostRuntime) -> Result<(), Fail> {
     for (text, rows) in TEXTS {
         for width in [1, 2, 1000] {
             let found = rows_of(rt.alloc(), text, width)?;
-            assert!(rt; found.len() == rows.len(), "{text:?} by {width}");
-            for (row, wanted) in found.iter().zip(rows.iter()) {
-                assert!(rt; row.as_str() == *wanted, "{text:?} by {width}");
-            }
+            assert_rows(&rt, &found, rows, width);
         }
     }
     Ok(())

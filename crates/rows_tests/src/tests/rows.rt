@@ -126,10 +126,10 @@ pub(super) fn words_of(alloc: Global, read: Result<Row, RowError>) -> Result<Str
     }
 }
 
-/// The text of the rows, a line each.
-fn text_of_rows(alloc: Global) -> Result<Vec<u8>, AllocError> {
+/// The text of the rows of a table, a line each.
+fn text_of_rows(alloc: Global, table: &str) -> Result<Vec<u8>, AllocError> {
     let mut text = Vec::new(alloc);
-    for line in ROWS.lines() {
+    for line in table.lines() {
         let (_, row) = case(line);
         for byte in row {
             text.extend_from_slice(spelled(byte))?;
@@ -159,19 +159,29 @@ fn records(alloc: Global, text: &[u8]) -> Reader<&[u8]> {
         .from_reader(alloc, text)
 }
 
-#[test]
-fn rows_and_refusals(rt: HostRuntime) -> Result<(), Fail> {
-    let text = text_of_rows(rt.alloc())?;
-    let mut reader = records(rt.alloc(), &text);
-    let mut fields = ByteRecord::new(rt.alloc());
-    for line in ROWS.lines() {
+/// Whether there is one more record, which is read.
+fn read_fields(reader: &mut Reader<&[u8]>, fields: &mut ByteRecord) -> Result<bool, csv::Error> {
+    reader.read_byte_record(fields)
+}
+
+/// The rows of a table are read or refused as its lines say.
+fn assert_table(rt: &impl Abort, alloc: Global, table: &str) -> Result<(), Fail> {
+    let text = text_of_rows(alloc, table)?;
+    let mut reader = records(alloc, &text);
+    let mut fields = ByteRecord::new(alloc);
+    for line in table.lines() {
         let (words, _) = case(line);
-        assert!(rt; reader.read_byte_record(&mut fields)?);
-        let found = words_of(rt.alloc(), Row::read(&fields))?;
+        assert!(rt; read_fields(&mut reader, &mut fields)?);
+        let found = words_of(alloc, Row::read(&fields))?;
         assert!(rt; found.as_str() == words, "{line}: {found}");
     }
-    assert!(rt; !reader.read_byte_record(&mut fields)?);
+    assert!(rt; !read_fields(&mut reader, &mut fields)?);
     Ok(())
+}
+
+#[test]
+fn rows_and_refusals(rt: HostRuntime) -> Result<(), Fail> {
+    assert_table(&rt, rt.alloc(), ROWS)
 }
 
 /// The row of a text of one.
