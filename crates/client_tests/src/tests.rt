@@ -5,7 +5,7 @@ ghost use Rattle.std.specs.Prelude.{◌≡◌};
 
 use cspf_addr::{Addr, Mask};
 use cspf_client::{Client, Listener, Replies, ServedClient, ServingClient, Teller, open_news};
-use cspf_db::{Batch, Change, Link};
+use cspf_model::{Batch, Change, Link};
 use cspf_publish::{Asker, Publisher, open};
 use std::alloc::Global;
 use std::io;

@@ -1,8 +1,8 @@
 -- What was read and compared is an audit.
 use Rattle.std.proofs.Common.{◌≡◌, ℕ, suc, IsPermutation, Result, Ok, Err, IfOk, Bool, true, false, List, [], ◌∷◌, Some, inl, inr, refl, arith}
 use Rattle.std.proofs.lemmas.List.Sorted.{Contains-permutation, IsPermutation-sym}
-use Rattle.cspf_db.specs.declared.request.Request.{Request}
-use Rattle.cspf_db.specs.Numbered.{NumberedChanges}
+use Rattle.cspf_model.specs.declared.request.Request.{Request}
+use Rattle.cspf_model.specs.Numbered.{NumberedChanges}
 use Rattle.cspf_audit.specs.declared.claim.Claim.{Claim}
 use Rattle.cspf_audit.specs.declared.finding.Finding.{Finding}
 use Rattle.cspf_audit.specs.Audits.{AreUnanswered}

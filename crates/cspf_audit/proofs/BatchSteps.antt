@@ -2,12 +2,12 @@
 use Rattle.std.proofs.Common.{◌≡◌, ℕ, ◌+◌, ◌<◌, List, [], ◌∷◌, ◌++◌, length, take, drop, get_or, sym, ap, subst, ◌∙◌, append_assoc}
 use Rattle.std.proofs.lemmas.List.{take-append-drop}
 use Rattle.std.proofs.lemmas.Grind.{take_at_read}
-use Rattle.cspf_db.specs.Numbered.{NumberedChanges}
-use Rattle.cspf_db.specs.Database.{Database}
-use Rattle.cspf_db.specs.Changes.{AreLawful, Fits, after_changes, database_after}
-use Rattle.cspf_db.specs.Laws.{OneMoreBatch, LawfulByOneMore, FirstBatchesAreLawful}
-use Rattle.cspf_db.specs.declared.refusal.Refusal.{Refusal}
-use Rattle.cspf_db.specs.Refusals.{IsRefusal}
+use Rattle.cspf_model.specs.Numbered.{NumberedChanges}
+use Rattle.cspf_model.specs.Database.{Database}
+use Rattle.cspf_model.specs.Changes.{AreLawful, Fits, after_changes, database_after}
+use Rattle.cspf_model.specs.Laws.{OneMoreBatch, LawfulByOneMore, FirstBatchesAreLawful}
+use Rattle.cspf_model.specs.declared.refusal.Refusal.{Refusal}
+use Rattle.cspf_model.specs.Refusals.{IsRefusal}
 use Rattle.cspf_audit.specs.AuditErrors.{IsFirstUnfit}
 
 module _ (batches : List NumberedChanges) (i : ℕ) (b : NumberedChanges) (within : i < length batches) (is_next : b ≡ get_or batches i b) where

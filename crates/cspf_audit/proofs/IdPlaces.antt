@@ -9,7 +9,7 @@ use Rattle.std.specs.BTreeMap.{BTreeMap, get, Updates}
 use Rattle.std.specs.Cmp.{nat_eq_equiv, unsigned_ties}
 use Rattle.std.specs.List.{AllByRecursion, IsDistinct, list_any, slice_get}
 use Rattle.std.specs.Ordering.{nat_cmp}
-use Rattle.cspf_db.specs.declared.request.Request.{Request}
+use Rattle.cspf_model.specs.declared.request.Request.{Request}
 use Rattle.cspf_audit.specs.Requests.{HaveOwnIds, RepeatsId}
 use Rattle.cspf_audit.specs.Reading.{place_from, place_of, ArePlaces}
 

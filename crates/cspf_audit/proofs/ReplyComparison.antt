@@ -3,10 +3,10 @@ use Rattle.std.proofs.Common.{◌≡◌, ℕ, ◌-◌, ◌↔◌, Bool, true, Is
 use Rattle.std.proofs.lemmas.List.{take-append-drop, take_at}
 use Rattle.std.proofs.lemmas.Slice.Eq.{bytes_eq-Decides}
 use Rattle.std.specs.Str.{bytes_eq}
-use Rattle.cspf_db.specs.declared.request.Request.{Request}
-use Rattle.cspf_db.specs.Database.{Database}
-use Rattle.cspf_db.specs.Best.{Answer, IsBestAnswer}
-use Rattle.cspf_db.specs.Laws.{OneBestAnswer}
+use Rattle.cspf_model.specs.declared.request.Request.{Request}
+use Rattle.cspf_model.specs.Database.{Database}
+use Rattle.cspf_model.specs.Best.{Answer, IsBestAnswer}
+use Rattle.cspf_model.specs.Laws.{OneBestAnswer}
 use Rattle.cspf_ero.specs.ReplyLine.{IsReply, HasOneReplyLine}
 use Rattle.cspf_audit.specs.Findings.{IsRightReply}
 

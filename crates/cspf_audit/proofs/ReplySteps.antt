@@ -7,8 +7,8 @@ use Rattle.std.proofs.lemmas.Option.{slice_get_within}
 use Rattle.std.specs.BTreeMap.{BTreeMap, get}
 use Rattle.std.specs.List.{slice_get, slice_set}
 use Rattle.std.specs.Ordering.{nat_cmp}
-use Rattle.cspf_db.specs.declared.request.Request.{Request}
-use Rattle.cspf_db.specs.Numbered.{NumberedChanges}
+use Rattle.cspf_model.specs.declared.request.Request.{Request}
+use Rattle.cspf_model.specs.Numbered.{NumberedChanges}
 use Rattle.cspf_ero.specs.declared.head.Head.{Head}
 use Rattle.cspf_ero.specs.ReplyHead.{BeginsWithHead, HasOneHead}
 use Rattle.cspf_audit.specs.declared.claim.Claim.{Claim}

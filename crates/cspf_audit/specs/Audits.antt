@@ -1,8 +1,8 @@
 -- The audit of lines and of whole streams.
 use Rattle.std.specs.Prelude.{◌≡◌, ℕ, ◌+◌, ◌⊎◌, Bool, true, false, Option, Some, None, List, [], ◌∷◌, ◌++◌}
 use Rattle.std.specs.List.{count_by}
-use Rattle.cspf_db.specs.declared.request.Request.{Request}
-use Rattle.cspf_db.specs.Numbered.{NumberedChanges}
+use Rattle.cspf_model.specs.declared.request.Request.{Request}
+use Rattle.cspf_model.specs.Numbered.{NumberedChanges}
 use Rattle.cspf_audit.specs.declared.faults.Audit.{Audit}
 use Rattle.cspf_audit.specs.declared.faults.AuditFault.{AuditFault}
 use Rattle.cspf_audit.specs.declared.faults.AuditFault.TheVariants as fault

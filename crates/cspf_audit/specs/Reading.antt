@@ -3,9 +3,9 @@ use Rattle.std.specs.Prelude.{◌≡◌, ℕ, ◌+◌, ◌<◌, ◌≤◌, ◌�
 use Rattle.std.specs.BTreeMap.{BTreeMap, get}
 use Rattle.std.specs.List.{slice_get, slice_set}
 use Rattle.std.specs.Ordering.{nat_cmp}
-use Rattle.cspf_db.specs.declared.request.Request.{Request}
-use Rattle.cspf_db.specs.Numbered.{NumberedChanges}
-use Rattle.cspf_db.specs.Changes.{database_after}
+use Rattle.cspf_model.specs.declared.request.Request.{Request}
+use Rattle.cspf_model.specs.Numbered.{NumberedChanges}
+use Rattle.cspf_model.specs.Changes.{database_after}
 use Rattle.cspf_ero.specs.declared.head.Head.{Head}
 use Rattle.cspf_ero.specs.ReplyHead.{BeginsWithHead, HasNoHead}
 use Rattle.cspf_audit.specs.declared.audit_error.AuditError.{AuditError}

@@ -1,7 +1,7 @@
 -- Requests by their ids.
 use Rattle.std.specs.Prelude.{◌≡◌, ℕ, ◌+◌, List, ◌∷◌, ◌++◌, Contains, length, map, nat_eq}
 use Rattle.std.specs.List.{IsDistinct}
-use Rattle.cspf_db.specs.declared.request.Request.{Request}
+use Rattle.cspf_model.specs.declared.request.Request.{Request}
 
 -- a request has this id
 abbrev pub IsAsked : List Request → ℕ → Type 0

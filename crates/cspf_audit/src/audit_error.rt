@@ -3,7 +3,7 @@ ghost use Rattle.cspf_rows.specs.declared.read_error.ReadError.{ReadError as IsR
 ghost use Rattle.cspf_audit.specs.ErrorNames.{audit_error_of, requests_error_of, IsIoFault};
 ghost use Rattle.cspf_audit.specs.declared.audit_error.AuditError.TheVariants as audit_error;
 
-use cspf_db::Refusal;
+use cspf_model::Refusal;
 use cspf_rows::{ReadError, RequestsError};
 use std::alloc::{AllocError, AllocFailed};
 use std::io;

@@ -1,5 +1,5 @@
 ghost use Rattle.std.specs.Prelude.{◌≤◌, length, IfOk, IfErr, IfSome};
-ghost use Rattle.cspf_db.specs.Changes.{AreLawful};
+ghost use Rattle.cspf_model.specs.Changes.{AreLawful};
 ghost use Rattle.cspf_rows.specs.Records.{rows_of};
 ghost use Rattle.cspf_rows.specs.declared.limits.TheConstants.{MOST_ROWS};
 ghost use Rattle.cspf_audit.specs.Audits.{IsAudit};
@@ -15,7 +15,7 @@ use crate::journal::lawful_journal;
 use crate::lines::{Line, read_lines};
 use crate::replies::read_replies;
 use crate::reporting::report;
-use cspf_db::{Batch, Request};
+use cspf_model::{Batch, Request};
 use cspf_rows::read_requests;
 use std::alloc::{AllocError, Global};
 use std::collections::BTreeMap;

@@ -1,5 +1,5 @@
 ghost use Rattle.std.specs.Prelude.{◌≡◌, ◌↔◌, IsTrue, IfOk, OnOk, ◌∷◌, ◌++◌, [], length};
-ghost use Rattle.cspf_db.specs.Changes.{AreLawful};
+ghost use Rattle.cspf_model.specs.Changes.{AreLawful};
 ghost use Rattle.cspf_audit.specs.Findings.{IsRightReply, AreFindings};
 ghost use Rattle.cspf_audit.specs.Reading.{AreOpenFindings, AreClaims};
 
@@ -7,7 +7,8 @@ use crate::claim::Claim;
 use crate::finding::Finding;
 use crate::lines::Line;
 use crate::replay::Replay;
-use cspf_db::{Batch, Request, Table, one_best_answer};
+use cspf_db::Table;
+use cspf_model::{Batch, Request, one_best_answer};
 use cspf_ero::{one_reply_line, reply_line};
 use cspf_search::best_by_rounds;
 use std::alloc::{AllocError, Global};

@@ -4,7 +4,7 @@ ghost use Rattle.cspf_audit.specs.Requests.{HaveOwnIds};
 ghost use Rattle.cspf_audit.specs.Reading.{ArePlaces, IsIdFault};
 
 use crate::AuditError;
-use cspf_db::Request;
+use cspf_model::Request;
 use std::alloc::Global;
 use std::collections::BTreeMap;
 

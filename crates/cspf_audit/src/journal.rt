@@ -1,12 +1,13 @@
 ghost use Rattle.std.specs.Prelude.{◌≡◌, ◌≤◌, length, IfOk, IfErr, OnOk, IfSome};
-ghost use Rattle.cspf_db.specs.Changes.{AreLawful};
+ghost use Rattle.cspf_model.specs.Changes.{AreLawful};
 ghost use Rattle.cspf_rows.specs.Records.{rows_of};
 ghost use Rattle.cspf_rows.specs.declared.limits.TheConstants.{MOST_ROWS};
 ghost use Rattle.cspf_audit.specs.AuditErrors.{IsLawfulJournal};
 ghost use Rattle.cspf_audit.specs.ErrorNames.{IsJournalFault, IsUnfitBatch};
 
 use crate::AuditError;
-use cspf_db::{Batch, Table, absorbing, lawful_batches};
+use cspf_db::Table;
+use cspf_model::{Batch, absorbing, lawful_batches};
 use cspf_rows::{Journal, Rest, read_journal};
 use std::alloc::Global;
 use std::io::Read;

@@ -1,8 +1,9 @@
 ghost use Rattle.std.specs.Prelude.{◌≡◌, ◌≤◌, [], length, IfOk, OnOk};
-ghost use Rattle.cspf_db.specs.Changes.{AreLawful, database_after};
+ghost use Rattle.cspf_model.specs.Changes.{AreLawful, database_after};
 ghost use Rattle.cspf_audit.specs.Reading.{IsAtVersion};
 
-use cspf_db::{Batch, Table, absorbing, lawful_batches};
+use cspf_db::Table;
+use cspf_model::{Batch, absorbing, lawful_batches};
 use std::alloc::{AllocError, Global};
 
 /// The database at a version of a journal.

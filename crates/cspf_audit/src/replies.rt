@@ -1,8 +1,8 @@
 ghost use Rattle.std.specs.Prelude.{◌≡◌, ◌++◌, ◌∷◌, [], ◌<◌, ℕ, List, length, Some, OnOk, IfOk};
 ghost use Rattle.std.specs.BTreeMap.{get};
 ghost use Rattle.std.specs.Ordering.{nat_cmp};
-ghost use Rattle.cspf_db.specs.Numbered.{NumberedChanges};
-ghost use Rattle.cspf_db.specs.declared.request.Request.{Request as AsRequest};
+ghost use Rattle.cspf_model.specs.Numbered.{NumberedChanges};
+ghost use Rattle.cspf_model.specs.declared.request.Request.{Request as AsRequest};
 ghost use Rattle.cspf_audit.specs.Requests.{HaveOwnIds};
 ghost use Rattle.cspf_audit.specs.Reading.{ArePlaces, HasRead, IsReading};
 
@@ -10,7 +10,7 @@ use crate::claim::Claim;
 use crate::finding::Finding;
 use crate::lines::Line;
 use crate::words::is_passed_over;
-use cspf_db::Request;
+use cspf_model::Request;
 use cspf_ero::{one_head, reply_head};
 use std::alloc::{AllocError, Global};
 use std::collections::BTreeMap;

@@ -5,7 +5,7 @@ ghost use Rattle.cspf_audit.specs.Reading.{unnamed_faults};
 
 use crate::faults::{Audit, AuditFault};
 use crate::finding::Finding;
-use cspf_db::Request;
+use cspf_model::Request;
 use std::alloc::{AllocError, Global};
 
 /// The audit of lines with these findings, and of requests of which a line names these.

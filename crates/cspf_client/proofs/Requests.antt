@@ -1,6 +1,6 @@
 -- What a request does whose asker heard the news before.
 use Rattle.std.proofs.Common.{◌≡◌, ℕ, Bool, true, List, Result, Ok, Err, OnErr, inl, inr, refl, sym}
-use Rattle.cspf_db.specs.declared.request.Request.{Request}
+use Rattle.cspf_model.specs.declared.request.Request.{Request}
 use Rattle.cspf_ero.specs.ReplyLine.{IsReply}
 use Rattle.cspf_publish.specs.Answers.{IsAnswerAfter}
 use Rattle.cspf_publish.specs.Histories.{BeginsWith}
@@ -8,7 +8,7 @@ use Rattle.cspf_publish.specs.KnownBatches.{KnownBatches}
 use Rattle.cspf_publish.specs.declared.answer.Answer.{Answer}
 use Rattle.cspf_publish.specs.declared.errors.AskError.{AskError}
 use Rattle.cspf_publish.specs.declared.errors.AskError.TheVariants as ask_error
-use Rattle.cspf_search.specs.Outcome.{answer_of}
+use Rattle.cspf_model.specs.Outcome.{answer_of}
 use Rattle.cspf_client.specs.ErrorNames.{entry_noted}
 use Rattle.cspf_client.specs.ClientRows.{HearsNews, IsRequestAnswered, IsRequestUnanswered}
 use Rattle.cspf_client.specs.NewsStates.{ListenerState, Hears}

@@ -1,8 +1,8 @@
 -- What the rows of a client are answered.
 use Rattle.std.specs.Prelude.{◌≡◌, ℕ, ◌+◌, ◌⊎◌, true, List, [], ◌++◌, length, Result, Ok, Err}
-use Rattle.cspf_db.specs.declared.request.Request.{Request}
-use Rattle.cspf_db.specs.Changes.{database_after}
-use Rattle.cspf_db.specs.Best.{Answer, IsBestAnswer}
+use Rattle.cspf_model.specs.declared.request.Request.{Request}
+use Rattle.cspf_model.specs.Changes.{database_after}
+use Rattle.cspf_model.specs.Best.{Answer, IsBestAnswer}
 use Rattle.cspf_ero.specs.ReplyLine.{IsReply}
 use Rattle.cspf_publish.specs.KnownBatches.{KnownBatches}
 use Rattle.cspf_rows.specs.declared.row.Row.{Row}

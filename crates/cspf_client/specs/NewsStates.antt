@@ -1,7 +1,7 @@
 -- What the two ends of a ring of news are to a clause, and what they do.
 use Rattle.std.specs.Prelude.{◌≡◌, ℕ, ◌⊎◌, List, [], ◌∷◌, ◌++◌, length, All}
 use Rattle.logbook.specs.Pages.{Book}
-use Rattle.cspf_db.specs.Numbered.{NumberedChanges}
+use Rattle.cspf_model.specs.Numbered.{NumberedChanges}
 use Rattle.cspf_publish.specs.Histories.{BeginsWith}
 use Rattle.cspf_publish.specs.KnownBatches.{KnownBatches, AreFirstOf}
 use Rattle.cspf_client.specs.declared.limits.TheConstants.{KEPT_NEWS}

@@ -1,12 +1,12 @@
 ghost use Rattle.std.specs.Prelude.{◌≡◌, ◌+◌, ◌<◌, ◌≤◌, Ok, IfOk, OnOk, OnErr, IsTrue, IsFalse, length};
 ghost use Rattle.cspf_ero.specs.ReplyLine.{IsReply};
-ghost use Rattle.cspf_search.specs.Outcome.{answer_of};
+ghost use Rattle.cspf_model.specs.Outcome.{answer_of};
 ghost use Rattle.cspf_publish.specs.KnownBatches.{AreFirstOf};
 ghost use Rattle.cspf_client.specs.ErrorNames.{entry_noted};
 ghost use Rattle.cspf_client.specs.ClientRows.{IsClientAnswered, IsClientUnanswered, IsRefusedRow, IsRequestAnswered, IsRequestUnanswered};
 
 use crate::news::Listener;
-use cspf_db::Request;
+use cspf_model::Request;
 use cspf_ero::reply_line;
 use cspf_publish::{Answer, AskError, Asker, Told};
 use cspf_rows::{Row, RowError};

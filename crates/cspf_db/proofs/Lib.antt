@@ -1,5 +1,2 @@
 -- The lemmas of this crate.
-pub mod Databases
-pub mod Batches
-pub mod Routes
 pub mod Tables

@@ -1,6 +1,7 @@
 -- Lemmas of the parts of a table: rows, routers, ends, reverses, spans and marks.
 pub mod SortedEntries
 pub mod RowOrder
+pub mod LinkCounts
 pub mod SortedChanges
 pub mod RowSpans
 pub mod TableLimits

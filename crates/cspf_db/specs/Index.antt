@@ -2,9 +2,9 @@
 use Rattle.std.specs.Prelude.{◌≡◌, ◌≢◌, ◌<◌, ℕ, List, map, filter, length, nat_eq, slice_index, slice_index_or}
 use Rattle.std.specs.Ordering.{nat_cmp}
 use Rattle.std.specs.FinMap as finite
-use Rattle.cspf_db.specs.declared.link.Link.{Link}
+use Rattle.cspf_model.specs.declared.link.Link.{Link}
 use Rattle.cspf_db.specs.declared.limits.TheConstants.{NO_LINK}
-use Rattle.cspf_db.specs.Database.{Database, HasReverse, IsReverse, ends_of}
+use Rattle.cspf_model.specs.Database.{Database, HasReverse, IsReverse, ends_of}
 
 -- the links of a database, in order of the key
 abbrev pub links_of : Database → List Link

@@ -1,19 +1,4 @@
--- The definitions that contracts cite.
-pub mod Numbered
-pub mod Database
+-- What the contracts of the table cite beside the definitions of `cspf_model`.
 pub mod Index
-pub mod DatabaseCode
-pub mod Changes
-pub mod Admissible
-pub mod Walks
-pub mod Targets
 pub mod Owners
-pub mod Legs
-pub mod Routes
-pub mod HopLaws
-pub mod Examples
-pub mod Best
-pub mod Fields
-pub mod Refusals
-pub mod Laws
 pub mod Tables

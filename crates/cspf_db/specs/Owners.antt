@@ -2,9 +2,9 @@
 use Rattle.std.specs.Prelude.{◌<◌, ◌↔◌, ℕ, List, All, Contains, length, slice_index}
 use Rattle.std.specs.List.Sorted.{IsStrictlyIncreasing}
 use Rattle.cspf_addr.specs.PrefixParts.{PrefixParts}
-use Rattle.cspf_db.specs.Database.{Database}
+use Rattle.cspf_model.specs.Database.{Database}
 use Rattle.cspf_db.specs.Index.{router_list}
-use Rattle.cspf_db.specs.Targets.{Owns}
+use Rattle.cspf_model.specs.Targets.{Owns}
 
 -- the indexes in the list of routers of those that own an address that a prefix covers, rising
 pub record AreOwners (d : Database) (prefix : PrefixParts) (places : List ℕ) : Type 0 where

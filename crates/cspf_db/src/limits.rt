@@ -1,16 +1,5 @@
-//! How much a database and a batch hold at most, and the room that a table takes for it.
-
-/// How many links a database has at most.
-pub const MOST_LINKS: usize = 16384;
-
-/// How many routers are at the ends of a database's links at most.
-pub const MOST_ROUTERS: usize = 1024;
-
-/// How many addresses are marked as those of routers without transit at most.
-pub const MOST_MARKS: usize = 1024;
-
-/// How many changes a batch has at most.
-pub const MOST_CHANGES: usize = 4096;
+//! The room that a table takes for the most that a database and a batch hold.
+use cspf_model::{MOST_CHANGES, MOST_LINKS, MOST_MARKS, MOST_ROUTERS};
 
 /// How many links there is room for: those of a full database, and a put by each change of a batch.
 pub const ROOM_FOR_LINKS: usize = MOST_LINKS + MOST_CHANGES;

@@ -1,15 +1,15 @@
 ghost use Rattle.std.specs.Prelude.{◌≡◌, ◌<◌, ◌≤◌, ◌↔◌, ℕ, All, Contains, length, map, slice_index, slice_index_or, IfOk, OnOk, IfErr, OnErr, IfSome, IfNone, IsTrue};
 ghost use Rattle.std.specs.List.Sorted.{IsStrictlyIncreasing};
 ghost use Rattle.std.specs.FinSet as set;
-ghost use Rattle.cspf_db.specs.declared.link.Link.{Link as Linked};
-ghost use Rattle.cspf_db.specs.Database.{AreLinksOf, AreAtTheirKeys, HasReverse, HasTransit, IsRouterOf, link_at, router_count, HaveOwnKeys};
+ghost use Rattle.cspf_model.specs.declared.link.Link.{Link as Linked};
+ghost use Rattle.cspf_model.specs.Database.{AreLinksOf, AreAtTheirKeys, HasReverse, HasTransit, IsRouterOf, link_at, router_count, HaveOwnKeys};
 ghost use Rattle.cspf_db.specs.Index.{links_of, router_list, links_from, links_from_index, IsReverseAt};
-ghost use Rattle.cspf_db.specs.Changes.{no_links, after_changes, Fits};
-ghost use Rattle.cspf_db.specs.Refusals.{IsRefusal};
+ghost use Rattle.cspf_model.specs.Changes.{no_links, after_changes, Fits};
+ghost use Rattle.cspf_model.specs.Refusals.{IsRefusal};
 ghost use Rattle.cspf_db.specs.Owners.{AreOwners};
-ghost use Rattle.cspf_db.specs.Targets.{Owns};
+ghost use Rattle.cspf_model.specs.Targets.{Owns};
 ghost use Rattle.cspf_db.specs.Tables.AddressRanges.{IsRangeOf};
-ghost use Rattle.cspf_db.specs.declared.limits.TheConstants.{MOST_LINKS, MOST_MARKS};
+ghost use Rattle.cspf_model.specs.declared.limits.TheConstants.{MOST_LINKS, MOST_MARKS};
 
 mod address_range;
 mod check;
@@ -29,8 +29,8 @@ mod table_rows;
 mod tally;
 mod transits;
 
-use crate::limits::{MOST_ROUTERS, NO_LINK, ROOM_FOR_LINKS, ROOM_FOR_MARKS, ROOM_FOR_ROUTERS};
-use crate::{Batch, Link, Refusal};
+use crate::limits::{NO_LINK, ROOM_FOR_LINKS, ROOM_FOR_MARKS, ROOM_FOR_ROUTERS};
+use cspf_model::{Batch, Link, MOST_ROUTERS, Refusal};
 use address_range::{AddressRange, range_of};
 use cspf_addr::{Addr, Prefix};
 use marks::{change_marks, is_marked};
@@ -60,14 +60,15 @@ pub struct Table {
 }
 
 impl Model for Table {
-    ghost use Rattle.cspf_db.specs.Database.{Database};
-    ghost use Rattle.cspf_db.specs.DatabaseCode.{database_code};
+    ghost use Rattle.cspf_model.specs.Database.{Database};
+    ghost use Rattle.cspf_model.specs.DatabaseCode.{database_code};
 
     ghost Value = { Database };
 
     ghost coded = { database_code };
 
-    ghost use Rattle.cspf_db.specs.Tables.Rows.{IsTable, marked_database};
+    ghost use Rattle.cspf_model.specs.Lemmas.LinkRows.{marked_database};
+    ghost use Rattle.cspf_db.specs.Tables.Rows.{IsTable};
 
     ghost view = { λ a. marked_database a.rows.items a.marks.items };
 

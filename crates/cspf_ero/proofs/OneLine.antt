@@ -1,6 +1,6 @@
 -- An answer has one line.
 use Rattle.std.proofs.Common.{◌≡◌, ℕ, ◌↔◌, Bool, true, false, IsTrue, List, refl, sym, ◌∙◌}
-use Rattle.cspf_db.specs.Best.{Answer, unknown_from, unknown_to, no_route, route}
+use Rattle.cspf_model.specs.Best.{Answer, unknown_from, unknown_to, no_route, route}
 use Rattle.cspf_ero.specs.ReplyLine.{IsAnswerText, HasOneReplyLine}
 
 same_test : (a b : Bool) (P : Type 0) → IsTrue a ↔ P → IsTrue b ↔ P → a ≡ b

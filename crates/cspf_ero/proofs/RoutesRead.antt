@@ -3,7 +3,7 @@ use Rattle.std.proofs.Common.{ℕ, ◌+◌, ◌*◌, ◌^◌, ◌<◌, ◌≤◌
 use Rattle.std.proofs.lemmas.List.{length-map}
 use Rattle.std.specs.List.{flat_map, AllByRecursion}
 use Rattle.cspf_addr.specs.PrefixParts.{IsPrefix}
-use Rattle.cspf_db.specs.declared.link.Link.{Link}
+use Rattle.cspf_model.specs.declared.link.Link.{Link}
 use Rattle.cspf_ero.specs.Objects.{header, subobject_of, SpellsEach, Spells, object_of}
 use Rattle.cspf_ero.specs.Laws.{hops_along, AreRoutesReadBack}
 use Rattle.cspf_ero.proofs.Writing.{length-object_of}

@@ -3,7 +3,7 @@ use Rattle.std.proofs.Common.{◌≡◌, ◌+◌, ◌*◌, ◌≤◌, List, [], 
 use Rattle.std.proofs.lemmas.Nat.{from_be_bytes-to_be_bytes_2}
 use Rattle.std.specs.Int.{w16, from_be_bytes}
 use Rattle.std.specs.List.{flat_map}
-use Rattle.cspf_db.specs.declared.link.Link.{Link}
+use Rattle.cspf_model.specs.declared.link.Link.{Link}
 use Rattle.cspf_ero.specs.Objects.{object_of, header, subobject_of}
 
 -- the subobjects have 8 bytes each

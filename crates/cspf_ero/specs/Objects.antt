@@ -6,7 +6,7 @@ use Rattle.cspf_addr.specs.PrefixParts.{IsPrefix}
 use Rattle.cspf_addr.specs.Prefixes.{Covers}
 use Rattle.cspf_addr.specs.declared.hop.Hop.{Hop}
 use Rattle.cspf_addr.specs.declared.hops.TheConstants.{MOST_HOPS}
-use Rattle.cspf_db.specs.declared.link.Link.{Link}
+use Rattle.cspf_model.specs.declared.link.Link.{Link}
 
 -- the header of an object: its length in bytes, the class 20 and the C-Type 1
 abbrev pub header : ℕ → List ℕ

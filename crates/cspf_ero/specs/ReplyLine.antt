@@ -2,10 +2,10 @@
 use Rattle.std.specs.Prelude.{◌≡◌, ℕ, ◌↔◌, Bool, true, false, IsTrue, List, ◌++◌, length, codes}
 use Rattle.std.specs.Fmt.{decimal}
 use Rattle.hex.specs.Hex.{encode_lower}
-use Rattle.cspf_db.specs.declared.link.Link.{Link}
-use Rattle.cspf_db.specs.Best.{Answer, unknown_from, unknown_to, no_route, route}
-use Rattle.cspf_db.specs.Walks.{cost_of}
-use Rattle.cspf_search.specs.Routes.{VisitsTwice}
+use Rattle.cspf_model.specs.declared.link.Link.{Link}
+use Rattle.cspf_model.specs.Best.{Answer, unknown_from, unknown_to, no_route, route}
+use Rattle.cspf_model.specs.Walks.{cost_of}
+use Rattle.cspf_model.specs.RouteLinks.{VisitsTwice}
 use Rattle.cspf_ero.specs.Objects.{object_of}
 
 abbrev pub yes_or_no : Bool → List ℕ

@@ -2,14 +2,14 @@ ghost use Rattle.std.specs.Prelude.{◌≡◌, ◌++◌, ◌+◌, ◌*◌, ◌�
 ghost use Rattle.std.specs.Fmt.{decimal};
 ghost use Rattle.std.specs.String.{string_bytes};
 ghost use Rattle.hex.specs.Hex.{encode_lower};
-ghost use Rattle.cspf_db.specs.Walks.{cost_of};
-ghost use Rattle.cspf_search.specs.Routes.{VisitsTwice};
-ghost use Rattle.cspf_search.specs.Outcome.{answer_of};
-ghost use Rattle.cspf_db.specs.Best.{route as of_route};
+ghost use Rattle.cspf_model.specs.Walks.{cost_of};
+ghost use Rattle.cspf_model.specs.RouteLinks.{VisitsTwice};
+ghost use Rattle.cspf_model.specs.Outcome.{answer_of};
+ghost use Rattle.cspf_model.specs.Best.{route as of_route};
 ghost use Rattle.cspf_ero.specs.ReplyLine.{IsReply, measures_text, yes_or_no};
 
 use crate::writer::write_ero;
-use cspf_search::{Outcome, Route};
+use cspf_model::{Outcome, Route};
 use std::alloc::{AllocError, Global};
 
 /// The line that answers the request with this id at a version, its line feed included. The object

@@ -2,7 +2,7 @@ ghost use Rattle.std.specs.Prelude.{◌≡◌, ◌+◌, ◌*◌, ◌≤◌, leng
 ghost use Rattle.std.specs.Int.{w16, from_be_bytes};
 ghost use Rattle.cspf_ero.specs.Objects.{object_of};
 
-use cspf_search::Route;
+use cspf_model::Route;
 use std::alloc::{AllocError, Global};
 
 /// The EXPLICIT_ROUTE object of a route (RFC 2205 3.1.2, RFC 3209 4.3): a strict subobject with the

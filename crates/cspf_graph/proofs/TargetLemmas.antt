@@ -2,9 +2,9 @@
 use Rattle.std.proofs.Common.{◌≡◌, ◌≢◌, ℕ, zero, suc, ◌-◌, ◌↔◌, Bool, Option, Some, None, IsTrue, nat_eq, slice_get, refl, sym, ap, subst, ◌∙◌, arith}
 use Rattle.std.proofs.lemmas.Bool.{eqb-true, eq-eqb}
 use Rattle.cspf_addr.specs.declared.hop.Hop.{Hop}
-use Rattle.cspf_db.specs.declared.request.Request.{Request}
-use Rattle.cspf_db.specs.Database.{Database}
-use Rattle.cspf_db.specs.Targets.{IsTarget, IsTargetOf, Owns}
+use Rattle.cspf_model.specs.declared.request.Request.{Request}
+use Rattle.cspf_model.specs.Database.{Database}
+use Rattle.cspf_model.specs.Targets.{IsTarget, IsTargetOf, Owns}
 
 module _ (d : Database) (q : Request) (leg router : ℕ) (later : leg ≢ 0) (b : Bool) where
   -- the targets of a leg from 1 on are those of its hop

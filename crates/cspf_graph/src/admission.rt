@@ -1,7 +1,8 @@
 ghost use Rattle.std.specs.Prelude.{◌↔◌, IsTrue};
-ghost use Rattle.cspf_db.specs.Admissible.{IsAdmitted, IsUsable};
+ghost use Rattle.cspf_model.specs.Admissible.{IsAdmitted, IsUsable};
 
-use cspf_db::{Link, Request, Table};
+use cspf_db::Table;
+use cspf_model::{Link, Request};
 
 /// Whether the link passes the three affinity tests of the request (RFC 3209 4.7.4) and has the
 /// request's bandwidth, in bytes per second, unreserved at its setup priority (RFC 3630 2.5.8).

@@ -1,8 +1,9 @@
 ghost use Rattle.std.specs.Prelude.{◌≤◌, ◌+◌, ◌↔◌, IsTrue, length};
-ghost use Rattle.cspf_db.specs.Targets.{IsTarget, IsInside};
+ghost use Rattle.cspf_model.specs.Targets.{IsTarget, IsInside};
 
 use cspf_addr::Addr;
-use cspf_db::{Request, Table};
+use cspf_db::Table;
+use cspf_model::Request;
 
 /// Whether the router is a target of the leg (RFC 3209 4.3.3.2). Leg 0 has the head-end alone, leg
 /// i the routers of the table with an address that the prefix of hop i covers, and the leg behind

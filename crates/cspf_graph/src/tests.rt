@@ -2,7 +2,8 @@ ghost use Rattle.std.specs.Prelude.{◌≡◌, IfOk, length};
 
 use super::*;
 use cspf_addr::{Addr, Hop, Hops, Mask, Prefix};
-use cspf_db::{Batch, Change, Link, Request, Table};
+use cspf_db::Table;
+use cspf_model::{Batch, Change, Link, Request};
 use std::alloc::Global;
 use std::test::Fail;
 

@@ -1,6 +1,6 @@
 ghost use Rattle.std.specs.Prelude.{◌<◌, ◌↔◌, IsTrue, length, slice_index};
 ghost use Rattle.cspf_db.specs.Index.{router_list};
-ghost use Rattle.cspf_db.specs.Admissible.{MayLeave};
+ghost use Rattle.cspf_model.specs.Admissible.{MayLeave};
 
 use cspf_addr::Addr;
 use cspf_db::Table;

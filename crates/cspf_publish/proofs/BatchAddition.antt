@@ -5,8 +5,8 @@ use Rattle.std.proofs.lemmas.Bool.Decides.{nat_tests}
 use mathlib.Core.List.{IsPrefix}
 use prog.Atomic.{either}
 use Rattle.logbook.specs.Pages.{Cell, cell, keeps, no_nib, step, Moves, Goes}
-use Rattle.cspf_db.specs.Numbered.{NumberedChanges}
-use Rattle.cspf_db.specs.Laws.{LawfulByOneMore}
+use Rattle.cspf_model.specs.Numbered.{NumberedChanges}
+use Rattle.cspf_model.specs.Laws.{LawfulByOneMore}
 use Rattle.cspf_publish.specs.Histories.{IsHistory, MayFollow}
 use Rattle.cspf_publish.specs.HistoryRule.{IsKept, Adds}
 use Rattle.cspf_publish.proofs.Prefixes.{begins, all_of, IsHistory-snoc}

@@ -4,12 +4,12 @@ use Rattle.std.specs.List.{list_all, IsDistinct, AllByRecursion}
 use Rattle.std.specs.Ordering.{eq_by_cmp}
 use Rattle.std.proofs.lemmas.Bool.{leb-true, le-leb}
 use Rattle.std.proofs.lemmas.Bool.Decides.{not_from_Decides, Decides-and, Decides-like, Decides-by_and}
-use Rattle.cspf_db.specs.declared.limits.TheConstants.{MOST_CHANGES, MOST_LINKS, MOST_ROUTERS, MOST_MARKS}
-use Rattle.cspf_db.specs.declared.batch.Change.{Change}
-use Rattle.cspf_db.specs.declared.batch.Change.TheVariants.{Put, Remove, Node}
-use Rattle.cspf_db.specs.Numbered.{NumberedChanges}
-use Rattle.cspf_db.specs.Database.{Database, link_count, router_count, mark_count}
-use Rattle.cspf_db.specs.Changes.{ChangeKey, change_key_cmp, key_changed, after_changes, IsPresent, Fits}
+use Rattle.cspf_model.specs.declared.limits.TheConstants.{MOST_CHANGES, MOST_LINKS, MOST_ROUTERS, MOST_MARKS}
+use Rattle.cspf_model.specs.declared.batch.Change.{Change}
+use Rattle.cspf_model.specs.declared.batch.Change.TheVariants.{Put, Remove, Node}
+use Rattle.cspf_model.specs.Numbered.{NumberedChanges}
+use Rattle.cspf_model.specs.Database.{Database, link_count, router_count, mark_count}
+use Rattle.cspf_model.specs.Changes.{ChangeKey, change_key_cmp, key_changed, after_changes, IsPresent, Fits}
 use Rattle.cspf_publish.specs.BatchAbsorption.{are_distinct, is_present, is_fitting, database_with}
 
 not-Decides : (b : Bool) → Decides (not b) (b ≡ false)

@@ -4,10 +4,10 @@ use mathlib.Core.Option.{some, some-ne-none}
 use lib.ListN.{get_elem?}
 use Rattle.crossbeam_utils.specs.Register.{Admits, Turns, TurnsAt, Forks, Merges}
 use Rattle.atomic_table.proofs.Lists.{at_set, at_snoc}
-use Rattle.cspf_db.specs.Numbered.{NumberedChanges}
-use Rattle.cspf_db.specs.Database.{Database}
-use Rattle.cspf_db.specs.Changes.{after_changes, database_after, Fits}
-use Rattle.cspf_db.specs.Laws.{LawfulByOneMore, OneMoreBatch}
+use Rattle.cspf_model.specs.Numbered.{NumberedChanges}
+use Rattle.cspf_model.specs.Database.{Database}
+use Rattle.cspf_model.specs.Changes.{after_changes, database_after, Fits}
+use Rattle.cspf_model.specs.Laws.{LawfulByOneMore, OneMoreBatch}
 use Rattle.cspf_publish.specs.BatchAbsorption.{database_with}
 use Rattle.cspf_publish.specs.Histories.{IsHistory, MayFollow}
 use Rattle.cspf_publish.specs.KnownBatches.{KnownBatches, AreFirstOf}

@@ -1,11 +1,11 @@
 -- What an asker is answered.
 use Rattle.std.specs.Prelude.{◌≡◌, List, length}
-use Rattle.cspf_db.specs.declared.request.Request.{Request}
-use Rattle.cspf_db.specs.Numbered.{NumberedChanges}
-use Rattle.cspf_db.specs.Changes.{database_after}
-use Rattle.cspf_db.specs.Best.{IsBestAnswer}
-use Rattle.cspf_search.specs.declared.outcome.Outcome.{Outcome}
-use Rattle.cspf_search.specs.Outcome.{answer_of}
+use Rattle.cspf_model.specs.declared.request.Request.{Request}
+use Rattle.cspf_model.specs.Numbered.{NumberedChanges}
+use Rattle.cspf_model.specs.Changes.{database_after}
+use Rattle.cspf_model.specs.Best.{IsBestAnswer}
+use Rattle.cspf_model.specs.declared.outcome.Outcome.{Outcome}
+use Rattle.cspf_model.specs.Outcome.{answer_of}
 use Rattle.cspf_publish.specs.declared.answer.Answer.{Answer}
 
 -- the outcome is the best answer in the database of these batches

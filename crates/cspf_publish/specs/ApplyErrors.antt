@@ -1,13 +1,13 @@
 -- When a batch is refused, by the first reason that applies, and what the publisher is then.
 use Rattle.std.specs.Prelude.{◌≡◌, ◌≢◌, ℕ, ◌+◌, ◌<◌, ◌≤◌, false, List, length, take, Option}
 use Rattle.std.specs.Io.KnownBytes.{Appends}
-use Rattle.cspf_db.specs.Numbered.{NumberedChanges}
-use Rattle.cspf_db.specs.Changes.{database_after}
-use Rattle.cspf_db.specs.Refusals.{IsRefusal}
+use Rattle.cspf_model.specs.Numbered.{NumberedChanges}
+use Rattle.cspf_model.specs.Changes.{database_after}
+use Rattle.cspf_model.specs.Refusals.{IsRefusal}
 use Rattle.cspf_publish.specs.Histories.{MayFollow}
 use Rattle.cspf_publish.specs.PublisherStates.{PublisherState, IsStopped}
 use Rattle.cspf_rows.specs.BatchText.{batch_text}
-use Rattle.cspf_publish.specs.declared.limits.TheConstants.{MOST_VERSIONS}
+use Rattle.cspf_model.specs.declared.limits.TheConstants.{MOST_VERSIONS}
 use Rattle.cspf_publish.specs.declared.errors.ApplyError.{ApplyError}
 use Rattle.cspf_publish.specs.declared.errors.ApplyError.TheVariants.{Stopped, Exhausted, WrongNumber, Refused, Memory, Journal}
 

@@ -3,12 +3,12 @@
 use Rattle.std.specs.Prelude.{Bool, true, ◌&&◌, not, cond, nat_le, is_some, List, [], ◌∷◌, length, map}
 use Rattle.std.specs.Ordering.{eq_by_cmp}
 use Rattle.std.specs.List.{list_all}
-use Rattle.cspf_db.specs.declared.limits.TheConstants.{MOST_CHANGES, MOST_LINKS, MOST_ROUTERS, MOST_MARKS}
-use Rattle.cspf_db.specs.declared.batch.Change.{Change}
-use Rattle.cspf_db.specs.declared.batch.Change.TheVariants.{Put, Remove, Node}
-use Rattle.cspf_db.specs.Numbered.{NumberedChanges}
-use Rattle.cspf_db.specs.Database.{Database, link_at, link_count, router_count, mark_count}
-use Rattle.cspf_db.specs.Changes.{ChangeKey, change_key_cmp, key_changed, after_changes}
+use Rattle.cspf_model.specs.declared.limits.TheConstants.{MOST_CHANGES, MOST_LINKS, MOST_ROUTERS, MOST_MARKS}
+use Rattle.cspf_model.specs.declared.batch.Change.{Change}
+use Rattle.cspf_model.specs.declared.batch.Change.TheVariants.{Put, Remove, Node}
+use Rattle.cspf_model.specs.Numbered.{NumberedChanges}
+use Rattle.cspf_model.specs.Database.{Database, link_at, link_count, router_count, mark_count}
+use Rattle.cspf_model.specs.Changes.{ChangeKey, change_key_cmp, key_changed, after_changes}
 
 -- whether no key is there twice
 abbrev pub are_distinct : List ChangeKey → Bool

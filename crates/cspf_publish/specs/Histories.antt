@@ -1,8 +1,8 @@
 -- Lists of batches that one publisher may have published.
 use Rattle.std.specs.Prelude.{◌≡◌, ℕ, suc, ◌+◌, ◌<◌, ◌≤◌, List, [], ◌∷◌, ◌++◌, length}
-use Rattle.cspf_db.specs.Numbered.{NumberedChanges}
-use Rattle.cspf_db.specs.Changes.{database_after, Fits, AreLawful}
-use Rattle.cspf_publish.specs.declared.limits.TheConstants.{MOST_VERSIONS}
+use Rattle.cspf_model.specs.Numbered.{NumberedChanges}
+use Rattle.cspf_model.specs.Changes.{database_after, Fits, AreLawful}
+use Rattle.cspf_model.specs.declared.limits.TheConstants.{MOST_VERSIONS}
 
 -- The batch may come next: it fits the database of those before it, its number is the next one, and
 -- fewer than 1,000,000 were published.

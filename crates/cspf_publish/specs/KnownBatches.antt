@@ -1,7 +1,7 @@
 -- What a publisher, an asker or a told token knows.
 use Rattle.std.specs.Prelude.{◌≡◌, List}
 use Rattle.logbook.specs.Pages.{Book}
-use Rattle.cspf_db.specs.Numbered.{NumberedChanges}
+use Rattle.cspf_model.specs.Numbered.{NumberedChanges}
 use Rattle.cspf_publish.specs.Histories.{BeginsWith}
 
 -- a prefix of a publisher's list of batches, and which publisher's

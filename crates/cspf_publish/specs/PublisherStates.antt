@@ -1,7 +1,7 @@
 -- What a publisher and its parts are to a clause.
 use Rattle.std.specs.Prelude.{◌≡◌, Bool, true, List}
 use Rattle.logbook.specs.Pages.{Book}
-use Rattle.cspf_db.specs.Numbered.{NumberedChanges}
+use Rattle.cspf_model.specs.Numbered.{NumberedChanges}
 
 -- The journal's writer, the batches whose recording has begun, which publisher's they are, and whether
 -- the writer failed in the text of the last one. Else the texts of all of them are written.

@@ -1,4 +1,4 @@
-use cspf_search::Outcome;
+use cspf_model::Outcome;
 
 /// What a request is answered.
 #[derive(Debug, Drop)]

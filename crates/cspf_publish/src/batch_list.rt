@@ -6,7 +6,7 @@ ghost use Rattle.cspf_publish.specs.Operations.{known_with};
 
 use crate::history::{AddBatch, History, NoGain};
 use crate::known::Known;
-use cspf_db::{Batch, lawful_batches};
+use cspf_model::{Batch, lawful_batches};
 use logbook::{Offer, Seen, Start, Word};
 use std::marker::Model;
 use std::sync::Wait;

@@ -1,7 +1,7 @@
 ghost use Rattle.std.specs.Prelude.{◌≡◌};
 ghost use Rattle.cspf_publish.specs.declared.errors.OpenError.TheVariants as open_error;
 
-use cspf_db::Refusal;
+use cspf_model::Refusal;
 use std::alloc::AllocError;
 use thiserror::Error;
 

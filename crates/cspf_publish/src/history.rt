@@ -1,5 +1,5 @@
 //! The list of all batches, which exists in proofs alone. What is shared is its length.
-use cspf_db::Batch;
+use cspf_model::Batch;
 use logbook::{Gain, Plain, Play, Rule};
 
 /// The rule of the list: it is a history, of the length in the word.

@@ -7,7 +7,7 @@ ghost use Rattle.cspf_publish.specs.Operations.{known_with};
 
 use crate::batch_list::BatchList;
 use crate::known::Known;
-use cspf_db::Batch;
+use cspf_model::Batch;
 use cspf_rows::put_all;
 use std::io::Write;
 use std::marker::Model;

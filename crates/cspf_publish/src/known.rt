@@ -3,7 +3,7 @@ ghost use Rattle.std.specs.Prelude.{◌≡◌, ◌<◌, length, MatchBool};
 ghost use Rattle.cspf_publish.specs.Histories.{BeginsWith, IsHistory};
 
 use crate::history::History;
-use cspf_db::Batch;
+use cspf_model::Batch;
 use logbook::Seen;
 use std::marker::Model;
 

@@ -26,6 +26,7 @@ mod told;
 pub use answer::Answer;
 pub use asker::Asker;
 pub use errors::{ApplyError, AskError, OpenError};
-pub use limits::{MOST_ASKERS, MOST_VERSIONS};
+pub use cspf_model::MOST_VERSIONS;
+pub use limits::MOST_ASKERS;
 pub use publisher::{Publisher, open};
 pub use told::Told;

@@ -3,7 +3,8 @@ ghost use Rattle.std.specs.Prelude.{◌≡◌};
 ghost use Rattle.cspf_publish.specs.BatchAbsorption.{database_with};
 
 use crate::known::Known;
-use cspf_db::{Batch, Table};
+use cspf_db::Table;
+use cspf_model::Batch;
 use left_right::Absorb;
 use std::alloc::AllocError;
 use std::marker::Model;

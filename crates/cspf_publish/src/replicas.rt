@@ -1,9 +1,9 @@
 //! Both replicas of the table.
 ghost use Rattle.std.specs.Prelude.{◌≡◌, ◌<◌, ◌≤◌, ◌++◌, [], ◌∷◌, true, false, length, drop, All, IfOk, OnOk, IfErr, vec_len, vec_capacity};
 ghost use Rattle.left_right.specs.Sides.{view};
-ghost use Rattle.cspf_db.specs.Numbered.{NumberedChanges};
-ghost use Rattle.cspf_db.specs.Changes.{no_links, database_after, Fits};
-ghost use Rattle.cspf_db.specs.Refusals.{IsRefusal};
+ghost use Rattle.cspf_model.specs.Numbered.{NumberedChanges};
+ghost use Rattle.cspf_model.specs.Changes.{no_links, database_after, Fits};
+ghost use Rattle.cspf_model.specs.Refusals.{IsRefusal};
 ghost use Rattle.cspf_publish.specs.Answers.{IsBestAfter};
 ghost use Rattle.cspf_publish.specs.Histories.{IsHistory, MayFollow};
 ghost use Rattle.cspf_publish.specs.Operations.{known_with, idle_batch};
@@ -18,8 +18,9 @@ use crate::replica_rule::{FirstNote, Opening, ReplicaRule, Swap};
 use crate::seat_view::SeatView;
 use crate::{Asker, Told};
 use core::mem::replace_with;
-use cspf_db::{Batch, Refusal, Request, Table, absorbing, lawful_batches};
-use cspf_search::{Outcome, best};
+use cspf_db::Table;
+use cspf_model::{Batch, Outcome, Refusal, Request, absorbing, lawful_batches};
+use cspf_search::best;
 use left_right::writer::Writer;
 use std::alloc::{AllocError, Global};
 use std::marker::Model;

@@ -4,9 +4,9 @@ use Rattle.std.proofs.Math.Decide.{ℕ_discrete, dec_le}
 use Rattle.std.proofs.Math.Nat.{ℕ_set}
 use Rattle.std.proofs.Math.Bridge.{le_prop}
 use mathlib.Core.HLevel.{¬_prop}
-use Rattle.cspf_db.specs.Fields.{LinkFields, RequestFields, HasLinkFields, HasRequestFields, AreFieldsOfLinks, AreFieldsOfRequests, fields_of_link, fields_of_request}
-use Rattle.cspf_db.specs.declared.link.Link.{Link}
-use Rattle.cspf_db.specs.declared.request.Request.{Request}
+use Rattle.cspf_model.specs.Fields.{LinkFields, RequestFields, HasLinkFields, HasRequestFields, AreFieldsOfLinks, AreFieldsOfRequests, fields_of_link, fields_of_request}
+use Rattle.cspf_model.specs.declared.link.Link.{Link}
+use Rattle.cspf_model.specs.declared.request.Request.{Request}
 use Rattle.cspf_rows.specs.declared.row.Row.TheVariants as row
 use Rattle.cspf_rows.specs.declared.row_error.RowError.TheVariants as error
 use Rattle.cspf_rows.specs.Rows.{link_with, request_with, put_between, put, ask_between, ask}

@@ -7,7 +7,7 @@ use Rattle.std.proofs.lemmas.Slice.Eq.{bytes_eq-Decides}
 use Rattle.std.specs.Str.{bytes_eq}
 use Rattle.std.specs.Option.{ok_or}
 use Rattle.cspf_addr.specs.MaskText.{SpellsMask}
-use Rattle.cspf_db.specs.Fields.{LinkFields, RequestFields}
+use Rattle.cspf_model.specs.Fields.{LinkFields, RequestFields}
 use Rattle.cspf_rows.specs.declared.row.Row.{Row}
 use Rattle.cspf_rows.specs.declared.row.Row.TheVariants as row
 use Rattle.cspf_rows.specs.declared.row_error.RowError.{RowError}

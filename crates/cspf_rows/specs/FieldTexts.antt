@@ -2,7 +2,7 @@
 use Rattle.cspf_addr.specs.Numbers.{AreSpelledOnce}
 use Rattle.cspf_addr.specs.AddressText.{AreAddressesSpelledOnce}
 use Rattle.cspf_addr.specs.MaskText.{AreMasksRead}
-use Rattle.cspf_db.specs.Fields.{AreFieldsOfLinks}
+use Rattle.cspf_model.specs.Fields.{AreFieldsOfLinks}
 use Rattle.cspf_ero.specs.Laws.{AreObjectsRead}
 
 -- numbers, addresses, masks and objects are read exactly where they are spelled, and a link has the

@@ -1,9 +1,9 @@
 -- Which batches the rows of a journal are, and whether rows are left behind them.
 use Rattle.std.specs.Prelude.{◌≡◌, ◌≢◌, ◌+◌, ◌≤◌, ℕ, List, [], ◌∷◌, ◌++◌, map, length, Ok}
 use Rattle.std.specs.List.{flat_map}
-use Rattle.cspf_db.specs.declared.batch.Change.{Change}
-use Rattle.cspf_db.specs.declared.batch.Change.TheVariants as change
-use Rattle.cspf_db.specs.Numbered.{NumberedChanges}
+use Rattle.cspf_model.specs.declared.batch.Change.{Change}
+use Rattle.cspf_model.specs.declared.batch.Change.TheVariants as change
+use Rattle.cspf_model.specs.Numbered.{NumberedChanges}
 use Rattle.cspf_rows.specs.declared.row.Row.{Row}
 use Rattle.cspf_rows.specs.declared.row.Row.TheVariants as row
 use Rattle.cspf_rows.specs.declared.journal.Rest.{Rest}

@@ -1,8 +1,8 @@
 -- Private: what the rows of a journal are, as far as they were read.
 use Rattle.std.specs.Prelude.{◌≡◌, ◌≢◌, ◌+◌, ◌≤◌, ℕ, Bool, false, Option, IfSome, List, [], ◌∷◌, ◌++◌, map, length, Result, Ok, Err}
 use Rattle.std.specs.Bool.{MatchBool}
-use Rattle.cspf_db.specs.declared.batch.Change.{Change}
-use Rattle.cspf_db.specs.Numbered.{NumberedChanges}
+use Rattle.cspf_model.specs.declared.batch.Change.{Change}
+use Rattle.cspf_model.specs.Numbered.{NumberedChanges}
 use Rattle.cspf_rows.specs.declared.journal.JournalStep.{JournalStep}
 use Rattle.cspf_rows.specs.declared.journal.JournalStep.TheVariants as step
 use Rattle.cspf_rows.specs.declared.journal_reader.JournalReader.{JournalReader}

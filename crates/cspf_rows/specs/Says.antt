@@ -5,8 +5,8 @@ use Rattle.cspf_addr.specs.AddressText.{address_text}
 use Rattle.cspf_addr.specs.MaskText.{SpellsMask}
 use Rattle.cspf_addr.specs.HopLists.{hops_of}
 use Rattle.cspf_addr.specs.declared.hop.Hop.{Hop}
-use Rattle.cspf_db.specs.declared.link.Link.{Link}
-use Rattle.cspf_db.specs.declared.request.Request.{Request}
+use Rattle.cspf_model.specs.declared.link.Link.{Link}
+use Rattle.cspf_model.specs.declared.request.Request.{Request}
 use Rattle.hex.specs.Hex.{decode_of}
 use Rattle.cspf_ero.specs.Objects.{Spells}
 use Rattle.cspf_rows.specs.declared.row.Row.{Row}

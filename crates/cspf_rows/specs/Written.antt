@@ -7,8 +7,8 @@ use Rattle.cspf_addr.specs.MaskText.{SpellsMask}
 use Rattle.cspf_addr.specs.PrefixParts.{IsPrefix}
 use Rattle.cspf_addr.specs.HopLists.{hops_text}
 use Rattle.cspf_addr.specs.declared.hops.TheConstants.{MOST_HOPS}
-use Rattle.cspf_db.specs.declared.link.Link.{Link}
-use Rattle.cspf_db.specs.declared.request.Request.{Request}
+use Rattle.cspf_model.specs.declared.link.Link.{Link}
+use Rattle.cspf_model.specs.declared.request.Request.{Request}
 use Rattle.cspf_rows.specs.declared.row.Row.TheVariants as row
 use Rattle.cspf_rows.specs.FieldValues.{flag_number}
 use Rattle.cspf_rows.specs.Rows.{row_of}

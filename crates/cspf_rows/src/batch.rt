@@ -3,12 +3,12 @@ ghost use Rattle.std.specs.Fmt.{decimal};
 ghost use Rattle.std.specs.List.{flat_map};
 ghost use Rattle.std.specs.String.{string_bytes};
 ghost use Rattle.cspf_addr.specs.MaskText.{mask_text};
-ghost use Rattle.cspf_db.specs.declared.batch.Change.TheVariants as change;
+ghost use Rattle.cspf_model.specs.declared.batch.Change.TheVariants as change;
 ghost use Rattle.cspf_rows.specs.Written.{end_fields};
 ghost use Rattle.cspf_rows.specs.BatchText.{batch_text, change_fields, line_text, fields_after, attributes};
 
 use cspf_addr::{Addr, Mask};
-use cspf_db::{Batch, Change, Link};
+use cspf_model::{Batch, Change, Link};
 use std::alloc::{AllocError, Global};
 use std::fmt::Write;
 

@@ -1,4 +1,4 @@
-use cspf_db::Batch;
+use cspf_model::Batch;
 
 /// What stands behind the batches of a journal.
 #[derive(Clone, Copy, Debug, PartialEq, Eq)]

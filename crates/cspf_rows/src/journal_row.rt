@@ -5,7 +5,7 @@ ghost use Rattle.cspf_rows.specs.JournalReading.{IsTaken};
 ghost use Rattle.cspf_rows.specs.Journal.{change_row};
 
 use crate::row::Row;
-use cspf_db::{Batch, Change};
+use cspf_model::{Batch, Change};
 use csv::ByteRecord;
 use std::alloc::AllocError;
 

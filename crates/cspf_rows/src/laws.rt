@@ -7,7 +7,7 @@ use cspf_addr::{
     addresses_are_spelled_once, hop_lists_are_read_back, masks_are_spelled,
     numbers_are_spelled_once,
 };
-use cspf_db::fields_of_links_and_requests;
+use cspf_model::fields_of_links_and_requests;
 use cspf_ero::objects_are_read;
 
 /// The laws that rows are read by.

@@ -11,7 +11,7 @@ use crate::limits::MOST_ROWS;
 use crate::records::{next_record, open_records};
 use crate::requests_error::RequestsError;
 use crate::row::Row;
-use cspf_db::Request;
+use cspf_model::Request;
 use csv::{ByteRecord, Reader};
 use std::alloc::{AllocError, Global};
 use std::io::Read;

@@ -4,7 +4,7 @@ ghost use Rattle.csv.specs.Records.{fields_of};
 use crate::field::{address, expect_count, flag, hops, mask, number, priority, small_number, text};
 use crate::row_error::RowError;
 use cspf_addr::Addr;
-use cspf_db::{Link, LinkError, Request, RequestError, fields_of_links_and_requests};
+use cspf_model::{Link, LinkError, Request, RequestError, fields_of_links_and_requests};
 use csv::ByteRecord;
 
 /// What a record says.

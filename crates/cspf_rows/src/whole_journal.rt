@@ -7,7 +7,7 @@ use crate::journal::{Journal, JournalStep, Rest};
 use crate::journal_reader::JournalReader;
 use crate::limits::MOST_ROWS;
 use crate::read_error::ReadError;
-use cspf_db::Batch;
+use cspf_model::Batch;
 use std::alloc::{AllocError, Global};
 use std::io::Read;
 

@@ -1,13 +1,13 @@
 -- What the node at the tail-end tells of the route.
 use Rattle.std.proofs.Common.{◌≡◌, ℕ, ◌+◌, ◌*◌, ◌<◌, ◌≤◌, Option, Some, None, option_map, List, [], ◌∷◌, length, slice_index_or, refl, sym, ap, ◌∙◌, arith}
 use Rattle.std.proofs.lemmas.List.Quantifiers.{position-Some}
-use Rattle.cspf_db.specs.declared.link.Link.{Link}
-use Rattle.cspf_db.specs.declared.request.Request.{Request}
-use Rattle.cspf_db.specs.Database.{Database}
-use Rattle.cspf_db.specs.Walks.{AreJoined}
-use Rattle.cspf_db.specs.Routes.{IsRoute}
-use Rattle.cspf_db.specs.Best.{IsBestRoute}
-use Rattle.cspf_search.specs.Routes.{AreLinked}
+use Rattle.cspf_model.specs.declared.link.Link.{Link}
+use Rattle.cspf_model.specs.declared.request.Request.{Request}
+use Rattle.cspf_model.specs.Database.{Database}
+use Rattle.cspf_model.specs.Walks.{AreJoined}
+use Rattle.cspf_model.specs.Routes.{IsRoute}
+use Rattle.cspf_model.specs.Best.{IsBestRoute}
+use Rattle.cspf_model.specs.RouteLinks.{AreLinked}
 use Rattle.cspf_search.specs.declared.arena.Node.{Node}
 use Rattle.cspf_search.specs.States.{State, end_state}
 use Rattle.cspf_search.specs.Settled.{AreSettled}

@@ -5,11 +5,11 @@ use Rattle.std.specs.declared.cmp.Ordering.{Ordering}
 use Rattle.std.proofs.lemmas.Cmp.{nat_list_cmp_total, tied_itself}
 use Rattle.std.proofs.lemmas.List.{length_push}
 use Rattle.std.proofs.lemmas.Option.{get_or_from_slice_get, same_Some}
-use Rattle.cspf_db.specs.declared.link.Link.{Link}
-use Rattle.cspf_db.specs.declared.request.Request.{Request}
-use Rattle.cspf_db.specs.Database.{Database}
-use Rattle.cspf_db.specs.Admissible.{IsUsable, MayLeave}
-use Rattle.cspf_db.specs.Walks.{cost_of, locals_of}
+use Rattle.cspf_model.specs.declared.link.Link.{Link}
+use Rattle.cspf_model.specs.declared.request.Request.{Request}
+use Rattle.cspf_model.specs.Database.{Database}
+use Rattle.cspf_model.specs.Admissible.{IsUsable, MayLeave}
+use Rattle.cspf_model.specs.Walks.{cost_of, locals_of}
 use Rattle.cspf_search.specs.declared.arena.Node.{Node}
 use Rattle.cspf_search.specs.States.{State, MayEnter, MayTurn}
 use Rattle.cspf_search.specs.Settled.{state_cmp, locals_cmp}

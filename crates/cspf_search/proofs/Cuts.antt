@@ -2,14 +2,14 @@
 use Rattle.std.proofs.Common.{◌≡◌, inl, inr, ℕ, suc, ◌+◌, ◌≤◌, List, [], ◌∷◌, ◌++◌, ◌⊎◌, length, map, refl, sym, ap, ◌∙◌, subst, arith, add-one, append_assoc, append-nil}
 use Rattle.std.specs.List.{AllByRecursion, flat_map}
 use Rattle.std.proofs.lemmas.Option.{slice_get_past}
-use Rattle.cspf_db.specs.declared.link.Link.{Link}
-use Rattle.cspf_db.specs.declared.request.Request.{Request}
-use Rattle.cspf_db.specs.Database.{Database, HasTransit}
-use Rattle.cspf_db.specs.Admissible.{IsAdmissible, MayLeave}
-use Rattle.cspf_db.specs.Walks.{AreJoined, IsWalk, end_of, routers_of, routers_passed}
-use Rattle.cspf_db.specs.Targets.{IsTarget, IsTargetOf, IsInside}
-use Rattle.cspf_db.specs.Legs.{AreLegs, IsCutInto}
-use Rattle.cspf_db.specs.Routes.{IsRoute}
+use Rattle.cspf_model.specs.declared.link.Link.{Link}
+use Rattle.cspf_model.specs.declared.request.Request.{Request}
+use Rattle.cspf_model.specs.Database.{Database, HasTransit}
+use Rattle.cspf_model.specs.Admissible.{IsAdmissible, MayLeave}
+use Rattle.cspf_model.specs.Walks.{AreJoined, IsWalk, end_of, routers_of, routers_passed}
+use Rattle.cspf_model.specs.Targets.{IsTarget, IsTargetOf, IsInside}
+use Rattle.cspf_model.specs.Legs.{AreLegs, IsCutInto}
+use Rattle.cspf_model.specs.Routes.{IsRoute}
 use Rattle.cspf_search.specs.States.{State, MayStand, by_link, by_turn, Reaches, starts, steps, end_state}
 
 -- a link that runs to a router with transit, or to the tail-end

@@ -7,7 +7,7 @@ use Rattle.std.proofs.lemmas.List.Elements.{All-filter, All-map, filter_passes, 
 use Rattle.std.proofs.lemmas.List.Filters.{length-filter_both}
 use Rattle.std.proofs.lemmas.List.Kept.{AllPairs-filter}
 use Rattle.std.proofs.lemmas.Map.Keys.{IsDistinct-from_apart}
-use Rattle.cspf_db.specs.Database.{Database, IsRouterOf}
+use Rattle.cspf_model.specs.Database.{Database, IsRouterOf}
 use Rattle.cspf_search.specs.declared.arena.Node.{Node}
 use Rattle.cspf_search.specs.Arena.{state_of, same_state}
 use Rattle.cspf_search.specs.Frontier.{nowhere}

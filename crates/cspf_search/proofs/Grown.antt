@@ -6,10 +6,10 @@ use Rattle.std.proofs.lemmas.Bool.Decides.{nat_tests}
 use Rattle.std.proofs.lemmas.List.{length_push}
 use Rattle.std.proofs.lemmas.List.Elements.{All-contains}
 use Rattle.std.proofs.lemmas.Option.{get_or_from_slice_get, slice_get-get_or}
-use Rattle.cspf_db.specs.declared.link.Link.{Link}
-use Rattle.cspf_db.specs.declared.request.Request.{Request}
-use Rattle.cspf_db.specs.Database.{Database, AreLinksOf, IsLinkOf, IsRouterOf}
-use Rattle.cspf_db.specs.Walks.{cost_of}
+use Rattle.cspf_model.specs.declared.link.Link.{Link}
+use Rattle.cspf_model.specs.declared.request.Request.{Request}
+use Rattle.cspf_model.specs.Database.{Database, AreLinksOf, IsLinkOf, IsRouterOf}
+use Rattle.cspf_model.specs.Walks.{cost_of}
 use Rattle.cspf_search.specs.declared.arena.Node.{Node}
 use Rattle.cspf_search.specs.States.{State, MayEnter, IsStep, by_link, by_turn, Reaches, starts, steps, start_of, MayTurn}
 use Rattle.cspf_search.specs.Settled.{IsNoLater, AreSettled, Crosses, IsFirstCrossing, IsStuck, locals_cmp}

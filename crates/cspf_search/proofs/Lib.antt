@@ -18,7 +18,6 @@ pub mod Looked
 pub mod Marked
 pub mod Grown
 pub mod Answered
-pub mod Twice
 pub mod Reversed
 pub mod LegBounds
 mod Broken

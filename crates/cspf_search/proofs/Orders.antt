@@ -9,8 +9,8 @@ use Rattle.std.proofs.lemmas.Cmp.{then_total, on_total, nat_list_cmp_total, tied
 use Rattle.std.proofs.lemmas.Bool.Decides.{nat_tests}
 use Rattle.std.proofs.lemmas.List.{map_push, length_push, length-map}
 use Rattle.std.proofs.lemmas.List.Sums.{sum_by_push}
-use Rattle.cspf_db.specs.declared.link.Link.{Link}
-use Rattle.cspf_db.specs.Walks.{cost_of, locals_of, walk_cmp}
+use Rattle.cspf_model.specs.declared.link.Link.{Link}
+use Rattle.cspf_model.specs.Walks.{cost_of, locals_of, walk_cmp}
 use Rattle.cspf_search.specs.States.{State}
 use Rattle.cspf_search.specs.Settled.{IsNoLater, rank_cmp, potential_cmp, RanksNoLater, locals_cmp, state_cmp}
 

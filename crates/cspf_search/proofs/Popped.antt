@@ -6,11 +6,11 @@ use Rattle.std.proofs.lemmas.Cmp.{upto}
 use Rattle.std.proofs.lemmas.List.{get_or-set_same, get_or-set_other, get_or-replicate, length-replicate}
 use Rattle.std.proofs.lemmas.List.Elements.{All-nil}
 use Rattle.std.proofs.lemmas.List.Quantifiers.{position-Some}
-use Rattle.cspf_db.specs.declared.link.Link.{Link}
-use Rattle.cspf_db.specs.declared.request.Request.{Request}
-use Rattle.cspf_db.specs.Database.{Database, AreLinksOf, IsRouterOf}
-use Rattle.cspf_db.specs.Routes.{IsRoute}
-use Rattle.cspf_db.specs.Targets.{IsTarget}
+use Rattle.cspf_model.specs.declared.link.Link.{Link}
+use Rattle.cspf_model.specs.declared.request.Request.{Request}
+use Rattle.cspf_model.specs.Database.{Database, AreLinksOf, IsRouterOf}
+use Rattle.cspf_model.specs.Routes.{IsRoute}
+use Rattle.cspf_model.specs.Targets.{IsTarget}
 use Rattle.cspf_db.specs.Index.{links_of, router_list}
 use Rattle.cspf_search.specs.declared.arena.Node.{Node}
 use Rattle.cspf_search.specs.declared.goal.Goal.{Goal}

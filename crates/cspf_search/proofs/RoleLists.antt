@@ -3,10 +3,10 @@ use Rattle.std.proofs.Common.{◌≡◌, ◌≢◌, ◌⊎◌, ◌↔◌, inl, i
 use Rattle.std.proofs.lemmas.Bool.{false≢true, cases_lt, eqb-true, eq-eqb}
 use Rattle.std.proofs.lemmas.List.{take_more, get_or_default, get_or-set_same, get_or-set_other}
 use Rattle.std.proofs.lemmas.List.Elements.{Contains-push_cases, Contains-push, Contains-append_left}
-use Rattle.cspf_db.specs.declared.request.Request.{Request}
-use Rattle.cspf_db.specs.Database.{Database, HasTransit}
+use Rattle.cspf_model.specs.declared.request.Request.{Request}
+use Rattle.cspf_model.specs.Database.{Database, HasTransit}
 use Rattle.cspf_db.specs.Index.{router_list}
-use Rattle.cspf_db.specs.Targets.{IsInside, IsLoose, IsTarget}
+use Rattle.cspf_model.specs.Targets.{IsInside, IsLoose, IsTarget}
 use Rattle.cspf_search.specs.declared.roles.Role.{Role}
 use Rattle.cspf_search.specs.declared.roles.RoleRows.{RoleRows}
 use Rattle.cspf_search.specs.States.{MayTurn}

@@ -6,13 +6,13 @@ use Rattle.std.specs.declared.cmp.Ordering.TheVariants.{Less, Equal, Greater}
 use Rattle.std.proofs.lemmas.Bool.{cases_lt}
 use Rattle.std.proofs.lemmas.Bool.Decides.{nat_tests}
 use Rattle.std.proofs.lemmas.Cmp.{upto}
-use Rattle.cspf_db.specs.declared.link.Link.{Link}
-use Rattle.cspf_db.specs.declared.request.Request.{Request}
-use Rattle.cspf_db.specs.Database.{Database}
-use Rattle.cspf_db.specs.Admissible.{IsAdmissible, MayLeave}
-use Rattle.cspf_db.specs.Walks.{cost_of}
-use Rattle.cspf_db.specs.Routes.{IsRoute}
-use Rattle.cspf_db.specs.Best.{IsBestRoute}
+use Rattle.cspf_model.specs.declared.link.Link.{Link}
+use Rattle.cspf_model.specs.declared.request.Request.{Request}
+use Rattle.cspf_model.specs.Database.{Database}
+use Rattle.cspf_model.specs.Admissible.{IsAdmissible, MayLeave}
+use Rattle.cspf_model.specs.Walks.{cost_of}
+use Rattle.cspf_model.specs.Routes.{IsRoute}
+use Rattle.cspf_model.specs.Best.{IsBestRoute}
 use Rattle.cspf_search.specs.declared.limits.TheConstants.{NO_WAY}
 use Rattle.cspf_search.specs.States.{State, LeadsOn, IsStep, by_link, by_turn, Reaches, starts, steps, start_of, end_state, MayTurn}
 use Rattle.cspf_search.specs.Settled.{Labels, IsNoLater, potential_cmp, RanksNoLater, IsConsistent, AreSettled, Crosses, IsClosed, IsFirstCrossing, IsStuck, locals_cmp}

@@ -3,10 +3,10 @@ use Rattle.std.proofs.Common.{◌≡◌, ◌⊎◌, inl, inr, ℕ, ◌+◌, ◌-
 use Rattle.std.specs.List.{All}
 use Rattle.std.proofs.lemmas.List.{get_or-map, length-map}
 use Rattle.std.proofs.lemmas.Option.{slice_get_past}
-use Rattle.cspf_db.specs.declared.link.Link.{Link}
-use Rattle.cspf_db.specs.declared.request.Request.{Request}
-use Rattle.cspf_db.specs.Database.{Database}
-use Rattle.cspf_db.specs.Admissible.{IsUsable}
+use Rattle.cspf_model.specs.declared.link.Link.{Link}
+use Rattle.cspf_model.specs.declared.request.Request.{Request}
+use Rattle.cspf_model.specs.Database.{Database}
+use Rattle.cspf_model.specs.Admissible.{IsUsable}
 use Rattle.cspf_db.specs.Index.{links_of, links_from_index, router_list}
 use Rattle.cspf_search.specs.declared.arena.Node.{Node}
 use Rattle.cspf_search.specs.declared.goal.Goal.{Goal}

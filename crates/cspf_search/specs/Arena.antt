@@ -1,9 +1,9 @@
 -- Private words of the search: the nodes that stand for settled walks.
 use Rattle.std.specs.Prelude.{◌≡◌, ℕ, ◌+◌, ◌*◌, ◌^◌, ◌<◌, ◌≤◌, Bool, false, ◌&&◌, nat_eq, Option, Some, None, IsSome, option_map, position, List, [], ◌∷◌, ◌++◌, length, slice_index_or}
 use Rattle.std.specs.List.{All, AllPairs}
-use Rattle.cspf_db.specs.declared.link.Link.{Link}
-use Rattle.cspf_db.specs.declared.request.Request.{Request}
-use Rattle.cspf_db.specs.Walks.{cost_of}
+use Rattle.cspf_model.specs.declared.link.Link.{Link}
+use Rattle.cspf_model.specs.declared.request.Request.{Request}
+use Rattle.cspf_model.specs.Walks.{cost_of}
 use Rattle.cspf_search.specs.declared.arena.Node.{Node}
 use Rattle.cspf_search.specs.States.{State}
 use Rattle.cspf_search.specs.Settled.{Labels}

@@ -1,10 +1,10 @@
 -- Private words of the search: a lower bound of the cost from each state to the tail-end.
 use Rattle.std.specs.Prelude.{◌≡◌, ℕ, ◌+◌, ◌*◌, ◌/◌, ◌%◌, ◌^◌, ◌<◌, ◌≤◌, min, Bool, true, false, Some, List, length, slice_get, slice_index, slice_index_or}
-use Rattle.cspf_db.specs.declared.limits.TheConstants.{MOST_ROUTERS}
-use Rattle.cspf_db.specs.declared.link.Link.{Link}
-use Rattle.cspf_db.specs.declared.request.Request.{Request}
-use Rattle.cspf_db.specs.Database.{Database}
-use Rattle.cspf_db.specs.Admissible.{IsAdmitted}
+use Rattle.cspf_model.specs.declared.limits.TheConstants.{MOST_ROUTERS}
+use Rattle.cspf_model.specs.declared.link.Link.{Link}
+use Rattle.cspf_model.specs.declared.request.Request.{Request}
+use Rattle.cspf_model.specs.Database.{Database}
+use Rattle.cspf_model.specs.Admissible.{IsAdmitted}
 use Rattle.cspf_db.specs.Index.{router_list, links_of}
 use Rattle.cspf_search.specs.declared.limits.TheConstants.{NO_WAY}
 use Rattle.cspf_search.specs.declared.ring.Ring.{Ring}

@@ -1,9 +1,9 @@
 -- Private words of the search by rounds: where the settled nodes stand, and which states are settled.
 use Rattle.std.specs.Prelude.{◌≡◌, ℕ, ◌+◌, ◌*◌, ◌%◌, ◌<◌, Bool, is_some, List, All, length, map, slice_index, slice_index_or}
-use Rattle.cspf_db.specs.declared.limits.TheConstants.{MOST_ROUTERS}
-use Rattle.cspf_db.specs.declared.link.Link.{Link}
-use Rattle.cspf_db.specs.declared.request.Request.{Request}
-use Rattle.cspf_db.specs.Database.{Database}
+use Rattle.cspf_model.specs.declared.limits.TheConstants.{MOST_ROUTERS}
+use Rattle.cspf_model.specs.declared.link.Link.{Link}
+use Rattle.cspf_model.specs.declared.request.Request.{Request}
+use Rattle.cspf_model.specs.Database.{Database}
 use Rattle.cspf_db.specs.Index.{router_list, links_from_index, IsReverseAt}
 use Rattle.cspf_search.specs.declared.arena.Node.{Node}
 use Rattle.cspf_search.specs.declared.forward_star.ForwardStar.{ForwardStar}

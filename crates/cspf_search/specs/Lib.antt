@@ -1,5 +1,3 @@
-pub mod Routes
-pub mod Outcome
 pub mod States
 pub mod Strict
 pub mod Settled

@@ -1,10 +1,10 @@
 -- Private words of the search: what it is asked, and what leads on in it.
 use Rattle.std.specs.Prelude.{◌≡◌, ℕ, ◌+◌, ◌%◌, ◌≤◌, List, length, nat_eq}
 use Rattle.std.specs.List.{AllByRecursion, IsDistinct}
-use Rattle.cspf_search.specs.declared.limits.TheConstants.{MOST_LEGS}
-use Rattle.cspf_db.specs.declared.limits.TheConstants.{MOST_ROUTERS}
-use Rattle.cspf_db.specs.declared.link.Link.{Link}
-use Rattle.cspf_db.specs.Database.{AreLinksOf, IsRouterOf}
+use Rattle.cspf_model.specs.declared.limits.TheConstants.{MOST_LEGS}
+use Rattle.cspf_model.specs.declared.limits.TheConstants.{MOST_ROUTERS}
+use Rattle.cspf_model.specs.declared.link.Link.{Link}
+use Rattle.cspf_model.specs.Database.{AreLinksOf, IsRouterOf}
 use Rattle.cspf_db.specs.Index.{links_of}
 use Rattle.cspf_search.specs.declared.arena.Node.{Node}
 use Rattle.cspf_search.specs.declared.query.Query.{Query}

@@ -1,10 +1,10 @@
 -- Private words of both searches: what each ends with.
 use Rattle.std.specs.Prelude.{◌≡◌, ◌+◌, ◌*◌, ◌≤◌, None, List, length}
-use Rattle.cspf_db.specs.declared.limits.TheConstants.{MOST_ROUTERS}
-use Rattle.cspf_db.specs.declared.request.Request.{Request}
-use Rattle.cspf_db.specs.declared.link.Link.{Link}
-use Rattle.cspf_db.specs.Database.{Database}
-use Rattle.cspf_db.specs.Routes.{IsRoute}
+use Rattle.cspf_model.specs.declared.limits.TheConstants.{MOST_ROUTERS}
+use Rattle.cspf_model.specs.declared.request.Request.{Request}
+use Rattle.cspf_model.specs.declared.link.Link.{Link}
+use Rattle.cspf_model.specs.Database.{Database}
+use Rattle.cspf_model.specs.Routes.{IsRoute}
 use Rattle.cspf_search.specs.declared.arena.Node.{Node}
 use Rattle.cspf_search.specs.States.{end_state}
 use Rattle.cspf_search.specs.Settled.{AreSettled}

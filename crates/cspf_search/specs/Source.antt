@@ -1,6 +1,6 @@
 -- Private words of the search from a heap: the node that it goes on from, and the links from there.
 use Rattle.std.specs.Prelude.{◌≡◌, ℕ, ◌≤◌, Some, List, slice_get, slice_index_or}
-use Rattle.cspf_db.specs.Database.{Database}
+use Rattle.cspf_model.specs.Database.{Database}
 use Rattle.cspf_db.specs.Index.{links_from_index, IsReverseAt}
 use Rattle.cspf_search.specs.declared.edge.Edge.{Edge}
 use Rattle.cspf_search.specs.declared.frontier.Source.{Source}

@@ -1,10 +1,10 @@
 -- Private words of the search: where a walk stands in the legs of a request, and what leads on.
 use Rattle.std.specs.Prelude.{◌≡◌, ◌⊎◌, ℕ, suc, ◌+◌, ◌≤◌, List, [], ◌∷◌, ◌++◌, length}
-use Rattle.cspf_db.specs.declared.link.Link.{Link}
-use Rattle.cspf_db.specs.declared.request.Request.{Request}
-use Rattle.cspf_db.specs.Database.{Database, HasTransit}
-use Rattle.cspf_db.specs.Admissible.{IsAdmissible, MayLeave}
-use Rattle.cspf_db.specs.Targets.{IsTarget, IsInside}
+use Rattle.cspf_model.specs.declared.link.Link.{Link}
+use Rattle.cspf_model.specs.declared.request.Request.{Request}
+use Rattle.cspf_model.specs.Database.{Database, HasTransit}
+use Rattle.cspf_model.specs.Admissible.{IsAdmissible, MayLeave}
+use Rattle.cspf_model.specs.Targets.{IsTarget, IsInside}
 
 -- where a walk stands: in a leg of the request, at a router
 pub record State : Type 0 where

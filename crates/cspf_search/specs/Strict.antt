@@ -1,10 +1,10 @@
 -- Private words of the search: strict legs that no route comes through.
 use Rattle.std.specs.Prelude.{◌≡◌, ℕ, ◌+◌, ◌<◌, length, slice_get}
-use Rattle.cspf_db.specs.declared.link.Link.{Link}
-use Rattle.cspf_db.specs.declared.request.Request.{Request}
-use Rattle.cspf_db.specs.Database.{Database}
+use Rattle.cspf_model.specs.declared.link.Link.{Link}
+use Rattle.cspf_model.specs.declared.request.Request.{Request}
+use Rattle.cspf_model.specs.Database.{Database}
 use Rattle.cspf_db.specs.Index.{router_list}
-use Rattle.cspf_db.specs.Targets.{IsLoose, IsTarget}
+use Rattle.cspf_model.specs.Targets.{IsLoose, IsTarget}
 use Rattle.cspf_search.specs.States.{LeadsOn, MayTurn}
 use Rattle.cspf_search.specs.Roles.{router_at}
 

@@ -3,7 +3,7 @@ ghost use Rattle.cspf_search.specs.Settled.{locals_cmp};
 ghost use Rattle.cspf_search.specs.Arena.{AreNodes, IsNext, index_of, walk_at, walk_of, walks};
 
 use cspf_addr::Addr;
-use cspf_db::Link;
+use cspf_model::Link;
 use std::alloc::{AllocError, Global};
 use std::cmp::Ordering;
 

@@ -1,6 +1,6 @@
 ghost use Rattle.std.specs.Prelude.{◌≡◌};
 
-use cspf_db::Link;
+use cspf_model::Link;
 
 /// A link from a router, with its row among those from there and where it ends.
 #[derive(Clone, Copy)]

@@ -1,12 +1,13 @@
-ghost use Rattle.cspf_search.specs.declared.limits.TheConstants.{MOST_LEGS};
+ghost use Rattle.cspf_model.specs.declared.limits.TheConstants.{MOST_LEGS};
 ghost use Rattle.std.specs.Prelude.{◌≡◌, ◌*◌, ◌<◌, ◌≤◌};
-ghost use Rattle.cspf_db.specs.Database.{IsRouterOf};
+ghost use Rattle.cspf_model.specs.Database.{IsRouterOf};
 ghost use Rattle.cspf_search.specs.Arena.{state_of};
 ghost use Rattle.cspf_search.specs.Frontier.{AreListed};
 ghost use Rattle.cspf_search.specs.ForwardStars.{IsForwardStar};
 
 use crate::arena::Node;
-use cspf_db::{Link, MOST_ROUTERS, Table};
+use cspf_db::Table;
+use cspf_model::{Link, MOST_ROUTERS};
 
 /// The forward star of a settled node: its state, and the links from its router.
 #[derive(Clone, Copy)]

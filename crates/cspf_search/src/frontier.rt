@@ -1,4 +1,4 @@
-ghost use Rattle.cspf_db.specs.declared.limits.TheConstants.{MOST_LINKS};
+ghost use Rattle.cspf_model.specs.declared.limits.TheConstants.{MOST_LINKS};
 ghost use Rattle.std.specs.Prelude.{◌≡◌, ◌+◌, ◌*◌, ◌%◌, ◌<◌, ◌≤◌, ◌⊎◌, Some, length, slice_get, slice_index_or, OnOk};
 ghost use Rattle.std.specs.BinaryHeap.{heap_items, heap_len};
 ghost use Rattle.cspf_db.specs.Index.{links_of, links_from_index};
@@ -14,7 +14,8 @@ use crate::goal::{Goal, lift};
 use crate::labels::{Label, Waiting, node_of, put};
 use crate::limits::COST_WEIGHT;
 use crate::query::Query;
-use cspf_db::{MOST_ROUTERS, NO_LINK, Table};
+use cspf_db::{NO_LINK, Table};
+use cspf_model::MOST_ROUTERS;
 use cspf_graph::{accepts, may_leave_at};
 use std::alloc::{AllocError, Global};
 use std::collections::BinaryHeap;

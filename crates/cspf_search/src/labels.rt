@@ -1,4 +1,4 @@
-ghost use Rattle.cspf_db.specs.declared.limits.TheConstants.{MOST_ROUTERS};
+ghost use Rattle.cspf_model.specs.declared.limits.TheConstants.{MOST_ROUTERS};
 ghost use Rattle.std.specs.Prelude.{◌≡◌, ◌+◌, ◌*◌, ◌<◌, ◌≤◌, ◌↔◌, IsTrue, All, Contains, length, set, IfSome, IfNone, OnOk};
 ghost use Rattle.std.specs.BinaryHeap.{IsHeap, heap_items, heap_len};
 ghost use Rattle.cspf_db.specs.Index.{router_list};
@@ -8,7 +8,8 @@ ghost use Rattle.cspf_search.specs.Frontier.{lift, node_of, key_at, key_cmp, Gai
 use crate::arena::Node;
 use crate::goal::{Goal, lift};
 use crate::limits::ROOM_FOR_WAITING;
-use cspf_db::{Request, Table};
+use cspf_db::Table;
+use cspf_model::Request;
 use std::alloc::{AllocError, Global};
 use std::cmp::Reverse;
 use std::collections::BinaryHeap;

@@ -11,16 +11,12 @@ mod frontier;
 mod goal;
 mod labels;
 mod limits;
-mod outcome;
 mod query;
 mod ring;
 mod roles;
 mod rounds;
-mod route;
 mod search;
 mod strict;
 
-pub use limits::MOST_ROUTE_LINKS;
-pub use outcome::Outcome;
-pub use route::Route;
+pub use cspf_model::{MOST_ROUTE_LINKS, Outcome, Route};
 pub use search::{best, best_by_rounds};

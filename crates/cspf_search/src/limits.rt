@@ -1,11 +1,4 @@
-//! How long a route is at most, and how cost and links are weighed against each other.
-use cspf_addr::MOST_HOPS;
-
-/// How many legs a route has at most: one to each hop, and one to the tail-end.
-pub(crate) const MOST_LEGS: usize = MOST_HOPS + 1;
-
-/// How many links a route has at most: in each leg fewer than a database has routers.
-pub const MOST_ROUTE_LINKS: usize = 8184;
+//! How cost and links are weighed against each other, and for how much there is room from the start.
 
 /// The bound of a state from which the search against the links has found no way to the tail-end.
 pub(crate) const NO_WAY: u32 = 4_294_967_295;

@@ -3,7 +3,8 @@ ghost use Rattle.cspf_db.specs.Index.{router_list};
 ghost use Rattle.cspf_search.specs.States.{MayBeLeft};
 
 use crate::roles::Role;
-use cspf_db::{Request, Table};
+use cspf_db::Table;
+use cspf_model::Request;
 
 /// What a search is asked, in which table, what a route may do at each state, and where the legs end.
 #[derive(Clone, Copy)]

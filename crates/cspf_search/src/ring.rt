@@ -1,8 +1,8 @@
 ghost use Rattle.std.specs.Prelude.{◌≡◌, ◌<◌, ◌≤◌, ℕ, false, IfSome, OnOk, length, set};
-ghost use Rattle.cspf_db.specs.declared.limits.TheConstants.{MOST_ROUTERS};
+ghost use Rattle.cspf_model.specs.declared.limits.TheConstants.{MOST_ROUTERS};
 
 use crate::limits::{NO_WAY, ROOM_FOR_WAITING};
-use cspf_db::MOST_ROUTERS;
+use cspf_model::MOST_ROUTERS;
 use std::alloc::{AllocError, Global};
 use std::cmp::Reverse;
 use std::collections::BinaryHeap;

@@ -1,13 +1,14 @@
 ghost use Rattle.std.specs.Prelude.{◌≡◌, ◌≢◌, true, ◌+◌, ◌*◌, ◌<◌, ◌↔◌, ◌⊎◌, All, IsTrue, IfOk, length, slice_get, slice_index};
 ghost use Rattle.cspf_db.specs.Index.{router_list};
-ghost use Rattle.cspf_db.specs.Targets.{IsLoose};
+ghost use Rattle.cspf_model.specs.Targets.{IsLoose};
 ghost use Rattle.cspf_search.specs.Frontier.{AreListed, AreTargetsSettled, IsEnd, IsRaised, IsRole, AreRoles};
 ghost use Rattle.cspf_search.specs.Query.{IsQuery};
 ghost use Rattle.cspf_search.specs.Roles.{AreRolesUpTo, AreRoleRows, AreTargets, AreTargetsOf, IsMarked, IsSpread};
 
 use crate::labels::Label;
 use crate::query::Query;
-use cspf_db::{MOST_ROUTERS, Request, Table};
+use cspf_db::Table;
+use cspf_model::{MOST_ROUTERS, Request};
 use std::alloc::{AllocError, Global};
 
 /// What a route may do at a router in a leg.

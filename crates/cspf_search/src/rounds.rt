@@ -13,7 +13,8 @@ use crate::arena::{Node, locals};
 use crate::edge::Edge;
 use crate::forward_star::ForwardStar;
 use crate::query::Query;
-use cspf_db::{Link, MOST_ROUTERS, NO_LINK, Request, Table};
+use cspf_db::{NO_LINK, Table};
+use cspf_model::{Link, MOST_ROUTERS, Request};
 use cspf_graph::{accepts, may_leave_at};
 use std::cmp::Ordering;
 

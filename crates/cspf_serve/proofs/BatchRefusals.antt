@@ -1,6 +1,6 @@
 -- What is refused isn't accepted.
 use Rattle.std.proofs.Common.{◌≢◌, ℕ, ◌+◌, ◌≤◌, length, arith}
-use Rattle.cspf_db.specs.Changes.{Fits}
+use Rattle.cspf_model.specs.Changes.{Fits}
 use Rattle.cspf_serve.specs.Script.{RunState, IsAccepted, current_version, current_database, open_batch}
 
 pub not_exhausted : (s : RunState) (number count : ℕ) → 1000000 ≤ current_version s → ¬ IsAccepted s number count

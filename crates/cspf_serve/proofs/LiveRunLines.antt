@@ -6,10 +6,10 @@ use Rattle.std.proofs.lemmas.Bool.{cases_lt}
 use Rattle.std.proofs.lemmas.Option.{slice_get_within, get_or_from_slice_get}
 use Rattle.std.specs.Io.KnownBytes.{Appends}
 use Rattle.std.specs.List.{flat_map}
-use Rattle.cspf_db.specs.declared.request.Request.{Request}
-use Rattle.cspf_db.specs.Numbered.{NumberedChanges}
-use Rattle.cspf_db.specs.Changes.{database_after, Fits}
-use Rattle.cspf_db.specs.Refusals.{IsRefusal}
+use Rattle.cspf_model.specs.declared.request.Request.{Request}
+use Rattle.cspf_model.specs.Numbered.{NumberedChanges}
+use Rattle.cspf_model.specs.Changes.{database_after, Fits}
+use Rattle.cspf_model.specs.Refusals.{IsRefusal}
 use Rattle.cspf_publish.specs.ApplyErrors.{IsApplyError}
 use Rattle.cspf_publish.specs.Histories.{IsHistory}
 use Rattle.cspf_publish.specs.PublisherStates.{PublisherState}

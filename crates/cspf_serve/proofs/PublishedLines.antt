@@ -3,10 +3,10 @@ use Rattle.std.proofs.Common.{◌≡◌, ℕ, zero, suc, ◌+◌, ◌<◌, ◌�
 use Rattle.std.proofs.lemmas.Grind.{flat_map-append}
 use Rattle.std.proofs.Math.Seq.{take-suc}
 use Rattle.std.specs.Option.{option_map}
-use Rattle.cspf_db.specs.declared.refusal.Refusal.{Refusal}
-use Rattle.cspf_db.specs.Numbered.{NumberedChanges}
-use Rattle.cspf_db.specs.Changes.{database_after}
-use Rattle.cspf_db.specs.Refusals.{IsRefusal}
+use Rattle.cspf_model.specs.declared.refusal.Refusal.{Refusal}
+use Rattle.cspf_model.specs.Numbered.{NumberedChanges}
+use Rattle.cspf_model.specs.Changes.{database_after}
+use Rattle.cspf_model.specs.Refusals.{IsRefusal}
 use Rattle.cspf_publish.specs.ApplyErrors.{IsApplyError}
 use Rattle.cspf_publish.specs.Histories as history
 use Rattle.cspf_publish.specs.PublisherStates.{PublisherState}

@@ -1,7 +1,7 @@
 -- What stands after the answer to a row.
 use Rattle.std.proofs.Common.{◌≡◌, ℕ, ◌+◌, [], ◌∷◌, ◌++◌, length, length-append, sym, ap, ◌∙◌, arith}
-use Rattle.cspf_db.specs.Changes.{after_changes}
-use Rattle.cspf_db.specs.Laws.{OneMoreBatch}
+use Rattle.cspf_model.specs.Changes.{after_changes}
+use Rattle.cspf_model.specs.Laws.{OneMoreBatch}
 use Rattle.cspf_serve.specs.declared.solve.solver.Solver.{Solver}
 use Rattle.cspf_serve.specs.Script.{RunState, at_next_row, after_refused_row, after_reply, after_batch, open_batch, IsAccepted}
 use Rattle.cspf_serve.specs.SolverStates.{Keeps}

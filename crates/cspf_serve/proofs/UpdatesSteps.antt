@@ -4,10 +4,10 @@ use Rattle.std.specs.Global.{Global}
 use Rattle.std.specs.declared.alloc.AllocError.{AllocError}
 use Rattle.std.proofs.KnownBytes.{Appends-trans}
 use Rattle.std.proofs.lemmas.Bool.{cases_lt}
-use Rattle.cspf_db.specs.Laws.{RefusedIsUnfit}
-use Rattle.cspf_db.specs.Numbered.{NumberedChanges}
-use Rattle.cspf_db.specs.Changes.{database_after}
-use Rattle.cspf_db.specs.Refusals.{IsRefusal}
+use Rattle.cspf_model.specs.Laws.{RefusedIsUnfit}
+use Rattle.cspf_model.specs.Numbered.{NumberedChanges}
+use Rattle.cspf_model.specs.Changes.{database_after}
+use Rattle.cspf_model.specs.Refusals.{IsRefusal}
 use Rattle.cspf_publish.specs.ApplyErrors.{IsApplyError, IsNextBatch}
 use Rattle.cspf_serve.specs.OpenChanges.{AreOpen, IsPublished}
 use Rattle.cspf_serve.specs.declared.serving.open_changes.OpenChanges.{OpenChanges}
@@ -19,9 +19,9 @@ use Rattle.cspf_serve.specs.declared.batch_refusal.BatchRefusal.{BatchRefusal}
 use Rattle.cspf_serve.specs.declared.batch_refusal.BatchRefusal.TheVariants as refusal
 use Rattle.cspf_serve.specs.Lines.{version_line, refused_batch_line}
 use Rattle.cspf_serve.specs.LiveWords.{unpublished_line}
-use Rattle.cspf_db.specs.Best.{Answer, IsBestAnswer}
-use Rattle.cspf_db.specs.declared.batch.Change.{Change}
-use Rattle.cspf_db.specs.declared.request.Request.{Request}
+use Rattle.cspf_model.specs.Best.{Answer, IsBestAnswer}
+use Rattle.cspf_model.specs.declared.batch.Change.{Change}
+use Rattle.cspf_model.specs.declared.request.Request.{Request}
 use Rattle.cspf_ero.specs.ReplyLine.{IsReply}
 use Rattle.cspf_rows.specs.declared.row.Row.{Row}
 use Rattle.cspf_rows.specs.declared.row.Row.TheVariants as row

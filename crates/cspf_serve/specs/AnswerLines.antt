@@ -1,7 +1,7 @@
 -- Private: the lines of answers.
 use Rattle.std.specs.Prelude.{◌≡◌, ℕ, List, [], ◌∷◌, ◌++◌}
 use Rattle.cspf_ero.specs.ReplyLine.{IsReply}
-use Rattle.cspf_search.specs.Outcome.{answer_of}
+use Rattle.cspf_model.specs.Outcome.{answer_of}
 use Rattle.cspf_publish.specs.declared.answer.Answer.{Answer}
 
 -- the lines of answers, each with its own id and version

@@ -1,6 +1,6 @@
 -- What holds of every run over a journal and a stream of requests.
 use Rattle.std.specs.Prelude.{◌≤◌, ℕ, Bool, List, ◌++◌, length}
-use Rattle.cspf_db.specs.Numbered.{NumberedChanges}
+use Rattle.cspf_model.specs.Numbered.{NumberedChanges}
 use Rattle.cspf_rows.specs.declared.limits.TheConstants.{MOST_ROWS}
 use Rattle.cspf_rows.specs.declared.journal.Rest.TheVariants as rest
 use Rattle.cspf_rows.specs.Journal.{IsJournal}

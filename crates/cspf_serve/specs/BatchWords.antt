@@ -1,8 +1,8 @@
 -- The words that a refused batch is answered.
 use Rattle.std.specs.Prelude.{ℕ, List, ◌++◌, codes}
 use Rattle.std.specs.Fmt.{decimal}
-use Rattle.cspf_db.specs.declared.refusal.Refusal.{Refusal}
-use Rattle.cspf_db.specs.declared.refusal.Refusal.TheVariants as unfit
+use Rattle.cspf_model.specs.declared.refusal.Refusal.{Refusal}
+use Rattle.cspf_model.specs.declared.refusal.Refusal.TheVariants as unfit
 use Rattle.cspf_serve.specs.declared.batch_refusal.BatchRefusal.{BatchRefusal}
 use Rattle.cspf_serve.specs.declared.batch_refusal.BatchRefusal.TheVariants as refusal
 

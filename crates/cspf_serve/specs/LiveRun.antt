@@ -1,10 +1,10 @@
 -- What updates and requests are answered that are applied and answered at once.
 use Rattle.std.specs.Prelude.{◌≡◌, ℕ, ◌<◌, ◌≤◌, ◌⊎◌, false, List, [], ◌∷◌, ◌++◌, length, take, Some, slice_get}
 use Rattle.std.specs.List.{flat_map}
-use Rattle.cspf_db.specs.declared.request.Request.{Request}
-use Rattle.cspf_db.specs.Numbered.{NumberedChanges}
-use Rattle.cspf_db.specs.Changes.{database_after, Fits}
-use Rattle.cspf_db.specs.Refusals.{IsRefusal}
+use Rattle.cspf_model.specs.declared.request.Request.{Request}
+use Rattle.cspf_model.specs.Numbered.{NumberedChanges}
+use Rattle.cspf_model.specs.Changes.{database_after, Fits}
+use Rattle.cspf_model.specs.Refusals.{IsRefusal}
 use Rattle.cspf_publish.specs.Histories.{IsHistory}
 use Rattle.cspf_publish.specs.declared.errors.ApplyError.{ApplyError}
 use Rattle.cspf_publish.specs.declared.errors.ApplyError.TheVariants as error

@@ -1,8 +1,8 @@
 -- Private: what the code keeps of open changes.
 use Rattle.std.specs.Prelude.{◌≡◌, ℕ, false, Option, List, [], ◌∷◌, ◌++◌, take, length}
 use Rattle.std.specs.Io.KnownBytes.{Appends}
-use Rattle.cspf_db.specs.Numbered.{NumberedChanges}
-use Rattle.cspf_db.specs.declared.batch.Change.{Change}
+use Rattle.cspf_model.specs.Numbered.{NumberedChanges}
+use Rattle.cspf_model.specs.declared.batch.Change.{Change}
 use Rattle.cspf_publish.specs.ApplyErrors.{IsNextBatch}
 use Rattle.cspf_publish.specs.PublisherStates.{PublisherState}
 use Rattle.cspf_rows.specs.BatchText.{batch_text}

@@ -1,6 +1,6 @@
 -- Which errors end a run over a journal, or over updates, and requests.
 use Rattle.std.specs.Prelude.{◌≡◌, ℕ, ◌<◌, ◌⊎◌, Bool, List, length, Option, IfSome}
-use Rattle.cspf_db.specs.Numbered.{NumberedChanges}
+use Rattle.cspf_model.specs.Numbered.{NumberedChanges}
 use Rattle.cspf_rows.specs.Records.{rows_of}
 use Rattle.cspf_serve.specs.declared.streams.error.RunError.{RunError}
 use Rattle.cspf_serve.specs.declared.streams.error.RunError.TheVariants.{Memory, Device, Places, Serve}

@@ -1,14 +1,14 @@
 -- What a stream of rows is answered, from its bytes to bytes, and the summary of its run.
 use Rattle.std.specs.Prelude.{◌≡◌, ◌≢◌, ℕ, ◌+◌, ◌<◌, ◌≤◌, ◌⊎◌, nat_lt, if◌then◌else◌, Bool, true, false, List, [], ◌∷◌, ◌++◌, take, length, Result, Ok, Err}
-use Rattle.cspf_db.specs.declared.batch.Change.{Change}
-use Rattle.cspf_db.specs.declared.batch.Change.TheVariants as change
-use Rattle.cspf_db.specs.Numbered.{NumberedChanges}
-use Rattle.cspf_db.specs.Database.{Database}
-use Rattle.cspf_db.specs.Changes.{Fits, database_after}
-use Rattle.cspf_db.specs.Refusals.{IsRefusal}
-use Rattle.cspf_db.specs.Best.{Answer, IsBestAnswer}
+use Rattle.cspf_model.specs.declared.batch.Change.{Change}
+use Rattle.cspf_model.specs.declared.batch.Change.TheVariants as change
+use Rattle.cspf_model.specs.Numbered.{NumberedChanges}
+use Rattle.cspf_model.specs.Database.{Database}
+use Rattle.cspf_model.specs.Changes.{Fits, database_after}
+use Rattle.cspf_model.specs.Refusals.{IsRefusal}
+use Rattle.cspf_model.specs.Best.{Answer, IsBestAnswer}
 use Rattle.cspf_ero.specs.ReplyLine.{IsReply}
-use Rattle.cspf_publish.specs.declared.limits.TheConstants.{MOST_VERSIONS}
+use Rattle.cspf_model.specs.declared.limits.TheConstants.{MOST_VERSIONS}
 use Rattle.cspf_rows.specs.declared.limits.TheConstants.{MOST_ROWS}
 use Rattle.cspf_rows.specs.declared.row.Row.{Row}
 use Rattle.cspf_rows.specs.declared.row.Row.TheVariants as row

@@ -1,8 +1,8 @@
 -- What a journal is answered whose last database is to be made from nothing.
 use Rattle.std.specs.Prelude.{◌≡◌, ℕ, ◌⊎◌, Bool, List}
-use Rattle.cspf_db.specs.declared.refusal.Refusal.{Refusal}
-use Rattle.cspf_db.specs.Numbered.{NumberedChanges}
-use Rattle.cspf_db.specs.Changes.{AreLawful, database_after}
+use Rattle.cspf_model.specs.declared.refusal.Refusal.{Refusal}
+use Rattle.cspf_model.specs.Numbered.{NumberedChanges}
+use Rattle.cspf_model.specs.Changes.{AreLawful, database_after}
 use Rattle.cspf_rows.specs.JournalLaws.{journal_text}
 use Rattle.cspf_snapshot.specs.Replays.{IsFirstUnfit}
 use Rattle.cspf_snapshot.specs.Snapshots.{IsSnapshot}

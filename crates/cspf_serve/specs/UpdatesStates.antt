@@ -2,7 +2,7 @@
 use Rattle.std.specs.Prelude.{◌≡◌, ◌≢◌, ℕ, ◌+◌, ◌<◌, false, Option, List, ◌++◌, length, Result}
 use Rattle.std.specs.Io.KnownBytes.{Appends}
 use Rattle.cspf_publish.specs.PublisherStates.{PublisherState}
-use Rattle.cspf_publish.specs.declared.limits.TheConstants.{MOST_VERSIONS}
+use Rattle.cspf_model.specs.declared.limits.TheConstants.{MOST_VERSIONS}
 use Rattle.cspf_rows.specs.BatchText.{batch_text}
 use Rattle.cspf_rows.specs.declared.row.Row.{Row}
 use Rattle.cspf_rows.specs.declared.row_error.RowError.{RowError}

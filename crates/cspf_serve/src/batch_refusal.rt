@@ -1,4 +1,4 @@
-use cspf_db::Refusal;
+use cspf_model::Refusal;
 use std::error::Error;
 use std::fmt;
 

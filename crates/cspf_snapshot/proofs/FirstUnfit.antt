@@ -2,10 +2,10 @@
 use Rattle.std.proofs.Common.{◌≡◌, ℕ, ◌+◌, ◌<◌, List, [], ◌∷◌, ◌++◌, length, take, drop, get_or, sym, ap, ◌∙◌, append_assoc}
 use Rattle.std.proofs.lemmas.List.{take-append-drop}
 use Rattle.std.proofs.lemmas.Grind.{take_at_read}
-use Rattle.cspf_db.specs.Numbered.{NumberedChanges}
-use Rattle.cspf_db.specs.Changes.{AreLawful, database_after}
-use Rattle.cspf_db.specs.declared.refusal.Refusal.{Refusal}
-use Rattle.cspf_db.specs.Refusals.{IsRefusal}
+use Rattle.cspf_model.specs.Numbered.{NumberedChanges}
+use Rattle.cspf_model.specs.Changes.{AreLawful, database_after}
+use Rattle.cspf_model.specs.declared.refusal.Refusal.{Refusal}
+use Rattle.cspf_model.specs.Refusals.{IsRefusal}
 use Rattle.cspf_snapshot.specs.Replays.{IsFirstUnfit}
 
 -- a batch that doesn't fit behind lawful ones is the first that doesn't

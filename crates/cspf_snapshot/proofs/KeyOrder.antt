@@ -6,8 +6,8 @@ use Rattle.std.specs.declared.cmp.Ordering.TheVariants.{Less, Equal, Greater}
 use Rattle.std.specs.Cmp.{IsTotalOrder, Equal-is, nat_cmp_total}
 use Rattle.std.specs.FinMap.{IsAntisymmetric, nat_cmp-IsAntisymmetric}
 use Rattle.std.proofs.lemmas.Cmp.{then_total, on_total, eq_by_cmp_equiv}
-use Rattle.cspf_db.specs.Database.{Key, key_cmp}
-use Rattle.cspf_db.specs.Changes.{change_key_cmp, link_key, mark_key}
+use Rattle.cspf_model.specs.Database.{Key, key_cmp}
+use Rattle.cspf_model.specs.Changes.{change_key_cmp, link_key, mark_key}
 
 -- the order of keys is total
 pub keys_total : IsTotalOrder key_cmp

@@ -5,13 +5,13 @@ use Rattle.std.specs.Cmp.{nat_cmp_total}
 use Rattle.std.specs.List.{AllByRecursion, IsDistinct}
 use Rattle.std.specs.FinSet as set
 use Rattle.std.proofs.lemmas.List.Elements.{All-from_recursion}
-use Rattle.cspf_db.specs.declared.batch.Change.{Change}
-use Rattle.cspf_db.specs.declared.batch.Change.TheVariants.{Put, Remove, Node}
-use Rattle.cspf_db.specs.declared.limits.TheConstants.{MOST_CHANGES, MOST_LINKS, MOST_ROUTERS, MOST_MARKS}
-use Rattle.cspf_db.specs.Numbered.{NumberedChanges}
-use Rattle.cspf_db.specs.Database.{Database, AreAtTheirKeys, link_count, router_count, mark_count}
-use Rattle.cspf_db.specs.Changes.{ChangeKey, change_key_cmp, key_changed, changes_of, after_changes, IsPresent, Fits, AreLawfulAfter}
-use Rattle.cspf_db.specs.Laws.{RoutersAreCounted}
+use Rattle.cspf_model.specs.declared.batch.Change.{Change}
+use Rattle.cspf_model.specs.declared.batch.Change.TheVariants.{Put, Remove, Node}
+use Rattle.cspf_model.specs.declared.limits.TheConstants.{MOST_CHANGES, MOST_LINKS, MOST_ROUTERS, MOST_MARKS}
+use Rattle.cspf_model.specs.Numbered.{NumberedChanges}
+use Rattle.cspf_model.specs.Database.{Database, AreAtTheirKeys, link_count, router_count, mark_count}
+use Rattle.cspf_model.specs.Changes.{ChangeKey, change_key_cmp, key_changed, changes_of, after_changes, IsPresent, Fits, AreLawfulAfter}
+use Rattle.cspf_model.specs.Laws.{RoutersAreCounted}
 use Rattle.cspf_snapshot.proofs.FullBatches.{AreShort}
 use Rattle.cspf_snapshot.proofs.Parts.{IsPartOf, IsOwnChange, AreOwnChanges, part_after, after_changes-append, link_count-le, mark_count-le}
 use Rattle.cspf_snapshot.proofs.RouterCounts.{router_count-le}

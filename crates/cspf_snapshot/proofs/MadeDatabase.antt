@@ -6,10 +6,10 @@ use Rattle.std.specs.List.{AllByRecursion, list_any}
 use Rattle.std.specs.FinMap.{same_map}
 use Rattle.std.specs.FinSet as set
 use Rattle.std.proofs.lemmas.List.Elements.{All-contains, All-from_recursion}
-use Rattle.cspf_db.specs.declared.link.Link.{Link}
-use Rattle.cspf_db.specs.declared.batch.Change.TheVariants.{Put}
-use Rattle.cspf_db.specs.Database.{Database, Key, key_of, link_at, AreLinksOf, AreAtTheirKeys}
-use Rattle.cspf_db.specs.Changes.{no_links, after_change, after_changes}
+use Rattle.cspf_model.specs.declared.link.Link.{Link}
+use Rattle.cspf_model.specs.declared.batch.Change.TheVariants.{Put}
+use Rattle.cspf_model.specs.Database.{Database, Key, key_of, link_at, AreLinksOf, AreAtTheirKeys}
+use Rattle.cspf_model.specs.Changes.{no_links, after_change, after_changes}
 use Rattle.cspf_snapshot.specs.Snapshots.{marking, changes_making, AreMarksOf}
 use Rattle.cspf_snapshot.proofs.KeyOrder.{keys_total, keys_antisymmetric}
 use Rattle.cspf_snapshot.proofs.Parts.{AreOwnChanges, none_is_part, part_after, has_link_after, has_link_put}

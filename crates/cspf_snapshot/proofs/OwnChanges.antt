@@ -4,9 +4,9 @@ use Rattle.std.specs.Ordering.{nat_cmp, eq_by_cmp}
 use Rattle.std.specs.declared.cmp.Ordering.TheVariants.{Less}
 use Rattle.std.specs.List.{AllByRecursion, IsDistinct}
 use Rattle.std.specs.List.Sorted.{IsStrictlySortedBy}
-use Rattle.cspf_db.specs.declared.link.Link.{Link}
-use Rattle.cspf_db.specs.Database.{Database, Key, key_of, key_cmp, IsLinkOf, HaveOwnKeys}
-use Rattle.cspf_db.specs.Changes.{change_key_cmp, link_key, mark_key, key_changed}
+use Rattle.cspf_model.specs.declared.link.Link.{Link}
+use Rattle.cspf_model.specs.Database.{Database, Key, key_of, key_cmp, IsLinkOf, HaveOwnKeys}
+use Rattle.cspf_model.specs.Changes.{change_key_cmp, link_key, mark_key, key_changed}
 use Rattle.cspf_snapshot.specs.Snapshots.{marking, changes_making}
 use Rattle.cspf_snapshot.proofs.KeyOrder.{link_apart, mark_below_apart}
 use Rattle.cspf_snapshot.proofs.Parts.{AreOwnChanges}

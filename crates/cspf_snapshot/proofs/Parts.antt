@@ -5,11 +5,11 @@ use Rattle.std.specs.Cmp.{nat_cmp_total}
 use Rattle.std.specs.List.{AllByRecursion}
 use Rattle.std.specs.FinMap as map
 use Rattle.std.specs.FinSet as set
-use Rattle.cspf_db.specs.declared.link.Link.{Link}
-use Rattle.cspf_db.specs.declared.batch.Change.{Change}
-use Rattle.cspf_db.specs.declared.batch.Change.TheVariants.{Put, Remove, Node}
-use Rattle.cspf_db.specs.Database.{Database, Key, key_of, key_cmp, link_at, IsLinkOf, AreAtTheirKeys, link_count, mark_count}
-use Rattle.cspf_db.specs.Changes.{no_links, marks_after, after_change, after_changes}
+use Rattle.cspf_model.specs.declared.link.Link.{Link}
+use Rattle.cspf_model.specs.declared.batch.Change.{Change}
+use Rattle.cspf_model.specs.declared.batch.Change.TheVariants.{Put, Remove, Node}
+use Rattle.cspf_model.specs.Database.{Database, Key, key_of, key_cmp, link_at, IsLinkOf, AreAtTheirKeys, link_count, mark_count}
+use Rattle.cspf_model.specs.Changes.{no_links, marks_after, after_change, after_changes}
 use Rattle.cspf_snapshot.proofs.KeyOrder.{keys_total, keys_same, key_itself}
 
 -- each link of one database is at the same key of the other

@@ -5,8 +5,8 @@ use Rattle.std.specs.Cmp.{nat_cmp_total}
 use Rattle.std.specs.List.{list_any}
 use Rattle.std.proofs.lemmas.Cmp.{eq_by_cmp_equiv}
 use Rattle.std.specs.FinSet as set
-use Rattle.cspf_db.specs.Database.{Database, key_of, AreAtTheirKeys, all_routers, router_count}
-use Rattle.cspf_db.specs.Laws.{RoutersAreCounted}
+use Rattle.cspf_model.specs.Database.{Database, key_of, AreAtTheirKeys, all_routers, router_count}
+use Rattle.cspf_model.specs.Laws.{RoutersAreCounted}
 use Rattle.cspf_snapshot.proofs.Parts.{IsPartOf, part_at_keys}
 
 -- a set of numbers

@@ -1,9 +1,9 @@
 -- Why batches aren't replayed.
 use Rattle.std.specs.Prelude.{◌≡◌, ℕ, List, ◌∷◌, ◌++◌}
-use Rattle.cspf_db.specs.declared.refusal.Refusal.{Refusal}
-use Rattle.cspf_db.specs.Numbered.{NumberedChanges}
-use Rattle.cspf_db.specs.Changes.{AreLawful, database_after}
-use Rattle.cspf_db.specs.Refusals.{IsRefusal}
+use Rattle.cspf_model.specs.declared.refusal.Refusal.{Refusal}
+use Rattle.cspf_model.specs.Numbered.{NumberedChanges}
+use Rattle.cspf_model.specs.Changes.{AreLawful, database_after}
+use Rattle.cspf_model.specs.Refusals.{IsRefusal}
 use Rattle.cspf_snapshot.specs.declared.replay_error.ReplayError.{ReplayError}
 use Rattle.cspf_snapshot.specs.declared.replay_error.ReplayError.TheVariants as error
 

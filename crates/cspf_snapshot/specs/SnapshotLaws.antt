@@ -1,7 +1,7 @@
 -- Laws of the batches that make a database.
 use Rattle.std.specs.Prelude.{◌≡◌, List}
-use Rattle.cspf_db.specs.Numbered.{NumberedChanges}
-use Rattle.cspf_db.specs.Database.{Database}
+use Rattle.cspf_model.specs.Numbered.{NumberedChanges}
+use Rattle.cspf_model.specs.Database.{Database}
 use Rattle.cspf_snapshot.specs.Snapshots.{IsSnapshot}
 
 -- a database has one snapshot at most

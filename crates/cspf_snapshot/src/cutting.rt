@@ -1,10 +1,10 @@
 ghost use Rattle.std.specs.Prelude.{◌≡◌, ◌+◌, ◌≤◌, length, IfOk};
-ghost use Rattle.cspf_db.specs.declared.limits.TheConstants.{MOST_LINKS, MOST_MARKS};
-ghost use Rattle.cspf_db.specs.Changes.{changes_of};
+ghost use Rattle.cspf_model.specs.declared.limits.TheConstants.{MOST_LINKS, MOST_MARKS};
+ghost use Rattle.cspf_model.specs.Changes.{changes_of};
 ghost use Rattle.cspf_rows.specs.Journal.{AreNumberedFrom};
 ghost use Rattle.cspf_snapshot.specs.Snapshots.{AreFullButLast};
 
-use cspf_db::{Batch, Change, MOST_CHANGES};
+use cspf_model::{Batch, Change, MOST_CHANGES};
 use std::alloc::{AllocError, Global};
 
 /// Batches of these changes, in order and numbered from 1 on, each of which but the last has

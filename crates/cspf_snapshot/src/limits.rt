@@ -1,6 +1,6 @@
 //! How many batches make a database at most.
 
-use cspf_db::{MOST_CHANGES, MOST_LINKS, MOST_MARKS};
+use cspf_model::{MOST_CHANGES, MOST_LINKS, MOST_MARKS};
 
 /// How many batches a snapshot has at most: there is room in them for a put of each link of a full
 /// database and a change for each of its marks.

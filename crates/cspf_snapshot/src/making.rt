@@ -3,7 +3,8 @@ ghost use Rattle.cspf_snapshot.specs.Snapshots.{IsSnapshot, changes_making};
 
 use crate::cutting::cut_into_batches;
 use cspf_addr::Addr;
-use cspf_db::{Batch, Change, Link, Table, counted_routers};
+use cspf_db::Table;
+use cspf_model::{Batch, Change, Link, counted_routers};
 use std::alloc::{AllocError, Global};
 
 /// The batches that make the database of the table from nothing, numbered from 1 on: a put of each

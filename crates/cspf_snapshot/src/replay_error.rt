@@ -1,7 +1,7 @@
 ghost use Rattle.std.specs.Prelude.{◌≡◌};
 ghost use Rattle.cspf_snapshot.specs.declared.replay_error.ReplayError.TheVariants as replay_error;
 
-use cspf_db::Refusal;
+use cspf_model::Refusal;
 use std::alloc::AllocError;
 use thiserror::Error;
 

@@ -1,9 +1,10 @@
 ghost use Rattle.std.specs.Prelude.{◌≡◌, IfOk, IfErr, OnOk};
-ghost use Rattle.cspf_db.specs.Changes.{AreLawful, database_after};
+ghost use Rattle.cspf_model.specs.Changes.{AreLawful, database_after};
 ghost use Rattle.cspf_snapshot.specs.Replays.{IsReplayError};
 
 use crate::ReplayError;
-use cspf_db::{Batch, Table, absorbing, lawful_batches};
+use cspf_db::Table;
+use cspf_model::{Batch, absorbing, lawful_batches};
 use std::alloc::Global;
 
 /// The table after batches, in order, from an empty one. The first that doesn't fit the database of

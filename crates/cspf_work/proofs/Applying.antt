@@ -3,7 +3,7 @@ use Rattle.std.proofs.Common.{◌≡◌, ℕ, ◌<◌, List, [], ◌∷◌, ◌+
 use Rattle.std.proofs.KnownBytes.{Appends-nil, Appends-trans}
 use Rattle.std.proofs.lemmas.Grind.{flat_map-append}
 use Rattle.std.specs.Io.KnownBytes.{Appends}
-use Rattle.cspf_db.specs.Numbered.{NumberedChanges}
+use Rattle.cspf_model.specs.Numbered.{NumberedChanges}
 use Rattle.cspf_rows.specs.BatchText.{batch_text}
 use Rattle.cspf_publish.specs.PublisherStates.{PublisherState}
 use Rattle.cspf_publish.specs.ApplyErrors.{IsApplyError}

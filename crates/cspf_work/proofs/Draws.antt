@@ -7,7 +7,7 @@ use Rattle.std.proofs.lemmas.Bool.Decides.{nat_tests}
 use Rattle.std.proofs.lemmas.List.{get_or_append_left}
 use Rattle.std.proofs.lemmas.List.Elements.{All-nil, All-cons, All-head, All-tail, All-map}
 use Rattle.std.proofs.lemmas.List.Sums.{sum_by-cons}
-use Rattle.cspf_db.specs.declared.request.Request.{Request}
+use Rattle.cspf_model.specs.declared.request.Request.{Request}
 use Rattle.cspf_draw.specs.DrawnNumbers.{CounterId, DrawnNumbers}
 use Rattle.cspf_draw.specs.EachOnce.{HoldsEachOnce, once_below, times}
 use Rattle.cspf_publish.specs.KnownBatches.{KnownBatches}

@@ -1,7 +1,7 @@
 -- What batches leave that are applied in order, up to the first that is refused.
 use Rattle.std.specs.Prelude.{◌≡◌, ℕ, ◌<◌, ◌≤◌, ◌⊎◌, List, ◌++◌, length, take, Option, Some, None, slice_get, flat_map, All, false}
 use Rattle.std.specs.Io.KnownBytes.{Appends}
-use Rattle.cspf_db.specs.Numbered.{NumberedChanges}
+use Rattle.cspf_model.specs.Numbered.{NumberedChanges}
 use Rattle.cspf_rows.specs.BatchText.{batch_text}
 use Rattle.cspf_publish.specs.ApplyErrors.{IsApplyError}
 use Rattle.cspf_publish.specs.Histories.{BeginsWith}

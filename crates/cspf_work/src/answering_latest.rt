@@ -6,7 +6,7 @@ ghost use Rattle.cspf_work.specs.Served.{AreAnsweredByWorkers, AreAnswersAfter, 
 use crate::askers::tell_each;
 use crate::strays::first_stray;
 use crate::{Answers, Gate, MOST_REQUESTS, ServeError, answer_all};
-use cspf_db::Request;
+use cspf_model::Request;
 use cspf_publish::{Asker, MOST_ASKERS, Publisher};
 use std::alloc::Global;
 use std::io::Write;

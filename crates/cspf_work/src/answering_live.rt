@@ -15,7 +15,7 @@ use crate::pool::run_all;
 use crate::strays::first_stray;
 use crate::worker::{Results, Worker};
 use crate::{Gate, Live, MOST_REQUESTS, ServeError};
-use cspf_db::{Batch, Request};
+use cspf_model::{Batch, Request};
 use cspf_draw::{Counter, LastSeat};
 use cspf_publish::{ApplyError, Asker, MOST_ASKERS, Publisher};
 use std::alloc::Global;

@@ -8,7 +8,7 @@ use crate::Gate;
 use crate::crew::{Crew, dismiss};
 use crate::serving::serve;
 use crate::worker::{Results, Worker};
-use cspf_db::Request;
+use cspf_model::Request;
 use cspf_draw::LastSeat;
 use std::alloc::Global;
 use std::thread;

@@ -5,7 +5,7 @@ ghost use Rattle.cspf_work.specs.Working.{HasDone, HasDrawnAll, IsIdle, indexes}
 
 use crate::worker::{Reply, Worker};
 use crate::{Gate, ServeError};
-use cspf_db::Request;
+use cspf_model::Request;
 use std::alloc::Global;
 
 /// Asks one request, and keeps its answer.

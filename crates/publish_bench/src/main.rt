@@ -13,7 +13,8 @@
 mod published;
 mod workers;
 
-use cspf_db::{Batch, Request, Table};
+use cspf_db::Table;
+use cspf_model::{Batch, Request};
 use cspf_rows::{read_journal, read_requests};
 use cspf_search::best;
 use published::{time_askers, time_batches};

@@ -1,4 +1,4 @@
-use cspf_db::{Batch, Request};
+use cspf_model::{Batch, Request};
 use cspf_publish::{Asker, Publisher, open};
 use std::alloc::Global;
 use std::io::{ErrorKind, Write};

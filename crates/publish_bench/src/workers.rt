@@ -1,7 +1,7 @@
 ghost use Rattle.std.specs.Prelude.{◌<◌};
 
 use crate::published::{Nothing, apply_all};
-use cspf_db::{Batch, Request};
+use cspf_model::{Batch, Request};
 use cspf_publish::{Asker, MOST_ASKERS, open};
 use cspf_work::{MOST_REQUESTS, NoGate, answer_all};
 use std::alloc::{AllocError, Global};

@@ -8,9 +8,10 @@
 //! `bench/run` makes the files and reads the lines.
 #![tactic(auto)]
 
-use cspf_db::{Batch, Request, Table};
+use cspf_db::Table;
+use cspf_model::{Batch, Outcome, Request};
 use cspf_rows::{read_journal, read_requests};
-use cspf_search::{Outcome, best, best_by_rounds};
+use cspf_search::{best, best_by_rounds};
 use std::alloc::{AllocError, Global};
 use std::fs::File;
 use std::io::ErrorKind;

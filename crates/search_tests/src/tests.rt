@@ -2,8 +2,9 @@ mod marks;
 mod strict;
 
 use cspf_addr::{Addr, Mask, parse_hops};
-use cspf_db::{Batch, Change, Link, Request, Table};
-use cspf_search::{Outcome, best, best_by_rounds};
+use cspf_db::Table;
+use cspf_model::{Batch, Change, Link, Outcome, Request};
+use cspf_search::{best, best_by_rounds};
 use std::alloc::{AllocError, Global};
 use std::test::Fail;
 

@@ -1,5 +1,5 @@
 use cspf_audit::{Audit, AuditError, AuditFault, audit};
-use cspf_db::Refusal;
+use cspf_model::Refusal;
 use cspf_rows::{RequestsError, RowError};
 use std::alloc::Global;
 use std::test::Fail;

@@ -1,6 +1,6 @@
 use super::{link_batch, served};
 use cspf_client::ClientError;
-use cspf_db::Batch;
+use cspf_model::Batch;
 use cspf_stream::StreamError;
 use std::alloc::Global;
 use std::process::Abort;

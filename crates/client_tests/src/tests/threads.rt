@@ -4,7 +4,7 @@ ghost use Rattle.cspf_client.specs.ServingStates.{IsReady};
 
 use super::{Narrow, link_batch, opened};
 use cspf_client::{Client, ServedClient, ServingClient, Teller};
-use cspf_db::Batch;
+use cspf_model::Batch;
 use cspf_publish::Publisher;
 use std::alloc::Global;
 use std::process::Abort;

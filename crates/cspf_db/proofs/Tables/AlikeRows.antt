@@ -7,16 +7,17 @@ use Rattle.std.specs.FinSet as set
 use Rattle.std.proofs.lemmas.List.{length-append, length-map, drop-map, get_or-map, map-set, set-get_or, take-map, append-nil}
 use Rattle.std.proofs.lemmas.List.Edits.{split_between, length-between, get_or-between}
 use Rattle.std.proofs.lemmas.List.Elements.{All-head, All-tail, Contains-get_or, filter-append, filter_passes}
-use Rattle.cspf_db.specs.declared.link.Link.{Link}
+use Rattle.cspf_model.specs.declared.link.Link.{Link}
 use Rattle.cspf_db.specs.declared.table.router_rows.Span.{Span}
-use Rattle.cspf_db.specs.declared.batch.Change.{Change}
-use Rattle.cspf_db.specs.declared.batch.Change.TheVariants.{Put, Remove, Node}
-use Rattle.cspf_db.specs.Database.{Key, key_of, IsReverse}
+use Rattle.cspf_model.specs.declared.batch.Change.{Change}
+use Rattle.cspf_model.specs.declared.batch.Change.TheVariants.{Put, Remove, Node}
+use Rattle.cspf_model.specs.Database.{Key, key_of, IsReverse}
 use Rattle.cspf_db.specs.Index.{router_list}
 use Rattle.cspf_db.specs.Tables.AlikeChanges.{interfaces_of, IsAlike, RunAlike}
-use Rattle.cspf_db.specs.Tables.CountedEnds.{AnyEndsAt}
-use Rattle.cspf_db.specs.Tables.MarkChanges.{all_marked}
-use Rattle.cspf_db.specs.Tables.Rows.{database_of, AreByKey, AreEndsOf, AreRising, AreSpansOf, HasSameEnds, IsEndColumn, IsSpanOf}
+use Rattle.cspf_model.specs.Lemmas.CountedEnds.{AnyEndsAt}
+use Rattle.cspf_model.specs.Lemmas.MarkChanges.{all_marked}
+use Rattle.cspf_model.specs.Lemmas.LinkRows.{database_of, AreByKey}
+use Rattle.cspf_db.specs.Tables.Rows.{AreEndsOf, AreRising, AreSpansOf, HasSameEnds, IsEndColumn, IsSpanOf}
 use Rattle.cspf_db.specs.Tables.Reverses.{AreReversesBut, no_key}
 use Rattle.cspf_db.proofs.Tables.PairedRows.{paired, column_of}
 use Rattle.cspf_db.proofs.Tables.RouterColumn.{column_table, router_list-column}

@@ -6,16 +6,16 @@ use Rattle.std.specs.FinSet as set
 use Rattle.std.specs.Ordering.{nat_cmp, eq_by_cmp}
 use Rattle.std.proofs.lemmas.List.{get_or-map, take_more}
 use Rattle.std.proofs.lemmas.List.Elements.{All-contains, All-weaker, filter_map-append}
-use Rattle.cspf_db.specs.declared.link.Link.{Link}
-use Rattle.cspf_db.specs.declared.batch.Change.{Change}
-use Rattle.cspf_db.specs.declared.batch.Change.TheVariants.{Put, Remove, Node}
-use Rattle.cspf_db.specs.Changes.{link_left}
-use Rattle.cspf_db.specs.Database.{ends_of}
-use Rattle.cspf_db.specs.Tables.CountedEnds.{with_ends, BringsAtMost, BringsBeside}
-use Rattle.cspf_db.specs.Tables.GoneRouters.{is_at, puts_at}
+use Rattle.cspf_model.specs.declared.link.Link.{Link}
+use Rattle.cspf_model.specs.declared.batch.Change.{Change}
+use Rattle.cspf_model.specs.declared.batch.Change.TheVariants.{Put, Remove, Node}
+use Rattle.cspf_model.specs.Changes.{link_left}
+use Rattle.cspf_model.specs.Database.{ends_of}
+use Rattle.cspf_model.specs.Lemmas.CountedEnds.{with_ends, BringsAtMost, BringsBeside}
+use Rattle.cspf_model.specs.Lemmas.GoneRouters.{is_at, puts_at}
 use Rattle.cspf_db.specs.Tables.Rows.{AreEndsOf, AreRising}
-use Rattle.cspf_db.specs.Tables.RowsLeft.{is_untouched, rows_left, links_put}
-use Rattle.cspf_db.proofs.Databases.EndCounts.{any-ends_of, contains-with_ends, one_end, or_right, with_ends-append}
+use Rattle.cspf_model.specs.Lemmas.RowsLeft.{is_untouched, rows_left, links_put}
+use Rattle.cspf_model.proofs.Databases.EndCounts.{any-ends_of, contains-with_ends, one_end, or_right, with_ends-append}
 use Rattle.cspf_db.proofs.Tables.EndColumn.{length-ends}
 use Rattle.cspf_db.proofs.Tables.RouterPlaces.{one_place}
 

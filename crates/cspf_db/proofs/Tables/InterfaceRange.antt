@@ -13,14 +13,14 @@ use Rattle.std.proofs.lemmas.List.Elements.{Contains-get_or, filter_passes}
 use Rattle.std.proofs.lemmas.List.Kept.{AllPairs-filter}
 use Rattle.cspf_addr.specs.PrefixParts.{PrefixParts}
 use Rattle.cspf_addr.specs.Prefixes.{Covers}
-use Rattle.cspf_db.specs.declared.link.Link.{Link}
-use Rattle.cspf_db.specs.Database.{Database, Key, key_of, key_cmp, AreLinksOf, AreAtTheirKeys, IsRouterOf}
+use Rattle.cspf_model.specs.declared.link.Link.{Link}
+use Rattle.cspf_model.specs.Database.{Database, Key, key_of, key_cmp, AreLinksOf, AreAtTheirKeys, IsRouterOf}
 use Rattle.cspf_db.specs.Index.{links_of, links_from, router_list}
-use Rattle.cspf_db.specs.Tables.Rows.{entry_of, database_of, marked_database, AreByKey}
-use Rattle.cspf_db.specs.Targets.{Owns}
-use Rattle.cspf_db.proofs.Databases.Keys.{keys_total}
+use Rattle.cspf_model.specs.Lemmas.LinkRows.{entry_of, database_of, marked_database, AreByKey}
+use Rattle.cspf_model.specs.Targets.{Owns}
+use Rattle.cspf_model.proofs.Databases.Keys.{keys_total}
 use Rattle.cspf_db.proofs.Tables.SortedEntries.{test_from_true, rises}
-use Rattle.cspf_db.proofs.Databases.LinksOfRows.{rows_listed, rows_keyed}
+use Rattle.cspf_model.proofs.Databases.LinksOfRows.{rows_listed, rows_keyed}
 use Rattle.cspf_db.proofs.Tables.RowOrder.{own_keys, links_of-database_of}
 use Rattle.cspf_db.proofs.Tables.OwnedPrefixes.{tells_link, owned_by_link}
 use Rattle.cspf_db.proofs.Tables.RouterLists.{Contains-router_list, routers_marked}

@@ -8,20 +8,20 @@ use Rattle.std.specs.List.{HoldsAt, AllWithin, between, insert, remove as withou
 use Rattle.std.specs.FinMap.{entries}
 use Rattle.std.proofs.lemmas.Bool.Decides.{nat_tests}
 use Rattle.std.proofs.lemmas.List.{take-append-drop, drop-drop, drop_more, set_at, take_at, drop_at, get_or_at, get_or_append_left, get_or-append_right, get_or-drop, get_or_default, length_push}
-use Rattle.cspf_db.specs.declared.link.Link.{Link}
+use Rattle.cspf_model.specs.declared.link.Link.{Link}
 use Rattle.std.proofs.lemmas.List.Edits.{length-between, get_or-between}
-use Rattle.cspf_db.specs.declared.batch.Change.{Change}
-use Rattle.cspf_db.specs.declared.batch.Change.TheVariants.{Put, Remove, Node}
-use Rattle.cspf_db.specs.Database.{Key, key_of, key_cmp}
-use Rattle.cspf_db.specs.Changes.{ChangeKey, change_key_cmp, link_key, mark_key, key_changed}
-use Rattle.cspf_db.specs.Tables.LinkChanges.{relinked}
+use Rattle.cspf_model.specs.declared.batch.Change.{Change}
+use Rattle.cspf_model.specs.declared.batch.Change.TheVariants.{Put, Remove, Node}
+use Rattle.cspf_model.specs.Database.{Key, key_of, key_cmp}
+use Rattle.cspf_model.specs.Changes.{ChangeKey, change_key_cmp, link_key, mark_key, key_changed}
+use Rattle.cspf_model.specs.Lemmas.LinkChanges.{relinked}
 use Rattle.cspf_db.specs.Tables.MergeSteps.{EndsBelow}
-use Rattle.cspf_db.specs.Tables.RowsLeft.{links_put}
-use Rattle.cspf_db.specs.Tables.Rows.{entry_of, database_of, AreByKey}
-use Rattle.cspf_db.proofs.Databases.Keys.{keys_total, key_itself, change_keys_total, link_keys_same, link_not_mark}
-use Rattle.cspf_db.proofs.Databases.FoundLinks.{link_at-no_row}
+use Rattle.cspf_model.specs.Lemmas.RowsLeft.{links_put}
+use Rattle.cspf_model.specs.Lemmas.LinkRows.{entry_of, database_of, AreByKey}
+use Rattle.cspf_model.proofs.Databases.Keys.{keys_total, key_itself, change_keys_total, link_keys_same, link_not_mark}
+use Rattle.cspf_model.proofs.Databases.FoundLinks.{link_at-no_row}
 use Rattle.cspf_db.proofs.Tables.SortedEntries.{turned_greater, turned_less, test_from_true, rises}
-use Rattle.cspf_db.proofs.Databases.OneChange.{database-without, relinked-absent}
+use Rattle.cspf_model.proofs.Databases.OneChange.{database-without, relinked-absent}
 use Rattle.cspf_db.proofs.Tables.RowOrder.{own_keys, entries-hit, entries-gap, by_key-entries, database_of-entries, by_key-without}
 
 -- rows that are copied stand before the others still

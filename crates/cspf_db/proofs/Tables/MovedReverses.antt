@@ -5,10 +5,11 @@ use Rattle.std.specs.List.{HoldsAt, insert, remove as without}
 use Rattle.std.proofs.lemmas.Bool.{cases_eq, cases_lt, eq-eqb, ne_eqb, le-leb, lt-leb}
 use Rattle.std.proofs.lemmas.List.{length-set, length-map, get_or-set_same, get_or-set_other, get_or-map, take_at}
 use Rattle.std.proofs.lemmas.List.Edits.{length-insert, length-remove, get_or-insert_below, get_or-insert_at, get_or-insert_above, get_or-remove_below, get_or-remove_above}
-use Rattle.cspf_db.specs.declared.link.Link.{Link}
-use Rattle.cspf_db.specs.declared.limits.TheConstants.{MOST_LINKS, NO_LINK}
-use Rattle.cspf_db.specs.Database.{Key, key_of}
-use Rattle.cspf_db.specs.Tables.Rows.{AreByKey}
+use Rattle.cspf_model.specs.declared.link.Link.{Link}
+use Rattle.cspf_model.specs.declared.limits.TheConstants.{MOST_LINKS}
+use Rattle.cspf_db.specs.declared.limits.TheConstants.{NO_LINK}
+use Rattle.cspf_model.specs.Database.{Key, key_of}
+use Rattle.cspf_model.specs.Lemmas.LinkRows.{AreByKey}
 use Rattle.cspf_db.specs.Tables.Reverses.{AreReversesBut, no_key, same_key, index_behind, index_before}
 use Rattle.cspf_db.proofs.Tables.PairedRows.{IsPair, here, paired, column_of, open_pair, taken_in_unmet}
 

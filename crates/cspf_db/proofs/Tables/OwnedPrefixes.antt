@@ -5,9 +5,9 @@ use Rattle.std.proofs.lemmas.Bool.Decides.{nat_tests}
 use Rattle.std.proofs.lemmas.List.Elements.{All-filter, All-contains, All-contains_itself, filter_passes}
 use Rattle.cspf_addr.specs.PrefixParts.{PrefixParts}
 use Rattle.cspf_addr.specs.Prefixes.{Covers}
-use Rattle.cspf_db.specs.declared.link.Link.{Link}
-use Rattle.cspf_db.specs.Database.{Database, AreLinksOf, IsLinkOf, IsRouterOf}
-use Rattle.cspf_db.specs.Targets.{BeginsWithin, Owns}
+use Rattle.cspf_model.specs.declared.link.Link.{Link}
+use Rattle.cspf_model.specs.Database.{Database, AreLinksOf, IsLinkOf, IsRouterOf}
+use Rattle.cspf_model.specs.Targets.{BeginsWithin, Owns}
 
 -- what passes is kept
 pub Contains-filter : {A : Type 0} (p : A → Bool) (xs : List A) (x : A) → Contains xs x → p x ≡ true → Contains (filter p xs) x

@@ -5,10 +5,10 @@ use Rattle.std.proofs.lemmas.Bool.{cases_lt}
 use Rattle.std.proofs.lemmas.List.{length-append, get_or_at, get_or_append_left}
 use Rattle.std.proofs.lemmas.List.Elements.{All-nil, All-append, Contains-append_left, Contains-append_right, Contains-append_cases, All-contains}
 use Rattle.cspf_addr.specs.PrefixParts.{PrefixParts}
-use Rattle.cspf_db.specs.Database.{Database}
+use Rattle.cspf_model.specs.Database.{Database}
 use Rattle.cspf_db.specs.Index.{router_list}
 use Rattle.cspf_db.specs.Owners.{AreOwners}
-use Rattle.cspf_db.specs.Targets.{Owns}
+use Rattle.cspf_model.specs.Targets.{Owns}
 
 -- so far as the routers before an index go
 pub record AreOwnersBelow (d : Database) (prefix : PrefixParts) (n : ℕ) (places : List ℕ) : Type 0 where

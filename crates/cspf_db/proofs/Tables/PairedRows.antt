@@ -3,10 +3,10 @@ use Rattle.std.proofs.Common.{◌≡◌, ◌≢◌, ℕ, ◌<◌, ◌⊎◌, Lis
 use Rattle.std.specs.List.{HoldsAt}
 use Rattle.std.proofs.lemmas.Bool.{cases_eq}
 use Rattle.std.proofs.lemmas.List.{get_or_default, length-set, get_or-set_same, get_or-set_other}
-use Rattle.cspf_db.specs.declared.link.Link.{Link}
+use Rattle.cspf_model.specs.declared.link.Link.{Link}
 use Rattle.cspf_db.specs.declared.limits.TheConstants.{NO_LINK}
-use Rattle.cspf_db.specs.Database.{Key, key_of, IsReverse}
-use Rattle.cspf_db.specs.Tables.Rows.{AreByKey}
+use Rattle.cspf_model.specs.Database.{Key, key_of, IsReverse}
+use Rattle.cspf_model.specs.Lemmas.LinkRows.{AreByKey}
 use Rattle.cspf_db.specs.Tables.Reverses.{IsIndexOfReverse, AreReversesBut, no_key, same_key}
 use Rattle.cspf_db.proofs.Tables.RowOrder.{one_index}
 use Rattle.cspf_db.proofs.Tables.ReverseColumn.{neither}

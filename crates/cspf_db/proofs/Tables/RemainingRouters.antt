@@ -7,19 +7,20 @@ use Rattle.std.proofs.lemmas.Bool.Decides.{nat_tests}
 use Rattle.std.proofs.lemmas.List.{get_or_default}
 use Rattle.std.proofs.lemmas.List.Elements.{All-head, All-tail, All-map, All-contains, filter_passes}
 use Rattle.std.proofs.lemmas.List.Folds.{Any-from_list_any, list_any_at}
-use Rattle.cspf_db.specs.declared.link.Link.{Link}
-use Rattle.cspf_db.specs.declared.batch.Change.{Change}
-use Rattle.cspf_db.specs.declared.batch.Change.TheVariants.{Put, Remove, Node}
-use Rattle.cspf_db.specs.Database.{Database, Key, key_of, link_at, EndsAt}
+use Rattle.cspf_model.specs.declared.link.Link.{Link}
+use Rattle.cspf_model.specs.declared.batch.Change.{Change}
+use Rattle.cspf_model.specs.declared.batch.Change.TheVariants.{Put, Remove, Node}
+use Rattle.cspf_model.specs.Database.{Database, Key, key_of, link_at, EndsAt}
 use Rattle.std.specs.Ordering.{eq_by_cmp}
 use Rattle.cspf_db.specs.Index.{with_nothing, router_list}
-use Rattle.cspf_db.specs.Changes.{change_key_cmp, link_key, key_changed, link_left}
-use Rattle.cspf_db.specs.Tables.LinkChanges.{relinked, all_relinked}
-use Rattle.cspf_db.specs.Tables.CountedEnds.{AnyEndsAt, HasListedEnds, any_from, any_to, is_end_of}
-use Rattle.cspf_db.specs.Tables.Rows.{database_of, AreRising, AreByKey, IsEndColumn, ArePlacesIn}
+use Rattle.cspf_model.specs.Changes.{change_key_cmp, link_key, key_changed, link_left}
+use Rattle.cspf_model.specs.Lemmas.LinkChanges.{relinked, all_relinked}
+use Rattle.cspf_model.specs.Lemmas.CountedEnds.{AnyEndsAt, HasListedEnds, any_from, any_to, is_end_of}
+use Rattle.cspf_model.specs.Lemmas.LinkRows.{database_of, AreByKey}
+use Rattle.cspf_db.specs.Tables.Rows.{AreRising, IsEndColumn, ArePlacesIn}
 use Rattle.cspf_db.proofs.Tables.SortedEntries.{both, both_first, both_second, test_from_true, true_from_test}
-use Rattle.cspf_db.proofs.Databases.LinksOfRows.{link_at-database_of, row-find, rows_listed}
-use Rattle.cspf_db.proofs.Databases.ChangedRows.{link_at-relinked}
+use Rattle.cspf_model.proofs.Databases.LinksOfRows.{link_at-database_of, row-find, rows_listed}
+use Rattle.cspf_model.proofs.Databases.ChangedRows.{link_at-relinked}
 use Rattle.cspf_db.proofs.Tables.RowOrder.{own_keys}
 use Rattle.cspf_db.proofs.Tables.RouterColumn.{to_router, router_list-column}
 use Rattle.cspf_db.proofs.Tables.RouterPlaces.{moved_ends}

@@ -3,15 +3,15 @@ use Rattle.std.proofs.Common.{◌≡◌, ℕ, ◌+◌, ◌-◌, ◌<◌, ◌≤�
 use Rattle.std.specs.FinMap as finite
 use Rattle.std.proofs.lemmas.List.{drop_more}
 use Rattle.std.proofs.lemmas.List.Sorted.{IsPermutation-filter_both}
-use Rattle.cspf_db.specs.declared.link.Link.{Link}
-use Rattle.cspf_db.specs.declared.batch.Change.{Change}
-use Rattle.cspf_db.specs.declared.batch.Change.TheVariants.{Put, Remove, Node}
-use Rattle.cspf_db.specs.Database.{Database, key_of, link_count}
-use Rattle.cspf_db.specs.Tables.LinkChanges.{relinked, all_relinked}
-use Rattle.cspf_db.specs.Refusals.{AreOnceEach}
-use Rattle.cspf_db.specs.Tables.RowsLeft.{removes_link, puts_link}
-use Rattle.cspf_db.proofs.Databases.Keys.{keys_total}
-use Rattle.cspf_db.proofs.Databases.ChangedRows.{all_relinked-append, all_relinked-permuted}
+use Rattle.cspf_model.specs.declared.link.Link.{Link}
+use Rattle.cspf_model.specs.declared.batch.Change.{Change}
+use Rattle.cspf_model.specs.declared.batch.Change.TheVariants.{Put, Remove, Node}
+use Rattle.cspf_model.specs.Database.{Database, key_of, link_count}
+use Rattle.cspf_model.specs.Lemmas.LinkChanges.{relinked, all_relinked}
+use Rattle.cspf_model.specs.Refusals.{AreOnceEach}
+use Rattle.cspf_model.specs.Lemmas.RowsLeft.{removes_link, puts_link}
+use Rattle.cspf_model.proofs.Databases.Keys.{keys_total}
+use Rattle.cspf_model.proofs.Databases.ChangedRows.{all_relinked-append, all_relinked-permuted}
 
 -- a removal leaves no more links
 pub removal_count : (d : Database) (c : Change) → removes_link c ≡ true → link_count (relinked d c) ≤ link_count d

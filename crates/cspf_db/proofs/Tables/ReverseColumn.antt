@@ -4,15 +4,16 @@ use Rattle.std.specs.List.{HoldsAt, between}
 use Rattle.std.proofs.lemmas.Bool.{cases_lt, eqb-true, eqb-false, eq-eqb}
 use Rattle.std.proofs.lemmas.List.{get_or_append_left, get_or_at, get_or_default, get_or-map}
 use Rattle.std.proofs.lemmas.List.Edits.{length-between, get_or-between}
-use Rattle.cspf_db.specs.declared.link.Link.{Link}
+use Rattle.cspf_model.specs.declared.link.Link.{Link}
 use Rattle.cspf_db.specs.declared.table.router_rows.Span.{Span}
 use Rattle.cspf_db.specs.declared.limits.TheConstants.{NO_LINK}
-use Rattle.cspf_db.specs.Database.{Database, Key, key_of, IsLinkOf, IsReverse, HasReverse}
+use Rattle.cspf_model.specs.Database.{Database, Key, key_of, IsLinkOf, IsReverse, HasReverse}
 use Rattle.cspf_db.specs.Index.{links_of, links_from_index, router_list, IsReverseAt}
-use Rattle.cspf_db.specs.Tables.Rows.{marked_database, AreByKey, AreEndsOf, AreSpansAtEnds, AreSpansOf, IsSpanOf, IsTable}
+use Rattle.cspf_model.specs.Lemmas.LinkRows.{marked_database, AreByKey}
+use Rattle.cspf_db.specs.Tables.Rows.{AreEndsOf, AreSpansAtEnds, AreSpansOf, IsSpanOf, IsTable}
 use Rattle.cspf_db.specs.declared.table.Table.TheInside.{Inside}
 use Rattle.cspf_db.specs.Tables.Reverses.{IsIndexOfReverse, AreReversesBut, no_key}
-use Rattle.cspf_db.proofs.Databases.LinksOfRows.{rows_listed}
+use Rattle.cspf_model.proofs.Databases.LinksOfRows.{rows_listed}
 use Rattle.cspf_db.proofs.Tables.EndColumn.{length-ends}
 use Rattle.cspf_db.proofs.Tables.RouterLists.{span_at, span_within}
 use Rattle.cspf_db.proofs.Tables.RowOrder.{one_index, own_keys, links_of-database_of}

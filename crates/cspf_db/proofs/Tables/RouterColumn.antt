@@ -10,16 +10,17 @@ use Rattle.std.proofs.lemmas.List.{get_or-map}
 use Rattle.std.proofs.lemmas.List.Elements.{All-contains, Contains-get_or}
 use Rattle.std.proofs.lemmas.List.Folds.{Any-from_list_any}
 use Rattle.std.proofs.lemmas.Map.Views.{list_any-from_Contains, Contains-from_any}
-use Rattle.cspf_db.specs.declared.link.Link.{Link}
-use Rattle.cspf_db.specs.Database.{EndsAt, ends_of}
+use Rattle.cspf_model.specs.declared.link.Link.{Link}
+use Rattle.cspf_model.specs.Database.{EndsAt, ends_of}
 use Rattle.cspf_db.specs.Index.{with_nothing, numbers_in, router_list}
-use Rattle.cspf_db.specs.Tables.CountedEnds.{AnyEndsAt}
-use Rattle.cspf_db.specs.Tables.Rows.{database_of, AreRising, AreByKey, AreEndsOf, IsEndColumn}
+use Rattle.cspf_model.specs.Lemmas.CountedEnds.{AnyEndsAt}
+use Rattle.cspf_model.specs.Lemmas.LinkRows.{database_of, AreByKey}
+use Rattle.cspf_db.specs.Tables.Rows.{AreRising, AreEndsOf, IsEndColumn}
 use Rattle.cspf_db.proofs.Tables.SortedEntries.{test_from_true, entries-from_entries}
 use Rattle.cspf_db.proofs.Tables.RowOrder.{own_keys}
-use Rattle.cspf_db.proofs.Databases.LinksOfRows.{rows_listed, rows_keyed}
-use Rattle.cspf_db.proofs.Databases.EndCounts.{any-ends_of, known_end}
-use Rattle.cspf_db.proofs.Databases.CountedRouters.{end_at}
+use Rattle.cspf_model.proofs.Databases.LinksOfRows.{rows_listed, rows_keyed}
+use Rattle.cspf_model.proofs.Databases.EndCounts.{any-ends_of, known_end}
+use Rattle.cspf_model.proofs.Databases.CountedRouters.{end_at}
 use Rattle.cspf_db.proofs.Tables.RouterLists.{contains_key-numbers_in, router_list-entries, Contains-router_list}
 use Rattle.cspf_db.proofs.Tables.EndColumn.{length-ends}
 

@@ -14,17 +14,18 @@ use Rattle.std.proofs.lemmas.List.{get_or_default, length-map, take-map, drop-ma
 use Rattle.std.proofs.lemmas.List.Elements.{Contains-get_or}
 use Rattle.std.proofs.lemmas.Map.Views.{list_any-from_Contains, Contains-from_any}
 use Rattle.std.proofs.lemmas.Bool.Decides.{nat_tests}
-use Rattle.cspf_db.specs.declared.link.Link.{Link}
+use Rattle.cspf_model.specs.declared.link.Link.{Link}
 use Rattle.cspf_db.specs.declared.table.router_rows.Span.{Span}
-use Rattle.cspf_db.specs.Tables.CountedEnds.{AnyEndsAt}
-use Rattle.cspf_db.specs.Database.{Database, IsRouterOf, EndsAt, AreAtTheirKeys, ends_of, all_routers, router_count}
+use Rattle.cspf_model.specs.Lemmas.CountedEnds.{AnyEndsAt}
+use Rattle.cspf_model.specs.Database.{Database, IsRouterOf, EndsAt, AreAtTheirKeys, ends_of, all_routers, router_count}
 use Rattle.cspf_db.specs.Index.{with_nothing, numbers_in, links_of, router_list, links_from_index}
-use Rattle.cspf_db.specs.Tables.Rows.{database_of, marked_database, AreRising, AreByKey, AreEndsOf, AreSpansOf, IsSpanOf}
+use Rattle.cspf_model.specs.Lemmas.LinkRows.{database_of, marked_database, AreByKey}
+use Rattle.cspf_db.specs.Tables.Rows.{AreRising, AreEndsOf, AreSpansOf, IsSpanOf}
 use Rattle.cspf_db.proofs.Tables.SortedEntries.{test_from_true, true_from_test, put-gap, rises, searchable, gap_from}
 use Rattle.cspf_db.proofs.Tables.RowOrder.{links_of-database_of, own_keys}
-use Rattle.cspf_db.proofs.Databases.LinksOfRows.{rows_listed, rows_keyed}
-use Rattle.cspf_db.proofs.Databases.CountedRouters.{routers_counted}
-use Rattle.cspf_db.proofs.Databases.EndCounts.{any-ends_of, known_end}
+use Rattle.cspf_model.proofs.Databases.LinksOfRows.{rows_listed, rows_keyed}
+use Rattle.cspf_model.proofs.Databases.CountedRouters.{routers_counted}
+use Rattle.cspf_model.proofs.Databases.EndCounts.{any-ends_of, known_end}
 
 -- where a search for a router finds none
 pub router_gap : (routers : List ℕ) (router : ℕ) (r : Result ℕ ℕ) → AreRising routers → IsBinarySearchResult (λ y. nat_cmp y router) routers r

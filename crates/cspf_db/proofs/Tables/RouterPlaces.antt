@@ -7,10 +7,10 @@ use Rattle.std.proofs.lemmas.Bool.Decides.{nat_tests}
 use Rattle.std.proofs.lemmas.List.{take-append-drop, length-map, length-take, drop_more, get_or_at, set_at, map_more}
 use Rattle.std.proofs.lemmas.List.Edits.{length-between}
 use Rattle.std.proofs.lemmas.List.Elements.{All-nil, All-cons, All-head, All-tail, All-map, All-weaker, All-contains, Contains-append_cases, Contains-append_left, Contains-append_right, Contains-get_or, filter_passes}
-use Rattle.cspf_db.specs.declared.link.Link.{Link}
-use Rattle.cspf_db.specs.declared.batch.Change.{Change}
-use Rattle.cspf_db.specs.declared.batch.Change.TheVariants.{Put, Remove, Node}
-use Rattle.cspf_db.specs.Tables.CountedEnds.{HasListedEnds, any_to}
+use Rattle.cspf_model.specs.declared.link.Link.{Link}
+use Rattle.cspf_model.specs.declared.batch.Change.{Change}
+use Rattle.cspf_model.specs.declared.batch.Change.TheVariants.{Put, Remove, Node}
+use Rattle.cspf_model.specs.Lemmas.CountedEnds.{HasListedEnds, any_to}
 use Rattle.cspf_db.specs.Index.{with_nothing}
 use Rattle.cspf_db.specs.Tables.Rows.{AreRising, AreEndsOf, IsEndColumn, IsPlaceOf, ArePlacesIn}
 use Rattle.cspf_db.proofs.Tables.SortedEntries.{test_from_true, rises}

@@ -11,13 +11,13 @@ use Rattle.std.proofs.lemmas.Bool.{cases_lt}
 use Rattle.std.proofs.lemmas.Bool.Decides.{nat_tests}
 use Rattle.std.proofs.lemmas.List.{length-map, get_or-map}
 use Rattle.std.proofs.lemmas.Map.Keys.{apart_from_distinct}
-use Rattle.cspf_db.specs.declared.link.Link.{Link}
-use Rattle.cspf_db.specs.declared.batch.Change.TheVariants.{Put}
-use Rattle.cspf_db.specs.Database.{Database, Key, key_of, key_cmp, HaveOwnKeys}
+use Rattle.cspf_model.specs.declared.link.Link.{Link}
+use Rattle.cspf_model.specs.declared.batch.Change.TheVariants.{Put}
+use Rattle.cspf_model.specs.Database.{Database, Key, key_of, key_cmp, HaveOwnKeys}
 use Rattle.cspf_db.specs.Index.{links_of}
-use Rattle.cspf_db.specs.Tables.LinkChanges.{relinked}
-use Rattle.cspf_db.specs.Tables.Rows.{entry_of, database_of, AreByKey}
-use Rattle.cspf_db.proofs.Databases.Keys.{key_itself, keys_total, keys_antisymmetric}
+use Rattle.cspf_model.specs.Lemmas.LinkChanges.{relinked}
+use Rattle.cspf_model.specs.Lemmas.LinkRows.{entry_of, database_of, AreByKey}
+use Rattle.cspf_model.proofs.Databases.Keys.{key_itself, keys_total, keys_antisymmetric}
 use Rattle.cspf_db.proofs.Tables.SortedEntries.{test_from_true, true_from_test, put-gap, put-hit, sorted_without, sorted_filter, rises, searchable, distinct, gap_from, entries-from_entries, from_entries-entries}
 
 -- rows in order have keys of their own

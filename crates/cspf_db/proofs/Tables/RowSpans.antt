@@ -7,7 +7,7 @@ use Rattle.std.proofs.lemmas.Bool.Decides.{nat_tests}
 use Rattle.std.proofs.lemmas.List.{get_or_read, get_or-take, get_or-drop, length-take, length-drop, append-nil}
 use Rattle.std.proofs.lemmas.List.Edits.{split_between, length-between, get_or-between}
 use Rattle.std.proofs.lemmas.List.Elements.{filter-append, All-tail, All-head}
-use Rattle.cspf_db.specs.declared.link.Link.{Link}
+use Rattle.cspf_model.specs.declared.link.Link.{Link}
 
 -- where nothing passes, nothing is kept
 pub none_kept : (p : Link → Bool) (rows : List Link) → All (λ l. p l ≡ false) rows → filter p rows ≡ []

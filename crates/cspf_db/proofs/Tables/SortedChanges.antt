@@ -8,13 +8,13 @@ use Rattle.std.proofs.lemmas.List.{take_more, map-append, get_or-map, get_or_def
 use Rattle.std.proofs.lemmas.List.Elements.{All-append, All-cons, All-nil}
 use Rattle.std.proofs.lemmas.List.Sorted.{IsPermutation-map}
 use Rattle.std.proofs.lemmas.Map.Keys.{apart_from_distinct}
-use Rattle.cspf_db.specs.declared.batch.Change.{Change}
-use Rattle.cspf_db.specs.declared.batch.Change.TheVariants.{Remove}
-use Rattle.cspf_db.specs.Changes.{ChangeKey, change_key_cmp}
-use Rattle.cspf_db.specs.Changes.{key_changed}
-use Rattle.cspf_db.specs.Refusals.{AreOnceEach}
+use Rattle.cspf_model.specs.declared.batch.Change.{Change}
+use Rattle.cspf_model.specs.declared.batch.Change.TheVariants.{Remove}
+use Rattle.cspf_model.specs.Changes.{ChangeKey, change_key_cmp}
+use Rattle.cspf_model.specs.Changes.{key_changed}
+use Rattle.cspf_model.specs.Refusals.{AreOnceEach}
 use Rattle.cspf_db.specs.Tables.MergeSteps.{AreInOrder, IsPlaceOfChange}
-use Rattle.cspf_db.proofs.Databases.Keys.{change_keys_total}
+use Rattle.cspf_model.proofs.Databases.Keys.{change_keys_total}
 
 -- changes that are read by their indices, which stand beside keys
 module _ (changes : List Change) where

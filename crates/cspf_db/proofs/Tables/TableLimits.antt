@@ -2,12 +2,13 @@
 use Rattle.std.proofs.Common.{◌≡◌, ◌≤◌, ℕ, List, Vec, length, ap, arith}
 use Rattle.std.specs.Vec.{vec_capacity}
 use Rattle.std.specs.declared.alloc.Global.{Global}
-use Rattle.cspf_db.specs.declared.link.Link.{Link}
-use Rattle.cspf_db.specs.declared.batch.Change.{Change}
-use Rattle.cspf_db.specs.Database.{Database, link_count, router_count}
-use Rattle.cspf_db.specs.Tables.LinkChanges.{all_relinked}
-use Rattle.cspf_db.specs.Tables.Rows.{AreRows, AreRowsWithEnds, IsEndColumn, AreByKey, database_of}
-use Rattle.cspf_db.proofs.Databases.EndCounts.{link_count-database_of}
+use Rattle.cspf_model.specs.declared.link.Link.{Link}
+use Rattle.cspf_model.specs.declared.batch.Change.{Change}
+use Rattle.cspf_model.specs.Database.{Database, link_count, router_count}
+use Rattle.cspf_model.specs.Lemmas.LinkChanges.{all_relinked}
+use Rattle.cspf_model.specs.Lemmas.LinkRows.{AreByKey, database_of}
+use Rattle.cspf_db.specs.Tables.Rows.{AreRows, AreRowsWithEnds, IsEndColumn}
+use Rattle.cspf_model.proofs.Databases.EndCounts.{link_count-database_of}
 use Rattle.cspf_db.proofs.Tables.RowOrder.{own_keys}
 
 -- rows stay within their limits where changes that leave few enough are made

@@ -7,10 +7,11 @@ use Rattle.std.proofs.lemmas.Bool.{cases_lt, false≢true}
 use Rattle.std.proofs.lemmas.Bool.Decides.{nat_tests}
 use Rattle.std.proofs.lemmas.List.{get_or_default, get_or_read}
 use Rattle.std.proofs.lemmas.Map.Views.{Contains-from_any}
-use Rattle.cspf_db.specs.declared.link.Link.{Link}
-use Rattle.cspf_db.specs.Database.{Database, HasTransit}
+use Rattle.cspf_model.specs.declared.link.Link.{Link}
+use Rattle.cspf_model.specs.Database.{Database, HasTransit}
 use Rattle.cspf_db.specs.Index.{router_list}
-use Rattle.cspf_db.specs.Tables.Rows.{AreRising, AreTransitsOf, marks_in, marked_database}
+use Rattle.cspf_model.specs.Lemmas.LinkRows.{marks_in, marked_database}
+use Rattle.cspf_db.specs.Tables.Rows.{AreRising, AreTransitsOf}
 use Rattle.cspf_db.proofs.Tables.MarkChanges.{marked_at}
 use Rattle.cspf_db.proofs.Tables.RouterPlaces.{lower}
 

@@ -1,9 +1,9 @@
 -- Private: changes that leave each row between the interfaces that it runs between.
 use Rattle.std.specs.Prelude.{◌≡◌, List, Contains, map}
-use Rattle.cspf_db.specs.declared.link.Link.{Link}
-use Rattle.cspf_db.specs.declared.batch.Change.{Change}
-use Rattle.cspf_db.specs.declared.batch.Change.TheVariants.{Put, Remove, Node}
-use Rattle.cspf_db.specs.Database.{Key, key_of}
+use Rattle.cspf_model.specs.declared.link.Link.{Link}
+use Rattle.cspf_model.specs.declared.batch.Change.{Change}
+use Rattle.cspf_model.specs.declared.batch.Change.TheVariants.{Put, Remove, Node}
+use Rattle.cspf_model.specs.Database.{Key, key_of}
 
 -- where a link runs from, and where to
 abbrev pub interfaces_of : Link → Key × Key

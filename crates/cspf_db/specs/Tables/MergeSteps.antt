@@ -3,12 +3,12 @@ use Rattle.std.specs.Prelude.{◌≡◌, ◌<◌, ◌≤◌, ◌+◌, ◌-◌, �
 use Rattle.std.specs.declared.cmp.Ordering.TheVariants.{Less}
 use Rattle.std.specs.Vec.{vec_capacity}
 use Rattle.std.specs.declared.alloc.Global.{Global}
-use Rattle.cspf_db.specs.declared.link.Link.{Link}
-use Rattle.cspf_db.specs.declared.batch.Change.{Change}
-use Rattle.cspf_db.specs.Database.{key_of}
-use Rattle.cspf_db.specs.Changes.{ChangeKey, change_key_cmp, link_key, key_changed}
-use Rattle.cspf_db.specs.Tables.LinkChanges.{relinked}
-use Rattle.cspf_db.specs.Tables.Rows.{database_of, AreByKey}
+use Rattle.cspf_model.specs.declared.link.Link.{Link}
+use Rattle.cspf_model.specs.declared.batch.Change.{Change}
+use Rattle.cspf_model.specs.Database.{key_of}
+use Rattle.cspf_model.specs.Changes.{ChangeKey, change_key_cmp, link_key, key_changed}
+use Rattle.cspf_model.specs.Lemmas.LinkChanges.{relinked}
+use Rattle.cspf_model.specs.Lemmas.LinkRows.{database_of, AreByKey}
 
 -- The rows below an index are merged: with those from it on they are in order of the key, and there is
 -- capacity for all of those, their ends and one more.

@@ -2,9 +2,9 @@
 use Rattle.std.specs.Prelude.{◌≡◌, ◌≢◌, ◌<◌, ◌≤◌, ◌+◌, ◌-◌, ◌⊎◌, ℕ, cond, nat_eq, nat_le, List, length, slice_index_or, Vec}
 use Rattle.std.specs.Vec.{vec_capacity}
 use Rattle.std.specs.declared.alloc.Global.{Global}
-use Rattle.cspf_db.specs.declared.link.Link.{Link}
+use Rattle.cspf_model.specs.declared.link.Link.{Link}
 use Rattle.cspf_db.specs.declared.limits.TheConstants.{NO_LINK, ROOM_FOR_LINKS}
-use Rattle.cspf_db.specs.Database.{Key, key_of, IsReverse}
+use Rattle.cspf_model.specs.Database.{Key, key_of, IsReverse}
 
 -- A number is the index at which the reverse of a link is among rows, or none is, where links with
 -- keys that are left out have no reverse and are none.

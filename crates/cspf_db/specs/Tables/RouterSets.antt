@@ -5,7 +5,7 @@ use Rattle.std.specs.List.{IsDistinct}
 use Rattle.std.specs.FinSet.{FinSet, from_list}
 use Rattle.cspf_db.specs.declared.table.routers.TheConstants.{SLOTS}
 use Rattle.cspf_db.specs.declared.table.routers.Routers.TheInside.{Inside}
-use Rattle.cspf_db.specs.declared.limits.TheConstants.{MOST_ROUTERS}
+use Rattle.cspf_model.specs.declared.limits.TheConstants.{MOST_ROUTERS}
 
 -- the set of those found so far
 abbrev pub routers_in : Inside → FinSet nat_cmp

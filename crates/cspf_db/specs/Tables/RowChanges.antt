@@ -1,11 +1,11 @@
 -- Private: which changes can be made to rows.
 use Rattle.std.specs.Prelude.{◌≤◌, ℕ, List, All}
-use Rattle.cspf_db.specs.declared.batch.Change.{Change}
-use Rattle.cspf_db.specs.declared.limits.TheConstants.{MOST_LINKS}
-use Rattle.cspf_db.specs.Database.{Database, link_count}
-use Rattle.cspf_db.specs.Tables.LinkChanges.{all_relinked}
-use Rattle.cspf_db.specs.Refusals.{AreOnceEach}
-use Rattle.cspf_db.specs.Tables.CountedEnds.{HasListedEnds}
+use Rattle.cspf_model.specs.declared.batch.Change.{Change}
+use Rattle.cspf_model.specs.declared.limits.TheConstants.{MOST_LINKS}
+use Rattle.cspf_model.specs.Database.{Database, link_count}
+use Rattle.cspf_model.specs.Lemmas.LinkChanges.{all_relinked}
+use Rattle.cspf_model.specs.Refusals.{AreOnceEach}
+use Rattle.cspf_model.specs.Lemmas.CountedEnds.{HasListedEnds}
 
 -- the changes are on keys of their own, put links between listed routers alone, and leave no more
 -- links than a table may have

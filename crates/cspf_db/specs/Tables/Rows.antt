@@ -5,17 +5,14 @@ use Rattle.std.specs.declared.alloc.Global.{Global}
 use Rattle.std.specs.Ordering.{nat_cmp}
 use Rattle.std.specs.FinMap.{from_entries, is_sorted}
 use Rattle.std.specs.FinSet as set
-use Rattle.cspf_db.specs.declared.link.Link.{Link}
+use Rattle.cspf_model.specs.declared.link.Link.{Link}
 use Rattle.cspf_db.specs.declared.table.Table.TheInside.{Inside}
 use Rattle.cspf_db.specs.declared.table.router_rows.Span.{Span}
-use Rattle.cspf_db.specs.Database.{Database, Key, key_of, key_cmp, router_count}
+use Rattle.cspf_model.specs.Database.{Database, Key, key_of, key_cmp, router_count}
 use Rattle.cspf_db.specs.Index.{with_nothing, router_list}
-use Rattle.cspf_db.specs.declared.limits.TheConstants.{MOST_LINKS, MOST_MARKS, MOST_ROUTERS, ROOM_FOR_LINKS, ROOM_FOR_MARKS, ROOM_FOR_ROUTERS}
+use Rattle.cspf_model.specs.declared.limits.TheConstants.{MOST_LINKS, MOST_MARKS, MOST_ROUTERS}
+use Rattle.cspf_db.specs.declared.limits.TheConstants.{ROOM_FOR_LINKS, ROOM_FOR_MARKS, ROOM_FOR_ROUTERS}
 use Rattle.cspf_db.specs.Tables.Reverses.{AreReversesOf}
-
--- a row with its key
-abbrev pub entry_of : Link → Key × Link
-entry_of l = (key_of l, l)
 
 -- both links run between the same interfaces
 pub record HasSameEnds (l m : Link) : Type 0 where
@@ -23,14 +20,6 @@ pub record HasSameEnds (l m : Link) : Type 0 where
   pub local : l.local ≡ m.local
   pub to : l.to ≡ m.to
   pub remote : l.remote ≡ m.remote
-
--- the database that rows make, with no marks
-abbrev pub database_of : List Link → Database
-database_of rows = record { links = from_entries {R = key_cmp} (map entry_of rows); marks = set.empty }
-
--- each row's key is above those before it
-abbrev pub AreByKey : List Link → Type 0
-AreByKey rows = IsTrue (is_sorted key_cmp (map entry_of rows))
 
 -- each router is above those before it
 abbrev pub AreRising : List ℕ → Type 0
@@ -111,10 +100,6 @@ AreSpansAtEnds rows ends spans =
     → (slice_index_or ends at 0 < length spans)
     × ((e : Span) → IsSpanOf rows (slice_index_or rows at d).to (slice_index_or spans (slice_index_or ends at 0) e))
 
--- the set of some addresses
-abbrev pub marks_in : List ℕ → set.FinSet nat_cmp
-marks_in marks = set.from_list marks
-
 -- whether each of the routers has transit, as those have that aren't marked
 pub record AreTransitsOf (routers marks : List ℕ) (transits : List Bool) : Type 0 where
   pub many : length transits ≡ length routers
@@ -127,10 +112,6 @@ pub record AreMarks (marks : Vec ℕ Global) : Type 0 where
   pub rising : AreRising marks.items
   pub most : length marks.items ≤ MOST_MARKS
   pub room : ROOM_FOR_MARKS ≤ vec_capacity marks
-
--- the database of rows and of marks
-abbrev pub marked_database : List Link → List ℕ → Database
-marked_database rows marks = record { links = (database_of rows).links; marks = marks_in marks }
 
 -- the parts of a table, where the rows from each router begin and end, and where the reverse of each
 -- row is, beside the marks, which make no router, and whether each router has transit

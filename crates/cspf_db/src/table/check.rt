@@ -3,24 +3,24 @@ ghost use Rattle.std.specs.Bool.{OnTrue, OnFalse};
 ghost use Rattle.std.specs.List.{IsDistinct};
 ghost use Rattle.std.specs.FinSet as set;
 ghost use Rattle.std.specs.Ordering.{eq_by_cmp, is_lt};
-ghost use Rattle.cspf_db.specs.Database.{key_of, link_count, router_count};
+ghost use Rattle.cspf_model.specs.Database.{key_of, link_count, router_count};
 ghost use Rattle.cspf_db.specs.Index.{router_list};
-ghost use Rattle.cspf_db.specs.Changes.{change_key_cmp, key_changed, link_key, Fits};
+ghost use Rattle.cspf_model.specs.Changes.{change_key_cmp, key_changed, link_key, Fits};
 ghost use Rattle.cspf_db.specs.Tables.AlikeChanges.{IsAlike};
-ghost use Rattle.cspf_db.specs.Tables.LinkChanges.{all_relinked};
-ghost use Rattle.cspf_db.specs.Tables.Rows.{database_of, marked_database, AreByKey, AreEndsOf, AreRising};
-ghost use Rattle.cspf_db.specs.Tables.RepeatedKeys.{is_changed, IsNewAt, IsRepeatedAt};
-ghost use Rattle.cspf_db.specs.Tables.RowsLeft.{is_untouched, rows_left, links_put, adds_link, removes_link};
-ghost use Rattle.cspf_db.specs.Tables.CountedEnds.{with_ends, HasListedEnds, BringsAtMost};
-ghost use Rattle.cspf_db.specs.Refusals.{AreOnceEach, ArePresent, IsRefusal};
-ghost use Rattle.cspf_db.specs.declared.limits.TheConstants.{MOST_MARKS};
+ghost use Rattle.cspf_model.specs.Lemmas.LinkChanges.{all_relinked};
+ghost use Rattle.cspf_model.specs.Lemmas.LinkRows.{database_of, marked_database, AreByKey};
+ghost use Rattle.cspf_db.specs.Tables.Rows.{AreEndsOf, AreRising};
+ghost use Rattle.cspf_model.specs.Lemmas.RepeatedKeys.{is_changed, IsNewAt, IsRepeatedAt};
+ghost use Rattle.cspf_model.specs.Lemmas.RowsLeft.{is_untouched, rows_left, links_put, adds_link, removes_link};
+ghost use Rattle.cspf_model.specs.Lemmas.CountedEnds.{with_ends, HasListedEnds, BringsAtMost};
+ghost use Rattle.cspf_model.specs.Refusals.{AreOnceEach, ArePresent, IsRefusal};
+ghost use Rattle.cspf_model.specs.declared.limits.TheConstants.{MOST_MARKS};
 
-use crate::limits::{MOST_CHANGES, MOST_LINKS, MOST_ROUTERS};
+use cspf_model::{Batch, Change, Link, MOST_CHANGES, MOST_LINKS, MOST_ROUTERS, Refusal};
 use crate::table::leaving::any_goes;
 use crate::table::marks::has_too_many_marks;
 use crate::table::routers::Routers;
 use crate::table::tally::{Tally, count_brought, tally_all};
-use crate::{Batch, Change, Link, Refusal};
 use cspf_addr::Addr;
 
 /// Whether the change is on this key.

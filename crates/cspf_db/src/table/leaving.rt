@@ -1,16 +1,17 @@
 //! Whether a router goes with the changes of a batch, as one does at which no link ends any more.
 ghost use Rattle.std.specs.Prelude.{◌≡◌, ℕ, ◌<◌, ◌&&◌, true, false, filter, length, nat_eq, slice_index, slice_index_or};
 ghost use Rattle.std.specs.List.{list_any};
-ghost use Rattle.cspf_db.specs.declared.link.Link.{Link as Linked};
+ghost use Rattle.cspf_model.specs.declared.link.Link.{Link as Linked};
 ghost use Rattle.cspf_db.specs.Index.{router_list};
-ghost use Rattle.cspf_db.specs.Tables.GoneRouters.{puts_at, HasGone, IsGone};
-ghost use Rattle.cspf_db.specs.Tables.Rows.{database_of, AreByKey, AreEndsOf};
-ghost use Rattle.cspf_db.specs.Tables.RowsLeft.{is_untouched};
+ghost use Rattle.cspf_model.specs.Lemmas.GoneRouters.{puts_at, HasGone, IsGone};
+ghost use Rattle.cspf_model.specs.Lemmas.LinkRows.{database_of, AreByKey};
+ghost use Rattle.cspf_db.specs.Tables.Rows.{AreEndsOf};
+ghost use Rattle.cspf_model.specs.Lemmas.RowsLeft.{is_untouched};
 
 use crate::table::check::is_untouched;
 use crate::table::router_list::search;
 use crate::table::table_rows::{index_of, span};
-use crate::{Change, Link};
+use cspf_model::{Change, Link};
 use cspf_addr::Addr;
 
 /// Whether the change puts a link that ends at the router.

@@ -2,14 +2,15 @@
 ghost use Rattle.std.specs.Prelude.{count_by, ◌≡◌, ◌+◌, ◌<◌, ◌≤◌, ◌↔◌, IsTrue, length, vec_len};
 ghost use Rattle.std.specs.Vec.{vec_capacity};
 ghost use Rattle.std.specs.FinSet as set;
-ghost use Rattle.cspf_db.specs.Changes.{marks_after};
-ghost use Rattle.cspf_db.specs.Refusals.{AreOnceEach};
-ghost use Rattle.cspf_db.specs.Tables.MarkChanges.{all_marked, adds_mark, removes_mark};
-ghost use Rattle.cspf_db.specs.Tables.Rows.{AreRising, marks_in};
-ghost use Rattle.cspf_db.specs.declared.limits.TheConstants.{MOST_CHANGES, MOST_MARKS, ROOM_FOR_MARKS};
+ghost use Rattle.cspf_model.specs.Changes.{marks_after};
+ghost use Rattle.cspf_model.specs.Refusals.{AreOnceEach};
+ghost use Rattle.cspf_model.specs.Lemmas.MarkChanges.{all_marked, adds_mark, removes_mark};
+ghost use Rattle.cspf_model.specs.Lemmas.LinkRows.{marks_in};
+ghost use Rattle.cspf_db.specs.Tables.Rows.{AreRising};
+ghost use Rattle.cspf_model.specs.declared.limits.TheConstants.{MOST_CHANGES, MOST_MARKS};
+ghost use Rattle.cspf_db.specs.declared.limits.TheConstants.{ROOM_FOR_MARKS};
 
-use crate::Change;
-use crate::limits::MOST_MARKS;
+use cspf_model::{Change, MOST_MARKS};
 use crate::table::insertion::insert_within;
 use crate::table::router_list::search;
 use cspf_addr::Addr;

@@ -3,11 +3,11 @@
 ghost use Rattle.std.specs.Prelude.{◌≡◌, ◌≤◌, All};
 ghost use Rattle.std.specs.Vec.{vec_capacity};
 ghost use Rattle.cspf_db.specs.Tables.AlikeChanges.{IsAlike, RunAlike};
-ghost use Rattle.cspf_db.specs.Tables.LinkChanges.{relinked, all_relinked};
-ghost use Rattle.cspf_db.specs.Tables.Rows.{database_of, AreByKey};
+ghost use Rattle.cspf_model.specs.Lemmas.LinkChanges.{relinked, all_relinked};
+ghost use Rattle.cspf_model.specs.Lemmas.LinkRows.{database_of, AreByKey};
 
 use crate::table::table_rows::index_of;
-use crate::{Change, Link};
+use cspf_model::{Change, Link};
 
 /// Writes the link that the change puts over the row that runs between the same interfaces.
 fn write_one(rows: &mut Vec<Link>, change: &Change)

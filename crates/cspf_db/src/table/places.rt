@@ -3,10 +3,11 @@
 ghost use Rattle.std.specs.Prelude.{◌≡◌, ℕ, ◌+◌, ◌<◌, ◌≤◌, Bool, true, false, [], ◌∷◌, ◌++◌, cond, All, Contains, filter, length, map, slice_index, slice_index_or, vec_len, nat_eq};
 ghost use Rattle.std.specs.Vec.{vec_capacity};
 ghost use Rattle.std.specs.List.{list_any};
-ghost use Rattle.cspf_db.specs.Tables.CountedEnds.{any_to, is_end_of};
-ghost use Rattle.cspf_db.specs.Tables.Rows.{AreRising, AreByKey, IsEndColumn, ArePlacesIn};
+ghost use Rattle.cspf_model.specs.Lemmas.CountedEnds.{any_to, is_end_of};
+ghost use Rattle.cspf_model.specs.Lemmas.LinkRows.{AreByKey};
+ghost use Rattle.cspf_db.specs.Tables.Rows.{AreRising, IsEndColumn, ArePlacesIn};
 
-use crate::Link;
+use cspf_model::Link;
 use crate::limits::ROOM_FOR_ROUTERS;
 use crate::table::router_list::index_near;
 use crate::table::table_rows::begins;

@@ -2,13 +2,15 @@
 ghost use Rattle.std.specs.Prelude.{◌≡◌, ◌<◌, ◌≤◌, length, map, slice_index_or, vec_len, IfOk, IfErr, IfSome, IfNone};
 ghost use Rattle.std.specs.Vec.{vec_capacity};
 ghost use Rattle.std.specs.List.{HoldsAt, insert, remove as without};
-ghost use Rattle.cspf_db.specs.declared.link.Link.{Link as Linked};
-ghost use Rattle.cspf_db.specs.Database.{key_of};
-ghost use Rattle.cspf_db.specs.declared.limits.TheConstants.{MOST_LINKS, NO_LINK, ROOM_FOR_LINKS};
-ghost use Rattle.cspf_db.specs.Tables.Rows.{AreByKey, AreSpansAtEnds, IsSpanOf};
+ghost use Rattle.cspf_model.specs.declared.link.Link.{Link as Linked};
+ghost use Rattle.cspf_model.specs.Database.{key_of};
+ghost use Rattle.cspf_model.specs.declared.limits.TheConstants.{MOST_LINKS};
+ghost use Rattle.cspf_db.specs.declared.limits.TheConstants.{NO_LINK, ROOM_FOR_LINKS};
+ghost use Rattle.cspf_model.specs.Lemmas.LinkRows.{AreByKey};
+ghost use Rattle.cspf_db.specs.Tables.Rows.{AreSpansAtEnds, IsSpanOf};
 ghost use Rattle.cspf_db.specs.Tables.Reverses.{AreReversesBut, AreReversesOf, IsIndexOfReverse, index_before, index_behind, no_key, same_key};
 
-use crate::Link;
+use cspf_model::Link;
 use crate::limits::NO_LINK;
 use crate::table::insertion::insert_within;
 use crate::table::router_rows::Span;

@@ -4,11 +4,11 @@ ghost use Rattle.std.specs.Vec.{vec_capacity};
 ghost use Rattle.std.specs.List.{HoldsAt, insert};
 ghost use Rattle.std.specs.List.Sorted.{IsPartitionPoint};
 ghost use Rattle.std.specs.Ordering.{nat_cmp};
-ghost use Rattle.cspf_db.specs.Tables.CountedEnds.{HasListedEnds};
+ghost use Rattle.cspf_model.specs.Lemmas.CountedEnds.{HasListedEnds};
 ghost use Rattle.cspf_db.specs.Tables.Rows.{AreRising, IsPlaceOf};
 ghost use Rattle.cspf_db.specs.declared.limits.TheConstants.{ROOM_FOR_ROUTERS};
 
-use crate::Change;
+use cspf_model::Change;
 use crate::table::insertion::insert_within;
 use cspf_addr::Addr;
 use std::cmp::Ordering;

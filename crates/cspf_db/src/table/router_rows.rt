@@ -2,11 +2,12 @@
 ghost use Rattle.std.specs.Prelude.{◌≡◌, ℕ, All, ◌∷◌, [], ◌++◌, ◌+◌, ◌-◌, ◌<◌, ◌≤◌, ◌⊎◌, IsTrue, true, filter, length, nat_eq, slice_index_or, slice_range, vec_len};
 ghost use Rattle.std.specs.Vec.{vec_capacity};
 ghost use Rattle.std.specs.List.Sorted.{IsNonDecreasingBy};
-ghost use Rattle.cspf_db.specs.declared.link.Link.{Link as Linked};
-ghost use Rattle.cspf_db.specs.Tables.Rows.{AreByKey, AreSpansOf, IsSpanOf};
-ghost use Rattle.cspf_db.specs.declared.limits.TheConstants.{MOST_LINKS, MOST_ROUTERS};
+ghost use Rattle.cspf_model.specs.declared.link.Link.{Link as Linked};
+ghost use Rattle.cspf_model.specs.Lemmas.LinkRows.{AreByKey};
+ghost use Rattle.cspf_db.specs.Tables.Rows.{AreSpansOf, IsSpanOf};
+ghost use Rattle.cspf_model.specs.declared.limits.TheConstants.{MOST_LINKS, MOST_ROUTERS};
 
-use crate::Link;
+use cspf_model::Link;
 use crate::table::table_rows::span;
 use cspf_addr::Addr;
 

@@ -3,8 +3,7 @@ ghost use Rattle.std.specs.Bool.{OnTrue, OnFalse};
 ghost use Rattle.std.specs.FinSet as set;
 ghost use Rattle.std.specs.Ordering.{nat_cmp};
 
-use crate::Link;
-use crate::limits::MOST_ROUTERS;
+use cspf_model::{Link, MOST_ROUTERS};
 use std::marker::Model;
 
 /// How many slots there are for the places of routers.
@@ -60,7 +59,7 @@ impl Model for Routers {
 }
 
 impl Routers {
-    ghost use Rattle.cspf_db.specs.Tables.CountedEnds.{with_ends};
+    ghost use Rattle.cspf_model.specs.Lemmas.CountedEnds.{with_ends};
 
     /// No routers.
     pub fn new() -> Self

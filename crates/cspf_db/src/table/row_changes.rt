@@ -2,15 +2,17 @@
 ghost use Rattle.std.specs.Prelude.{count_by, ◌≡◌, ℕ, ◌+◌, ◌<◌, ◌≤◌, true, All, filter, length, slice_set, vec_len, IfOk, IfErr, IfSome, IfNone};
 ghost use Rattle.std.specs.Vec.{vec_capacity};
 ghost use Rattle.std.specs.List.{insert, remove as without};
-ghost use Rattle.cspf_db.specs.Tables.LinkChanges.{relinked, all_relinked};
-ghost use Rattle.cspf_db.specs.Tables.CountedEnds.{HasListedEnds};
-ghost use Rattle.cspf_db.specs.Database.{link_count, router_count};
-ghost use Rattle.cspf_db.specs.Refusals.{AreOnceEach};
-ghost use Rattle.cspf_db.specs.Tables.RowsLeft.{adds_link, removes_link, puts_link};
-ghost use Rattle.cspf_db.specs.Tables.Rows.{database_of, AreParts, AreRowsWithEnds};
+ghost use Rattle.cspf_model.specs.Lemmas.LinkChanges.{relinked, all_relinked};
+ghost use Rattle.cspf_model.specs.Lemmas.CountedEnds.{HasListedEnds};
+ghost use Rattle.cspf_model.specs.Database.{link_count, router_count};
+ghost use Rattle.cspf_model.specs.Refusals.{AreOnceEach};
+ghost use Rattle.cspf_model.specs.Lemmas.RowsLeft.{adds_link, removes_link, puts_link};
+ghost use Rattle.cspf_model.specs.Lemmas.LinkRows.{database_of};
+ghost use Rattle.cspf_db.specs.Tables.Rows.{AreParts, AreRowsWithEnds};
 ghost use Rattle.cspf_db.specs.Tables.Reverses.{AreReversesOf};
 ghost use Rattle.cspf_db.specs.Tables.RowChanges.{AreChangesFor};
-ghost use Rattle.cspf_db.specs.declared.limits.TheConstants.{MOST_CHANGES, MOST_LINKS, MOST_ROUTERS, ROOM_FOR_LINKS, ROOM_FOR_ROUTERS};
+ghost use Rattle.cspf_model.specs.declared.limits.TheConstants.{MOST_CHANGES, MOST_LINKS, MOST_ROUTERS};
+ghost use Rattle.cspf_db.specs.declared.limits.TheConstants.{ROOM_FOR_LINKS, ROOM_FOR_ROUTERS};
 
 use crate::table::check::{count_removed, is_removal};
 use crate::table::insertion::insert_within;
@@ -19,7 +21,7 @@ use crate::table::router_list::index_among;
 use crate::table::scratch::Scratch;
 use crate::table::table_rows::{index_alike, put, remove};
 use crate::table::tally::Tally;
-use crate::{Change, Link};
+use cspf_model::{Change, Link};
 use cspf_addr::Addr;
 
 /// Puts the end of the row that was put over another, or between others. There is room, so

@@ -1,12 +1,13 @@
 ghost use Rattle.std.specs.Prelude.{◌≡◌, ◌<◌, ◌≤◌, All, Contains, length, map, slice_index, vec_len};
 ghost use Rattle.std.specs.Vec.{vec_capacity};
-ghost use Rattle.cspf_db.specs.declared.limits.TheConstants.{MOST_CHANGES, MOST_LINKS, MOST_ROUTERS, ROOM_FOR_LINKS, ROOM_FOR_ROUTERS};
+ghost use Rattle.cspf_model.specs.declared.limits.TheConstants.{MOST_CHANGES, MOST_LINKS, MOST_ROUTERS};
+ghost use Rattle.cspf_db.specs.declared.limits.TheConstants.{ROOM_FOR_LINKS, ROOM_FOR_ROUTERS};
 
-use crate::limits::{MOST_CHANGES, ROOM_FOR_LINKS, ROOM_FOR_ROUTERS};
+use crate::limits::{ROOM_FOR_LINKS, ROOM_FOR_ROUTERS};
+use cspf_model::{Change, Link, MOST_CHANGES};
 use crate::table::merging::{merge, sort_changes};
 use crate::table::places::{keep_ends, list_places, move_ends};
 use crate::table::router_list::add_ends;
-use crate::{Change, Link};
 use cspf_addr::Addr;
 use std::alloc::{AllocError, Global};
 use std::mem::swap;
@@ -40,12 +41,13 @@ fn copy_routers(listed: &mut Vec<Addr>, routers: &[Addr])
 }
 
 impl Scratch {
-    ghost use Rattle.cspf_db.specs.Database.{link_count};
-    ghost use Rattle.cspf_db.specs.Tables.LinkChanges.{all_relinked};
-    ghost use Rattle.cspf_db.specs.Tables.CountedEnds.{HasListedEnds};
-    ghost use Rattle.cspf_db.specs.Tables.Rows.{database_of, AreRising, AreByKey, IsEndColumn, AreEndsOf, AreRoutersOf, AreRowsWithEnds};
+    ghost use Rattle.cspf_model.specs.Database.{link_count};
+    ghost use Rattle.cspf_model.specs.Lemmas.LinkChanges.{all_relinked};
+    ghost use Rattle.cspf_model.specs.Lemmas.CountedEnds.{HasListedEnds};
+    ghost use Rattle.cspf_model.specs.Lemmas.LinkRows.{database_of, AreByKey};
+    ghost use Rattle.cspf_db.specs.Tables.Rows.{AreRising, IsEndColumn, AreEndsOf, AreRoutersOf, AreRowsWithEnds};
     ghost use Rattle.cspf_db.specs.Tables.RowChanges.{AreChangesFor};
-    ghost use Rattle.cspf_db.specs.Refusals.{AreOnceEach};
+    ghost use Rattle.cspf_model.specs.Refusals.{AreOnceEach};
 
     /// Room for the rows of a full table and a batch.
     pub fn new(alloc: Global) -> Result<Self, AllocError> {

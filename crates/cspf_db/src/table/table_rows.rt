@@ -3,14 +3,15 @@ ghost use Rattle.std.specs.Vec.{vec_capacity};
 ghost use Rattle.std.specs.List.{HoldsAt, insert, remove as without};
 ghost use Rattle.std.specs.List.Sorted.{IsPartitionPoint, IsNonDecreasingBy};
 ghost use Rattle.cspf_addr.specs.Prefixes.{Covers};
-ghost use Rattle.cspf_db.specs.Database.{key_of, key_cmp};
+ghost use Rattle.cspf_model.specs.Database.{key_of, key_cmp};
 ghost use Rattle.cspf_db.specs.Index.{links_from};
-ghost use Rattle.cspf_db.specs.Tables.LinkChanges.{relinked};
-ghost use Rattle.cspf_db.specs.Tables.Rows.{database_of, AreByKey, HasSameEnds};
-ghost use Rattle.cspf_db.specs.Tables.CountedEnds.{any_from};
+ghost use Rattle.cspf_model.specs.Lemmas.LinkChanges.{relinked};
+ghost use Rattle.cspf_model.specs.Lemmas.LinkRows.{database_of, AreByKey};
+ghost use Rattle.cspf_db.specs.Tables.Rows.{HasSameEnds};
+ghost use Rattle.cspf_model.specs.Lemmas.CountedEnds.{any_from};
 
 use crate::table::insertion::insert_within;
-use crate::{Change, Link};
+use cspf_model::{Change, Link};
 use cspf_addr::{Addr, Prefix};
 use std::cmp::Ordering;
 

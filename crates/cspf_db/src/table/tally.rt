@@ -2,19 +2,20 @@
 ghost use Rattle.std.specs.Prelude.{count_by, ◌≡◌, ◌*◌, ◌<◌, ◌≤◌, ◌⊎◌, cond, true, [], ◌∷◌, All, Contains, length, IfOk, IfErr, IfSome, IfNone};
 ghost use Rattle.std.specs.List.{HoldsAt, AllWithin, list_any};
 ghost use Rattle.cspf_db.specs.Index.{router_list};
-ghost use Rattle.cspf_db.specs.Changes.{IsPresent};
+ghost use Rattle.cspf_model.specs.Changes.{IsPresent};
 ghost use Rattle.cspf_db.specs.Tables.AlikeChanges.{IsAlike};
-ghost use Rattle.cspf_db.specs.Tables.CountedEnds.{HasListedEnds, BringsAtMost, BringsBeside};
-ghost use Rattle.cspf_db.specs.Tables.GoneRouters.{puts_at};
-ghost use Rattle.cspf_db.specs.Refusals.{RemovesNothing};
-ghost use Rattle.cspf_db.specs.Tables.Rows.{database_of, AreRising, AreByKey};
-ghost use Rattle.cspf_db.specs.Tables.RowsLeft.{adds_link};
-ghost use Rattle.cspf_db.specs.declared.limits.TheConstants.{MOST_CHANGES};
+ghost use Rattle.cspf_model.specs.Lemmas.CountedEnds.{HasListedEnds, BringsAtMost, BringsBeside};
+ghost use Rattle.cspf_model.specs.Lemmas.GoneRouters.{puts_at};
+ghost use Rattle.cspf_model.specs.Refusals.{RemovesNothing};
+ghost use Rattle.cspf_model.specs.Lemmas.LinkRows.{database_of, AreByKey};
+ghost use Rattle.cspf_db.specs.Tables.Rows.{AreRising};
+ghost use Rattle.cspf_model.specs.Lemmas.RowsLeft.{adds_link};
+ghost use Rattle.cspf_model.specs.declared.limits.TheConstants.{MOST_CHANGES};
 
 use crate::table::leaving::any_puts_at;
 use crate::table::router_list::is_among;
 use crate::table::table_rows::{index_of, is_alike};
-use crate::{Change, Link};
+use cspf_model::{Change, Link};
 use cspf_addr::Addr;
 
 /// How many links changes put where there is none, how many ends of the links that they put are not

@@ -2,8 +2,9 @@
 ghost use Rattle.std.specs.Prelude.{◌≡◌, ℕ, ◌<◌, ◌≤◌, length, not, slice_index};
 ghost use Rattle.std.specs.Vec.{vec_capacity};
 ghost use Rattle.std.specs.FinSet as set;
-ghost use Rattle.cspf_db.specs.Tables.Rows.{AreRising, AreTransitsOf, marks_in};
-ghost use Rattle.cspf_db.specs.declared.limits.TheConstants.{MOST_ROUTERS};
+ghost use Rattle.cspf_model.specs.Lemmas.LinkRows.{marks_in};
+ghost use Rattle.cspf_db.specs.Tables.Rows.{AreRising, AreTransitsOf};
+ghost use Rattle.cspf_model.specs.declared.limits.TheConstants.{MOST_ROUTERS};
 
 use cspf_addr::Addr;
 

@@ -1,5 +1,5 @@
 ghost use Rattle.std.specs.Prelude.{◌≡◌, ◌+◌, ◌<◌, ◌≤◌, ◌⊎◌, length, drop, All, IfOk, IfErr, OnOk, vec_len};
-ghost use Rattle.cspf_db.specs.Changes.{database_after};
+ghost use Rattle.cspf_model.specs.Changes.{database_after};
 ghost use Rattle.cspf_publish.specs.declared.limits.TheConstants.{MOST_ASKERS};
 ghost use Rattle.cspf_serve.specs.BatchRun.{AreReplies};
 ghost use Rattle.cspf_serve.specs.EarlyEnds.{Writes, IsErrorOfPart};
@@ -8,7 +8,7 @@ ghost use Rattle.cspf_work.specs.declared.limits.TheConstants.{MOST_REQUESTS};
 
 use crate::streams::replies::write_replies;
 use crate::{Answers, Gate, RunError, ServeError, answer_latest};
-use cspf_db::Request;
+use cspf_model::Request;
 use cspf_publish::{Asker, Publisher};
 use std::alloc::Global;
 use std::io::Write;

@@ -1,6 +1,6 @@
 ghost use Rattle.cspf_serve.specs.BatchLaws.{AreLinesOfAScript};
 
-use cspf_db::absorbing;
+use cspf_model::absorbing;
 use cspf_rows::journals_are_one;
 
 /// Law: where nothing is left behind the batches of a journal and nothing is refused, a run over

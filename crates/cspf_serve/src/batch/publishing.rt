@@ -1,6 +1,6 @@
 ghost use Rattle.std.specs.Prelude.{◌≡◌, ◌+◌, ◌≤◌, ◌∷◌, ◌++◌, List, Option, ℕ, [], None, length, IfOk, IfErr, IfSome, OnOk, OnErr, false};
-ghost use Rattle.cspf_db.specs.Numbered.{NumberedChanges};
-ghost use Rattle.cspf_publish.specs.declared.limits.TheConstants.{MOST_VERSIONS};
+ghost use Rattle.cspf_model.specs.Numbered.{NumberedChanges};
+ghost use Rattle.cspf_model.specs.declared.limits.TheConstants.{MOST_VERSIONS};
 ghost use Rattle.cspf_rows.specs.GivenBatches.{CanRead, HasGiven};
 ghost use Rattle.cspf_rows.specs.Journal.{AreNumberedFrom};
 ghost use Rattle.cspf_rows.specs.Records.{rows_of};
@@ -13,7 +13,7 @@ use crate::line::Line;
 use crate::streams::early_end::EarlyEnd;
 use crate::streams::input::{accept_rest, journal_end_of};
 use crate::{BatchRefusal, RunError};
-use cspf_db::Batch;
+use cspf_model::Batch;
 use cspf_publish::{ApplyError, Publisher};
 use cspf_rows::{JournalReader, JournalStep};
 use std::alloc::Global;

@@ -1,6 +1,6 @@
 ghost use Rattle.std.specs.Prelude.{◌≡◌, ℕ, ◌<◌, ◌⊎◌, ◌≤◌, ◌++◌, List, [], length, All, Ok, IfOk, IfErr, IfSome, OnOk, vec_len, false};
 ghost use Rattle.std.specs.Io.KnownBytes.{Appends};
-ghost use Rattle.cspf_db.specs.Numbered.{NumberedChanges};
+ghost use Rattle.cspf_model.specs.Numbered.{NumberedChanges};
 ghost use Rattle.cspf_rows.specs.Records.{rows_of};
 ghost use Rattle.cspf_serve.specs.declared.solve.summary.Summary.{Summary as Counts};
 ghost use Rattle.cspf_serve.specs.Script.{IsRun};
@@ -23,7 +23,7 @@ use crate::streams::input::requests_of;
 use crate::streams::opening::open_for;
 use crate::streams::output::refuse;
 use crate::{Gate, RunError};
-use cspf_db::Request;
+use cspf_model::Request;
 use cspf_publish::{Asker, Publisher};
 use std::alloc::Global;
 use std::io;

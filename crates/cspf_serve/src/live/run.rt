@@ -7,7 +7,8 @@ ghost use Rattle.cspf_serve.specs.EarlyEnds.{Writes};
 ghost use Rattle.cspf_serve.specs.LiveRun.{AreAnsweredLive, IsLiveRun, AreRecordedAtError, IsRecordedAtError};
 ghost use Rattle.cspf_serve.specs.LiveLines.{AreLiveLines, IsFaultShown, last_text, last_status};
 ghost use Rattle.cspf_serve.specs.RunFaults.{IsStreamFault, IsAnsweringFault, IsRunFault, IsLiveFault};
-ghost use Rattle.cspf_publish.specs.declared.limits.TheConstants.{MOST_ASKERS, MOST_VERSIONS};
+ghost use Rattle.cspf_model.specs.declared.limits.TheConstants.{MOST_VERSIONS};
+ghost use Rattle.cspf_publish.specs.declared.limits.TheConstants.{MOST_ASKERS};
 ghost use Rattle.cspf_work.specs.declared.limits.TheConstants.{MOST_REQUESTS};
 
 use crate::line::Line;
@@ -16,7 +17,7 @@ use crate::streams::opening::open_for;
 use crate::streams::output::{put_line, refuse};
 use crate::streams::replies::write_replies;
 use crate::{Gate, Live, RunError, run_live};
-use cspf_db::{Batch, Request};
+use cspf_model::{Batch, Request};
 use cspf_publish::{Answer, ApplyError, Asker, Publisher};
 use std::alloc::Global;
 use std::io::{Read, Write};

@@ -1,10 +1,10 @@
 ghost use Rattle.std.specs.Prelude.{◌≡◌, ◌+◌, ◌∷◌, ◌++◌, ◌<◌, ◌^◌, [], List, IfErr, OnOk, OnErr};
-ghost use Rattle.cspf_db.specs.declared.batch.Change.{Change as Changed};
+ghost use Rattle.cspf_model.specs.declared.batch.Change.{Change as Changed};
 ghost use Rattle.cspf_publish.specs.ApplyErrors.{IsApplyError};
 ghost use Rattle.cspf_serve.specs.OpenChanges.{AreOpen, IsPublished};
 
 use crate::solve::{KEPT_CHANGES, keep};
-use cspf_db::{Batch, Change};
+use cspf_model::{Batch, Change};
 use cspf_publish::{ApplyError, Publisher};
 use std::alloc::{AllocError, Global};
 use std::io::Write;

@@ -4,7 +4,7 @@ ghost use Rattle.logbook.specs.Pages.{Book};
 ghost use Rattle.cspf_rows.specs.Records.{IsPlain, rows_left};
 ghost use Rattle.cspf_publish.specs.PublisherStates.{PublisherState};
 ghost use Rattle.cspf_client.specs.ServingStates.{IsReady};
-ghost use Rattle.cspf_db.specs.declared.batch.Change.{Change as Changed};
+ghost use Rattle.cspf_model.specs.declared.batch.Change.{Change as Changed};
 ghost use Rattle.cspf_serve.specs.OpenChanges.{AreOpen};
 ghost use Rattle.cspf_serve.specs.RunFaults.{IsOpeningFault};
 ghost use Rattle.cspf_serve.specs.Script.{end_line};

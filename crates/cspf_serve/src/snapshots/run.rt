@@ -11,7 +11,7 @@ use crate::streams::early_end::EarlyEnd;
 use crate::streams::input::batches_of;
 use crate::streams::output::{put, refuse};
 use crate::{BatchRefusal, RunError};
-use cspf_db::Batch;
+use cspf_model::Batch;
 use cspf_rows::batch_text;
 use cspf_snapshot::{ReplayError, replay, snapshot};
 use std::alloc::Global;

@@ -1,13 +1,13 @@
 ghost use Rattle.std.specs.Prelude.{◌≡◌, ℕ, ◌+◌, ◌<◌, ◌≤◌, List, [], ◌∷◌, ◌++◌, take, IfOk, OnOk, OnErr, MatchResult};
-ghost use Rattle.cspf_db.specs.declared.batch.Change.{Change as Changed};
-ghost use Rattle.cspf_db.specs.Best.{Answer, IsBestAnswer};
+ghost use Rattle.cspf_model.specs.declared.batch.Change.{Change as Changed};
+ghost use Rattle.cspf_model.specs.Best.{Answer, IsBestAnswer};
 ghost use Rattle.cspf_ero.specs.ReplyLine.{IsReply};
 
 use crate::line::Line;
 use crate::{BatchRefusal, Summary};
-use cspf_db::{Batch, Change, MOST_CHANGES, Request, Table, absorbing};
+use cspf_db::Table;
+use cspf_model::{Batch, Change, MOST_CHANGES, MOST_VERSIONS, Request, absorbing};
 use cspf_ero::reply_line;
-use cspf_publish::MOST_VERSIONS;
 use cspf_rows::{MOST_ROWS, Row, RowError};
 use cspf_search::best;
 use std::alloc::{AllocError, Global};

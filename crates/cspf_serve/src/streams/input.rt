@@ -4,13 +4,13 @@ ghost use Rattle.cspf_rows.specs.declared.journal.Rest.TheVariants.{Torn as IsTo
 ghost use Rattle.cspf_serve.specs.BatchRun.{torn_line, AreBatchesOf, IsJournalRefused, AreRequestsOf, AreRequestsRefused, IsFaultLine};
 ghost use Rattle.cspf_serve.specs.EarlyEnds.{IfRefused, IfFailed, IsJournalLine, IsJournalError, IsRequestsError, AreStreamsRefused};
 ghost use Rattle.cspf_serve.specs.RunFaults.{IsStreamFault};
-ghost use Rattle.cspf_publish.specs.declared.limits.TheConstants.{MOST_VERSIONS};
+ghost use Rattle.cspf_model.specs.declared.limits.TheConstants.{MOST_VERSIONS};
 ghost use Rattle.cspf_work.specs.declared.limits.TheConstants.{MOST_REQUESTS};
 
 use crate::RunError;
 use crate::line::Line;
 use crate::streams::early_end::EarlyEnd;
-use cspf_db::{Batch, Request};
+use cspf_model::{Batch, Request};
 use cspf_rows::{Journal, ReadError, RequestsError, Rest, RowError, read_journal, read_requests};
 use std::alloc::Global;
 use std::io::Read;

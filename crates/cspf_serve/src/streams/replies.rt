@@ -1,7 +1,7 @@
 ghost use Rattle.std.specs.Prelude.{◌≡◌, IfErr, OnOk};
 ghost use Rattle.std.specs.Io.KnownBytes.{Keeps as HoldsAsBefore};
 ghost use Rattle.cspf_ero.specs.ReplyLine.{IsReply};
-ghost use Rattle.cspf_search.specs.Outcome.{answer_of};
+ghost use Rattle.cspf_model.specs.Outcome.{answer_of};
 ghost use Rattle.cspf_serve.specs.AnswerLines.{AreAnswerLines};
 ghost use Rattle.cspf_serve.specs.EarlyEnds.{Writes};
 ghost use Rattle.cspf_serve.specs.RunFaults.{IsStreamFault};

@@ -1,7 +1,8 @@
 use super::edits::Edit::{self, Node, Put, Remove};
 use super::edits::{batch_of, link};
 use cspf_addr::{Addr, Hop, Hops, Mask, Prefix};
-use cspf_db::{Batch, Change, Link, LinkError, Refusal, Request, RequestError, Table};
+use cspf_db::Table;
+use cspf_model::{Batch, Change, Link, LinkError, Refusal, Request, RequestError};
 use std::alloc::Global;
 use std::process::Abort;
 use std::test::Fail;

@@ -1,6 +1,6 @@
 //! What the tests share: links that differ in their ends alone, and changes by their numbers.
 use cspf_addr::{Addr, Mask};
-use cspf_db::{Batch, Change, Link, LinkError};
+use cspf_model::{Batch, Change, Link, LinkError};
 use std::alloc::Global;
 use std::test::Fail;
 

@@ -2,7 +2,8 @@
 use super::edits::Edit::{self, Put, Remove};
 use super::edits::{batch_of, link};
 use cspf_addr::Mask;
-use cspf_db::{Batch, Change, Link, LinkError, NO_LINK, Table};
+use cspf_db::{NO_LINK, Table};
+use cspf_model::{Batch, Change, Link, LinkError};
 use std::alloc::{AllocError, Global};
 use std::process::Abort;
 use std::test::Fail;

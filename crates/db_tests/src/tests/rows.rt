@@ -1,7 +1,8 @@
 use super::edits::Edit::{Put, Remove};
 use super::edits::{batch_of, link};
 use cspf_addr::Addr;
-use cspf_db::{Batch, Change, Link, LinkError, Table};
+use cspf_db::Table;
+use cspf_model::{Batch, Change, Link, LinkError};
 use std::alloc::Global;
 use std::process::Abort;
 use std::test::Fail;

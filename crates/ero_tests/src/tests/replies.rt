@@ -1,9 +1,10 @@
 ghost use Rattle.std.specs.Prelude.{◌≡◌, [], IfOk};
 
 use cspf_addr::{Addr, Hops, Mask};
-use cspf_db::{Batch, Change, Link, Request, Table};
+use cspf_db::Table;
+use cspf_model::{Batch, Change, Link, Outcome, Request};
 use cspf_ero::{reply_line, write_ero};
-use cspf_search::{Outcome, best};
+use cspf_search::best;
 use std::alloc::Global;
 use std::test::Fail;
 

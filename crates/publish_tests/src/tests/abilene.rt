@@ -9,9 +9,10 @@
 
 use super::fixtures::{batch, request};
 use cspf_addr::{Addr, Mask};
-use cspf_db::{Batch, Change, Link, LinkError, Request, Table};
+use cspf_db::Table;
+use cspf_model::{Batch, Change, Link, LinkError, Outcome, Request};
 use cspf_publish::{AskError, Asker, Publisher, open};
-use cspf_search::{Outcome, best};
+use cspf_search::best;
 use std::alloc::{AllocError, Global};
 use std::io::Write;
 use std::process::Abort;

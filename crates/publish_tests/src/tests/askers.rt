@@ -4,9 +4,8 @@ ghost use Rattle.std.specs.Prelude.{◌≡◌};
 use super::fixtures::{
     ONE, TWO, apply_empty, back, batch, batch_and_request, first_batch, opened, request, route_of,
 };
-use cspf_db::{Batch, Change, Request};
+use cspf_model::{Batch, Change, Outcome, Request};
 use cspf_publish::{Answer, AskError, Asker, Publisher, Told, open};
-use cspf_search::Outcome;
 use std::alloc::Global;
 use std::io::Write;
 use std::process::Abort;

@@ -2,9 +2,8 @@
 ghost use Rattle.std.specs.Prelude.{◌≡◌};
 
 use cspf_addr::{Addr, Hops, Mask};
-use cspf_db::{Batch, Change, Link, LinkError, Request, RequestError};
+use cspf_model::{Batch, Change, Link, LinkError, Outcome, Request, RequestError};
 use cspf_publish::{Answer, ApplyError, AskError, Asker, Publisher, open};
-use cspf_search::Outcome;
 use std::alloc::{AllocError, Global};
 use std::io;
 use std::io::{ErrorKind, Write};

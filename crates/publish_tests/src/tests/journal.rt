@@ -5,7 +5,7 @@ use super::fixtures::{
     Narrow, TEXT, apply_empty, batch_and_request, empty_writer, first_batch, is_of_no_batch,
     opened, route_of,
 };
-use cspf_db::{Batch, Request};
+use cspf_model::{Batch, Request};
 use cspf_publish::{Answer, ApplyError, AskError, Asker, Publisher};
 use cspf_rows::batch_text;
 use std::alloc::Global;

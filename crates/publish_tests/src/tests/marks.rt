@@ -2,9 +2,8 @@
 
 use super::fixtures::{ONE, TWO, back, batch, only_link, opened, request, route_of};
 use cspf_addr::{Addr, Mask};
-use cspf_db::{Batch, Change, Link, LinkError, Request};
+use cspf_model::{Batch, Change, Link, LinkError, Outcome, Request};
 use cspf_publish::{Answer, AskError};
-use cspf_search::Outcome;
 use std::alloc::{AllocError, Global};
 use std::process::Abort;
 use std::sync::Wait;

@@ -5,9 +5,8 @@ ghost use Rattle.std.specs.Prelude.{◌≡◌, IfSome};
 use super::fixtures::{
     ONE, TEXT, TWO, batch, both_ways, is_of_no_batch, only_link, opened, request, route_of,
 };
-use cspf_db::{Batch, Link, Request};
+use cspf_model::{Batch, Link, Outcome, Request};
 use cspf_publish::{Answer, ApplyError, AskError, Asker, OpenError, Publisher, open};
-use cspf_search::Outcome;
 use std::alloc::Global;
 use std::io;
 use std::io::Write;

@@ -1,7 +1,7 @@
 //! Batches and numbers of askers that are refused.
 
 use super::fixtures::{TEXT, apply_empty, batch, first_batch, only_link, opened};
-use cspf_db::{Batch, Change, Refusal};
+use cspf_model::{Batch, Change, Refusal};
 use cspf_publish::{ApplyError, OpenError, open};
 use std::alloc::Global;
 use std::io;

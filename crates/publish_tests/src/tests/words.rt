@@ -1,6 +1,6 @@
 //! The words of errors.
 
-use cspf_db::Refusal;
+use cspf_model::Refusal;
 use cspf_publish::{ApplyError, AskError, OpenError};
 use std::alloc::{AllocError, Global};
 use std::fmt::Display;

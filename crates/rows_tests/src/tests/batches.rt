@@ -2,7 +2,7 @@ ghost use Rattle.std.specs.Prelude.{◌≡◌, true, OnOk};
 ghost use Rattle.cspf_rows.specs.GivenBatches.{CanRead};
 
 use super::{Pieces, by_bytes, failing, repeated};
-use cspf_db::Batch;
+use cspf_model::Batch;
 use cspf_rows::{JournalReader, JournalStep, MOST_ROWS, ReadError, Rest, batch_text};
 use std::alloc::{AllocError, Global};
 use std::io::Read;

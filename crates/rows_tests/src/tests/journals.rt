@@ -1,6 +1,6 @@
 use super::{by_bytes, failing, repeated};
 use cspf_addr::{Addr, Mask};
-use cspf_db::{Batch, Change, Link};
+use cspf_model::{Batch, Change, Link};
 use cspf_rows::{Journal, MOST_ROWS, ReadError, Rest, batch_text, read_journal};
 use std::alloc::{AllocError, Global};
 use std::io::Read;

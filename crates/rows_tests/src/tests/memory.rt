@@ -2,7 +2,7 @@
 //! answers in full once there is memory again.
 
 use cspf_addr::{Addr, Hops, Mask, parse_hops};
-use cspf_db::{Batch, Change, Link, Request, RequestError};
+use cspf_model::{Batch, Change, Link, Request, RequestError};
 use cspf_rows::{
     JournalReader, JournalStep, ReadError, RequestsError, Rest, read_journal, read_requests,
 };

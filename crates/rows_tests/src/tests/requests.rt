@@ -1,5 +1,5 @@
 use super::{by_bytes, failing, repeated};
-use cspf_db::Request;
+use cspf_model::Request;
 use cspf_rows::{MOST_ROWS, RequestsError, RowError, read_requests};
 use std::process::Abort;
 use std::test::Fail;

@@ -1,5 +1,5 @@
 use cspf_addr::Addr;
-use cspf_db::{Link, Request};
+use cspf_model::{Link, Request};
 use cspf_rows::{Row, RowError};
 use csv::{ByteRecord, Reader, ReaderBuilder};
 use std::alloc::{AllocError, Global};

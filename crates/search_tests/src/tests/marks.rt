@@ -1,8 +1,8 @@
 //! Routes in networks with routers without transit.
 use super::{FOUR, ONE, Row, THREE, TWO, answered, by_hops, is_route, mark, request, table};
 use cspf_addr::Addr;
-use cspf_db::{Batch, Change, Table};
-use cspf_search::Outcome;
+use cspf_db::Table;
+use cspf_model::{Batch, Change, Outcome};
 use std::alloc::{AllocError, Global};
 use std::process::Abort;
 use std::test::Fail;

@@ -1,6 +1,6 @@
 //! Strict hops, with links to them and without.
 use super::{FOUR, ONE, Row, THREE, TWO, by_hops, is_route, table};
-use cspf_search::Outcome;
+use cspf_model::Outcome;
 use std::test::Fail;
 
 // From ONE to FOUR by TWO at a cost of 2, and by THREE at one of 4. The link from TWO to THREE and its

@@ -1,5 +1,5 @@
 use super::scripts::is_answered;
-use cspf_db::Refusal;
+use cspf_model::Refusal;
 use cspf_serve::{BatchRefusal, NoGate, run_batch, run_live_rows};
 use std::alloc::{AllocError, Global};
 use std::fmt::Write;

@@ -2,7 +2,7 @@
 
 use super::tables::{batches, node, put};
 use cspf_addr::Addr;
-use cspf_db::{Batch, Change, Link, Refusal};
+use cspf_model::{Batch, Change, Link, Refusal};
 use cspf_snapshot::{ReplayError, replay};
 use std::alloc::Global;
 use std::process::Abort;

@@ -1,7 +1,8 @@
 //! Snapshots of tables, and the tables that are made of them again.
 
 use super::tables::{node, put, table_of};
-use cspf_db::{Batch, Change, Table};
+use cspf_db::Table;
+use cspf_model::{Batch, Change};
 use cspf_snapshot::{replay, snapshot};
 use std::alloc::{AllocError, Global};
 use std::process::Abort;

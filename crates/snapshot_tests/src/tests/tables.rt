@@ -1,7 +1,8 @@
 //! Changes, and tables that are made by them.
 
 use cspf_addr::{Addr, Mask};
-use cspf_db::{Batch, Change, Link, LinkError, MOST_CHANGES, Table};
+use cspf_db::Table;
+use cspf_model::{Batch, Change, Link, LinkError, MOST_CHANGES};
 use std::alloc::{AllocError, Global};
 use std::process::Abort;
 

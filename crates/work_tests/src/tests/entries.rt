@@ -2,7 +2,7 @@ ghost use Rattle.std.specs.Prelude.{◌<◌, ◌≤◌, length};
 ghost use Rattle.cspf_work.specs.declared.limits.TheConstants.{MOST_REQUESTS};
 
 use super::fixtures::{link_batch, opened, requests};
-use cspf_db::{Batch, Request};
+use cspf_model::{Batch, Request};
 use cspf_publish::Asker;
 use cspf_serve::{Answers, NoGate, ServeError, answer_all};
 use std::alloc::Global;

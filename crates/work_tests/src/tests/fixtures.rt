@@ -3,9 +3,8 @@ ghost use Rattle.std.specs.Prelude.{◌≡◌, ◌≤◌, All, IfOk, vec_len};
 ghost use Rattle.cspf_work.specs.declared.limits.TheConstants.{MOST_REQUESTS};
 
 use cspf_addr::{Addr, Hops, Mask};
-use cspf_db::{Batch, Change, Link, LinkError, Request, RequestError};
+use cspf_model::{Batch, Change, Link, LinkError, Outcome, Request, RequestError};
 use cspf_publish::{Asker, Publisher, open};
-use cspf_search::Outcome;
 use std::alloc::Global;
 use std::io::Write;
 use std::process::Abort;

@@ -5,9 +5,8 @@ ghost use Rattle.cspf_work.specs.declared.limits.TheConstants.{MOST_REQUESTS};
 
 use super::counts::wait_for;
 use super::fixtures::{are_at_version_1, cost, link_batch, opened, requests};
-use cspf_db::{Batch, Request};
+use cspf_model::{Batch, Outcome, Request};
 use cspf_publish::{Answer, ApplyError, Asker, Publisher};
-use cspf_search::Outcome;
 use cspf_serve::{Gate, Live, NoGate, run_live};
 use std::alloc::Global;
 use std::io;

@@ -3,9 +3,8 @@
 ghost use Rattle.std.specs.Prelude.{◌≡◌, ◌≤◌, All, IfOk, vec_len};
 
 use super::fixtures::{both_ways, request};
-use cspf_db::{Batch, Request};
+use cspf_model::{Batch, Outcome, Request};
 use cspf_publish::{Answer, ApplyError, AskError, Asker, OpenError, Publisher, open};
-use cspf_search::Outcome;
 use cspf_serve::{Live, NoGate, ServeError, answer_all, run_live};
 use std::alloc::{AllocError, Global};
 use std::process::Abort;

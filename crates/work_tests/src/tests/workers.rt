@@ -5,9 +5,8 @@ ghost use Rattle.cspf_work.specs.declared.limits.TheConstants.{MOST_REQUESTS};
 
 use super::counts::Counts;
 use super::fixtures::{are_at_version_1, cost, link_batch, opened, request, requests};
-use cspf_db::Request;
+use cspf_model::{Outcome, Request};
 use cspf_publish::Answer;
-use cspf_search::Outcome;
 use cspf_serve::{Answers, Gate, NoGate, answer_all, answer_latest};
 use std::alloc::Global;
 use std::process::Abort;

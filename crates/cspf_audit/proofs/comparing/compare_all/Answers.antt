@@ -1,6 +1,6 @@
 use Rattle.std.proofs.Common.{◌≡◌, ◌↔◌, IsTrue, true, false, ◌∙◌, ◌+◌, length, drop, get_or, take, sym, ap, subst, rules, arith}
 use Rattle.std.proofs.lemmas.List.{drop_more, drop_all}
-use Rattle.cspf_db.specs.Changes.{database_after}
+use Rattle.cspf_model.specs.Changes.{database_after}
 use Rattle.cspf_audit.specs.Findings.{IsRightReply}
 use Rattle.cspf_audit.specs.Reading.{AreOpenFindings}
 use Rattle.cspf_audit.specs.declared.claim.Claim.{Claim}

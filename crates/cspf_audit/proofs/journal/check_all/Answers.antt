@@ -1,6 +1,6 @@
 use Rattle.std.proofs.Common.{ap, subst}
-use Rattle.cspf_db.specs.Numbered.{NumberedChanges}
-use Rattle.cspf_db.specs.Refusals.{IsRefusal}
+use Rattle.cspf_model.specs.Numbered.{NumberedChanges}
+use Rattle.cspf_model.specs.Refusals.{IsRefusal}
 use Rattle.cspf_audit.proofs.BatchSteps.{first_unfit}
 use Rattle.cspf_audit.proofs.journal.check_all.Goals as goal
 

@@ -1,5 +1,5 @@
 use Rattle.std.proofs.Common.{◌≡◌, take}
-use Rattle.cspf_db.specs.Changes.{AreLawful, database_after}
+use Rattle.cspf_model.specs.Changes.{AreLawful, database_after}
 use Rattle.cspf_audit.proofs.journal.check_all.Given as goal
 
 abbrev pub invariant-loop-batch : goal.invariant-loop-batch

@@ -1,5 +1,5 @@
 use Rattle.std.proofs.Common.{◌≡◌, List, length, take}
-use Rattle.cspf_db.specs.Numbered.{NumberedChanges}
+use Rattle.cspf_model.specs.Numbered.{NumberedChanges}
 use Rattle.cspf_audit.specs.Reading.{HasRead}
 use Rattle.cspf_audit.proofs.replies.read_replies.Given as goal
 

@@ -1,7 +1,7 @@
 use Rattle.std.proofs.Common.{length, ◌∙◌}
 use Rattle.std.proofs.lemmas.Result.{IfOk-weaker}
 use Rattle.std.specs.Fmt.{decimal}
-use Rattle.cspf_db.specs.Walks.{cost_of}
+use Rattle.cspf_model.specs.Walks.{cost_of}
 use Rattle.cspf_ero.specs.ReplyLine.{measures_text, yes_or_no}
 use Rattle.cspf_ero.proofs.Lines.{front_pieces, front_most, id_digits, version_digits, cost_digits, hops_digits, again_letters}
 use Rattle.cspf_ero.proofs.reply.route_front.Goals as goal

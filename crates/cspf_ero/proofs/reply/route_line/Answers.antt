@@ -2,7 +2,7 @@ use Rattle.std.proofs.Common.{◌++◌, length, codes, refl, ◌∙◌}
 use Rattle.std.specs.Fmt.{decimal}
 use Rattle.hex.proofs.HexLemmas.{length-encode_with}
 use Rattle.hex.specs.Hex.{encode_lower, lower_digits}
-use Rattle.cspf_db.specs.Walks.{cost_of}
+use Rattle.cspf_model.specs.Walks.{cost_of}
 use Rattle.cspf_ero.specs.Objects.{object_of}
 use Rattle.cspf_ero.specs.ReplyLine.{measures_text}
 use Rattle.cspf_ero.proofs.Lines.{line_pieces, line_most}

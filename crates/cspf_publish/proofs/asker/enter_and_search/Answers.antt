@@ -1,8 +1,8 @@
 use Rattle.std.proofs.Common.{IfOk, subst, sym, ap, ◌∙◌}
-use Rattle.cspf_db.specs.Database.{Database}
-use Rattle.cspf_db.specs.Changes.{database_after}
-use Rattle.cspf_db.specs.Best.{IsBestAnswer}
-use Rattle.cspf_search.specs.Outcome.{answer_of}
+use Rattle.cspf_model.specs.Database.{Database}
+use Rattle.cspf_model.specs.Changes.{database_after}
+use Rattle.cspf_model.specs.Best.{IsBestAnswer}
+use Rattle.cspf_model.specs.Outcome.{answer_of}
 use Rattle.cspf_publish.specs.KnownBatches.{KnownBatches}
 use Rattle.cspf_publish.specs.ReplicaStates.{ReplicaState}
 use Rattle.cspf_publish.specs.ReplicaRule.{HasItsDatabase}

@@ -1,7 +1,7 @@
 use Rattle.std.proofs.Common.{◌≡◌, ◌+◌, suc, length, subst, slice_index, arith}
 use Rattle.std.proofs.lemmas.Result.{on_ok_weaker}
 use Rattle.cspf_db.specs.Index.{router_list}
-use Rattle.cspf_db.specs.Targets.{IsTarget}
+use Rattle.cspf_model.specs.Targets.{IsTarget}
 use Rattle.cspf_search.specs.Bounds.{bound_at}
 use Rattle.cspf_search.proofs.Cuts.{last_target}
 use Rattle.cspf_search.proofs.Ranks.{one_place}

@@ -1,7 +1,7 @@
 use Rattle.std.proofs.Common.{◌≡◌, ◌+◌, suc, slice_get, Some, inl, inr, sym, subst, ap, ◌∙◌, arith}
 use Rattle.std.proofs.lemmas.Option.{none-some, slice_get_cases}
 use Rattle.std.proofs.lemmas.Result.{IfOk-weaker}
-use Rattle.cspf_db.specs.Targets.{IsTarget, IsTargetOf}
+use Rattle.cspf_model.specs.Targets.{IsTarget, IsTargetOf}
 use Rattle.cspf_search.specs.Roles.{router_at}
 use Rattle.cspf_search.proofs.roles.targets_of.Goals as goal
 

@@ -1,6 +1,6 @@
 use Rattle.std.proofs.Common.{◌≡◌, ◌%◌, Some, slice_get, slice_index, slice_index_or, refl, subst}
 use Rattle.std.proofs.lemmas.Option.{slice_get_read}
-use Rattle.cspf_db.specs.declared.link.Link.{Link}
+use Rattle.cspf_model.specs.declared.link.Link.{Link}
 use Rattle.cspf_db.specs.Index.{links_from_index, IsReverseAt}
 use Rattle.cspf_search.specs.Arena.{state_of}
 use Rattle.cspf_search.specs.Frontier.{nowhere, IsEnd}

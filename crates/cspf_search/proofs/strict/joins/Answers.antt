@@ -1,7 +1,7 @@
 use Rattle.std.proofs.Common.{◌≡◌, ◌+◌, ◌*◌, ◌<◌, ◌∙◌, inl, inr, IsTrue, length, slice_index, slice_index_or, refl, ap, sym, subst, arith}
 use Rattle.std.proofs.lemmas.Bool.{cases_lt, false≢true}
 use Rattle.std.proofs.lemmas.List.{get_or_default}
-use Rattle.cspf_db.specs.Admissible.{IsUsable}
+use Rattle.cspf_model.specs.Admissible.{IsUsable}
 use Rattle.cspf_db.specs.Index.{links_from_index}
 use Rattle.cspf_search.specs.Frontier.{nothing}
 use Rattle.cspf_search.specs.States.{MayTurn}

@@ -1,6 +1,6 @@
 use Rattle.std.proofs.Common.{ℕ, ◌+◌, ◌<◌, IsTrue, slice_index, slice_index_or}
-use Rattle.cspf_db.specs.declared.link.Link.{Link}
-use Rattle.cspf_db.specs.Admissible.{IsUsable}
+use Rattle.cspf_model.specs.declared.link.Link.{Link}
+use Rattle.cspf_model.specs.Admissible.{IsUsable}
 use Rattle.cspf_search.specs.Frontier.{nothing}
 use Rattle.cspf_search.proofs.strict.joins.Given as goal
 

@@ -1,5 +1,5 @@
 use Rattle.std.proofs.Common.{◌≡◌, ◌++◌, map, take}
-use Rattle.cspf_db.specs.declared.batch.Change.TheVariants.{Put}
+use Rattle.cspf_model.specs.declared.batch.Change.TheVariants.{Put}
 use Rattle.cspf_snapshot.specs.Snapshots.{marking}
 use Rattle.cspf_snapshot.proofs.making.list_changes.Given as goal
 

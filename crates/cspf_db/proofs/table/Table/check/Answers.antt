@@ -1,4 +1,4 @@
-use Rattle.cspf_db.proofs.Batches.LeastReasons.{refused_unfit}
+use Rattle.cspf_model.proofs.Batches.LeastReasons.{refused_unfit}
 use Rattle.cspf_db.proofs.table.Table.check.Goals as goal
 
 pub fits-requires-clause-all : goal.fits-requires-clause-all

@@ -1,5 +1,5 @@
 use Rattle.std.proofs.Common.{sym}
-use Rattle.cspf_db.proofs.Databases.LinksOfRows.{rows_listed, rows_keyed}
+use Rattle.cspf_model.proofs.Databases.LinksOfRows.{rows_listed, rows_keyed}
 use Rattle.cspf_db.proofs.Tables.InterfaceRange.{links_marked}
 use Rattle.cspf_db.proofs.Tables.RowOrder.{own_keys, links_of-database_of}
 use Rattle.cspf_db.proofs.table.Table.links.Goals as goal

@@ -1,6 +1,6 @@
 use Rattle.std.proofs.Common.{[], refl, ◌∙◌, arith}
 use Rattle.std.proofs.lemmas.List.Elements.{All-nil}
-use Rattle.cspf_db.proofs.Databases.DistinctRouters.{router_count-no_links}
+use Rattle.cspf_model.proofs.Databases.DistinctRouters.{router_count-no_links}
 use Rattle.cspf_db.proofs.Tables.RouterLists.{router_list-nil, routers_marked}
 use Rattle.cspf_db.proofs.table.Table.new.Goals as goal
 

@@ -1,5 +1,5 @@
 use Rattle.std.proofs.Common.{◌↔◌, IsTrue, subst}
-use Rattle.cspf_db.specs.Targets.{Owns}
+use Rattle.cspf_model.specs.Targets.{Owns}
 use Rattle.cspf_db.proofs.table.Table.owns.Goals as goal
 
 pub returns-in-Some : goal.returns-in-Some

@@ -1,9 +1,9 @@
 use Rattle.std.proofs.Common.{◌≤◌, Ok, Err, length, ap, sym, subst, ◌∙◌, arith}
 use Rattle.std.specs.Result.{OnErr}
-use Rattle.cspf_db.specs.Changes.{Fits}
-use Rattle.cspf_db.specs.Tables.Rows.{database_of}
-use Rattle.cspf_db.proofs.Batches.LeastReasons.{refused_unfit}
-use Rattle.cspf_db.proofs.Databases.MarkedLinks.{links_counted, routers_counted, marked_after}
+use Rattle.cspf_model.specs.Changes.{Fits}
+use Rattle.cspf_model.specs.Lemmas.LinkRows.{database_of}
+use Rattle.cspf_model.proofs.Batches.LeastReasons.{refused_unfit}
+use Rattle.cspf_model.proofs.Databases.MarkedLinks.{links_counted, routers_counted, marked_after}
 use Rattle.cspf_db.proofs.Tables.AlikeRows.{ends_alike, reverses_alike, routers_alike, spans_alike, as_many, unmarked}
 use Rattle.cspf_db.proofs.Tables.EndColumn.{length-ends}
 use Rattle.cspf_db.proofs.Tables.MarkChanges.{still_marks}

@@ -1,4 +1,4 @@
-use Rattle.cspf_db.proofs.Batches.RouterSets.{full-put}
+use Rattle.cspf_model.proofs.Batches.RouterSets.{full-put}
 use Rattle.cspf_db.proofs.table.check.add_puts.Goals as goal
 
 pub returns-then-not-add_ends-clause-full : goal.returns-then-not-add_ends-clause-full

@@ -1,7 +1,7 @@
 use Rattle.std.proofs.Common.{◌≡◌, ◌≤◌, drop}
 use Rattle.std.specs.FinSet as set
-use Rattle.cspf_db.specs.Tables.RowsLeft.{links_put}
-use Rattle.cspf_db.specs.Tables.CountedEnds.{with_ends}
+use Rattle.cspf_model.specs.Lemmas.RowsLeft.{links_put}
+use Rattle.cspf_model.specs.Lemmas.CountedEnds.{with_ends}
 use Rattle.cspf_db.proofs.table.check.add_puts.Given as goal
 
 abbrev pub invariant-loop-change : goal.invariant-loop-change

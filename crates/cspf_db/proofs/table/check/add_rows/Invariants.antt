@@ -1,7 +1,7 @@
 use Rattle.std.proofs.Common.{◌≡◌, ◌≤◌, drop}
 use Rattle.std.specs.FinSet as set
-use Rattle.cspf_db.specs.Tables.RowsLeft.{rows_left}
-use Rattle.cspf_db.specs.Tables.CountedEnds.{with_ends}
+use Rattle.cspf_model.specs.Lemmas.RowsLeft.{rows_left}
+use Rattle.cspf_model.specs.Lemmas.CountedEnds.{with_ends}
 use Rattle.cspf_db.proofs.table.check.add_rows.Given as goal
 
 abbrev pub invariant-loop-row : goal.invariant-loop-row

@@ -4,8 +4,8 @@ use Rattle.std.specs.List.{IsDistinct}
 use Rattle.std.proofs.lemmas.Cmp.{eq_by_cmp_equiv}
 use Rattle.std.proofs.lemmas.List.Sorted.{IsPermutation-sym}
 use Rattle.std.proofs.lemmas.Map.Keys.{IsDistinct-IsPermutation}
-use Rattle.cspf_db.specs.Changes.{change_key_cmp}
-use Rattle.cspf_db.proofs.Databases.Keys.{change_keys_total}
+use Rattle.cspf_model.specs.Changes.{change_key_cmp}
+use Rattle.cspf_model.proofs.Databases.Keys.{change_keys_total}
 use Rattle.cspf_db.proofs.table.check.are_apart_in.Goals as goal
 
 pub returns : goal.returns

@@ -1,5 +1,5 @@
 use Rattle.std.proofs.Common.{ℕ, ◌<◌}
-use Rattle.cspf_db.specs.Tables.RepeatedKeys.{IsNewAt}
+use Rattle.cspf_model.specs.Lemmas.RepeatedKeys.{IsNewAt}
 use Rattle.cspf_db.proofs.table.check.first_repeat.Given as goal
 
 abbrev pub invariant-loop-at : goal.invariant-loop-at

@@ -1,8 +1,8 @@
 use Rattle.std.proofs.Common.{length, ap, ◌∙◌, arith}
-use Rattle.cspf_db.specs.Tables.Rows.{database_of}
+use Rattle.cspf_model.specs.Lemmas.LinkRows.{database_of}
 use Rattle.cspf_db.proofs.Tables.RowOrder.{own_keys}
 use Rattle.cspf_db.proofs.Tables.RouterLists.{ends_listed, length-router_list, rising-router_list}
-use Rattle.cspf_db.proofs.Databases.EndCounts.{router_count-brought, router_count-gone}
+use Rattle.cspf_model.proofs.Databases.EndCounts.{router_count-brought, router_count-gone}
 use Rattle.cspf_db.proofs.table.check.fit_by_one.Goals as goal
 
 pub count_brought-requires-clause-rising : goal.count_brought-requires-clause-rising

@@ -1,6 +1,6 @@
 use Rattle.std.proofs.Common.{◌<◌, ◌≤◌, refl, subst}
-use Rattle.cspf_db.proofs.Batches.LeastReasons.{least_repeat, least_absent, not_full, not_many}
-use Rattle.cspf_db.proofs.Databases.MarkedLinks.{links_counted, routers_counted, marks_counted}
+use Rattle.cspf_model.proofs.Batches.LeastReasons.{least_repeat, least_absent, not_full, not_many}
+use Rattle.cspf_model.proofs.Databases.MarkedLinks.{links_counted, routers_counted, marks_counted}
 use Rattle.cspf_db.proofs.table.check.fits.Goals as goal
 
 pub returns-in-Some-clause-err : goal.returns-in-Some-clause-err

@@ -1,8 +1,8 @@
 use Rattle.std.proofs.Common.{rules, arith}
 use Rattle.std.proofs.lemmas.List.Elements.{recursion_from_All}
-use Rattle.cspf_db.specs.Changes.{IsPresent}
-use Rattle.cspf_db.specs.Tables.Rows.{database_of}
-use Rattle.cspf_db.proofs.Batches.LinkCounts.{sum_after, difference_after}
+use Rattle.cspf_model.specs.Changes.{IsPresent}
+use Rattle.cspf_model.specs.Lemmas.LinkRows.{database_of}
+use Rattle.cspf_db.proofs.Tables.LinkCounts.{sum_after, difference_after}
 use Rattle.cspf_db.proofs.table.check.has_too_many_links.Goals as goal
 
 pub overflow_sub-after : goal.overflow_sub-after

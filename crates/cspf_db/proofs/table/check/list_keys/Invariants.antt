@@ -1,5 +1,5 @@
 use Rattle.std.proofs.Common.{◌≡◌, map, take}
-use Rattle.cspf_db.specs.Changes.{key_changed}
+use Rattle.cspf_model.specs.Changes.{key_changed}
 use Rattle.cspf_db.proofs.table.check.list_keys.Given as goal
 
 abbrev pub invariant-loop-at : goal.invariant-loop-at

@@ -1,4 +1,4 @@
-use Rattle.cspf_db.proofs.Batches.LeastReasons.{once_if_none}
+use Rattle.cspf_model.proofs.Batches.LeastReasons.{once_if_none}
 use Rattle.cspf_db.proofs.table.check.repeat.Goals as goal
 
 pub returns-else-changes-gt-FEW-clause-none : goal.returns-else-changes-gt-FEW-clause-none

@@ -2,9 +2,9 @@ use Rattle.std.proofs.Common.{◌≡◌, ◌-◌, get_or, sym, ◌∙◌, arith}
 use Rattle.std.specs.declared.cmp.Ordering.TheVariants.{Less}
 use Rattle.std.proofs.lemmas.List.{get_or_read}
 use Rattle.std.proofs.lemmas.List.Sorted.{all_adjacent_more}
-use Rattle.cspf_db.specs.Changes.{change_key_cmp}
+use Rattle.cspf_model.specs.Changes.{change_key_cmp}
 use Rattle.cspf_db.proofs.Tables.SortedEntries.{test_from_true, less_from}
-use Rattle.cspf_db.proofs.Batches.RisingKeys.{IsBelow, distinct_from_rising}
+use Rattle.cspf_model.proofs.Batches.RisingKeys.{IsBelow, distinct_from_rising}
 use Rattle.cspf_db.proofs.table.check.rise.Goals as goal
 
 pub loop-at-preserved : goal.loop-at-preserved

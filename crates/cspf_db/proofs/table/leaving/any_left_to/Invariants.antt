@@ -1,6 +1,6 @@
 use Rattle.std.proofs.Common.{◌≡◌, ℕ, ◌<◌, ◌&&◌, false, nat_eq, slice_index, slice_index_or}
-use Rattle.cspf_db.specs.declared.link.Link.{Link}
-use Rattle.cspf_db.specs.Tables.RowsLeft.{is_untouched}
+use Rattle.cspf_model.specs.declared.link.Link.{Link}
+use Rattle.cspf_model.specs.Lemmas.RowsLeft.{is_untouched}
 use Rattle.cspf_db.proofs.table.leaving.any_left_to.Given as goal
 
 abbrev pub invariant-loop-at : goal.invariant-loop-at

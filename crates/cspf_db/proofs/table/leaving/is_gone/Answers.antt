@@ -1,8 +1,8 @@
 use Rattle.std.proofs.Common.{◌≡◌, Bool, true, false, not, filter, nat_eq, slice_index, refl, sym, subst, ◌∙◌}
 use Rattle.std.specs.List.{list_any}
 use Rattle.std.proofs.lemmas.List.{get_or_default}
-use Rattle.cspf_db.specs.Tables.GoneRouters.{is_at}
-use Rattle.cspf_db.specs.Tables.RowsLeft.{is_untouched, links_put}
+use Rattle.cspf_model.specs.Lemmas.GoneRouters.{is_at}
+use Rattle.cspf_model.specs.Lemmas.RowsLeft.{is_untouched, links_put}
 use Rattle.cspf_db.proofs.Tables.GoneRouters.{puts_there, nothing_left}
 use Rattle.cspf_db.proofs.Tables.RouterLists.{rising-router_list}
 use Rattle.cspf_db.proofs.table.leaving.is_gone.Goals as goal

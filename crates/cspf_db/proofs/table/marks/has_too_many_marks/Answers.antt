@@ -1,5 +1,5 @@
 use Rattle.std.proofs.Common.{rules, arith}
-use Rattle.cspf_db.specs.Tables.Rows.{marks_in}
+use Rattle.cspf_model.specs.Lemmas.LinkRows.{marks_in}
 use Rattle.cspf_db.proofs.Tables.MarkChanges.{len-marks_in, marks_count, marks_difference}
 use Rattle.cspf_db.proofs.table.marks.has_too_many_marks.Goals as goal
 

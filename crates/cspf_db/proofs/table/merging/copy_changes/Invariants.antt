@@ -1,6 +1,6 @@
 use Rattle.std.proofs.Common.{◌≡◌, ◌≤◌, map, take, slice_index_or, vec_len}
 use Rattle.std.specs.Vec.{vec_capacity}
-use Rattle.cspf_db.specs.declared.batch.Change.{Change}
+use Rattle.cspf_model.specs.declared.batch.Change.{Change}
 use Rattle.cspf_db.proofs.table.merging.copy_changes.Given as goal
 
 abbrev pub invariant-loop-place : goal.invariant-loop-place

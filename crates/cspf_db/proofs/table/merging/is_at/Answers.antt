@@ -1,8 +1,8 @@
 use Rattle.std.proofs.Common.{sym, ap, ◌∙◌, arith}
 use Rattle.std.specs.Ordering.{is_eq}
 use Rattle.std.proofs.lemmas.List.{get_or_read}
-use Rattle.cspf_db.specs.declared.link.Link.{Link}
-use Rattle.cspf_db.specs.Database.{key_of, key_cmp}
+use Rattle.cspf_model.specs.declared.link.Link.{Link}
+use Rattle.cspf_model.specs.Database.{key_of, key_cmp}
 use Rattle.cspf_db.proofs.Tables.MergedRows.{above_next}
 use Rattle.cspf_db.proofs.table.merging.is_at.Goals as goal
 use Rattle.cspf_db.proofs.table.merging.is_at.Goals.{else-next-rows-via-then-next-rows+else-is_eq, else-next-rows-via-else-next-rows}

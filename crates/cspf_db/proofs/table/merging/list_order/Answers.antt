@@ -1,6 +1,6 @@
 use Rattle.std.proofs.Common.{ap, ◌∙◌, arith}
 use Rattle.std.proofs.lemmas.List.{get_or_read, take_all}
-use Rattle.cspf_db.specs.Changes.{key_changed}
+use Rattle.cspf_model.specs.Changes.{key_changed}
 use Rattle.cspf_db.proofs.Tables.SortedChanges.{places_more, listed_more}
 use Rattle.cspf_db.proofs.table.merging.list_order.Goals as goal
 

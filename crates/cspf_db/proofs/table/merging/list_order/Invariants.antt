@@ -1,6 +1,6 @@
 use Rattle.std.proofs.Common.{◌≡◌, ◌≤◌, All, map, take, slice_index_or, vec_len}
 use Rattle.std.specs.Vec.{vec_capacity}
-use Rattle.cspf_db.specs.declared.batch.Change.{Change}
+use Rattle.cspf_model.specs.declared.batch.Change.{Change}
 use Rattle.cspf_db.specs.Tables.MergeSteps.{IsPlaceOfChange}
 use Rattle.cspf_db.proofs.table.merging.list_order.Given as goal
 

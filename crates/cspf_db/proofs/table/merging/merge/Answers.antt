@@ -1,13 +1,13 @@
 use Rattle.std.proofs.Common.{◌+◌, List, ◌∷◌, ◌++◌, length, drop, get_or, refl, sym, ap, subst, ◌∙◌, arith}
 use Rattle.std.proofs.lemmas.List.{drop_more, get_or_read}
 use Rattle.std.proofs.lemmas.List.Elements.{All-nil}
-use Rattle.cspf_db.specs.declared.link.Link.{Link}
-use Rattle.cspf_db.specs.declared.batch.Change.{Change}
-use Rattle.cspf_db.specs.Database.{Database}
-use Rattle.cspf_db.specs.Changes.{change_key_cmp, key_changed}
-use Rattle.cspf_db.specs.Tables.LinkChanges.{all_relinked}
+use Rattle.cspf_model.specs.declared.link.Link.{Link}
+use Rattle.cspf_model.specs.declared.batch.Change.{Change}
+use Rattle.cspf_model.specs.Database.{Database}
+use Rattle.cspf_model.specs.Changes.{change_key_cmp, key_changed}
+use Rattle.cspf_model.specs.Lemmas.LinkChanges.{all_relinked}
 use Rattle.cspf_db.specs.Tables.MergeSteps.{EndsBelow}
-use Rattle.cspf_db.specs.Tables.Rows.{database_of}
+use Rattle.cspf_model.specs.Lemmas.LinkRows.{database_of}
 use Rattle.cspf_db.proofs.Tables.EndColumn.{length-ends, ends_joined, ends_between}
 use Rattle.cspf_db.proofs.table.merging.merge.Goals as goal
 

@@ -1,10 +1,11 @@
 use Rattle.std.proofs.Common.{◌≡◌, ◌≤◌, ◌<◌, ◌+◌, ◌-◌, ◌++◌, drop, length, slice_index_or, vec_len}
 use Rattle.std.specs.Vec.{vec_capacity}
-use Rattle.cspf_db.specs.declared.batch.Change.{Change}
-use Rattle.cspf_db.specs.Changes.{key_changed}
-use Rattle.cspf_db.specs.Tables.LinkChanges.{all_relinked}
+use Rattle.cspf_model.specs.declared.batch.Change.{Change}
+use Rattle.cspf_model.specs.Changes.{key_changed}
+use Rattle.cspf_model.specs.Lemmas.LinkChanges.{all_relinked}
 use Rattle.cspf_db.specs.Tables.MergeSteps.{EndsBelow}
-use Rattle.cspf_db.specs.Tables.Rows.{database_of, AreByKey, AreEndsOf}
+use Rattle.cspf_model.specs.Lemmas.LinkRows.{database_of, AreByKey}
+use Rattle.cspf_db.specs.Tables.Rows.{AreEndsOf}
 use Rattle.cspf_db.proofs.table.merging.merge.Given as goal
 
 abbrev pub invariant-loop-change : goal.invariant-loop-change

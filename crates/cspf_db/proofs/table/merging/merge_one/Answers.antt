@@ -2,11 +2,11 @@ use Rattle.std.proofs.Common.{◌≡◌, List, [], ◌∷◌, ◌++◌, length, 
 use Rattle.std.specs.List.{AllWithin, between}
 use Rattle.std.specs.declared.cmp.Ordering.TheVariants.{Less, Greater}
 use Rattle.std.proofs.lemmas.List.Edits.{length-between}
-use Rattle.cspf_db.specs.declared.link.Link.{Link}
-use Rattle.cspf_db.specs.Database.{key_of}
+use Rattle.cspf_model.specs.declared.link.Link.{Link}
+use Rattle.cspf_model.specs.Database.{key_of}
 use Rattle.cspf_db.specs.Tables.MergeSteps.{EndsBelow}
-use Rattle.cspf_db.specs.Tables.RowsLeft.{links_put}
-use Rattle.cspf_db.specs.Changes.{change_key_cmp, link_key, key_changed}
+use Rattle.cspf_model.specs.Lemmas.RowsLeft.{links_put}
+use Rattle.cspf_model.specs.Changes.{change_key_cmp, link_key, key_changed}
 use Rattle.cspf_db.proofs.Tables.MergedRows.{merged_over, merged_before, copied_below, put_below}
 use Rattle.cspf_db.proofs.Tables.EndColumn.{ends_joined, ends_between}
 use Rattle.cspf_db.proofs.table.merging.merge_one.Goals as goal

@@ -3,10 +3,10 @@ use Rattle.std.specs.Ordering.{eq_by_cmp}
 use Rattle.std.proofs.lemmas.Cmp.{eq_by_cmp_equiv}
 use Rattle.std.proofs.lemmas.List.Sorted.{All-permutation, IsPermutation-map}
 use Rattle.std.proofs.lemmas.Map.Keys.{IsDistinct-IsPermutation}
-use Rattle.cspf_db.specs.Changes.{change_key_cmp}
-use Rattle.cspf_db.specs.Changes.{key_changed}
+use Rattle.cspf_model.specs.Changes.{change_key_cmp}
+use Rattle.cspf_model.specs.Changes.{key_changed}
 use Rattle.cspf_db.specs.Tables.MergeSteps.{IsPlaceOfChange}
-use Rattle.cspf_db.proofs.Databases.Keys.{change_keys_total}
+use Rattle.cspf_model.proofs.Databases.Keys.{change_keys_total}
 use Rattle.cspf_db.proofs.Tables.SortedChanges.{change_of, permuted, in_order}
 use Rattle.cspf_db.proofs.table.merging.sort_changes.Goals as goal
 

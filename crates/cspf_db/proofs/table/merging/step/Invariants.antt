@@ -1,7 +1,7 @@
 use Rattle.std.proofs.Common.{◌≡◌, ◌-◌, ◌≤◌, length}
 use Rattle.std.specs.List.{AllWithin}
 use Rattle.std.specs.declared.cmp.Ordering.TheVariants.{Less}
-use Rattle.cspf_db.specs.Database.{key_of, key_cmp}
+use Rattle.cspf_model.specs.Database.{key_of, key_cmp}
 use Rattle.cspf_db.proofs.table.merging.step.Given as goal
 
 abbrev pub invariant-loop-next : goal.invariant-loop-next

@@ -1,7 +1,7 @@
 use Rattle.std.proofs.Common.{refl}
-use Rattle.cspf_db.specs.declared.batch.Change.TheVariants.{Put}
-use Rattle.cspf_db.specs.Tables.LinkChanges.{relinked}
-use Rattle.cspf_db.specs.Tables.Rows.{database_of}
+use Rattle.cspf_model.specs.declared.batch.Change.TheVariants.{Put}
+use Rattle.cspf_model.specs.Lemmas.LinkChanges.{relinked}
+use Rattle.cspf_model.specs.Lemmas.LinkRows.{database_of}
 use Rattle.cspf_db.proofs.Tables.AlikeRows.{key_alike, found_alike, written_alike}
 use Rattle.cspf_db.proofs.Tables.RowOrder.{entries-hit, by_key-entries, database_of-entries}
 use Rattle.cspf_db.proofs.table.overwriting.write_one.Goals as goal

@@ -1,8 +1,8 @@
 use Rattle.std.proofs.Common.{◌≡◌, ◌≤◌, drop}
 use Rattle.std.specs.Vec.{vec_capacity}
 use Rattle.cspf_db.specs.Tables.AlikeChanges.{RunAlike}
-use Rattle.cspf_db.specs.Tables.LinkChanges.{all_relinked}
-use Rattle.cspf_db.specs.Tables.Rows.{database_of, AreByKey}
+use Rattle.cspf_model.specs.Lemmas.LinkChanges.{all_relinked}
+use Rattle.cspf_model.specs.Lemmas.LinkRows.{database_of, AreByKey}
 use Rattle.cspf_db.proofs.table.overwriting.write_over.Given as goal
 
 abbrev pub invariant-loop-change : goal.invariant-loop-change

@@ -1,6 +1,6 @@
 use Rattle.std.proofs.Common.{filter, sym, ap, subst, ◌∙◌, arith}
 use Rattle.std.proofs.lemmas.List.{take_all}
-use Rattle.cspf_db.specs.Tables.CountedEnds.{is_end_of}
+use Rattle.cspf_model.specs.Lemmas.CountedEnds.{is_end_of}
 use Rattle.cspf_db.specs.Tables.Rows.{ArePlacesIn}
 use Rattle.cspf_db.proofs.Tables.RouterPlaces.{filter_places}
 use Rattle.cspf_db.proofs.table.places.keep_marked.Goals as goal

@@ -1,6 +1,6 @@
 use Rattle.std.proofs.Common.{◌≡◌, ℕ, ◌<◌, ◌≤◌, filter, take, length, slice_index, vec_len}
 use Rattle.std.specs.Vec.{vec_capacity}
-use Rattle.cspf_db.specs.Tables.CountedEnds.{is_end_of}
+use Rattle.cspf_model.specs.Lemmas.CountedEnds.{is_end_of}
 use Rattle.cspf_db.proofs.table.places.keep_marked.Given as goal
 
 abbrev pub invariant-loop-at : goal.invariant-loop-at

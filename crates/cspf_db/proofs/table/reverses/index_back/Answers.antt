@@ -1,6 +1,6 @@
 use Rattle.std.proofs.Common.{◌≡◌, ℕ, true, not, eqb, sym, ap, ◌∙◌}
 use Rattle.std.proofs.lemmas.Bool.{eqb-false, not-true}
-use Rattle.cspf_db.specs.declared.link.Link.{Link}
+use Rattle.cspf_model.specs.declared.link.Link.{Link}
 use Rattle.cspf_db.proofs.Tables.ReverseColumn.{not_back}
 use Rattle.cspf_db.proofs.table.reverses.index_back.Goals.{then-ne-via-then-ne, then-ne-via-else-ne+then-ne-2}
 use Rattle.cspf_db.proofs.table.reverses.index_back.Goals as goal

@@ -1,5 +1,5 @@
 use Rattle.std.proofs.Common.{rules, ◌≡◌, length, slice_index_or, sym, ap, subst, ◌∙◌, arith}
-use Rattle.cspf_db.specs.declared.link.Link.{Link}
+use Rattle.cspf_model.specs.declared.link.Link.{Link}
 use Rattle.cspf_db.specs.Tables.Rows.{IsSpanOf}
 use Rattle.cspf_db.proofs.Tables.ReverseColumn.{one_more}
 use Rattle.cspf_db.proofs.table.reverses.list_reverses.Goals as goal

@@ -1,6 +1,6 @@
 use Rattle.std.proofs.Common.{◌≡◌, ℕ, ◌<◌, ◌≤◌, slice_index_or, vec_len}
 use Rattle.std.specs.Vec.{vec_capacity}
-use Rattle.cspf_db.specs.declared.link.Link.{Link}
+use Rattle.cspf_model.specs.declared.link.Link.{Link}
 use Rattle.cspf_db.specs.Tables.Reverses.{IsIndexOfReverse, no_key}
 use Rattle.cspf_db.proofs.table.reverses.list_reverses.Given as goal
 

@@ -1,6 +1,6 @@
 use Rattle.std.proofs.Common.{slice_index_or, subst, arith}
 use Rattle.std.proofs.lemmas.List.{get_or_default, length-set}
-use Rattle.cspf_db.specs.Database.{key_of}
+use Rattle.cspf_model.specs.Database.{key_of}
 use Rattle.cspf_db.specs.Tables.Reverses.{IsIndexOfReverse, no_key}
 use Rattle.cspf_db.proofs.Tables.PairedRows.{taken_in_open, taken_in_paired}
 use Rattle.cspf_db.proofs.table.reverses.pair.Goals as goal

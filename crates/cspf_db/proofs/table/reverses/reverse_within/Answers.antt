@@ -1,5 +1,5 @@
 use Rattle.std.proofs.Common.{sym, subst, eqb}
-use Rattle.cspf_db.specs.Tables.Rows.{AreByKey}
+use Rattle.cspf_model.specs.Lemmas.LinkRows.{AreByKey}
 use Rattle.cspf_db.proofs.Tables.ReverseColumn.{key_within, none_back_within}
 use Rattle.cspf_db.proofs.Tables.RowOrder.{by_key-filter}
 use Rattle.cspf_db.proofs.table.reverses.reverse_within.Goals as goal

@@ -1,7 +1,7 @@
 use Rattle.std.proofs.Common.{arith, subst, All, take}
 use Rattle.std.proofs.lemmas.List.{take_all}
 use Rattle.std.proofs.lemmas.List.Elements.{All-contains_itself, All-nil, All-more, All-weaker}
-use Rattle.cspf_db.specs.Tables.CountedEnds.{HasListedEnds}
+use Rattle.cspf_model.specs.Lemmas.CountedEnds.{HasListedEnds}
 use Rattle.cspf_db.proofs.Tables.RouterPlaces.{kept_twice, listed_still}
 use Rattle.cspf_db.proofs.table.router_list.add_ends.Goals as goal
 

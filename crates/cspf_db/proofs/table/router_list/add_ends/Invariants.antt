@@ -1,6 +1,6 @@
 use Rattle.std.proofs.Common.{◌≤◌, ◌+◌, ◌*◌, All, Contains, take, vec_len}
 use Rattle.std.specs.Vec.{vec_capacity}
-use Rattle.cspf_db.specs.Tables.CountedEnds.{HasListedEnds}
+use Rattle.cspf_model.specs.Lemmas.CountedEnds.{HasListedEnds}
 use Rattle.cspf_db.specs.Tables.Rows.{AreRising}
 use Rattle.cspf_db.proofs.table.router_list.add_ends.Given as goal
 

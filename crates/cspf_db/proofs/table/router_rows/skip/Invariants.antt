@@ -1,5 +1,5 @@
 use Rattle.std.proofs.Common.{◌≡◌, ℕ, ◌-◌, ◌<◌, ◌≤◌, length, slice_index_or}
-use Rattle.cspf_db.specs.declared.link.Link.{Link}
+use Rattle.cspf_model.specs.declared.link.Link.{Link}
 use Rattle.cspf_db.proofs.table.router_rows.skip.Given as goal
 
 abbrev pub invariant-loop-at : goal.invariant-loop-at

@@ -1,6 +1,6 @@
-use Rattle.cspf_db.specs.declared.batch.Change.TheVariants.{Put}
-use Rattle.cspf_db.specs.Tables.Rows.{database_of}
-use Rattle.cspf_db.specs.Tables.LinkChanges.{relinked}
+use Rattle.cspf_model.specs.declared.batch.Change.TheVariants.{Put}
+use Rattle.cspf_model.specs.Lemmas.LinkRows.{database_of}
+use Rattle.cspf_model.specs.Lemmas.LinkChanges.{relinked}
 use Rattle.std.proofs.Common.{refl, arith}
 use Rattle.std.proofs.lemmas.List.{length-set}
 use Rattle.cspf_db.proofs.Tables.AlikeRows.{written_alike, ends_alike, reverses_alike}

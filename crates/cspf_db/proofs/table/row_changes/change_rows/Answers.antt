@@ -1,8 +1,8 @@
 use Rattle.std.proofs.Common.{filter, ap, ◌∙◌, arith}
-use Rattle.cspf_db.specs.Database.{link_count}
-use Rattle.cspf_db.specs.Tables.LinkChanges.{all_relinked}
-use Rattle.cspf_db.specs.Tables.Rows.{database_of}
-use Rattle.cspf_db.specs.Tables.RowsLeft.{puts_link}
+use Rattle.cspf_model.specs.Database.{link_count}
+use Rattle.cspf_model.specs.Lemmas.LinkChanges.{all_relinked}
+use Rattle.cspf_model.specs.Lemmas.LinkRows.{database_of}
+use Rattle.cspf_model.specs.Lemmas.RowsLeft.{puts_link}
 use Rattle.cspf_db.proofs.Tables.RemovalsFirst.{removals_first}
 use Rattle.cspf_db.proofs.table.row_changes.change_rows.Goals as goal
 

@@ -1,5 +1,5 @@
 use Rattle.std.proofs.Common.{length, ap, arith}
-use Rattle.cspf_db.specs.Tables.Rows.{database_of}
+use Rattle.cspf_model.specs.Lemmas.LinkRows.{database_of}
 use Rattle.cspf_db.proofs.Tables.RouterColumn.{column_table}
 use Rattle.cspf_db.proofs.Tables.TableLimits.{still_rows}
 use Rattle.cspf_db.proofs.Tables.RouterPlaces.{column_more}

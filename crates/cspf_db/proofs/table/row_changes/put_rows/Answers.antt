@@ -1,6 +1,6 @@
 use Rattle.std.proofs.Common.{not, sym, ap, ◌∙◌, arith}
-use Rattle.cspf_db.specs.Database.{link_count}
-use Rattle.cspf_db.specs.Tables.Rows.{database_of}
+use Rattle.cspf_model.specs.Database.{link_count}
+use Rattle.cspf_model.specs.Lemmas.LinkRows.{database_of}
 use Rattle.cspf_db.proofs.Tables.RemovalsFirst.{put_fits}
 use Rattle.cspf_db.proofs.table.row_changes.put_rows.Goals as goal
 

@@ -1,8 +1,9 @@
 use Rattle.std.proofs.Common.{◌≡◌, filter, drop}
-use Rattle.cspf_db.specs.Tables.LinkChanges.{all_relinked}
-use Rattle.cspf_db.specs.Tables.Rows.{database_of, AreRowsWithEnds}
+use Rattle.cspf_model.specs.Lemmas.LinkChanges.{all_relinked}
+use Rattle.cspf_model.specs.Lemmas.LinkRows.{database_of}
+use Rattle.cspf_db.specs.Tables.Rows.{AreRowsWithEnds}
 use Rattle.cspf_db.specs.Tables.Reverses.{AreReversesOf}
-use Rattle.cspf_db.specs.Tables.RowsLeft.{puts_link}
+use Rattle.cspf_model.specs.Lemmas.RowsLeft.{puts_link}
 use Rattle.cspf_db.proofs.table.row_changes.put_rows.Given as goal
 
 abbrev pub invariant-loop-change : goal.invariant-loop-change

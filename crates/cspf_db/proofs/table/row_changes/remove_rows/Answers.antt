@@ -1,6 +1,6 @@
 use Rattle.std.proofs.Common.{sym, ◌∙◌, arith}
-use Rattle.cspf_db.specs.Tables.Rows.{database_of}
-use Rattle.cspf_db.proofs.Databases.EndCounts.{link_count-database_of}
+use Rattle.cspf_model.specs.Lemmas.LinkRows.{database_of}
+use Rattle.cspf_model.proofs.Databases.EndCounts.{link_count-database_of}
 use Rattle.cspf_db.proofs.Tables.RowOrder.{own_keys}
 use Rattle.cspf_db.proofs.Tables.RemovalsFirst.{removal_count}
 use Rattle.cspf_db.proofs.table.row_changes.remove_rows.Goals as goal

@@ -1,5 +1,5 @@
-use Rattle.cspf_db.proofs.Databases.FoundLinks.{link_at-no_row}
-use Rattle.cspf_db.proofs.Databases.OneChange.{database-without, relinked-absent}
+use Rattle.cspf_model.proofs.Databases.FoundLinks.{link_at-no_row}
+use Rattle.cspf_model.proofs.Databases.OneChange.{database-without, relinked-absent}
 use Rattle.cspf_db.proofs.Tables.RowOrder.{own_keys, by_key-without}
 use Rattle.cspf_db.proofs.table.table_rows.remove.Goals as goal
 

@@ -1,5 +1,5 @@
 use Rattle.std.proofs.Common.{filter, nat_eq, sym, ap, ◌∙◌}
-use Rattle.cspf_db.specs.declared.link.Link.{Link}
+use Rattle.cspf_model.specs.declared.link.Link.{Link}
 use Rattle.cspf_db.proofs.Tables.RowOrder.{links_of-database_of}
 use Rattle.cspf_db.proofs.table.table_rows.rows_from.Goals as goal
 

@@ -1,7 +1,7 @@
 use Rattle.std.proofs.Common.{rules}
 use Rattle.std.proofs.lemmas.Fn.{always_returns_same}
-use Rattle.cspf_db.specs.declared.link.Link.{Link}
-use Rattle.cspf_db.specs.Database.{key_of, key_cmp}
+use Rattle.cspf_model.specs.declared.link.Link.{Link}
+use Rattle.cspf_model.specs.Database.{key_of, key_cmp}
 use Rattle.cspf_db.proofs.Tables.RowOrder.{found_key, key_gap}
 use Rattle.cspf_db.proofs.table.table_rows.search.Goals as goal
 

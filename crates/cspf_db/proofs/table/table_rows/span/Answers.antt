@@ -1,6 +1,6 @@
 use Rattle.std.proofs.Common.{rules, ltb, leb}
 use Rattle.std.proofs.lemmas.List.Sorted.{IsPartitionPoint-from_clause, IsPartitionedBy-ltb, IsPartitionedBy-leb}
-use Rattle.cspf_db.specs.declared.link.Link.{Link}
+use Rattle.cspf_model.specs.declared.link.Link.{Link}
 use Rattle.cspf_db.proofs.Tables.RowOrder.{from_rises}
 use Rattle.cspf_db.proofs.Tables.RowSpans.{span_in_order, filter-span}
 use Rattle.cspf_db.proofs.table.table_rows.span.Goals as goal

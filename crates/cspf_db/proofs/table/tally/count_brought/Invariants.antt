@@ -1,5 +1,5 @@
 use Rattle.std.proofs.Common.{◌≤◌, ◌*◌, take}
-use Rattle.cspf_db.specs.Tables.CountedEnds.{BringsAtMost}
+use Rattle.cspf_model.specs.Lemmas.CountedEnds.{BringsAtMost}
 use Rattle.cspf_db.proofs.table.tally.count_brought.Given as goal
 
 abbrev pub invariant-loop-at : goal.invariant-loop-at

@@ -1,10 +1,10 @@
 use Rattle.std.proofs.Common.{sym, ◌∙◌, arith}
-use Rattle.cspf_db.specs.Changes.{IsPresent}
+use Rattle.cspf_model.specs.Changes.{IsPresent}
 use Rattle.cspf_db.specs.Tables.AlikeChanges.{IsAlike}
-use Rattle.cspf_db.specs.Tables.CountedEnds.{HasListedEnds}
-use Rattle.cspf_db.specs.Tables.Rows.{database_of}
-use Rattle.cspf_db.specs.Tables.RowsLeft.{adds_link}
-use Rattle.cspf_db.proofs.Batches.LinkCounts.{within_more, count_more}
+use Rattle.cspf_model.specs.Lemmas.CountedEnds.{HasListedEnds}
+use Rattle.cspf_model.specs.Lemmas.LinkRows.{database_of}
+use Rattle.cspf_model.specs.Lemmas.RowsLeft.{adds_link}
+use Rattle.cspf_db.proofs.Tables.LinkCounts.{within_more, count_more}
 use Rattle.cspf_db.proofs.Tables.GoneRouters.{brings_once}
 use Rattle.cspf_db.proofs.table.tally.tally_all.Goals as goal
 use Rattle.cspf_db.proofs.table.tally.tally_all.Goals.{then-alike, else-alike}

@@ -1,10 +1,10 @@
 use Rattle.std.proofs.Common.{◌≡◌, true, ◌≤◌, ◌*◌, take, count_by}
 use Rattle.std.specs.List.{AllWithin}
-use Rattle.cspf_db.specs.Changes.{IsPresent}
+use Rattle.cspf_model.specs.Changes.{IsPresent}
 use Rattle.cspf_db.specs.Tables.AlikeChanges.{IsAlike}
-use Rattle.cspf_db.specs.Tables.CountedEnds.{HasListedEnds, BringsAtMost}
-use Rattle.cspf_db.specs.Tables.Rows.{database_of}
-use Rattle.cspf_db.specs.Tables.RowsLeft.{adds_link}
+use Rattle.cspf_model.specs.Lemmas.CountedEnds.{HasListedEnds, BringsAtMost}
+use Rattle.cspf_model.specs.Lemmas.LinkRows.{database_of}
+use Rattle.cspf_model.specs.Lemmas.RowsLeft.{adds_link}
 use Rattle.cspf_db.proofs.table.tally.tally_all.Given as goal
 
 abbrev pub invariant-loop-at : goal.invariant-loop-at

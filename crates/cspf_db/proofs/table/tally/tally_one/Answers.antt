@@ -1,4 +1,4 @@
-use Rattle.cspf_db.proofs.Databases.FoundLinks.{tells_removal}
+use Rattle.cspf_model.proofs.Databases.FoundLinks.{tells_removal}
 use Rattle.cspf_db.proofs.table.tally.tally_one.Goals as goal
 
 pub returns-then-is_none-clause-absent : goal.returns-then-is_none-clause-absent

@@ -1,7 +1,7 @@
 use Rattle.std.proofs.Common.{◌≡◌, ℕ, ◌<◌, ◌≤◌, false, not, length, slice_index, slice_index_or, vec_len}
 use Rattle.std.specs.Vec.{vec_capacity}
 use Rattle.std.specs.FinSet as set
-use Rattle.cspf_db.specs.Tables.Rows.{marks_in}
+use Rattle.cspf_model.specs.Lemmas.LinkRows.{marks_in}
 use Rattle.cspf_db.proofs.table.transits.list_transits.Given as goal
 
 abbrev pub invariant-loop-router : goal.invariant-loop-router

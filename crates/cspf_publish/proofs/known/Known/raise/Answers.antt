@@ -1,6 +1,6 @@
 use Rattle.std.proofs.Common.{ap, subst, arith, refl, length, List, ◌<◌, ◌≤◌, ◌∙◌}
 use mathlib.Core.List.{IsPrefix}
-use Rattle.cspf_db.specs.Numbered.{NumberedChanges}
+use Rattle.cspf_model.specs.Numbered.{NumberedChanges}
 use Rattle.cspf_publish.specs.Histories.{BeginsWith}
 use Rattle.cspf_publish.proofs.Prefixes.{begins, shorter}
 use Rattle.cspf_publish.proofs.known.Known.raise.Goals as goal

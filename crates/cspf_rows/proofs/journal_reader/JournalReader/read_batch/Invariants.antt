@@ -1,5 +1,5 @@
 use Rattle.std.proofs.Common.{◌-◌, ◌≤◌, ℕ, List, [], Option, false}
-use Rattle.cspf_db.specs.Numbered.{NumberedChanges}
+use Rattle.cspf_model.specs.Numbered.{NumberedChanges}
 use Rattle.cspf_rows.specs.GivenBatches.{CanRead}
 use Rattle.cspf_rows.specs.JournalReading.{HasRead}
 use Rattle.cspf_rows.proofs.journal_reader.JournalReader.read_batch.Given as goal

@@ -1,6 +1,6 @@
 use Rattle.std.proofs.Common.{◌-◌, ℕ, List, Option, true}
-use Rattle.cspf_db.specs.declared.batch.Change.{Change}
-use Rattle.cspf_db.specs.Numbered.{NumberedChanges}
+use Rattle.cspf_model.specs.declared.batch.Change.{Change}
+use Rattle.cspf_model.specs.Numbered.{NumberedChanges}
 use Rattle.cspf_rows.specs.GivenBatches.{CanRead}
 use Rattle.cspf_rows.specs.JournalReading.{HasRead}
 use Rattle.cspf_rows.proofs.journal_reader.JournalReader.skip_rest.Given as goal

@@ -1,5 +1,5 @@
 use Rattle.std.proofs.Common.{rules, ◌≤◌, length, arith}
-use Rattle.cspf_db.specs.Changes.{database_after}
+use Rattle.cspf_model.specs.Changes.{database_after}
 use Rattle.cspf_serve.proofs.PartLines.{part_written}
 use Rattle.cspf_serve.proofs.batch.answering.answer_in_parts.Goals as goal
 

@@ -1,5 +1,5 @@
 use Rattle.std.proofs.Common.{◌≡◌, ◌-◌, ◌≤◌, ℕ, List, [], length, Option, None, false}
-use Rattle.cspf_db.specs.Numbered.{NumberedChanges}
+use Rattle.cspf_model.specs.Numbered.{NumberedChanges}
 use Rattle.cspf_rows.specs.GivenBatches.{CanRead, HasGiven, rows_read}
 use Rattle.cspf_serve.specs.PublishedBatches.{ArePublished}
 use Rattle.cspf_serve.proofs.batch.publishing.publish_all.Given as goal

@@ -1,6 +1,6 @@
 use Rattle.std.proofs.Common.{◌≡◌, List, length, sym, refl, subst}
-use Rattle.cspf_db.specs.Changes.{database_after}
-use Rattle.cspf_db.specs.Numbered.{NumberedChanges}
+use Rattle.cspf_model.specs.Changes.{database_after}
+use Rattle.cspf_model.specs.Numbered.{NumberedChanges}
 use Rattle.cspf_serve.specs.BatchRun.{AreReplies}
 use Rattle.cspf_serve.specs.EarlyEnds.{Writes}
 use Rattle.cspf_serve.specs.LineTexts.{line_text}

@@ -1,6 +1,6 @@
 use Rattle.std.proofs.Common.{◌≡◌, ◌<◌, List, length, vec_len, rules, sym, subst, ◌∙◌, arith}
 use Rattle.std.specs.List.{AllZip}
-use Rattle.cspf_db.specs.Numbered.{NumberedChanges}
+use Rattle.cspf_model.specs.Numbered.{NumberedChanges}
 use Rattle.cspf_client.specs.declared.client.ServedClient.{ServedClient}
 use Rattle.cspf_client.specs.ServingStates.{ServingState}
 use Rattle.cspf_serve.specs.ServedRun.{IsServedStatus}

@@ -1,6 +1,6 @@
 use Rattle.std.proofs.Common.{◌<◌, length, length-take-le, sym, ◌∙◌, arith}
 use Rattle.std.proofs.lemmas.List.{take_more_set, length-set}
-use Rattle.cspf_db.proofs.Batches.RouterSets.{len-from_distinct, insert-there, contains-found, distinct-push, set-push, len-push}
+use Rattle.cspf_model.proofs.Batches.RouterSets.{len-from_distinct, insert-there, contains-found, distinct-push, set-push, len-push}
 use Rattle.cspf_db.proofs.table.routers.Routers.add.Goals as goal
 
 pub returns-then-contains-clause-added : goal.returns-then-contains-clause-added

@@ -1,4 +1,4 @@
-use Rattle.cspf_db.proofs.Batches.RouterSets.{full-first}
+use Rattle.cspf_model.proofs.Batches.RouterSets.{full-first}
 use Rattle.cspf_db.proofs.table.routers.Routers.add_ends.Goals as goal
 
 pub returns-else-add-clause-full : goal.returns-else-add-clause-full

@@ -1,5 +1,5 @@
 use Rattle.std.proofs.Common.{slice_index, ◌-◌, ◌∙◌, arith}
-use Rattle.cspf_db.proofs.Batches.RouterSets.{insert-there, contains-found, found_at}
+use Rattle.cspf_model.proofs.Batches.RouterSets.{insert-there, contains-found, found_at}
 use Rattle.cspf_db.proofs.table.routers.Routers.has.Goals as goal
 
 pub returns-then-self-place : goal.returns-then-self-place

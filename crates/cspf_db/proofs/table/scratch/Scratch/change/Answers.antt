@@ -1,10 +1,10 @@
 use Rattle.std.proofs.Common.{Vec, ap, ◌∙◌, arith}
 use Rattle.std.specs.declared.alloc.Global.{Global}
 use Rattle.std.proofs.lemmas.List.Sorted.{length_permutation, All-permutation}
-use Rattle.cspf_db.specs.declared.link.Link.{Link}
-use Rattle.cspf_db.specs.Tables.CountedEnds.{HasListedEnds}
-use Rattle.cspf_db.specs.Tables.Rows.{database_of}
-use Rattle.cspf_db.proofs.Databases.ChangedRows.{all_relinked-permuted}
+use Rattle.cspf_model.specs.declared.link.Link.{Link}
+use Rattle.cspf_model.specs.Lemmas.CountedEnds.{HasListedEnds}
+use Rattle.cspf_model.specs.Lemmas.LinkRows.{database_of}
+use Rattle.cspf_model.proofs.Databases.ChangedRows.{all_relinked-permuted}
 use Rattle.cspf_db.proofs.Tables.RemainingRouters.{rows_listed_after}
 use Rattle.cspf_db.proofs.Tables.TableLimits.{still_rows_with_ends}
 use Rattle.cspf_db.proofs.table.scratch.Scratch.change.Goals as goal

@@ -1,6 +1,6 @@
 use Rattle.std.proofs.Common.{Ok, refl}
 use Rattle.std.proofs.lemmas.Result.{IfOk-weaker}
-use Rattle.cspf_db.specs.declared.batch.Change.TheVariants as change
+use Rattle.cspf_model.specs.declared.batch.Change.TheVariants as change
 use Rattle.cspf_rows.specs.declared.row.Row.TheVariants as row
 use Rattle.cspf_serve.proofs.UpdatesSteps.{takes_change, takes_ask}
 use Rattle.cspf_serve.proofs.serving.updates.Updates.answer_read.Goals as goal

@@ -1,10 +1,10 @@
 use Rattle.std.proofs.Common.{length, subst}
 use Rattle.std.proofs.lemmas.Result.{IfOk-weaker}
 use Rattle.std.specs.Prelude.{IfOk}
-use Rattle.cspf_db.specs.Best.{Answer, IsBestAnswer}
-use Rattle.cspf_db.specs.Changes.{database_after}
+use Rattle.cspf_model.specs.Best.{Answer, IsBestAnswer}
+use Rattle.cspf_model.specs.Changes.{database_after}
 use Rattle.cspf_ero.specs.ReplyLine.{IsReply}
-use Rattle.cspf_search.specs.Outcome.{answer_of}
+use Rattle.cspf_model.specs.Outcome.{answer_of}
 use Rattle.cspf_serve.specs.UpdatesStates.{KeptUpdates}
 use Rattle.cspf_serve.proofs.serving.updates.Updates.reply.Goals as goal
 

@@ -1,6 +1,6 @@
 use Rattle.std.proofs.Common.{◌≡◌, rules, ap, subst, ◌∙◌, arith}
-use Rattle.cspf_db.specs.Changes.{Fits, after_changes}
-use Rattle.cspf_db.specs.Refusals.{IsRefusal}
+use Rattle.cspf_model.specs.Changes.{Fits, after_changes}
+use Rattle.cspf_model.specs.Refusals.{IsRefusal}
 use Rattle.cspf_serve.specs.declared.solve.solver.Solver.{Solver}
 use Rattle.cspf_serve.specs.Script.{IsAccepted}
 use Rattle.cspf_serve.proofs.KeptChanges.{fits_whole, fits_kept, refusal_whole}

@@ -1,6 +1,6 @@
 use Rattle.std.proofs.Common.{ℕ, List, refl, sym, subst, rules}
 use Rattle.std.proofs.lemmas.Result.{IfOk-weaker}
-use Rattle.cspf_db.specs.declared.batch.Change.TheVariants as change
+use Rattle.cspf_model.specs.declared.batch.Change.TheVariants as change
 use Rattle.cspf_serve.specs.Script.{IsEndAnswered, after_change_row, after_reply}
 use Rattle.cspf_serve.proofs.SolverSteps.{keeps_replied}
 use Rattle.cspf_serve.proofs.solve.solver.Solver.answer_read.Goals as goal

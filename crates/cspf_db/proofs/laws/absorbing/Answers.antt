@@ -1,5 +1,0 @@
-use Rattle.cspf_db.proofs.Databases.LastChanges.{one_more_batch}
-use Rattle.cspf_db.proofs.laws.absorbing.Goals as goal
-
-pub returns : goal.returns
-returns c = one_more_batch

@@ -1,5 +1,0 @@
-use Rattle.cspf_db.proofs.Routes.WalkOrder.{walks_total, walks_told, routes_ranked}
-use Rattle.cspf_db.proofs.laws.order_of_walks.Goals as goal
-
-pub returns : goal.returns
-returns c = record { total = walks_total; told = walks_told; ranked = routes_ranked }

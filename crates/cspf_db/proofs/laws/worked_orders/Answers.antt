@@ -1,5 +1,0 @@
-use Rattle.cspf_db.proofs.Routes.WorkedExamples.{as_numbers, fewer_first}
-use Rattle.cspf_db.proofs.laws.worked_orders.Goals as goal
-
-pub returns : goal.returns
-returns c = record { numbers = as_numbers; fewer = fewer_first }

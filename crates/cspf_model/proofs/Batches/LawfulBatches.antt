@@ -1,0 +1,28 @@
+-- Lists of batches that are lawful.
+use Rattle.std.proofs.Common.{◌↔◌, List, [], ◌∷◌, ◌++◌, sym, subst}
+use Rattle.cspf_model.specs.Numbered.{NumberedChanges}
+use Rattle.cspf_model.specs.Database.{Database}
+use Rattle.cspf_model.specs.Changes.{changes_of, no_links, after_changes, AreLawfulAfter}
+use Rattle.cspf_model.specs.Laws.{LawfulByOneMore, FirstBatchesAreLawful}
+use Rattle.cspf_model.proofs.Databases.LastChanges.{after_changes-append}
+
+-- batches are lawful where their first ones are, and the others are from those on
+AreLawfulAfter-append : (d : Database) (bs cs : List NumberedChanges)
+    → AreLawfulAfter d (bs ++ cs) ↔ (AreLawfulAfter d bs × AreLawfulAfter (after_changes d (changes_of bs)) cs)
+AreLawfulAfter-append d [] cs = ((λ more. (tt, more)), λ both. both.1)
+AreLawfulAfter-append d (b ∷ bs) cs =
+    let rest = AreLawfulAfter-append (after_changes d b.changes) bs cs in
+    let same = after_changes-append d b.changes (changes_of bs) in (
+      (λ all. let both = rest.0 all.1 in ((all.0, both.0), subst (λ e. AreLawfulAfter e cs) (sym same) both.1)),
+      λ both. (both.0.0, rest.1 (both.0.1, subst (λ e. AreLawfulAfter e cs) same both.1)),
+    )
+
+-- one more batch keeps a lawful list lawful where it fits
+pub one_more : LawfulByOneMore
+one_more bs b =
+    let parts = AreLawfulAfter-append no_links bs (b ∷ []) in
+    ((λ all. let both = parts.0 all in (both.0, both.1.0)), λ both. parts.1 (both.0, (both.1, tt)))
+
+-- the first of lawful batches are lawful
+pub first_batches : FirstBatchesAreLawful
+first_batches bs more all = ((AreLawfulAfter-append no_links bs more).0 all).0

@@ -1,0 +1,270 @@
+-- The first reason why a batch does not fit, and that there is one at most.
+use Rattle.cspf_model.specs.Laws.{OneRefusal}
+use mathlib.Core.Bool.{true≢false}
+use Rattle.std.proofs.Common.{◌≡◌, ℕ, zero, suc, ◌+◌, ◌<◌, ◌≤◌, ◌||◌, true, false, Option, Some, None, option_map, List, [], ◌∷◌, length, map, take, refl, sym, ap, subst, ◌∙◌, add-one, arith, length-take-le, is_some, IfNone, IsTrue}
+use Rattle.std.specs.Ordering.{eq_by_cmp}
+use Rattle.std.specs.List.{IsDistinct, AllWithin, HoldsAt, list_any, slice_get, slice_index_or}
+use Rattle.std.proofs.lemmas.Cmp.{eq_by_cmp_equiv}
+use Rattle.std.proofs.lemmas.List.{map-append, take_more, take_all, get_or-take, get_or_default, length-map}
+use Rattle.std.proofs.lemmas.List.Folds.{Any-from_list_any, list_any-from_Any}
+use Rattle.std.proofs.lemmas.Map.Keys.{IsDistinct-push, apart_from_distinct}
+use Rattle.std.proofs.lemmas.Option.{slice_get-get_or, slice_get_within, slice_get-map, get_or_from_slice_get}
+use Rattle.cspf_model.specs.declared.batch.Change.{Change}
+use Rattle.cspf_model.specs.declared.batch.Change.TheVariants.{Put, Remove, Node}
+use Rattle.cspf_model.specs.declared.refusal.Refusal.{Refusal}
+use Rattle.cspf_model.specs.declared.refusal.Refusal.TheVariants.{TooLong, Duplicate, Absent, Full, TooManyRouters, TooManyMarks}
+use Rattle.cspf_model.specs.Numbered.{NumberedChanges}
+use Rattle.cspf_model.specs.Database.{Database}
+use Rattle.cspf_model.specs.Changes.{ChangeKey, change_key_cmp, key_changed, IsPresent, Fits}
+use Rattle.cspf_model.specs.Lemmas.RepeatedKeys.{is_changed, IsNewAt, IsRepeatedAt}
+use Rattle.cspf_model.specs.Refusals.{change_at, RepeatsAt, RemovesNothing, RemovesNothingAt, IsLeastPlace, AreOnceEach, ArePresent, IsRefusal}
+use Rattle.cspf_model.proofs.Databases.Keys.{change_keys_total, change_keys_same, change_key_itself}
+
+-- equal keys tie
+tie_from : (j k : ChangeKey) → j ≡ k → eq_by_cmp change_key_cmp j k ≡ true
+tie_from j k e = ap (eq_by_cmp change_key_cmp j) (sym e) ∙ change_key_itself j
+
+-- a change at an index is at the next place
+at_place : (cs : List Change) (at : ℕ) (d : Change) → at < length cs
+    → change_at cs (at + 1) ≡ Some (slice_index_or cs at d)
+at_place cs at d within = ap (change_at cs) (add-one at) ∙ slice_get-get_or cs at d within
+
+-- where the index of an earlier change shows that the key is repeated
+repeated_before : (cs : List Change) (at earlier : ℕ) (d : Change) → at < length cs → earlier < at
+    → key_changed (slice_index_or cs earlier d) ≡ key_changed (slice_index_or cs at d)
+    → is_changed (take at cs) (key_changed (slice_index_or cs at d)) ≡ true
+repeated_before cs at earlier d within before same =
+    let long : length (take at cs) ≡ at = length-take-le at cs (omega arith) in
+    list_any-from_Any
+    (λ c. eq_by_cmp change_key_cmp (key_changed (slice_index_or cs at d)) (key_changed c)) (take at cs)
+    (earlier, slice_index_or cs earlier d, omega (arith, long, before), get_or_default (take at cs) earlier _ d (omega (arith, long, before)) ∙ get_or-take at cs earlier d before, tie_from _ _ (sym same))
+
+-- a place before the first repeat repeats nothing
+new_before : (cs : List Change) (at : ℕ) → ((k : ℕ) → k < at → IsNewAt cs k) → (place : ℕ)
+    → place < at + 1 → ¬ RepeatsAt cs place
+new_before cs at new zero within r = absurd (none-some (r.is_second))
+  where
+    none-some : ◌≡◌ {A = Option Change} None (Some r.second) → ⊥
+    none-some e = cc
+new_before cs at new (suc n) within r = earlier_cases r.earlier r.is_earlier r.is_first
+  where
+    earlier_cases : (e : ℕ) → e < suc n → change_at cs e ≡ Some r.first → ⊥
+    earlier_cases zero before is = absurd (cc)
+    earlier_cases (suc m) before is =
+        let first = get_or_from_slice_get cs m r.first r.second is in
+        let second = get_or_from_slice_get cs n r.second r.second r.is_second in
+        true≢false
+        (sym (repeated_before cs n m r.second (slice_get_within cs n r.second r.is_second) (omega (arith, before)) (ap key_changed first ∙ r.one_key ∙ ap key_changed (sym second))) ∙ new n (omega (arith, within)) r.second)
+
+-- the first index that repeats a key is the least such place
+pub least_repeat : (cs : List Change) (at : ℕ) → at < length cs → IsRepeatedAt cs at
+    → ((k : ℕ) → k < at → IsNewAt cs k) → IsLeastPlace (RepeatsAt cs) (at + 1)
+least_repeat [] at within repeated new = absurd (omega (arith, within))
+least_repeat (c ∷ cs) at within repeated new = record {
+  here =
+      let one = Any-from_list_any (λ b. eq_by_cmp change_key_cmp (key_changed (slice_index_or (c ∷ cs) at c)) (key_changed b)) (take at (c ∷ cs)) (repeated c) in
+      let long : length (take at (c ∷ cs)) ≡ at = length-take-le at (c ∷ cs) (omega (arith, within)) in
+      let before : one.0 < at = omega (arith, long, one.2) in
+      record {
+        earlier = one.0 + 1;
+        is_earlier = omega (arith, before);
+        first = slice_index_or (c ∷ cs) one.0 c;
+        second = slice_index_or (c ∷ cs) at c;
+        is_first = at_place (c ∷ cs) one.0 c (omega (arith, before, within));
+        is_second = at_place (c ∷ cs) at c within;
+        one_key =
+            ap key_changed
+            (sym (get_or-take at (c ∷ cs) one.0 c before) ∙ get_or_default (take at (c ∷ cs)) one.0 c one.1 one.2 ∙ one.3)
+            ∙ sym (change_keys_same (key_changed (slice_index_or (c ∷ cs) at c)) (key_changed one.1) one.4);
+      };
+  none_before = new_before (c ∷ cs) at new;
+}
+
+-- a key is changed where it is among the keys of the changes
+any-keys : (k : ChangeKey) (cs : List Change)
+    → list_any (eq_by_cmp change_key_cmp k) (map key_changed cs) ≡ is_changed cs k
+any-keys k [] = refl
+any-keys k (c ∷ cs) = ap (λ b. eq_by_cmp change_key_cmp k (key_changed c) || b) (any-keys k cs)
+
+-- changes of which none repeats a key are on keys of their own, as far as an index
+once_below : (cs : List Change) (d : Change) → ((k : ℕ) → k < length cs → IsNewAt cs k) → (n : ℕ)
+    → n ≤ length cs → AreOnceEach (take n cs)
+unfolding IsDistinct
+once_below cs d new zero within = tt
+once_below cs d new (suc n) within =
+    subst AreOnceEach (ap (λ m. take m cs) (add-one n))
+    (subst AreOnceEach (sym (take_more cs n d (omega (arith, within))))
+    (subst (IsDistinct (eq_by_cmp change_key_cmp)) (sym (map-append key_changed (take n cs) (slice_index_or cs n d ∷ [])))
+    (IsDistinct-push (eq_by_cmp_equiv change_keys_total) (map key_changed (take n cs)) (key_changed (slice_index_or cs n d)) (once_below cs d new n (omega (arith, within)))
+    (any-keys _ (take n cs) ∙ new n (omega (arith, within)) d))))
+
+-- where no index repeats a key, each key is changed once
+pub once_from_new : (cs : List Change) → ((k : ℕ) → k < length cs → IsNewAt cs k) → AreOnceEach cs
+unfolding IsDistinct
+once_from_new [] new = tt
+once_from_new (c ∷ cs) new =
+    subst AreOnceEach (take_all (length (c ∷ cs)) (c ∷ cs) (omega arith))
+    (once_below (c ∷ cs) c new (length (c ∷ cs)) (omega arith))
+
+-- the same of what a search for a repeat finds
+pub once_if_none : (cs : List Change) (r : Option ℕ)
+    → IfNone r ((k : ℕ) → k < length cs → IsNewAt cs k) → IfNone r (AreOnceEach cs)
+once_if_none cs None new = once_from_new cs new
+once_if_none cs (Some at) new = tt
+
+-- a removal of what isn't there has no key there
+absent_not_present : (d : Database) (c : Change) → RemovesNothing d c → ¬ IsPresent d c
+absent_not_present d (Put l) absent present = absent
+absent_not_present d (Node router transit) absent present = absent
+absent_not_present d (Remove from local) absent present =
+    true≢false (sym present ∙ ap is_some absent)
+
+-- the first index that removes nothing is the least such place
+pub least_absent : (d : Database) (cs : List Change) (at : ℕ) → at < length cs
+    → HoldsAt (RemovesNothing d) cs at → AllWithin (IsPresent d) cs 0 at
+    → IsLeastPlace (RemovesNothingAt d cs) (at + 1)
+least_absent d [] at within absent present = absurd (omega (arith, within))
+least_absent d (c ∷ cs) at within absent present = record {
+  here =
+      record { change = slice_index_or (c ∷ cs) at c; is_change = at_place (c ∷ cs) at c within; removes_nothing = absent c };
+  none_before = none_absent;
+}
+  where
+    none_absent : (place : ℕ) → place < at + 1 → ¬ RemovesNothingAt d (c ∷ cs) place
+    none_absent zero before r = none_there r.is_change
+      where
+        none_there : ◌≡◌ {A = Option Change} None (Some r.change) → ⊥
+        none_there e = cc
+    none_absent (suc n) before r =
+        absent_not_present d r.change r.removes_nothing
+        (subst (IsPresent d) (get_or_from_slice_get (c ∷ cs) n r.change r.change r.is_change) (present n r.change (omega arith) (omega (arith, before))))
+
+-- the key at a place
+key_there : (cs : List Change) (n : ℕ) (c : Change) (d : ChangeKey) → slice_get cs n ≡ Some c
+    → slice_index_or (map key_changed cs) n d ≡ key_changed c
+key_there cs n c d is =
+    get_or_from_slice_get (map key_changed cs) n (key_changed c) d
+    (slice_get-map key_changed cs n ∙ ap (option_map key_changed) is)
+
+-- where a change repeats a key not each key is changed once
+repeats_not_once : (cs : List Change) (place : ℕ) → RepeatsAt cs place → ¬ AreOnceEach cs
+repeats_not_once cs zero r once = absurd (none_there r.is_second)
+  where
+    none_there : ◌≡◌ {A = Option Change} None (Some r.second) → ⊥
+    none_there e = cc
+repeats_not_once cs (suc n) r once = earlier_cases r.earlier r.is_earlier r.is_first
+  where
+    earlier_cases : (e : ℕ) → e < suc n → change_at cs e ≡ Some r.first → ⊥
+    earlier_cases zero before is = absurd (cc)
+    earlier_cases (suc m) before is =
+        let within : n < length (map key_changed cs) = omega (arith, slice_get_within cs n r.second r.is_second, length-map cs key_changed) in
+        true≢false
+        (sym (ap (eq_by_cmp change_key_cmp (key_changed r.first)) (sym r.one_key) ∙ change_key_itself (key_changed r.first))
+        ∙ ap (λ k. eq_by_cmp change_key_cmp k (key_changed r.second))
+        (sym (key_there cs m r.first (key_changed r.first) is))
+        ∙ ap (eq_by_cmp change_key_cmp _) (sym (key_there cs n r.second (key_changed r.first) r.is_second))
+        ∙ apart_from_distinct (eq_by_cmp change_key_cmp) (map key_changed cs) m n (key_changed r.first)
+        once (omega (arith, before)) within)
+
+-- where a removal removes nothing not all are present
+removes_not_present : (d : Database) (cs : List Change) (place : ℕ) → RemovesNothingAt d cs place
+    → ¬ ArePresent d cs
+removes_not_present d cs zero r present = absurd (none_there r.is_change)
+  where
+    none_there : ◌≡◌ {A = Option Change} None (Some r.change) → ⊥
+    none_there e = cc
+removes_not_present d cs (suc n) r present =
+    absent_not_present d r.change r.removes_nothing
+    (subst (IsPresent d) (get_or_from_slice_get cs n r.change r.change r.is_change) (present n r.change (slice_get_within cs n r.change r.is_change)))
+
+-- a batch that is refused doesn't fit
+pub refused_unfit : (d : Database) (b : NumberedChanges) (e : Refusal) → IsRefusal d b e
+    → ¬ Fits d b
+refused_unfit d b TooLong why fits = absurd (omega (arith, why, fits.short))
+refused_unfit d b (Duplicate at) why fits = repeats_not_once b.changes at why.1.here fits.once
+refused_unfit d b (Absent at) why fits = removes_not_present d b.changes at why.2.here fits.present
+refused_unfit d b Full why fits = absurd (omega (arith, why.1, fits.links))
+refused_unfit d b TooManyRouters why fits = absurd (omega (arith, why.2, fits.routers))
+refused_unfit d b TooManyMarks why fits = absurd (omega (arith, why.3, fits.marks))
+
+-- what isn't above a limit is within it
+not_above : (limit : ℕ) {n : ℕ} → (limit < n → IsTrue false) → n ≤ limit
+not_above limit {n} above = within n (λ h. false_not_true (above h))
+  where
+    false_not_true : IsTrue false → ⊥
+    false_not_true e = cc
+
+    within : (n : ℕ) → (limit < n → ⊥) → n ≤ limit
+    within n h = omega (arith, h)
+
+-- links that aren't too many are within the limit
+pub not_full : {n : ℕ} → (16384 < n → IsTrue false) → n ≤ 16384
+not_full above = not_above 16384 above
+
+-- routers that aren't too many are within the limit
+pub not_many : {n : ℕ} → (1024 < n → IsTrue false) → n ≤ 1024
+not_many above = not_above 1024 above
+
+-- there is one least place at most
+one_least : (P : ℕ → Type 0) (m n : ℕ) → IsLeastPlace P m → IsLeastPlace P n → m ≡ n
+one_least P m n is also =
+    not_apart m n (λ before. also.none_before m before is.here)
+    (λ before. is.none_before n before also.here)
+  where
+    not_apart : (m n : ℕ) → (m < n → ⊥) → (n < m → ⊥) → m ≡ n
+    not_apart m n below above = omega (arith, below, above)
+
+-- a batch is refused for one reason at most
+pub one_reason : OneRefusal
+one_reason d b TooLong TooLong is also = refl
+one_reason d b TooLong (Duplicate n) is also = absurd (omega (arith, is, also.0))
+one_reason d b TooLong (Absent n) is also = absurd (omega (arith, is, also.0))
+one_reason d b TooLong Full is also = absurd (omega (arith, is, also.0.short))
+one_reason d b TooLong TooManyRouters is also = absurd (omega (arith, is, also.0.short))
+one_reason d b TooLong TooManyMarks is also = absurd (omega (arith, is, also.0.short))
+one_reason d b (Duplicate m) TooLong is also = absurd (omega (arith, is.0, also))
+one_reason d b (Duplicate m) (Duplicate n) is also =
+    ap Duplicate (one_least (RepeatsAt b.changes) m n is.1 also.1)
+one_reason d b (Duplicate m) (Absent n) is also =
+    absurd (repeats_not_once b.changes m is.1.here also.1)
+one_reason d b (Duplicate m) Full is also =
+    absurd (repeats_not_once b.changes m is.1.here also.0.once)
+one_reason d b (Duplicate m) TooManyRouters is also =
+    absurd (repeats_not_once b.changes m is.1.here also.0.once)
+one_reason d b (Duplicate m) TooManyMarks is also =
+    absurd (repeats_not_once b.changes m is.1.here also.0.once)
+one_reason d b (Absent m) TooLong is also = absurd (omega (arith, is.0, also))
+one_reason d b (Absent m) (Duplicate n) is also =
+    absurd (repeats_not_once b.changes n also.1.here is.1)
+one_reason d b (Absent m) (Absent n) is also =
+    ap Absent (one_least (RemovesNothingAt d b.changes) m n is.2 also.2)
+one_reason d b (Absent m) Full is also =
+    absurd (removes_not_present d b.changes m is.2.here also.0.present)
+one_reason d b (Absent m) TooManyRouters is also =
+    absurd (removes_not_present d b.changes m is.2.here also.0.present)
+one_reason d b (Absent m) TooManyMarks is also =
+    absurd (removes_not_present d b.changes m is.2.here also.0.present)
+one_reason d b Full TooLong is also = absurd (omega (arith, is.0.short, also))
+one_reason d b Full (Duplicate n) is also =
+    absurd (repeats_not_once b.changes n also.1.here is.0.once)
+one_reason d b Full (Absent n) is also =
+    absurd (removes_not_present d b.changes n also.2.here is.0.present)
+one_reason d b Full Full is also = refl
+one_reason d b Full TooManyRouters is also = absurd (omega (arith, is.1, also.1))
+one_reason d b Full TooManyMarks is also = absurd (omega (arith, is.1, also.1))
+one_reason d b TooManyRouters TooLong is also = absurd (omega (arith, is.0.short, also))
+one_reason d b TooManyRouters (Duplicate n) is also =
+    absurd (repeats_not_once b.changes n also.1.here is.0.once)
+one_reason d b TooManyRouters (Absent n) is also =
+    absurd (removes_not_present d b.changes n also.2.here is.0.present)
+one_reason d b TooManyRouters Full is also = absurd (omega (arith, is.1, also.1))
+one_reason d b TooManyRouters TooManyRouters is also = refl
+one_reason d b TooManyRouters TooManyMarks is also = absurd (omega (arith, is.2, also.2))
+one_reason d b TooManyMarks TooLong is also = absurd (omega (arith, is.0.short, also))
+one_reason d b TooManyMarks (Duplicate n) is also =
+    absurd (repeats_not_once b.changes n also.1.here is.0.once)
+one_reason d b TooManyMarks (Absent n) is also =
+    absurd (removes_not_present d b.changes n also.2.here is.0.present)
+one_reason d b TooManyMarks Full is also = absurd (omega (arith, is.1, also.1))
+one_reason d b TooManyMarks TooManyRouters is also = absurd (omega (arith, is.2, also.2))
+one_reason d b TooManyMarks TooManyMarks is also = refl

@@ -1,0 +1,113 @@
+-- A set of routers in an array, and when the ends of links are too many.
+use Rattle.std.proofs.Common.{◌≡◌, ℕ, ◌+◌, ◌<◌, ◌≤◌, ◌||◌, Bool, true, false, cond, List, [], ◌∷◌, ◌++◌, length, length-take-le, take, drop, slice_index, refl, sym, ap, ◌∙◌, arith, eqb}
+use Rattle.std.specs.Ordering.{nat_cmp, eq_by_cmp}
+use Rattle.std.specs.Cmp.{nat_cmp_total, Equal-is, eq_by_cmp_equiv}
+use Rattle.std.specs.List.{IsDistinct, list_any, slice_index_or, AllByRecursion}
+use Rattle.std.specs.FinSet as set
+use Rattle.std.proofs.lemmas.Bool.{eq-eqb}
+use Rattle.std.proofs.lemmas.List.{at_drop_more, get_or-take, get_or_default}
+use Rattle.std.proofs.lemmas.List.Folds.{list_any-from_Any}
+use Rattle.std.proofs.lemmas.Map.Keys.{IsDistinct-push}
+use Rattle.cspf_model.specs.declared.link.Link.{Link}
+use Rattle.cspf_model.specs.declared.batch.Change.{Change}
+use Rattle.cspf_model.specs.declared.batch.Change.TheVariants.{Put}
+use Rattle.cspf_model.specs.Lemmas.RowsLeft.{is_untouched, rows_left, links_put}
+use Rattle.cspf_model.specs.Lemmas.CountedEnds.{with_ends}
+use Rattle.cspf_model.proofs.Databases.EndCounts.{len-with_ends-le, len-insert-le}
+
+-- a list of distinct numbers is as long as its set
+pub len-from_distinct : (xs : List ℕ) → IsDistinct (eq_by_cmp nat_cmp) xs
+    → set.len (set.from_list {R = nat_cmp} xs) ≡ length xs
+unfolding IsDistinct
+len-from_distinct [] apart = set.len-empty nat_cmp
+len-from_distinct (x ∷ xs) apart =
+    set.len-insert nat_cmp_total (set.from_list {R = nat_cmp} xs) x
+    ∙ ap
+    (λ b. cond b (set.len (set.from_list {R = nat_cmp} xs)) (set.len (set.from_list {R = nat_cmp} xs) + 1)) (set.contains-from_list nat_cmp_total xs x ∙ none_of x xs apart.0)
+    ∙ ap (λ n. n + 1) (len-from_distinct xs apart.1) ∙ omega arith
+  where
+    none_of : (x : ℕ) (ys : List ℕ) → AllByRecursion (λ y. eq_by_cmp nat_cmp x y ≡ false) ys
+        → list_any (eq_by_cmp nat_cmp x) ys ≡ false
+    none_of x [] all = refl
+    none_of x (y ∷ ys) all =
+        ap (λ b. b || list_any (eq_by_cmp nat_cmp x) ys) all.0 ∙ none_of x ys all.1
+
+-- a tie adds nothing to what is there
+same_or : (tie there : Bool) → (tie ≡ true → there ≡ true) → there ≡ (tie || there)
+same_or true there tied = tied refl
+same_or false there tied = refl
+
+-- to add what is there changes nothing
+pub insert-there : (s : set.FinSet nat_cmp) (k : ℕ) → set.contains s k ≡ true → s ≡ set.insert s k
+insert-there s k there =
+    set.same_set nat_cmp_total set.nat_cmp-IsAntisymmetric _ _ (λ q.
+    same_or (eq_by_cmp nat_cmp q k) (set.contains s q)
+    (λ tie. sym (set.contains_tied nat_cmp_total s q k ((Equal-is (nat_cmp q k)).0 tie)) ∙ there)
+    ∙ sym (set.contains-insert nat_cmp_total s k q))
+
+-- a slice's own test for a number is that of the set
+pub contains-found : (xs : List ℕ) (x : ℕ)
+    → set.contains (set.from_list {R = nat_cmp} xs) x ≡ list_any (λ y. eqb y x) xs
+contains-found xs x = set.contains-from_list_nat xs x
+
+-- a number that isn't found yet
+module _ (xs : List ℕ) (x : ℕ) (new : list_any (λ y. eqb y x) xs ≡ false) where
+  -- it is not in the set
+  absent : set.contains (set.from_list {R = nat_cmp} xs) x ≡ false
+  absent = contains-found xs x ∙ new
+
+  -- with it the numbers are distinct
+  pub distinct-push : IsDistinct (eq_by_cmp nat_cmp) xs
+      → IsDistinct (eq_by_cmp nat_cmp) (xs ++ x ∷ [])
+  distinct-push apart =
+      IsDistinct-push (eq_by_cmp_equiv nat_cmp_total) xs x apart
+      (sym (set.contains-from_list nat_cmp_total xs x) ∙ absent)
+
+  -- it joins the set
+  pub set-push : set.from_list {R = nat_cmp} (xs ++ x ∷ []) ≡ set.insert (set.from_list xs) x
+  set-push = set.from_list_push nat_cmp_total set.nat_cmp-IsAntisymmetric xs x
+
+  -- the set has one more with it
+  pub len-push : IsDistinct (eq_by_cmp nat_cmp) xs
+      → set.len (set.insert (set.from_list {R = nat_cmp} xs) x) ≡ length xs + 1
+  len-push apart =
+      set.len-insert nat_cmp_total (set.from_list {R = nat_cmp} xs) x
+      ∙ ap
+      (λ b. cond b (set.len (set.from_list {R = nat_cmp} xs)) (set.len (set.from_list {R = nat_cmp} xs) + 1)) absent
+      ∙ ap (λ n. n + 1) (len-from_distinct xs apart)
+
+-- where the first end is one too many, so are both
+pub full-first : (s : set.FinSet nat_cmp) (l : Link) → 1024 < set.len (set.insert s l.from)
+    → 1024 < set.len (set.insert (set.insert s l.from) l.to)
+full-first s l full = omega (arith, full, len-insert-le (set.insert s l.from) l.to)
+
+-- where the ends of the next row are too many, so are those of all rows that are left
+pub full-row : (s old : set.FinSet nat_cmp) (l : Link) (rows : List Link) (cs : List Change) (i : ℕ)
+    → i < length rows → l ≡ slice_index_or rows i l → true ≡ is_untouched cs l
+    → with_ends s (rows_left (drop i rows) cs) ≡ with_ends old (rows_left rows cs)
+    → 1024 < set.len (with_ends s (l ∷ [])) → 1024 < set.len (with_ends old (rows_left rows cs))
+full-row s old l rows cs i within read left same full =
+    let next : with_ends (with_ends s (l ∷ [])) (rows_left (drop (i + 1) rows) cs) ≡ with_ends old (rows_left rows cs) =
+    ap (λ b. with_ends s (cond b (l ∷ rows_left (drop (i + 1) rows) cs) (rows_left (drop (i + 1) rows) cs))) left
+    ∙ ap (λ (m : Link). with_ends s (rows_left (m ∷ drop (i + 1) rows) cs)) read
+    ∙ sym (at_drop_more (λ ls. with_ends s (rows_left ls cs)) rows i l within) ∙ same in
+    omega
+    (arith, full, len-with_ends-le (with_ends s (l ∷ [])) (rows_left (drop (i + 1) rows) cs), ap set.len next)
+
+-- where the ends of the next link that is put are too many, so are those of all that are left
+pub full-put : (s old : set.FinSet nat_cmp) (c : Change) (l : Link) (cs : List Change) (i : ℕ)
+    → i < length cs → c ≡ slice_index_or cs i c → c ≡ Put l
+    → with_ends s (links_put (drop i cs)) ≡ with_ends old (links_put cs)
+    → 1024 < set.len (with_ends s (l ∷ [])) → 1024 < set.len (with_ends old (links_put cs))
+full-put s old c l cs i within read is same full =
+    let next : with_ends (with_ends s (l ∷ [])) (links_put (drop (i + 1) cs)) ≡ with_ends old (links_put cs) =
+    ap (λ (b : Change). with_ends s (links_put (b ∷ drop (i + 1) cs))) (sym is ∙ read)
+    ∙ sym (at_drop_more (λ bs. with_ends s (links_put bs)) cs i c within) ∙ same in
+    omega
+    (arith, full, len-with_ends-le (with_ends s (l ∷ [])) (links_put (drop (i + 1) cs)), ap set.len next)
+
+-- a number that stands before an index is found up to there
+pub found_at : (xs : List ℕ) (n at x : ℕ) → at < n → n ≤ length xs → slice_index xs at ≡ x → list_any (λ y. eqb y x) (take n xs) ≡ true
+found_at xs n at x h le is =
+    let within : at < length xs = omega (arith, h, le) in
+    list_any-from_Any (λ y. eqb y x) (take n xs) (at, x, omega (arith, length-take-le n xs le, h), get_or-take n xs at x h ∙ get_or_default xs at x 0 within ∙ is, eq-eqb x x refl)

@@ -1,0 +1,88 @@
+-- The set of routers that is counted is that of the routers of the database.
+use Rattle.std.proofs.Common.{◌≡◌, ℕ, ◌||◌, ◌&&◌, inl, inr, Bool, true, false, cond, T, Option, Some, None, List, [], ◌∷◌, map, refl, sym, ap, ◌∙◌}
+use Rattle.std.specs.Ordering.{nat_cmp, eq_by_cmp, is_lt, is_eq, ordering_reverse}
+use Rattle.std.specs.declared.cmp.Ordering.{Ordering}
+use Rattle.std.specs.declared.cmp.Ordering.TheVariants.{Less, Equal, Greater}
+use Rattle.std.specs.Cmp.{nat_cmp_total, Equal-is}
+use Rattle.std.specs.List.{list_any}
+use Rattle.std.specs.FinMap as map
+use Rattle.std.specs.FinMap.Entries.{below_all}
+use Rattle.std.specs.FinSet as set
+use Rattle.cspf_model.specs.declared.link.Link.{Link}
+use Rattle.cspf_model.specs.Database.{Key, key_cmp, link_at, EndsAt, ends_of}
+use Rattle.cspf_model.specs.Laws.{RoutersAreCounted}
+use Rattle.cspf_model.proofs.Databases.Keys.{keys_total, key_itself}
+use Rattle.cspf_model.proofs.Databases.DistinctRouters.{router_in_ends}
+use Rattle.cspf_model.proofs.Databases.EndCounts.{any-ends_of}
+
+-- an entry whose link passes a test, with the key at which it is found
+record Found (p : Link → Bool) (es : List (Key × Link)) : Type 0 where
+  pub key : Key
+  pub link : Link
+  pub passes : p link ≡ true
+  pub found : map.find key_cmp key es ≡ Some link
+
+-- the first of two tests that both pass
+both_first : (a b : Bool) → T (a && b) → T a
+both_first true b h = tt
+both_first false b h = h
+
+-- the second of two tests that both pass
+both_second : (a b : Bool) → T (a && b) → T b
+both_second true b h = h
+both_second false b h = absurd h
+
+-- a lower key is another key
+below_apart : (k j : Key) (o : Ordering) → key_cmp k j ≡ o → T (is_lt o)
+    → eq_by_cmp key_cmp j k ≡ false
+below_apart k j Less is h = ap is_eq (keys_total.antisymm j k ∙ ap ordering_reverse is)
+below_apart k j Equal is h = absurd h
+below_apart k j Greater is h = absurd h
+
+-- a key that is found behind an entry with a lower key isn't that key
+not_first : (k : Key) (es : List (Key × Link)) → T (below_all key_cmp k es) → (j : Key) (l : Link)
+    → map.find key_cmp j es ≡ Some l → eq_by_cmp key_cmp j k ≡ false
+not_first k [] below j l found = absurd (none_some found)
+  where
+    none_some : ◌≡◌ {A = Option Link} None (Some l) → ⊥
+    none_some e = cc
+not_first k (e ∷ es) below j l found =
+    elim (eq_by_cmp key_cmp j e.0) as (λ t. eq_by_cmp key_cmp j e.0 ≡ t → cond t (Some e.1) (map.find key_cmp j es) ≡ Some l → eq_by_cmp key_cmp j k ≡ false) [
+      | true ↦ λ tie _. ap is_eq (keys_total.congr j e.0 k ((Equal-is (key_cmp j e.0)).0 tie))
+          ∙ below_apart k e.0 (key_cmp k e.0) refl (both_first _ _ below)
+      | false ↦ λ _ there. not_first k es (both_second _ _ below) j l there
+    ] refl found
+
+-- each entry in order is found at its key
+found_among : (p : Link → Bool) (es : List (Key × Link)) → T (map.is_sorted key_cmp es)
+    → list_any p (map (λ e. e.1) es) ≡ true → Found p es
+found_among p [] sorted any = absurd (cc)
+found_among p (e ∷ es) sorted any =
+    elim (p e.1) as (λ b. p e.1 ≡ b → (b || list_any p (map (λ e. e.1) es)) ≡ true → Found p (e ∷ es)) [
+      | true ↦ λ passes _. record { key = e.0; link = e.1; passes = passes; found = ap (λ b. cond b (Some e.1) (map.find key_cmp e.0 es)) (key_itself e.0) }
+      | false ↦ λ _ later. let f = found_among p es (both_second _ _ sorted) later in
+          record { key = f.key; link = f.link; passes = f.passes; found = ap (λ b. cond b (Some e.1) (map.find key_cmp f.key es)) (not_first e.0 es (both_first _ _ sorted) f.key f.link f.found) ∙ f.found }
+    ] refl any
+
+-- a router that ties with an end of a link is that end
+pub end_at : (router : ℕ) (l : Link)
+    → (eq_by_cmp nat_cmp router l.from || eq_by_cmp nat_cmp router l.to) ≡ true → EndsAt router l
+end_at router l =
+    elim (eq_by_cmp nat_cmp router l.from) as (λ b. eq_by_cmp nat_cmp router l.from ≡ b → (b || eq_by_cmp nat_cmp router l.to) ≡ true → EndsAt router l) [
+      | true ↦ λ tie _. inl (sym (same_number router l.from tie))
+      | false ↦ λ _ to. inr (sym (same_number router l.to to))
+    ] refl
+  where
+    same_number : (m n : ℕ) → eq_by_cmp nat_cmp m n ≡ true → m ≡ n
+    same_number m n tie = set.nat_cmp-IsAntisymmetric m n ((Equal-is (nat_cmp m n)).0 tie)
+
+-- the counted set is that of the routers
+pub routers_counted : RoutersAreCounted
+routers_counted d keyed router = (
+  λ counted.
+      let f = found_among (λ l. eq_by_cmp nat_cmp router l.from || eq_by_cmp nat_cmp router l.to) (map.entries d.links) (map.entries_sorted d.links)
+      (sym (any-ends_of (eq_by_cmp nat_cmp router) (map.values d.links)) ∙ sym (set.contains-from_list nat_cmp_total (ends_of (map.values d.links)) router) ∙ counted) in
+      let there : link_at d f.key ≡ Some f.link = map.get-entries d.links f.key ∙ f.found in
+      (f.link, ap (link_at d) (keyed f.key f.link there) ∙ there, end_at router f.link f.passes),
+  λ is. router_in_ends d router is,
+)

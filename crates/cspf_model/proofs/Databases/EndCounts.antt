@@ -1,0 +1,345 @@
+-- How many links and how many routers a database of rows has.
+use Rattle.std.specs.Bool.{OnTrue, OnFalse}
+use mathlib.Core.Bool.{true≢false}
+use Rattle.std.proofs.lemmas.List.{nil_from_length, get_or_default, take_more}
+use Rattle.std.proofs.Common.{◌≡◌, ℕ, zero, suc, All, Contains, nat_eq, take, ◌+◌, ◌-◌, ◌<◌, ◌≤◌, ◌||◌, Bool, true, false, cond, not, Some, None, is_some, List, [], ◌∷◌, ◌++◌, length, map, refl, sym, ap, ◌∙◌, arith, inl, inr, ◌&&◌, IsTrue, ◌↔◌}
+use Rattle.std.specs.Ordering.{nat_cmp, eq_by_cmp, is_eq}
+use Rattle.std.specs.declared.cmp.Ordering.TheVariants.{Less, Equal, Greater}
+use Rattle.std.specs.Cmp.{nat_cmp_total, tied_itself, Equal-is}
+use Rattle.std.specs.List.{IsDistinct, list_any, HoldsAt, slice_index_or, Any}
+use Rattle.std.specs.FinMap as map
+use Rattle.std.specs.FinMap.Entries.{by_order, put}
+use Rattle.std.specs.FinSet as set
+use Rattle.std.proofs.lemmas.List.Elements.{All-contains, All-weaker, filter_map-append}
+use Rattle.std.proofs.lemmas.List.Folds.{list_any-append, list_any-from_Any}
+use Rattle.cspf_model.specs.declared.link.Link.{Link}
+use Rattle.cspf_model.specs.declared.batch.Change.{Change}
+use Rattle.cspf_model.specs.declared.batch.Change.TheVariants.{Put}
+use Rattle.cspf_model.specs.Database.{Key, key_of, key_cmp, link_count, router_count, ends_of, EndsAt, HaveOwnKeys}
+use Rattle.cspf_model.specs.Changes.{link_left}
+use Rattle.cspf_model.specs.Lemmas.GoneRouters.{is_at, HasGone}
+use Rattle.cspf_model.specs.Lemmas.LinkChanges.{all_relinked}
+use Rattle.cspf_model.specs.Lemmas.LinkRows.{database_of}
+use Rattle.cspf_model.specs.Lemmas.RowsLeft.{is_untouched, rows_left, links_put}
+use Rattle.cspf_model.specs.Lemmas.CountedEnds.{with_ends, AnyEndsAt, BringsAtMost}
+use Rattle.cspf_model.specs.Refusals.{AreOnceEach}
+use Rattle.cspf_model.proofs.Databases.Keys.{keys_total}
+use Rattle.cspf_model.proofs.Databases.LinksOfRows.{link_at-database_of}
+use Rattle.cspf_model.proofs.Databases.OneChange.{find-behind}
+use Rattle.cspf_model.proofs.Databases.ChangedRows.{rows_after, database-rows_after, apart-rows_after}
+
+-- rows with keys of their own are as many as the links of their database
+pub link_count-database_of : (rows : List Link) → HaveOwnKeys rows
+    → link_count (database_of rows) ≡ length rows
+unfolding IsDistinct
+link_count-database_of [] apart = map.len-empty key_cmp Link
+link_count-database_of (l ∷ rows) apart =
+    map.len-insert keys_total (database_of rows).links (key_of l) l
+    ∙ ap (λ o. cond (is_some o) (link_count (database_of rows)) (link_count (database_of rows) + 1))
+    (link_at-database_of rows (key_of l) ∙ find-behind l rows apart)
+    ∙ ap (λ n. n + 1) (link_count-database_of rows apart.1) ∙ omega arith
+
+-- tests grouped the other way
+or_assoc : (a b c : Bool) → (a || (b || c)) ≡ ((a || b) || c)
+or_assoc true b c = refl
+or_assoc false b c = refl
+
+-- two tests in the other order
+or_swap : (a b c : Bool) → (a || (b || c)) ≡ (b || (a || c))
+or_swap true true c = refl
+or_swap true false c = refl
+or_swap false b c = refl
+
+-- an end of some links passes a test where one of the links has such an end
+pub any-ends_of : (p : ℕ → Bool) (links : List Link)
+    → list_any p (ends_of links) ≡ list_any (λ l. p l.from || p l.to) links
+any-ends_of p [] = refl
+any-ends_of p (l ∷ links) =
+    ap (λ b. p l.from || (p l.to || b)) (any-ends_of p links) ∙ or_assoc (p l.from) (p l.to) _
+
+-- an entry whose key is new is one more
+any-put : (p : Link → Bool) (k : Key) (v : Link) (es : List (Key × Link))
+    → map.find key_cmp k es ≡ None
+    → list_any p (map (λ e. e.1) (put key_cmp k v es)) ≡ (p v || list_any p (map (λ e. e.1) es))
+any-put p k v [] none = refl
+any-put p k v (e ∷ es) none =
+    elim (key_cmp k e.0) as (λ r. cond (is_eq r) (Some e.1) (map.find key_cmp k es) ≡ None
+    → list_any p (map (λ e. e.1) (by_order r ((k, v) ∷ e ∷ es) ((e.0, v) ∷ es) (e ∷ put key_cmp k v es))) ≡ (p v || (p e.1 || list_any p (map (λ e. e.1) es)))) [
+      | Less ↦ λ _. refl
+      | Equal ↦ λ there. absurd (cc)
+      | Greater ↦ λ rest. ap (λ b. p e.1 || b) (any-put p k v es rest) ∙ or_swap (p e.1) (p v) _
+    ] none
+
+-- the links of the database of rows are the rows
+any-values : (p : Link → Bool) (rows : List Link) → HaveOwnKeys rows
+    → list_any p (map.values (database_of rows).links) ≡ list_any p rows
+unfolding IsDistinct
+any-values p [] apart = ap (λ es. list_any p (map (λ e. e.1) es)) no_entries
+  where
+    no_entries : map.entries (map.empty {K = Key} {X = Link} {R = key_cmp}) ≡ []
+    no_entries = nil_from_length _ (sym (map.len-entries _) ∙ map.len-empty key_cmp Link)
+any-values p (l ∷ rows) apart =
+    ap (λ es. list_any p (map (λ e. e.1) es))
+    (map.entries-insert keys_total (database_of rows).links (key_of l) l)
+    ∙ any-put p (key_of l) l (map.entries (database_of rows).links)
+    (sym (map.get-entries (database_of rows).links (key_of l)) ∙ link_at-database_of rows (key_of l) ∙ find-behind l rows apart)
+    ∙ ap (λ b. p l || b) (any-values p rows apart.1)
+
+-- the set of the ends of links
+ends_set : List Link → set.FinSet nat_cmp
+ends_set links = set.from_list (ends_of links)
+
+-- the routers of the database of rows are the ends of the rows
+pub router_count-database_of : (rows : List Link) → HaveOwnKeys rows
+    → router_count (database_of rows) ≡ set.len (set.from_list {R = nat_cmp} (ends_of rows))
+router_count-database_of rows apart =
+    ap set.len (set.same_set nat_cmp_total set.nat_cmp-IsAntisymmetric _ _ (λ q.
+    set.contains-from_list nat_cmp_total _ q ∙ any-ends_of (eq_by_cmp nat_cmp q) _
+    ∙ any-values _ rows apart ∙ sym (any-ends_of (eq_by_cmp nat_cmp q) rows)
+    ∙ sym (set.contains-from_list nat_cmp_total _ q)))
+
+-- a test that fails adds nothing
+or_false : (a : Bool) → a ≡ (a || false)
+or_false true = refl
+or_false false = refl
+
+-- four tests in another order
+turn : (a b s rest : Bool) → ((b || (a || s)) || rest) ≡ (s || (a || (b || rest)))
+turn true true true rest = refl
+turn true true false rest = refl
+turn true false true rest = refl
+turn true false false rest = refl
+turn false true true rest = refl
+turn false true false rest = refl
+turn false false true rest = refl
+turn false false false rest = refl
+
+-- what a set with the ends of links contains
+pub contains-with_ends : (s : set.FinSet nat_cmp) (links : List Link) (q : ℕ)
+    → set.contains (with_ends s links) q ≡ (set.contains s q || list_any (eq_by_cmp nat_cmp q) (ends_of links))
+contains-with_ends s [] q = or_false _
+contains-with_ends s (l ∷ links) q =
+    contains-with_ends (set.insert (set.insert s l.from) l.to) links q
+    ∙ ap (λ b. b || list_any (eq_by_cmp nat_cmp q) (ends_of links))
+    (set.contains-insert nat_cmp_total (set.insert s l.from) l.to q ∙ ap (λ b. eq_by_cmp nat_cmp q l.to || b) (set.contains-insert nat_cmp_total s l.from q))
+    ∙ turn (eq_by_cmp nat_cmp q l.from) (eq_by_cmp nat_cmp q l.to) (set.contains s q) _
+
+-- the ends of links, added one by one
+with_ends-empty : (links : List Link) → with_ends set.empty links ≡ set.from_list (ends_of links)
+with_ends-empty links =
+    set.same_set nat_cmp_total set.nat_cmp-IsAntisymmetric _ _ (λ q.
+    contains-with_ends set.empty links q
+    ∙ ap (λ b. b || list_any (eq_by_cmp nat_cmp q) (ends_of links)) (set.contains-empty nat_cmp q)
+    ∙ sym (set.contains-from_list nat_cmp_total _ q))
+
+-- the ends of some links, then of others
+pub with_ends-append : (s : set.FinSet nat_cmp) (xs ys : List Link)
+    → with_ends (with_ends s xs) ys ≡ with_ends s (xs ++ ys)
+with_ends-append s [] ys = refl
+with_ends-append s (x ∷ xs) ys = with_ends-append (set.insert (set.insert s x.from) x.to) xs ys
+
+-- to add a router makes no set smaller
+pub len-insert-le : (s : set.FinSet nat_cmp) (k : ℕ) → set.len s ≤ set.len (set.insert s k)
+len-insert-le s k =
+    let n = set.len-insert nat_cmp_total s k in rw n (no_less (set.contains s k) (set.len s))
+  where
+    no_less : (b : Bool) (n : ℕ) → n ≤ cond b n (n + 1)
+    no_less true n = omega arith
+    no_less false n = omega arith
+
+-- to add ends makes no set smaller
+pub len-with_ends-le : (s : set.FinSet nat_cmp) (links : List Link)
+    → set.len s ≤ set.len (with_ends s links)
+len-with_ends-le s [] = omega arith
+len-with_ends-le s (l ∷ links) =
+    omega
+    (arith, len-with_ends-le (set.insert (set.insert s l.from) l.to) links, len-insert-le (set.insert s l.from) l.to, len-insert-le s l.from)
+
+-- the second test is enough
+pub or_right : (a b : Bool) → b ≡ true → (a || b) ≡ true
+or_right true b e = refl
+or_right false b e = e
+
+-- what is in a set and does not tie with what is taken out stays in it
+stays_inside : (tie found there : Bool) → (tie ≡ true → found ≡ false) → found ≡ true → there ≡ true
+    → (not tie && there) ≡ true
+stays_inside true found there apart is inside = absurd (cc (apart refl))
+stays_inside false found there apart is inside = inside
+
+-- a set with an item has one more than without it
+len-without : (t : set.FinSet nat_cmp) (x : ℕ) → set.contains t x ≡ true
+    → set.len (set.remove t x) + 1 ≡ set.len t
+len-without t x there =
+    let shorter : set.len (set.remove t x) ≡ set.len t - 1 = set.len-remove nat_cmp_total t x ∙ ap (λ b. cond b (set.len t - 1) (set.len t)) there in
+    let some : set.len t ≡ 0 → ⊥ = λ none. true≢false (sym there ∙ ap (λ s. set.contains s x) (set.empty_of_len t none) ∙ set.contains-empty nat_cmp x) in
+    omega (arith, shorter, some)
+
+-- the set of a list within a set is no larger
+len-within : (xs : List ℕ) (t : set.FinSet nat_cmp)
+    → ((q : ℕ) → list_any (eq_by_cmp nat_cmp q) xs ≡ true → set.contains t q ≡ true)
+    → set.len (set.from_list {R = nat_cmp} xs) ≤ set.len t
+len-within [] t inside = rw (set.len-empty nat_cmp) (omega arith)
+len-within (x ∷ xs) t inside =
+    rw (set.len-insert nat_cmp_total (set.from_list {R = nat_cmp} xs) x)
+    (elim (set.contains (set.from_list {R = nat_cmp} xs) x) as (λ b. set.contains (set.from_list {R = nat_cmp} xs) x ≡ b → cond b (set.len (set.from_list {R = nat_cmp} xs)) (set.len (set.from_list {R = nat_cmp} xs) + 1) ≤ set.len t) [
+      | true ↦ λ _. len-within xs t (λ q is. inside q (or_right (eq_by_cmp nat_cmp q x) _ is))
+      | false ↦ λ new. omega (
+        arith,
+        len-without t x
+            (inside x (ap (λ b. b || list_any (eq_by_cmp nat_cmp x) xs) (ap is_eq (tied_itself nat_cmp_total x)))),
+        len-within xs (set.remove t x) (λ q is.
+            set.contains-remove nat_cmp_total t x q
+            ∙ stays_inside (eq_by_cmp nat_cmp q x) (set.contains (set.from_list {R = nat_cmp} xs) q)
+            (set.contains t q)
+            (λ tie. sym (set.contains_tied nat_cmp_total (set.from_list {R = nat_cmp} xs) q x ((Equal-is (nat_cmp q x)).0 tie)) ∙ new)
+            (set.contains-from_list nat_cmp_total xs q ∙ is)
+            (inside q (or_right (eq_by_cmp nat_cmp q x) _ is))),
+      )
+    ] refl)
+
+-- a row that is left is a row
+any_left : (p : Link → Bool) (rows : List Link) (cs : List Change)
+    → list_any p (rows_left rows cs) ≡ true → list_any p rows ≡ true
+any_left p [] cs is = is
+any_left p (l ∷ rows) cs is =
+    elim (is_untouched cs l) as (λ b. list_any p (cond b (l ∷ rows_left rows cs) (rows_left rows cs)) ≡ true → list_any p (l ∷ rows) ≡ true) [
+      | true ↦ λ some. or_either (p l) _ _ some (λ later. any_left p rows cs later)
+      | false ↦ λ later. or_right (p l) _ (any_left p rows cs later)
+    ] is
+  where
+    or_either : (a b c : Bool) → (a || b) ≡ true → (b ≡ true → c ≡ true) → (a || c) ≡ true
+    or_either true b c e f = refl
+    or_either false b c e f = f e
+
+-- a router that one of the links ends at is among their ends
+pub known_end : (rows : List Link) (router q : ℕ) → AnyEndsAt rows router
+    → eq_by_cmp nat_cmp q router ≡ true
+    → list_any (λ l. eq_by_cmp nat_cmp q l.from || eq_by_cmp nat_cmp q l.to) rows ≡ true
+known_end rows router q (at, within, ends) tie =
+    list_any-from_Any (λ l. eq_by_cmp nat_cmp q l.from || eq_by_cmp nat_cmp q l.to) rows
+    (found rows at within ends)
+  where
+    one_end : (l : Link) → EndsAt router l
+        → (eq_by_cmp nat_cmp q l.from || eq_by_cmp nat_cmp q l.to) ≡ true
+    one_end l (inl from) =
+        ap (λ b. b || eq_by_cmp nat_cmp q l.to) (ap (eq_by_cmp nat_cmp q) from ∙ tie)
+    one_end l (inr to) = or_right (eq_by_cmp nat_cmp q l.from) _ (ap (eq_by_cmp nat_cmp q) to ∙ tie)
+
+    found : (rows : List Link) (at : ℕ) → at < length rows → HoldsAt (EndsAt router) rows at
+        → Any (λ l. (eq_by_cmp nat_cmp q l.from || eq_by_cmp nat_cmp q l.to) ≡ true) rows
+    found [] at within ends = absurd (omega arith)
+    found (l ∷ rows) at within ends =
+        (at, slice_index_or (l ∷ rows) at l, within, get_or_default (l ∷ rows) at (slice_index_or (l ∷ rows) at l) l within, one_end (slice_index_or (l ∷ rows) at l) (ends l))
+
+-- one of two tests passes
+or_split : {P : Type 0} (a b : Bool) → (a || b) ≡ true → (a ≡ true → P) → (b ≡ true → P) → P
+or_split true b e f g = f refl
+or_split false b e f g = g e
+
+-- how many routers there are after changes
+module _ (rows : List Link) (cs : List Change) (apart : HaveOwnKeys rows) (once : AreOnceEach cs) where
+  -- as many as the ends of the rows that are left and of the links that are put
+  pub router_count-after : router_count (all_relinked (database_of rows) cs) ≡ set.len (with_ends (with_ends set.empty (rows_left rows cs)) (links_put cs))
+  router_count-after =
+      ap router_count (sym (database-rows_after rows cs once))
+      ∙ router_count-database_of (rows_after rows cs) (apart-rows_after rows cs apart once)
+      ∙ ap set.len
+      (sym (with_ends-append set.empty (rows_left rows cs) (links_put cs) ∙ with_ends-empty (rows_after rows cs)))
+
+  -- their ends are ends of the rows, or of links that are put
+  in_grown : (q : ℕ) → list_any (eq_by_cmp nat_cmp q) (ends_of (rows_after rows cs)) ≡ true → set.contains (with_ends (set.from_list (ends_of rows)) (links_put cs)) q ≡ true
+  in_grown q is =
+      let all : set.FinSet nat_cmp = set.from_list (ends_of rows) in
+      contains-with_ends all (links_put cs) q
+      ∙ or_split (list_any (λ l. eq_by_cmp nat_cmp q l.from || eq_by_cmp nat_cmp q l.to) (rows_left rows cs)) (list_any (λ l. eq_by_cmp nat_cmp q l.from || eq_by_cmp nat_cmp q l.to) (links_put cs))
+      (sym (list_any-append _ (rows_left rows cs) (links_put cs)) ∙ sym (any-ends_of (eq_by_cmp nat_cmp q) (rows_after rows cs)) ∙ is)
+      (λ left. ap (λ b. b || list_any (eq_by_cmp nat_cmp q) (ends_of (links_put cs))) (set.contains-from_list nat_cmp_total (ends_of rows) q ∙ any-ends_of (eq_by_cmp nat_cmp q) rows ∙ any_left _ rows cs left))
+      (λ put. or_right (set.contains all q) _ (any-ends_of (eq_by_cmp nat_cmp q) (links_put cs) ∙ put))
+
+  -- where the changes bring few routers to those of the rows, there are no more than those more
+  pub router_count-brought : (routers : List ℕ) (most : ℕ) → All (λ r. set.contains (set.from_list {R = nat_cmp} (ends_of rows)) r ≡ true) routers → BringsAtMost routers cs most
+      → router_count (all_relinked (database_of rows) cs) ≤ router_count (database_of rows) + most
+  router_count-brought routers most inside brings =
+      let all : set.FinSet nat_cmp = set.from_list (ends_of rows) in
+      omega
+      (arith, len-within (ends_of (rows_after rows cs)) (with_ends all (links_put cs)) in_grown, brings all inside, ap router_count (database-rows_after rows cs once), router_count-database_of (rows_after rows cs) (apart-rows_after rows cs apart once), router_count-database_of rows apart)
+
+  -- and one less where a router goes
+  pub router_count-gone : (routers : List ℕ) (most : ℕ) → All (λ r. set.contains (set.from_list {R = nat_cmp} (ends_of rows)) r ≡ true) routers → BringsAtMost routers cs most
+      → HasGone rows routers cs → router_count (all_relinked (database_of rows) cs) + 1 ≤ router_count (database_of rows) + most
+  router_count-gone routers most inside brings (g, known, gone) =
+      let ends : List ℕ = ends_of (rows_after rows cs) in
+      let all : set.FinSet nat_cmp = set.from_list (ends_of rows) in
+      let grown : set.FinSet nat_cmp = with_ends all (links_put cs) in
+      let absent : set.contains (set.from_list {R = nat_cmp} ends) g ≡ false =
+      set.contains-from_list_nat ends g ∙ any-ends_of (λ y. nat_eq y g) (rows_after rows cs) ∙ list_any-append (is_at g) (rows_left rows cs) (links_put cs) ∙ ap (λ b. b || list_any (is_at g) (links_put cs)) gone.left ∙ gone.put in
+      let there : set.contains grown g ≡ true =
+      contains-with_ends all (links_put cs) g ∙ ap (λ b. b || list_any (eq_by_cmp nat_cmp g) (ends_of (links_put cs))) (All-contains (λ r. set.contains all r ≡ true) routers g inside known) in
+      let within : set.len (set.from_list {R = nat_cmp} ends) ≤ set.len (set.remove grown g) =
+      len-within ends (set.remove grown g) (λ q is.
+      set.contains-remove nat_cmp_total grown g q
+      ∙ stays_inside (eq_by_cmp nat_cmp q g) (set.contains (set.from_list {R = nat_cmp} ends) q) (set.contains grown q)
+      (λ tie. sym (set.contains_tied nat_cmp_total (set.from_list {R = nat_cmp} ends) q g ((Equal-is (nat_cmp q g)).0 tie)) ∙ absent)
+      (set.contains-from_list nat_cmp_total ends q ∙ is) (in_grown q is)) in
+      omega
+      (arith, within, len-without grown g there, brings all inside, ap router_count (database-rows_after rows cs once), router_count-database_of (rows_after rows cs) (apart-rows_after rows cs apart once), router_count-database_of rows apart)
+
+-- to add a router adds one at most
+len-insert-most : (s : set.FinSet nat_cmp) (k : ℕ) → set.len (set.insert s k) ≤ set.len s + 1
+len-insert-most s k =
+    let n = set.len-insert nat_cmp_total s k in rw n (one_more (set.contains s k) (set.len s))
+  where
+    one_more : (b : Bool) (n : ℕ) → cond b n (n + 1) ≤ n + 1
+    one_more true n = omega arith
+    one_more false n = omega arith
+
+-- to add a router that is there adds none
+pub one_end : (s : set.FinSet nat_cmp) (k most : ℕ) → (most ≡ 0 → set.contains s k ≡ true) → set.len (set.insert s k) ≤ set.len s + most
+one_end s k zero there = omega (arith, set.len-insert nat_cmp_total s k ∙ ap (λ b. cond b (set.len s) (set.len s + 1)) (there refl))
+one_end s k (suc most) there = omega (arith, len-insert-most s k)
+
+-- a put brings those of its ends that are not among the routers
+pub brings_put : (routers : List ℕ) (l : Link) (m n : ℕ) → (m ≡ 0 → Contains routers l.from) → (n ≡ 0 → Contains routers l.to) → BringsAtMost routers (Put l ∷ []) (m + n)
+brings_put routers l m n from to s inside =
+    let there : (r : ℕ) → Contains routers r → set.contains s r ≡ true = λ r. All-contains (λ q. set.contains s q ≡ true) routers r inside in
+    omega
+    (arith, one_end s l.from m (λ e. there l.from (from e)), one_end (set.insert s l.from) l.to n (λ e. set.contains-insert nat_cmp_total s l.from l.to ∙ or_right (eq_by_cmp nat_cmp l.to l.from) _ (there l.to (to e))))
+
+-- three tests in another order
+turn_last : (a b e : Bool) → ((a || b) || e) ≡ ((a || e) || b)
+turn_last true b e = refl
+turn_last false true true = refl
+turn_last false true false = refl
+turn_last false false true = refl
+turn_last false false false = refl
+
+-- the ends of some links and of others, whichever come first
+with_ends-turned : (s : set.FinSet nat_cmp) (xs ys : List Link) → with_ends (with_ends s xs) ys ≡ with_ends (with_ends s ys) xs
+with_ends-turned s xs ys =
+    set.same_set nat_cmp_total set.nat_cmp-IsAntisymmetric _ _ (λ q.
+    contains-with_ends (with_ends s xs) ys q
+    ∙ ap (λ b. b || list_any (eq_by_cmp nat_cmp q) (ends_of ys)) (contains-with_ends s xs q)
+    ∙ turn_last (set.contains s q) _ _
+    ∙ sym (contains-with_ends (with_ends s ys) xs q ∙ ap (λ b. b || list_any (eq_by_cmp nat_cmp q) (ends_of xs)) (contains-with_ends s ys q)))
+
+-- what adding all ends tells of the number of routers
+module _ (rows : List Link) (cs : List Change) (apart : HaveOwnKeys rows) (once : AreOnceEach cs) where
+  -- they are the ends of the links that are put and of the rows that are left
+  counted : router_count (all_relinked (database_of rows) cs) ≡ set.len (with_ends (with_ends set.empty (links_put cs)) (rows_left rows cs))
+  counted = router_count-after rows cs apart once ∙ ap set.len (with_ends-turned set.empty (rows_left rows cs) (links_put cs))
+
+  -- where the ends of the links that are put are too many
+  pub many_put : 1024 < set.len (with_ends set.empty (links_put cs))
+      → 1024 < router_count (all_relinked (database_of rows) cs)
+  many_put many = omega (arith, many, len-with_ends-le (with_ends set.empty (links_put cs)) (rows_left rows cs), counted)
+
+  -- where both were added
+  pub tells_both : (b : Bool) (first second : set.FinSet nat_cmp)
+      → first ≡ with_ends set.empty (links_put cs)
+      → OnTrue b (second ≡ with_ends first (rows_left rows cs)) → OnTrue b (set.len second ≤ 1024)
+      → OnFalse b (1024 < set.len (with_ends first (rows_left rows cs)))
+      → IsTrue (not b) ↔ (1024 < router_count (all_relinked (database_of rows) cs))
+  tells_both true first second put left few many =
+      ((λ e. absurd (cc)), λ above. absurd (omega (arith, above, few, counted, ap set.len left, ap (λ s. set.len (with_ends s (rows_left rows cs))) put)))
+  tells_both false first second put left few many =
+      ((λ _. omega (arith, many, counted, ap (λ s. set.len (with_ends s (rows_left rows cs))) put)), λ _. refl)

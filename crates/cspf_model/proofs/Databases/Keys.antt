@@ -1,0 +1,111 @@
+-- Keys of links and of changes: equal keys, and their order.
+use Rattle.std.proofs.Common.{◌≡◌, ◌≢◌, ℕ, true, false, Option, Some, None, refl, ap}
+use Rattle.std.specs.Ordering.{nat_cmp, eq_by_cmp, is_eq, ordering_then}
+use Rattle.std.specs.declared.cmp.Ordering.{Ordering}
+use Rattle.std.specs.declared.cmp.Ordering.TheVariants.{Less, Equal, Greater}
+use Rattle.std.specs.Cmp.{Equal-is}
+use Rattle.std.specs.FinMap.{IsAntisymmetric, nat_cmp-IsAntisymmetric}
+use Rattle.std.specs.Cmp.{IsTotalOrder, nat_cmp_total}
+use Rattle.std.specs.Cmp.Lexicographic.{options_total}
+use Rattle.std.specs.Option.{option_cmp}
+use Rattle.std.proofs.lemmas.Cmp.{then_total, on_total, eq_by_cmp_equiv}
+use Rattle.cspf_model.specs.Database.{Key, key_cmp}
+use Rattle.cspf_model.specs.Changes.{ChangeKey, change_key_cmp, link_key, mark_key}
+
+-- the order of keys is total
+pub keys_total : IsTotalOrder key_cmp
+keys_total =
+    then_total (on_total (λ (k : Key). k.0) nat_cmp_total)
+    (on_total (λ (k : Key). k.1) nat_cmp_total)
+
+-- a key ties with itself
+pub key_itself : (k : Key) → eq_by_cmp key_cmp k k ≡ true
+key_itself k = (eq_by_cmp_equiv keys_total).refl k
+
+-- keys that do not tie do not tie the other way round
+pub keys_apart : (j k : Key) → eq_by_cmp key_cmp j k ≡ false → eq_by_cmp key_cmp k j ≡ false
+keys_apart j k e = rw ((eq_by_cmp_equiv keys_total).symm k j) e
+
+-- only equal keys tie
+pub keys_antisymmetric : IsAntisymmetric key_cmp
+keys_antisymmetric j k e =
+    elim (nat_cmp j.0 k.0) as (λ r. nat_cmp j.0 k.0 ≡ r → ordering_then r (nat_cmp j.1 k.1) ≡ Equal → j ≡ k) [
+      | Less ↦ λ _ off. absurd (cc)
+      | Equal ↦ λ from local. λ i. (nat_cmp-IsAntisymmetric j.0 k.0 from i, nat_cmp-IsAntisymmetric j.1 k.1 local i)
+      | Greater ↦ λ _ off. absurd (cc)
+    ] refl e
+
+-- keys that tie are one key
+pub keys_same : (j k : Key) → eq_by_cmp key_cmp j k ≡ true → j ≡ k
+keys_same j k e = keys_antisymmetric j k ((Equal-is (key_cmp j k)).0 e)
+
+-- keys that are not one key do not tie
+pub keys_apart_from : (j k : Key) → j ≢ k → eq_by_cmp key_cmp j k ≡ false
+keys_apart_from j k apart =
+    elim (eq_by_cmp key_cmp j k) as (λ b. eq_by_cmp key_cmp j k ≡ b → b ≡ false) [ true ↦ λ tie. absurd (apart (keys_same j k tie)) | false ↦ λ _. refl ] refl
+
+-- the order of the keys of changes is total
+pub change_keys_total : IsTotalOrder change_key_cmp
+change_keys_total =
+    then_total (on_total (λ (k : ChangeKey). k.0) nat_cmp_total)
+    (on_total (λ (k : ChangeKey). k.1) (options_total nat_cmp_total))
+
+-- a key of changes ties with itself
+pub change_key_itself : (k : ChangeKey) → eq_by_cmp change_key_cmp k k ≡ true
+change_key_itself k = (eq_by_cmp_equiv change_keys_total).refl k
+
+-- keys of changes that do not tie do not tie the other way round
+pub change_keys_apart : (j k : ChangeKey) → eq_by_cmp change_key_cmp j k ≡ false
+    → eq_by_cmp change_key_cmp k j ≡ false
+change_keys_apart j k e = rw ((eq_by_cmp_equiv change_keys_total).symm k j) e
+
+-- only equal interfaces tie, and a router alone with none
+options_antisymmetric : (o p : Option ℕ) → option_cmp nat_cmp o p ≡ Equal → o ≡ p
+options_antisymmetric None None e = refl
+options_antisymmetric None (Some n) e = absurd (cc)
+options_antisymmetric (Some m) None e = absurd (cc)
+options_antisymmetric (Some m) (Some n) e = λ i. Some (nat_cmp-IsAntisymmetric m n e i)
+
+-- only equal keys of changes tie
+change_keys_antisymmetric : IsAntisymmetric change_key_cmp
+change_keys_antisymmetric j k e =
+    elim (nat_cmp j.0 k.0) as (λ r. nat_cmp j.0 k.0 ≡ r → ordering_then r (option_cmp nat_cmp j.1 k.1) ≡ Equal → j ≡ k) [
+      | Less ↦ λ _ off. absurd (cc)
+      | Equal ↦ λ from local. λ i. (nat_cmp-IsAntisymmetric j.0 k.0 from i, options_antisymmetric j.1 k.1 local i)
+      | Greater ↦ λ _ off. absurd (cc)
+    ] refl e
+
+-- keys of changes that tie are one key
+pub change_keys_same : (j k : ChangeKey) → eq_by_cmp change_key_cmp j k ≡ true → j ≡ k
+change_keys_same j k e =
+    change_keys_antisymmetric j k ((Equal-is (change_key_cmp j k)).0 e)
+
+-- what is not tied second is not tied
+untied_behind : (o p : Ordering) → is_eq p ≡ false → is_eq (ordering_then o p) ≡ false
+untied_behind Less p e = refl
+untied_behind Equal p e = e
+untied_behind Greater p e = refl
+
+-- a link is apart from a router alone
+pub link_apart : (k : Key) (router : ℕ)
+    → eq_by_cmp change_key_cmp (link_key k) (mark_key router) ≡ false
+link_apart k router = untied_behind (nat_cmp k.0 router) Greater refl
+
+pub mark_apart : (router : ℕ) (k : Key)
+    → eq_by_cmp change_key_cmp (mark_key router) (link_key k) ≡ false
+mark_apart router k = untied_behind (nat_cmp router k.0) Less refl
+
+-- links with one key of changes have one key
+pub link_keys_same : (j k : Key) → link_key j ≡ link_key k → j ≡ k
+link_keys_same j k e =
+    let from : j.0 ≡ k.0 = ap (λ (q : ChangeKey). q.0) e in
+    let some : Some j.1 ≡ Some k.1 = ap (λ (q : ChangeKey). q.1) e in
+    let local : j.1 ≡ k.1 = cc in
+    λ i. (from i, local i)
+
+-- a link is no router alone
+pub link_not_mark : (k : Key) (router : ℕ) → link_key k ≡ mark_key router → ⊥
+link_not_mark k router e = some_none (ap (λ (q : ChangeKey). q.1) e)
+  where
+    some_none : ◌≡◌ {A = Option ℕ} (Some k.1) None → ⊥
+    some_none off = cc

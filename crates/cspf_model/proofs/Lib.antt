@@ -1,0 +1,4 @@
+-- The lemmas of this crate.
+pub mod Databases
+pub mod Batches
+pub mod Routes

@@ -1,0 +1,92 @@
+-- The order of walks is total, and tells the routes of a request apart.
+use Rattle.std.proofs.Common.{◌≡◌, ◌≢◌, ℕ, Some, List, [], ◌∷◌, length, refl, sym, ap, subst, ◌∙◌}
+use Rattle.std.specs.Ordering.{ordering_then, ordering_reverse}
+use Rattle.std.specs.declared.cmp.Ordering.{Ordering}
+use Rattle.std.specs.declared.cmp.Ordering.TheVariants.{Less, Equal, Greater}
+use Rattle.std.specs.Cmp.{IsTotalOrder, nat_cmp_total}
+use Rattle.std.specs.Cmp.Lexicographic.{nat_list_cmp_total}
+use Rattle.std.specs.List.{AllByRecursion}
+use Rattle.std.specs.FinMap.{nat_cmp-IsAntisymmetric, slice_cmp-IsAntisymmetric}
+use Rattle.std.proofs.lemmas.Cmp.{then_total, on_total}
+use Rattle.cspf_model.specs.declared.link.Link.{Link}
+use Rattle.cspf_model.specs.declared.request.Request.{Request}
+use Rattle.cspf_model.specs.Database.{Database, key_of, link_at}
+use Rattle.cspf_model.specs.Admissible.{IsAdmissible}
+use Rattle.cspf_model.specs.Walks.{AreJoined, cost_of, locals_of, walk_cmp}
+use Rattle.cspf_model.specs.Best.{unknown_from, unknown_to, no_route, route, IsBestRoute}
+use Rattle.cspf_model.specs.Laws.{WalksAreTold, RoutesAreRanked, OneBestAnswer}
+
+-- the order of walks is total
+pub walks_total : IsTotalOrder walk_cmp
+walks_total =
+    then_total (on_total cost_of nat_cmp_total)
+    (then_total (on_total (λ (walk : List Link). length walk) nat_cmp_total) (on_total locals_of nat_list_cmp_total))
+
+-- joined links of a database with the same local addresses are the same
+one_walk : (d : Database) (q : Request) (router : ℕ) (v w : List Link)
+    → AllByRecursion (IsAdmissible d q) v → AllByRecursion (IsAdmissible d q) w → AreJoined router v
+    → AreJoined router w → locals_of v ≡ locals_of w → v ≡ w
+one_walk d q router [] [] all also joined too same = refl
+one_walk d q router [] (m ∷ ms) all also joined too same = absurd (cc)
+one_walk d q router (l ∷ ls) [] all also joined too same = absurd (cc)
+one_walk d q router (l ∷ ls) (m ∷ ms) all also joined too same =
+    let local : l.local ≡ m.local = cc in
+    let rest : locals_of ls ≡ locals_of ms = cc in
+    let keys : key_of l ≡ key_of m = λ i. ((joined.0 ∙ sym too.0) i, local i) in
+    let found : Some l ≡ Some m = sym all.0.link ∙ ap (link_at d) keys ∙ also.0.link in
+    let first : l ≡ m = same_Some l m found in
+    λ i. first i ∷ one_walk d q l.to ls ms all.1 also.1 joined.1 (subst (λ r. AreJoined r ms) (sym (ap (λ (n : Link). n.to) first)) too.1) rest i
+  where
+    same_Some : (x y : Link) → Some x ≡ Some y → x ≡ y
+    same_Some x y e = cc
+
+-- walks of one request with the same local addresses are one
+pub walks_told : WalksAreTold
+walks_told d q v w is also same =
+    one_walk d q q.from v w is.links also.links is.joined also.joined same
+
+-- where two tests tie the second one does
+last_tie : (a b : Ordering) → ordering_then a b ≡ Equal → b ≡ Equal
+last_tie Less b e = absurd (cc)
+last_tie Equal b e = e
+last_tie Greater b e = absurd (cc)
+
+-- only equal routes of one request tie
+pub routes_ranked : RoutesAreRanked
+routes_ranked d q v w is also tie =
+    walks_told d q v w is.is_walk also.is_walk
+    (slice_cmp-IsAntisymmetric nat_cmp-IsAntisymmetric (locals_of v) (locals_of w) (last_tie _ _ (last_tie _ _ tie)))
+
+-- what is before the other in neither order ties
+neither_first : (a b : Ordering) → a ≡ ordering_reverse b → a ≢ Less → b ≢ Less → a ≡ Equal
+neither_first Less b e first second = absurd (first refl)
+neither_first Equal b e first second = refl
+neither_first Greater Less e first second = absurd (second refl)
+neither_first Greater Equal e first second = absurd (cc)
+neither_first Greater Greater e first second = absurd (cc)
+
+-- no two routes are both the best
+pub one_best : (d : Database) (q : Request) (v w : List Link) → IsBestRoute d q v
+    → IsBestRoute d q w → v ≡ w
+one_best d q v w is also =
+    routes_ranked d q v w is.is_route also.is_route
+    (neither_first (walk_cmp v w) (walk_cmp w v) (walks_total.antisymm v w) (also.least v is.is_route) (is.least w also.is_route))
+
+-- a request has one best answer at most
+pub one_answer : OneBestAnswer
+one_answer d q unknown_from unknown_from is also = refl
+one_answer d q unknown_from unknown_to is also = absurd (is also.0)
+one_answer d q unknown_from no_route is also = absurd (is also.0.from)
+one_answer d q unknown_from (route w) is also = absurd (is also.0.from)
+one_answer d q unknown_to unknown_from is also = absurd (also is.0)
+one_answer d q unknown_to unknown_to is also = refl
+one_answer d q unknown_to no_route is also = absurd (is.1 also.0.to)
+one_answer d q unknown_to (route w) is also = absurd (is.1 also.0.to)
+one_answer d q no_route unknown_from is also = absurd (also is.0.from)
+one_answer d q no_route unknown_to is also = absurd (also.1 is.0.to)
+one_answer d q no_route no_route is also = refl
+one_answer d q no_route (route w) is also = absurd (is.1 w also.1.is_route)
+one_answer d q (route v) unknown_from is also = absurd (also is.0.from)
+one_answer d q (route v) unknown_to is also = absurd (also.1 is.0.to)
+one_answer d q (route v) no_route is also = absurd (also.1 v is.1.is_route)
+one_answer d q (route v) (route w) is also = ap route (one_best d q v w is.1 also.1)

@@ -1,0 +1,33 @@
+-- The best answer to a request.
+use Rattle.std.specs.Prelude.{◌≢◌, List}
+use Rattle.std.specs.declared.cmp.Ordering.TheVariants.{Less}
+use Rattle.cspf_model.specs.declared.link.Link.{Link}
+use Rattle.cspf_model.specs.declared.request.Request.{Request}
+use Rattle.cspf_model.specs.Database.{Database, IsRouterOf}
+use Rattle.cspf_model.specs.Walks.{walk_cmp}
+use Rattle.cspf_model.specs.Routes.{IsRoute}
+
+-- no other route is before it
+pub record IsBestRoute (d : Database) (q : Request) (walk : List Link) : Type 0 where
+  pub is_route : IsRoute d q walk
+  pub least : (other : List Link) → IsRoute d q other → walk_cmp other walk ≢ Less
+
+-- what a request is answered
+pub data Answer : Type 0 where
+  unknown_from : Answer
+  unknown_to : Answer
+  no_route : Answer
+  route : List Link → Answer
+
+-- the database has both ends of the request
+pub record HasEnds (d : Database) (q : Request) : Type 0 where
+  pub from : IsRouterOf d q.from
+  pub to : IsRouterOf d q.to
+
+-- The best answer: an unknown head-end comes first, then an unknown tail-end, then the route that
+-- is before all others, and no route only where no walk is one.
+abbrev pub IsBestAnswer : Database → Request → Answer → Type 0
+IsBestAnswer d q unknown_from = ¬ IsRouterOf d q.from
+IsBestAnswer d q unknown_to = IsRouterOf d q.from × ¬ IsRouterOf d q.to
+IsBestAnswer d q no_route = HasEnds d q × ((walk : List Link) → ¬ IsRoute d q walk)
+IsBestAnswer d q (route walk) = HasEnds d q × IsBestRoute d q walk

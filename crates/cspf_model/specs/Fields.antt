@@ -1,0 +1,97 @@
+-- What links and requests say, and which requests are refused.
+use Rattle.std.specs.Prelude.{◌≡◌, ◌<◌, ◌≤◌, ◌↔◌, ℕ, List}
+use Rattle.cspf_addr.specs.declared.hop.Hop.{Hop}
+use Rattle.cspf_model.specs.declared.link.Link.{Link}
+use Rattle.cspf_model.specs.declared.request.Request.{Request}
+use Rattle.cspf_model.specs.declared.request.RequestError.{RequestError}
+use Rattle.cspf_model.specs.declared.request.RequestError.TheVariants.{Priority, SameEnds}
+
+-- the attributes of a link, without the facts that each link keeps
+pub record LinkFields : Type 0 where
+  pub from : ℕ
+  pub local : ℕ
+  pub to : ℕ
+  pub remote : ℕ
+  pub metric : ℕ
+  pub group : ℕ
+  pub free : List ℕ
+
+-- the link has these attributes
+pub record HasLinkFields (link : Link) (fields : LinkFields) : Type 0 where
+  pub from : link.from ≡ fields.from
+  pub local : link.local ≡ fields.local
+  pub to : link.to ≡ fields.to
+  pub remote : link.remote ≡ fields.remote
+  pub metric : link.metric ≡ fields.metric
+  pub group : link.group ≡ fields.group
+  pub free : link.free ≡ fields.free
+
+-- the attributes of this link
+abbrev pub fields_of_link : Link → LinkFields
+fields_of_link l = record {
+  from = l.from;
+  local = l.local;
+  to = l.to;
+  remote = l.remote;
+  metric = l.metric;
+  group = l.group;
+  free = l.free;
+}
+
+-- a link has the attributes that are read off it, and no others
+abbrev pub AreFieldsOfLinks : Type 0
+AreFieldsOfLinks =
+    (l : Link) (fields : LinkFields) → HasLinkFields l fields ↔ (fields_of_link l ≡ fields)
+
+-- what a request says, without the facts that each request keeps
+pub record RequestFields : Type 0 where
+  pub id : ℕ
+  pub from : ℕ
+  pub to : ℕ
+  pub setup : ℕ
+  pub bandwidth : ℕ
+  pub exclude_any : ℕ
+  pub include_any : ℕ
+  pub include_all : ℕ
+  pub hops : List Hop
+
+-- what a request is to say, in the order of `Request::new`
+abbrev pub request_fields : ℕ → ℕ → ℕ → ℕ → ℕ → ℕ → ℕ → ℕ → List Hop → RequestFields
+request_fields id from to setup bandwidth exclude_any include_any include_all hops = record {
+  id = id;
+  from = from;
+  to = to;
+  setup = setup;
+  bandwidth = bandwidth;
+  exclude_any = exclude_any;
+  include_any = include_any;
+  include_all = include_all;
+  hops = hops;
+}
+
+-- the request says this
+pub record HasRequestFields (q : Request) (fields : RequestFields) : Type 0 where
+  pub id : q.id ≡ fields.id
+  pub from : q.from ≡ fields.from
+  pub to : q.to ≡ fields.to
+  pub setup : q.setup ≡ fields.setup
+  pub bandwidth : q.bandwidth ≡ fields.bandwidth
+  pub exclude_any : q.exclude_any ≡ fields.exclude_any
+  pub include_any : q.include_any ≡ fields.include_any
+  pub include_all : q.include_all ≡ fields.include_all
+  pub hops : q.hops ≡ fields.hops
+
+-- what this request says
+abbrev pub fields_of_request : Request → RequestFields
+fields_of_request q =
+    request_fields q.id q.from q.to q.setup q.bandwidth q.exclude_any q.include_any q.include_all q.hops
+
+-- a request says what is read off it, and nothing else
+abbrev pub AreFieldsOfRequests : Type 0
+AreFieldsOfRequests =
+    (q : Request) (fields : RequestFields) → HasRequestFields q fields ↔ (fields_of_request q ≡ fields)
+
+-- why fields make no request: a setup priority above 7 comes first, then equal ends
+abbrev pub IsRequestFault : RequestFields → RequestError → Type 0
+IsRequestFault fields Priority = 7 < fields.setup
+IsRequestFault fields SameEnds = (fields.setup ≤ 7) × (fields.from ≡ fields.to)

@@ -1,0 +1,130 @@
+-- Laws of databases, batches and routes.
+use Rattle.std.specs.Prelude.{◌≡◌, ℕ, ◌≤◌, ◌↔◌, Some, None, IsTrue, List, [], ◌∷◌, ◌++◌, length, nat_eq, slice_index}
+use Rattle.std.specs.List.{IsDistinct, AllByRecursion}
+use Rattle.std.specs.declared.cmp.Ordering.TheVariants.{Less, Equal}
+use Rattle.std.specs.FinSet as set
+use Rattle.cspf_model.specs.declared.link.Link.{Link}
+use Rattle.cspf_model.specs.declared.request.Request.{Request}
+use Rattle.cspf_model.specs.declared.batch.Change.TheVariants.{Put, Remove}
+use Rattle.cspf_model.specs.declared.refusal.Refusal.{Refusal}
+use Rattle.cspf_model.specs.Numbered.{NumberedChanges}
+use Rattle.cspf_model.specs.Database.{Database, key_of, AreAtTheirKeys, IsRouterOf, all_routers, router_count}
+use Rattle.cspf_model.specs.Changes.{link_key, after_changes, last_on, link_after, database_after, IsDatabaseOf, Fits, AreLawful}
+use Rattle.cspf_model.specs.Refusals.{IsRefusal}
+use Rattle.cspf_model.specs.Admissible.{IsAdmitted}
+use Rattle.cspf_model.specs.Walks.{IsWalk, locals_of, walk_cmp}
+use Rattle.cspf_model.specs.Routes.{IsRoute}
+use Rattle.cspf_model.specs.Best.{Answer, IsBestAnswer}
+
+-- walks of one request with the same local addresses are one walk
+abbrev pub WalksAreTold : Type 0
+WalksAreTold =
+    (d : Database) (q : Request) (v w : List Link)
+    → IsWalk d q v → IsWalk d q w → locals_of v ≡ locals_of w → v ≡ w
+
+-- only equal routes of one request tie
+abbrev pub RoutesAreRanked : Type 0
+RoutesAreRanked =
+    (d : Database) (q : Request) (v w : List Link)
+    → IsRoute d q v → IsRoute d q w → walk_cmp v w ≡ Equal → v ≡ w
+
+-- a request has one best answer at most
+abbrev pub OneBestAnswer : Type 0
+OneBestAnswer =
+    (d : Database) (q : Request) (a b : Answer) → IsBestAnswer d q a → IsBestAnswer d q b → a ≡ b
+
+-- the database after batches has at each key what the last change on it left
+abbrev pub LastChangeDecides : Type 0
+LastChangeDecides = (batches : List NumberedChanges) → IsDatabaseOf (database_after batches) batches
+
+-- a list of batches has one database at most
+abbrev pub OneDatabase : Type 0
+OneDatabase =
+    (batches : List NumberedChanges) (d e : Database)
+    → IsDatabaseOf d batches → IsDatabaseOf e batches → d ≡ e
+
+-- one more batch makes its changes in the database of those before it
+abbrev pub OneMoreBatch : Type 0
+OneMoreBatch =
+    (batches : List NumberedChanges) (b : NumberedChanges)
+    → database_after (batches ++ b ∷ []) ≡ after_changes (database_after batches) b.changes
+
+-- a list of batches with one more is lawful where it is and the batch fits its database, and only
+-- there
+abbrev pub LawfulByOneMore : Type 0
+LawfulByOneMore =
+    (batches : List NumberedChanges) (b : NumberedChanges)
+    → AreLawful (batches ++ b ∷ []) ↔ (AreLawful batches × Fits (database_after batches) b)
+
+-- the first batches of a lawful list are lawful
+abbrev pub FirstBatchesAreLawful : Type 0
+FirstBatchesAreLawful =
+    (batches more : List NumberedChanges) → AreLawful (batches ++ more) → AreLawful batches
+
+-- the set whose items are counted is that of the routers
+abbrev pub RoutersAreCounted : Type 0
+RoutersAreCounted =
+    (d : Database) → AreAtTheirKeys d → (router : ℕ)
+    → IsTrue (set.contains (all_routers d) router) ↔ IsRouterOf d router
+
+-- each link is at its own key after any list of batches
+abbrev pub LinksAreAtTheirKeys : Type 0
+LinksAreAtTheirKeys =
+    (batches : List NumberedChanges) → AreAtTheirKeys (database_after batches)
+
+-- different routers of a database are at most as many as it has
+abbrev pub NoRouterIsLeftOut : Type 0
+NoRouterIsLeftOut =
+    (d : Database) (routers : List ℕ) → IsDistinct nat_eq routers
+    → AllByRecursion (IsRouterOf d) routers → length routers ≤ router_count d
+
+-- a batch is refused for one reason at most
+abbrev pub OneRefusal : Type 0
+OneRefusal =
+    (d : Database) (b : NumberedChanges) (e f : Refusal) → IsRefusal d b e → IsRefusal d b f → e ≡ f
+
+-- a batch that is refused doesn't fit
+abbrev pub RefusedIsUnfit : Type 0
+RefusedIsUnfit = (d : Database) (b : NumberedChanges) (e : Refusal) → IsRefusal d b e → ¬ Fits d b
+
+-- 10.0.0.9 comes before 10.0.0.10
+abbrev pub AddressesCompareAsNumbers : Type 0
+AddressesCompareAsNumbers =
+    (l m : Link) → l.metric ≡ m.metric → l.local ≡ 167772169 → m.local ≡ 167772170
+    → walk_cmp (l ∷ []) (m ∷ []) ≡ Less
+
+-- one link comes before two of the same cost, whatever their addresses
+abbrev pub FewerLinksComeFirst : Type 0
+FewerLinksComeFirst =
+    (l m n : Link) → l.metric ≡ 20 → m.metric ≡ 10 → n.metric ≡ 10
+    → walk_cmp (l ∷ []) (m ∷ n ∷ []) ≡ Less
+
+-- a link that is put, taken out and put again is there as it was put last
+abbrev pub LastPutStands : Type 0
+LastPutStands =
+    (l m : Link) → key_of l ≡ key_of m
+    → link_after (last_on (link_key (key_of l)) (Put l ∷ Remove l.from l.local ∷ Put m ∷ [])) None ≡ Some m
+
+-- a link that is put twice and taken out isn't there
+abbrev pub LastRemovalStands : Type 0
+LastRemovalStands =
+    (l m : Link) → key_of l ≡ key_of m
+    → link_after (last_on (link_key (key_of l)) (Put l ∷ Put m ∷ Remove l.from l.local ∷ [])) None ≡ None
+
+-- the request asks for no groups
+pub record AsksNoGroups (q : Request) : Type 0 where
+  pub exclude_any : q.exclude_any ≡ 0
+  pub include_any : q.include_any ≡ 0
+  pub include_all : q.include_all ≡ 0
+
+-- bandwidth that is exactly met is enough
+abbrev pub ExactBandwidthIsEnough : Type 0
+ExactBandwidthIsEnough =
+    (q : Request) (l : Link) → AsksNoGroups q
+    → slice_index l.free q.setup ≡ 1000 → q.bandwidth ≡ 1000 → IsAdmitted q l
+
+-- one byte per second less is too little
+abbrev pub LessBandwidthIsNot : Type 0
+LessBandwidthIsNot =
+    (q : Request) (l : Link)
+    → slice_index l.free q.setup ≡ 1000 → q.bandwidth ≡ 1001 → ¬ IsAdmitted q l

@@ -1,0 +1,29 @@
+-- How a walk is cut into legs, one to each hop and one to the tail-end.
+use Rattle.std.specs.Prelude.{◌≡◌, ℕ, suc, List, [], ◌∷◌, length}
+use Rattle.std.specs.List.{AllByRecursion, flat_map}
+use Rattle.cspf_model.specs.declared.link.Link.{Link}
+use Rattle.cspf_model.specs.declared.request.Request.{Request}
+use Rattle.cspf_model.specs.Database.{Database}
+use Rattle.cspf_model.specs.Walks.{end_of, routers_of}
+use Rattle.cspf_model.specs.Targets.{IsTarget, IsInside}
+
+-- links from a router on, perhaps none, are a leg where they end at one of its targets and stay
+-- inside it
+pub record IsLeg (d : Database) (q : Request) (leg router : ℕ) (links : List Link) : Type 0 where
+  pub arrives : IsTarget d q leg (end_of router links)
+  pub within : AllByRecursion (IsInside d q leg) (routers_of router links)
+
+-- legs with numbers from this one on, the first from the router, and each next one from where the
+-- last one ended
+abbrev pub AreLegs : Database → Request → ℕ → ℕ → List (List Link) → Type 0
+AreLegs d q leg router [] = Unit {0}
+AreLegs d q leg router (links ∷ rest) =
+    IsLeg d q leg router links × AreLegs d q (suc leg) (end_of router links) rest
+
+-- the walk is these legs one behind the other: one to each hop, in the hops' order, and one to the
+-- tail-end
+pub record IsCutInto (d : Database) (q : Request) (walk : List Link) (legs : List (List Link))
+    : Type 0 where
+  pub number : length legs ≡ suc (length q.hops)
+  pub whole : flat_map (λ links. links) legs ≡ walk
+  pub each : AreLegs d q 1 q.from legs

@@ -1,0 +1,19 @@
+-- The definitions that contracts cite, from a database to the best answer, and their laws.
+pub mod Numbered
+pub mod Database
+pub mod DatabaseCode
+pub mod Changes
+pub mod Admissible
+pub mod Walks
+pub mod Targets
+pub mod Legs
+pub mod Routes
+pub mod RouteLinks
+pub mod HopLaws
+pub mod Examples
+pub mod Best
+pub mod Outcome
+pub mod Fields
+pub mod Refusals
+pub mod Laws
+pub mod Lemmas

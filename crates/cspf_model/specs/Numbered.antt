@@ -1,0 +1,8 @@
+-- Batches as plain data.
+use Rattle.std.specs.Prelude.{ℕ, List}
+use Rattle.cspf_model.specs.declared.batch.Change.{Change}
+
+-- a batch without where it lies in memory: its number and its changes, in order
+pub record NumberedChanges : Type 0 where
+  pub number : ℕ
+  pub changes : List Change

@@ -1,0 +1,80 @@
+-- Why a batch doesn't fit a database.
+use Rattle.std.specs.Prelude.{◌≡◌, ℕ, zero, suc, ◌<◌, ◌≤◌, Option, Some, None, List, All, length, map}
+use Rattle.std.specs.Ordering.{eq_by_cmp}
+use Rattle.std.specs.List.{IsDistinct, slice_get}
+use Rattle.cspf_model.specs.declared.batch.Change.{Change}
+use Rattle.cspf_model.specs.declared.batch.Change.TheVariants.{Put, Remove, Node}
+use Rattle.cspf_model.specs.declared.refusal.Refusal.{Refusal}
+use Rattle.cspf_model.specs.declared.refusal.Refusal.TheVariants.{TooLong, Duplicate, Absent, Full, TooManyRouters, TooManyMarks}
+use Rattle.cspf_model.specs.Numbered.{NumberedChanges}
+use Rattle.cspf_model.specs.Database.{Database, link_at, link_count, router_count, mark_count}
+use Rattle.cspf_model.specs.Changes.{change_key_cmp, key_changed, after_changes, IsPresent}
+use Rattle.cspf_model.specs.declared.limits.TheConstants.{MOST_CHANGES, MOST_LINKS, MOST_ROUTERS, MOST_MARKS}
+
+-- the change at a place, where places count from 1
+abbrev pub change_at : List Change → ℕ → Option Change
+change_at changes zero = None
+change_at changes (suc before) = slice_get changes before
+
+-- the change at this place is on the key of an earlier one
+pub record RepeatsAt (changes : List Change) (place : ℕ) : Type 0 where
+  pub earlier : ℕ
+  pub is_earlier : earlier < place
+  pub first : Change
+  pub second : Change
+  pub is_first : change_at changes earlier ≡ Some first
+  pub is_second : change_at changes place ≡ Some second
+  pub one_key : key_changed first ≡ key_changed second
+
+-- a removal of a link that the database doesn't have
+abbrev pub RemovesNothing : Database → Change → Type 0
+RemovesNothing d (Put l) = ⊥
+RemovesNothing d (Remove from local) = link_at d (from, local) ≡ None
+RemovesNothing d (Node router transit) = ⊥
+
+-- the change at this place removes a link that the database doesn't have
+pub record RemovesNothingAt (d : Database) (changes : List Change) (place : ℕ) : Type 0 where
+  pub change : Change
+  pub is_change : change_at changes place ≡ Some change
+  pub removes_nothing : RemovesNothing d change
+
+-- it holds at this place, and at none before
+pub record IsLeastPlace (P : ℕ → Type 0) (place : ℕ) : Type 0 where
+  pub here : P place
+  pub none_before : (before : ℕ) → before < place → ¬ P before
+
+-- at most 4,096 changes
+abbrev pub IsShort : List Change → Type 0
+IsShort changes = length changes ≤ MOST_CHANGES
+
+-- no two changes are on one key
+abbrev pub AreOnceEach : List Change → Type 0
+AreOnceEach changes = IsDistinct (eq_by_cmp change_key_cmp) (map key_changed changes)
+
+-- each removal's key is in the database
+abbrev pub ArePresent : Database → List Change → Type 0
+ArePresent d changes = All (IsPresent d) changes
+
+-- at most 4,096 changes, each on a key of its own, each removal's key in the database
+pub record AreInOrder (d : Database) (changes : List Change) : Type 0 where
+  pub short : IsShort changes
+  pub once : AreOnceEach changes
+  pub present : ArePresent d changes
+
+-- Why a batch doesn't fit a database: the first of these that applies.
+abbrev pub IsRefusal : Database → NumberedChanges → Refusal → Type 0
+IsRefusal d batch TooLong = MOST_CHANGES < length batch.changes
+IsRefusal d batch (Duplicate at) =
+    IsShort batch.changes × IsLeastPlace (RepeatsAt batch.changes) at
+IsRefusal d batch (Absent at) =
+    IsShort batch.changes × AreOnceEach batch.changes
+    × IsLeastPlace (RemovesNothingAt d batch.changes) at
+IsRefusal d batch Full =
+    AreInOrder d batch.changes × (MOST_LINKS < link_count (after_changes d batch.changes))
+IsRefusal d batch TooManyRouters =
+    AreInOrder d batch.changes × (link_count (after_changes d batch.changes) ≤ MOST_LINKS)
+    × (MOST_ROUTERS < router_count (after_changes d batch.changes))
+IsRefusal d batch TooManyMarks =
+    AreInOrder d batch.changes × (link_count (after_changes d batch.changes) ≤ MOST_LINKS)
+    × (router_count (after_changes d batch.changes) ≤ MOST_ROUTERS)
+    × (MOST_MARKS < mark_count (after_changes d batch.changes))

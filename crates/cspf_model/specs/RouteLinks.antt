@@ -1,0 +1,28 @@
+-- What a route keeps, and when it visits a router again.
+use Rattle.std.specs.Prelude.{◌≡◌, ℕ, ◌<◌, ◌≤◌, ◌^◌, List, [], ◌∷◌, length, nat_eq}
+use Rattle.std.specs.List.{IsDistinct}
+use Rattle.cspf_model.specs.declared.limits.TheConstants.{MOST_ROUTE_LINKS}
+use Rattle.cspf_model.specs.declared.link.Link.{Link}
+use Rattle.cspf_model.specs.Walks.{AreJoined, cost_of, routers_of}
+
+-- each link runs from where the one before ended
+abbrev pub AreLinked : List Link → Type 0
+AreLinked [] = Unit {0}
+AreLinked (l ∷ ls) = AreJoined l.from (l ∷ ls)
+
+-- the router that the first link runs from, and the ends of all links
+abbrev pub routers_on : List Link → List ℕ
+routers_on [] = []
+routers_on (l ∷ ls) = routers_of l.from (l ∷ ls)
+
+-- a router stands twice among them
+abbrev pub VisitsTwice : List Link → Type 0
+VisitsTwice links = ¬ IsDistinct nat_eq (routers_on links)
+
+-- what a route keeps
+pub record IsKept (links : List Link) (kept : ℕ) : Type 0 where
+  pub some : 0 < length links
+  pub most : length links ≤ MOST_ROUTE_LINKS
+  pub linked : AreLinked links
+  pub cost : kept ≡ cost_of links
+  pub small : kept < 2 ^ 45

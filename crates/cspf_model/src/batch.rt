@@ -1,0 +1,73 @@
+ghost use Rattle.std.specs.Prelude.{◌≡◌, IfOk};
+
+use crate::Link;
+use cspf_addr::Addr;
+use std::alloc::{AllocError, Global};
+use std::marker::Model;
+
+/// A change to the link of one key, or to whether one router has transit.
+#[derive(Clone, Copy, Debug, PartialEq, Eq)]
+pub enum Change {
+    /// Puts the link, in place of the one with its key where there is one.
+    Put(Link),
+    /// Takes out the link with this key.
+    Remove {
+        /// The router that the link runs from.
+        from: Addr,
+        /// The address of its interface there.
+        local: Addr,
+    },
+    /// Says of an address whether a router that has it as its Router ID has transit, whether or not
+    /// there is such a router now.
+    Node {
+        /// The Router ID.
+        router: Addr,
+        /// Whether routes may pass through the router.
+        transit: bool,
+    },
+}
+
+impl Change {
+    ghost use Rattle.cspf_model.specs.Changes.{key_changed};
+
+    /// What is changed: the router that a link runs from with the address of its interface there, or
+    /// a router alone.
+    pub fn key(&self) -> (Addr, Option<Addr>)
+        ensures { result ≡ key_changed self.now }
+    {
+        match self {
+            Change::Put(link) => (link.from, Some(link.local)),
+            Change::Remove { from, local } => (*from, Some(*local)),
+            Change::Node { router, .. } => (*router, None),
+        }
+    }
+}
+
+/// A numbered list of changes that take effect together.
+#[derive(Debug, Drop)]
+pub struct Batch {
+    /// The version that the batch makes.
+    pub number: u32,
+    /// The changes, in order.
+    pub changes: Vec<Change>,
+}
+
+impl Model for Batch {
+    ghost use Rattle.cspf_model.specs.Numbered.{NumberedChanges};
+
+    ghost Value = { NumberedChanges };
+
+    ghost view = { λ a. record { number = a.number; changes = a.changes.items } };
+}
+
+impl Batch {
+    /// A batch with the same number and the same changes.
+    pub fn copy(&self, alloc: Global) -> Result<Batch, AllocError>
+        ensures { IfOk result (λ copy. copy ≡ self.now) }
+    {
+        Ok(Batch {
+            number: self.number,
+            changes: Vec::from_slice(alloc, &self.changes)?,
+        })
+    }
+}

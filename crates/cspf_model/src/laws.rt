@@ -1,0 +1,82 @@
+//! What follows from the definitions of `specs/` alone. Each call here does nothing: its contract
+//! is the law.
+ghost use Rattle.std.specs.Cmp.{IsTotalOrder};
+ghost use Rattle.cspf_model.specs.Walks.{walk_cmp};
+ghost use Rattle.cspf_model.specs.Fields.{AreFieldsOfLinks, AreFieldsOfRequests};
+ghost use Rattle.cspf_model.specs.Laws.{WalksAreTold, RoutesAreRanked, OneBestAnswer, LastChangeDecides, OneDatabase, OneMoreBatch, LawfulByOneMore, FirstBatchesAreLawful, RoutersAreCounted, NoRouterIsLeftOut, LinksAreAtTheirKeys, OneRefusal, RefusedIsUnfit, AddressesCompareAsNumbers, FewerLinksComeFirst, LastPutStands, LastRemovalStands, ExactBandwidthIsEnough, LessBandwidthIsNot};
+
+mod hop_laws;
+
+pub use hop_laws::{route_without_hops, worked_routes};
+
+/// Walks are in a total order. Their local addresses tell the walks of a request apart, so only
+/// equal routes of one request tie.
+pub fn order_of_walks()
+    ensures total { IsTotalOrder walk_cmp }
+    ensures told { WalksAreTold }
+    ensures ranked { RoutesAreRanked }
+{}
+
+/// A request has one best answer at most.
+pub fn one_best_answer()
+    ensures { OneBestAnswer }
+{}
+
+/// The database after a list of batches has at each key what the last change on it left, and is the
+/// only one that has.
+pub fn last_change_decides()
+    ensures decides { LastChangeDecides }
+    ensures one { OneDatabase }
+{}
+
+/// One more batch makes its changes in the database of the batches before it.
+pub fn absorbing()
+    ensures { OneMoreBatch }
+{}
+
+/// One more batch keeps a list of batches lawful where it fits the database of those before it, and
+/// only there. The first batches of a lawful list are lawful.
+pub fn lawful_batches()
+    ensures more { LawfulByOneMore }
+    ensures first { FirstBatchesAreLawful }
+{}
+
+/// The routers that are counted are those of the database, where each link is at its own key, as it
+/// is after any list of batches. So different routers of a database are at most as many as are
+/// counted.
+pub fn counted_routers()
+    ensures counted { RoutersAreCounted }
+    ensures distinct { NoRouterIsLeftOut }
+    ensures at_their_keys { LinksAreAtTheirKeys }
+{}
+
+/// A link has the attributes that are read off it and no others, and a request says what is read off
+/// it and nothing else.
+pub fn fields_of_links_and_requests()
+    ensures links { AreFieldsOfLinks }
+    ensures requests { AreFieldsOfRequests }
+{}
+
+/// A batch is refused for one reason at most, and only where it doesn't fit.
+pub fn one_refusal()
+    ensures one { OneRefusal }
+    ensures unfit { RefusedIsUnfit }
+{}
+
+/// Two orders of routes: addresses compare as numbers, and fewer links go before smaller addresses.
+pub fn worked_orders()
+    ensures numbers { AddressesCompareAsNumbers }
+    ensures fewer { FewerLinksComeFirst }
+{}
+
+/// Three changes of one key: the last one stands.
+pub fn worked_changes()
+    ensures put { LastPutStands }
+    ensures removed { LastRemovalStands }
+{}
+
+/// A link with 1,000 bytes per second unreserved is admitted for 1,000, and not for 1,001.
+pub fn worked_admission()
+    ensures enough { ExactBandwidthIsEnough }
+    ensures too_little { LessBandwidthIsNot }
+{}

@@ -1,0 +1,28 @@
+//! The definitions that every crate above cites: databases, batches, admissible links, walks, routes, their
+//! order and the best answer, with the types that they speak of. `specs/` has the definitions, `laws` what
+//! follows from them.
+#![tactic(auto)]
+
+mod batch;
+mod laws;
+mod limits;
+mod link;
+mod outcome;
+mod refusal;
+mod request;
+mod route;
+
+pub use batch::{Batch, Change};
+pub use laws::{
+    absorbing, counted_routers, fields_of_links_and_requests, last_change_decides, lawful_batches,
+    one_best_answer, one_refusal, order_of_walks, route_without_hops, worked_admission,
+    worked_changes, worked_orders, worked_routes,
+};
+pub use limits::{
+    MOST_CHANGES, MOST_LEGS, MOST_LINKS, MOST_MARKS, MOST_ROUTE_LINKS, MOST_ROUTERS, MOST_VERSIONS,
+};
+pub use link::{Link, LinkError};
+pub use outcome::Outcome;
+pub use refusal::Refusal;
+pub use request::{Request, RequestError};
+pub use route::Route;

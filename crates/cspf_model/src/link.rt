@@ -1,0 +1,73 @@
+ghost use Rattle.std.specs.Prelude.{◌≡◌, ◌≢◌, length, IfOk, OnErr};
+
+use cspf_addr::{Addr, Mask};
+use thiserror::Error;
+
+/// A one-way, numbered, point-to-point link with its traffic engineering attributes (RFC 3630 2.5).
+#[derive(Clone, Copy, Debug, PartialEq, Eq)]
+pub struct Link {
+    /// The router that the link runs from.
+    pub from: Addr,
+    /// The address of the interface at that router (RFC 3630 2.5.3). With `from` it is the key.
+    pub local: Addr,
+    /// The Router ID of the neighbor that the link runs to (RFC 3630 2.5.2).
+    pub to: Addr,
+    /// The address of the neighbor's interface (RFC 3630 2.5.4).
+    pub remote: Addr,
+    /// The traffic engineering metric (RFC 3630 2.5.5).
+    pub metric: u32,
+    /// The administrative groups that the link belongs to (RFC 3630 2.5.9).
+    pub group: Mask,
+    /// The unreserved bandwidth at each priority, 0 (the highest) first, in bytes per second
+    /// (RFC 3630 2.5.8).
+    pub free: [u64; 8],
+    ghost eight: { length free ≡ 8 },
+    ghost two_ends: { from ≢ to },
+}
+
+/// Why a link is refused.
+#[derive(Clone, Copy, Debug, PartialEq, Eq, Error)]
+pub enum LinkError {
+    /// The link would run from a router to itself.
+    #[error("a link from a router to itself")]
+    SelfLink,
+}
+
+impl Link {
+    ghost use Rattle.cspf_model.specs.Fields.{HasLinkFields};
+
+    /// The link with these attributes. It is refused where it would run from a router to itself.
+    pub fn new(
+        from: Addr,
+        local: Addr,
+        to: Addr,
+        remote: Addr,
+        metric: u32,
+        group: Mask,
+        free: [u64; 8],
+    ) -> Result<Link, LinkError>
+        ensures ok { IfOk result (λ link. HasLinkFields link (record {
+          from = from;
+          local = local;
+          to = to;
+          remote = remote;
+          metric = metric;
+          group = group;
+          free = free;
+        })) }
+        ensures self_link { OnErr result (from ≡ to) }
+    {
+        if from == to {
+            return Err(LinkError::SelfLink);
+        }
+        Ok(Link {
+            from,
+            local,
+            to,
+            remote,
+            metric,
+            group,
+            free,
+        })
+    }
+}

@@ -1,0 +1,87 @@
+ghost use Rattle.cspf_model.specs.declared.limits.TheConstants.{MOST_ROUTE_LINKS};
+ghost use Rattle.std.specs.Prelude.{◌≡◌, ◌<◌, ◌≤◌, ◌^◌, ◌↔◌, IsTrue, length, map, nat_eq};
+ghost use Rattle.std.specs.List.{list_any, IsDistinct};
+ghost use Rattle.cspf_model.specs.Walks.{cost_of};
+ghost use Rattle.cspf_model.specs.RouteLinks.{AreLinked, IsKept, VisitsTwice};
+
+use crate::Link;
+use cspf_addr::Addr;
+use std::marker::Model;
+
+/// An explicit route: 1 to `MOST_ROUTE_LINKS` links, each from where the one before ended.
+#[derive(Debug, Drop)]
+pub struct Route {
+    links: Vec<Link>,
+    cost: u64,
+}
+
+impl Model for Route {
+    ghost use Rattle.std.specs.Prelude.{List};
+    ghost use Rattle.std.specs.Coded.{coded_list};
+    ghost use Rattle.cspf_model.specs.declared.link.Link.{Link};
+    ghost use Rattle.cspf_model.specs.contracts.link.Link.{the_row};
+    ghost use Rattle.cspf_model.specs.RouteLinks.{IsKept};
+
+    ghost Value = { List Link };
+
+    ghost coded = { coded_list the_row.coded };
+
+    ghost view = { λ a. a.links.items };
+
+    ghost invariant = { λ a. IsKept a.links.items a.cost };
+}
+
+impl Route {
+    /// The route along these links, with their cost.
+    pub fn new(links: Vec<Link>, cost: u64) -> Route
+        requires { IsKept links.items cost }
+        ensures { result ≡ links.items }
+    {
+        Route { links, cost }
+    }
+
+    /// The links in order, from the head-end on.
+    pub fn links(&self) -> &[Link]
+        ensures value { result.now ≡ self.now }
+        ensures some { 0 < length self.now }
+        ensures most { length self.now ≤ MOST_ROUTE_LINKS }
+        ensures linked { AreLinked self.now }
+    {
+        self.links.as_slice()
+    }
+
+    /// The sum of the metrics, below 2^45.
+    pub fn cost(&self) -> u64
+        ensures value { result ≡ cost_of self.now }
+        ensures small { result < 2 ^ 45 }
+    {
+        self.cost
+    }
+
+    /// Whether a router stands twice on the route.
+    pub fn again(&self) -> bool
+        ensures { IsTrue result ↔ VisitsTwice self.now }
+    {
+        let links = self.links.as_slice();
+        ends_at(links, links[0].from) || ends_meet(links)
+    }
+}
+
+/// Whether one of the links ends at the router.
+fn ends_at(links: &[Link], router: Addr) -> bool
+    ensures { result ≡ list_any (λ l. nat_eq router l.to) links.now }
+{
+    links.iter().any(|link| router == link.to)
+}
+
+/// Whether two of the links end at one router.
+fn ends_meet(links: &[Link]) -> bool
+    ensures { IsTrue result ↔ (¬ IsDistinct nat_eq (map (λ l. l.to) links.now)) }
+{
+    for (i, link) in links.iter().enumerate() {
+        if ends_at(&links[i + 1..], link.to) {
+            return true;
+        }
+    }
+    false
+}
