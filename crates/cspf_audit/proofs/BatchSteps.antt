@@ -7,8 +7,7 @@ use Rattle.cspf_model.specs.Database.{Database}
 use Rattle.cspf_model.specs.Changes.{AreLawful, Fits, after_changes, database_after}
 use Rattle.cspf_model.specs.Laws.{OneMoreBatch, LawfulByOneMore, FirstBatchesAreLawful}
 use Rattle.cspf_model.specs.declared.refusal.Refusal.{Refusal}
-use Rattle.cspf_model.specs.Refusals.{IsRefusal}
-use Rattle.cspf_audit.specs.AuditErrors.{IsFirstUnfit}
+use Rattle.cspf_model.specs.Refusals.{IsRefusal, IsFirstUnfit}
 
 module _ (batches : List NumberedChanges) (i : ℕ) (b : NumberedChanges) (within : i < length batches) (is_next : b ≡ get_or batches i b) where
   one_more : take (i + 1) batches ≡ take i batches ++ b ∷ []

@@ -6,7 +6,7 @@ use Rattle.std.specs.Io.BufRead.{take_through, drop_through, ends_with_byte, str
 use Rattle.std.specs.Io.KnownBytes.{IsAtEnd}
 use Rattle.cspf_rows.specs.declared.limits.TheConstants.{MOST_ROWS}
 use Rattle.cspf_audit.specs.Lines.{HasNoFeed, AreLines, IsLastLine, HasTooManyLines}
-use Rattle.cspf_audit.specs.LineReading.{IsLineBefore, Takes, AreSeen}
+use Rattle.cspf_audit.specs.LineReading.{IsLineBefore, TakesLine, AreSeen}
 
 -- ---- a text has lines
 
@@ -76,7 +76,7 @@ some_bytes bytes n counted read empty = read (omega (arith, counted, ap length e
 
 -- what is read up to a line feed, which is taken off it, is the first line
 pub takes_line : (old new : Option (List ℕ)) (bytes line : List ℕ) → IfSome old (λ text. bytes ≡ take_through 10 text) → DropsThrough old new 10 → bytes ≢ []
-    → line ≡ strip_last 10 bytes → Takes old new (Some line)
+    → line ≡ strip_last 10 bytes → TakesLine old new (Some line)
 takes_line None new bytes line read drops some cut = tt
 takes_line (Some text) None bytes line read drops some cut = absurd (cc)
 takes_line (Some text) (Some rest) bytes line read drops some cut = go (is_cut text)
@@ -93,7 +93,7 @@ takes_line (Some text) (Some rest) bytes line read drops some cut = go (is_cut t
         (subst HasNoFeed (sym same) none, inr (rw (same, left, behind) is))
 
 -- where nothing is left, nothing is taken
-pub takes_none : (old new : Option (List ℕ)) → IsAtEnd old → Takes old new None
+pub takes_none : (old new : Option (List ℕ)) → IsAtEnd old → TakesLine old new None
 takes_none None new at_end = tt
 takes_none (Some text) new at_end = at_end
 
@@ -103,7 +103,7 @@ pub sees_none : (all : Option (List ℕ)) → AreSeen all all []
 sees_none None = tt
 sees_none (Some all) = λ more are. are
 
-pub sees_more : (all left next : Option (List ℕ)) (seen : List (List ℕ)) (line : List ℕ) → AreSeen all left seen → Takes left next (Some line) → AreSeen all next (seen ++ line ∷ [])
+pub sees_more : (all left next : Option (List ℕ)) (seen : List (List ℕ)) (line : List ℕ) → AreSeen all left seen → TakesLine left next (Some line) → AreSeen all next (seen ++ line ∷ [])
 sees_more None left next seen line before takes = tt
 sees_more (Some all) None next seen line before takes = absurd before
 sees_more (Some all) (Some left) None seen line before takes = absurd takes
@@ -121,12 +121,12 @@ sees_more (Some all) (Some left) (Some rest) seen line before takes = λ more ar
         no_front (x ∷ front) back same = absurd (cc)
     go (inr feed) more are = inr (rest, feed, are)
 
-pub sees_all : (all left next : Option (List ℕ)) (seen : List (List ℕ)) → AreSeen all left seen → Takes left next None → IfSome all (λ bytes. AreLines bytes seen)
+pub sees_all : (all left next : Option (List ℕ)) (seen : List (List ℕ)) → AreSeen all left seen → TakesLine left next None → IfSome all (λ bytes. AreLines bytes seen)
 sees_all None left next seen before takes = tt
 sees_all (Some all) None next seen before takes = absurd before
 sees_all (Some all) (Some left) next seen before takes = subst (AreLines all) (append-nil seen) (before [] takes)
 
-pub sees_too_many : (all left next : Option (List ℕ)) (seen : List (List ℕ)) (line : List ℕ) → AreSeen all left seen → Takes left next (Some line) → length seen ≡ MOST_ROWS
+pub sees_too_many : (all left next : Option (List ℕ)) (seen : List (List ℕ)) (line : List ℕ) → AreSeen all left seen → TakesLine left next (Some line) → length seen ≡ MOST_ROWS
     → IfSome all HasTooManyLines
 sees_too_many all left next seen line before takes whole = go all next (sees_more all left next seen line before takes)
   where

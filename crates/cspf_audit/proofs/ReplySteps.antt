@@ -17,7 +17,7 @@ use Rattle.cspf_audit.specs.declared.finding.Finding.TheVariants as finding
 use Rattle.cspf_audit.specs.declared.replies.Replies.{Replies}
 use Rattle.cspf_audit.specs.declared.replies.Reading.TheVariants as reading
 use Rattle.cspf_audit.specs.Requests.{HaveOwnIds, IsAsked}
-use Rattle.cspf_audit.specs.Reading.{place_of, ArePlaces, IsClaim, AreClaims, AreOpenFindings, AreNamed, HasRead, IsReading}
+use Rattle.cspf_audit.specs.Reading.{place_of, ArePlaces, IsClaim, AreClaims, AreOpenFindings, AreNamed, HasReadLines, IsReading}
 use Rattle.cspf_audit.specs.Findings.{first_word, IsPassedOver, IsNamed, IsFirstReply, IsFinding}
 use Rattle.cspf_audit.proofs.IdPlaces.{lack_id, lack_one, place_found, own_place, read_there}
 use Rattle.cspf_audit.proofs.Lookups.{one_element, get-set_same, get-set_other}
@@ -205,7 +205,7 @@ module _ (one : HasOneHead) (batches : List NumberedChanges) (requests : List Re
 -- what was read is kept as these lists
 pub has_read : (batches : List NumberedChanges) (requests : List Request) (seen : List (List ℕ)) (replies : Replies) (findings : List Finding) (claims : List Claim) (named : List Bool)
     → replies.findings.items ≡ findings → replies.claims.items ≡ claims → replies.named.items ≡ named
-    → AreOpenFindings batches requests seen claims findings × AreClaims requests (length batches) seen claims × AreNamed requests seen named → HasRead batches requests replies seen
+    → AreOpenFindings batches requests seen claims findings × AreClaims requests (length batches) seen claims × AreNamed requests seen named → HasReadLines batches requests replies seen
 has_read batches requests seen replies findings claims named found claimed marked those = record {
   found = rw (found, claimed) those.0;
   claims = rw claimed those.1;

@@ -4,12 +4,12 @@ use Rattle.cspf_model.specs.declared.refusal.Refusal.{Refusal}
 use Rattle.cspf_model.specs.declared.request.Request.{Request}
 use Rattle.cspf_model.specs.Numbered.{NumberedChanges}
 use Rattle.cspf_model.specs.Changes.{AreLawful, database_after}
-use Rattle.cspf_model.specs.Refusals.{IsRefusal}
+use Rattle.cspf_model.specs.Refusals.{IsRefusal, IsFirstUnfit}
 use Rattle.cspf_rows.specs.declared.limits.TheConstants.{MOST_ROWS}
 use Rattle.cspf_rows.specs.declared.journal.Rest.TheVariants as rest
 use Rattle.cspf_rows.specs.declared.requests_error.RequestsError.{RequestsError}
 use Rattle.cspf_rows.specs.declared.requests_error.RequestsError.TheVariants as requests_error
-use Rattle.cspf_rows.specs.Records.{rows_of}
+use Rattle.cspf_rows.specs.Records.{rows_of, Records}
 use Rattle.cspf_rows.specs.Journal.{IsJournal}
 use Rattle.cspf_rows.specs.Requests.{AreRequests, IsRequestsFault}
 use Rattle.cspf_audit.specs.declared.audit_error.AuditError.{AuditError}
@@ -19,26 +19,12 @@ use Rattle.cspf_audit.specs.Lines.{AreLines, HasTooManyLines}
 use Rattle.cspf_audit.specs.Requests.{HaveOwnIds, RepeatsId}
 use Rattle.cspf_audit.specs.Audits.{IsAudit}
 
--- the records of a stream: each is a list of fields, which are bytes
-abbrev pub Records : Type 0
-Records = List (List (List ℕ))
-
 -- The records of a journal, of which there are at most `MOST_ROWS`, are these batches and nothing
 -- behind them, and each batch fits the database of those before it.
 pub record IsLawfulJournal (records : Records) (batches : List NumberedChanges) : Type 0 where
   pub few : length records ≤ MOST_ROWS
   pub journal : IsJournal records batches rest.Clean
   pub lawful : AreLawful batches
-
--- the first of the batches that doesn't fit has this number, and this is why
-pub record IsFirstUnfit (batches : List NumberedChanges) (number : ℕ) (why : Refusal) : Type 0 where
-  pub before : List NumberedChanges
-  pub batch : NumberedChanges
-  pub after : List NumberedChanges
-  pub split : batches ≡ before ++ (batch ∷ after)
-  pub lawful : AreLawful before
-  pub is_its : number ≡ batch.number
-  pub refused : IsRefusal (database_after before) batch why
 
 -- rows are left behind this many batches
 pub record IsTornAfter (records : Records) (count : ℕ) : Type 0 where

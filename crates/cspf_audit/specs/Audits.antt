@@ -11,14 +11,14 @@ use Rattle.cspf_audit.specs.declared.finding.Finding.TheVariants as finding
 use Rattle.cspf_audit.specs.Findings.{IsNamed, AreFindings}
 
 -- the fault of the line at a place, which counts from 1, by what is found of it
-abbrev pub fault_of : ℕ → Finding → Option AuditFault
-fault_of place finding.PassedOver = None
-fault_of place finding.Good = None
-fault_of place finding.Unread = Some (fault.Unread place)
-fault_of place finding.Foreign = Some (fault.Foreign place)
-fault_of place finding.Doubled = Some (fault.Doubled place)
-fault_of place finding.NoVersion = Some (fault.NoVersion place)
-fault_of place finding.Altered = Some (fault.Altered place)
+abbrev pub fault_at : ℕ → Finding → Option AuditFault
+fault_at place finding.PassedOver = None
+fault_at place finding.Good = None
+fault_at place finding.Unread = Some (fault.Unread place)
+fault_at place finding.Foreign = Some (fault.Foreign place)
+fault_at place finding.Doubled = Some (fault.Doubled place)
+fault_at place finding.NoVersion = Some (fault.NoVersion place)
+fault_at place finding.Altered = Some (fault.Altered place)
 
 -- a fault in front of others, if there is one
 abbrev pub with_fault : Option AuditFault → List AuditFault → List AuditFault
@@ -28,7 +28,7 @@ with_fault (Some f) faults = f ∷ faults
 -- the faults of lines, the first of which is at this place
 abbrev pub faults_from : ℕ → List Finding → List AuditFault
 faults_from place [] = []
-faults_from place (found ∷ findings) = with_fault (fault_of place found) (faults_from (place + 1) findings)
+faults_from place (found ∷ findings) = with_fault (fault_at place found) (faults_from (place + 1) findings)
 
 -- a line with no fault that isn't passed over
 abbrev pub is_good : Finding → Bool

@@ -3,6 +3,8 @@ use Rattle.std.specs.Prelude.{◌≡◌, ◌≢◌, ◌<◌, ◌⊎◌, List, le
 use Rattle.std.specs.IoError.{error_kind}
 use Rattle.std.specs.declared.io.Error.{Error}
 use Rattle.std.specs.declared.io.ErrorKind.TheVariants as kind
+use Rattle.cspf_rows.specs.Records.{Records}
+use Rattle.cspf_model.specs.Refusals.{IsFirstUnfit}
 use Rattle.cspf_model.specs.Numbered.{NumberedChanges}
 use Rattle.cspf_rows.specs.declared.limits.TheConstants.{MOST_ROWS}
 use Rattle.cspf_rows.specs.declared.read_error.ReadError.{ReadError}
@@ -11,7 +13,7 @@ use Rattle.cspf_rows.specs.declared.requests_error.RequestsError.{RequestsError}
 use Rattle.cspf_rows.specs.declared.requests_error.RequestsError.TheVariants as requests
 use Rattle.cspf_audit.specs.declared.audit_error.AuditError.{AuditError}
 use Rattle.cspf_audit.specs.declared.audit_error.AuditError.TheVariants as error
-use Rattle.cspf_audit.specs.AuditErrors.{Records, IsFirstUnfit, IsTornAfter, IsUnlawfulJournal}
+use Rattle.cspf_audit.specs.AuditErrors.{IsTornAfter, IsUnlawfulJournal}
 
 -- of the journal's
 abbrev pub audit_error_of : ReadError → AuditError

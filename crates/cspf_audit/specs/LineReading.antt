@@ -5,12 +5,12 @@ use Rattle.cspf_audit.specs.declared.audit_error.AuditError.TheVariants as error
 use Rattle.cspf_audit.specs.Lines.{HasNoFeed, AreLines, IsLastLine}
 
 -- memory was refused, or a read failed
-abbrev pub IsStreamFault : AuditError → Type 0
-IsStreamFault e = (e ≡ error.Memory) ⊎ (e ≡ error.Device)
+abbrev pub IsReadingFault : AuditError → Type 0
+IsReadingFault e = (e ≡ error.Memory) ⊎ (e ≡ error.Device)
 
 -- the same, or there are too many lines
 abbrev pub IsLinesFault : AuditError → Type 0
-IsLinesFault e = IsStreamFault e ⊎ (e ≡ error.TooManyRows)
+IsLinesFault e = IsReadingFault e ⊎ (e ≡ error.TooManyRows)
 
 -- a line stands before the rest of a text
 abbrev pub IsLineBefore : List ℕ → List ℕ → List ℕ → Type 0
@@ -18,11 +18,11 @@ IsLineBefore text line rest =
     HasNoFeed line × ((IsLastLine text line × (rest ≡ [])) ⊎ (text ≡ line ++ 10 ∷ rest))
 
 -- a read took the first line of a text, or there was none
-abbrev pub Takes : Option (List ℕ) → Option (List ℕ) → Option (List ℕ) → Type 0
-Takes None after line = Unit {0}
-Takes (Some text) after None = text ≡ []
-Takes (Some text) None (Some line) = ⊥
-Takes (Some text) (Some rest) (Some line) = IsLineBefore text line rest
+abbrev pub TakesLine : Option (List ℕ) → Option (List ℕ) → Option (List ℕ) → Type 0
+TakesLine None after line = Unit {0}
+TakesLine (Some text) after None = text ≡ []
+TakesLine (Some text) None (Some line) = ⊥
+TakesLine (Some text) (Some rest) (Some line) = IsLineBefore text line rest
 
 -- all lines are those that were seen, and then those that are left
 abbrev pub AreSeen : Option (List ℕ) → Option (List ℕ) → List (List ℕ) → Type 0

@@ -82,7 +82,7 @@ pub record AreNamed (requests : List Request) (lines : List (List ℕ)) (named :
       → (slice_get named index ≡ Some true) ↔ IsNamed lines q.id
 
 -- what was read of these lines
-pub record HasRead (batches : List NumberedChanges) (requests : List Request) (replies : Replies) (seen : List (List ℕ)) : Type 0 where
+pub record HasReadLines (batches : List NumberedChanges) (requests : List Request) (replies : Replies) (seen : List (List ℕ)) : Type 0 where
   pub found : AreOpenFindings batches requests seen replies.claims.items replies.findings.items
   pub claims : AreClaims requests (length batches) seen replies.claims.items
   pub named : AreNamed requests seen replies.named.items

@@ -2,7 +2,7 @@ ghost use Rattle.std.specs.Prelude.{◌≡◌, ◌≤◌, [], length, IfOk, IfEr
 ghost use Rattle.cspf_rows.specs.declared.limits.TheConstants.{MOST_ROWS};
 ghost use Rattle.std.specs.Io.BufRead.{strip_last};
 ghost use Rattle.cspf_audit.specs.Lines.{AreLines, HasTooManyLines};
-ghost use Rattle.cspf_audit.specs.LineReading.{Takes, IsStreamFault, IsLinesFault};
+ghost use Rattle.cspf_audit.specs.LineReading.{TakesLine, IsReadingFault, IsLinesFault};
 
 use crate::AuditError;
 use cspf_rows::MOST_ROWS;
@@ -75,8 +75,8 @@ fn read_all<B: BufRead>(
 
 /// Reads the next line, if there is one.
 fn next_line<B: BufRead>(alloc: Global, reader: &mut B) -> Result<Option<Line>, AuditError>
-    ensures takes { IfOk result (Takes (B.remaining reader.old) (B.remaining reader.new)) }
-    ensures error { IfErr result IsStreamFault }
+    ensures takes { IfOk result (TakesLine (B.remaining reader.old) (B.remaining reader.new)) }
+    ensures error { IfErr result IsReadingFault }
 {
     let mut text = Vec::new(alloc);
     if reader.read_until(b'\n', &mut text)? == 0 {

@@ -4,7 +4,7 @@ ghost use Rattle.std.specs.Ordering.{nat_cmp};
 ghost use Rattle.cspf_model.specs.Numbered.{NumberedChanges};
 ghost use Rattle.cspf_model.specs.declared.request.Request.{Request as AsRequest};
 ghost use Rattle.cspf_audit.specs.Requests.{HaveOwnIds};
-ghost use Rattle.cspf_audit.specs.Reading.{ArePlaces, HasRead, IsReading};
+ghost use Rattle.cspf_audit.specs.Reading.{ArePlaces, HasReadLines, IsReading};
 
 use crate::claim::Claim;
 use crate::finding::Finding;
@@ -47,7 +47,7 @@ pub(crate) fn read_replies(
     requires places { ArePlaces ids.now requests.now }
     requires own { HaveOwnIds requests.now }
     ensures { IfOk result (λ replies. (batches : List NumberedChanges) → length batches ≡ last
-        → HasRead batches requests.now replies lines.now) }
+        → HasReadLines batches requests.now replies lines.now) }
 {
     let named = vec![in alloc; false; requests.len()]?;
     let mut replies = Replies {
@@ -74,8 +74,8 @@ impl Replies {
         ensures length { OnOk result (length self.new.named.items ≡ length self.old.named.items) }
         ensures read { OnOk result ((batches : List NumberedChanges) (requests : List AsRequest)
             (seen : List (List ℕ)) → length batches ≡ last → HaveOwnIds requests
-            → ArePlaces ids.now requests → HasRead batches requests self.old seen
-            → HasRead batches requests self.new (seen ++ line.now ∷ [])) }
+            → ArePlaces ids.now requests → HasReadLines batches requests self.old seen
+            → HasReadLines batches requests self.new (seen ++ line.now ∷ [])) }
     {
         // Law: a line begins with one id and version at most.
         one_head();

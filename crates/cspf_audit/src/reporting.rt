@@ -1,6 +1,6 @@
 ghost use Rattle.std.specs.Prelude.{◌≡◌, ◌++◌, ◌≤◌, List, ℕ, length, IfOk, OnOk};
 ghost use Rattle.cspf_rows.specs.declared.limits.TheConstants.{MOST_ROWS};
-ghost use Rattle.cspf_audit.specs.Audits.{faults_from, good_count, fault_of};
+ghost use Rattle.cspf_audit.specs.Audits.{faults_from, good_count, fault_at};
 ghost use Rattle.cspf_audit.specs.Reading.{unnamed_faults};
 
 use crate::faults::{Audit, AuditFault};
@@ -47,7 +47,7 @@ fn report_lines(findings: &[Finding], faults: &mut Vec<AuditFault>) -> Result<u3
 
 /// The fault of a line, by what is found of it.
 fn fault_of(line: u32, finding: Finding) -> Option<AuditFault>
-    ensures { result ≡ fault_of line finding }
+    ensures { result ≡ fault_at line finding }
 {
     match finding {
         Finding::PassedOver | Finding::Good => None,

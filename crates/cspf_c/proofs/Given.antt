@@ -3,11 +3,11 @@ use Rattle.std.proofs.Common.{◌≡◌, ℕ, List, length, Result, Ok, Err, IfO
 use Rattle.std.specs.declared.option.Option.{Option}
 use Rattle.std.specs.declared.option.Option.TheVariants.{None, Some}
 use Rattle.std.specs.declared.alloc.AllocError.{AllocError}
-use Rattle.cspf_c.specs.Calls.{AreGiven, IsCalled, IsKept, size_of_lines}
+use Rattle.cspf_c.specs.Calls.{AreGiven, IsCalled, IsHeld, size_of_lines}
 use Rattle.cspf_c.specs.declared.opened.Opened.{Opened}
 
 pub given_called : (bytes : List ℕ) (size code : ℕ) (held : Opened) (made : Result Opened AllocError) (old new : Option Opened) → old ≡ Some held
-    → IfOk made (λ opened. AreGiven bytes (length opened.lines.items) held opened) → size ≡ size_of_lines made → IsKept code made new
+    → IfOk made (λ opened. AreGiven bytes (length opened.lines.items) held opened) → size ≡ size_of_lines made → IsHeld code made new
     → IsCalled (AreGiven bytes size) code old new
 given_called bytes size code held made old None is given same kept = rw is kept
 given_called bytes size code held (Ok opened) old (Some new) is given same kept =

@@ -6,7 +6,7 @@ use Rattle.cspf_rows.specs.declared.row.Row.{Row}
 use Rattle.cspf_rows.specs.declared.row_error.RowError.{RowError}
 use Rattle.cspf_serve.specs.Script.{RunState, at_next_row, IsRowAnswered}
 use Rattle.cspf_serve.specs.SolveLaws.{CountsByOne}
-use Rattle.cspf_serve.specs.SolverStates.{Keeps, AreFew}
+use Rattle.cspf_serve.specs.SolverStates.{KeepsRun, AreFew}
 use Rattle.cspf_c.specs.History.{IsCounted}
 use Rattle.cspf_c.specs.declared.session.Taken.{Taken}
 
@@ -21,7 +21,7 @@ few taken truly = record {
 
 -- the counts after one more answer
 pub counted_more : CountsByOne → (old new : Taken) (r : Result Row RowError) (line : List ℕ) → new.answered ≡ old.answered + 1 → old.answered < 1000000
-    → ((s : RunState) → Keeps old.solver s → (t : RunState) × Keeps new.solver t × IsRowAnswered (at_next_row s) r line t)
+    → ((s : RunState) → KeepsRun old.solver s → (t : RunState) × KeepsRun new.solver t × IsRowAnswered (at_next_row s) r line t)
     → IsCounted old → IsCounted new
 counted_more counts old new r line one room step counted =
     let a = step counted.state counted.kept in

@@ -7,10 +7,10 @@ use Rattle.cspf_rows.specs.Rows.{row_of}
 use Rattle.cspf_rows.specs.declared.row.Row.{Row}
 use Rattle.cspf_rows.specs.declared.row_error.RowError.{RowError}
 use Rattle.cspf_stream.specs.RowAnswers.{AreAnswered as AreTaken}
-use Rattle.cspf_serve.specs.Script.{RunState, start, at_next_row, IsRowAnswered, AreAnswered, IsRun, is_too_many, last_line, summary_of}
+use Rattle.cspf_serve.specs.Script.{RunState, start, at_next_row, IsRowAnswered, AreRowsAnswered, IsSolveRun, is_too_many, last_line, summary_of}
 use Rattle.cspf_serve.specs.SolveLaws.{CountsByOne, GoesOnByOneRow}
 use Rattle.cspf_serve.specs.declared.solve.summary.Summary.{Summary}
-use Rattle.cspf_serve.specs.SolverStates.{Keeps}
+use Rattle.cspf_serve.specs.SolverStates.{KeepsRun}
 use Rattle.cspf_c.specs.History.{HasAnswered, IsCounted, IsOneMore, IsPast}
 use Rattle.cspf_c.specs.declared.session.Taken.{Taken}
 use Rattle.cspf_c.proofs.RowCounts.{counted_more}
@@ -18,12 +18,12 @@ use Rattle.cspf_c.proofs.RowCounts.{counted_more}
 abbrev Rows : Type 0
 Rows = List (List (List ℕ))
 
-pub none_answered : (s : RunState) → AreAnswered s [] [] s
-unfolding AreAnswered
+pub none_answered : (s : RunState) → AreRowsAnswered s [] [] s
+unfolding AreRowsAnswered
 none_answered s = (refl, refl)
 
 -- before the first row
-pub none_given : (taken : Taken) → Keeps taken.solver start → taken.answered ≡ 0 → taken.too_many ≡ false → HasAnswered taken [] []
+pub none_given : (taken : Taken) → KeepsRun taken.solver start → taken.answered ≡ 0 → taken.too_many ≡ false → HasAnswered taken [] []
 none_given taken kept none few = record {
   done = [];
   rest = [];
@@ -35,7 +35,7 @@ none_given taken kept none few = record {
   past = rw few (refl, omega (arith, none));
 }
 
-pub none_counted : (taken : Taken) → Keeps taken.solver start → taken.answered ≡ 0 → IsCounted taken
+pub none_counted : (taken : Taken) → KeepsRun taken.solver start → taken.answered ≡ 0 → IsCounted taken
 none_counted taken kept none = record {
   state = start;
   kept = kept;
@@ -54,7 +54,7 @@ none_past false count rest past room = (past.0, refl)
 none_past true count rest past room = let wrong : ⊥ = omega (arith, past.1, room) in absurd wrong
 
 has_more : GoesOnByOneRow → (old new : Taken) (line : List ℕ) (rows : Rows) (lines : List ℕ) (fields : List (List ℕ)) → new.answered ≡ old.answered + 1 → new.too_many ≡ old.too_many
-    → old.answered < 1000000 → ((s : RunState) → Keeps old.solver s → (t : RunState) × Keeps new.solver t × IsRowAnswered (at_next_row s) (row_of fields) line t)
+    → old.answered < 1000000 → ((s : RunState) → KeepsRun old.solver s → (t : RunState) × KeepsRun new.solver t × IsRowAnswered (at_next_row s) (row_of fields) line t)
     → HasAnswered old rows lines → HasAnswered new (rows ++ (fields ∷ [])) (lines ++ line)
 has_more more old new line rows lines fields one same room step has =
     let a = step has.after has.kept in
@@ -71,7 +71,7 @@ has_more more old new line rows lines fields one same room step has =
     }
 
 pub one_more : GoesOnByOneRow → CountsByOne → (place : ℕ) (old new : Taken) (r : Result Row RowError) (line : List ℕ) → new.answered ≡ old.answered + 1 → new.too_many ≡ old.too_many
-    → old.answered < 1000000 → ((s : RunState) → Keeps old.solver s → (t : RunState) × Keeps new.solver t × IsRowAnswered (at_next_row s) r line t)
+    → old.answered < 1000000 → ((s : RunState) → KeepsRun old.solver s → (t : RunState) × KeepsRun new.solver t × IsRowAnswered (at_next_row s) r line t)
     → IsOneMore place old r line new
 one_more more counts place old new r line one same room step = record {
   counted = λ counted. ∥∥₁_map counted (counted_more counts old new r line one room step);
@@ -139,8 +139,8 @@ rows_read false count rows done rest split same past =
 rows_read true count rows done rest split same past =
     rw split (take_at done rest 1000000 (same ∙ past.1), lt-ltb 1000000 (length (done ++ rest)) (omega (arith, same, past.0, past.1, length-append done rest)))
 
-pub ended : (taken : Taken) (rows : Rows) (lines last : List ℕ) → ((s : RunState) → Keeps taken.solver s → last ≡ last_line taken.too_many s.changes)
-    → HasAnswered taken rows lines → (summary : Summary) × IsRun rows (lines ++ last) summary
+pub ended : (taken : Taken) (rows : Rows) (lines last : List ℕ) → ((s : RunState) → KeepsRun taken.solver s → last ≡ last_line taken.too_many s.changes)
+    → HasAnswered taken rows lines → (summary : Summary) × IsSolveRun rows (lines ++ last) summary
 ended taken rows lines last line has =
     let read = rows_read taken.too_many taken.answered rows has.done has.rest has.split has.count has.past in (
       summary_of has.after taken.too_many,

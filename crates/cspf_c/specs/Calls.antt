@@ -3,7 +3,7 @@ use Rattle.std.specs.Prelude.{◌≡◌, ℕ, List, [], ◌++◌, length, take, 
 use Rattle.std.specs.declared.alloc.AllocError.{AllocError}
 use Rattle.std.specs.declared.option.Option.TheVariants.{None, Some}
 use Rattle.cspf_rows.specs.Records.{rows_of}
-use Rattle.cspf_serve.specs.Script.{IsRun}
+use Rattle.cspf_serve.specs.Script.{IsSolveRun}
 use Rattle.cspf_serve.specs.declared.solve.summary.Summary.{Summary}
 use Rattle.cspf_c.specs.History.{HasAnswered}
 use Rattle.cspf_c.specs.declared.codes.TheConstants.{ANSWERED, MEMORY, CLOSED}
@@ -26,7 +26,7 @@ abbrev pub IsEnded : ℕ → Opened → Opened → Type 0
 IsEnded size old new =
     (size ≡ length new.lines.items) × (new.session.taken ≡ old.session.taken)
     × ((rows : List (List (List ℕ))) (lines : List ℕ) → HasAnswered old.session.taken rows lines
-    → (summary : Summary) × IsRun rows (lines ++ new.lines.items) summary)
+    → (summary : Summary) × IsSolveRun rows (lines ++ new.lines.items) summary)
 
 -- A call does this to the session of a handle, by its code. Where memory is refused the session is
 -- closed.
@@ -42,9 +42,9 @@ AreCopied (Some opened) old new size =
     (size ≡ min (length opened.lines.items) (length old)) × (new ≡ take size opened.lines.items ++ drop size old)
 
 -- Private: a handle holds the session that was made, or memory was refused and it holds none.
-abbrev pub IsKept : ℕ → Result Opened AllocError → Option Opened → Type 0
-IsKept code made None = code ≡ MEMORY
-IsKept code made (Some new) = (code ≡ ANSWERED) × (made ≡ Ok new)
+abbrev pub IsHeld : ℕ → Result Opened AllocError → Option Opened → Type 0
+IsHeld code made None = code ≡ MEMORY
+IsHeld code made (Some new) = (code ≡ ANSWERED) × (made ≡ Ok new)
 
 -- Private: how many bytes of lines a session that was made holds.
 abbrev pub size_of_lines : Result Opened AllocError → ℕ

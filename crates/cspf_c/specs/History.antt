@@ -4,8 +4,8 @@ use Rattle.cspf_rows.specs.Rows.{row_of}
 use Rattle.cspf_rows.specs.declared.limits.TheConstants.{MOST_ROWS}
 use Rattle.cspf_rows.specs.declared.row.Row.{Row}
 use Rattle.cspf_rows.specs.declared.row_error.RowError.{RowError}
-use Rattle.cspf_serve.specs.Script.{RunState, start, AreAnswered}
-use Rattle.cspf_serve.specs.SolverStates.{Keeps}
+use Rattle.cspf_serve.specs.Script.{RunState, start, AreRowsAnswered}
+use Rattle.cspf_serve.specs.SolverStates.{KeepsRun}
 use Rattle.cspf_c.specs.declared.session.Taken.{Taken}
 
 -- rows behind the first 1,000,000: none, or some where as many are answered
@@ -20,15 +20,15 @@ pub record HasAnswered (taken : Taken) (rows : List (List (List ℕ))) (lines : 
   pub rest : List (List (List ℕ))
   pub after : RunState
   pub split : rows ≡ done ++ rest
-  pub answered : AreAnswered start done lines after
-  pub kept : Keeps taken.solver after
+  pub answered : AreRowsAnswered start done lines after
+  pub kept : KeepsRun taken.solver after
   pub count : length done ≡ taken.answered
   pub past : IsPast taken.too_many taken.answered rest
 
 -- Private: the counts of a state that is kept, none of them above that of the answered rows.
 pub record IsCounted (taken : Taken) : Type 0 where
   pub state : RunState
-  pub kept : Keeps taken.solver state
+  pub kept : KeepsRun taken.solver state
   pub rows : state.rows ≡ taken.answered
   pub changes : length state.changes ≤ taken.answered
   pub answers : state.answers ≤ taken.answered

@@ -1,6 +1,6 @@
 ghost use Rattle.std.specs.Prelude.{◌≡◌, MatchOption};
 ghost use Rattle.std.specs.declared.option.Option.TheVariants.{None, Some};
-ghost use Rattle.cspf_c.specs.Calls.{IsOpened, IsCalled, IsKept, AreGiven, IsEnded, AreCopied, size_of_lines};
+ghost use Rattle.cspf_c.specs.Calls.{IsOpened, IsCalled, IsHeld, AreGiven, IsEnded, AreCopied, size_of_lines};
 
 use crate::codes::{ANSWERED, CLOSED, MEMORY};
 use crate::handle::Handle;
@@ -27,7 +27,7 @@ fn hold_session(alloc: Global, handle: &mut Handle, session: Box<Opened>)
 /// Lets a handle hold a session, where there is one and its memory is granted, and answers the code
 /// of the call.
 fn keep_session(alloc: Global, handle: &mut Handle, made: Result<Opened, AllocError>) -> u32
-    ensures { IsKept result made handle.new.value }
+    ensures { IsHeld result made handle.new.value }
 {
     drop(take_session(alloc, handle));
     let Ok(opened) = made else {

@@ -1,6 +1,6 @@
 ghost use Rattle.std.specs.Prelude.{◌≡◌, ◌++◌, ℕ, List, [], IfOk};
 ghost use Rattle.cspf_rows.specs.Records.{rows_of};
-ghost use Rattle.cspf_serve.specs.Script.{IsRun};
+ghost use Rattle.cspf_serve.specs.Script.{IsSolveRun};
 ghost use Rattle.cspf_serve.specs.declared.solve.summary.Summary.{Summary};
 ghost use Rattle.cspf_c.specs.History.{HasAnswered, IsCounted, IsOneMore};
 
@@ -87,7 +87,7 @@ impl Session {
     pub fn last_line(&self, alloc: Global) -> Result<Vec<u8>, AllocError>
         ensures { IfOk result (λ line. (rows : List (List (List ℕ))) (lines : List ℕ)
             → HasAnswered self.now.taken rows lines
-            → (summary : Summary) × IsRun rows (lines ++ line.items) summary) }
+            → (summary : Summary) × IsSolveRun rows (lines ++ line.items) summary) }
     {
         self.taken.solver.last_line(alloc, self.taken.too_many)
     }

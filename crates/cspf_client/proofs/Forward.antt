@@ -7,7 +7,7 @@ use Rattle.cspf_rows.specs.declared.row.Row.TheVariants as row
 use Rattle.cspf_rows.specs.declared.row_error.RowError.{RowError}
 use Rattle.cspf_rows.specs.declared.row_error.RowError.TheVariants as row_error
 use Rattle.cspf_stream.specs.RowAnswers.{AreAnswered, AreAllAnswered}
-use Rattle.cspf_stream.specs.StreamStops.{StopsBetween, StopsInRow, IsRowStopped, IsStopped}
+use Rattle.cspf_stream.specs.StreamStops.{StopsBetween, StopsInRow, IsRowStopped, HasStopped}
 use Rattle.cspf_stream.specs.declared.error.StreamError.{StreamError}
 use Rattle.cspf_stream.specs.declared.error.StreamError.TheVariants as stream_error
 use Rattle.cspf_client.specs.ClientRows.{HearsNews, IsRefusedRow, IsClientAnswered, IsClientUnanswered}
@@ -67,7 +67,7 @@ module _ (all left : Option Rows) (failed : Bool) (s t : SessionState) (old new 
       AreFirstOf-trans s.known a.before.known t.known (forward 1 s a.before a.done a.lines a.answered)
       (forward_row_stopped why (suc (length a.done)) (row_of a.fields) a.before t a.mid new a.stops)
 
-  pub forward_stopped : (why : StreamError) → IsStopped IsClientAnswered IsClientUnanswered why all left failed s t old new → AreFirstOf t.known s.known
+  pub forward_stopped : (why : StreamError) → HasStopped IsClientAnswered IsClientUnanswered why all left failed s t old new → AreFirstOf t.known s.known
   forward_stopped stream_error.Memory (inl a) = between a.1
   forward_stopped stream_error.Memory (inr a) = in_row stream_error.Memory a
   forward_stopped stream_error.Read a = between a.1

@@ -7,7 +7,7 @@ use Rattle.cspf_stream.specs.declared.error.StreamError.{StreamError}
 use Rattle.cspf_stream.specs.declared.error.StreamError.TheVariants as stream_error
 use Rattle.cspf_client.specs.ClientRows.{IsClientAnswered}
 use Rattle.cspf_client.specs.declared.error.ClientError.{ClientError}
-use Rattle.cspf_client.specs.ClientRuns.{IsStreamStopped, IsClientStopped, IsRun}
+use Rattle.cspf_client.specs.ClientRuns.{IsStreamStopped, IsClientStopped, IsClientRun}
 use Rattle.cspf_client.specs.ErrorNames.{client_error_of, client_end_of}
 use Rattle.cspf_client.specs.ServingStates.{ServingState, reader_rows}
 
@@ -30,7 +30,7 @@ module _ {Q V : Type 0} (bytes : Q → Option (List ℕ)) (contents : V → Opti
       → new.end ≡ client_end_of new.state.no_entry ended
       → OnOk ended (AreAllAnswered IsClientAnswered (rows_left bytes reader) old.state new.state (contents old.replies) (contents new.replies))
       → IfErr ended (λ why. IsStreamStopped why (rows_left bytes reader) old.state new.state (contents old.replies) (contents new.replies))
-      → IsRun bytes contents old new
+      → IsClientRun bytes contents old new
   run_of reader held (Ok done) end whole stopped = rw (end, held) whole
   run_of reader held (Err why) end whole stopped =
       subst (λ (e : Result (Unit {0}) ClientError). MatchResult e

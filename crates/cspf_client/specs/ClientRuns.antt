@@ -1,7 +1,7 @@
 -- What a client was answered whose stream has ended, or stopped before its end.
 use Rattle.std.specs.Prelude.{◌≡◌, ℕ, Bool, true, false, List, Option, MatchResult}
 use Rattle.cspf_stream.specs.RowAnswers.{AreAnswered, AreAllAnswered}
-use Rattle.cspf_stream.specs.StreamStops.{IsStopped}
+use Rattle.cspf_stream.specs.StreamStops.{HasStopped}
 use Rattle.cspf_stream.specs.declared.error.StreamError.{StreamError}
 use Rattle.cspf_stream.specs.declared.error.StreamError.TheVariants as stream_error
 use Rattle.cspf_publish.specs.KnownBatches.{AreFirstOf}
@@ -14,7 +14,7 @@ use Rattle.cspf_client.specs.declared.error.ClientError.TheVariants as error
 -- A stream of requests stops, whatever is left of it and whether its reader has failed.
 abbrev pub IsStreamStopped : StreamError → Option (List (List (List ℕ))) → SessionState → SessionState → Option (List ℕ) → Option (List ℕ) → Type 0
 IsStreamStopped why all s t old new =
-    (left : Option (List (List (List ℕ)))) × (failed : Bool) × IsStopped IsClientAnswered IsClientUnanswered why all left failed s t old new
+    (left : Option (List (List (List ℕ)))) × (failed : Bool) × HasStopped IsClientAnswered IsClientUnanswered why all left failed s t old new
 
 -- The client's stream stops: as any stream does, or at a request whose entry was refused. What a client
 -- knows is looked at later.
@@ -29,8 +29,8 @@ IsClientStopped bytes contents error.Ahead old new = ⊥
 
 -- A client was run: all rows of its requests are answered and the lines are written, or its stream
 -- stopped.
-abbrev pub IsRun : {Q V : Type 0} → (Q → Option (List ℕ)) → (V → Option (List ℕ)) → ServingState Q V → ServingState Q V → Type 0
-IsRun bytes contents old new =
+abbrev pub IsClientRun : {Q V : Type 0} → (Q → Option (List ℕ)) → (V → Option (List ℕ)) → ServingState Q V → ServingState Q V → Type 0
+IsClientRun bytes contents old new =
     MatchResult new.end
     (λ done. AreAllAnswered IsClientAnswered (reader_rows bytes old.requests) old.state new.state (contents old.replies) (contents new.replies))
     (λ why. IsClientStopped bytes contents why old new)

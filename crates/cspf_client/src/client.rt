@@ -4,7 +4,7 @@ ghost use Rattle.cspf_rows.specs.Records.{IsPlain, rows_of, rows_left};
 ghost use Rattle.cspf_publish.specs.KnownBatches.{AreFirstOf};
 ghost use Rattle.cspf_stream.specs.RowAnswers.{AreAllAnswered};
 ghost use Rattle.cspf_client.specs.ClientRows.{IsClientAnswered};
-ghost use Rattle.cspf_client.specs.ClientRuns.{IsRun, IsStreamStopped};
+ghost use Rattle.cspf_client.specs.ClientRuns.{IsClientRun, IsStreamStopped};
 ghost use Rattle.cspf_client.specs.ErrorNames.{client_end_of};
 ghost use Rattle.cspf_client.specs.ServingStates.{IsReady, HasMet, reader_rows};
 
@@ -120,7 +120,7 @@ impl<Q: Read + Drop, V: Replies> ServingClient<Q, V> {
     /// requests is let go, and then the writer of the replies is told their end.
     pub fn run(&mut self, alloc: Global)
         requires { IsReady self.old }
-        ensures run { IsRun Q.remaining V.contents self.old self.new }
+        ensures run { IsClientRun Q.remaining V.contents self.old self.new }
         ensures known { AreFirstOf self.new.state.known self.old.state.known }
         ensures closed { self.new.requests ≡ None }
     {

@@ -9,10 +9,10 @@ use Rattle.cspf_draw.specs.declared.limits.TheConstants.{MOST_DRAWERS, MOST_REQU
 use Rattle.cspf_draw.specs.declared.seat_draws.SeatDraws.{SeatDraws}
 use Rattle.cspf_draw.specs.EachOnce.{HoldsEachOnce, times, once_below}
 use Rattle.cspf_draw.specs.SeatDraws.{all_draws, with_number, one_share_less, one_share, both_seats, spent_seat}
-use Rattle.cspf_draw.specs.DrawRule.{HoldsBetweenSteps, Draws, word_of}
+use Rattle.cspf_draw.specs.DrawRule.{HoldsBetweenDraws, Draws, drawn_word}
 use Rattle.cspf_draw.proofs.Totals.{total-set, total_at, total_others, times-append, times-push, times-le, once_below-more, all_below}
 
-pub opens : (requests : ℕ) → requests ≤ MOST_REQUESTS → HoldsBetweenSteps requests (opening (0 ∷ []) [] (all_draws requests))
+pub opens : (requests : ℕ) → requests ≤ MOST_REQUESTS → HoldsBetweenDraws requests (opening (0 ∷ []) [] (all_draws requests))
 opens requests few = record {
   one_word = refl;
   few = few;
@@ -26,10 +26,10 @@ word_of-set [] n one = absurd (omega arith)
 word_of-set (w ∷ ws) n one = refl
 
 pub draws : (requests slots id : ℕ) (me : Me ℕ SeatDraws) → 0 < me.0.left
-    → Allows (HoldsBetweenSteps requests) slots id me 0 (λ w. (w + 1) % 2 ^ 64) (Draws (step slots 0 1 0 none) me)
+    → Allows (HoldsBetweenDraws requests) slots id me 0 (λ w. (w + 1) % 2 ^ 64) (Draws (step slots 0 1 0 none) me)
 draws requests slots id me some_left s holds homes at small =
     let v = me.0 in
-    let found = word_of s in
+    let found = drawn_word s in
     let w : SeatDraws = with_number v found in
     let left : v.left ≤ sum_by (λ (u : SeatDraws). u.left) s.views = total_at (λ u. u.left) s.views id v at in
     let next : (found + 1) % 2 ^ 64 ≡ found + 1 = (let all = holds.draws in let few = holds.few in omega arith) in
@@ -56,13 +56,13 @@ total-split f views id v stays goes at same =
     let more = sum_by_push f (set views id stays) goes in
     omega arith
 
-pub splits : (requests id : ℕ) (v : SeatDraws) → v.share ≤ v.left → Splits (HoldsBetweenSteps requests) id v (one_share_less v) (one_share v)
+pub splits : (requests id : ℕ) (v : SeatDraws) → v.share ≤ v.left → Splits (HoldsBetweenDraws requests) id v (one_share_less v) (one_share v)
 splits requests id v enough s holds at = record {
   one_word = holds.one_word;
   few = holds.few;
   each_once = λ x. total-split (λ u. times x u.drawn) s.views id v (one_share_less v) (one_share v) at (omega arith) ∙ holds.each_once x;
   count = total-split (λ u. length u.drawn) s.views id v (one_share_less v) (one_share v) at (omega arith) ∙ holds.count;
-  draws = ap (λ n. word_of s + n) (total-split (λ u. u.left) s.views id v (one_share_less v) (one_share v) at (omega arith)) ∙ holds.draws;
+  draws = ap (λ n. drawn_word s + n) (total-split (λ u. u.left) s.views id v (one_share_less v) (one_share v) at (omega arith)) ∙ holds.draws;
 }
 
 total-join : (f : SeatDraws → ℕ) (views : List SeatDraws) (id other : ℕ) (v w stays goes : SeatDraws) → get_elem? views id ≡ some v → get_elem? (set views id stays) other ≡ some w
@@ -72,19 +72,19 @@ total-join f views id other v w stays goes at there same =
     let second = total-set f (set views id stays) other w goes there in
     omega arith
 
-pub joins : (requests id : ℕ) (v : SeatDraws) (other : ℕ) (w : SeatDraws) → Joins (HoldsBetweenSteps requests) id v other w (both_seats v w) spent_seat
+pub joins : (requests id : ℕ) (v : SeatDraws) (other : ℕ) (w : SeatDraws) → Joins (HoldsBetweenDraws requests) id v other w (both_seats v w) spent_seat
 joins requests id v other w s holds at apart there = record {
   one_word = holds.one_word;
   few = holds.few;
   each_once = λ x.
       total-join (λ u. times x u.drawn) s.views id other v w (both_seats v w) spent_seat at there (let both = times-append x v.drawn w.drawn in omega arith) ∙ holds.each_once x;
   count = total-join (λ u. length u.drawn) s.views id other v w (both_seats v w) spent_seat at there (omega (arith, length-append v.drawn w.drawn)) ∙ holds.count;
-  draws = ap (λ n. word_of s + n) (total-join (λ u. u.left) s.views id other v w (both_seats v w) spent_seat at there (omega arith)) ∙ holds.draws;
+  draws = ap (λ n. drawn_word s + n) (total-join (λ u. u.left) s.views id other v w (both_seats v w) spent_seat at there (omega arith)) ∙ holds.draws;
 }
 
 -- a seat that has all draws, made or left, has drawn each number below the word once and no other
-pub all_once : (requests : ℕ) (s : State ℕ SeatDraws) (id : ℕ) (v : SeatDraws) → HoldsBetweenSteps requests s → get_elem? s.views id ≡ some v
-    → length v.drawn + v.left ≡ MOST_DRAWERS * (requests + 1) → HoldsEachOnce (word_of s) v.drawn
+pub all_once : (requests : ℕ) (s : State ℕ SeatDraws) (id : ℕ) (v : SeatDraws) → HoldsBetweenDraws requests s → get_elem? s.views id ≡ some v
+    → length v.drawn + v.left ≡ MOST_DRAWERS * (requests + 1) → HoldsEachOnce (drawn_word s) v.drawn
 all_once requests s id v holds at all x =
     let others = total_others (λ u. times x u.drawn) (λ u. length u.drawn) (λ u. times-le x u.drawn) s.views id v at in
     let part = total_at (λ u. times x u.drawn) s.views id v at in

@@ -7,17 +7,17 @@ use Rattle.cspf_draw.specs.EachOnce.{times, once_below}
 use Rattle.cspf_draw.specs.SeatDraws.{with_number}
 
 -- the word
-abbrev pub word_of : State ℕ SeatDraws → ℕ
-word_of s = slice_index s.words 0
+abbrev pub drawn_word : State ℕ SeatDraws → ℕ
+drawn_word s = slice_index s.words 0
 
 -- With a number of requests: each number below the word stands in one seat's list, once, and no other number stands in
 -- any. The word and all draws that are left add up to the draws of all drawers, so the word never wraps.
-pub record HoldsBetweenSteps (requests : ℕ) (s : State ℕ SeatDraws) : Type 0 where
+pub record HoldsBetweenDraws (requests : ℕ) (s : State ℕ SeatDraws) : Type 0 where
   pub one_word : length s.words ≡ 1
   pub few : requests ≤ MOST_REQUESTS
-  pub each_once : (x : ℕ) → sum_by (λ v. times x v.drawn) s.views ≡ once_below (word_of s) x
-  pub count : sum_by (λ v. length v.drawn) s.views ≡ word_of s
-  pub draws : word_of s + sum_by (λ v. v.left) s.views ≡ MOST_DRAWERS * (requests + 1)
+  pub each_once : (x : ℕ) → sum_by (λ v. times x v.drawn) s.views ≡ once_below (drawn_word s) x
+  pub count : sum_by (λ v. length v.drawn) s.views ≡ drawn_word s
+  pub draws : drawn_word s + sum_by (λ v. v.left) s.views ≡ MOST_DRAWERS * (requests + 1)
 
 -- A draw: the number that is found is above all in the seat's list and joins it, and one draw left goes.
 pub record Draws (step : Step ℕ) (before : Me ℕ SeatDraws) (found : ℕ) (after : Me ℕ SeatDraws) : Type 0 where

@@ -1,5 +1,5 @@
 //! The rule of draws, and what each kind of step does to a seat.
-ghost use Rattle.cspf_draw.specs.DrawRule.{HoldsBetweenSteps, Draws};
+ghost use Rattle.cspf_draw.specs.DrawRule.{HoldsBetweenDraws, Draws};
 ghost use Rattle.cspf_draw.specs.SeatDraws.{all_draws, one_share_less, one_share, both_seats, spent_seat};
 
 use crate::seat_draws::SeatDraws;
@@ -9,7 +9,7 @@ use atomic_table::{Join, Play, Seat, Shared, Split, TableRule};
 pub struct DrawRule;
 
 impl TableRule<u64, SeatDraws, u64> for DrawRule {
-    ghost holds = { HoldsBetweenSteps };
+    ghost holds = { HoldsBetweenDraws };
 
     ghost first = { all_draws };
 }

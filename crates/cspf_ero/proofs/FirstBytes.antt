@@ -4,7 +4,7 @@ use Rattle.std.proofs.lemmas.Bool.{le-leb, le-ltb, ne_eqb, cases_lt}
 use Rattle.std.proofs.lemmas.List.{take_all, length-take-le, get_or-take, drop-take}
 use Rattle.cspf_ero.specs.declared.ero_error.EroError.TheVariants as error
 use Rattle.cspf_addr.specs.ResultSteps.{◌>>=◌}
-use Rattle.cspf_ero.specs.Reading.{hop_at, hops_at, sized_ero_of}
+use Rattle.cspf_ero.specs.Reading.{hop_at, subobject_hops, sized_ero_of}
 
 -- a subobject is read by its 8 bytes
 hop_at-take : (at m : ℕ) (bytes : List ℕ) → 8 ≤ m → m ≤ length bytes → hop_at at (take m bytes) ≡ hop_at at bytes
@@ -17,22 +17,22 @@ hop_at-take at m bytes eight more =
 
 -- one subobject, and the rest
 hops_at-some : (most at : ℕ) (bytes : List ℕ) → 0 < length bytes
-    → hops_at (suc most) at bytes ≡ (hop_at at bytes >>= (λ hop. hops_at most (at + 8) (drop 8 bytes) >>= (λ hops. Ok (hop ∷ hops))))
+    → subobject_hops (suc most) at bytes ≡ (hop_at at bytes >>= (λ hop. subobject_hops most (at + 8) (drop 8 bytes) >>= (λ hops. Ok (hop ∷ hops))))
 hops_at-some most at [] some = absurd (omega arith)
 hops_at-some most at (byte ∷ bytes) some = refl
 
-hops_at-none : (at : ℕ) (bytes : List ℕ) → 0 < length bytes → hops_at zero at bytes ≡ Err error.TooManyHops
+hops_at-none : (at : ℕ) (bytes : List ℕ) → 0 < length bytes → subobject_hops zero at bytes ≡ Err error.TooManyHops
 hops_at-none at [] some = absurd (omega arith)
 hops_at-none at (byte ∷ bytes) some = refl
 
 -- more bytes than this many subobjects have decide which hops they are
-hops_at-take : (most at m : ℕ) (bytes : List ℕ) → 8 * most < m → hops_at most at (take m bytes) ≡ hops_at most at bytes
+hops_at-take : (most at m : ℕ) (bytes : List ℕ) → 8 * most < m → subobject_hops most at (take m bytes) ≡ subobject_hops most at bytes
 hops_at-take zero at m bytes enough =
     elim (cases_lt m (length bytes)) [
       | inl more ↦
           hops_at-none at (take m bytes) (omega (arith, length-take-le m bytes (omega arith)))
           ∙ sym (hops_at-none at bytes (omega arith))
-      | inr whole ↦ ap (hops_at zero at) (take_all m bytes (omega arith))
+      | inr whole ↦ ap (subobject_hops zero at) (take_all m bytes (omega arith))
     ]
 hops_at-take (suc most) at m bytes enough =
     elim (cases_lt m (length bytes)) [
@@ -41,7 +41,7 @@ hops_at-take (suc most) at m bytes enough =
           let rest = hops_at-take most (at + 8) (m - 8) (drop 8 bytes) (omega arith) in
           hops_at-some most at (take m bytes) (omega (arith, length-take-le m bytes (omega arith)))
           ∙ (rw (hop_at-take at m bytes (omega arith) (omega arith), behind, rest) (sym (hops_at-some most at bytes (omega arith))))
-      | inr whole ↦ ap (hops_at (suc most) at) (take_all m bytes (omega arith))
+      | inr whole ↦ ap (subobject_hops (suc most) at) (take_all m bytes (omega arith))
     ]
   where
     past_eight : 8 ≤ m → m ≡ 8 + (m - 8)
@@ -57,7 +57,7 @@ first_bytes_decide size bytes =
           let same : (i : ℕ) → i < 4 → get_or (take 64 bytes) i 0 ≡ get_or bytes i 0 = λ i below. get_or-take 64 bytes i 0 (omega arith) in
           let enough : ltb (length bytes) 4 ≡ false = le-ltb (length bytes) 4 (omega arith) in
           let some : eqb (length bytes) 4 ≡ false = ne_eqb (length bytes) 4 (λ four. omega (arith, four)) in
-          let body : hops_at 7 4 (drop 4 (take 64 bytes)) ≡ hops_at 7 4 (drop 4 bytes) = ap (hops_at 7 4) (drop-take 4 60 bytes) ∙ hops_at-take 7 4 60 (drop 4 bytes) (omega arith) in
+          let body : subobject_hops 7 4 (drop 4 (take 64 bytes)) ≡ subobject_hops 7 4 (drop 4 bytes) = ap (subobject_hops 7 4) (drop-take 4 60 bytes) ∙ hops_at-take 7 4 60 (drop 4 bytes) (omega arith) in
           rw (long, same 0 (omega arith), same 1 (omega arith), same 2 (omega arith), same 3 (omega arith), enough, some, body) refl
       | inr whole ↦ ap (sized_ero_of size) (take_all 64 bytes (omega arith))
     ]

@@ -3,7 +3,7 @@ use Rattle.std.proofs.Common.{◌≡◌, ℕ, suc, ◌+◌, ◌-◌, ◌*◌, �
 use Rattle.cspf_addr.specs.declared.hop.Hop.{Hop}
 use Rattle.cspf_ero.specs.declared.ero_error.EroError.{EroError}
 use Rattle.cspf_addr.specs.ResultSteps.{◌>>=◌}
-use Rattle.cspf_ero.specs.Reading.{hop_at, hops_at}
+use Rattle.cspf_ero.specs.Reading.{hop_at, subobject_hops}
 
 -- what a reader that has these hops answers, where this is what the rest is read as
 abbrev pub behind : List Hop → Result (List Hop) EroError → Result (List Hop) EroError
@@ -20,30 +20,30 @@ behind_more hops hop (Err e) = refl
 
 -- one subobject that is a hop, and the rest
 pub hops_at-more : (most at : ℕ) (bytes : List ℕ) (hop : Hop) → 0 < length bytes → hop_at at bytes ≡ Ok hop
-    → hops_at (suc most) at bytes ≡ (hops_at most (at + 8) (drop 8 bytes) >>= (λ more. Ok (hop ∷ more)))
+    → subobject_hops (suc most) at bytes ≡ (subobject_hops most (at + 8) (drop 8 bytes) >>= (λ more. Ok (hop ∷ more)))
 hops_at-more most at [] hop some found = absurd (omega arith)
 hops_at-more most at (byte ∷ bytes) hop some found = rw found refl
 
 -- a subobject that is none
-pub hops_at-refused : (most at : ℕ) (bytes : List ℕ) (e : EroError) → 0 < length bytes → hop_at at bytes ≡ Err e → hops_at (suc most) at bytes ≡ Err e
+pub hops_at-refused : (most at : ℕ) (bytes : List ℕ) (e : EroError) → 0 < length bytes → hop_at at bytes ≡ Err e → subobject_hops (suc most) at bytes ≡ Err e
 hops_at-refused most at [] e some found = absurd (omega arith)
 hops_at-refused most at (byte ∷ bytes) e some found = rw found refl
 
 -- the loop has read one hop more
 pub read_more : (body rest : List ℕ) (hops : List Hop) (hop : Hop) → length hops < 7 → 0 < length rest → hop_at (4 + 8 * length hops) rest ≡ Ok hop
-    → behind hops (hops_at (7 - length hops) (4 + 8 * length hops) rest) ≡ hops_at 7 4 body
-    → behind (hops ++ hop ∷ []) (hops_at (7 - (length hops + 1)) (4 + 8 * (length hops + 1)) (drop 8 rest)) ≡ hops_at 7 4 body
+    → behind hops (subobject_hops (7 - length hops) (4 + 8 * length hops) rest) ≡ subobject_hops 7 4 body
+    → behind (hops ++ hop ∷ []) (subobject_hops (7 - (length hops + 1)) (4 + 8 * (length hops + 1)) (drop 8 rest)) ≡ subobject_hops 7 4 body
 read_more body rest hops hop room some found before =
     let left : 7 - length hops ≡ suc (7 - (length hops + 1)) = omega arith in
     let next : 4 + 8 * (length hops + 1) ≡ 4 + 8 * length hops + 8 = omega arith in
     rw next
-    (sym (behind_more hops hop (hops_at (7 - (length hops + 1)) (4 + 8 * length hops + 8) (drop 8 rest)))
+    (sym (behind_more hops hop (subobject_hops (7 - (length hops + 1)) (4 + 8 * length hops + 8) (drop 8 rest)))
     ∙ sym (ap (behind hops) (hops_at-more (7 - (length hops + 1)) (4 + 8 * length hops) rest hop some found))
     ∙ (rw left at before))
 
 -- the loop has met a refusal
 pub read_refused : (body rest : List ℕ) (hops : List Hop) (e : EroError) → length hops < 7 → 0 < length rest → hop_at (4 + 8 * length hops) rest ≡ Err e
-    → behind hops (hops_at (7 - length hops) (4 + 8 * length hops) rest) ≡ hops_at 7 4 body → Err e ≡ hops_at 7 4 body
+    → behind hops (subobject_hops (7 - length hops) (4 + 8 * length hops) rest) ≡ subobject_hops 7 4 body → Err e ≡ subobject_hops 7 4 body
 read_refused body rest hops e room some found before =
     let left : 7 - length hops ≡ suc (7 - (length hops + 1)) = omega arith in
     rw (left, hops_at-refused (7 - (length hops + 1)) (4 + 8 * length hops) rest e some found) at before

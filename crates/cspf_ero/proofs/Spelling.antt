@@ -10,7 +10,7 @@ use Rattle.cspf_addr.specs.declared.hop.Hop.{Hop}
 use Rattle.cspf_ero.specs.declared.ero_error.EroError.{EroError}
 use Rattle.cspf_ero.specs.Objects.{header, SpellsEach, Spells}
 use Rattle.cspf_addr.specs.ResultSteps.{◌>>=◌}
-use Rattle.cspf_ero.specs.Reading.{length_field, hops_at, sized_ero_of, ero_of}
+use Rattle.cspf_ero.specs.Reading.{length_field, subobject_hops, sized_ero_of, ero_of}
 use Rattle.cspf_ero.specs.Laws.{AreObjectsRead, SpellsOneHopList}
 use Rattle.cspf_ero.proofs.HopReading.{hops_at-more}
 use Rattle.cspf_ero.proofs.Subobjects.{passed, hop_at-read, read_spells, spelled_read, length-spelled}
@@ -25,7 +25,7 @@ both_read (Ok a) more b same = (a, refl, same)
 both_read (Err e) more b same = absurd (cc)
 
 -- the subobjects that are read spell their hops
-pub hops_at-spells : (most at : ℕ) (bytes : List ℕ) (hops : List Hop) → IsBytes bytes → hops_at most at bytes ≡ Ok hops
+pub hops_at-spells : (most at : ℕ) (bytes : List ℕ) (hops : List Hop) → IsBytes bytes → subobject_hops most at bytes ≡ Ok hops
     → (length hops ≤ most) × (length bytes ≡ 8 * length hops) × SpellsEach bytes hops
 hops_at-spells most at [] [] small found = (omega arith, refl, refl)
 hops_at-spells most at [] (hop ∷ hops) small found = absurd (cc)
@@ -43,7 +43,7 @@ some_byte : (front back : List ℕ) → length front ≡ 8 → 0 < length (front
 some_byte front back eight = omega (arith, length-append front back)
 
 -- the subobjects that spell hops are read as those
-pub spelled_hops : (most at : ℕ) (bytes : List ℕ) (hops : List Hop) → length hops ≤ most → SpellsEach bytes hops → hops_at most at bytes ≡ Ok hops
+pub spelled_hops : (most at : ℕ) (bytes : List ℕ) (hops : List Hop) → length hops ≤ most → SpellsEach bytes hops → subobject_hops most at bytes ≡ Ok hops
 spelled_hops most at bytes [] few spelled = rw spelled refl
 spelled_hops zero at bytes (hop ∷ hops) few spelled = absurd (omega arith)
 spelled_hops (suc most) at bytes (hop ∷ hops) few (front, back, cut, first, rest) =
@@ -99,7 +99,7 @@ ero_of-spells bytes hops small found =
     two_small ha hb (suc (suc i)) = lit< tt
 
 -- behind the header of an object are its hops
-pub sized_header : (size : ℕ) (body : List ℕ) → size < 2 ^ 16 → size % 4 ≡ 0 → 0 < length body → sized_ero_of size (header size ++ body) ≡ hops_at 7 4 body
+pub sized_header : (size : ℕ) (body : List ℕ) → size < 2 ^ 16 → size % 4 ≡ 0 → 0 < length body → sized_ero_of size (header size ++ body) ≡ subobject_hops 7 4 body
 unfolding sized_ero_of
 sized_header size body small fourth some =
     let enough : ltb (length (header size ++ body)) 4 ≡ false = le-ltb (length (header size ++ body)) 4 (omega arith) in

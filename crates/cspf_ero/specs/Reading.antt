@@ -28,12 +28,12 @@ hop_at at bytes =
     else Err (error.Unsupported at (slice_index bytes 0 % 128))
 
 -- the hops of subobjects, the first at this offset of the object, of which at most this many may come
-abbrev pub hops_at : ℕ → ℕ → List ℕ → Result (List Hop) EroError
-hops_at most at [] = Ok []
-hops_at zero at (byte ∷ bytes) = Err error.TooManyHops
-hops_at (suc most) at (byte ∷ bytes) = do
+abbrev pub subobject_hops : ℕ → ℕ → List ℕ → Result (List Hop) EroError
+subobject_hops most at [] = Ok []
+subobject_hops zero at (byte ∷ bytes) = Err error.TooManyHops
+subobject_hops (suc most) at (byte ∷ bytes) = do
   hop ← hop_at at (byte ∷ bytes)
-  hops ← hops_at most (at + 8) (drop 8 (byte ∷ bytes))
+  hops ← subobject_hops most (at + 8) (drop 8 (byte ∷ bytes))
   Ok (hop ∷ hops)
 
 -- the hops of an object of this many bytes
@@ -43,7 +43,7 @@ sized_ero_of size bytes =
     then Err error.Short
     else (if length_field bytes == size && size % 4 == 0
     then (if slice_index bytes 2 == 20 && slice_index bytes 3 == 1
-    then (if length bytes == 4 then Err error.Empty else hops_at MOST_HOPS 4 (drop 4 bytes))
+    then (if length bytes == 4 then Err error.Empty else subobject_hops MOST_HOPS 4 (drop 4 bytes))
     else Err error.Class)
     else Err error.Length)
 

@@ -1,5 +1,5 @@
 ghost use Rattle.std.specs.Prelude.{◌≡◌, ◌≤◌, ℕ, List, length, take, IfOk};
-ghost use Rattle.cspf_ero.specs.Reading.{ero_of, sized_ero_of, hops_at, hop_at};
+ghost use Rattle.cspf_ero.specs.Reading.{ero_of, sized_ero_of, subobject_hops, hop_at};
 
 use crate::ero_error::EroError;
 use cspf_addr::{Addr, Hop, Hops, MOST_HOPS, Prefix};
@@ -50,7 +50,7 @@ fn read_sized(bytes: &[u8], size: usize) -> Result<Hops, EroError>
 
 /// The hops of the subobjects behind the header.
 fn read_hops(body: &[u8]) -> Result<Hops, EroError>
-    ensures { result ≡ hops_at MOST_HOPS 4 body.now }
+    ensures { result ≡ subobject_hops MOST_HOPS 4 body.now }
 {
     let mut hops = Hops::none();
     let mut rest = body;

@@ -1,5 +1,5 @@
 -- Why a batch doesn't fit a database.
-use Rattle.std.specs.Prelude.{◌≡◌, ℕ, zero, suc, ◌<◌, ◌≤◌, Option, Some, None, List, All, length, map}
+use Rattle.std.specs.Prelude.{◌≡◌, ℕ, zero, suc, ◌<◌, ◌≤◌, Option, Some, None, List, All, ◌∷◌, ◌++◌, length, map}
 use Rattle.std.specs.Ordering.{eq_by_cmp}
 use Rattle.std.specs.List.{IsDistinct, slice_get}
 use Rattle.cspf_model.specs.declared.batch.Change.{Change}
@@ -8,7 +8,7 @@ use Rattle.cspf_model.specs.declared.refusal.Refusal.{Refusal}
 use Rattle.cspf_model.specs.declared.refusal.Refusal.TheVariants.{TooLong, Duplicate, Absent, Full, TooManyRouters, TooManyMarks}
 use Rattle.cspf_model.specs.Numbered.{NumberedChanges}
 use Rattle.cspf_model.specs.Database.{Database, link_at, link_count, router_count, mark_count}
-use Rattle.cspf_model.specs.Changes.{change_key_cmp, key_changed, after_changes, IsPresent}
+use Rattle.cspf_model.specs.Changes.{change_key_cmp, key_changed, after_changes, database_after, IsPresent, AreLawful}
 use Rattle.cspf_model.specs.declared.limits.TheConstants.{MOST_CHANGES, MOST_LINKS, MOST_ROUTERS, MOST_MARKS}
 
 -- the change at a place, where places count from 1
@@ -78,3 +78,14 @@ IsRefusal d batch TooManyMarks =
     AreInOrder d batch.changes × (link_count (after_changes d batch.changes) ≤ MOST_LINKS)
     × (router_count (after_changes d batch.changes) ≤ MOST_ROUTERS)
     × (MOST_MARKS < mark_count (after_changes d batch.changes))
+
+-- the first of the batches that doesn't fit the database of those before it has this number, and
+-- this is why
+pub record IsFirstUnfit (batches : List NumberedChanges) (number : ℕ) (why : Refusal) : Type 0 where
+  pub before : List NumberedChanges
+  pub batch : NumberedChanges
+  pub after : List NumberedChanges
+  pub split : batches ≡ before ++ (batch ∷ after)
+  pub lawful : AreLawful before
+  pub is_its : number ≡ batch.number
+  pub refused : IsRefusal (database_after before) batch why

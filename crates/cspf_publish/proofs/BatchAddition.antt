@@ -8,7 +8,7 @@ use Rattle.logbook.specs.Pages.{Cell, cell, keeps, no_nib, step, Moves, Goes}
 use Rattle.cspf_model.specs.Numbered.{NumberedChanges}
 use Rattle.cspf_model.specs.Laws.{LawfulByOneMore}
 use Rattle.cspf_publish.specs.Histories.{IsHistory, MayFollow}
-use Rattle.cspf_publish.specs.HistoryRule.{IsKept, Adds}
+use Rattle.cspf_publish.specs.HistoryRule.{IsKeptHistory, Adds}
 use Rattle.cspf_publish.proofs.Prefixes.{begins, all_of, IsHistory-snoc}
 
 -- what clients see of the list: nothing
@@ -20,7 +20,7 @@ abbrev pub moved : List NumberedChanges → List NumberedChanges → ℕ → Typ
 moved xs ys n = Unit {0}
 
 adds_goes : LawfulByOneMore → (log v : List NumberedChanges) (e : NumberedChanges) (old : ℕ) → length v ≡ old → MayFollow v e → IsHistory log → IsPrefix v log → (b : Bool) → (length log == old) ≡ b
-    → Goes IsKept shown moved 0 (v, (no_nib, None)) (λ n. either (n == old) (old + 1) n) (Adds (step 0 old (old + 1) e) (v, (no_nib, None))) ((length log, true) ∷ (0, true) ∷ []) log
+    → Goes IsKeptHistory shown moved 0 (v, (no_nib, None)) (λ n. either (n == old) (old + 1) n) (Adds (step 0 old (old + 1) e) (v, (no_nib, None))) ((length log, true) ∷ (0, true) ∷ []) log
 adds_goes law log v e old len next history pre true is =
     let here : length log ≡ old = grind (arith, nat_tests) in
     let same : v ≡ log = all_of v log (begins v log pre) (omega arith) in
@@ -48,7 +48,7 @@ adds_goes law log v e old len next history pre false is =
 
 -- whatever the list is, the exchange adds the batch to all that was seen, or finds a longer list
 pub adds_moves : LawfulByOneMore → (v : List NumberedChanges) (e : NumberedChanges) (old : ℕ) → length v ≡ old → MayFollow v e
-    → Moves IsKept shown moved 0 (v, (no_nib, None)) (λ n. either (n == old) (old + 1) n) (Adds (step 0 old (old + 1) e) (v, (no_nib, None)))
+    → Moves IsKeptHistory shown moved 0 (v, (no_nib, None)) (λ n. either (n == old) (old + 1) n) (Adds (step 0 old (old + 1) e) (v, (no_nib, None)))
 adds_moves law v e old len next cs log kept pre away =
-    let P : List Cell → Type 0 = λ c. (0 < length c) × ((cell c 0).1 ≡ true) × Goes IsKept shown moved 0 (v, (no_nib, None)) (λ n. either (n == old) (old + 1) n) (Adds (step 0 old (old + 1) e) (v, (no_nib, None))) c log in
+    let P : List Cell → Type 0 = λ c. (0 < length c) × ((cell c 0).1 ≡ true) × Goes IsKeptHistory shown moved 0 (v, (no_nib, None)) (λ n. either (n == old) (old + 1) n) (Adds (step 0 old (old + 1) e) (v, (no_nib, None))) c log in
     subst P (sym kept.words) (omega arith, refl, adds_goes law log v e old len next kept.history pre (length log == old) refl)

@@ -1,6 +1,6 @@
 -- Lists of batches that one publisher may have published.
 use Rattle.std.specs.Prelude.{◌≡◌, ℕ, suc, ◌+◌, ◌<◌, ◌≤◌, List, [], ◌∷◌, ◌++◌, length}
-use Rattle.cspf_model.specs.Numbered.{NumberedChanges}
+use Rattle.cspf_model.specs.Numbered.{NumberedChanges, AreNumberedFrom}
 use Rattle.cspf_model.specs.Changes.{database_after, Fits, AreLawful}
 use Rattle.cspf_model.specs.declared.limits.TheConstants.{MOST_VERSIONS}
 
@@ -10,11 +10,6 @@ pub record MayFollow (batches : List NumberedChanges) (b : NumberedChanges) : Ty
   pub fits : Fits (database_after batches) b
   pub number : b.number ≡ length batches + 1
   pub room : length batches < MOST_VERSIONS
-
--- the batches have this number and those after it, in order
-abbrev pub AreNumberedFrom : ℕ → List NumberedChanges → Type 0
-AreNumberedFrom n [] = Unit {0}
-AreNumberedFrom n (b ∷ bs) = (b.number ≡ n) × AreNumberedFrom (suc n) bs
 
 -- Batches 1, 2, 3 and so on, at most 1,000,000, each of which fits the database of those before it.
 pub record IsHistory (batches : List NumberedChanges) : Type 0 where

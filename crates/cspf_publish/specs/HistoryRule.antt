@@ -6,7 +6,7 @@ use Rattle.cspf_publish.specs.Histories.{IsHistory}
 
 -- The first word is the length of the list, which is a history. A book has two words, and the second
 -- stays 0.
-pub record IsKept (cells : List Cell) (log : List NumberedChanges) : Type 0 where
+pub record IsKeptHistory (cells : List Cell) (log : List NumberedChanges) : Type 0 where
   pub words : cells ≡ (length log, true) ∷ (0, true) ∷ []
   pub history : IsHistory log
 

@@ -8,9 +8,9 @@ pub struct History;
 impl Rule<Batch, u64> for History {
     ghost use Rattle.std.specs.Prelude.{[]};
     ghost use base.Fml.{ftrue};
-    ghost use Rattle.cspf_publish.specs.HistoryRule.{IsKept};
+    ghost use Rattle.cspf_publish.specs.HistoryRule.{IsKeptHistory};
 
-    ghost holds = { λ cells log. IsKept cells log };
+    ghost holds = { λ cells log. IsKeptHistory cells log };
 
     ghost first = { [] };
 

@@ -8,7 +8,7 @@ use Rattle.csv.specs.Reading.{strip_bom, is_bom}
 use Rattle.cspf_addr.specs.MaskText.{SpellsMask, mask_text, AreMasksRead, AreMasksReadBack}
 use Rattle.cspf_model.specs.declared.batch.Change.{Change}
 use Rattle.cspf_model.specs.declared.batch.Change.TheVariants as change
-use Rattle.cspf_model.specs.Numbered.{NumberedChanges}
+use Rattle.cspf_model.specs.Numbered.{NumberedChanges, AreNumberedFrom}
 use Rattle.cspf_rows.specs.declared.row.Row.{Row}
 use Rattle.cspf_rows.specs.declared.row.Row.TheVariants as row
 use Rattle.cspf_rows.specs.declared.journal.Rest.TheVariants as rest
@@ -17,8 +17,8 @@ use Rattle.cspf_rows.specs.Written.{end_fields, ArePutsReadBack, AreDropsReadBac
 use Rattle.cspf_rows.specs.FieldValues.{flag_number}
 use Rattle.cspf_rows.specs.Rows.{row_of}
 use Rattle.cspf_rows.specs.Records.{rows_of}
-use Rattle.cspf_rows.specs.BatchText.{line_text, change_fields, batch_records, batch_text}
-use Rattle.cspf_rows.specs.Journal.{change_row, batch_rows, journal_rows, AreNumberedFrom, IsJournal}
+use Rattle.cspf_rows.specs.BatchText.{record_line, change_fields, batch_records, batch_text}
+use Rattle.cspf_rows.specs.Journal.{change_row, batch_rows, journal_rows, IsJournal}
 use Rattle.cspf_rows.specs.JournalLaws.{IsChangeInRange, AreInRange, journal_text, AreWritable}
 use Rattle.cspf_rows.proofs.Lines.{line_text-cons}
 use Rattle.cspf_rows.proofs.PlainFields.{IsUnquoted, decimal_unquoted, decimals_unquoted, address_unquoted, mask_unquoted}
@@ -114,24 +114,24 @@ module _ (laws : AreRowsReadBack) where
   written_read batches h = batches_read 1 batches h.in_range h.numbers (omega (arith, h.few))
 
 -- the text of batches is the lines of their records
-journal_text-lines : (batches : List NumberedChanges) → journal_text batches ≡ flat_map line_text (flat_map batch_records batches)
+journal_text-lines : (batches : List NumberedChanges) → journal_text batches ≡ flat_map record_line (flat_map batch_records batches)
 journal_text-lines [] = refl
-journal_text-lines (b ∷ bs) = rw (flat_map-append line_text (batch_records b) (flat_map batch_records bs)) (ap (λ more. batch_text b ++ more) (journal_text-lines bs))
+journal_text-lines (b ∷ bs) = rw (flat_map-append record_line (batch_records b) (flat_map batch_records bs)) (ap (λ more. batch_text b ++ more) (journal_text-lines bs))
 
 -- a line that begins with these three bytes has no byte order mark in front
 no_mark_line : (a b c : ℕ) (x : List ℕ) (xs : List (List ℕ)) (tail : List ℕ) → is_bom a b c ≡ false
-    → strip_bom (line_text ((a ∷ b ∷ c ∷ x) ∷ xs) ++ tail) ≡ line_text ((a ∷ b ∷ c ∷ x) ∷ xs) ++ tail
+    → strip_bom (record_line ((a ∷ b ∷ c ∷ x) ∷ xs) ++ tail) ≡ record_line ((a ∷ b ∷ c ∷ x) ∷ xs) ++ tail
 unfolding strip_bom
 no_mark_line a b c x xs tail other = rw (line_text-cons (a ∷ b ∷ c ∷ x) xs) (rw other refl)
 
 no_mark_batch : (cs : List Change) (number count : ℕ) (more : List (List (List ℕ)))
-    → let text : List ℕ = flat_map line_text ((map change_fields cs ++ (end_fields number count ∷ [])) ++ more) in strip_bom text ≡ text
+    → let text : List ℕ = flat_map record_line ((map change_fields cs ++ (end_fields number count ∷ [])) ++ more) in strip_bom text ≡ text
 no_mark_batch [] number count more = no_mark_line _ _ _ _ _ _ refl
 no_mark_batch (change.Put link ∷ cs) number count more = no_mark_line _ _ _ _ _ _ refl
 no_mark_batch (change.Remove from local ∷ cs) number count more = no_mark_line _ _ _ _ _ _ refl
 no_mark_batch (change.Node router transit ∷ cs) number count more = no_mark_line _ _ _ _ _ _ refl
 
-no_mark : (batches : List NumberedChanges) → strip_bom (flat_map line_text (flat_map batch_records batches)) ≡ flat_map line_text (flat_map batch_records batches)
+no_mark : (batches : List NumberedChanges) → strip_bom (flat_map record_line (flat_map batch_records batches)) ≡ flat_map record_line (flat_map batch_records batches)
 unfolding strip_bom
 no_mark [] = refl
 no_mark (b ∷ bs) = no_mark_batch b.changes b.number (length b.changes) (flat_map batch_records bs)

@@ -7,7 +7,7 @@ use Rattle.csv.specs.Reading.{default_config, records_from, strip_bom}
 use Rattle.csv.specs.Writing.{default_writer, fields_text, row_text, is_blank}
 use Rattle.csv.specs.declared.parser.State.TheVariants as st
 use Rattle.csv.proofs.RoundTrip.{read-write-many}
-use Rattle.cspf_rows.specs.BatchText.{line_text, fields_after}
+use Rattle.cspf_rows.specs.BatchText.{record_line, fields_after}
 use Rattle.cspf_rows.specs.Records.{rows_of}
 use Rattle.cspf_rows.proofs.Lines.{line_text-cons}
 use Rattle.cspf_rows.proofs.PlainFields.{AreUnquoted}
@@ -28,7 +28,7 @@ fields_text-unquoted [] h = refl
 fields_text-unquoted (x ∷ xs) h = rw h.0 (ap (λ rest. 44 ∷ (x ++ rest)) (fields_text-unquoted xs h.1))
 
 -- the line is what csv writes for these fields
-line_text-row_text : (x y : List ℕ) (ys : List (List ℕ)) → AreUnquoted (x ∷ y ∷ ys) → line_text (x ∷ y ∷ ys) ≡ row_text default_writer (x ∷ y ∷ ys)
+line_text-row_text : (x y : List ℕ) (ys : List (List ℕ)) → AreUnquoted (x ∷ y ∷ ys) → record_line (x ∷ y ∷ ys) ≡ row_text default_writer (x ∷ y ∷ ys)
 unfolding is_blank
 line_text-row_text x y ys h =
     line_text-cons x (y ∷ ys)
@@ -41,27 +41,27 @@ none_left zero = refl
 none_left (suc n) = refl
 
 next_line : (n : ℕ) (r : List (List ℕ)) (tail : List ℕ) → IsUnquotedRecord r
-    → records_from default_config (suc n) st.StartRecord (line_text r ++ tail) ≡ r ∷ records_from default_config n st.StartRecord tail
+    → records_from default_config (suc n) st.StartRecord (record_line r ++ tail) ≡ r ∷ records_from default_config n st.StartRecord tail
 unfolding records_from
 next_line n [] tail h = absurd h
 next_line n (x ∷ []) tail h = absurd h
 next_line n (x ∷ y ∷ ys) tail h = rw (line_text-row_text x y ys h, read-write-many x y ys tail) refl
 
-cut_lines : (n : ℕ) (rs : List (List (List ℕ))) → length rs ≤ n → AreUnquotedRecords rs → records_from default_config n st.StartRecord (flat_map line_text rs) ≡ rs
+cut_lines : (n : ℕ) (rs : List (List (List ℕ))) → length rs ≤ n → AreUnquotedRecords rs → records_from default_config n st.StartRecord (flat_map record_line rs) ≡ rs
 cut_lines n [] few h = none_left n
 cut_lines zero (r ∷ rs) few h = absurd (omega arith)
-cut_lines (suc n) (r ∷ rs) few h = next_line n r (flat_map line_text rs) h.0 ∙ ap (λ more. r ∷ more) (cut_lines n rs (omega arith) h.1)
+cut_lines (suc n) (r ∷ rs) few h = next_line n r (flat_map record_line rs) h.0 ∙ ap (λ more. r ∷ more) (cut_lines n rs (omega arith) h.1)
 
 -- a line has a byte at least
-line_text-some : (r : List (List ℕ)) (tail : List ℕ) → suc (length tail) ≤ length (line_text r ++ tail)
-unfolding line_text
+line_text-some : (r : List (List ℕ)) (tail : List ℕ) → suc (length tail) ≤ length (record_line r ++ tail)
+unfolding record_line
 line_text-some r tail = simp length-append (omega arith)
 
-lines_enough : (rs : List (List (List ℕ))) → length rs ≤ length (flat_map line_text rs)
+lines_enough : (rs : List (List (List ℕ))) → length rs ≤ length (flat_map record_line rs)
 lines_enough [] = omega arith
-lines_enough (r ∷ rs) = omega (arith, line_text-some r (flat_map line_text rs), lines_enough rs)
+lines_enough (r ∷ rs) = omega (arith, line_text-some r (flat_map record_line rs), lines_enough rs)
 
 -- lines of fields are cut into them, where no byte order mark is in front
-pub rows_of-lines : (rs : List (List (List ℕ))) → AreUnquotedRecords rs → strip_bom (flat_map line_text rs) ≡ flat_map line_text rs → rows_of (flat_map line_text rs) ≡ rs
+pub rows_of-lines : (rs : List (List (List ℕ))) → AreUnquotedRecords rs → strip_bom (flat_map record_line rs) ≡ flat_map record_line rs → rows_of (flat_map record_line rs) ≡ rs
 unfolding rows_of
 rows_of-lines rs h no_mark = rw no_mark (cut_lines _ rs (omega (arith, lines_enough rs)) h)

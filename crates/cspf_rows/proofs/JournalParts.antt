@@ -3,21 +3,21 @@ use Rattle.std.proofs.Common.{◌≡◌, ◌≢◌, ℕ, ◌+◌, ◌≤◌, Boo
 use Rattle.std.proofs.lemmas.Grind.{flat_map-append}
 use Rattle.std.proofs.lemmas.List.{map-append, length-append, length-map}
 use Rattle.cspf_model.specs.declared.batch.Change.{Change}
-use Rattle.cspf_model.specs.Numbered.{NumberedChanges}
+use Rattle.cspf_model.specs.Numbered.{NumberedChanges, AreNumberedFrom}
 use Rattle.cspf_rows.specs.declared.row.Row.{Row}
 use Rattle.cspf_rows.specs.declared.row.Row.TheVariants as row
 use Rattle.cspf_rows.specs.declared.row_error.RowError.{RowError}
 use Rattle.cspf_rows.specs.declared.journal.Rest.{Rest}
 use Rattle.cspf_rows.specs.declared.journal.Rest.TheVariants as rest
 use Rattle.cspf_rows.specs.Rows.{row_of}
-use Rattle.cspf_rows.specs.Journal.{change_row, journal_rows, AreNumberedFrom, BeginsWith, IsRest, IsJournal}
-use Rattle.cspf_rows.specs.JournalReading.{EndsBatches, AreBehind, AreParts}
+use Rattle.cspf_rows.specs.Journal.{change_row, journal_rows, BeginsWithBatches, IsRest, IsJournal}
+use Rattle.cspf_rows.specs.JournalReading.{EndsBatches, AreBehind, AreJournalParts}
 use Rattle.cspf_rows.proofs.WholeBatches.{read_rows, longest_prefix, open_no_batch, same_prefix}
 
 abbrev Records : Type 0
 Records = List (List (List ℕ))
 
-pub parts_none : AreParts [] [] false []
+pub parts_none : AreJournalParts [] [] false []
 parts_none = record {
   numbers = tt;
   whole = [];
@@ -33,12 +33,12 @@ parts_none = record {
 one_more : (whole opens behind : Records) (fields : List (List ℕ)) → behind ≡ [] → (whole ++ (opens ++ behind)) ++ (fields ∷ []) ≡ whole ++ (opens ++ (fields ∷ []))
 one_more whole opens behind fields none = rw none (simp (append-nil, append_assoc))
 
-module _ (bs : List NumberedChanges) (cs : List Change) (seen : List (List (List ℕ))) (fields : List (List ℕ)) (h : AreParts bs cs false seen) where
+module _ (bs : List NumberedChanges) (cs : List Change) (seen : List (List (List ℕ))) (fields : List (List ℕ)) (h : AreJournalParts bs cs false seen) where
   seen_more : seen ++ (fields ∷ []) ≡ h.whole ++ (h.open_ones ++ (fields ∷ []))
   seen_more = ap (λ (s : Records). s ++ (fields ∷ [])) h.split ∙ one_more h.whole h.open_ones h.behind fields h.ended
 
   -- one more open change
-  pub parts_change : (change : Change) → row_of fields ≡ Ok (change_row change) → AreParts bs (cs ++ (change ∷ [])) false (seen ++ (fields ∷ []))
+  pub parts_change : (change : Change) → row_of fields ≡ Ok (change_row change) → AreJournalParts bs (cs ++ (change ∷ [])) false (seen ++ (fields ∷ []))
   parts_change change row = record {
     numbers = h.numbers;
     whole = h.whole;
@@ -57,7 +57,7 @@ module _ (bs : List NumberedChanges) (cs : List Change) (seen : List (List (List
 
   -- one more batch
   pub parts_batch : (batch : NumberedChanges) → batch.number ≡ 1 + length bs → batch.changes ≡ cs
-      → row_of fields ≡ Ok (row.End batch.number (length batch.changes)) → AreParts (bs ++ (batch ∷ [])) [] false (seen ++ (fields ∷ []))
+      → row_of fields ≡ Ok (row.End batch.number (length batch.changes)) → AreJournalParts (bs ++ (batch ∷ [])) [] false (seen ++ (fields ∷ []))
   parts_batch batch number same row = record {
     numbers = numbered-push 1 bs batch h.numbers number;
     whole = h.whole ++ (h.open_ones ++ (fields ∷ []));
@@ -77,7 +77,7 @@ module _ (bs : List NumberedChanges) (cs : List Change) (seen : List (List (List
   some_one e = cc
 
   -- a row comes that no batch has
-  pub parts_end : EndsBatches (1 + length bs) (length cs) (row_of fields) → AreParts bs cs true (seen ++ (fields ∷ []))
+  pub parts_end : EndsBatches (1 + length bs) (length cs) (row_of fields) → AreJournalParts bs cs true (seen ++ (fields ∷ []))
   parts_end last = record {
     numbers = h.numbers;
     whole = h.whole;
@@ -99,8 +99,8 @@ some_more [] fields e = cc
 some_more (r ∷ more) fields e = cc
 
 -- one more record behind a row that no batch has
-pub parts_behind : (bs : List NumberedChanges) (cs : List Change) (seen : List (List (List ℕ))) (fields : List (List ℕ)) → AreParts bs cs true seen
-    → AreParts bs cs true (seen ++ (fields ∷ []))
+pub parts_behind : (bs : List NumberedChanges) (cs : List Change) (seen : List (List (List ℕ))) (fields : List (List ℕ)) → AreJournalParts bs cs true seen
+    → AreJournalParts bs cs true (seen ++ (fields ∷ []))
 parts_behind bs cs seen fields h = record {
   numbers = h.numbers;
   whole = h.whole;
@@ -117,8 +117,8 @@ parts_behind bs cs seen fields h = record {
 said : (whole left seen : Records) (rows : List Row) → seen ≡ whole ++ left → map row_of whole ≡ read_rows rows → map row_of seen ≡ read_rows rows ++ map row_of left
 said whole left seen rows split read = rw (split, map-append row_of whole left, read) refl
 
-module _ (bs : List NumberedChanges) (cs : List Change) (ended : Bool) (seen : List (List (List ℕ))) (h : AreParts bs cs ended seen) where
-  parts_longest : (others : List NumberedChanges) (more : Records) → BeginsWith seen others more → length (h.open_ones ++ h.behind) ≤ length more
+module _ (bs : List NumberedChanges) (cs : List Change) (ended : Bool) (seen : List (List (List ℕ))) (h : AreJournalParts bs cs ended seen) where
+  parts_longest : (others : List NumberedChanges) (more : Records) → BeginsWithBatches seen others more → length (h.open_ones ++ h.behind) ≤ length more
   parts_longest others more begins =
       let opens : map row_of (h.open_ones ++ h.behind) ≡ read_rows (map change_row cs) ++ map row_of h.behind =
       rw (map-append row_of h.open_ones h.behind, h.open_rows) refl in
@@ -151,15 +151,15 @@ some_open [] behind (c ∷ cs) rows some e = cc
 some_open (o ∷ opens) behind cs rows some e = cc
 
 -- nothing is left where no change is open and no row came that no batch has
-pub journal_clean : (bs : List NumberedChanges) (seen : List (List (List ℕ))) → AreParts bs [] false seen → IsJournal seen bs rest.Clean
+pub journal_clean : (bs : List NumberedChanges) (seen : List (List (List ℕ))) → AreJournalParts bs [] false seen → IsJournal seen bs rest.Clean
 journal_clean bs seen h = journal_of_parts bs [] false seen h rest.Clean (rw (h.ended, no_records h.open_ones h.open_rows) refl)
 
 -- open changes are left
-pub journal_open : (bs : List NumberedChanges) (cs : List Change) (seen : List (List (List ℕ))) → AreParts bs cs false seen → cs ≢ [] → IsJournal seen bs rest.Torn
+pub journal_open : (bs : List NumberedChanges) (cs : List Change) (seen : List (List (List ℕ))) → AreJournalParts bs cs false seen → cs ≢ [] → IsJournal seen bs rest.Torn
 journal_open bs cs seen h some = journal_of_parts bs cs false seen h rest.Torn (some_open h.open_ones h.behind cs h.open_rows some)
 
 -- a row is left that no batch has
-pub journal_behind : (bs : List NumberedChanges) (cs : List Change) (seen : List (List (List ℕ))) → AreParts bs cs true seen → IsJournal seen bs rest.Torn
+pub journal_behind : (bs : List NumberedChanges) (cs : List Change) (seen : List (List (List ℕ))) → AreJournalParts bs cs true seen → IsJournal seen bs rest.Torn
 journal_behind bs cs seen h = journal_of_parts bs cs true seen h rest.Torn (some_behind h.open_ones h.behind h.ended)
 
 same_rest : (left more : Records) (one two : Rest) → length left ≡ length more → IsRest left one → IsRest more two → one ≡ two
@@ -190,7 +190,7 @@ rows_enough [] = omega arith
 rows_enough (b ∷ bs) = simp length-append (omega (arith, rows_enough bs))
 
 -- there are no more batches than records
-pub few_batches : (bs : List NumberedChanges) (cs : List Change) (ended : Bool) (seen : List (List (List ℕ))) → AreParts bs cs ended seen → length bs ≤ length seen
+pub few_batches : (bs : List NumberedChanges) (cs : List Change) (ended : Bool) (seen : List (List (List ℕ))) → AreJournalParts bs cs ended seen → length bs ≤ length seen
 few_batches bs cs ended seen h =
     let whole : length h.whole ≡ length (journal_rows bs) =
     sym (length-map h.whole row_of) ∙ ap length h.whole_rows ∙ length-map {B = Result Row RowError} (journal_rows bs) Ok in

@@ -14,7 +14,7 @@ use Rattle.cspf_rows.specs.declared.read_error.ReadError.{ReadError}
 use Rattle.cspf_rows.specs.Rows.{row_of}
 use Rattle.cspf_rows.specs.Records.{rows_of, rows_left, Takes}
 use Rattle.cspf_rows.specs.Journal.{IsJournal}
-use Rattle.cspf_rows.specs.JournalReading.{IsTaken, AreParts, HasRead, ComesTo}
+use Rattle.cspf_rows.specs.JournalReading.{IsTaken, AreJournalParts, HasRead, ComesTo}
 use Rattle.cspf_rows.specs.GivenBatches.{HasGiven}
 use Rattle.cspf_rows.proofs.ProgressLemmas.{sees_none, sees_next, sees_all, sees_more, if_some_more}
 use Rattle.cspf_rows.proofs.JournalParts.{parts_none, parts_change, parts_batch, parts_end, parts_behind, journal_clean, journal_open, journal_behind, few_batches}
@@ -35,7 +35,7 @@ given rem all reader bs h =
 pub given_none : {R : Type 0} (rem : R → Option (List ℕ)) (all : Option (List (List (List ℕ)))) (reader : JournalReader R)
     → reader.rows ≡ 0 → reader.count ≡ 0 → rows_left rem reader.records ≡ all → HasGiven rem all reader []
 given_none rem all reader rows count left =
-    given rem all reader [] (record { count = count; seen = rw (rows, left) (sees_none (AreParts [] [] false) all parts_none) })
+    given rem all reader [] (record { count = count; seen = rw (rows, left) (sees_none (AreJournalParts [] [] false) all parts_none) })
 
 -- all records but one are read, and that one is the last
 pub record ReadsOne {R : Type 0} (rem : R → Option (List ℕ)) (old new : JournalReader R) (fields : List (List ℕ)) : Type 0 where
@@ -44,12 +44,12 @@ pub record ReadsOne {R : Type 0} (rem : R → Option (List ℕ)) (old new : Jour
 
 module _ {R : Type 0} (rem : R → Option (List ℕ)) (all : Option (List (List (List ℕ)))) (old new : JournalReader R) (fields : List (List ℕ)) (bs : List NumberedChanges) where
   read_next : (cs ds : List Change) (ended ends : Bool) (os : List NumberedChanges) → ReadsOne rem old new fields → HasRead rem all old bs cs ended → new.count ≡ length os
-      → ((seen : List (List (List ℕ))) → AreParts bs cs ended seen → AreParts os ds ends (seen ++ (fields ∷ []))) → HasRead rem all new os ds ends
+      → ((seen : List (List (List ℕ))) → AreJournalParts bs cs ended seen → AreJournalParts os ds ends (seen ++ (fields ∷ []))) → HasRead rem all new os ds ends
   read_next cs ds ended ends os one h count more = record {
     count = count;
     seen =
         rw one.rows
-        (sees_next (AreParts bs cs ended) all (rows_left rem old.records) (rows_left rem new.records) old.rows fields h.seen (AreParts os ds ends) one.takes
+        (sees_next (AreJournalParts bs cs ended) all (rows_left rem old.records) (rows_left rem new.records) old.rows fields h.seen (AreJournalParts os ds ends) one.takes
         (λ seen counted parts. more seen parts));
   }
 
@@ -84,15 +84,15 @@ module _ {R : Type 0} (rem : R → Option (List ℕ)) (all : Option (List (List 
   pub read_too_many : (cs : List Change) (ended : Bool) → HasRead rem all old bs cs ended → old.rows ≡ 1000000
       → Takes (rows_left rem old.records) (rows_left rem new.records) true fields → IfSome all (λ rows. 1000000 < length rows)
   read_too_many cs ended h most takes =
-      rw most at (sees_more (AreParts bs cs ended) all (rows_left rem old.records) (rows_left rem new.records) old.rows fields h.seen takes)
+      rw most at (sees_more (AreJournalParts bs cs ended) all (rows_left rem old.records) (rows_left rem new.records) old.rows fields h.seen takes)
 
   -- no row is left
   read_all : (cs : List Change) (ended : Bool) (rest : Rest) → HasRead rem all old bs cs ended → old.rows ≤ 1000000
       → Takes (rows_left rem old.records) (rows_left rem new.records) false fields
-      → ((seen : List (List (List ℕ))) → AreParts bs cs ended seen → IsJournal seen bs rest) → IfSome all (λ rows. IsJournal rows bs rest × (length rows ≤ 1000000))
+      → ((seen : List (List (List ℕ))) → AreJournalParts bs cs ended seen → IsJournal seen bs rest) → IfSome all (λ rows. IsJournal rows bs rest × (length rows ≤ 1000000))
   read_all cs ended rest h few takes journal =
       if_some_more all (λ rows whole. (journal rows whole.0, rw (sym whole.1) at few))
-      (sees_all (AreParts bs cs ended) all (rows_left rem old.records) (rows_left rem new.records) old.rows fields h.seen takes)
+      (sees_all (AreJournalParts bs cs ended) all (rows_left rem old.records) (rows_left rem new.records) old.rows fields h.seen takes)
 
   read_clean : (cs : List Change) → cs ≡ [] → HasRead rem all old bs cs false → old.rows ≤ 1000000
       → Takes (rows_left rem old.records) (rows_left rem new.records) false fields → IfSome all (λ rows. IsJournal rows bs rest.Clean × (length rows ≤ 1000000))

@@ -8,26 +8,26 @@ use Rattle.cspf_addr.specs.MaskText.{mask_text}
 use Rattle.cspf_model.specs.declared.link.Link.{Link}
 use Rattle.cspf_model.specs.Numbered.{NumberedChanges}
 use Rattle.cspf_rows.specs.Written.{put_fields, end_fields}
-use Rattle.cspf_rows.specs.BatchText.{line_text, batch_text, change_fields, fields_after, attributes}
+use Rattle.cspf_rows.specs.BatchText.{record_line, batch_text, change_fields, fields_after, attributes}
 
 -- the first field, and each next one behind a comma
 join_with_byte-cons : (x : List ℕ) (xs : List (List ℕ)) → join_with_byte 44 (x ∷ xs) ≡ x ++ fields_after xs
 join_with_byte-cons x [] = sym (append-nil x)
 join_with_byte-cons x (y ∷ ys) = ap (λ rest. x ++ (44 ∷ rest)) (join_with_byte-cons y ys)
 
-pub line_text-cons : (x : List ℕ) (xs : List (List ℕ)) → line_text (x ∷ xs) ≡ x ++ (fields_after xs ++ (10 ∷ []))
-unfolding line_text
+pub line_text-cons : (x : List ℕ) (xs : List (List ℕ)) → record_line (x ∷ xs) ≡ x ++ (fields_after xs ++ (10 ∷ []))
+unfolding record_line
 line_text-cons x xs = rw (join_with_byte-cons x xs, append_assoc x (fields_after xs) (10 ∷ [])) refl
 
 -- a line that is written in two pieces
-line_text-append : (old x : List ℕ) (xs ys : List (List ℕ)) → ((old ++ (x ++ fields_after xs)) ++ fields_after ys) ++ (10 ∷ []) ≡ old ++ line_text (x ∷ (xs ++ ys))
+line_text-append : (old x : List ℕ) (xs ys : List (List ℕ)) → ((old ++ (x ++ fields_after xs)) ++ fields_after ys) ++ (10 ∷ []) ≡ old ++ record_line (x ∷ (xs ++ ys))
 line_text-append old x xs ys = simp (line_text-cons, flat_map-append, append_assoc)
 
 -- the line of a link, its bandwidths behind its other fields
 pub line_text-put : (old mid new : List ℕ) (link : Link) → mid ≡ old ++ (codes "put" ++ fields_after (attributes link))
-    → new ≡ mid ++ fields_after (map decimal link.free) → new ++ (10 ∷ []) ≡ old ++ line_text (put_fields link (mask_text link.group))
+    → new ≡ mid ++ fields_after (map decimal link.free) → new ++ (10 ∷ []) ≡ old ++ record_line (put_fields link (mask_text link.group))
 line_text-put old mid new link a b = rw (b, a) (line_text-append old (codes "put") (attributes link) (map decimal link.free))
 
 pub batch_text-lines : (batch : NumberedChanges)
-    → flat_map (λ change. line_text (change_fields change)) batch.changes ++ line_text (end_fields batch.number (length batch.changes)) ≡ batch_text batch
+    → flat_map (λ change. record_line (change_fields change)) batch.changes ++ record_line (end_fields batch.number (length batch.changes)) ≡ batch_text batch
 batch_text-lines batch = simp (flat_map-append, flat_map-map, append-nil)

@@ -17,8 +17,8 @@ change_fields (change.Remove from local) = drop_fields from local
 change_fields (change.Node router transit) = node_fields router transit
 
 -- fields as a line: a comma between each two, and a line feed behind the last
-unfoldable pub line_text : List (List ℕ) → List ℕ
-line_text fields = join_with_byte 44 fields ++ (10 ∷ [])
+unfoldable pub record_line : List (List ℕ) → List ℕ
+record_line fields = join_with_byte 44 fields ++ (10 ∷ [])
 
 -- the records of a batch: one for each change, in order, and then the end row
 abbrev pub batch_records : NumberedChanges → List (List (List ℕ))
@@ -26,7 +26,7 @@ batch_records batch = map change_fields batch.changes ++ (end_fields batch.numbe
 
 -- the text of a batch: a line for each of its records
 abbrev pub batch_text : NumberedChanges → List ℕ
-batch_text batch = flat_map line_text (batch_records batch)
+batch_text batch = flat_map record_line (batch_records batch)
 
 -- private: fields with a comma before each
 abbrev pub fields_after : List (List ℕ) → List ℕ

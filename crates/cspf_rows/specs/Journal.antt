@@ -3,7 +3,7 @@ use Rattle.std.specs.Prelude.{◌≡◌, ◌≢◌, ◌+◌, ◌≤◌, ℕ, Lis
 use Rattle.std.specs.List.{flat_map}
 use Rattle.cspf_model.specs.declared.batch.Change.{Change}
 use Rattle.cspf_model.specs.declared.batch.Change.TheVariants as change
-use Rattle.cspf_model.specs.Numbered.{NumberedChanges}
+use Rattle.cspf_model.specs.Numbered.{NumberedChanges, AreNumberedFrom}
 use Rattle.cspf_rows.specs.declared.row.Row.{Row}
 use Rattle.cspf_rows.specs.declared.row.Row.TheVariants as row
 use Rattle.cspf_rows.specs.declared.journal.Rest.{Rest}
@@ -24,14 +24,9 @@ batch_rows batch = map change_row batch.changes ++ (row.End batch.number (length
 abbrev pub journal_rows : List NumberedChanges → List Row
 journal_rows batches = flat_map batch_rows batches
 
--- batches with consecutive numbers, the first of which is this one
-abbrev pub AreNumberedFrom : ℕ → List NumberedChanges → Type 0
-AreNumberedFrom first [] = Unit {0}
-AreNumberedFrom first (batch ∷ batches) = (batch.number ≡ first) × AreNumberedFrom (first + 1) batches
-
 -- Records begin with whole batches that have the numbers 1, 2, 3 and so on, and these are the
 -- records behind them. A record that is no row is in no batch, nor is one that asks.
-pub record BeginsWith (records : List (List (List ℕ))) (batches : List NumberedChanges) (left : List (List (List ℕ))) : Type 0 where
+pub record BeginsWithBatches (records : List (List (List ℕ))) (batches : List NumberedChanges) (left : List (List (List ℕ))) : Type 0 where
   pub numbers : AreNumberedFrom 1 batches
   pub front : List (List (List ℕ))
   pub split : records ≡ front ++ left
@@ -47,6 +42,6 @@ IsRest left rest.Torn = left ≢ []
 -- database isn't asked.
 pub record IsJournal (records : List (List (List ℕ))) (batches : List NumberedChanges) (rest : Rest) : Type 0 where
   pub left : List (List (List ℕ))
-  pub begins : BeginsWith records batches left
-  pub longest : (others : List NumberedChanges) (more : List (List (List ℕ))) → BeginsWith records others more → length left ≤ length more
+  pub begins : BeginsWithBatches records batches left
+  pub longest : (others : List NumberedChanges) (more : List (List (List ℕ))) → BeginsWithBatches records others more → length left ≤ length more
   pub is_rest : IsRest left rest

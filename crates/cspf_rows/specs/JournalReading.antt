@@ -2,7 +2,7 @@
 use Rattle.std.specs.Prelude.{◌≡◌, ◌≢◌, ◌+◌, ◌≤◌, ℕ, Bool, false, Option, IfSome, List, [], ◌∷◌, ◌++◌, map, length, Result, Ok, Err}
 use Rattle.std.specs.Bool.{MatchBool}
 use Rattle.cspf_model.specs.declared.batch.Change.{Change}
-use Rattle.cspf_model.specs.Numbered.{NumberedChanges}
+use Rattle.cspf_model.specs.Numbered.{NumberedChanges, AreNumberedFrom}
 use Rattle.cspf_rows.specs.declared.journal.JournalStep.{JournalStep}
 use Rattle.cspf_rows.specs.declared.journal.JournalStep.TheVariants as step
 use Rattle.cspf_rows.specs.declared.journal_reader.JournalReader.{JournalReader}
@@ -14,7 +14,7 @@ use Rattle.cspf_rows.specs.declared.row.Row.TheVariants as row
 use Rattle.cspf_rows.specs.declared.row_error.RowError.{RowError}
 use Rattle.cspf_rows.specs.Rows.{row_of}
 use Rattle.cspf_rows.specs.Records.{rows_left}
-use Rattle.cspf_rows.specs.Journal.{AreNumberedFrom, IsJournal, journal_rows, change_row}
+use Rattle.cspf_rows.specs.Journal.{IsJournal, journal_rows, change_row}
 use Rattle.cspf_rows.specs.Progress.{HasSeen}
 
 -- a row that is neither a change nor the end of the batch with this number and this many changes
@@ -42,7 +42,7 @@ IsTaken read next old new taken.Behind =
 
 -- Records are those of whole batches, then those of open changes, and then, once a row came that no
 -- batch has, the others.
-pub record AreParts (batches : List NumberedChanges) (changes : List Change) (has_ended : Bool)
+pub record AreJournalParts (batches : List NumberedChanges) (changes : List Change) (has_ended : Bool)
     (seen : List (List (List ℕ))) : Type 0 where
   pub numbers : AreNumberedFrom 1 batches
   pub whole : List (List (List ℕ))
@@ -60,7 +60,7 @@ pub record HasRead {R : Type 0} (rem : R → Option (List ℕ)) (all : Option (L
     (reader : JournalReader R) (batches : List NumberedChanges) (changes : List Change)
     (has_ended : Bool) : Type 0 where
   pub count : reader.count ≡ length batches
-  pub seen : HasSeen (AreParts batches changes has_ended) all (rows_left rem reader.records) reader.rows
+  pub seen : HasSeen (AreJournalParts batches changes has_ended) all (rows_left rem reader.records) reader.rows
 
 -- what a reader comes to behind batches: one more, or the end
 abbrev pub ComesTo : {R : Type 0} → (R → Option (List ℕ)) → Option (List (List (List ℕ))) → JournalReader R

@@ -6,6 +6,10 @@ use Rattle.csv.specs.declared.parser.State.{State}
 use Rattle.csv.specs.declared.reader.Reader.{Reader}
 use Rattle.csv.specs.declared.reader.Trim.TheVariants as trim
 
+-- the records of a stream: each is a list of fields, which are bytes
+abbrev pub Records : Type 0
+Records = List (List (List ℕ))
+
 -- The rows of a stream are the records that `csv` finds in its bytes, with the settings of its
 -- default reader and no header: fields are cut at commas and may stand in double quotes, a row ends
 -- with its line, an empty line is no row, and a byte order mark at the very start is left out.

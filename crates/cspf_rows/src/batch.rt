@@ -5,7 +5,7 @@ ghost use Rattle.std.specs.String.{string_bytes};
 ghost use Rattle.cspf_addr.specs.MaskText.{mask_text};
 ghost use Rattle.cspf_model.specs.declared.batch.Change.TheVariants as change;
 ghost use Rattle.cspf_rows.specs.Written.{end_fields};
-ghost use Rattle.cspf_rows.specs.BatchText.{batch_text, change_fields, line_text, fields_after, attributes};
+ghost use Rattle.cspf_rows.specs.BatchText.{batch_text, change_fields, record_line, fields_after, attributes};
 
 use cspf_addr::{Addr, Mask};
 use cspf_model::{Batch, Change, Link};
@@ -27,7 +27,7 @@ pub fn batch_text(alloc: Global, batch: &Batch) -> Result<Vec<u8>, AllocError>
 /// Writes the line of each change.
 fn write_changes(text: &mut String, changes: &[Change]) -> Result<(), AllocError>
     ensures { OnOk result (string_bytes text.new ≡ string_bytes text.old
-        ++ flat_map (λ change. line_text (change_fields change)) changes.now) }
+        ++ flat_map (λ change. record_line (change_fields change)) changes.now) }
 {
     for change in changes {
         match change {
@@ -42,7 +42,7 @@ fn write_changes(text: &mut String, changes: &[Change]) -> Result<(), AllocError
 /// Writes the line of a link that is put.
 fn write_put(text: &mut String, link: &Link) -> Result<(), AllocError>
     ensures { OnOk result (string_bytes text.new
-        ≡ string_bytes text.old ++ line_text (change_fields (change.Put link.now))) }
+        ≡ string_bytes text.old ++ record_line (change_fields (change.Put link.now))) }
 {
     write_attributes(text, link)?;
     write_bandwidths(text, &link.free)?;
@@ -87,29 +87,29 @@ fn write_bandwidths(text: &mut String, free: &[u64]) -> Result<(), AllocError>
 }
 
 /// Writes the line of a link that is taken out.
-#[tactic(auto, unfolding(crate::specs::BatchText::line_text))]
+#[tactic(auto, unfolding(crate::specs::BatchText::record_line))]
 fn write_drop(text: &mut String, from: Addr, local: Addr) -> Result<(), AllocError>
     ensures { OnOk result (string_bytes text.new
-        ≡ string_bytes text.old ++ line_text (change_fields (change.Remove from local))) }
+        ≡ string_bytes text.old ++ record_line (change_fields (change.Remove from local))) }
 {
     writeln!(text, "drop,{from},{local}")
 }
 
 /// Writes the line of a router with transit, 1, or without, 0.
-#[tactic(auto, unfolding(crate::specs::BatchText::line_text))]
+#[tactic(auto, unfolding(crate::specs::BatchText::record_line))]
 fn write_node(text: &mut String, router: Addr, transit: bool) -> Result<(), AllocError>
     ensures { OnOk result (string_bytes text.new
-        ≡ string_bytes text.old ++ line_text (change_fields (change.Node router transit))) }
+        ≡ string_bytes text.old ++ record_line (change_fields (change.Node router transit))) }
 {
     let flag = u8::from(transit);
     writeln!(text, "node,{router},{flag}")
 }
 
 /// Writes the line that ends a batch.
-#[tactic(auto, unfolding(crate::specs::BatchText::line_text))]
+#[tactic(auto, unfolding(crate::specs::BatchText::record_line))]
 fn write_end(text: &mut String, number: u32, count: usize) -> Result<(), AllocError>
     ensures { OnOk result (string_bytes text.new
-        ≡ string_bytes text.old ++ line_text (end_fields number count)) }
+        ≡ string_bytes text.old ++ record_line (end_fields number count)) }
 {
     writeln!(text, "end,{number},{count}")
 }

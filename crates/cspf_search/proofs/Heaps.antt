@@ -17,7 +17,7 @@ use Rattle.cspf_search.specs.declared.arena.Node.{Node}
 use Rattle.cspf_search.specs.declared.goal.Goal.{Goal}
 use Rattle.cspf_search.specs.declared.labels.Label.{Label}
 use Rattle.cspf_search.specs.States.{State}
-use Rattle.cspf_search.specs.Frontier.{AreLabels, Key, key_cmp, no_label, label_at, lift, IsKey, IsLive, IsOpenOf, IsUpTo, IsLeast}
+use Rattle.cspf_search.specs.Frontier.{AreLabels, HeapKey, heap_key_cmp, no_label, label_at, lift, IsKey, IsLive, IsOpenOf, IsUpTo, IsLeast}
 
 no_less_rank : (k rank : ℕ) (o : Ordering) → is_lt (ordering_then (nat_cmp k rank) o) ≡ false → rank ≤ k
 no_less_rank k rank o h = grind (arith, nat_tests)
@@ -34,16 +34,16 @@ no_less k rank j i h =
     ]
 
 -- no key of those that a greatest one bounds is less than it in rank and index
-pub keys_up_to : (x : Key) (xs : List Key) → IsUpperBound key_cmp x xs → (y : Key) → Contains xs y → IsUpTo x.0.0 x.0.1 y
+pub keys_up_to : (x : HeapKey) (xs : List HeapKey) → IsUpperBound heap_key_cmp x xs → (y : HeapKey) → Contains xs y → IsUpTo x.0.0 x.0.1 y
 keys_up_to x xs upper y at =
-    no_less y.0.0 x.0.0 y.0.1 x.0.1 (All-contains (λ z. lt_by_cmp key_cmp x z ≡ false) xs y (All-from_recursion (λ z. lt_by_cmp key_cmp x z ≡ false) xs upper) at)
+    no_less y.0.0 x.0.0 y.0.1 x.0.1 (All-contains (λ z. lt_by_cmp heap_key_cmp x z ≡ false) xs y (All-from_recursion (λ z. lt_by_cmp heap_key_cmp x z ≡ false) xs upper) at)
 
-only : (x y : Key) → Contains (x ∷ []) y → x ≡ y
+only : (x y : HeapKey) → Contains (x ∷ []) y → x ≡ y
 only x y (zero, h, e) = e
 only x y (suc k, h, e) = absurd (omega arith)
 
 -- each key is the one that came out, or is left
-pub others_left : (x : Key) (old new : List Key) → IsPermutation old (x ∷ new) → (y : Key) → Contains old y → (x ≡ y) ⊎ Contains new y
+pub others_left : (x : HeapKey) (old new : List HeapKey) → IsPermutation old (x ∷ new) → (y : HeapKey) → Contains old y → (x ≡ y) ⊎ Contains new y
 others_left x old new moved y at =
     elim (Contains-append_cases (x ∷ []) new y (Contains-permutation old (x ∷ new) y moved at)) [
       | inl here ↦ inl (only x y here)
@@ -51,7 +51,7 @@ others_left x old new moved y at =
     ]
 
 -- the one that came out was there
-pub was_there : (x : Key) (old new : List Key) → IsPermutation old (x ∷ new) → Contains old x
+pub was_there : (x : HeapKey) (old new : List HeapKey) → IsPermutation old (x ∷ new) → Contains old x
 was_there x old new moved = Contains-permutation (x ∷ new) old x (IsPermutation-sym old (x ∷ new) moved) (0, omega arith, refl)
 
 -- the rank that was read of labels
@@ -59,8 +59,8 @@ pub rank_read : (labels : List Label) (i : ℕ) (e : Label) → i < length label
 rank_read labels i e h = ap (λ (l : Label). l.rank) (get_or_default labels i e no_label h)
 
 -- a key that came out of what is left of the keys, and what the live ones are
-module _ (d : Database) (q : Request) (goal : Goal) (labels : List Label) (old heap new : List Key) (x : Key)
-    (live : (key : Key) → Contains old key → IsLive goal labels key → Contains heap key) (keyed : All (IsKey d q goal) heap) (moved : IsPermutation heap (x ∷ new)) where
+module _ (d : Database) (q : Request) (goal : Goal) (labels : List Label) (old heap new : List HeapKey) (x : HeapKey)
+    (live : (key : HeapKey) → Contains old key → IsLive goal labels key → Contains heap key) (keyed : All (IsKey d q goal) heap) (moved : IsPermutation heap (x ∷ new)) where
   pub keyed_left : All (IsKey d q goal) new
   keyed_left = All-tail (IsKey d q goal) x new (All-permutation (IsKey d q goal) heap (x ∷ new) moved keyed)
 
@@ -68,7 +68,7 @@ module _ (d : Database) (q : Request) (goal : Goal) (labels : List Label) (old h
   popped_key = All-contains (IsKey d q goal) heap x keyed (was_there x heap new moved)
 
   -- where it isn't live, the live ones are left
-  pub live_left : (IsLive goal labels x → ⊥) → (key : Key) → Contains old key → IsLive goal labels key → Contains new key
+  pub live_left : (IsLive goal labels x → ⊥) → (key : HeapKey) → Contains old key → IsLive goal labels key → Contains new key
   live_left stale key at is =
       elim (others_left x heap new moved key (live key at is)) [
         | inl same ↦ absurd (stale (subst (IsLive goal labels) (sym same) is))
@@ -76,7 +76,7 @@ module _ (d : Database) (q : Request) (goal : Goal) (labels : List Label) (old h
       ]
 
   -- where it is live, it is the least of the live ones
-  pub popped_least : IsHeap key_cmp heap → PopsGreatest key_cmp heap x new → goal.floor ≤ x.0.1 → (label_at labels x.0.1).rank + lift goal x.0.1 ≡ x.0.0
+  pub popped_least : IsHeap heap_key_cmp heap → PopsGreatest heap_key_cmp heap x new → goal.floor ≤ x.0.1 → (label_at labels x.0.1).rank + lift goal x.0.1 ≡ x.0.0
       → IsLeast d q goal labels old x.0.1 new
   popped_least ordered pops behind is =
       let out = pops ordered in
@@ -90,42 +90,42 @@ module _ (d : Database) (q : Request) (goal : Goal) (labels : List Label) (old h
         first = λ key at here. rw is (keys_up_to x heap out.1 key (live key at here));
         others = λ key at here.
             elim (others_left x heap new moved key (live key at here)) [
-              | inl same ↦ inl (ap (λ (k : Key). k.0.1) (sym same))
+              | inl same ↦ inl (ap (λ (k : HeapKey). k.0.1) (sym same))
               | inr left ↦ inr left
             ];
       }
 
 -- a key for the indexes past the end of a list
-abbrev pub blank : Key
+abbrev pub blank : HeapKey
 blank = record { 0 = (0, 0) }
 
 -- One key more was looked at of those of a heap, of which the ones from a floor on are kept.
-module _ (floor : ℕ) (items left : List Key) (k : ℕ) (within : k < length items)
-    (kept : (key : Key) → Contains (take k items) key → floor ≤ key.0.1 → Contains left key) (none_else : (key : Key) → Contains left key → Contains items key) where
-  abbrev pub looked : Key
+module _ (floor : ℕ) (items left : List HeapKey) (k : ℕ) (within : k < length items)
+    (kept : (key : HeapKey) → Contains (take k items) key → floor ≤ key.0.1 → Contains left key) (none_else : (key : HeapKey) → Contains left key → Contains items key) where
+  abbrev pub looked : HeapKey
   looked = slice_index_or items k blank
 
-  cases : (key : Key) → Contains (take (k + 1) items) key → Contains (take k items) key ⊎ (looked ≡ key)
+  cases : (key : HeapKey) → Contains (take (k + 1) items) key → Contains (take k items) key ⊎ (looked ≡ key)
   cases key has = let more : take (k + 1) items ≡ take k items ++ looked ∷ [] = take_more items k blank within in Contains-push_cases (take k items) looked key (rw more at has)
 
   -- it is below the floor
-  pub key_dropped : looked.0.1 < floor → (key : Key) → Contains (take (k + 1) items) key → floor ≤ key.0.1 → Contains left key
+  pub key_dropped : looked.0.1 < floor → (key : HeapKey) → Contains (take (k + 1) items) key → floor ≤ key.0.1 → Contains left key
   key_dropped low key has up =
       elim (cases key has) [
         | inl front ↦ kept key front up
-        | inr is ↦ absurd (omega (arith, low, up, ap (λ (x : Key). x.0.1) is))
+        | inr is ↦ absurd (omega (arith, low, up, ap (λ (x : HeapKey). x.0.1) is))
       ]
 
   -- it is kept
-  module _ (new : List Key) (moved : IsPermutation (looked ∷ left) new) where
-    pub key_kept : (key : Key) → Contains (take (k + 1) items) key → floor ≤ key.0.1 → Contains new key
+  module _ (new : List HeapKey) (moved : IsPermutation (looked ∷ left) new) where
+    pub key_kept : (key : HeapKey) → Contains (take (k + 1) items) key → floor ≤ key.0.1 → Contains new key
     key_kept key has up =
         Contains-permutation (looked ∷ left) new key moved (elim (cases key has) [
           | inl front ↦ Contains-append_right (looked ∷ []) left key (kept key front up)
           | inr is ↦ subst (Contains (looked ∷ left)) is (0, omega arith, refl)
         ])
 
-    pub none_new : (key : Key) → Contains new key → Contains items key
+    pub none_new : (key : HeapKey) → Contains new key → Contains items key
     none_new key has =
         elim (others_left looked new left (IsPermutation-sym (looked ∷ left) new moved) key has) [
           | inl is ↦ subst (Contains items) is (k, within, get_or_default items k looked blank within)
@@ -133,7 +133,7 @@ module _ (floor : ℕ) (items left : List Key) (k : ℕ) (within : k < length it
         ]
 
 -- labels go on with the keys of states in legs that aren't closed
-pub labels_open : (d : Database) (q : Request) (nodes : List Node) (P : List Link → State → Type 0) (goal : Goal) (labels : List Label) (old new : List Key)
+pub labels_open : (d : Database) (q : Request) (nodes : List Node) (P : List Link → State → Type 0) (goal : Goal) (labels : List Label) (old new : List HeapKey)
     → AreLabels d q nodes P goal labels old → IsOpenOf goal.floor old new → AreLabels d q nodes P goal labels new
 labels_open d q nodes P goal labels old new are left = record {
   small = are.small;

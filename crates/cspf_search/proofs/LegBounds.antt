@@ -12,7 +12,7 @@ use Rattle.cspf_search.specs.Frontier.{AreListed, AreRoles, IsEnd, IsStateIndex,
 use Rattle.cspf_search.specs.declared.limits.TheConstants.{NO_WAY}
 use Rattle.cspf_search.specs.Settled.{IsWithin}
 use Rattle.cspf_search.specs.States.{MayEnter, MayTurn}
-use Rattle.cspf_search.specs.Bounds.{ArePassed, AreBounds, Falls, IsLeg, IsRing, IsDeadEnd, AreLooked, bound_at, is_done}
+use Rattle.cspf_search.specs.Bounds.{ArePassed, AreBounds, Falls, IsLegBound, IsRing, IsDeadEnd, AreLooked, bound_at, is_done}
 use Rattle.cspf_search.proofs.Ranks.{same_or_not}
 
 -- where nothing is done nothing was looked at
@@ -57,7 +57,7 @@ module _ (d : Database) (q : Request) (leg to base : ℕ) (old new : Ring) (ring
 pub leg_of_ring : (d : Database) (q : Request) (leg : ℕ) (ring : Ring) (edge : ℕ) → IsRing d q leg ring
     → ((w : ℕ) → w < length (router_list d) → is_done ring w ≡ false → edge ≤ bound_at ring.near.items w) → (ahead : List ℕ)
     → ((p : ℕ) → p < length (router_list d) → MayTurn d q (leg + 1) (slice_index (router_list d) p) → bound_at ring.near.items p ≤ bound_at ahead p)
-    → IsLeg d q leg ring.near.items edge ahead
+    → IsLegBound d q leg ring.near.items edge ahead
 leg_of_ring d q leg ring edge links least ahead targets = record {
   links = λ u w l admissible enters from to.
       let near = ring.near.items in
@@ -105,7 +105,7 @@ zeros_at count i =
 
 -- one leg more, from the last back
 module _ (d : Database) (q : Request) (leg count : ℕ) (all : count ≡ length (router_list d)) (few : count ≤ 1024) (old new near : List ℕ) (edge : ℕ) (small : edge < 2 ^ 32) (before : AreBounds d q old)
-    (zeros : (i : ℕ) → i < (leg + 1) * 1024 → bound_at old i ≡ 0) (is : IsLeg d q leg near edge (drop (leg * 1024 + 1024) old)) (long : length new ≡ length old)
+    (zeros : (i : ℕ) → i < (leg + 1) * 1024 → bound_at old i ≡ 0) (is : IsLegBound d q leg near edge (drop (leg * 1024 + 1024) old)) (long : length new ≡ length old)
     (here : (p : ℕ) → p < count → bound_at new (leg * 1024 + p) ≡ min (bound_at near p) edge)
     (others : (i : ℕ) → (i < leg * 1024) ⊎ (leg * 1024 + count ≤ i) → bound_at new i ≡ bound_at old i) where
   in_leg : (i : ℕ) → i % 1024 < length (router_list d) → i / 1024 ≡ leg → bound_at new i ≡ min (bound_at near (i % 1024)) edge

@@ -12,7 +12,7 @@ use Rattle.cspf_search.specs.Settled.{AreSettled}
 use Rattle.cspf_search.specs.Arena.{walk_at, walks, state_of, index_of, labels_of, AreNodes, IsInLeg}
 use Rattle.cspf_search.specs.Rounds.{CrossesBelow, IsFirstOf}
 use Rattle.cspf_search.specs.Frontier.{state_at, IsStateIndex, AreListed, nowhere}
-use Rattle.cspf_search.specs.ForwardStars.{IsForwardStar, AreForwardStars, AreMarks}
+use Rattle.cspf_search.specs.ForwardStars.{IsForwardStar, AreForwardStars, AreStateMarks}
 use Rattle.cspf_search.proofs.Labelled.{label_at}
 use Rattle.cspf_search.proofs.Few.{HasFewRouters, AreApart}
 use Rattle.cspf_search.proofs.Grown.{reached_router, nodes_in_legs, settled_more}
@@ -24,7 +24,7 @@ use Rattle.cspf_search.proofs.Ranks.{same_or_not, state_apart}
 pub no_stars : (d : Database) → AreForwardStars d [] []
 no_stars d = record { many = refl; each = λ i e h. absurd (omega arith) }
 
-pub no_marks : (d : Database) (q : Request) (count : ℕ) → count ≡ (length q.hops + 1) * 1024 → AreMarks d q [] (replicate count false)
+pub no_marks : (d : Database) (q : Request) (count : ℕ) → count ≡ (length q.hops + 1) * 1024 → AreStateMarks d q [] (replicate count false)
 no_marks d q count many = record {
   many = length-replicate count false ∙ many;
   each = λ i e index. get_or-replicate count i false e (omega (arith, many, index.low));
@@ -58,8 +58,8 @@ module _ (d : Database) (q : Request) (listed : AreListed d) (nodes : List Node)
         | None ↦ λ e. sym (ap is_some (open_new nodes n before apart t ne e))
       ] refl
 
-  pub marks_push : (marks : List Bool) → AreMarks d q nodes marks → (star : ForwardStar) → IsForwardStar d (state_of n) star → IsInLeg q n
-      → AreMarks d q (nodes ++ (n ∷ [])) (set marks star.state true)
+  pub marks_push : (marks : List Bool) → AreStateMarks d q nodes marks → (star : ForwardStar) → IsForwardStar d (state_of n) star → IsInLeg q n
+      → AreStateMarks d q (nodes ++ (n ∷ [])) (set marks star.state true)
   marks_push marks are star is leg =
       let index = star_index d q n star leg is in
       let within : star.state < length marks = omega (arith, are.many, index.low) in

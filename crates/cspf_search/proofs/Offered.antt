@@ -16,7 +16,7 @@ use Rattle.cspf_search.specs.declared.labels.Label.{Label}
 use Rattle.cspf_search.specs.States.{State}
 use Rattle.cspf_search.specs.Settled.{IsNoLater}
 use Rattle.cspf_search.specs.Arena.{walk_of, state_of, index_of, AreNodes, IsNext}
-use Rattle.cspf_search.specs.Frontier.{state_at, IsStateIndex, AreListed, node_of, rank_of, walk_rank, no_rank, lift, IsBeyond, IsReached, IsLabel, is_settled, is_reached, is_unreached, Key, key_at, label_at, key_cmp, no_label, IsKey, AreLabels, IsOffer, AreTied, Gains, StaysAt, GoesTo}
+use Rattle.cspf_search.specs.Frontier.{state_at, IsStateIndex, AreListed, node_of, rank_of, walk_rank, no_rank, lift, IsBeyond, IsReached, IsLabel, is_settled, is_reached, is_unreached, HeapKey, key_at, label_at, heap_key_cmp, no_label, IsKey, AreLabels, IsOffer, AreTied, Gains, StaysAt, GoesTo}
 use Rattle.cspf_search.proofs.Orders.{walks_total}
 use Rattle.cspf_search.proofs.Ranks.{same_or_not, before_by_rank, before_by_locals, locals_turned, rank_parts, rank_is, walk_short, links_short, rank_small, lift_small, beyond_lower, state_apart}
 
@@ -42,11 +42,11 @@ reached_on d nodes P R cap lower ahead t label r up first = record {
 }
 
 -- labels of which that of one state is set
-pub labels_set : (d : Database) (q : Request) (old nodes : List Node) (P R : List Link → State → Type 0) (goal : Goal) (labels : List Label) (old_keys keys : List Key)
+pub labels_set : (d : Database) (q : Request) (old nodes : List Node) (P R : List Link → State → Type 0) (goal : Goal) (labels : List Label) (old_keys keys : List HeapKey)
     → AreLabels d q old P goal labels old_keys → (i : ℕ) → IsStateIndex d q i → (label : Label)
     → IsLabel d nodes R (label_at (set labels i label) goal.at).rank (lift goal i) (state_at d i) label
     → ((j : ℕ) → IsStateIndex d q j → goal.floor ≤ j → j ≢ i → IsLabel d nodes R (label_at (set labels i label) goal.at).rank (lift goal j) (state_at d j) (label_at labels j))
-    → IsHeap key_cmp keys → All (IsKey d q goal) keys → (0 < label.rank → Contains keys (key_at (label.rank + lift goal i) i))
+    → IsHeap heap_key_cmp keys → All (IsKey d q goal) keys → (0 < label.rank → Contains keys (key_at (label.rank + lift goal i) i))
     → ((j : ℕ) → goal.floor ≤ j → j ≢ i → Contains old_keys (key_at ((label_at labels j).rank + lift goal j) j) → Contains keys (key_at ((label_at labels j).rank + lift goal j) j))
     → AreLabels d q nodes R goal (set labels i label) keys
 labels_set d q old nodes P R goal labels old_keys keys are i index label is others ordered keyed waits still =
@@ -90,7 +90,7 @@ pub record IsBetter (d : Database) (nodes : List Node) (P : List Link → State 
 
 module _ (d : Database) (q : Request) (nodes : List Node) (are : AreNodes nodes) (listed : AreListed d) (P Q R : List Link → State → Type 0)
     (from_left : (w : List Link) (t : State) → P w t → R w t) (from_right : (w : List Link) (t : State) → Q w t → R w t)
-    (cases : (w : List Link) (t : State) → R w t → P w t ⊎ Q w t) (goal : Goal) (labels : List Label) (keys : List Key)
+    (cases : (w : List Link) (t : State) → R w t → P w t ⊎ Q w t) (goal : Goal) (labels : List Label) (keys : List HeapKey)
     (before : AreLabels d q nodes P goal labels keys) (i : ℕ) (index : IsStateIndex d q i) (open_leg : goal.floor ≤ i) (x : List Link)
     (only : (w : List Link) (t : State) → Q w t → (t ≡ state_at d i) × (w ≡ x)) where
   abbrev cap : ℕ
@@ -184,7 +184,7 @@ module _ (d : Database) (q : Request) (nodes : List Node) (are : AreNodes nodes)
       becomes old label lower better passes left (λ w was. inr (beyond_lower cap lower (lift goal i) w h (first w was)))
 
   -- what is better becomes the label
-  pub labels_change : (label : Label) (key : ℕ) (new_keys : List Key) → key ≡ label.rank + lift goal i → IsBetter d nodes P cap (lift goal i) (state_at d i) (label_at labels i) label x → Q x (state_at d i)
+  pub labels_change : (label : Label) (key : ℕ) (new_keys : List HeapKey) → key ≡ label.rank + lift goal i → IsBetter d nodes P cap (lift goal i) (state_at d i) (label_at labels i) label x → Q x (state_at d i)
       → Gains (key_at key i) keys new_keys → AreLabels d q nodes R goal (set labels i label) new_keys
   labels_change label key new_keys is_key better passes gains =
       let within : i < length labels = omega (arith, before.many, index.low) in
@@ -213,7 +213,7 @@ module _ (d : Database) (q : Request) (nodes : List Node) (are : AreNodes nodes)
       Contains-permutation (key_at key i ∷ keys) new_keys k gains.moved (Contains-append_right (key_at key i ∷ []) keys k was))
 
   -- what an offer leaves
-  pub labels_offered : (label : Label) (key : ℕ) (new : List Label) (new_keys : List Key) → key ≡ label.rank + lift goal i → IsOffer d nodes label → label.rank ≡ rank_of (node_of d nodes label)
+  pub labels_offered : (label : Label) (key : ℕ) (new : List Label) (new_keys : List HeapKey) → key ≡ label.rank + lift goal i → IsOffer d nodes label → label.rank ≡ rank_of (node_of d nodes label)
       → state_of (node_of d nodes label) ≡ state_at d i → walk_of nodes (node_of d nodes label) ≡ x → label.rank ≤ (label_at labels i).rank → Q x (state_at d i)
       → StaysAt d nodes i label labels new keys new_keys ⊎ GoesTo d nodes i label key labels new keys new_keys → AreLabels d q nodes R goal new new_keys
   labels_offered label key new new_keys is_key offer rank state walk le passes (inl stay) =
@@ -287,7 +287,7 @@ label_same d nodes P R up down most ahead t label (is_unreached left none first)
 
 -- labels for one kind are labels for a kind that has the same walks
 pub labels_same : (d : Database) (q : Request) (nodes : List Node) (P R : List Link → State → Type 0) → ((w : List Link) (t : State) → P w t → R w t)
-    → ((w : List Link) (t : State) → R w t → P w t) → (goal : Goal) (labels : List Label) (keys : List Key) → AreLabels d q nodes P goal labels keys
+    → ((w : List Link) (t : State) → R w t → P w t) → (goal : Goal) (labels : List Label) (keys : List HeapKey) → AreLabels d q nodes P goal labels keys
     → AreLabels d q nodes R goal labels keys
 labels_same d q nodes P R up down goal labels keys before =
     let same : (i : ℕ) (t : State) (label : Label) → IsLabel d nodes P (label_at labels goal.at).rank (lift goal i) t label → IsLabel d nodes R (label_at labels goal.at).rank (lift goal i) t label =

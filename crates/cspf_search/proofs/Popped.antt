@@ -21,7 +21,7 @@ use Rattle.cspf_search.specs.Settled.{RanksNoLater, AreSettled, Crosses, IsStuck
 use Rattle.cspf_search.specs.Arena.{walk_of, state_of, same_state, index_of, labels_of, AreNodes, root_of}
 use Rattle.cspf_search.specs.Rounds.{CrossesBelow}
 use Rattle.cspf_search.specs.Bounds.{AreBounds, bound_at}
-use Rattle.cspf_search.specs.Frontier.{IsFloor, state_at, IsStateIndex, AreListed, IsEnd, nowhere, node_of, walk_rank, no_rank, lift, IsBeyond, IsReached, IsLabel, is_settled, is_reached, is_unreached, Key, key_cmp, key_at, label_at, IsKey, IsLive, AreLabels, IsLeast}
+use Rattle.cspf_search.specs.Frontier.{IsFloor, state_at, IsStateIndex, AreListed, IsEnd, nowhere, node_of, walk_rank, no_rank, lift, IsBeyond, IsReached, IsLabel, is_settled, is_reached, is_unreached, HeapKey, heap_key_cmp, key_at, label_at, IsKey, IsLive, AreLabels, IsLeast}
 use Rattle.cspf_search.proofs.Orders.{potentials_total, rank_from_walk}
 use Rattle.cspf_search.proofs.Settles.{no_way}
 use Rattle.cspf_search.proofs.Cuts.{reached_leg, last_target}
@@ -52,7 +52,7 @@ goal_bound d q goal bounds there end =
     bounds.last goal.at there (omega (arith, ap (λ (s : State). s.leg) end)) there_too
 
 module _ (d : Database) (q : Request) (of : AreLinksOf d (links_of d)) (listed : AreListed d) (from : IsRouterOf d q.from) (nodes : List Node) (are : AreNodes nodes)
-    (settled : AreSettled d q (labels_of nodes)) (goal : Goal) (there : IsStateIndex d q goal.at) (labels : List Label) (keys : List Key)
+    (settled : AreSettled d q (labels_of nodes)) (goal : Goal) (there : IsStateIndex d q goal.at) (labels : List Label) (keys : List HeapKey)
     (before : AreLabels d q nodes (CrossesBelow d q nodes (links_of d) (length nodes)) goal labels keys) (left : index_of nodes (state_at d goal.at) ≡ None)
     (bounds : AreBounds d q goal.bounds.now) (end : state_at d goal.at ≡ end_state q) (floor : IsFloor d q (labels_of nodes) goal) where
   abbrev cap : ℕ
@@ -84,7 +84,7 @@ module _ (d : Database) (q : Request) (of : AreLinksOf d (links_of d)) (listed :
   behind_floor : (u : State) → goal.floor / 1024 < u.leg → (j : ℕ) → u ≡ state_at d j → goal.floor ≤ j
   behind_floor u h j is = omega (arith, h, ap (λ (s : State). s.leg) is, before.whole)
 
-  module _ (i : ℕ) (rest : List Key) (least : IsLeast d q goal labels keys i rest) where
+  module _ (i : ℕ) (rest : List HeapKey) (least : IsLeast d q goal labels keys i rest) where
     abbrev n : Node
     n = node_of d nodes (label_at labels i)
 
@@ -164,7 +164,7 @@ module _ (d : Database) (q : Request) (of : AreLinksOf d (links_of d)) (listed :
     pub popped : IsReached d nodes (CrossesBelow d q nodes (links_of d) (length nodes)) cap (lift goal i) (state_at d i) (label_at labels i)
     popped = here
 
-  module _ (none : (key : Key) → Contains keys key → IsLive goal labels key → ⊥) where
+  module _ (none : (key : HeapKey) → Contains keys key → IsLive goal labels key → ⊥) where
     uncrossed : (j : ℕ) → IsStateIndex d q j → goal.floor ≤ j → (x : List Link) → CrossesBelow d q nodes (links_of d) (length nodes) x (state_at d j) → index_of nodes (state_at d j) ≡ None
         → (label : Label) → label ≡ label_at labels j → IsLabel d nodes (CrossesBelow d q nodes (links_of d) (length nodes)) cap (lift goal j) (state_at d j) label → ⊥
     uncrossed j jx ahead x p clear label is (is_settled k zeros e) = cc
@@ -219,7 +219,7 @@ module _ (d : Database) (q : Request) (listed : AreListed d) (place : ℕ) (at :
         | None ↦ λ e. refl
       ] refl
 
-  pub first_labels : (goal : Goal) → AreBounds d q goal.bounds.now → goal.floor ≡ 0 → (blank label : Label) → blank.rank ≡ no_rank → label.rank ≡ 0 → (keys : List Key) → keys ≡ [] → IsHeap key_cmp keys → (count : ℕ)
+  pub first_labels : (goal : Goal) → AreBounds d q goal.bounds.now → goal.floor ≡ 0 → (blank label : Label) → blank.rank ≡ no_rank → label.rank ≡ 0 → (keys : List HeapKey) → keys ≡ [] → IsHeap heap_key_cmp keys → (count : ℕ)
       → count ≡ (length q.hops + 1) * 1024
       → AreLabels d q (root_of q ∷ []) (CrossesBelow d q (root_of q ∷ []) (links_of d) 0) goal (set (replicate count blank) place label) keys
   first_labels goal are floor blank label none zero keys empty heap count many =

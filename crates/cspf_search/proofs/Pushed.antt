@@ -17,7 +17,7 @@ use Rattle.cspf_search.specs.States.{State}
 use Rattle.cspf_search.specs.Settled.{IsNoLater}
 use Rattle.cspf_search.specs.Arena.{walk_of, state_of, same_state, index_of, IsNext}
 use Rattle.cspf_search.specs.Rounds.{CrossesFrom, CrossesBelow}
-use Rattle.cspf_search.specs.Frontier.{state_at, AreListed, nowhere, node_of, rank_of, IsLabel, is_settled, is_reached, is_unreached, Key, key_at, label_at, lift, no_label, AreLabels, IsLeast}
+use Rattle.cspf_search.specs.Frontier.{state_at, AreListed, nowhere, node_of, rank_of, IsLabel, is_settled, is_reached, is_unreached, HeapKey, key_at, label_at, lift, no_label, AreLabels, IsLeast}
 use Rattle.cspf_search.proofs.Labelled.{walk_at-old, walk_of-old, same_state-true, index_at}
 use Rattle.cspf_search.proofs.Few.{AreApart}
 use Rattle.cspf_search.proofs.Offered.{labels_set}
@@ -174,8 +174,8 @@ module _ (nodes : List Node) (n : Node) (before : AreApart nodes) (apart : AreAp
     label_old cap ahead t ne label (is_unreached left none first) = is_unreached (open_new t ne left) none (λ w p. first w (below_old d q (links_of d) w t p))
 
     -- to settle the least key's state leaves the labels of the others
-    pub labels_settle : AreListed d → (goal : Goal) (labels : List Label) (keys : List Key)
-        → AreLabels d q nodes (CrossesBelow d q nodes (links_of d) (length nodes)) goal labels keys → (i : ℕ) (left : List Key) → IsLeast d q goal labels keys i left
+    pub labels_settle : AreListed d → (goal : Goal) (labels : List Label) (keys : List HeapKey)
+        → AreLabels d q nodes (CrossesBelow d q nodes (links_of d) (length nodes)) goal labels keys → (i : ℕ) (left : List HeapKey) → IsLeast d q goal labels keys i left
         → state_of n ≡ state_at d i → goal.at ≢ i → (label : Label) → label.rank ≡ 0
         → AreLabels d q (nodes ++ (n ∷ [])) (CrossesBelow d q (nodes ++ (n ∷ [])) (links_of d) (length nodes)) goal (set labels i label) left
     labels_settle listed goal labels keys are i left least state off label none =

@@ -20,7 +20,7 @@ use Rattle.cspf_search.specs.Arena.{walk_at, walks, state_of, index_of, labels_o
 use Rattle.cspf_search.specs.Rounds.{CrossesBelow}
 use Rattle.cspf_search.specs.declared.limits.TheConstants.{NO_WAY}
 use Rattle.cspf_search.specs.Bounds.{AreBounds, bound_at}
-use Rattle.cspf_search.specs.Frontier.{state_at, IsStateIndex, AreListed, AreRoles, IsRaised, nothing, IsEnd, IsNodeAt, nowhere, node_of, IsReached, Key, label_at, no_label, lift, IsKey, IsLive, AreLabels, IsLeast, IsFloor}
+use Rattle.cspf_search.specs.Frontier.{state_at, IsStateIndex, AreListed, AreRoles, IsRaised, nothing, IsEnd, IsNodeAt, nowhere, node_of, IsReached, HeapKey, label_at, no_label, lift, IsKey, IsLive, AreLabels, IsLeast, IsFloor}
 use Rattle.cspf_search.proofs.Few.{HasFewRouters}
 use Rattle.cspf_search.proofs.Cuts.{last_target}
 use Rattle.cspf_search.proofs.Labelled.{open_index}
@@ -43,7 +43,7 @@ pub record IsAsked (d : Database) (q : Request) (legs from to : ℕ) (goal : Goa
   pub bounds : AreBounds d q goal.bounds.now
 
 -- what is settled and what waits, when the tail-end isn't settled in the last of the legs
-pub record IsUnderWay (d : Database) (q : Request) (goal : Goal) (nodes : List Node) (labels : List Label) (keys : List Key) : Type 0 where
+pub record IsUnderWay (d : Database) (q : Request) (goal : Goal) (nodes : List Node) (labels : List Label) (keys : List HeapKey) : Type 0 where
   pub arena : AreNodes nodes
   pub settled : AreSettled d q (labels_of nodes)
   pub left : index_of nodes (state_at d goal.at) ≡ None
@@ -51,13 +51,13 @@ pub record IsUnderWay (d : Database) (q : Request) (goal : Goal) (nodes : List N
   pub labelled : AreLabels d q nodes (CrossesBelow d q nodes (links_of d) (length nodes)) goal labels keys
 
 -- the least key, and the node that its label stands for
-pub record IsTaken (d : Database) (q : Request) (legs from to : ℕ) (goal : Goal) (nodes : List Node) (labels : List Label) (keys : List Key) (i : ℕ) (rest : List Key) (node : Node) : Type 0 where
+pub record IsTaken (d : Database) (q : Request) (legs from to : ℕ) (goal : Goal) (nodes : List Node) (labels : List Label) (keys : List HeapKey) (i : ℕ) (rest : List HeapKey) (node : Node) : Type 0 where
   pub asked : IsAsked d q legs from to goal
   pub before : IsUnderWay d q goal nodes labels keys
   pub least : IsLeast d q goal labels keys i rest
   pub is : node ≡ node_of d nodes (label_at labels i)
 
-pub taken : (d : Database) (q : Request) (legs from to : ℕ) (goal : Goal) (nodes : List Node) (labels : List Label) (keys : List Key) (i : ℕ) (rest : List Key) (node : Node)
+pub taken : (d : Database) (q : Request) (legs from to : ℕ) (goal : Goal) (nodes : List Node) (labels : List Label) (keys : List HeapKey) (i : ℕ) (rest : List HeapKey) (node : Node)
     → IsAsked d q legs from to goal → IsUnderWay d q goal nodes labels keys → IsLeast d q goal labels keys i rest → (label : Label) → label ≡ slice_index_or labels i label
     → node ≡ node_of d nodes label → IsTaken d q legs from to goal nodes labels keys i rest node
 taken d q legs from to goal nodes labels keys i rest node asked before least label at is = record {
@@ -97,13 +97,13 @@ module _ (d : Database) (q : Request) (legs from to : ℕ) (goal : Goal) (asked 
   pub no_start : bound_at goal.bounds.now from ≡ NO_WAY → (w : List Link) → IsRoute d q w → ⊥
   no_start = shut_start d q asked.listed from asked.start goal asked.bounds goal_there goal_end
 
-  module _ (nodes : List Node) (labels : List Label) (keys : List Key) (before : IsUnderWay d q goal nodes labels keys) where
+  module _ (nodes : List Node) (labels : List Label) (keys : List HeapKey) (before : IsUnderWay d q goal nodes labels keys) where
     -- where no key is live there is no route
-    pub ended : ((key : Key) → Contains keys key → IsLive goal labels key → ⊥) → labels_of nodes (end_state q) ≡ None → (w : List Link) → IsRoute d q w → ⊥
+    pub ended : ((key : HeapKey) → Contains keys key → IsLive goal labels key → ⊥) → labels_of nodes (end_state q) ≡ None → (w : List Link) → IsRoute d q w → ⊥
     ended none =
         no_route d q (labels_of nodes) before.settled (nothing_left d q asked.links asked.listed known nodes before.arena before.settled goal goal_there labels keys before.labelled before.left asked.bounds goal_end before.floor none)
 
-    module _ (i : ℕ) (rest : List Key) (least : IsLeast d q goal labels keys i rest) (node : Node) (is : node ≡ node_of d nodes (label_at labels i)) where
+    module _ (i : ℕ) (rest : List HeapKey) (least : IsLeast d q goal labels keys i rest) (node : Node) (is : node ≡ node_of d nodes (label_at labels i)) where
       reached : IsReached d nodes (CrossesBelow d q nodes (links_of d) (length nodes)) (label_at labels goal.at).rank (lift goal i) (state_at d i) (label_at labels i)
       reached =
           popped d q asked.links asked.listed known nodes before.arena before.settled goal goal_there labels keys before.labelled before.left asked.bounds goal_end before.floor i rest least
@@ -163,7 +163,7 @@ module _ (d : Database) (q : Request) (legs from to : ℕ) (goal : Goal) (asked 
               | None ↦ λ same. subst (IsRouterOf d) (sym same) known_end
             ] target
 
-        module _ (P : List Link → State → Type 0) (after : List Label) (left : List Key) (are : AreLabels d q (nodes ++ (node ∷ [])) P goal after left) where
+        module _ (P : List Link → State → Type 0) (after : List Label) (left : List HeapKey) (are : AreLabels d q (nodes ++ (node ∷ [])) P goal after left) where
           -- a target of the last leg is the goal
           last_alone : IsRaised d roles after i floor → i / 1024 ≡ goal.at / 1024 → i ≡ goal.at
           last_alone raised same =

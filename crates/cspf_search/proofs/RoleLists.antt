@@ -11,7 +11,7 @@ use Rattle.cspf_search.specs.declared.roles.Role.{Role}
 use Rattle.cspf_search.specs.declared.roles.RoleRows.{RoleRows}
 use Rattle.cspf_search.specs.States.{MayTurn}
 use Rattle.cspf_search.specs.Frontier.{AreListed, AreRoles, IsEnd, IsRole, IsStateIndex, nothing}
-use Rattle.cspf_search.specs.Roles.{AreRolesUpTo, AreRoleRows, AreTargets, AreTargetsOf, IsMarked, IsSpread, StayElsewhere, role_at, router_at}
+use Rattle.cspf_search.specs.Roles.{AreRolesUpTo, AreRoleRows, AreTargets, AreTargetsOf, AreRolesMarked, IsSpread, StayElsewhere, role_at, router_at}
 use Rattle.std.proofs.lemmas.Option.{slice_get_past}
 use Rattle.cspf_search.proofs.Ranks.{one_place, same_or_not}
 
@@ -51,10 +51,10 @@ stays_set rows old now place role within stays = record {
 
 -- one target more
 pub one_marked : (rows : RoleRows) (front : List ℕ) (place : ℕ) (own : Bool) (from : ℕ) (old now : List Role) (role : Role) → AreRoleRows rows old → place < rows.count
-    → IsMarked rows front own from old now
+    → AreRolesMarked rows front own from old now
     → (IsTrue role.enter ↔ (IsTrue (role_at now (rows.first + place)).enter ⊎ IsTrue (role_at now (rows.last + place)).enter))
     → (IsTrue role.target ↔ (IsTrue (role_at now (rows.first + place)).target ⊎ ((own ≡ true) × (IsTrue (role_at now (rows.last + place)).enter ⊎ IsTrue (nat_eq place from)))))
-    → IsMarked rows (front ++ place ∷ []) own from old (set now (rows.first + place) role)
+    → AreRolesMarked rows (front ++ place ∷ []) own from old (set now (rows.first + place) role)
 one_marked rows front place own from old now role are within marked enter target =
     let new = set now (rows.first + place) role in
     let there : role_at new (rows.first + place) ≡ role = get_or-set_same now (rows.first + place) role nothing (omega (arith, within, are.few, are.apart, are.within, marked.elsewhere.many)) in
@@ -86,7 +86,7 @@ and_is false b = (λ on. absurd (false≢true on), λ both. absurd (false≢true
 module _ (d : Database) (q : Request) (listed : AreListed d) (leg from : ℕ) (within : leg < length q.hops) (start : IsEnd d q.from from) (rows : RoleRows) (first : rows.first ≡ leg * 1024)
     (last : rows.last ≡ length q.hops * 1024) (count : rows.count ≡ length (router_list d)) (before own : List ℕ) (are_before : AreTargetsOf d q leg before) (are_own : AreTargetsOf d q (leg + 1) own)
     (loose : Bool) (is_loose : IsTrue loose ↔ IsLoose (slice_get q.hops leg)) (old spread some new : List Role) (known : AreRolesUpTo d q leg old) (spreads : IsSpread rows loose old spread)
-    (many : length old ≡ (length q.hops + 1) * 1024) (marks : IsMarked rows before false from spread some) (marks_own : IsMarked rows own true from some new) where
+    (many : length old ≡ (length q.hops + 1) * 1024) (marks : AreRolesMarked rows before false from spread some) (marks_own : AreRolesMarked rows own true from some new) where
   next : suc leg ≡ leg + 1
   next = omega arith
 

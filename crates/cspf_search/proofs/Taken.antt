@@ -18,7 +18,7 @@ use Rattle.cspf_search.specs.States.{State, MayEnter, MayTurn}
 use Rattle.cspf_search.specs.Arena.{walk_at, walks, walk_of, state_of, index_of, AreNodes, IsNext}
 use Rattle.cspf_search.specs.Rounds.{CrossesBy, Turns, CrossesBelow}
 use Rattle.cspf_search.specs.Source.{IsEdge, IsSource}
-use Rattle.cspf_search.specs.Frontier.{state_at, IsStateIndex, AreListed, nowhere, node_by, node_of, rank_of, IsNodeAt, IsEnd, NodeMayLeave, IsOffer, AreTied, StaysAt, GoesTo, Key, label_at, lift, AreLabels, IsRole, CrossesUpTo}
+use Rattle.cspf_search.specs.Frontier.{state_at, IsStateIndex, AreListed, nowhere, node_by, node_of, rank_of, IsNodeAt, IsEnd, NodeMayLeave, IsOffer, AreTied, StaysAt, GoesTo, HeapKey, label_at, lift, AreLabels, IsRole, CrossesUpTo}
 use Rattle.cspf_search.proofs.Ranks.{lift_small}
 use Rattle.cspf_search.proofs.Backs.{turned_next, by_next}
 use Rattle.cspf_search.proofs.Offered.{labels_stay, labels_offered, labels_same, lost_by_rank, tied_label, left_open, IsLost}
@@ -42,7 +42,7 @@ end_of_row d ends links within each i l end h is at =
 pub few_rows : (d : Database) → AreListed d → (place : ℕ) → length (links_from_index d place) ≤ 16384
 few_rows d listed place = omega (arith, listed.room, filter_short (λ l. nat_eq l.from (slice_index (router_list d) place)) (links_of d))
 
-module _ (source : Source) (of : IsSource source) (labels : List Label) (keys : List Key) where
+module _ (source : Source) (of : IsSource source) (labels : List Label) (keys : List HeapKey) where
   abbrev pub d : Database
   d = source.query.table.now
 
@@ -99,7 +99,7 @@ module _ (source : Source) (of : IsSource source) (labels : List Label) (keys : 
         → ((w : List Link) (t : State) → R w t → P w t ⊎ Q w t) → AreLabels d q nodes P goal labels keys → (i : ℕ) → IsStateIndex d q i → goal.floor ≤ i → (x : List Link)
         → ((w : List Link) (t : State) → Q w t → (t ≡ state_at d i) × (w ≡ x)) → state_of (node_by at (slice_index_or nodes at nowhere) by) ≡ state_at d i
         → walk_of nodes (node_by at (slice_index_or nodes at nowhere) by) ≡ x → label.rank ≤ (label_at labels i).rank → (index_of nodes (state_at d i) ≡ None → Q x (state_at d i))
-        → (key : ℕ) (new : List Label) (new_keys : List Key) → key ≡ label.rank + lift goal i
+        → (key : ℕ) (new : List Label) (new_keys : List HeapKey) → key ≡ label.rank + lift goal i
         → StaysAt d nodes i label labels new keys new_keys ⊎ GoesTo d nodes i label key labels new keys new_keys → AreLabels d q nodes R goal new new_keys
     label_taken P Q R from_left from_right cases before i index low x only state_is walk le passes key new new_keys is_key choice =
         let left = left_open d nodes P (label_at labels goal.at).rank (lift goal i) (state_at d i) (label_at labels i) (before.each i index low) (omega (arith, le, rank)) in
@@ -143,7 +143,7 @@ module _ (source : Source) (of : IsSource source) (labels : List Label) (keys : 
           label_tied label None parent place past turned rank (CrossesBelow d q nodes (links_of d) at) before (state + 1024) (turn_index d q nodes at state is h) (omega (arith, open_leg)) tie
 
       pub turn_taken : state / 1024 < length q.hops → MayTurn d q (state / 1024 + 1) (slice_index (router_list d) (state % 1024))
-          → label.rank ≤ (label_at labels (state + 1024)).rank → (key : ℕ) (new : List Label) (new_keys : List Key) → key ≡ label.rank + lift goal (state + 1024)
+          → label.rank ≤ (label_at labels (state + 1024)).rank → (key : ℕ) (new : List Label) (new_keys : List HeapKey) → key ≡ label.rank + lift goal (state + 1024)
           → StaysAt d nodes (state + 1024) label labels new keys new_keys ⊎ GoesTo d nodes (state + 1024) label key labels new keys new_keys
           → AreLabels d q nodes (CrossesUpTo d q nodes at (state % 1024) 0) goal new new_keys
       turn_taken h target le key new new_keys is_key choice =
@@ -223,7 +223,7 @@ module _ (source : Source) (of : IsSource source) (labels : List Label) (keys : 
           (link_index d q nodes at state is row l here end ends listed.few) (omega (arith, open_leg, before.whole)) tie
 
       pub link_taken : IsUsable d q l → NodeMayLeave d nodes at state → MayEnter d q (state / 1024 + 1) l.to → label.rank ≤ (label_at labels (state - state % 1024 + end)).rank
-          → (key : ℕ) (new : List Label) (new_keys : List Key) → key ≡ label.rank + lift goal (state - state % 1024 + end)
+          → (key : ℕ) (new : List Label) (new_keys : List HeapKey) → key ≡ label.rank + lift goal (state - state % 1024 + end)
           → StaysAt d nodes (state - state % 1024 + end) label labels new keys new_keys ⊎ GoesTo d nodes (state - state % 1024 + end) label key labels new keys new_keys
           → AreLabels d q nodes (CrossesUpTo d q nodes at (state % 1024) (row + 1)) goal new new_keys
       link_taken usable leaves enters le key new new_keys is_key choice =

@@ -33,7 +33,7 @@ pub record AreBounds (d : Database) (q : Request) (bounds : List ℕ) : Type 0 w
 
 -- The bound of each router from a leg on, as far as an edge, where these are the bounds of its targets
 -- behind it: so it is for the lower of the two.
-pub record IsLeg (d : Database) (q : Request) (leg : ℕ) (near : List ℕ) (edge : ℕ) (ahead : List ℕ) : Type 0 where
+pub record IsLegBound (d : Database) (q : Request) (leg : ℕ) (near : List ℕ) (edge : ℕ) (ahead : List ℕ) : Type 0 where
   pub links : (u w : ℕ) (l : Link) → LeadsOn d q l → MayEnter d q (leg + 1) l.to → IsEnd d l.from u → IsEnd d l.to w
       → IsWithin (min (bound_at near u) edge) (min (bound_at near w) edge) l.metric
   pub targets : (p : ℕ) → p < length (router_list d)

@@ -31,7 +31,7 @@ pub record AreForwardStars (d : Database) (nodes : List Node) (stars : List Forw
       → IsForwardStar d (state_of (slice_index_or nodes i nowhere)) (slice_index_or stars i e)
 
 -- the states where a node stands are marked, and no others
-pub record AreMarks (d : Database) (q : Request) (nodes : List Node) (marks : List Bool) : Type 0 where
+pub record AreStateMarks (d : Database) (q : Request) (nodes : List Node) (marks : List Bool) : Type 0 where
   pub many : length marks ≡ (length q.hops + 1) * MOST_ROUTERS
   pub each : (i : ℕ) (e : Bool) → IsStateIndex d q i
       → slice_index_or marks i e ≡ is_some (index_of nodes (state_at d i))

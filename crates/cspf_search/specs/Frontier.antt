@@ -127,13 +127,13 @@ pub data IsLabel (d : Database) (nodes : List Node) (P : List Link → State →
       → ((w : List Link) → P w t → IsBeyond cap ahead w) → IsLabel d nodes P cap ahead t label
 
 -- a rank with its lift, and the index of a state: a heap gives the least first
-abbrev pub Key : Type 0
-Key = Reverse (ℕ × ℕ)
+abbrev pub HeapKey : Type 0
+HeapKey = Reverse (ℕ × ℕ)
 
-abbrev pub key_cmp : Key → Key → Ordering
-key_cmp x y = ordering_then (nat_cmp y.0.0 x.0.0) (nat_cmp y.0.1 x.0.1)
+abbrev pub heap_key_cmp : HeapKey → HeapKey → Ordering
+heap_key_cmp x y = ordering_then (nat_cmp y.0.0 x.0.0) (nat_cmp y.0.1 x.0.1)
 
-abbrev pub key_at : ℕ → ℕ → Key
+abbrev pub key_at : ℕ → ℕ → HeapKey
 key_at key i = record { 0 = (key, i) }
 
 -- the label for the indexes past the end of a list
@@ -156,20 +156,20 @@ pub record IsRaised (d : Database) (roles : List Role) (labels : List Label) (at
   pub settled : AreTargetsSettled d roles labels at
 
 -- what a key of a state asks
-pub record IsKey (d : Database) (q : Request) (goal : Goal) (key : Key) : Type 0 where
+pub record IsKey (d : Database) (q : Request) (goal : Goal) (key : HeapKey) : Type 0 where
   pub some : lift goal key.0.1 < key.0.0
   pub most : key.0.0 < no_rank
   pub index : IsStateIndex d q key.0.1
 
 -- a key that the heap gives is still its state's, in a leg that isn't closed
-pub record IsLive (goal : Goal) (labels : List Label) (key : Key) : Type 0 where
+pub record IsLive (goal : Goal) (labels : List Label) (key : HeapKey) : Type 0 where
   pub behind : goal.floor ≤ key.0.1
   pub same : (label_at labels key.0.1).rank + lift goal key.0.1 ≡ key.0.0
 
 -- Labels of the states behind the closed legs for what crosses, and a key for each state of them that
 -- is reached.
 pub record AreLabels (d : Database) (q : Request) (nodes : List Node)
-    (P : List Link → State → Type 0) (goal : Goal) (labels : List Label) (keys : List Key)
+    (P : List Link → State → Type 0) (goal : Goal) (labels : List Label) (keys : List HeapKey)
     : Type 0 where
   pub small : (i : ℕ) → slice_index_or goal.bounds.now i 0 < 2 ^ 32
   pub bounds : length goal.bounds.now ≡ (length q.hops + 1) * MOST_ROUTERS
@@ -178,7 +178,7 @@ pub record AreLabels (d : Database) (q : Request) (nodes : List Node)
   pub each : (i : ℕ) → IsStateIndex d q i → goal.floor ≤ i
       → IsLabel d nodes P (label_at labels goal.at).rank (lift goal i) (state_at d i)
       (label_at labels i)
-  pub ordered : IsHeap key_cmp keys
+  pub ordered : IsHeap heap_key_cmp keys
   pub keyed : All (IsKey d q goal) keys
   pub waiting : (i : ℕ) → IsStateIndex d q i → goal.floor ≤ i → 0 < (label_at labels i).rank
       → (label_at labels i).rank < no_rank
@@ -219,37 +219,37 @@ pub record AreTied (d : Database) (nodes : List Node) (old label : Label) : Type
   pub links : (node_of d nodes old).links ≡ (node_of d nodes label).links
 
 -- one key more
-pub record Gains (key : Key) (old new : List Key) : Type 0 where
-  pub kept : IsHeap key_cmp old → IsHeap key_cmp new
+pub record Gains (key : HeapKey) (old new : List HeapKey) : Type 0 where
+  pub kept : IsHeap heap_key_cmp old → IsHeap heap_key_cmp new
   pub moved : IsPermutation (key ∷ old) new
 
 -- a key is no less than a rank with its lift and the index of a state
-abbrev pub IsUpTo : ℕ → ℕ → Key → Type 0
+abbrev pub IsUpTo : ℕ → ℕ → HeapKey → Type 0
 IsUpTo rank i key = (rank < key.0.0) ⊎ ((rank ≡ key.0.0) × (i ≤ key.0.1))
 
 -- The least key of a state that is still open: what comes out of a heap up to it has no use.
 pub record IsLeast (d : Database) (q : Request) (goal : Goal) (labels : List Label)
-    (old : List Key) (i : ℕ) (new : List Key) : Type 0 where
+    (old : List HeapKey) (i : ℕ) (new : List HeapKey) : Type 0 where
   pub index : IsStateIndex d q i
   pub behind : goal.floor ≤ i
   pub some : 0 < (label_at labels i).rank
   pub most : (label_at labels i).rank < no_rank
-  pub ordered : IsHeap key_cmp new
+  pub ordered : IsHeap heap_key_cmp new
   pub keyed : All (IsKey d q goal) new
-  pub first : (key : Key) → Contains old key → IsLive goal labels key
+  pub first : (key : HeapKey) → Contains old key → IsLive goal labels key
       → IsUpTo ((label_at labels i).rank + lift goal i) i key
-  pub others : (key : Key) → Contains old key → IsLive goal labels key
+  pub others : (key : HeapKey) → Contains old key → IsLive goal labels key
       → (key.0.1 ≡ i) ⊎ Contains new key
 
 -- the keys of states in legs that aren't closed are kept, and there are no others than before
-pub record IsOpenOf (floor : ℕ) (old new : List Key) : Type 0 where
-  pub ordered : IsHeap key_cmp new
-  pub kept : (key : Key) → Contains old key → floor ≤ key.0.1 → Contains new key
-  pub only : (key : Key) → Contains new key → Contains old key
+pub record IsOpenOf (floor : ℕ) (old new : List HeapKey) : Type 0 where
+  pub ordered : IsHeap heap_key_cmp new
+  pub kept : (key : HeapKey) → Contains old key → floor ≤ key.0.1 → Contains new key
+  pub only : (key : HeapKey) → Contains new key → Contains old key
 
 -- the label that a state has stays, since that which is offered ties in rank and is not before it
 pub record StaysAt (d : Database) (nodes : List Node) (i : ℕ) (label : Label)
-    (old new : List Label) (old_keys new_keys : List Key) : Type 0 where
+    (old new : List Label) (old_keys new_keys : List HeapKey) : Type 0 where
   pub tie : label.rank ≡ (label_at old i).rank
   pub first : is_gt (locals_cmp (walk_of nodes (node_of d nodes (label_at old i)))
       (walk_of nodes (node_of d nodes label))) ≡ false
@@ -258,7 +258,7 @@ pub record StaysAt (d : Database) (nodes : List Node) (i : ℕ) (label : Label)
 
 -- it gets the label that is offered
 pub record GoesTo (d : Database) (nodes : List Node) (i : ℕ) (label : Label) (key : ℕ)
-    (old new : List Label) (old_keys new_keys : List Key) : Type 0 where
+    (old new : List Label) (old_keys new_keys : List HeapKey) : Type 0 where
   pub first : label.rank ≡ (label_at old i).rank
       → is_gt (locals_cmp (walk_of nodes (node_of d nodes (label_at old i)))
       (walk_of nodes (node_of d nodes label))) ≡ true

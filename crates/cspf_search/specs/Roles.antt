@@ -57,7 +57,7 @@ pub record IsSpread (rows : RoleRows) (loose : Bool) (old new : List Role) : Typ
 
 -- Besides, a link may lead to each of some routers where it may in the last leg, and where these are the
 -- targets of the leg, a route may turn there if it may enter there in the last leg or begins there.
-pub record IsMarked (rows : RoleRows) (places : List ℕ) (own : Bool) (from : ℕ) (old new : List Role) : Type 0 where
+pub record AreRolesMarked (rows : RoleRows) (places : List ℕ) (own : Bool) (from : ℕ) (old new : List Role) : Type 0 where
   pub enter : (p : ℕ) → p < rows.count → IsTrue (role_at new (rows.first + p)).enter
       ↔ (IsTrue (role_at old (rows.first + p)).enter
       ⊎ (Contains places p × IsTrue (role_at old (rows.last + p)).enter))

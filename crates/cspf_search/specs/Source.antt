@@ -6,7 +6,7 @@ use Rattle.cspf_search.specs.declared.edge.Edge.{Edge}
 use Rattle.cspf_search.specs.declared.frontier.Source.{Source}
 use Rattle.cspf_search.specs.declared.labels.Label.{Label}
 use Rattle.cspf_search.specs.Arena.{AreNodes}
-use Rattle.cspf_search.specs.Frontier.{AreLabels, IsEnd, IsNodeAt, IsStateIndex, Key, nowhere, rank_of}
+use Rattle.cspf_search.specs.Frontier.{AreLabels, IsEnd, IsNodeAt, IsStateIndex, HeapKey, nowhere, rank_of}
 use Rattle.cspf_search.specs.Query.{IsQuery, CrossesBefore, CrossesToRow}
 
 -- the node at an index, with its state behind the closed legs and its rank
@@ -25,13 +25,13 @@ pub record IsEdge (d : Database) (place : ℕ) (edge : Edge) : Type 0 where
   pub reverse : IsReverseAt d edge.link.now edge.reverse
 
 -- labels for what leads on from the nodes before a source
-abbrev pub AreBefore : Source → List Label → List Key → Type 0
+abbrev pub AreBefore : Source → List Label → List HeapKey → Type 0
 AreBefore source labels keys =
     AreLabels source.query.table.now source.query.request.now source.nodes.now (CrossesBefore source.query source.nodes.now source.at)
     source.goal labels keys
 
 -- labels for that, and for the turn from the source and the links before a row
-abbrev pub AreUpToRow : Source → ℕ → List Label → List Key → Type 0
+abbrev pub AreUpToRow : Source → ℕ → List Label → List HeapKey → Type 0
 AreUpToRow source row labels keys =
     AreLabels source.query.table.now source.query.request.now source.nodes.now
     (CrossesToRow source.query source.nodes.now source.at source.state row) source.goal labels keys

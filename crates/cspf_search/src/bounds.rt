@@ -2,7 +2,7 @@ ghost use Rattle.std.specs.Prelude.{◌≡◌, ◌≢◌, ◌+◌, ◌*◌, ◌<
 ghost use Rattle.cspf_search.specs.Query.{IsQuery};
 ghost use Rattle.cspf_search.specs.Frontier.{IsEnd};
 ghost use Rattle.cspf_search.specs.Roles.{AreTargetsOf};
-ghost use Rattle.cspf_search.specs.Bounds.{ArePassed, AreReached, AreBounds, Falls, IsLeg, IsLower, IsPassed, IsRing, IsDeadEnd, bound_at, is_done};
+ghost use Rattle.cspf_search.specs.Bounds.{ArePassed, AreReached, AreBounds, Falls, IsLegBound, IsLower, IsPassed, IsRing, IsDeadEnd, bound_at, is_done};
 ghost use Rattle.cspf_db.specs.Index.{links_of, router_list};
 ghost use Rattle.cspf_db.specs.declared.limits.TheConstants.{NO_LINK};
 
@@ -242,7 +242,7 @@ fn leg_edge(
     requires to { IsEnd query.table.now query.request.now.to to }
     requires leg { leg_index ≤ length query.request.now.hops }
     ensures { IfOk result (λ edge.
-        IsLeg query.entry.table.now query.entry.request.now leg_index ring.new.near.items edge ahead.now) }
+        IsLegBound query.entry.table.now query.entry.request.now leg_index ring.new.near.items edge ahead.now) }
 {
     search_back(query, to, leg_index, ahead, ring)?;
     Ok(ring.edge(query.table.routers().len()))

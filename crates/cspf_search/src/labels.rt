@@ -3,7 +3,7 @@ ghost use Rattle.std.specs.Prelude.{◌≡◌, ◌+◌, ◌*◌, ◌<◌, ◌≤
 ghost use Rattle.std.specs.BinaryHeap.{IsHeap, heap_items, heap_len};
 ghost use Rattle.cspf_db.specs.Index.{router_list};
 ghost use Rattle.cspf_search.specs.Arena.{AreNodes};
-ghost use Rattle.cspf_search.specs.Frontier.{lift, node_of, key_at, key_cmp, Gains, IsKey, IsLeast, IsLive, IsOpenOf, Key};
+ghost use Rattle.cspf_search.specs.Frontier.{lift, node_of, key_at, heap_key_cmp, Gains, IsKey, IsLeast, IsLive, IsOpenOf, HeapKey};
 
 use crate::arena::Node;
 use crate::goal::{Goal, lift};
@@ -114,12 +114,12 @@ pub(crate) fn least(
 ) -> Option<usize>
     requires many { length labels.now ≡ (length request.now.hops + 1) * MOST_ROUTERS }
     requires bounds { length goal.bounds.now ≡ (length request.now.hops + 1) * MOST_ROUTERS }
-    requires ordered { IsHeap key_cmp (heap_items heap.old) }
+    requires ordered { IsHeap heap_key_cmp (heap_items heap.old) }
     requires keyed { All (IsKey table.now request.now goal) (heap_items heap.old) }
     ensures some { IfSome result (λ at. IsLeast table.now request.now goal.entry labels.now
         (heap_items heap.old) at (heap_items heap.new)) }
     ensures fewer { IfSome result (λ _. heap_len heap.new < heap_len heap.old) }
-    ensures none { IfNone result ((key : Key) → Contains (heap_items heap.old) key
+    ensures none { IfNone result ((key : HeapKey) → Contains (heap_items heap.old) key
         → ¬ IsLive goal.entry labels.now key) }
 {
     while let Some(Reverse((key, at))) = heap.pop() {

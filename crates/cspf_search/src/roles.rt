@@ -3,7 +3,7 @@ ghost use Rattle.cspf_db.specs.Index.{router_list};
 ghost use Rattle.cspf_model.specs.Targets.{IsLoose};
 ghost use Rattle.cspf_search.specs.Frontier.{AreListed, AreTargetsSettled, IsEnd, IsRaised, IsRole, AreRoles};
 ghost use Rattle.cspf_search.specs.Query.{IsQuery};
-ghost use Rattle.cspf_search.specs.Roles.{AreRolesUpTo, AreRoleRows, AreTargets, AreTargetsOf, IsMarked, IsSpread};
+ghost use Rattle.cspf_search.specs.Roles.{AreRolesUpTo, AreRoleRows, AreTargets, AreTargetsOf, AreRolesMarked, IsSpread};
 
 use crate::labels::Label;
 use crate::query::Query;
@@ -115,7 +115,7 @@ fn with_more(old: Role, stands: bool, own: bool, begins: bool) -> Role
 fn mark(roles: &mut [Role], rows: RoleRows, places: &[u16], own: bool, from: usize)
     requires rows { AreRoleRows rows roles.old }
     requires places { All (λ place. place < rows.count) places.now }
-    ensures { IsMarked rows places.now own from roles.old roles.new }
+    ensures { AreRolesMarked rows places.now own from roles.old roles.new }
 {
     for place in places {
         let at = usize::from(*place);

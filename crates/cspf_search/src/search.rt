@@ -10,7 +10,7 @@ ghost use Rattle.cspf_model.specs.Outcome.{answer_of};
 ghost use Rattle.cspf_search.specs.States.{end_state};
 ghost use Rattle.cspf_search.specs.Arena.{AreNodes, labels_of, root_of, walk_at, walks};
 ghost use Rattle.cspf_db.specs.Index.{links_of};
-ghost use Rattle.cspf_search.specs.Frontier.{AreListed, IsEnd, IsOpenOf, IsRaised, key_cmp};
+ghost use Rattle.cspf_search.specs.Frontier.{AreListed, IsEnd, IsOpenOf, IsRaised, heap_key_cmp};
 ghost use Rattle.std.specs.BinaryHeap.{IsHeap, heap_items, heap_len};
 ghost use Rattle.cspf_search.specs.Query.{IsQuery, CrossesBefore};
 ghost use Rattle.cspf_model.specs.RouteLinks.{AreLinked};
@@ -138,7 +138,7 @@ fn close(
     requires query { IsQuery query }
     requires within { at < length query.roles.now }
     requires many { length labels.now ≡ length query.roles.now }
-    requires ordered { IsHeap key_cmp (heap_items heap.old) }
+    requires ordered { IsHeap heap_key_cmp (heap_items heap.old) }
     ensures floor { IfOk result (λ next. (next ≡ floor)
         ⊎ IsRaised query.entry.table.now query.entry.roles.now labels.now at next) }
     ensures left { IfOk result (λ next. IsOpenOf next (heap_items heap.old) (heap_items heap.new)) }

@@ -4,26 +4,25 @@ use Rattle.std.proofs.KnownBytes.{Appends-trans}
 use Rattle.std.proofs.lemmas.List.{length-map}
 use Rattle.std.specs.Io.KnownBytes.{Appends}
 use Rattle.cspf_model.specs.declared.request.Request.{Request}
-use Rattle.cspf_model.specs.Numbered.{NumberedChanges}
+use Rattle.cspf_model.specs.Numbered.{NumberedChanges, AreNumberedFrom}
 use Rattle.cspf_model.specs.Database.{Database}
 use Rattle.cspf_model.specs.Changes.{database_after, AreLawful}
 use Rattle.cspf_rows.specs.declared.row.Row.{Row}
 use Rattle.cspf_rows.specs.declared.row.Row.TheVariants as row
 use Rattle.cspf_rows.specs.declared.row_error.RowError.{RowError}
 use Rattle.cspf_rows.specs.Rows.{row_of}
-use Rattle.cspf_rows.specs.Journal.{AreNumberedFrom}
-use Rattle.cspf_rows.specs.Records.{rows_of}
+use Rattle.cspf_rows.specs.Records.{rows_of, Records}
 use Rattle.cspf_serve.specs.declared.line.Line.{Line}
 use Rattle.cspf_serve.specs.declared.streams.early_end.EarlyEnd.{EarlyEnd}
 use Rattle.cspf_serve.specs.declared.streams.early_end.EarlyEnd.TheVariants as early_end
 use Rattle.cspf_serve.specs.declared.streams.error.RunError.{RunError}
 use Rattle.cspf_serve.specs.declared.solve.summary.Summary.{Summary}
-use Rattle.cspf_serve.specs.Script.{IsRun}
-use Rattle.cspf_serve.specs.BatchRun.{Records, AreReplies, AreAccepted, IsOneUnfit, version_lines, AreBatchesOf, AreRequestsOf, IsBatchRun}
+use Rattle.cspf_serve.specs.Script.{IsSolveRun}
+use Rattle.cspf_serve.specs.BatchRun.{AreReplies, AreAccepted, IsOneUnfit, version_lines, AreBatchesOf, AreRequestsOf, IsBatchRun}
 use Rattle.cspf_serve.specs.BatchLaws.{IsCleanJournal, AreLinesOfAScript}
 use Rattle.cspf_serve.specs.LineTexts.{line_text}
 use Rattle.cspf_serve.specs.EarlyEnds.{IfRefused, IfFailed, Writes, WritesAllBut, IsRefusalWritten, IsLastError}
-use Rattle.cspf_serve.specs.PublishedBatches.{IsUnfitBehind, ArePublished}
+use Rattle.cspf_serve.specs.PublishedBatches.{IsUnfitBehind, ArePublishedOrRefused}
 use Rattle.cspf_serve.specs.RunFaults.{IsStreamFault, IsAnsweringFault, IsStrayInBatchRun, IsBatchFault}
 
 -- what holds of the line that refuses
@@ -93,12 +92,12 @@ IsRefusedRun accept_torn kept asked line old new =
 -- what is said of a journal that was read
 abbrev pub IsPublished : Bool → Option (List ℕ) → List NumberedChanges → Option Line → Type 0
 IsPublished accept_torn kept published unfit =
-    IfSome kept (λ bytes. (batches : List NumberedChanges) × AreBatchesOf accept_torn (rows_of bytes) batches × ArePublished batches published unfit)
+    IfSome kept (λ bytes. (batches : List NumberedChanges) × AreBatchesOf accept_torn (rows_of bytes) batches × ArePublishedOrRefused batches published unfit)
 
 module _ (accept_torn : Bool) (kept asked : Option (List ℕ)) (published : List NumberedChanges) (unfit : Option Line) (qs : List Request)
     (old new : Option (List ℕ)) (read : IsPublished accept_torn kept published unfit) (of_rows : IfSome asked (λ bytes. AreRequestsOf (rows_of bytes) qs)) where
   accepted_run : (kept asked : Option (List ℕ)) → IsPublished accept_torn kept published unfit → IfSome asked (λ bytes. AreRequestsOf (rows_of bytes) qs)
-      → ((batches : List NumberedChanges) → ArePublished batches published unfit → Writes old new (AreAccepted batches qs)) → IsWrittenRun accept_torn kept asked 0 old new
+      → ((batches : List NumberedChanges) → ArePublishedOrRefused batches published unfit → Writes old new (AreAccepted batches qs)) → IsWrittenRun accept_torn kept asked 0 old new
   accepted_run None asked read of_rows accepted = tt
   accepted_run (Some journal) None read of_rows accepted = tt
   accepted_run (Some journal) (Some requests) read of_rows accepted =
@@ -106,7 +105,7 @@ module _ (accept_torn : Bool) (kept asked : Option (List ℕ)) (published : List
       (is.0, inr (read.0, read.1, inr (qs, of_rows, inl (is.1, refl))), is.2)
 
   unfit_run : (kept asked : Option (List ℕ)) (line : List ℕ) → IsPublished accept_torn kept published unfit → IfSome asked (λ bytes. AreRequestsOf (rows_of bytes) qs)
-      → ((batches : List NumberedChanges) → ArePublished batches published unfit → WritesAllBut line old new (IsOneUnfit batches)) → IsRefusedRun accept_torn kept asked line old new
+      → ((batches : List NumberedChanges) → ArePublishedOrRefused batches published unfit → WritesAllBut line old new (IsOneUnfit batches)) → IsRefusedRun accept_torn kept asked line old new
   unfit_run None asked line read of_rows refused = tt
   unfit_run (Some journal) None line read of_rows refused = tt
   unfit_run (Some journal) (Some requests) line read of_rows refused =
@@ -114,14 +113,14 @@ module _ (accept_torn : Bool) (kept asked : Option (List ℕ)) (published : List
       (is.0, inr (read.0, read.1, inr (qs, of_rows, inr (is.1, refl))), is.2)
 
   -- all is accepted
-  pub batch_ran : (r : Result (Unit {0}) EarlyEnd) → OnOk r ((batches : List NumberedChanges) → ArePublished batches published unfit → Writes old new (AreAccepted batches qs))
+  pub batch_ran : (r : Result (Unit {0}) EarlyEnd) → OnOk r ((batches : List NumberedChanges) → ArePublishedOrRefused batches published unfit → Writes old new (AreAccepted batches qs))
       → OnOk r (IsWrittenRun accept_torn kept asked 0 old new)
   batch_ran (Err end) accepted = tt
   batch_ran (Ok done) accepted = accepted_run kept asked read of_rows accepted
 
   -- a batch doesn't fit
   pub batch_refused : (r : Result (Unit {0}) EarlyEnd)
-      → IfErr r (λ end. IfRefused end (λ line. (batches : List NumberedChanges) → ArePublished batches published unfit → WritesAllBut line old new (IsOneUnfit batches)))
+      → IfErr r (λ end. IfRefused end (λ line. (batches : List NumberedChanges) → ArePublishedOrRefused batches published unfit → WritesAllBut line old new (IsOneUnfit batches)))
       → IfErr r (λ end. IfRefused end (λ line. IsRefusedRun accept_torn kept asked line old new))
   batch_refused (Ok done) refused = tt
   batch_refused (Err (early_end.Failed error)) refused = tt
@@ -129,7 +128,7 @@ module _ (accept_torn : Bool) (kept asked : Option (List ℕ)) (published : List
 
   -- a request is answered at a version above the number of the batches
   pub stray_in_run : (kept asked : Option (List ℕ)) (index version : ℕ) → IsPublished accept_torn kept published unfit → IfSome asked (λ bytes. AreRequestsOf (rows_of bytes) qs)
-      → index < length qs → ((batches : List NumberedChanges) → ArePublished batches published unfit → length batches < version)
+      → index < length qs → ((batches : List NumberedChanges) → ArePublishedOrRefused batches published unfit → length batches < version)
       → IsStrayInBatchRun accept_torn kept asked index version
   stray_in_run None None index version read of_rows within above = (tt, tt)
   stray_in_run None (Some requests) index version read of_rows within above = (rows_asked (rows_of requests) qs index of_rows within, tt)
@@ -139,7 +138,7 @@ module _ (accept_torn : Bool) (kept asked : Option (List ℕ)) (published : List
 
   -- the answers end the run
   pub run_ended : (e : RunError) → IsStreamFault e ⊎ IsAnsweringFault (λ index version. (index < length qs)
-      × ((batches : List NumberedChanges) → ArePublished batches published unfit → length batches < version)) e → IsBatchFault accept_torn kept asked e
+      × ((batches : List NumberedChanges) → ArePublishedOrRefused batches published unfit → length batches < version)) e → IsBatchFault accept_torn kept asked e
   run_ended e (inl fault) = inl fault
   run_ended e (inr (inl gave_up)) = inr (inr (inl gave_up))
   run_ended e (inr (inr stray)) =
@@ -147,7 +146,7 @@ module _ (accept_torn : Bool) (kept asked : Option (List ℕ)) (published : List
 
   pub batch_failed : (r : Result (Unit {0}) EarlyEnd)
       → IfErr r (λ end. IfFailed end (λ e. IsStreamFault e ⊎ IsAnsweringFault (λ index version. (index < length qs)
-      × ((batches : List NumberedChanges) → ArePublished batches published unfit → length batches < version)) e))
+      × ((batches : List NumberedChanges) → ArePublishedOrRefused batches published unfit → length batches < version)) e))
       → IfErr r (λ end. IfFailed end (IsBatchFault accept_torn kept asked))
   batch_failed (Ok done) failed = tt
   batch_failed (Err (early_end.Refused line)) failed = tt
@@ -177,7 +176,7 @@ run_failed accept_torn kept asked (early_end.Failed error) (Err e) failed last =
 -- what is written is the lines of a script
 pub script_written : AreLinesOfAScript → (accept_torn : Bool) (kept asked old new : Option (List ℕ)) → IsWrittenRun accept_torn kept asked 0 old new
     → IfSome kept (λ journal. IfSome asked (λ requests. IsCleanJournal (rows_of journal) → length (rows_of journal ++ rows_of requests) ≤ 1000000
-    → (lines : List ℕ) × (counts : Summary) × IsRun (rows_of journal ++ rows_of requests) lines counts × Appends old new lines))
+    → (lines : List ℕ) × (counts : Summary) × IsSolveRun (rows_of journal ++ rows_of requests) lines counts × Appends old new lines))
 script_written law accept_torn None asked old new run = tt
 script_written law accept_torn (Some journal) None old new run = tt
 script_written law accept_torn (Some journal) (Some requests) old new run = λ clean few.
@@ -188,5 +187,5 @@ script_written law accept_torn (Some journal) (Some requests) old new run = λ c
 pub script_of_run : AreLinesOfAScript → (accept_torn : Bool) (kept asked old new : Option (List ℕ)) (r : Result ℕ RunError)
     → IfOk r (λ status. IsWrittenRun accept_torn kept asked status old new) → r ≡ Ok 0
     → IfSome kept (λ journal. IfSome asked (λ requests. IsCleanJournal (rows_of journal) → length (rows_of journal ++ rows_of requests) ≤ 1000000
-    → (lines : List ℕ) × (counts : Summary) × IsRun (rows_of journal ++ rows_of requests) lines counts × Appends old new lines))
+    → (lines : List ℕ) × (counts : Summary) × IsSolveRun (rows_of journal ++ rows_of requests) lines counts × Appends old new lines))
 script_of_run law accept_torn kept asked old new r ran is = script_written law accept_torn kept asked old new (rw is at ran)

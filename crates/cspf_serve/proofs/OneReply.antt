@@ -8,7 +8,7 @@ use Rattle.cspf_rows.specs.declared.row.Row.TheVariants as row
 use Rattle.cspf_rows.specs.declared.row_error.RowError.{RowError}
 use Rattle.cspf_serve.specs.declared.batch_refusal.BatchRefusal.{BatchRefusal}
 use Rattle.cspf_serve.specs.declared.batch_refusal.BatchRefusal.TheVariants as refusal
-use Rattle.cspf_serve.specs.Script.{RunState, start, at_next_row, current_database, open_batch, IsBatchRefusal, IsEndAnswered, IsRowAnswered, AreAnswered}
+use Rattle.cspf_serve.specs.Script.{RunState, start, at_next_row, current_database, open_batch, IsBatchRefusal, IsEndAnswered, IsRowAnswered, AreRowsAnswered}
 use Rattle.cspf_serve.specs.SolveLaws.{HaveOneReply}
 
 abbrev Rows : Type 0
@@ -57,8 +57,8 @@ answered_once best reply one s (Ok (row.Ask q)) l m t u a b =
     (reply q.id _ b.0 l m (rw same at a.2) b.2, a.3 ∙ sym b.3)
 
 pub all_once : OneBestAnswer → HasOneReplyLine → OneRefusal → (s : RunState) (rows : List (List (List ℕ))) (l m : List ℕ) (t u : RunState)
-    → AreAnswered s rows l t → AreAnswered s rows m u → SameReply l t m u
-unfolding AreAnswered
+    → AreRowsAnswered s rows l t → AreRowsAnswered s rows m u → SameReply l t m u
+unfolding AreRowsAnswered
 all_once best reply one s [] l m t u a b = (a.0 ∙ sym b.0, a.1 ∙ sym b.1)
 all_once best reply one s (fields ∷ rows) l m t u a b =
     let step = answered_once best reply one (at_next_row s) (row_of fields) a.0 b.0 a.1 b.1 a.3 b.3 in
@@ -75,12 +75,12 @@ pub record IsSplit (s : RunState) (xs ys : List (List (List ℕ))) (l : List ℕ
   pub first : List ℕ
   pub mid : RunState
   pub second : List ℕ
-  pub front : AreAnswered s xs first mid
-  pub back : AreAnswered mid ys second t
+  pub front : AreRowsAnswered s xs first mid
+  pub back : AreRowsAnswered mid ys second t
   pub whole : l ≡ first ++ second
 
-pub answered_split : (s : RunState) (xs ys : List (List (List ℕ))) (l : List ℕ) (t : RunState) → AreAnswered s (xs ++ ys) l t → IsSplit s xs ys l t
-unfolding AreAnswered
+pub answered_split : (s : RunState) (xs ys : List (List (List ℕ))) (l : List ℕ) (t : RunState) → AreRowsAnswered s (xs ++ ys) l t → IsSplit s xs ys l t
+unfolding AreRowsAnswered
 answered_split s [] ys l t a = record { first = []; mid = s; second = l; front = (refl, refl); back = a; whole = refl }
 answered_split s (fields ∷ xs) ys l t a =
     let rest = answered_split a.1 xs ys a.2 t a.5 in

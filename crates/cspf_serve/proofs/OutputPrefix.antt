@@ -7,7 +7,7 @@ use Rattle.cspf_ero.specs.ReplyLine.{HasOneReplyLine}
 use Rattle.cspf_rows.specs.Rows.{row_of}
 use Rattle.cspf_serve.specs.declared.solve.summary.Summary.{Summary}
 use Rattle.cspf_serve.specs.declared.solve.error.SolveError.TheVariants as solve_error
-use Rattle.cspf_serve.specs.Script.{RunState, start, at_next_row, IsRowAnswered, AreAnswered, IsRun, is_too_many, last_line}
+use Rattle.cspf_serve.specs.Script.{RunState, start, at_next_row, IsRowAnswered, AreRowsAnswered, IsSolveRun, is_too_many, last_line}
 use Rattle.cspf_serve.specs.OutputAtError.{AreFirstAnswered, IsBegunByRows, IsNextText}
 use Rattle.cspf_serve.specs.SolveLaws.{StopsAtAPrefix}
 use Rattle.cspf_serve.proofs.OneReply.{answered_once, all_once, answered_split}
@@ -32,27 +32,27 @@ pub record IsContinued (done rest : List (List (List ℕ))) (lines whole : List 
   pub second : List ℕ
   pub last : RunState
   pub too_many : Bool
-  pub goes_on : AreAnswered after (take (1000000 - length done) rest) second last
+  pub goes_on : AreRowsAnswered after (take (1000000 - length done) rest) second last
   pub rest_is : too_many ≡ nat_lt 1000000 (length (done ++ rest))
   pub is_whole : whole ≡ (lines ++ second) ++ last_line too_many last.changes
 
 continued : OneBestAnswer → HasOneReplyLine → OneRefusal → (rows done rest : Rows) (lines whole : List ℕ) (after : RunState) (summary : Summary)
-    → AreFirstAnswered rows done rest lines after → IsRun rows whole summary → IsContinued done rest lines whole after
+    → AreFirstAnswered rows done rest lines after → IsSolveRun rows whole summary → IsContinued done rest lines whole after
 continued best reply one rows done rest lines whole after summary first run =
     let parts = answered_split start done (next_rows done rest) run.replies run.after
-    (subst (λ r. AreAnswered start r run.replies run.after) (take_done rows done rest first.split first.few) run.answered) in
+    (subst (λ r. AreRowsAnswered start r run.replies run.after) (take_done rows done rest first.split first.few) run.answered) in
     let same = all_once best reply one start done parts.first lines parts.mid after parts.front first.answered in
     record {
       second = parts.second;
       last = run.after;
       too_many = is_too_many rows;
-      goes_on = subst (λ s. AreAnswered s (next_rows done rest) parts.second run.after) same.1 parts.back;
+      goes_on = subst (λ s. AreRowsAnswered s (next_rows done rest) parts.second run.after) same.1 parts.back;
       rest_is = ap (λ r. nat_lt 1000000 (length r)) first.split;
       is_whole = run.whole ∙ ap (λ r. r ++ last_line (is_too_many rows) run.after.changes) (parts.whole ∙ ap (λ l. l ++ parts.second) same.0);
     }
 
 by_rows_front : OneBestAnswer → HasOneReplyLine → OneRefusal → (rows : Rows) (out lines : List ℕ) (summary : Summary)
-    → IsBegunByRows rows out → IsRun rows lines summary → IsFront out lines
+    → IsBegunByRows rows out → IsSolveRun rows lines summary → IsFront out lines
 by_rows_front best reply one rows out lines summary begun run =
     let c = continued best reply one rows begun.done begun.rest out lines begun.after summary begun.first run in
     (c.second ++ last_line c.too_many c.last.changes, c.is_whole ∙ append_assoc out c.second _)
@@ -73,15 +73,15 @@ take-nil zero = refl
 take-nil (suc n) = refl
 
 -- where no row is read any more the last line comes next
-none_next : (s t : RunState) (rows : Rows) (second : List ℕ) → rows ≡ [] → AreAnswered s rows second t → (second ≡ []) × (t ≡ s)
-unfolding AreAnswered
+none_next : (s t : RunState) (rows : Rows) (second : List ℕ) → rows ≡ [] → AreRowsAnswered s rows second t → (second ≡ []) × (t ≡ s)
+unfolding AreRowsAnswered
 none_next s t rows second none answered = rw none at answered
 
-one_next : (s t : RunState) (rows more : Rows) (fields : List (List ℕ)) (second : List ℕ) → rows ≡ fields ∷ more → AreAnswered s rows second t
+one_next : (s t : RunState) (rows more : Rows) (fields : List (List ℕ)) (second : List ℕ) → rows ≡ fields ∷ more → AreRowsAnswered s rows second t
     → (line : List ℕ) × (next : RunState) × (rest : List ℕ) × IsRowAnswered (at_next_row s) (row_of fields) line next × (second ≡ line ++ rest)
-unfolding AreAnswered
+unfolding AreRowsAnswered
 one_next s t rows more fields second some answered =
-    let a : AreAnswered s (fields ∷ more) second t = rw some at answered in (a.0, a.1, a.2, a.3, a.4)
+    let a : AreRowsAnswered s (fields ∷ more) second t = rw some at answered in (a.0, a.1, a.2, a.3, a.4)
 
 take-cons : (n : ℕ) (x : List (List ℕ)) (xs : Rows) → 0 < n → take n (x ∷ xs) ≡ x ∷ take (n - 1) xs
 take-cons zero x xs some = absurd (omega arith)

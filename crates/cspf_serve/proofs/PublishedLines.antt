@@ -4,7 +4,7 @@ use Rattle.std.proofs.lemmas.Grind.{flat_map-append}
 use Rattle.std.proofs.Math.Seq.{take-suc}
 use Rattle.std.specs.Option.{option_map}
 use Rattle.cspf_model.specs.declared.refusal.Refusal.{Refusal}
-use Rattle.cspf_model.specs.Numbered.{NumberedChanges}
+use Rattle.cspf_model.specs.Numbered.{NumberedChanges, AreNumberedFrom}
 use Rattle.cspf_model.specs.Changes.{database_after}
 use Rattle.cspf_model.specs.Refusals.{IsRefusal}
 use Rattle.cspf_publish.specs.ApplyErrors.{IsApplyError}
@@ -18,17 +18,17 @@ use Rattle.cspf_rows.specs.declared.journal_reader.JournalReader.{JournalReader}
 use Rattle.cspf_rows.specs.declared.read_error.ReadError.{ReadError}
 use Rattle.cspf_rows.specs.declared.read_error.ReadError.TheVariants as read_error
 use Rattle.cspf_rows.specs.GivenBatches.{HasGiven}
-use Rattle.cspf_rows.specs.Journal.{AreNumberedFrom, IsJournal}
-use Rattle.cspf_rows.specs.Records.{rows_of}
+use Rattle.cspf_rows.specs.Journal.{IsJournal}
+use Rattle.cspf_rows.specs.Records.{rows_of, Records}
 use Rattle.cspf_serve.specs.declared.batch_refusal.BatchRefusal.TheVariants as refusal
 use Rattle.cspf_serve.specs.declared.line.Line.{Line}
 use Rattle.cspf_serve.specs.declared.streams.early_end.EarlyEnd.{EarlyEnd}
 use Rattle.cspf_serve.specs.declared.streams.early_end.EarlyEnd.TheVariants as early_end
 use Rattle.cspf_serve.specs.Lines.{version_line, refused_batch_line}
 use Rattle.cspf_serve.specs.LineTexts.{line_text}
-use Rattle.cspf_serve.specs.BatchRun.{Records, version_lines, torn_line, AreBatchesOf, IsJournalRefused}
+use Rattle.cspf_serve.specs.BatchRun.{version_lines, torn_line, AreBatchesOf, IsJournalRefused}
 use Rattle.cspf_serve.specs.EarlyEnds.{IfRefused, IsOwnFaultLine, IsJournalLine}
-use Rattle.cspf_serve.specs.PublishedBatches.{IsUnfitBehind, ArePublished}
+use Rattle.cspf_serve.specs.PublishedBatches.{IsUnfitBehind, ArePublishedOrRefused}
 
 -- the number of the batch at a place
 pub number_at : (first : ℕ) (bs : List NumberedChanges) (i : ℕ) (d : NumberedChanges) → AreNumberedFrom first bs → i < length bs
@@ -97,7 +97,7 @@ unfit_more given published b line is = record {
 
 -- ---- the end of a journal
 
-module _ (accept_torn : Bool) (given published : List NumberedChanges) (unfit : Option Line) (is : ArePublished given published unfit) where
+module _ (accept_torn : Bool) (given published : List NumberedChanges) (unfit : Option Line) (is : ArePublishedOrRefused given published unfit) where
   accepted : (rows : Records) (left : Rest) → (left ≡ rest.Torn → accept_torn ≡ true) → IsJournal rows given left → length rows ≤ 1000000 → AreBatchesOf accept_torn rows given
   accepted rows rest.Clean torn journal few = record { few = few; journal = inl journal }
   accepted rows rest.Torn torn journal few = record { few = few; journal = inr (journal, torn refl) }
@@ -105,7 +105,7 @@ module _ (accept_torn : Bool) (given published : List NumberedChanges) (unfit : 
   -- the batches of a journal that is read
   pub journal_read : (all : Option (List (List (List ℕ)))) (left : Rest) → (left ≡ rest.Torn → accept_torn ≡ true)
       → IfSome all (λ rows. IsJournal rows given left × (length rows ≤ 1000000))
-      → IfSome all (λ rows. (batches : List NumberedChanges) × AreBatchesOf accept_torn rows batches × ArePublished batches published unfit)
+      → IfSome all (λ rows. (batches : List NumberedChanges) × AreBatchesOf accept_torn rows batches × ArePublishedOrRefused batches published unfit)
   journal_read None left torn journal = tt
   journal_read (Some rows) left torn journal = (given, accepted rows left torn journal.0 journal.1, is)
 
@@ -135,11 +135,11 @@ module _ {R : Type 0} (accept_torn : Bool) (rem : R → Option (List ℕ)) (read
   -- what was read of all records, where the bytes are known
   pub read_of_bytes : (published : List NumberedChanges) (r : Result (Option Line) EarlyEnd) → HasGiven rem (option_map rows_of bytes) reader []
       → IfOk r (λ unfit. (all : Option (List (List (List ℕ)))) → HasGiven rem all reader []
-      → IfSome all (λ rows. (batches : List NumberedChanges) × AreBatchesOf accept_torn rows batches × ArePublished batches published unfit))
-      → IfOk r (λ unfit. IfSome bytes (λ text. (batches : List NumberedChanges) × AreBatchesOf accept_torn (rows_of text) batches × ArePublished batches published unfit))
+      → IfSome all (λ rows. (batches : List NumberedChanges) × AreBatchesOf accept_torn rows batches × ArePublishedOrRefused batches published unfit))
+      → IfOk r (λ unfit. IfSome bytes (λ text. (batches : List NumberedChanges) × AreBatchesOf accept_torn (rows_of text) batches × ArePublishedOrRefused batches published unfit))
   read_of_bytes published (Err end) none is = tt
   read_of_bytes published (Ok unfit) none is =
-      of_bytes bytes (λ rows. (batches : List NumberedChanges) × AreBatchesOf accept_torn rows batches × ArePublished batches published unfit)
+      of_bytes bytes (λ rows. (batches : List NumberedChanges) × AreBatchesOf accept_torn rows batches × ArePublishedOrRefused batches published unfit)
       (is (option_map rows_of bytes) none)
 
   pub refused_of_bytes : (r : Result (Option Line) EarlyEnd) → HasGiven rem (option_map rows_of bytes) reader []

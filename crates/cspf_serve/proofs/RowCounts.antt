@@ -6,10 +6,10 @@ use Rattle.cspf_rows.specs.Rows.{row_of}
 use Rattle.cspf_rows.specs.declared.row.Row.{Row}
 use Rattle.cspf_rows.specs.declared.row.Row.TheVariants as row
 use Rattle.cspf_rows.specs.declared.row_error.RowError.{RowError}
-use Rattle.cspf_serve.specs.Script.{RunState, start, at_next_row, after_change_row, after_batch, after_refused_batch, after_refused_row, after_reply, IsRowAnswered, AreAnswered}
+use Rattle.cspf_serve.specs.Script.{RunState, start, at_next_row, after_change_row, after_batch, after_refused_batch, after_refused_row, after_reply, IsRowAnswered, AreRowsAnswered}
 use Rattle.cspf_serve.specs.SolveLaws.{AreWithin}
 use Rattle.cspf_serve.specs.declared.solve.solver.Solver.{Solver}
-use Rattle.cspf_serve.specs.SolverStates.{Keeps, AreFew}
+use Rattle.cspf_serve.specs.SolverStates.{KeepsRun, AreFew}
 
 within_change : (s : RunState) (c : Change) → AreWithin s (after_change_row (at_next_row s) c) 1
 within_change s c = record {
@@ -40,8 +40,8 @@ within_row s t (Ok (row.End number count)) line (inl a) = rw a.2 (within_batch s
 within_row s t (Ok (row.End number count)) line (inr a) = rw a.4 (within_refused_batch s)
 within_row s t (Ok (row.Ask q)) line a = rw a.3 (within_reply s)
 
-within_rows : (s t : RunState) (rows : List (List (List ℕ))) (lines : List ℕ) → AreAnswered s rows lines t → AreWithin s t (length rows)
-unfolding AreAnswered
+within_rows : (s t : RunState) (rows : List (List (List ℕ))) (lines : List ℕ) → AreRowsAnswered s rows lines t → AreWithin s t (length rows)
+unfolding AreRowsAnswered
 within_rows s t [] lines a = rw a.1 (record { rows = omega arith; changes = omega arith; answers = omega arith; refused = omega arith })
 within_rows s t (fields ∷ rows) lines a =
     let first = within_row s a.1 (row_of fields) a.0 a.3 in
@@ -55,7 +55,7 @@ within_rows s t (fields ∷ rows) lines a =
 
 -- what is kept after at most 1,000,000 rows
 pub few_kept : (solver : Solver) (s : RunState) (rows : List (List (List ℕ))) (lines : List ℕ)
-    → AreAnswered start rows lines s → length rows ≤ 1000000 → Keeps solver s → AreFew solver
+    → AreRowsAnswered start rows lines s → length rows ≤ 1000000 → KeepsRun solver s → AreFew solver
 few_kept solver s rows lines answered few kept =
     let w = within_rows start s rows lines answered in
     record {

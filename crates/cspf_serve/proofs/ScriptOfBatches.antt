@@ -2,24 +2,25 @@
 use Rattle.std.proofs.Common.{◌≡◌, ℕ, ◌+◌, ◌<◌, ◌≤◌, ◌⊎◌, true, false, Bool, List, [], ◌∷◌, ◌++◌, map, take, length, length-append, Result, Ok, inl, inr, refl, sym, ap, subst, ◌∙◌, append_assoc, append-nil, arith}
 use Rattle.std.proofs.lemmas.Bool.{le-ltb}
 use Rattle.std.proofs.lemmas.List.{map-append, length-map, take_all}
+use Rattle.cspf_rows.specs.Records.{Records}
 use Rattle.cspf_model.specs.declared.batch.Change.{Change}
 use Rattle.cspf_model.specs.declared.batch.Change.TheVariants as change
 use Rattle.cspf_model.specs.declared.request.Request.{Request}
-use Rattle.cspf_model.specs.Numbered.{NumberedChanges}
+use Rattle.cspf_model.specs.Numbered.{NumberedChanges, AreNumberedFrom}
 use Rattle.cspf_model.specs.Changes.{database_after, after_changes, AreLawfulAfter, Fits}
 use Rattle.cspf_model.specs.Laws.{OneMoreBatch}
 use Rattle.cspf_rows.specs.declared.journal.Rest.TheVariants as rest
 use Rattle.cspf_rows.specs.declared.row.Row.{Row}
 use Rattle.cspf_rows.specs.declared.row.Row.TheVariants as row
 use Rattle.cspf_rows.specs.declared.row_error.RowError.{RowError}
-use Rattle.cspf_rows.specs.Journal.{change_row, batch_rows, journal_rows, AreNumberedFrom, IsJournal}
+use Rattle.cspf_rows.specs.Journal.{change_row, batch_rows, journal_rows, IsJournal}
 use Rattle.cspf_rows.specs.JournalLaws.{IsOneJournal}
 use Rattle.cspf_rows.specs.Requests.{AreRequests}
 use Rattle.cspf_rows.specs.Rows.{row_of}
 use Rattle.cspf_serve.specs.declared.solve.summary.Summary.{Summary}
 use Rattle.cspf_serve.specs.Lines.{version_line}
-use Rattle.cspf_serve.specs.Script.{RunState, start, at_next_row, after_change_row, after_batch, after_reply, open_batch, IsAccepted, IsRowAnswered, AreAnswered, IsRun, is_too_many, summary_of}
-use Rattle.cspf_serve.specs.BatchRun.{Records, version_lines, AreReplies, AreAccepted}
+use Rattle.cspf_serve.specs.Script.{RunState, start, at_next_row, after_change_row, after_batch, after_reply, open_batch, IsAccepted, IsRowAnswered, AreRowsAnswered, IsSolveRun, is_too_many, summary_of}
+use Rattle.cspf_serve.specs.BatchRun.{version_lines, AreReplies, AreAccepted}
 use Rattle.cspf_serve.specs.BatchLaws.{AreLinesOfAScript}
 
 abbrev ReadRow : Type 0
@@ -30,8 +31,8 @@ abbrev read_rows : List Row → List (Result Row RowError)
 read_rows rows = map {B = Result Row RowError} Ok rows
 
 -- some rows are answered, and then others
-AreAnswered-append : (s t u : RunState) (xs ys : Records) (l m : List ℕ) → AreAnswered s xs l t → AreAnswered t ys m u → AreAnswered s (xs ++ ys) (l ++ m) u
-unfolding AreAnswered
+AreAnswered-append : (s t u : RunState) (xs ys : Records) (l m : List ℕ) → AreRowsAnswered s xs l t → AreRowsAnswered t ys m u → AreRowsAnswered s (xs ++ ys) (l ++ m) u
+unfolding AreRowsAnswered
 AreAnswered-append s t u [] ys l m before after = rw (before.0, ← before.1) after
 AreAnswered-append s t u (fields ∷ xs) ys l m before after = (
   before.0,
@@ -45,18 +46,18 @@ AreAnswered-append s t u (fields ∷ xs) ys l m before after = (
 -- some rows are answered from a state on, and these batches are accepted and these changes open after them
 record IsAfter (s : RunState) (rows : Records) (lines : List ℕ) (accepted : List NumberedChanges) (changes : List Change) : Type 0 where
   after : RunState
-  answered : AreAnswered s rows lines after
+  answered : AreRowsAnswered s rows lines after
   accepted_are : after.accepted ≡ accepted
   changes_are : after.changes ≡ changes
 
 none_after : (s : RunState) → IsAfter s [] [] s.accepted s.changes
-unfolding AreAnswered
+unfolding AreRowsAnswered
 none_after s = record { after = s; answered = (refl, refl); accepted_are = refl; changes_are = refl }
 
 -- one row is answered, and then others
 row_after : (s t : RunState) (fields : List (List ℕ)) (rows : Records) (line lines : List ℕ) (accepted : List NumberedChanges) (changes : List Change)
     → IsRowAnswered (at_next_row s) (row_of fields) line t → IsAfter t rows lines accepted changes → IsAfter s (fields ∷ rows) (line ++ lines) accepted changes
-unfolding AreAnswered
+unfolding AreRowsAnswered
 row_after s t fields rows line lines accepted changes here rest = record {
   after = rest.after;
   answered = (line, t, lines, here, refl, rest.answered);
@@ -187,7 +188,7 @@ few_batches (b ∷ bs) =
 
 -- a run of so few rows, whose changes are all taken by batches
 run_of : (rows : Records) (lines : List ℕ) (accepted : List NumberedChanges) → length rows ≤ 1000000 → IsAfter start rows lines accepted []
-    → (summary : Summary) × IsRun rows lines summary
+    → (summary : Summary) × IsSolveRun rows lines summary
 run_of rows lines accepted few after =
     let all : take 1000000 rows ≡ rows = take_all 1000000 rows few in
     let none : is_too_many rows ≡ false = le-ltb 1000000 (length rows) few in (
@@ -203,7 +204,7 @@ run_of rows lines accepted few after =
 
 -- what is accepted of a clean journal and of requests is a script
 accepted_run : OneMoreBatch → (journal requests : Records) (bs : List NumberedChanges) (qs : List Request) (lines : List ℕ) → IsJournal journal bs rest.Clean
-    → AreRequests requests qs → AreAccepted bs qs lines → length (journal ++ requests) ≤ 1000000 → (summary : Summary) × IsRun (journal ++ requests) lines summary
+    → AreRequests requests qs → AreAccepted bs qs lines → length (journal ++ requests) ≤ 1000000 → (summary : Summary) × IsSolveRun (journal ++ requests) lines summary
 accepted_run more journal requests bs qs lines clean asked accepted few =
     let front = clean.begins.front in
     let whole : journal ≡ front = clean.begins.split ∙ rw clean.is_rest (append-nil front) in

@@ -14,10 +14,10 @@ use Rattle.cspf_stream.specs.RowAnswers.{AreAllAnswered}
 use Rattle.cspf_stream.specs.declared.error.StreamError.{StreamError}
 use Rattle.cspf_serve.specs.Script.{end_line}
 use Rattle.cspf_serve.specs.ServedRun.{IsServedClient, IsServedStatus, IsUpdateAnsweredAt, IsLastLineSaid, IsUpdatesRun}
-use Rattle.cspf_serve.specs.ServedSteps.{IsSeated, IsRunOn, IsClosed}
+use Rattle.cspf_serve.specs.ServedSteps.{IsSeated, IsRunOn, IsServedEnd}
 use Rattle.cspf_serve.specs.Updates.{UpdatesState, no_updates}
 use Rattle.cspf_serve.specs.OpenChanges.{AreOpen}
-use Rattle.cspf_serve.specs.UpdatesStates.{KeptUpdates, Keeps, IsFresh}
+use Rattle.cspf_serve.specs.UpdatesStates.{KeptUpdates, KeepsUpdates, IsFresh}
 use Rattle.std.proofs.KnownBytes.{Appends-nil}
 use Rattle.cspf_serve.proofs.Pairs.{pairs_through, pairs_weaker, pairs_second}
 
@@ -42,10 +42,10 @@ module _ {Q V : Type 0} (bytes : Q → Option (List ℕ)) (contents : V → Opti
 
   -- what is left of all clients
   pub served_of : (published : List NumberedChanges) (clients : List (Client Q V)) (begun ran : List (ServingState Q V)) (served : List (ServedClient V))
-      → AllZip (IsSeated bytes source) clients begun → AllZip (IsRunOn bytes contents) begun ran → AllZip (IsClosed published) ran served
+      → AllZip (IsSeated bytes source) clients begun → AllZip (IsRunOn bytes contents) begun ran → AllZip (IsServedEnd published) ran served
       → AllZip (IsServedClient bytes contents published) clients served
   served_of published clients begun ran served seated on closed =
-      pairs_weaker (λ c s. (a : ServingState Q V) × IsSeatedAndRun c a × IsClosed published a s) (IsServedClient bytes contents published)
+      pairs_weaker (λ c s. (a : ServingState Q V) × IsSeatedAndRun c a × IsServedEnd published a s) (IsServedClient bytes contents published)
       (λ c s is. record {
         before = is.1.0;
         after = is.0;
@@ -57,7 +57,7 @@ module _ {Q V : Type 0} (bytes : Q → Option (List ℕ)) (contents : V → Opti
         refused = is.2.refused;
         end = is.2.end;
       }) clients served
-      (pairs_through IsSeatedAndRun (IsClosed published) clients ran served
+      (pairs_through IsSeatedAndRun (IsServedEnd published) clients ran served
       (pairs_through (IsSeated bytes source) (IsRunOn bytes contents) clients begun ran seated on) closed)
 
 -- what the updates are answered once all their rows are, by how their last line is said
@@ -70,7 +70,7 @@ no_change : {A : Type 0} (xs : List A) → length xs ≡ 0 → xs ≡ []
 no_change [] none = refl
 no_change (x ∷ xs) none = absurd (omega (arith, none))
 
-module _ {J V : Type 0} (contents : J → Option (List ℕ)) (first : PublisherState J) (k : KeptUpdates J) (t : UpdatesState) (kept : Keeps contents first k t) (clients : List (ServedClient V)) where
+module _ {J V : Type 0} (contents : J → Option (List ℕ)) (first : PublisherState J) (k : KeptUpdates J) (t : UpdatesState) (kept : KeepsUpdates contents first k t) (clients : List (ServedClient V)) where
   pub status_accepted : ¬ ((0 < k.refused) ⊎ (0 < k.changes.count)) → All (λ (c : ServedClient V). c.refused ≡ 0) clients → IsServedStatus t clients 0
   status_accepted not each = inl (
     record {
@@ -99,7 +99,7 @@ pub closed_of : {Q V : Type 0} (published : List NumberedChanges) (told : KnownB
     → told.batches ≡ published
     → met ≡ record old { state = record old.state { known = met.state.known }; end = met.end }
     → AreFirstOf met.state.known old.state.known → HasMet told old met
-    → served ≡ record { replies = met.replies; end = met.end; refused = met.state.refused } → IsClosed published old served
+    → served ≡ record { replies = met.replies; end = met.end; refused = met.state.refused } → IsServedEnd published old served
 closed_of {Q} {V} published told old met served batches others known (inl is) left = record {
   replies = ap (λ (x : ServedClient V). x.replies) left ∙ ap (λ (x : ServingState Q V). x.replies) others;
   refused = ap (λ (x : ServedClient V). x.refused) left ∙ ap (λ (x : ServingState Q V). x.state.refused) others;
@@ -116,7 +116,7 @@ closed_of {Q} {V} published told old met served batches others known (inr is) le
 
 -- what is kept before the first row
 pub begins : {J : Type 0} (contents : J → Option (List ℕ)) (p : PublisherState J) (k : KeptUpdates J) → k.publisher ≡ p → p.batches ≡ [] → p.stopped ≡ false
-    → AreOpen k.changes [] → IsFresh k → Keeps contents p k no_updates
+    → AreOpen k.changes [] → IsFresh k → KeepsUpdates contents p k no_updates
 begins contents p k same none going open_none fresh = record {
   published = rw same (record { source = refl; batches = none; stopped = going; journal = Appends-nil (contents p.journal) });
   changes = open_none;

@@ -14,9 +14,9 @@ use Rattle.cspf_serve.specs.declared.solve.summary.Summary.{Summary}
 use Rattle.cspf_serve.specs.declared.solve.error.SolveError.{SolveError}
 use Rattle.cspf_serve.specs.declared.solve.error.SolveError.TheVariants as solve_error
 use Rattle.cspf_rows.specs.ReadFaults.{stream_fault_of}
-use Rattle.cspf_serve.specs.Script.{RunState, start, at_next_row, IsRowAnswered, AreAnswered, IsRun, is_too_many, last_line, summary_of}
+use Rattle.cspf_serve.specs.Script.{RunState, start, at_next_row, IsRowAnswered, AreRowsAnswered, IsSolveRun, is_too_many, last_line, summary_of}
 use Rattle.cspf_serve.specs.OutputAtError.{IsBegunByRows, IsNextText, IsOutputAtError}
-use Rattle.cspf_serve.specs.SolverStates.{Keeps, AreFew, IsCut, IsEndCut}
+use Rattle.cspf_serve.specs.SolverStates.{KeepsRun, AreFew, IsCut, IsEndCut}
 use Rattle.cspf_serve.proofs.RowCounts.{few_kept}
 
 abbrev Rows : Type 0
@@ -33,22 +33,22 @@ pub record IsGoing (all left : Option (List (List (List ℕ)))) (old new : Optio
   pub done : List (List (List ℕ))
   pub state : RunState
   pub out : List ℕ
-  pub answered : AreAnswered start done out state
+  pub answered : AreRowsAnswered start done out state
   pub count : length done ≡ read
-  pub kept : Keeps solver state
+  pub kept : KeepsRun solver state
   pub text : Appends old new out
   pub size : length out ≡ written
   pub split : IsCutInto all done left
 
-none_answered : (s : RunState) → AreAnswered s [] [] s
-unfolding AreAnswered
+none_answered : (s : RunState) → AreRowsAnswered s [] [] s
+unfolding AreRowsAnswered
 none_answered s = (refl, refl)
 
 cut_at_start : (all : Option Rows) → IsCutInto all [] all
 cut_at_start None = tt
 cut_at_start (Some all) = refl
 
-pub begins : (all : Option (List (List (List ℕ)))) (old : Option (List ℕ)) (solver : Solver) → Keeps solver start → IsGoing all all old old solver 0 0
+pub begins : (all : Option (List (List (List ℕ)))) (old : Option (List ℕ)) (solver : Solver) → KeepsRun solver start → IsGoing all all old old solver 0 0
 begins all old solver kept = record {
   done = [];
   state = start;
@@ -61,9 +61,9 @@ begins all old solver kept = record {
   split = cut_at_start all;
 }
 
-pub answered_more : (s t u : RunState) (done : Rows) (fields : List (List ℕ)) (out line : List ℕ) → AreAnswered s done out t
-    → IsRowAnswered (at_next_row t) (row_of fields) line u → AreAnswered s (done ++ (fields ∷ [])) (out ++ line) u
-unfolding AreAnswered
+pub answered_more : (s t u : RunState) (done : Rows) (fields : List (List ℕ)) (out line : List ℕ) → AreRowsAnswered s done out t
+    → IsRowAnswered (at_next_row t) (row_of fields) line u → AreRowsAnswered s (done ++ (fields ∷ [])) (out ++ line) u
+unfolding AreRowsAnswered
 answered_more s t u [] fields out line before step =
     let here : IsRowAnswered (at_next_row s) (row_of fields) line u = rw before.1 at step in
     (line, u, [], here, ap (λ o. o ++ line) before.0 ∙ sym (append-nil line), (refl, refl))
@@ -87,8 +87,8 @@ cut_more (Some all) (Some rows) (Some rest) done fields split takes =
 -- a row was answered
 abbrev pub IsStep : Solver → List (List ℕ) → Option (List ℕ) → Option (List ℕ) → Solver → ℕ → Type 0
 IsStep solver fields old new after size =
-    (s : RunState) → Keeps solver s → (line : List ℕ) × (t : RunState) × IsRowAnswered (at_next_row s) (row_of fields) line t
-    × Keeps after t × Appends old new line × (size ≡ length line)
+    (s : RunState) → KeepsRun solver s → (line : List ℕ) × (t : RunState) × IsRowAnswered (at_next_row s) (row_of fields) line t
+    × KeepsRun after t × Appends old new line × (size ≡ length line)
 
 -- one more row
 pub steps : (all left next : Option (List (List (List ℕ)))) (old mid new : Option (List ℕ)) (solver after : Solver) (read written size : ℕ) (fields : List (List ℕ))
@@ -117,12 +117,12 @@ few all left old new solver read written going most =
 
 -- the lines and the summary of all rows
 abbrev pub IsWritten : Option (List (List (List ℕ))) → Option (List ℕ) → Option (List ℕ) → Summary → Type 0
-IsWritten all old new summary = IfSome all (λ rows. (lines : List ℕ) × IsRun rows lines summary × Appends old new lines)
+IsWritten all old new summary = IfSome all (λ rows. (lines : List ℕ) × IsSolveRun rows lines summary × Appends old new lines)
 
 -- the last line was written
 abbrev pub IsEnded : Solver → Bool → Option (List ℕ) → Option (List ℕ) → Summary → Type 0
 IsEnded solver too_many old new summary =
-    (s : RunState) → Keeps solver s → Appends old new (last_line too_many s.changes) × (summary ≡ summary_of s too_many)
+    (s : RunState) → KeepsRun solver s → Appends old new (last_line too_many s.changes) × (summary ≡ summary_of s too_many)
 
 -- the rows that are read, and whether there are more
 abbrev AreRead : Rows → Rows → Bool → Type 0
@@ -143,8 +143,8 @@ rows_read all done left next false fields read split takes count most full = all
 rows_read all done left None true fields read split takes count most full = absurd takes
 rows_read all done left (Some rest) true fields read split takes count most full = most_read all done left rest fields split takes (count ∙ full refl)
 
-run_ended : (all done : Rows) (out : List ℕ) (s : RunState) (too_many : Bool) (summary : Summary) → AreAnswered start done out s → AreRead all done too_many
-    → summary ≡ summary_of s too_many → IsRun all (out ++ last_line too_many s.changes) summary
+run_ended : (all done : Rows) (out : List ℕ) (s : RunState) (too_many : Bool) (summary : Summary) → AreRowsAnswered start done out s → AreRead all done too_many
+    → summary ≡ summary_of s too_many → IsSolveRun all (out ++ last_line too_many s.changes) summary
 run_ended all done out s too_many summary answered read counts = record {
   replies = out;
   after = s;
@@ -207,7 +207,7 @@ cut_text old mid new out line size written n is_out part is_n =
     length-append out (take size line) ∙ rw (length-take-le size line (omega (arith, part)), is_out, is_n) refl
 
 cut_off : (all done left : Rows) (old mid new : Option (List ℕ)) (state : RunState) (out text : List ℕ) (size written n : ℕ)
-    → all ≡ done ++ left → length done ≤ 1000000 → AreAnswered start done out state → IsNextText done state left text → size < length text
+    → all ≡ done ++ left → length done ≤ 1000000 → AreRowsAnswered start done out state → IsNextText done state left text → size < length text
     → Appends old mid out → Appends mid new (take size text) → length out ≡ written → n ≡ written + size
     → (o : List ℕ) × IsOutputAtError (solve_error.Write n) all o × Appends old new o
 cut_off all done left old mid new state out text size written n split most answered next part before here is_out is_n = (
@@ -238,7 +238,7 @@ row_next done left state (Some rest) fields text after most takes answered = rw 
 -- the answer to a row stopped
 pub stops_at_row : (all left next : Option (List (List (List ℕ)))) (old mid new : Option (List ℕ)) (solver : Solver) (read written : ℕ) (fields : List (List ℕ)) (error : SolveError)
     → IsGoing all left old mid solver read written → read < 1000000 → Takes left next true fields
-    → ((s : RunState) → Keeps solver s → IsCut (at_next_row s) (row_of fields) mid new written error) → IsHalted all old new error
+    → ((s : RunState) → KeepsRun solver s → IsCut (at_next_row s) (row_of fields) mid new written error) → IsHalted all old new error
 stops_at_row all left next old mid new solver read written fields solve_error.Memory going most takes cut =
     by_rows all left old mid new solver read written going (omega (arith, most)) (cut going.state going.kept)
 stops_at_row all left next old mid new solver read written fields solve_error.Read going most takes cut = absurd (cut going.state going.kept)
@@ -258,7 +258,7 @@ end_next done left state (Some rest) true fields read count full takes = rw take
 -- the last line stopped
 stops_at_end : (all left next : Option (List (List (List ℕ)))) (old mid new : Option (List ℕ)) (solver : Solver) (read written : ℕ) (too_many : Bool) (fields : List (List ℕ)) (error : SolveError)
     → IsGoing all left old mid solver read written → read ≤ 1000000 → (too_many ≡ true → read ≡ 1000000) → Takes left next too_many fields
-    → ((s : RunState) → Keeps solver s → IsEndCut (last_line too_many s.changes) mid new written error) → IsHalted all old new error
+    → ((s : RunState) → KeepsRun solver s → IsEndCut (last_line too_many s.changes) mid new written error) → IsHalted all old new error
 stops_at_end all left next old mid new solver read written too_many fields solve_error.Memory going most full takes cut =
     by_rows all left old mid new solver read written going most (cut going.state going.kept)
 stops_at_end all left next old mid new solver read written too_many fields solve_error.Read going most full takes cut = absurd (cut going.state going.kept)
@@ -280,7 +280,7 @@ run_ends all left next old mid new solver read written too_many fields (Ok summa
 
 pub run_stops : (all left next : Option (List (List (List ℕ)))) (old mid new : Option (List ℕ)) (solver : Solver) (read written : ℕ) (too_many : Bool) (fields : List (List ℕ)) (r : Result Summary SolveError)
     → IsGoing all left old mid solver read written → read ≤ 1000000 → (too_many ≡ true → read ≡ 1000000) → Takes left next too_many fields
-    → IfErr r (λ error. (s : RunState) → Keeps solver s → IsEndCut (last_line too_many s.changes) mid new written error) → IfErr r (λ error. IsHalted all old new error)
+    → IfErr r (λ error. (s : RunState) → KeepsRun solver s → IsEndCut (last_line too_many s.changes) mid new written error) → IfErr r (λ error. IsHalted all old new error)
 run_stops all left next old mid new solver read written too_many fields (Ok summary) going most full takes cut = tt
 run_stops all left next old mid new solver read written too_many fields (Err error) going most full takes cut =
     stops_at_end all left next old mid new solver read written too_many fields error going most full takes cut

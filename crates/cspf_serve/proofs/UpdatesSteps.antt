@@ -29,20 +29,20 @@ use Rattle.cspf_rows.specs.declared.row_error.RowError.{RowError}
 use Rattle.cspf_stream.specs.RefusedRows.{refused_row_line}
 use Rattle.cspf_serve.specs.Script.{RunState, open_batch, at_next_row, after_change_row, after_refused_row, after_refused_batch, after_reply, IsAccepted, IsBatchRefusal}
 use Rattle.cspf_serve.specs.Updates.{UpdatesState, IsEndUpdate, IsUpdateAnswered, at_next_update}
-use Rattle.cspf_serve.specs.UpdatesStates.{KeptUpdates, ArePublished, Keeps, Leads, IsMiscounted, IsUpdateTaken, IsUpdateFailed, after_published}
+use Rattle.cspf_serve.specs.UpdatesStates.{KeptUpdates, ArePublished, KeepsUpdates, Leads, IsMiscounted, IsUpdateTaken, IsUpdateFailed, after_published}
 use Rattle.cspf_serve.proofs.BatchRefusals.{not_exhausted, not_numbered, not_counted, not_fitting}
 use Rattle.cspf_serve.proofs.KeptChanges.{kept_all, fits_whole, refusal_whole}
 
 -- one row more changes nothing that is kept
 pub next_keeps : {J : Type 0} (contents : J → Option (List ℕ)) (first : PublisherState J) (k : KeptUpdates J) (s : UpdatesState)
-    → Keeps contents first k s → Keeps contents first k (at_next_update s)
+    → KeepsUpdates contents first k s → KeepsUpdates contents first k (at_next_update s)
 next_keeps contents first k s kept = record {
   published = record { source = kept.published.source; batches = kept.published.batches; stopped = kept.published.stopped; journal = kept.published.journal };
   changes = kept.changes;
   refused = kept.refused;
 }
 
-module _ {J : Type 0} (contents : J → Option (List ℕ)) (first : PublisherState J) (k : KeptUpdates J) (s : UpdatesState) (kept : Keeps contents first k s) (number count : ℕ) where
+module _ {J : Type 0} (contents : J → Option (List ℕ)) (first : PublisherState J) (k : KeptUpdates J) (s : UpdatesState) (kept : KeepsUpdates contents first k s) (number count : ℕ) where
   -- the batch of the changes that are kept
   abbrev kept_batch : NumberedChanges
   kept_batch = record { number = number; changes = k.changes.batch.changes }
@@ -161,7 +161,7 @@ module _ {J : Type 0} (contents : J → Option (List ℕ)) (first : PublisherSta
   -- what is kept once the open changes are dropped: of a batch that is published
   pub kept_published : (p : PublisherState J) (changes : OpenChanges) (line : List ℕ) → AreOpen changes [] → line ≡ version_line number
       → ArePublished contents first p (after_published s number) × IsAccepted s.run number count × (s.stopped ≡ false)
-      → (t : UpdatesState) × Keeps contents first (record { publisher = p; changes = changes; refused = k.refused }) t × IsEndUpdate s.stopped s number count line t
+      → (t : UpdatesState) × KeepsUpdates contents first (record { publisher = p; changes = changes; refused = k.refused }) t × IsEndUpdate s.stopped s number count line t
   kept_published p changes line none is published = (
     after_published s number,
     record { published = published.0; changes = none; refused = kept.refused },
@@ -175,7 +175,7 @@ module _ {J : Type 0} (contents : J → Option (List ℕ)) (first : PublisherSta
 
   -- and of one that isn't
   pub kept_unpublished : (p : PublisherState J) (changes : OpenChanges) (line : List ℕ) → AreOpen changes [] → IsEnded p line
-      → (t : UpdatesState) × Keeps contents first (record { publisher = p; changes = changes; refused = k.refused + 1 }) t × IsEndUpdate s.stopped s number count line t
+      → (t : UpdatesState) × KeepsUpdates contents first (record { publisher = p; changes = changes; refused = k.refused + 1 }) t × IsEndUpdate s.stopped s number count line t
       × (t.run.accepted ≡ s.run.accepted)
   kept_unpublished p changes line none ended = (
     ended.0,

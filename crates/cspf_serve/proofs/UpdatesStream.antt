@@ -8,12 +8,12 @@ use Rattle.cspf_publish.specs.PublisherStates.{PublisherState}
 use Rattle.cspf_publish.specs.declared.errors.ApplyError.{ApplyError}
 use Rattle.cspf_publish.specs.declared.errors.ApplyError.TheVariants as error
 use Rattle.cspf_stream.specs.RowAnswers.{AreAnswered, AreAllAnswered}
-use Rattle.cspf_stream.specs.StreamStops.{StopsBetween, StopsInRow, IsRowStopped, IsStopped}
+use Rattle.cspf_stream.specs.StreamStops.{StopsBetween, StopsInRow, IsRowStopped, HasStopped}
 use Rattle.cspf_stream.specs.declared.error.StreamError.{StreamError}
 use Rattle.cspf_stream.specs.declared.error.StreamError.TheVariants as stream_error
 use Rattle.cspf_serve.specs.Script.{RunState, IsEndAnswered, IsRowAnswered}
 use Rattle.cspf_serve.specs.Updates.{UpdatesState, IsLeftByFault, IsEndUpdate, IsUpdateAnswered, at_next_update, no_updates}
-use Rattle.cspf_serve.specs.UpdatesStates.{KeptUpdates, Keeps, IsUpdateTaken, IsUpdateFailed}
+use Rattle.cspf_serve.specs.UpdatesStates.{KeptUpdates, KeepsUpdates, IsUpdateTaken, IsUpdateFailed}
 use Rattle.cspf_serve.specs.ServedRun.{IsUpdateAnsweredAt, IsUpdateLostAt}
 
 same_rows : (a b : RunState) → a ≡ b → a.rows ≡ b.rows
@@ -59,9 +59,9 @@ Rows = List (List (List ℕ))
 module _ {J : Type 0} (contents : J → Option (List ℕ)) (first : PublisherState J) where
   -- Rows that are taken one after the other are answered, from the state that is kept before to one that
   -- is kept afterwards.
-  carried : (place : ℕ) (k k' : KeptUpdates J) (s : UpdatesState) (rows : Rows) (lines : List ℕ) → Keeps contents first k s → place ≡ s.run.rows + 1
+  carried : (place : ℕ) (k k' : KeptUpdates J) (s : UpdatesState) (rows : Rows) (lines : List ℕ) → KeepsUpdates contents first k s → place ≡ s.run.rows + 1
       → AreAnswered (IsUpdateTaken contents) place k rows lines k'
-      → (t : UpdatesState) × Keeps contents first k' t × AreAnswered IsUpdateAnsweredAt place s rows lines t × (place + length rows ≡ t.run.rows + 1)
+      → (t : UpdatesState) × KeepsUpdates contents first k' t × AreAnswered IsUpdateAnsweredAt place s rows lines t × (place + length rows ≡ t.run.rows + 1)
   unfolding AreAnswered
   carried place k k' s [] lines kept at a = (s, rw a.1 kept, (a.0, refl), omega (arith, at))
   carried place k k' s (fields ∷ rows) lines kept at a =
@@ -70,22 +70,22 @@ module _ {J : Type 0} (contents : J → Option (List ℕ)) (first : PublisherSta
       let rest = carried (suc place) a.1 k' taken.0 rows a.2 taken.1 (omega (arith, at, read)) a.5 in
       (rest.0, rest.1, (a.0, taken.0, a.2, (at, taken.2), a.4, rest.2), omega (arith, rest.3))
 
-  module _ (all left : Option Rows) (failed : Bool) (k k' : KeptUpdates J) (kept : Keeps contents first k no_updates) (old new : Option (List ℕ)) where
+  module _ (all left : Option Rows) (failed : Bool) (k k' : KeptUpdates J) (kept : KeepsUpdates contents first k no_updates) (old new : Option (List ℕ)) where
     pub carried_all : AreAllAnswered (IsUpdateTaken contents) all k k' old new
-        → (t : UpdatesState) × Keeps contents first k' t × AreAllAnswered IsUpdateAnsweredAt all no_updates t old new
+        → (t : UpdatesState) × KeepsUpdates contents first k' t × AreAllAnswered IsUpdateAnsweredAt all no_updates t old new
     carried_all a =
         let c = carried 1 k k' no_updates a.done a.lines kept refl a.answered in
         (c.0, c.1, record { done = a.done; lines = a.lines; whole = a.whole; answered = c.2; written = a.written })
 
     carried_between : StopsBetween (IsUpdateTaken contents) all k k' old new
-        → (t : UpdatesState) × Keeps contents first k' t × StopsBetween IsUpdateAnsweredAt all no_updates t old new
+        → (t : UpdatesState) × KeepsUpdates contents first k' t × StopsBetween IsUpdateAnsweredAt all no_updates t old new
     carried_between a =
         let c = carried 1 k k' no_updates a.done a.lines kept refl a.answered in
         (c.0, c.1, record { done = a.done; rest = a.rest; lines = a.lines; split = a.split; answered = c.2; written = a.written })
 
-    carried_row : (why : StreamError) (place : ℕ) (r : Result Row RowError) (b : KeptUpdates J) (s : UpdatesState) (mid : Option (List ℕ)) → Keeps contents first b s → place ≡ s.run.rows + 1
+    carried_row : (why : StreamError) (place : ℕ) (r : Result Row RowError) (b : KeptUpdates J) (s : UpdatesState) (mid : Option (List ℕ)) → KeepsUpdates contents first b s → place ≡ s.run.rows + 1
         → IsRowStopped (IsUpdateTaken contents) (IsUpdateFailed contents) why place r b k' mid new
-        → (t : UpdatesState) × Keeps contents first k' t × IsRowStopped IsUpdateAnsweredAt IsUpdateLostAt why place r s t mid new
+        → (t : UpdatesState) × KeepsUpdates contents first k' t × IsRowStopped IsUpdateAnsweredAt IsUpdateLostAt why place r s t mid new
     carried_row stream_error.Memory place r b s mid keeps at a = let lost = a.0 first s keeps at in (lost.0, lost.1, ((at, lost.2), a.1))
     carried_row stream_error.Read place r b s mid keeps at a = absurd a
     carried_row stream_error.Write place r b s mid keeps at a = let taken = a.1 first s keeps at in (taken.0, taken.1, (a.0, (at, taken.2), a.2))
@@ -93,14 +93,14 @@ module _ {J : Type 0} (contents : J → Option (List ℕ)) (first : PublisherSta
     carried_row stream_error.TooManyRows place r b s mid keeps at a = absurd a
 
     carried_in_row : (why : StreamError) → StopsInRow (IsUpdateTaken contents) (IsUpdateFailed contents) why all left k k' old new
-        → (t : UpdatesState) × Keeps contents first k' t × StopsInRow IsUpdateAnsweredAt IsUpdateLostAt why all left no_updates t old new
+        → (t : UpdatesState) × KeepsUpdates contents first k' t × StopsInRow IsUpdateAnsweredAt IsUpdateLostAt why all left no_updates t old new
     carried_in_row why a =
         let c = carried 1 k a.before no_updates a.done a.lines kept refl a.answered in
         let r = carried_row why (suc (length a.done)) (row_of a.fields) a.before c.0 a.mid c.1 (omega (arith, c.3)) a.stops in
         (r.0, r.1, record { done = a.done; fields = a.fields; rest = a.rest; lines = a.lines; before = c.0; mid = a.mid; split = a.split; answered = c.2; written = a.written; stops = r.2 })
 
-    pub carried_stopped : (why : StreamError) → IsStopped (IsUpdateTaken contents) (IsUpdateFailed contents) why all left failed k k' old new
-        → (t : UpdatesState) × Keeps contents first k' t × IsStopped IsUpdateAnsweredAt IsUpdateLostAt why all left failed no_updates t old new
+    pub carried_stopped : (why : StreamError) → HasStopped (IsUpdateTaken contents) (IsUpdateFailed contents) why all left failed k k' old new
+        → (t : UpdatesState) × KeepsUpdates contents first k' t × HasStopped IsUpdateAnsweredAt IsUpdateLostAt why all left failed no_updates t old new
     carried_stopped stream_error.Memory (inl a) = let c = carried_between a.1 in (c.0, c.1, inl (a.0, c.2))
     carried_stopped stream_error.Memory (inr a) = let c = carried_in_row stream_error.Memory a in (c.0, c.1, inr c.2)
     carried_stopped stream_error.Read a = let c = carried_between a.1 in (c.0, c.1, (a.0, c.2))

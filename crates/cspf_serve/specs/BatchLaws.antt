@@ -1,12 +1,13 @@
 -- What holds of every run over a journal and a stream of requests.
 use Rattle.std.specs.Prelude.{◌≤◌, ℕ, Bool, List, ◌++◌, length}
+use Rattle.cspf_rows.specs.Records.{Records}
 use Rattle.cspf_model.specs.Numbered.{NumberedChanges}
 use Rattle.cspf_rows.specs.declared.limits.TheConstants.{MOST_ROWS}
 use Rattle.cspf_rows.specs.declared.journal.Rest.TheVariants as rest
 use Rattle.cspf_rows.specs.Journal.{IsJournal}
 use Rattle.cspf_serve.specs.declared.solve.summary.Summary.{Summary}
-use Rattle.cspf_serve.specs.Script.{IsRun}
-use Rattle.cspf_serve.specs.BatchRun.{Records, IsBatchRun}
+use Rattle.cspf_serve.specs.Script.{IsSolveRun}
+use Rattle.cspf_serve.specs.BatchRun.{IsBatchRun}
 
 -- nothing is left behind the batches of a journal
 abbrev pub IsCleanJournal : Records → Type 0
@@ -20,4 +21,4 @@ AreLinesOfAScript =
     (accept_torn : Bool) (journal requests : Records) (lines : List ℕ)
     → IsCleanJournal journal → length (journal ++ requests) ≤ MOST_ROWS
     → IsBatchRun accept_torn journal requests lines 0
-    → (summary : Summary) × IsRun (journal ++ requests) lines summary
+    → (summary : Summary) × IsSolveRun (journal ++ requests) lines summary

@@ -2,6 +2,7 @@
 use Rattle.std.specs.Prelude.{◌≡◌, ℕ, ◌<◌, ◌≤◌, ◌⊎◌, Bool, true, false, List, [], ◌∷◌, ◌++◌, length, codes}
 use Rattle.std.specs.Fmt.{decimal}
 use Rattle.std.specs.List.{flat_map}
+use Rattle.cspf_rows.specs.Records.{Records}
 use Rattle.cspf_model.specs.declared.refusal.Refusal.{Refusal}
 use Rattle.cspf_model.specs.declared.request.Request.{Request}
 use Rattle.cspf_model.specs.Numbered.{NumberedChanges}
@@ -21,10 +22,6 @@ use Rattle.cspf_rows.specs.Requests.{AreRequests, IsRequestsFault}
 use Rattle.cspf_rows.specs.Words.{words}
 use Rattle.cspf_serve.specs.declared.batch_refusal.BatchRefusal.TheVariants as refusal
 use Rattle.cspf_serve.specs.Lines.{version_line, refused_batch_line, too_many_line}
-
--- the records of a stream: each is a list of fields, which are bytes
-abbrev pub Records : Type 0
-Records = List (List (List ℕ))
 
 -- the line of a journal that has this many batches, and rows behind them
 abbrev pub torn_line : ℕ → List ℕ

@@ -1,6 +1,7 @@
 -- Private: what is said where a run over a journal ends early.
 use Rattle.std.specs.Prelude.{◌≡◌, ℕ, ◌+◌, ◌^◌, ◌<◌, ◌⊎◌, Bool, Option, List, [], ◌∷◌, ◌++◌}
 use Rattle.std.specs.Io.KnownBytes.{Appends}
+use Rattle.cspf_rows.specs.Records.{Records}
 use Rattle.cspf_audit.specs.declared.audit_error.AuditError.{AuditError}
 use Rattle.cspf_audit.specs.declared.audit_error.AuditError.TheVariants as audit_error
 use Rattle.cspf_model.specs.Numbered.{NumberedChanges}
@@ -18,7 +19,7 @@ use Rattle.cspf_serve.specs.declared.streams.error.RunError.{RunError}
 use Rattle.cspf_serve.specs.declared.streams.error.RunError.TheVariants.{Memory, Device}
 use Rattle.cspf_serve.specs.Lines.{refused_batch_line, too_many_line}
 use Rattle.cspf_serve.specs.LineTexts.{line_text}
-use Rattle.cspf_serve.specs.BatchRun.{Records, AreBatchesOf, IsJournalRefused, AreRequestsRefused}
+use Rattle.cspf_serve.specs.BatchRun.{AreBatchesOf, IsJournalRefused, AreRequestsRefused}
 use Rattle.cspf_serve.specs.declared.streams.early_end.EarlyEnd.{EarlyEnd}
 use Rattle.cspf_serve.specs.declared.streams.early_end.EarlyEnd.TheVariants as early_end
 

@@ -1,6 +1,7 @@
 -- What updates and requests are answered that are applied and answered at once.
 use Rattle.std.specs.Prelude.{◌≡◌, ℕ, ◌<◌, ◌≤◌, ◌⊎◌, false, List, [], ◌∷◌, ◌++◌, length, take, Some, slice_get}
 use Rattle.std.specs.List.{flat_map}
+use Rattle.cspf_rows.specs.Records.{Records}
 use Rattle.cspf_model.specs.declared.request.Request.{Request}
 use Rattle.cspf_model.specs.Numbered.{NumberedChanges}
 use Rattle.cspf_model.specs.Changes.{database_after, Fits}
@@ -9,7 +10,7 @@ use Rattle.cspf_publish.specs.Histories.{IsHistory}
 use Rattle.cspf_publish.specs.declared.errors.ApplyError.{ApplyError}
 use Rattle.cspf_publish.specs.declared.errors.ApplyError.TheVariants as error
 use Rattle.cspf_rows.specs.BatchText.{batch_text}
-use Rattle.cspf_serve.specs.BatchRun.{Records, IsReplyTo, AreBatchesOf, IsJournalRefused, AreRequestsOf, AreRequestsRefused}
+use Rattle.cspf_serve.specs.BatchRun.{IsReplyTo, AreBatchesOf, IsJournalRefused, AreRequestsOf, AreRequestsRefused}
 use Rattle.cspf_serve.specs.LiveWords.{applied_line, unpublished_line}
 
 -- a request is answered by this line, at a version that was published: in the database of its

@@ -3,7 +3,7 @@ use Rattle.std.specs.Prelude.{◌≡◌, ℕ, ◌<◌, ◌≤◌, ◌⊎◌, Lis
 use Rattle.cspf_rows.specs.declared.limits.TheConstants.{MOST_ROWS}
 use Rattle.cspf_rows.specs.Rows.{row_of}
 use Rattle.cspf_serve.specs.Lines.{too_many_line}
-use Rattle.cspf_serve.specs.Script.{RunState, start, at_next_row, IsRowAnswered, AreAnswered, end_line}
+use Rattle.cspf_serve.specs.Script.{RunState, start, at_next_row, IsRowAnswered, AreRowsAnswered, end_line}
 use Rattle.cspf_serve.specs.declared.solve.error.SolveError.{SolveError}
 use Rattle.cspf_serve.specs.declared.solve.error.SolveError.TheVariants as error
 
@@ -11,7 +11,7 @@ use Rattle.cspf_serve.specs.declared.solve.error.SolveError.TheVariants as error
 pub record AreFirstAnswered (rows done rest : List (List (List ℕ))) (lines : List ℕ) (after : RunState) : Type 0 where
   pub split : rows ≡ done ++ rest
   pub few : length done ≤ MOST_ROWS
-  pub answered : AreAnswered start done lines after
+  pub answered : AreRowsAnswered start done lines after
 
 -- what is written is the lines of some first rows, whole
 pub record IsBegunByRows (rows : List (List (List ℕ))) (out : List ℕ) : Type 0 where

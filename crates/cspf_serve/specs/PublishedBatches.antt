@@ -19,6 +19,6 @@ pub record IsUnfitBehind (batches published : List NumberedChanges) (line : List
   pub is_line : line ≡ refused_batch_line batch.number (refusal.Unfit why)
 
 -- the batches are published, or else those before the first one that doesn't fit, as a line says
-abbrev pub ArePublished : List NumberedChanges → List NumberedChanges → Option Line → Type 0
-ArePublished batches published None = published ≡ batches
-ArePublished batches published (Some line) = IsUnfitBehind batches published (line_text line)
+abbrev pub ArePublishedOrRefused : List NumberedChanges → List NumberedChanges → Option Line → Type 0
+ArePublishedOrRefused batches published None = published ≡ batches
+ArePublishedOrRefused batches published (Some line) = IsUnfitBehind batches published (line_text line)

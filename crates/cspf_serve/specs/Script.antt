@@ -113,11 +113,11 @@ IsRowAnswered s (Ok (row.Ask q)) line after =
     (answer : Answer) × IsBestAnswer (current_database s) q answer × IsReply q.id (current_version s) answer line × (after ≡ after_reply s)
 
 -- rows are answered one after the other, from a state to a state
-unfoldable pub AreAnswered : RunState → List (List (List ℕ)) → List ℕ → RunState → Type 0
-AreAnswered s [] lines after = (lines ≡ []) × (after ≡ s)
-AreAnswered s (fields ∷ rows) lines after =
+unfoldable pub AreRowsAnswered : RunState → List (List (List ℕ)) → List ℕ → RunState → Type 0
+AreRowsAnswered s [] lines after = (lines ≡ []) × (after ≡ s)
+AreRowsAnswered s (fields ∷ rows) lines after =
     (line : List ℕ) × (next : RunState) × (more : List ℕ)
-    × IsRowAnswered (at_next_row s) (row_of fields) line next × (lines ≡ line ++ more) × AreAnswered next rows more after
+    × IsRowAnswered (at_next_row s) (row_of fields) line next × (lines ≡ line ++ more) × AreRowsAnswered next rows more after
 
 -- there is a row past the 1,000,000th
 abbrev pub is_too_many : List (List (List ℕ)) → Bool
@@ -149,13 +149,13 @@ summary_of s too_many = record {
 
 -- A run over rows: the first 1,000,000 of them are answered one after the other, and then comes the
 -- last line.
-pub record IsRun (rows : List (List (List ℕ))) (lines : List ℕ) (summary : Summary) : Type 0 where
+pub record IsSolveRun (rows : List (List (List ℕ))) (lines : List ℕ) (summary : Summary) : Type 0 where
   pub replies : List ℕ
   pub after : RunState
-  pub answered : AreAnswered start (take MOST_ROWS rows) replies after
+  pub answered : AreRowsAnswered start (take MOST_ROWS rows) replies after
   pub whole : lines ≡ replies ++ last_line (is_too_many rows) after.changes
   pub counts : summary ≡ summary_of after (is_too_many rows)
 
 -- a run over the rows of a stream of bytes
 abbrev pub IsScript : List ℕ → List ℕ → Summary → Type 0
-IsScript bytes lines summary = IsRun (rows_of bytes) lines summary
+IsScript bytes lines summary = IsSolveRun (rows_of bytes) lines summary

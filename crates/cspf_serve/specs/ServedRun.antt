@@ -13,9 +13,9 @@ use Rattle.cspf_client.specs.declared.client.Client.{Client}
 use Rattle.cspf_client.specs.declared.client.ServedClient.{ServedClient}
 use Rattle.cspf_client.specs.declared.error.ClientError.TheVariants.{Ahead}
 use Rattle.cspf_client.specs.ServingStates.{ServingState, IsReady, reader_rows}
-use Rattle.cspf_client.specs.ClientRuns.{IsRun}
+use Rattle.cspf_client.specs.ClientRuns.{IsClientRun}
 use Rattle.cspf_stream.specs.RowAnswers.{AreAllAnswered}
-use Rattle.cspf_stream.specs.StreamStops.{IsStopped, IsLineStopped}
+use Rattle.cspf_stream.specs.StreamStops.{HasStopped, IsLineStopped}
 use Rattle.cspf_stream.specs.declared.error.StreamError.{StreamError}
 use Rattle.cspf_stream.specs.declared.error.StreamError.TheVariants as error
 use Rattle.cspf_serve.specs.Script.{end_line}
@@ -56,7 +56,7 @@ pub record AreUpdatesAnswered (Last : List ℕ → Option (List ℕ) → Type 0)
 -- The updates stop: as any stream does, or in their last line.
 abbrev pub AreUpdatesStopped : StreamError → Option Rows → UpdatesState → Option (List ℕ) → Option (List ℕ) → Type 0
 AreUpdatesStopped error all t old new =
-    ((left : Option Rows) × (failed : Bool) × IsStopped IsUpdateAnsweredAt IsUpdateLostAt error all left failed no_updates t old new)
+    ((left : Option Rows) × (failed : Bool) × HasStopped IsUpdateAnsweredAt IsUpdateLostAt error all left failed no_updates t old new)
     ⊎ AreUpdatesAnswered (λ line mid. IsLastLineStopped error line mid new) all t old
 
 -- what the updates are answered, from the first row on
@@ -75,7 +75,7 @@ pub record IsServedClient {Q V : Type 0} (bytes : Q → Option (List ℕ)) (cont
   pub ready : IsReady before
   pub requests : reader_rows bytes before.requests ≡ option_map rows_of (bytes client.requests)
   pub empty : before.replies ≡ client.replies
-  pub run : IsRun bytes contents before after
+  pub run : IsClientRun bytes contents before after
   pub replies : served.replies ≡ after.replies
   pub refused : served.refused ≡ after.state.refused
   pub end : ((served.end ≡ after.end) × BeginsWith published after.state.known.batches) ⊎ (served.end ≡ Err Ahead)

@@ -12,7 +12,7 @@ use Rattle.cspf_client.specs.declared.client.Client.{Client}
 use Rattle.cspf_client.specs.declared.client.ServedClient.{ServedClient}
 use Rattle.cspf_client.specs.declared.error.ClientError.TheVariants.{Ahead}
 use Rattle.cspf_client.specs.ServingStates.{ServingState, IsReady, reader_rows}
-use Rattle.cspf_client.specs.ClientRuns.{IsRun}
+use Rattle.cspf_client.specs.ClientRuns.{IsClientRun}
 use Rattle.cspf_serve.specs.declared.serving.run.Seats.{Seats}
 
 -- an asker and a listener of one publisher
@@ -39,17 +39,17 @@ pub record IsSeated {Q V : Type 0} (bytes : Q → Option (List ℕ)) (source : B
   pub replies : c.replies ≡ client.replies
 
 -- clients of which nothing was read, one at least
-pub record AreReady {Q V : Type 0} (all : List (ServingState Q V)) : Type 0 where
+pub record AreClientsReady {Q V : Type 0} (all : List (ServingState Q V)) : Type 0 where
   pub some : 0 < length all
   pub each : All IsReady all
 
 -- a client was run, and knows no less than before
 pub record IsRunOn {Q V : Type 0} (bytes : Q → Option (List ℕ)) (contents : V → Option (List ℕ)) (old new : ServingState Q V) : Type 0 where
-  pub run : IsRun bytes contents old new
+  pub run : IsClientRun bytes contents old new
   pub known : AreFirstOf new.state.known old.state.known
 
 -- what is left of a client that has met what was published
-pub record IsClosed {Q V : Type 0} (published : List NumberedChanges) (c : ServingState Q V) (served : ServedClient V) : Type 0 where
+pub record IsServedEnd {Q V : Type 0} (published : List NumberedChanges) (c : ServingState Q V) (served : ServedClient V) : Type 0 where
   pub replies : served.replies ≡ c.replies
   pub refused : served.refused ≡ c.state.refused
   pub end : ((served.end ≡ c.end) × BeginsWith published c.state.known.batches) ⊎ (served.end ≡ Err Ahead)

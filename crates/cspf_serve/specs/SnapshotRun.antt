@@ -1,12 +1,13 @@
 -- What a journal is answered whose last database is to be made from nothing.
 use Rattle.std.specs.Prelude.{◌≡◌, ℕ, ◌⊎◌, Bool, List}
+use Rattle.cspf_rows.specs.Records.{Records}
+use Rattle.cspf_model.specs.Refusals.{IsFirstUnfit}
 use Rattle.cspf_model.specs.declared.refusal.Refusal.{Refusal}
 use Rattle.cspf_model.specs.Numbered.{NumberedChanges}
 use Rattle.cspf_model.specs.Changes.{AreLawful, database_after}
 use Rattle.cspf_rows.specs.JournalLaws.{journal_text}
-use Rattle.cspf_snapshot.specs.Replays.{IsFirstUnfit}
 use Rattle.cspf_snapshot.specs.Snapshots.{IsSnapshot}
-use Rattle.cspf_serve.specs.BatchRun.{Records, AreBatchesOf, IsJournalRefused}
+use Rattle.cspf_serve.specs.BatchRun.{AreBatchesOf, IsJournalRefused}
 use Rattle.cspf_serve.specs.Lines.{refused_batch_line}
 use Rattle.cspf_serve.specs.declared.batch_refusal.BatchRefusal.TheVariants.{Unfit}
 

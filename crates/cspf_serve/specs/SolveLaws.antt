@@ -5,22 +5,22 @@ use Rattle.cspf_rows.specs.declared.row.Row.{Row}
 use Rattle.cspf_rows.specs.declared.row_error.RowError.{RowError}
 use Rattle.cspf_serve.specs.declared.solve.summary.Summary.{Summary}
 use Rattle.cspf_serve.specs.declared.solve.error.SolveError.{SolveError}
-use Rattle.cspf_serve.specs.Script.{RunState, at_next_row, AreAnswered, IsRowAnswered, IsRun}
+use Rattle.cspf_serve.specs.Script.{RunState, at_next_row, AreRowsAnswered, IsRowAnswered, IsSolveRun}
 use Rattle.cspf_serve.specs.OutputAtError.{IsOutputAtError}
 
 -- rows have one reply: two runs over the same rows have the same lines and the same summary
 abbrev pub HaveOneReply : Type 0
-HaveOneReply = (rows : List (List (List ℕ))) (first second : List ℕ) (a b : Summary) → IsRun rows first a → IsRun rows second b → (first ≡ second) × (a ≡ b)
+HaveOneReply = (rows : List (List (List ℕ))) (first second : List ℕ) (a b : Summary) → IsSolveRun rows first a → IsSolveRun rows second b → (first ≡ second) × (a ≡ b)
 
 -- what a run has written where it stops is a prefix of what the whole run writes
 abbrev pub StopsAtAPrefix : Type 0
 StopsAtAPrefix = (error : SolveError) (rows : List (List (List ℕ))) (out lines : List ℕ) (summary : Summary)
-    → IsOutputAtError error rows out → IsRun rows lines summary → (more : List ℕ) × (lines ≡ out ++ more)
+    → IsOutputAtError error rows out → IsSolveRun rows lines summary → (more : List ℕ) × (lines ≡ out ++ more)
 
 -- rows with one more behind them are answered where they are, and then that one is
 abbrev pub GoesOnByOneRow : Type 0
-GoesOnByOneRow = (s t u : RunState) (rows : List (List (List ℕ))) (fields : List (List ℕ)) (lines line : List ℕ) → AreAnswered s rows lines t
-    → IsRowAnswered (at_next_row t) (row_of fields) line u → AreAnswered s (rows ++ (fields ∷ [])) (lines ++ line) u
+GoesOnByOneRow = (s t u : RunState) (rows : List (List (List ℕ))) (fields : List (List ℕ)) (lines line : List ℕ) → AreRowsAnswered s rows lines t
+    → IsRowAnswered (at_next_row t) (row_of fields) line u → AreRowsAnswered s (rows ++ (fields ∷ [])) (lines ++ line) u
 
 -- The counts after some rows: there are so many rows more, and no other count grew by more than that.
 pub record AreWithin (s t : RunState) (n : ℕ) : Type 0 where

@@ -14,7 +14,7 @@ use Rattle.cspf_serve.specs.Script.{RunState, IsRowAnswered}
 
 -- One table for the batches that were accepted. Of the open changes as many are kept as
 -- one more than a batch may have, and their number.
-pub record Keeps (solver : Solver) (s : RunState) : Type 0 where
+pub record KeepsRun (solver : Solver) (s : RunState) : Type 0 where
   pub table : solver.table ≡ database_after s.accepted
   pub changes : solver.batch.changes ≡ take KEPT_CHANGES s.changes
   pub count : solver.count ≡ length s.changes

@@ -31,7 +31,7 @@ pub record ArePublished {J : Type 0} (contents : J → Option (List ℕ)) (first
   pub journal : Appends (contents first.journal) (contents p.journal) s.text
 
 -- so it is, and open changes and refusals are those of the state
-pub record Keeps {J : Type 0} (contents : J → Option (List ℕ)) (first : PublisherState J) (k : KeptUpdates J) (s : UpdatesState) : Type 0 where
+pub record KeepsUpdates {J : Type 0} (contents : J → Option (List ℕ)) (first : PublisherState J) (k : KeptUpdates J) (s : UpdatesState) : Type 0 where
   pub published : ArePublished contents first k.publisher s
   pub changes : AreOpen k.changes s.run.changes
   pub refused : k.refused ≡ s.run.refused
@@ -39,7 +39,7 @@ pub record Keeps {J : Type 0} (contents : J → Option (List ℕ)) (first : Publ
 -- what is kept of any state before leads to what is kept of one after, which this relates to it
 abbrev pub Leads : {J : Type 0} → (J → Option (List ℕ)) → KeptUpdates J → KeptUpdates J → (UpdatesState → UpdatesState → Type 0) → Type 0
 Leads {J} contents k k' Step =
-    (first : PublisherState J) (s : UpdatesState) → Keeps contents first k s → (t : UpdatesState) × Keeps contents first k' t × Step s t
+    (first : PublisherState J) (s : UpdatesState) → KeepsUpdates contents first k s → (t : UpdatesState) × KeepsUpdates contents first k' t × Step s t
 
 -- the state after a batch with this number is published
 abbrev pub after_published : UpdatesState → ℕ → UpdatesState
@@ -52,13 +52,13 @@ after_published s number = record {
 -- the open changes are published as the batch with this number and this count
 abbrev pub IsPublishedAs : {J : Type 0} → (J → Option (List ℕ)) → KeptUpdates J → PublisherState J → ℕ → ℕ → Type 0
 IsPublishedAs {J} contents k p number count =
-    (first : PublisherState J) (s : UpdatesState) → Keeps contents first k s
+    (first : PublisherState J) (s : UpdatesState) → KeepsUpdates contents first k s
     → ArePublished contents first p (after_published s number) × IsAccepted s.run number count × (s.stopped ≡ false)
 
 -- they aren't, and this line says why
 abbrev pub IsUnpublishedAs : {J : Type 0} → (J → Option (List ℕ)) → KeptUpdates J → PublisherState J → ℕ → ℕ → List ℕ → Type 0
 IsUnpublishedAs {J} contents k p number count line =
-    (first : PublisherState J) (s : UpdatesState) → Keeps contents first k s
+    (first : PublisherState J) (s : UpdatesState) → KeepsUpdates contents first k s
     → (t : UpdatesState) × ArePublished contents first p t × IsEndUpdate s.stopped s number count line t × (t.run ≡ after_refused_batch s.run)
 
 -- The publisher goes on and the number is the next, but the count is another than that of the changes.
@@ -71,11 +71,11 @@ pub record IsMiscounted {J : Type 0} (k : KeptUpdates J) (number count : ℕ) : 
 -- the row at a place is answered
 abbrev pub IsUpdateTaken : {J : Type 0} → (J → Option (List ℕ)) → ℕ → KeptUpdates J → Result Row RowError → List ℕ → KeptUpdates J → Type 0
 IsUpdateTaken {J} contents place k row line k' =
-    (first : PublisherState J) (s : UpdatesState) → Keeps contents first k s → place ≡ s.run.rows + 1
-    → (t : UpdatesState) × Keeps contents first k' t × IsUpdateAnswered (at_next_update s) row line t
+    (first : PublisherState J) (s : UpdatesState) → KeepsUpdates contents first k s → place ≡ s.run.rows + 1
+    → (t : UpdatesState) × KeepsUpdates contents first k' t × IsUpdateAnswered (at_next_update s) row line t
 
 -- memory is refused at the row at a place
 abbrev pub IsUpdateFailed : {J : Type 0} → (J → Option (List ℕ)) → ℕ → KeptUpdates J → Result Row RowError → KeptUpdates J → Type 0
 IsUpdateFailed {J} contents place k row k' =
-    (first : PublisherState J) (s : UpdatesState) → Keeps contents first k s → place ≡ s.run.rows + 1
-    → (t : UpdatesState) × Keeps contents first k' t × IsUpdateLost (at_next_update s) row t
+    (first : PublisherState J) (s : UpdatesState) → KeepsUpdates contents first k s → place ≡ s.run.rows + 1
+    → (t : UpdatesState) × KeepsUpdates contents first k' t × IsUpdateLost (at_next_update s) row t

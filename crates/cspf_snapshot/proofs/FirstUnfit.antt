@@ -5,8 +5,7 @@ use Rattle.std.proofs.lemmas.Grind.{take_at_read}
 use Rattle.cspf_model.specs.Numbered.{NumberedChanges}
 use Rattle.cspf_model.specs.Changes.{AreLawful, database_after}
 use Rattle.cspf_model.specs.declared.refusal.Refusal.{Refusal}
-use Rattle.cspf_model.specs.Refusals.{IsRefusal}
-use Rattle.cspf_snapshot.specs.Replays.{IsFirstUnfit}
+use Rattle.cspf_model.specs.Refusals.{IsRefusal, IsFirstUnfit}
 
 -- a batch that doesn't fit behind lawful ones is the first that doesn't
 pub first_unfit : (batches : List NumberedChanges) (i : ℕ) (b : NumberedChanges) → i < length batches

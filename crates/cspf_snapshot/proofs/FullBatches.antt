@@ -4,9 +4,8 @@ use Rattle.std.specs.List.{AllByRecursion}
 use Rattle.std.proofs.lemmas.List.{append-nil, take-append-drop}
 use Rattle.cspf_model.specs.declared.batch.Change.{Change}
 use Rattle.cspf_model.specs.declared.limits.TheConstants.{MOST_CHANGES}
-use Rattle.cspf_model.specs.Numbered.{NumberedChanges}
+use Rattle.cspf_model.specs.Numbered.{NumberedChanges, AreNumberedFrom}
 use Rattle.cspf_model.specs.Changes.{changes_of}
-use Rattle.cspf_rows.specs.Journal.{AreNumberedFrom}
 use Rattle.cspf_snapshot.specs.Snapshots.{AreFullButLast}
 
 -- each batch has 4,096 changes

@@ -6,11 +6,10 @@ use Rattle.std.proofs.Math.Seq.{take-append_seam, drop-append_seam}
 use Rattle.std.proofs.lemmas.List.{append-nil}
 use Rattle.std.proofs.lemmas.Map.Keys.{sorted_from_strictly_increasing}
 use Rattle.cspf_model.specs.declared.batch.Change.{Change}
-use Rattle.cspf_model.specs.Numbered.{NumberedChanges}
+use Rattle.cspf_model.specs.Numbered.{NumberedChanges, AreNumberedFrom}
 use Rattle.cspf_model.specs.Database.{Database}
 use Rattle.cspf_db.specs.Index.{links_of}
 use Rattle.cspf_model.specs.Changes.{changes_of}
-use Rattle.cspf_rows.specs.Journal.{AreNumberedFrom}
 use Rattle.cspf_snapshot.specs.Snapshots.{changes_making, AreMarksOf, AreFullButLast}
 use Rattle.cspf_snapshot.specs.SnapshotLaws.{OneSnapshot}
 use Rattle.cspf_snapshot.proofs.FullBatches.{length-changes_of-lt}

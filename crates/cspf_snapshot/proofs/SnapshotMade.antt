@@ -10,12 +10,11 @@ use Rattle.std.proofs.lemmas.Map.Keys.{sorted_from_strictly_increasing}
 use Rattle.cspf_model.specs.declared.link.Link.{Link}
 use Rattle.cspf_model.specs.declared.batch.Change.TheVariants.{Put}
 use Rattle.cspf_model.specs.declared.limits.TheConstants.{MOST_LINKS, MOST_ROUTERS, MOST_MARKS}
-use Rattle.cspf_model.specs.Numbered.{NumberedChanges}
+use Rattle.cspf_model.specs.Numbered.{NumberedChanges, AreNumberedFrom}
 use Rattle.cspf_model.specs.Database.{Database, IsLinkOf, AreLinksOf, HaveOwnKeys, AreAtTheirKeys, router_count}
 use Rattle.cspf_db.specs.Index.{links_of}
 use Rattle.cspf_model.specs.Changes.{change_key_cmp, key_changed, changes_of, no_links, after_changes}
 use Rattle.cspf_model.specs.Laws.{RoutersAreCounted}
-use Rattle.cspf_rows.specs.Journal.{AreNumberedFrom}
 use Rattle.cspf_snapshot.specs.Snapshots.{marking, changes_making, AreMarksOf, AreFullButLast, IsSnapshot}
 use Rattle.cspf_snapshot.proofs.FullBatches.{short_each, length-changes_of-lt}
 use Rattle.cspf_snapshot.proofs.Parts.{AreOwnChanges, none_is_part}

@@ -6,11 +6,10 @@ use Rattle.cspf_model.specs.declared.link.Link.{Link}
 use Rattle.cspf_model.specs.declared.batch.Change.{Change}
 use Rattle.cspf_model.specs.declared.batch.Change.TheVariants.{Put, Node}
 use Rattle.cspf_model.specs.declared.limits.TheConstants.{MOST_CHANGES}
-use Rattle.cspf_model.specs.Numbered.{NumberedChanges}
+use Rattle.cspf_model.specs.Numbered.{NumberedChanges, AreNumberedFrom}
 use Rattle.cspf_model.specs.Database.{Database}
 use Rattle.cspf_db.specs.Index.{links_of}
 use Rattle.cspf_model.specs.Changes.{changes_of, database_after, AreLawful}
-use Rattle.cspf_rows.specs.Journal.{AreNumberedFrom}
 use Rattle.cspf_snapshot.specs.declared.limits.TheConstants.{MOST_SNAPSHOT_BATCHES}
 
 -- the addresses that the database has marked, each once, rising

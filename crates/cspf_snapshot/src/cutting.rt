@@ -1,7 +1,7 @@
 ghost use Rattle.std.specs.Prelude.{◌≡◌, ◌+◌, ◌≤◌, length, IfOk};
+ghost use Rattle.cspf_model.specs.Numbered.{AreNumberedFrom};
 ghost use Rattle.cspf_model.specs.declared.limits.TheConstants.{MOST_LINKS, MOST_MARKS};
 ghost use Rattle.cspf_model.specs.Changes.{changes_of};
-ghost use Rattle.cspf_rows.specs.Journal.{AreNumberedFrom};
 ghost use Rattle.cspf_snapshot.specs.Snapshots.{AreFullButLast};
 
 use cspf_model::{Batch, Change, MOST_CHANGES};

@@ -8,7 +8,7 @@ use Rattle.cspf_rows.specs.Rows.{row_of}
 use Rattle.cspf_rows.specs.declared.record_error.RecordError.{RecordError}
 use Rattle.cspf_rows.specs.declared.record_error.RecordError.TheVariants as fault
 use Rattle.cspf_stream.specs.RowAnswers.{AnswersOf, AreAnswered, AreAllAnswered}
-use Rattle.cspf_stream.specs.StreamStops.{FailsOf, IsRowStopped, IsStopped, StopsBetween}
+use Rattle.cspf_stream.specs.StreamStops.{FailsOf, IsRowStopped, HasStopped, StopsBetween}
 use Rattle.cspf_stream.specs.declared.limits.TheConstants.{MOST_STREAM_ROWS}
 use Rattle.cspf_stream.specs.declared.error.StreamError.{StreamError}
 use Rattle.cspf_stream.specs.declared.error.StreamError.TheVariants as stream_error
@@ -153,20 +153,20 @@ module _ {S : Type 0} (answers : AnswersOf S) where
     module _ (fails : FailsOf S) where
       -- a row can't be read
       pub stops_at_read : (why : RecordError) (error : StreamError) (after : Option (List (List (List ℕ)))) (failed : Bool) → failed ≡ true
-          → error ≡ stream_fault_of stream_error.Memory stream_error.Read why → IsStopped answers fails error all after failed s t old mid
+          → error ≡ stream_fault_of stream_error.Memory stream_error.Read why → HasStopped answers fails error all after failed s t old mid
       stops_at_read fault.Memory error after failed is e = rw e (inl (is, between))
       stops_at_read fault.Device error after failed is e = rw e (is, between)
 
       -- the row that was read stops
       pub stops_in_row : (u : S) (new : Option (List ℕ)) (failed : Bool) (error : StreamError) → Takes left next true fields
-          → IsRowStopped answers fails error (read + 1) (row_of fields) t u mid new → IsStopped answers fails error all next failed s u old new
+          → IsRowStopped answers fails error (read + 1) (row_of fields) t u mid new → HasStopped answers fails error all next failed s u old new
       stops_in_row u new failed error takes stops =
           let split = split_rest all next going.done fields (split_next all left next going.done fields going.split takes) in
           let place : read + 1 ≡ suc (length going.done) = omega (arith, going.count) in
           go error (rw place at stops) split
         where
           go : (error : StreamError) → IsRowStopped answers fails error (suc (length going.done)) (row_of fields) t u mid new
-              → IfSome all (λ rows. (rows ≡ going.done ++ (fields ∷ rest_of next)) × (next ≡ Some (rest_of next))) → IsStopped answers fails error all next failed s u old new
+              → IfSome all (λ rows. (rows ≡ going.done ++ (fields ∷ rest_of next)) × (next ≡ Some (rest_of next))) → HasStopped answers fails error all next failed s u old new
           go stream_error.Memory stops split = inr (record {
             done = going.done;
             fields = fields;
@@ -207,7 +207,7 @@ module _ {S : Type 0} (answers : AnswersOf S) where
           go stream_error.TooManyRows stops split = absurd stops
 
       -- one row more than can be counted
-      pub too_many : (failed : Bool) → read ≡ MOST_STREAM_ROWS → Takes left next true fields → IsStopped answers fails stream_error.TooManyRows all next failed s t old mid
+      pub too_many : (failed : Bool) → read ≡ MOST_STREAM_ROWS → Takes left next true fields → HasStopped answers fails stream_error.TooManyRows all next failed s t old mid
       too_many failed most takes = record {
         done = going.done;
         fields = fields;

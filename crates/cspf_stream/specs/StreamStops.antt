@@ -69,10 +69,10 @@ pub record HasTooMany {S : Type 0} (answers : AnswersOf S) (all : Option (List (
 
 -- What stands where a stream stops. A read that failed is the reader's fault, and so is memory that
 -- was refused before a row was whole.
-abbrev pub IsStopped : {S : Type 0} → AnswersOf S → FailsOf S → StreamError → Option (List (List (List ℕ))) → Option (List (List (List ℕ))) → Bool → S → S → Option (List ℕ) → Option (List ℕ) → Type 0
-IsStopped answers fails error.Memory all left failed s t old new =
+abbrev pub HasStopped : {S : Type 0} → AnswersOf S → FailsOf S → StreamError → Option (List (List (List ℕ))) → Option (List (List (List ℕ))) → Bool → S → S → Option (List ℕ) → Option (List ℕ) → Type 0
+HasStopped answers fails error.Memory all left failed s t old new =
     ((failed ≡ true) × StopsBetween answers all s t old new) ⊎ StopsInRow answers fails error.Memory all left s t old new
-IsStopped answers fails error.Read all left failed s t old new = (failed ≡ true) × StopsBetween answers all s t old new
-IsStopped answers fails error.Write all left failed s t old new = StopsInRow answers fails error.Write all left s t old new
-IsStopped answers fails error.Flush all left failed s t old new = StopsInRow answers fails error.Flush all left s t old new
-IsStopped answers fails error.TooManyRows all left failed s t old new = HasTooMany answers all s t old new
+HasStopped answers fails error.Read all left failed s t old new = (failed ≡ true) × StopsBetween answers all s t old new
+HasStopped answers fails error.Write all left failed s t old new = StopsInRow answers fails error.Write all left s t old new
+HasStopped answers fails error.Flush all left failed s t old new = StopsInRow answers fails error.Flush all left s t old new
+HasStopped answers fails error.TooManyRows all left failed s t old new = HasTooMany answers all s t old new

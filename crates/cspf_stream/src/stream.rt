@@ -5,7 +5,7 @@ ghost use Rattle.csv.specs.Reading.{has_failed};
 ghost use Rattle.cspf_rows.specs.Records.{rows_left, IsPlain};
 ghost use Rattle.cspf_rows.specs.Rows.{row_of};
 ghost use Rattle.cspf_stream.specs.RowAnswers.{AreAllAnswered};
-ghost use Rattle.cspf_stream.specs.StreamStops.{IsStopped, IsRowStopped, IsLineStopped};
+ghost use Rattle.cspf_stream.specs.StreamStops.{HasStopped, IsRowStopped, IsLineStopped};
 
 use crate::{Answering, MOST_STREAM_ROWS, StreamError};
 use cspf_rows::{Row, next_record, put_all};
@@ -18,7 +18,7 @@ use std::io::{Read, Write};
 /// written. Memory is taken for the longest row alone, and for what a row's answer needs.
 ///
 /// After an error no row behind the one that stopped the stream was read, and the writer has the
-/// lines of the rows before it: `IsStopped` says what else.
+/// lines of the rows before it: `HasStopped` says what else.
 pub fn answer_rows<R: Read, W: Write, C, A: Answering<C>>(
     context: &C,
     alloc: Global,
@@ -30,7 +30,7 @@ pub fn answer_rows<R: Read, W: Write, C, A: Answering<C>>(
     requires state { A.may_stand 1 answering.old }
     ensures whole { OnOk result (AreAllAnswered A.answers (rows_left R.remaining rows.old)
         answering.old answering.new (W.contents writer.old) (W.contents writer.new)) }
-    ensures stopped { IfErr result (λ error. IsStopped A.answers A.fails error
+    ensures stopped { IfErr result (λ error. HasStopped A.answers A.fails error
         (rows_left R.remaining rows.old) (rows_left R.remaining rows.new) (has_failed rows.new)
         answering.old answering.new (W.contents writer.old) (W.contents writer.new)) }
 {
@@ -51,7 +51,7 @@ fn answer_each<R: Read, W: Write, C, A: Answering<C>>(
     requires state { A.may_stand 1 answering.old }
     ensures whole { OnOk result (AreAllAnswered A.answers (rows_left R.remaining rows.old)
         answering.old answering.new (W.contents writer.old) (W.contents writer.new)) }
-    ensures stopped { IfErr result (λ error. IsStopped A.answers A.fails error
+    ensures stopped { IfErr result (λ error. HasStopped A.answers A.fails error
         (rows_left R.remaining rows.old) (rows_left R.remaining rows.new) (has_failed rows.new)
         answering.old answering.new (W.contents writer.old) (W.contents writer.new)) }
 {

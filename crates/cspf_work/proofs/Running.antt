@@ -12,7 +12,7 @@ use Rattle.std.proofs.Math.Seq.{take-append_seam}
 use Rattle.cspf_work.specs.declared.worker.Reply.{Reply}
 use Rattle.cspf_work.specs.declared.worker.Results.{Results}
 use Rattle.cspf_work.specs.Served.{AreSameAskers, IsFaultOfWorker, KnowsNoLess}
-use Rattle.cspf_work.specs.Working.{HasDrawnAll, IsRun, AreReady, AreResults, AreRun, AreLeft}
+use Rattle.cspf_work.specs.Working.{HasDrawnAll, IsWorkerRun, AreReady, AreResults, AreRun, AreLeft}
 
 -- the element at a place inside
 pub at_place : {X : Type 0} (xs : List X) (i : ℕ) → i < length xs → (x : X) × (slice_get xs i ≡ Some x)
@@ -22,15 +22,15 @@ at_place (x ∷ xs) (suc i) less = at_place xs i (omega arith)
 
 -- what each worker did, by its place
 abbrev pub AreRunByPlace : CounterId → List Request → List Worker → List Worker → Type 0
-AreRunByPlace counter requests old new = (i : ℕ) (d : Worker) → i < length old → IsRun counter requests (get_or old i d).asker (get_or new i d)
+AreRunByPlace counter requests old new = (i : ℕ) (d : Worker) → i < length old → IsWorkerRun counter requests (get_or old i d).asker (get_or new i d)
 
 run_at : (counter : CounterId) (requests : List Request) (old new : List Worker) → AreRunByPlace counter requests old new → (i : ℕ) (known : KnownBatches) (after : Worker) (o : Option Worker)
-    → slice_get old i ≡ o → option_map (λ (w : Worker). w.asker) o ≡ Some known → slice_get new i ≡ Some after → IsRun counter requests known after
+    → slice_get old i ≡ o → option_map (λ (w : Worker). w.asker) o ≡ Some known → slice_get new i ≡ Some after → IsWorkerRun counter requests known after
 run_at counter requests old new run i known after (Some w) at is there =
     let less = slice_get_within old i w at in
     let before : (get_or old i after).asker ≡ known = ap (λ (v : Worker). v.asker) (get_or_from_slice_get old i w after at) ∙ cc is in
-    subst (λ (v : Worker). IsRun counter requests known v) (get_or_from_slice_get new i after after there)
-    (subst (λ (k : KnownBatches). IsRun counter requests k (get_or new i after)) before (run i after less))
+    subst (λ (v : Worker). IsWorkerRun counter requests known v) (get_or_from_slice_get new i after after there)
+    (subst (λ (k : KnownBatches). IsWorkerRun counter requests k (get_or new i after)) before (run i after less))
 run_at counter requests old new run i known after None at is there = absurd (cc is)
 
 pub run_each : (counter : CounterId) (requests : List Request) (old new : List Worker) → 0 < length old → length new ≡ length old → AreRunByPlace counter requests old new → AreRun counter requests (map (λ w. w.asker) old) new
@@ -42,7 +42,7 @@ run_each counter requests old new some same run = record {
 
 -- one worker's part
 run_of : (counter : CounterId) (requests : List Request) (before : List KnownBatches) (workers : List Worker) → AreRun counter requests before workers → (i : ℕ) (d : Worker) → i < length workers
-    → (known : KnownBatches) × IsRun counter requests known (get_or workers i d)
+    → (known : KnownBatches) × IsWorkerRun counter requests known (get_or workers i d)
 run_of counter requests before workers run i d less =
     let known = at_place before i (let e = run.count in omega arith) in
     (known.0, run.each i known.0 (get_or workers i d) known.1 (slice_get-get_or workers i d less))

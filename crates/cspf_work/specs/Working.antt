@@ -49,7 +49,7 @@ pub record AreReady (id : CounterId) (requests : List Request) (before : List Kn
   pub idle : All (IsIdle id) workers
 
 -- what a worker did whose asker knew these batches before
-pub record IsRun (id : CounterId) (requests : List Request) (before : KnownBatches) (after : Worker) : Type 0 where
+pub record IsWorkerRun (id : CounterId) (requests : List Request) (before : KnownBatches) (after : Worker) : Type 0 where
   pub done : HasDone requests before after
   pub counter : after.drawer.counter ≡ id
   pub drawn : IsNone after.fault → HasDrawnAll (length requests) after
@@ -59,7 +59,7 @@ pub record IsRun (id : CounterId) (requests : List Request) (before : KnownBatch
 pub record AreRun (id : CounterId) (requests : List Request) (before : List KnownBatches) (workers : List Worker) : Type 0 where
   pub some : 0 < length workers
   pub count : length workers ≡ length before
-  pub each : (worker : ℕ) (known : KnownBatches) (after : Worker) → slice_get before worker ≡ Some known → slice_get workers worker ≡ Some after → IsRun id requests known after
+  pub each : (worker : ℕ) (known : KnownBatches) (after : Worker) → slice_get before worker ≡ Some known → slice_get workers worker ≡ Some after → IsWorkerRun id requests known after
 
 -- all numbers that workers drew
 abbrev pub all_drawn : List Worker → List ℕ

@@ -2,7 +2,7 @@ ghost use Rattle.std.specs.Prelude.{◌≡◌, List, length};
 ghost use Rattle.cspf_draw.specs.DrawnNumbers.{CounterId};
 ghost use Rattle.cspf_publish.specs.KnownBatches.{KnownBatches};
 ghost use Rattle.cspf_work.specs.declared.worker.Worker.{Worker as OneWorker};
-ghost use Rattle.cspf_work.specs.Working.{IsIdle, IsRun, AreReady, AreRun, AreLeft, CanBegin};
+ghost use Rattle.cspf_work.specs.Working.{IsIdle, IsWorkerRun, AreReady, AreRun, AreLeft, CanBegin};
 
 use crate::Gate;
 use crate::crew::{Crew, dismiss};
@@ -36,7 +36,7 @@ pub(crate) fn run_all<G: Gate + Sync, R: Threads + Sync>(
         &|number, worker: &mut Worker<'_>|
             requires { (worker.now.drawer.counter.requests ≡ length requests.now)
                 × IsIdle worker.now.drawer.counter worker.now }
-            ensures { IsRun worker.entry.now.drawer.counter requests.entry.now
+            ensures { IsWorkerRun worker.entry.now.drawer.counter requests.entry.now
                 worker.entry.now.asker worker.exit.now }
         { serve(alloc, number, requests, gate, worker) },
     );

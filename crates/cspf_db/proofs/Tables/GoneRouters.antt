@@ -14,7 +14,7 @@ use Rattle.cspf_model.specs.Database.{ends_of}
 use Rattle.cspf_model.specs.Lemmas.CountedEnds.{with_ends, BringsAtMost, BringsBeside}
 use Rattle.cspf_model.specs.Lemmas.GoneRouters.{is_at, puts_at}
 use Rattle.cspf_db.specs.Tables.Rows.{AreEndsOf, AreRising}
-use Rattle.cspf_model.specs.Lemmas.RowsLeft.{is_untouched, rows_left, links_put}
+use Rattle.cspf_model.specs.Lemmas.RowsLeft.{is_untouched, rows_untouched, links_put}
 use Rattle.cspf_model.proofs.Databases.EndCounts.{any-ends_of, contains-with_ends, one_end, or_right, with_ends-append}
 use Rattle.cspf_db.proofs.Tables.EndColumn.{length-ends}
 use Rattle.cspf_db.proofs.Tables.RouterPlaces.{one_place}
@@ -56,7 +56,7 @@ all_three false f t from to = refl
 pub nothing_left : (rows : List Link) (routers ends : List ℕ) (cs : List Change) (place : ℕ) → AreRising routers → AreEndsOf rows routers ends → place < length routers
     → list_any (is_untouched cs) (filter (λ l. nat_eq l.from (slice_index routers place)) rows) ≡ false
     → ((at : ℕ) (d : Link) → at < length rows → (nat_eq (slice_index ends at) place && is_untouched cs (slice_index_or rows at d)) ≡ false)
-    → list_any (is_at (slice_index routers place)) (rows_left rows cs) ≡ false
+    → list_any (is_at (slice_index routers place)) (rows_untouched rows cs) ≡ false
 nothing_left rows routers ends cs place rising are within no_from no_to =
     let router = slice_index routers place in
     let u : Link → Bool = is_untouched cs in

@@ -13,7 +13,7 @@ use Rattle.cspf_model.specs.declared.batch.Change.TheVariants.{Remove}
 use Rattle.cspf_model.specs.Changes.{ChangeKey, change_key_cmp}
 use Rattle.cspf_model.specs.Changes.{key_changed}
 use Rattle.cspf_model.specs.Refusals.{AreOnceEach}
-use Rattle.cspf_db.specs.Tables.MergeSteps.{AreInOrder, IsPlaceOfChange}
+use Rattle.cspf_db.specs.Tables.MergeSteps.{AreSortedChanges, IsPlaceOfChange}
 use Rattle.cspf_model.proofs.Databases.Keys.{change_keys_total}
 
 -- changes that are read by their indices, which stand beside keys
@@ -71,7 +71,7 @@ only_less o Greater turned above apart = turned
 
 -- changes on keys of their own are in order where their keys are sorted
 pub in_order : (changes : List Change) (sorted : List (ChangeKey × ℕ)) (out : List Change) → All (IsPlaceOfChange changes) sorted → ((d : Change) → out ≡ map (change_of changes d) sorted)
-    → IsSorted place_cmp sorted → AreOnceEach out → AreInOrder out
+    → IsSorted place_cmp sorted → AreOnceEach out → AreSortedChanges out
 in_order changes sorted out places copied rising once k d h =
     let long : length out ≡ length sorted = ap length (copied d) ∙ length-map sorted (change_of changes d) in
     let low = key_at changes sorted out places copied k d (omega (arith, long, h)) in

@@ -34,8 +34,8 @@ EndsBelow rows k =
     → change_key_cmp (link_key (key_of (slice_index_or rows (length rows - 1) d))) k ≡ Less
 
 -- each change's key is above the one before it
-abbrev pub AreInOrder : List Change → Type 0
-AreInOrder changes =
+abbrev pub AreSortedChanges : List Change → Type 0
+AreSortedChanges changes =
     (k : ℕ) (d : Change) → k + 1 < length changes
     → change_key_cmp (key_changed (slice_index_or changes k d)) (key_changed (slice_index_or changes (k + 1) d)) ≡ Less
 

@@ -73,7 +73,7 @@ pub record AreRowsWithEnds (links : Vec Link Global) (routers : List ℕ) (indic
   pub column : IsEndColumn links.items routers indices.items
 
 -- rows, with their routers and their ends
-pub record AreParts (links : Vec Link Global) (names : Vec ℕ Global) (indices : Vec ℕ Global) : Type 0 where
+pub record AreRowParts (links : Vec Link Global) (names : Vec ℕ Global) (indices : Vec ℕ Global) : Type 0 where
   pub rows : AreRows links
   pub routers : AreRoutersOf links.items names
   pub ends : AreEndsOf links.items names.items indices.items
@@ -116,7 +116,7 @@ pub record AreMarks (marks : Vec ℕ Global) : Type 0 where
 -- the parts of a table, where the rows from each router begin and end, and where the reverse of each
 -- row is, beside the marks, which make no router, and whether each router has transit
 pub record IsTable (a : Inside) : Type 0 where
-  pub parts : AreParts a.rows a.routers a.ends
+  pub parts : AreRowParts a.rows a.routers a.ends
   pub spans : AreSpansOf a.rows.items a.routers.items a.spans.items
   pub room : MOST_ROUTERS ≤ vec_capacity a.spans
   pub reverses : AreReversesOf a.rows.items a.reverses

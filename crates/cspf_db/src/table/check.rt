@@ -11,7 +11,7 @@ ghost use Rattle.cspf_model.specs.Lemmas.LinkChanges.{all_relinked};
 ghost use Rattle.cspf_model.specs.Lemmas.LinkRows.{database_of, marked_database, AreByKey};
 ghost use Rattle.cspf_db.specs.Tables.Rows.{AreEndsOf, AreRising};
 ghost use Rattle.cspf_model.specs.Lemmas.RepeatedKeys.{is_changed, IsNewAt, IsRepeatedAt};
-ghost use Rattle.cspf_model.specs.Lemmas.RowsLeft.{is_untouched, rows_left, links_put, adds_link, removes_link};
+ghost use Rattle.cspf_model.specs.Lemmas.RowsLeft.{is_untouched, rows_untouched, links_put, adds_link, removes_link};
 ghost use Rattle.cspf_model.specs.Lemmas.CountedEnds.{with_ends, HasListedEnds, BringsAtMost};
 ghost use Rattle.cspf_model.specs.Refusals.{AreOnceEach, ArePresent, IsRefusal};
 ghost use Rattle.cspf_model.specs.declared.limits.TheConstants.{MOST_MARKS};
@@ -162,10 +162,10 @@ fn has_too_many_links(rows: &[Link], changes: &[Change], added: usize) -> bool
 fn add_rows(routers: &mut Routers, rows: &[Link], changes: &[Change]) -> bool
     requires { set.len routers.old ≤ MOST_ROUTERS }
     ensures added { OnTrue result
-        (routers.new ≡ with_ends routers.old (rows_left rows.now changes.now)) }
+        (routers.new ≡ with_ends routers.old (rows_untouched rows.now changes.now)) }
     ensures few { OnTrue result (set.len routers.new ≤ MOST_ROUTERS) }
     ensures full { OnFalse result
-        (MOST_ROUTERS < set.len (with_ends routers.old (rows_left rows.now changes.now))) }
+        (MOST_ROUTERS < set.len (with_ends routers.old (rows_untouched rows.now changes.now))) }
 {
     for row in rows {
         if routers.has_ends(row) {

@@ -11,7 +11,7 @@ ghost use Rattle.cspf_model.specs.Changes.{ChangeKey, change_key_cmp, key_change
 ghost use Rattle.cspf_model.specs.Lemmas.LinkChanges.{relinked, all_relinked};
 ghost use Rattle.cspf_model.specs.Refusals.{AreOnceEach};
 ghost use Rattle.cspf_model.specs.Lemmas.CountedEnds.{HasListedEnds};
-ghost use Rattle.cspf_db.specs.Tables.MergeSteps.{AreMergedBelow, IsMergedUpTo, EndsBelow, AreInOrder, IsPlaceOfChange};
+ghost use Rattle.cspf_db.specs.Tables.MergeSteps.{AreMergedBelow, IsMergedUpTo, EndsBelow, AreSortedChanges, IsPlaceOfChange};
 ghost use Rattle.cspf_model.specs.Lemmas.RowsLeft.{links_put};
 ghost use Rattle.cspf_model.specs.Lemmas.LinkRows.{database_of, AreByKey};
 ghost use Rattle.cspf_db.specs.Tables.Rows.{AreRising, AreEndsOf};
@@ -130,7 +130,7 @@ pub fn merge(
     requires by_key { AreByKey rows.now }
     requires most { length rows.now ≤ MOST_LINKS }
     requires short { length changes.now ≤ MOST_CHANGES }
-    requires in_order { AreInOrder changes.now }
+    requires in_order { AreSortedChanges changes.now }
     requires empty { merged.old.items ≡ [] }
     requires empty_ends { merged_ends.old.items ≡ [] }
     requires room { ROOM_FOR_LINKS ≤ vec_capacity merged.old }
@@ -196,7 +196,7 @@ pub fn sort_changes(
     requires room { length changes.now ≤ vec_capacity sorted.old }
     requires room_for_order { length changes.now ≤ vec_capacity order.old }
     ensures permutation { IsPermutation changes.now sorted.new.items }
-    ensures in_order { AreInOrder sorted.new.items }
+    ensures in_order { AreSortedChanges sorted.new.items }
     ensures capacity { vec_capacity sorted.old ≤ vec_capacity sorted.new }
     ensures capacity_of_order { vec_capacity order.old ≤ vec_capacity order.new }
 {

@@ -8,7 +8,7 @@ ghost use Rattle.cspf_model.specs.Database.{link_count, router_count};
 ghost use Rattle.cspf_model.specs.Refusals.{AreOnceEach};
 ghost use Rattle.cspf_model.specs.Lemmas.RowsLeft.{adds_link, removes_link, puts_link};
 ghost use Rattle.cspf_model.specs.Lemmas.LinkRows.{database_of};
-ghost use Rattle.cspf_db.specs.Tables.Rows.{AreParts, AreRowsWithEnds};
+ghost use Rattle.cspf_db.specs.Tables.Rows.{AreRowParts, AreRowsWithEnds};
 ghost use Rattle.cspf_db.specs.Tables.Reverses.{AreReversesOf};
 ghost use Rattle.cspf_db.specs.Tables.RowChanges.{AreChangesFor};
 ghost use Rattle.cspf_model.specs.declared.limits.TheConstants.{MOST_CHANGES, MOST_LINKS, MOST_ROUTERS};
@@ -214,7 +214,7 @@ pub fn change_table(
     changes: &[Change],
     tally: Tally,
 ) -> bool
-    requires parts { AreParts rows.old routers.old ends.old }
+    requires parts { AreRowParts rows.old routers.old ends.old }
     requires reverses { AreReversesOf rows.old.items reverses.old }
     requires added { tally.added ≡ count_by (adds_link (database_of rows.old.items)) changes.now }
     requires listed { tally.brought ≡ 0 → All (HasListedEnds routers.old.items) changes.now }
@@ -224,7 +224,7 @@ pub fn change_table(
     requires few { router_count (all_relinked (database_of rows.old.items) changes.now) ≤ MOST_ROUTERS }
     ensures changed { database_of rows.new.items
         ≡ all_relinked (database_of rows.old.items) changes.now }
-    ensures parts { AreParts rows.new routers.new ends.new }
+    ensures parts { AreRowParts rows.new routers.new ends.new }
     ensures reverses { result ≡ true → AreReversesOf rows.new.items reverses.new }
     ensures room { ROOM_FOR_LINKS ≤ vec_capacity reverses.new }
 {

@@ -11,7 +11,7 @@ use Rattle.std.proofs.lemmas.Map.Keys.{IsDistinct-push}
 use Rattle.cspf_model.specs.declared.link.Link.{Link}
 use Rattle.cspf_model.specs.declared.batch.Change.{Change}
 use Rattle.cspf_model.specs.declared.batch.Change.TheVariants.{Put}
-use Rattle.cspf_model.specs.Lemmas.RowsLeft.{is_untouched, rows_left, links_put}
+use Rattle.cspf_model.specs.Lemmas.RowsLeft.{is_untouched, rows_untouched, links_put}
 use Rattle.cspf_model.specs.Lemmas.CountedEnds.{with_ends}
 use Rattle.cspf_model.proofs.Databases.EndCounts.{len-with_ends-le, len-insert-le}
 
@@ -84,15 +84,15 @@ full-first s l full = omega (arith, full, len-insert-le (set.insert s l.from) l.
 -- where the ends of the next row are too many, so are those of all rows that are left
 pub full-row : (s old : set.FinSet nat_cmp) (l : Link) (rows : List Link) (cs : List Change) (i : ℕ)
     → i < length rows → l ≡ slice_index_or rows i l → true ≡ is_untouched cs l
-    → with_ends s (rows_left (drop i rows) cs) ≡ with_ends old (rows_left rows cs)
-    → 1024 < set.len (with_ends s (l ∷ [])) → 1024 < set.len (with_ends old (rows_left rows cs))
+    → with_ends s (rows_untouched (drop i rows) cs) ≡ with_ends old (rows_untouched rows cs)
+    → 1024 < set.len (with_ends s (l ∷ [])) → 1024 < set.len (with_ends old (rows_untouched rows cs))
 full-row s old l rows cs i within read left same full =
-    let next : with_ends (with_ends s (l ∷ [])) (rows_left (drop (i + 1) rows) cs) ≡ with_ends old (rows_left rows cs) =
-    ap (λ b. with_ends s (cond b (l ∷ rows_left (drop (i + 1) rows) cs) (rows_left (drop (i + 1) rows) cs))) left
-    ∙ ap (λ (m : Link). with_ends s (rows_left (m ∷ drop (i + 1) rows) cs)) read
-    ∙ sym (at_drop_more (λ ls. with_ends s (rows_left ls cs)) rows i l within) ∙ same in
+    let next : with_ends (with_ends s (l ∷ [])) (rows_untouched (drop (i + 1) rows) cs) ≡ with_ends old (rows_untouched rows cs) =
+    ap (λ b. with_ends s (cond b (l ∷ rows_untouched (drop (i + 1) rows) cs) (rows_untouched (drop (i + 1) rows) cs))) left
+    ∙ ap (λ (m : Link). with_ends s (rows_untouched (m ∷ drop (i + 1) rows) cs)) read
+    ∙ sym (at_drop_more (λ ls. with_ends s (rows_untouched ls cs)) rows i l within) ∙ same in
     omega
-    (arith, full, len-with_ends-le (with_ends s (l ∷ [])) (rows_left (drop (i + 1) rows) cs), ap set.len next)
+    (arith, full, len-with_ends-le (with_ends s (l ∷ [])) (rows_untouched (drop (i + 1) rows) cs), ap set.len next)
 
 -- where the ends of the next link that is put are too many, so are those of all that are left
 pub full-put : (s old : set.FinSet nat_cmp) (c : Change) (l : Link) (cs : List Change) (i : ℕ)

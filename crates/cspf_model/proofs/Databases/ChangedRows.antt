@@ -15,7 +15,7 @@ use Rattle.cspf_model.specs.Changes.{ChangeKey, change_key_cmp, link_key, key_ch
 use Rattle.cspf_model.specs.Lemmas.LinkChanges.{relinked, all_relinked}
 use Rattle.cspf_model.specs.Lemmas.LinkRows.{entry_of, database_of}
 use Rattle.cspf_model.specs.Lemmas.RepeatedKeys.{is_changed}
-use Rattle.cspf_model.specs.Lemmas.RowsLeft.{is_untouched, rows_left, links_put}
+use Rattle.cspf_model.specs.Lemmas.RowsLeft.{is_untouched, rows_untouched, links_put}
 use Rattle.cspf_model.specs.Refusals.{AreOnceEach}
 use Rattle.cspf_model.proofs.Databases.Keys.{keys_total, keys_same, change_keys_total, link_apart}
 use Rattle.cspf_model.proofs.Databases.LinksOfRows.{link_at-database_of}
@@ -27,7 +27,7 @@ at_key links k = find key_cmp k (map entry_of links)
 
 -- the rows that changes leave, and the links that they put
 abbrev pub rows_after : List Link → List Change → List Link
-rows_after rows changes = rows_left rows changes ++ links_put changes
+rows_after rows changes = rows_untouched rows changes ++ links_put changes
 
 -- keys that tie are changed alike
 changed_alike : (cs : List Change) (j k : Key) → eq_by_cmp key_cmp j k ≡ true
@@ -62,32 +62,32 @@ not_put (Node router transit ∷ cs) k off = not_put cs k (or_second _ _ off)
 
 -- the rows that are left have what all rows have at a key that isn't changed, and nothing at others
 at_left : (rows : List Link) (cs : List Change) (k : Key)
-    → at_key (rows_left rows cs) k ≡ cond (is_changed cs (link_key k)) None (at_key rows k)
+    → at_key (rows_untouched rows cs) k ≡ cond (is_changed cs (link_key k)) None (at_key rows k)
 unfolding at_key
 at_left [] cs k =
     elim (is_changed cs (link_key k)) as (λ b. ◌≡◌ {A = Option Link} None (cond b None None)) [ true ↦ refl | false ↦ refl ]
 at_left (l ∷ rows) cs k =
-    elim (eq_by_cmp key_cmp k (key_of l)) as (λ t. eq_by_cmp key_cmp k (key_of l) ≡ t → at_key (rows_left (l ∷ rows) cs) k ≡ cond (is_changed cs (link_key k)) None (cond t (Some l) (at_key rows k))) [
-      | true ↦ λ tie. elim (is_changed cs (link_key k)) as (λ b. is_changed cs (link_key k) ≡ b → at_key (rows_left (l ∷ rows) cs) k ≡ cond b None (Some l)) [
+    elim (eq_by_cmp key_cmp k (key_of l)) as (λ t. eq_by_cmp key_cmp k (key_of l) ≡ t → at_key (rows_untouched (l ∷ rows) cs) k ≡ cond (is_changed cs (link_key k)) None (cond t (Some l) (at_key rows k))) [
+      | true ↦ λ tie. elim (is_changed cs (link_key k)) as (λ b. is_changed cs (link_key k) ≡ b → at_key (rows_untouched (l ∷ rows) cs) k ≡ cond b None (Some l)) [
         | true ↦ λ on. dropped (sym (changed_alike cs k (key_of l) tie) ∙ on) ∙ at_left rows cs k
             ∙ ap (λ b. cond b None (at_key rows k)) on
         | false ↦ λ off. stayed (sym (changed_alike cs k (key_of l) tie) ∙ off)
-            ∙ ap (λ b. cond b (Some l) (at_key (rows_left rows cs) k)) tie
+            ∙ ap (λ b. cond b (Some l) (at_key (rows_untouched rows cs) k)) tie
       ] refl
-      | false ↦ λ apart. elim (is_changed cs (link_key (key_of l))) as (λ b. is_changed cs (link_key (key_of l)) ≡ b → at_key (rows_left (l ∷ rows) cs) k ≡ cond (is_changed cs (link_key k)) None (at_key rows k)) [
+      | false ↦ λ apart. elim (is_changed cs (link_key (key_of l))) as (λ b. is_changed cs (link_key (key_of l)) ≡ b → at_key (rows_untouched (l ∷ rows) cs) k ≡ cond (is_changed cs (link_key k)) None (at_key rows k)) [
         | true ↦ λ on. dropped on ∙ at_left rows cs k
-        | false ↦ λ off. stayed off ∙ ap (λ b. cond b (Some l) (at_key (rows_left rows cs) k)) apart
+        | false ↦ λ off. stayed off ∙ ap (λ b. cond b (Some l) (at_key (rows_untouched rows cs) k)) apart
             ∙ at_left rows cs k
       ] refl
     ] refl
   where
     dropped : is_changed cs (link_key (key_of l)) ≡ true
-        → at_key (rows_left (l ∷ rows) cs) k ≡ at_key (rows_left rows cs) k
-    dropped on = ap (λ b. at_key (cond (not b) (l ∷ rows_left rows cs) (rows_left rows cs)) k) on
+        → at_key (rows_untouched (l ∷ rows) cs) k ≡ at_key (rows_untouched rows cs) k
+    dropped on = ap (λ b. at_key (cond (not b) (l ∷ rows_untouched rows cs) (rows_untouched rows cs)) k) on
 
     stayed : is_changed cs (link_key (key_of l)) ≡ false
-        → at_key (rows_left (l ∷ rows) cs) k ≡ at_key (l ∷ rows_left rows cs) k
-    stayed off = ap (λ b. at_key (cond (not b) (l ∷ rows_left rows cs) (rows_left rows cs)) k) off
+        → at_key (rows_untouched (l ∷ rows) cs) k ≡ at_key (l ∷ rows_untouched rows cs) k
+    stayed off = ap (λ b. at_key (cond (not b) (l ∷ rows_untouched rows cs) (rows_untouched rows cs)) k) off
 
 -- the first of two options that has something
 first_of : Option Link → Option Link → Option Link
@@ -116,7 +116,7 @@ chosen false (Some x) put none = refl
 at_after : (rows : List Link) (cs : List Change) (k : Key)
     → at_key (rows_after rows cs) k ≡ cond (is_changed cs (link_key k)) (at_key (links_put cs) k) (at_key rows k)
 at_after rows cs k =
-    at_both (rows_left rows cs) (links_put cs) k
+    at_both (rows_untouched rows cs) (links_put cs) k
     ∙ ap (λ o. first_of o (at_key (links_put cs) k)) (at_left rows cs k)
     ∙ chosen (is_changed cs (link_key k)) (at_key rows k) (at_key (links_put cs) k) (not_put cs k)
 
@@ -200,10 +200,10 @@ database-rows_after rows cs once =
 -- a key that no row has is not that of a row that is left
 apart_left : (k : Key) (rows : List Link) (cs : List Change)
     → AllByRecursion (λ y. eq_by_cmp key_cmp k y ≡ false) (map key_of rows)
-    → AllByRecursion (λ y. eq_by_cmp key_cmp k y ≡ false) (map key_of (rows_left rows cs))
+    → AllByRecursion (λ y. eq_by_cmp key_cmp k y ≡ false) (map key_of (rows_untouched rows cs))
 apart_left k [] cs all = tt
 apart_left k (l ∷ rows) cs all =
-    elim (is_untouched cs l) as (λ b. AllByRecursion (λ y. eq_by_cmp key_cmp k y ≡ false) (map key_of (cond b (l ∷ rows_left rows cs) (rows_left rows cs)))) [
+    elim (is_untouched cs l) as (λ b. AllByRecursion (λ y. eq_by_cmp key_cmp k y ≡ false) (map key_of (cond b (l ∷ rows_untouched rows cs) (rows_untouched rows cs)))) [
       | true ↦ (all.0, apart_left k rows cs all.1)
       | false ↦ apart_left k rows cs all.1
     ]
@@ -237,9 +237,9 @@ pub apart-rows_after : (rows : List Link) (cs : List Change) → HaveOwnKeys row
 unfolding IsDistinct
 apart-rows_after [] cs apart once = puts_apart cs once
 apart-rows_after (l ∷ rows) cs apart once =
-    elim (is_changed cs (link_key (key_of l))) as (λ b. is_changed cs (link_key (key_of l)) ≡ b → HaveOwnKeys (cond (not b) (l ∷ rows_left rows cs) (rows_left rows cs) ++ links_put cs)) [
+    elim (is_changed cs (link_key (key_of l))) as (λ b. is_changed cs (link_key (key_of l)) ≡ b → HaveOwnKeys (cond (not b) (l ∷ rows_untouched rows cs) (rows_untouched rows cs) ++ links_put cs)) [
       | true ↦ λ on. apart-rows_after rows cs apart.1 once
-      | false ↦ λ off. (all_both (λ y. eq_by_cmp key_cmp (key_of l) y ≡ false) (rows_left rows cs) (links_put cs) (apart_left (key_of l) rows cs apart.0) (apart_put (key_of l) cs off), apart-rows_after rows cs apart.1 once)
+      | false ↦ λ off. (all_both (λ y. eq_by_cmp key_cmp (key_of l) y ≡ false) (rows_untouched rows cs) (links_put cs) (apart_left (key_of l) rows cs apart.0) (apart_put (key_of l) cs off), apart-rows_after rows cs apart.1 once)
     ] refl
 
 -- what stands in a list stands in one that is longer by one

@@ -20,7 +20,7 @@ use Rattle.cspf_model.specs.Changes.{link_left}
 use Rattle.cspf_model.specs.Lemmas.GoneRouters.{is_at, HasGone}
 use Rattle.cspf_model.specs.Lemmas.LinkChanges.{all_relinked}
 use Rattle.cspf_model.specs.Lemmas.LinkRows.{database_of}
-use Rattle.cspf_model.specs.Lemmas.RowsLeft.{is_untouched, rows_left, links_put}
+use Rattle.cspf_model.specs.Lemmas.RowsLeft.{is_untouched, rows_untouched, links_put}
 use Rattle.cspf_model.specs.Lemmas.CountedEnds.{with_ends, AnyEndsAt, BringsAtMost}
 use Rattle.cspf_model.specs.Refusals.{AreOnceEach}
 use Rattle.cspf_model.proofs.Databases.Keys.{keys_total}
@@ -199,10 +199,10 @@ len-within (x ∷ xs) t inside =
 
 -- a row that is left is a row
 any_left : (p : Link → Bool) (rows : List Link) (cs : List Change)
-    → list_any p (rows_left rows cs) ≡ true → list_any p rows ≡ true
+    → list_any p (rows_untouched rows cs) ≡ true → list_any p rows ≡ true
 any_left p [] cs is = is
 any_left p (l ∷ rows) cs is =
-    elim (is_untouched cs l) as (λ b. list_any p (cond b (l ∷ rows_left rows cs) (rows_left rows cs)) ≡ true → list_any p (l ∷ rows) ≡ true) [
+    elim (is_untouched cs l) as (λ b. list_any p (cond b (l ∷ rows_untouched rows cs) (rows_untouched rows cs)) ≡ true → list_any p (l ∷ rows) ≡ true) [
       | true ↦ λ some. or_either (p l) _ _ some (λ later. any_left p rows cs later)
       | false ↦ λ later. or_right (p l) _ (any_left p rows cs later)
     ] is
@@ -239,20 +239,20 @@ or_split false b e f g = g e
 -- how many routers there are after changes
 module _ (rows : List Link) (cs : List Change) (apart : HaveOwnKeys rows) (once : AreOnceEach cs) where
   -- as many as the ends of the rows that are left and of the links that are put
-  pub router_count-after : router_count (all_relinked (database_of rows) cs) ≡ set.len (with_ends (with_ends set.empty (rows_left rows cs)) (links_put cs))
+  pub router_count-after : router_count (all_relinked (database_of rows) cs) ≡ set.len (with_ends (with_ends set.empty (rows_untouched rows cs)) (links_put cs))
   router_count-after =
       ap router_count (sym (database-rows_after rows cs once))
       ∙ router_count-database_of (rows_after rows cs) (apart-rows_after rows cs apart once)
       ∙ ap set.len
-      (sym (with_ends-append set.empty (rows_left rows cs) (links_put cs) ∙ with_ends-empty (rows_after rows cs)))
+      (sym (with_ends-append set.empty (rows_untouched rows cs) (links_put cs) ∙ with_ends-empty (rows_after rows cs)))
 
   -- their ends are ends of the rows, or of links that are put
   in_grown : (q : ℕ) → list_any (eq_by_cmp nat_cmp q) (ends_of (rows_after rows cs)) ≡ true → set.contains (with_ends (set.from_list (ends_of rows)) (links_put cs)) q ≡ true
   in_grown q is =
       let all : set.FinSet nat_cmp = set.from_list (ends_of rows) in
       contains-with_ends all (links_put cs) q
-      ∙ or_split (list_any (λ l. eq_by_cmp nat_cmp q l.from || eq_by_cmp nat_cmp q l.to) (rows_left rows cs)) (list_any (λ l. eq_by_cmp nat_cmp q l.from || eq_by_cmp nat_cmp q l.to) (links_put cs))
-      (sym (list_any-append _ (rows_left rows cs) (links_put cs)) ∙ sym (any-ends_of (eq_by_cmp nat_cmp q) (rows_after rows cs)) ∙ is)
+      ∙ or_split (list_any (λ l. eq_by_cmp nat_cmp q l.from || eq_by_cmp nat_cmp q l.to) (rows_untouched rows cs)) (list_any (λ l. eq_by_cmp nat_cmp q l.from || eq_by_cmp nat_cmp q l.to) (links_put cs))
+      (sym (list_any-append _ (rows_untouched rows cs) (links_put cs)) ∙ sym (any-ends_of (eq_by_cmp nat_cmp q) (rows_after rows cs)) ∙ is)
       (λ left. ap (λ b. b || list_any (eq_by_cmp nat_cmp q) (ends_of (links_put cs))) (set.contains-from_list nat_cmp_total (ends_of rows) q ∙ any-ends_of (eq_by_cmp nat_cmp q) rows ∙ any_left _ rows cs left))
       (λ put. or_right (set.contains all q) _ (any-ends_of (eq_by_cmp nat_cmp q) (links_put cs) ∙ put))
 
@@ -272,7 +272,7 @@ module _ (rows : List Link) (cs : List Change) (apart : HaveOwnKeys rows) (once 
       let all : set.FinSet nat_cmp = set.from_list (ends_of rows) in
       let grown : set.FinSet nat_cmp = with_ends all (links_put cs) in
       let absent : set.contains (set.from_list {R = nat_cmp} ends) g ≡ false =
-      set.contains-from_list_nat ends g ∙ any-ends_of (λ y. nat_eq y g) (rows_after rows cs) ∙ list_any-append (is_at g) (rows_left rows cs) (links_put cs) ∙ ap (λ b. b || list_any (is_at g) (links_put cs)) gone.left ∙ gone.put in
+      set.contains-from_list_nat ends g ∙ any-ends_of (λ y. nat_eq y g) (rows_after rows cs) ∙ list_any-append (is_at g) (rows_untouched rows cs) (links_put cs) ∙ ap (λ b. b || list_any (is_at g) (links_put cs)) gone.left ∙ gone.put in
       let there : set.contains grown g ≡ true =
       contains-with_ends all (links_put cs) g ∙ ap (λ b. b || list_any (eq_by_cmp nat_cmp g) (ends_of (links_put cs))) (All-contains (λ r. set.contains all r ≡ true) routers g inside known) in
       let within : set.len (set.from_list {R = nat_cmp} ends) ≤ set.len (set.remove grown g) =
@@ -325,21 +325,21 @@ with_ends-turned s xs ys =
 -- what adding all ends tells of the number of routers
 module _ (rows : List Link) (cs : List Change) (apart : HaveOwnKeys rows) (once : AreOnceEach cs) where
   -- they are the ends of the links that are put and of the rows that are left
-  counted : router_count (all_relinked (database_of rows) cs) ≡ set.len (with_ends (with_ends set.empty (links_put cs)) (rows_left rows cs))
-  counted = router_count-after rows cs apart once ∙ ap set.len (with_ends-turned set.empty (rows_left rows cs) (links_put cs))
+  counted : router_count (all_relinked (database_of rows) cs) ≡ set.len (with_ends (with_ends set.empty (links_put cs)) (rows_untouched rows cs))
+  counted = router_count-after rows cs apart once ∙ ap set.len (with_ends-turned set.empty (rows_untouched rows cs) (links_put cs))
 
   -- where the ends of the links that are put are too many
   pub many_put : 1024 < set.len (with_ends set.empty (links_put cs))
       → 1024 < router_count (all_relinked (database_of rows) cs)
-  many_put many = omega (arith, many, len-with_ends-le (with_ends set.empty (links_put cs)) (rows_left rows cs), counted)
+  many_put many = omega (arith, many, len-with_ends-le (with_ends set.empty (links_put cs)) (rows_untouched rows cs), counted)
 
   -- where both were added
   pub tells_both : (b : Bool) (first second : set.FinSet nat_cmp)
       → first ≡ with_ends set.empty (links_put cs)
-      → OnTrue b (second ≡ with_ends first (rows_left rows cs)) → OnTrue b (set.len second ≤ 1024)
-      → OnFalse b (1024 < set.len (with_ends first (rows_left rows cs)))
+      → OnTrue b (second ≡ with_ends first (rows_untouched rows cs)) → OnTrue b (set.len second ≤ 1024)
+      → OnFalse b (1024 < set.len (with_ends first (rows_untouched rows cs)))
       → IsTrue (not b) ↔ (1024 < router_count (all_relinked (database_of rows) cs))
   tells_both true first second put left few many =
-      ((λ e. absurd (cc)), λ above. absurd (omega (arith, above, few, counted, ap set.len left, ap (λ s. set.len (with_ends s (rows_left rows cs))) put)))
+      ((λ e. absurd (cc)), λ above. absurd (omega (arith, above, few, counted, ap set.len left, ap (λ s. set.len (with_ends s (rows_untouched rows cs))) put)))
   tells_both false first second put left few many =
-      ((λ _. omega (arith, many, counted, ap (λ s. set.len (with_ends s (rows_left rows cs))) put)), λ _. refl)
+      ((λ _. omega (arith, many, counted, ap (λ s. set.len (with_ends s (rows_untouched rows cs))) put)), λ _. refl)

@@ -4,7 +4,7 @@ use Rattle.std.specs.List.{list_any}
 use Rattle.cspf_model.specs.declared.link.Link.{Link}
 use Rattle.cspf_model.specs.declared.batch.Change.{Change}
 use Rattle.cspf_model.specs.declared.batch.Change.TheVariants.{Put, Remove, Node}
-use Rattle.cspf_model.specs.Lemmas.RowsLeft.{rows_left, links_put}
+use Rattle.cspf_model.specs.Lemmas.RowsLeft.{rows_untouched, links_put}
 
 -- the link begins or ends at the router
 abbrev pub is_at : ℕ → Link → Bool
@@ -18,7 +18,7 @@ puts_at router (Node r transit) = false
 
 -- no link does after the changes
 pub record IsGone (rows : List Link) (changes : List Change) (router : ℕ) : Type 0 where
-  pub left : list_any (is_at router) (rows_left rows changes) ≡ false
+  pub left : list_any (is_at router) (rows_untouched rows changes) ≡ false
   pub put : list_any (is_at router) (links_put changes) ≡ false
 
 -- so it is for one of the routers

@@ -13,8 +13,8 @@ abbrev pub is_untouched : List Change → Link → Bool
 is_untouched changes row = not (is_changed changes (link_key (key_of row)))
 
 -- the rows that the changes leave alone
-abbrev pub rows_left : List Link → List Change → List Link
-rows_left rows changes = filter (is_untouched changes) rows
+abbrev pub rows_untouched : List Link → List Change → List Link
+rows_untouched rows changes = filter (is_untouched changes) rows
 
 -- the change puts a link where there is none
 abbrev pub adds_link : Database → Change → Bool

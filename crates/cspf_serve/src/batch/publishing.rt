@@ -1,12 +1,11 @@
 ghost use Rattle.std.specs.Prelude.{◌≡◌, ◌+◌, ◌≤◌, ◌∷◌, ◌++◌, List, Option, ℕ, [], None, length, IfOk, IfErr, IfSome, OnOk, OnErr, false};
-ghost use Rattle.cspf_model.specs.Numbered.{NumberedChanges};
+ghost use Rattle.cspf_model.specs.Numbered.{NumberedChanges, AreNumberedFrom};
 ghost use Rattle.cspf_model.specs.declared.limits.TheConstants.{MOST_VERSIONS};
 ghost use Rattle.cspf_rows.specs.GivenBatches.{CanRead, HasGiven};
-ghost use Rattle.cspf_rows.specs.Journal.{AreNumberedFrom};
 ghost use Rattle.cspf_rows.specs.Records.{rows_of};
 ghost use Rattle.cspf_serve.specs.BatchRun.{AreBatchesOf, IsJournalRefused};
 ghost use Rattle.cspf_serve.specs.EarlyEnds.{IfRefused, IfFailed, IsOwnFaultLine, IsFaultBeyond, IsPublishingFault};
-ghost use Rattle.cspf_serve.specs.PublishedBatches.{ArePublished};
+ghost use Rattle.cspf_serve.specs.PublishedBatches.{ArePublishedOrRefused};
 ghost use Rattle.cspf_serve.specs.RunFaults.{IsStreamFault};
 
 use crate::line::Line;
@@ -35,7 +34,7 @@ pub(crate) fn publish_journal<R: Read + Drop, J: Write, T: Wait>(
     ensures source { publisher.new.source ≡ publisher.old.source }
     ensures ok { IfOk result (λ unfit. IfSome (R.remaining journal) (λ bytes.
         (batches : List NumberedChanges) × AreBatchesOf accept_torn (rows_of bytes) batches
-        × ArePublished batches publisher.new.batches unfit)) }
+        × ArePublishedOrRefused batches publisher.new.batches unfit)) }
     ensures err { IfErr result (λ end. IfRefused end (λ line. IfSome (R.remaining journal)
         (λ bytes. IsJournalRefused accept_torn (rows_of bytes) line))) }
     ensures failed { IfErr result (λ end. IfFailed end IsStreamFault) }
@@ -63,7 +62,7 @@ fn publish_all<R: Read, J: Write, T: Wait>(
     ensures ok { IfOk result (λ unfit. (all : Option (List (List (List ℕ))))
         → HasGiven R.remaining all journal.old [] → IfSome all (λ rows.
         (batches : List NumberedChanges) × AreBatchesOf accept_torn rows batches
-        × ArePublished batches publisher.new.batches unfit)) }
+        × ArePublishedOrRefused batches publisher.new.batches unfit)) }
     ensures err { IfErr result (λ end. IfRefused end (λ line.
         (all : Option (List (List (List ℕ)))) → HasGiven R.remaining all journal.old []
         → IfSome all (λ rows. IsJournalRefused accept_torn rows line))) }
@@ -100,8 +99,8 @@ fn publish<J: Write, T: Wait>(
     ensures going { result ≡ Ok None → publisher.new.stopped ≡ false }
     ensures published { IfOk result (λ found. (given : List NumberedChanges)
         → AreNumberedFrom 1 (given ++ batch.now ∷ []) → (length given + 1 ≤ MOST_VERSIONS)
-        → ArePublished given publisher.old.batches unfit
-        → ArePublished (given ++ batch.now ∷ []) publisher.new.batches found) }
+        → ArePublishedOrRefused given publisher.old.batches unfit
+        → ArePublishedOrRefused (given ++ batch.now ∷ []) publisher.new.batches found) }
     ensures error { IfErr result
         (IsPublishingFault publisher.old publisher.new batch.now) }
 {

@@ -3,11 +3,11 @@ ghost use Rattle.std.specs.Io.KnownBytes.{Appends};
 ghost use Rattle.cspf_model.specs.Numbered.{NumberedChanges};
 ghost use Rattle.cspf_rows.specs.Records.{rows_of};
 ghost use Rattle.cspf_serve.specs.declared.solve.summary.Summary.{Summary as Counts};
-ghost use Rattle.cspf_serve.specs.Script.{IsRun};
+ghost use Rattle.cspf_serve.specs.Script.{IsSolveRun};
 ghost use Rattle.cspf_serve.specs.BatchRun.{AreAccepted, IsOneUnfit, IsBatchRun};
 ghost use Rattle.cspf_serve.specs.BatchLaws.{IsCleanJournal};
 ghost use Rattle.cspf_serve.specs.EarlyEnds.{IfRefused, IfFailed, Writes, WritesAllBut};
-ghost use Rattle.cspf_serve.specs.PublishedBatches.{ArePublished};
+ghost use Rattle.cspf_serve.specs.PublishedBatches.{ArePublishedOrRefused};
 ghost use Rattle.cspf_serve.specs.RunFaults.{IsStreamFault, IsAnsweringFault, IsBatchFault};
 ghost use Rattle.cspf_publish.specs.declared.limits.TheConstants.{MOST_ASKERS};
 ghost use Rattle.cspf_rows.specs.declared.limits.TheConstants.{MOST_ROWS};
@@ -69,7 +69,7 @@ pub fn run_batch<
     ensures script { result ≡ Ok 0 → IfSome (R.remaining journal) (λ kept.
         IfSome (Q.remaining requests) (λ asked. IsCleanJournal (rows_of kept)
         → length (rows_of kept ++ rows_of asked) ≤ MOST_ROWS → (lines : List ℕ) × (counts : Counts)
-        × IsRun (rows_of kept ++ rows_of asked) lines counts
+        × IsSolveRun (rows_of kept ++ rows_of asked) lines counts
         × Appends (W.contents writer.old) (W.contents writer.new) lines)) }
     ensures error { IfErr result
         (IsBatchFault accept_torn (R.remaining journal) (Q.remaining requests)) }
@@ -174,16 +174,16 @@ fn answer_read<J: Write, W: Write, G: Gate + Sync, T: Threads + Sync>(
     requires source { All (λ a. a.source ≡ publisher.old.source) askers.items }
     requires requests { length requests.now ≤ MOST_REQUESTS }
     ensures ok { OnOk result ((batches : List NumberedChanges)
-        → ArePublished batches publisher.old.batches unfit
+        → ArePublishedOrRefused batches publisher.old.batches unfit
         → Writes (W.contents writer.old) (W.contents writer.new)
         (AreAccepted batches requests.now)) }
     ensures err { IfErr result (λ end. IfRefused end (λ line. (batches : List NumberedChanges)
-        → ArePublished batches publisher.old.batches unfit
+        → ArePublishedOrRefused batches publisher.old.batches unfit
         → WritesAllBut line (W.contents writer.old) (W.contents writer.new)
         (IsOneUnfit batches))) }
     ensures failed { IfErr result (λ end. IfFailed end (λ e. IsStreamFault e
         ⊎ IsAnsweringFault (λ index version. (index < length requests.now)
-        × ((batches : List NumberedChanges) → ArePublished batches publisher.old.batches unfit
+        × ((batches : List NumberedChanges) → ArePublishedOrRefused batches publisher.old.batches unfit
         → length batches < version)) e)) }
 {
     write_versions(alloc, publisher.version(), writer)?;

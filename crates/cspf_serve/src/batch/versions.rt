@@ -1,7 +1,6 @@
 ghost use Rattle.std.specs.Prelude.{◌≡◌, List, length, IfErr, OnOk};
 ghost use Rattle.std.specs.Io.KnownBytes.{Appends};
-ghost use Rattle.cspf_model.specs.Numbered.{NumberedChanges};
-ghost use Rattle.cspf_rows.specs.Journal.{AreNumberedFrom};
+ghost use Rattle.cspf_model.specs.Numbered.{NumberedChanges, AreNumberedFrom};
 ghost use Rattle.cspf_serve.specs.BatchRun.{version_lines};
 ghost use Rattle.cspf_serve.specs.RunFaults.{IsStreamFault};
 

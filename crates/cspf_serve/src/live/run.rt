@@ -1,7 +1,7 @@
 ghost use Rattle.std.specs.Prelude.{◌≡◌, ℕ, ◌<◌, ◌≤◌, ◌⊎◌, List, [], length, All, IfOk, IfErr, IfSome, slice_get, vec_len, false};
 ghost use Rattle.std.specs.Io.KnownBytes.{Appends};
+ghost use Rattle.cspf_model.specs.Numbered.{AreNumberedFrom};
 ghost use Rattle.cspf_publish.specs.Histories.{IsHistory};
-ghost use Rattle.cspf_rows.specs.Journal.{AreNumberedFrom};
 ghost use Rattle.cspf_rows.specs.Records.{rows_of};
 ghost use Rattle.cspf_serve.specs.EarlyEnds.{Writes};
 ghost use Rattle.cspf_serve.specs.LiveRun.{AreAnsweredLive, IsLiveRun, AreRecordedAtError, IsRecordedAtError};

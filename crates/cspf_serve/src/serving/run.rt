@@ -9,9 +9,9 @@ ghost use Rattle.cspf_serve.specs.OpenChanges.{AreOpen};
 ghost use Rattle.cspf_serve.specs.RunFaults.{IsOpeningFault};
 ghost use Rattle.cspf_serve.specs.Script.{end_line};
 ghost use Rattle.cspf_serve.specs.ServedRun.{IsLastLineSaid, IsServedRun, IsServedStatus, IsUpdatesRun};
-ghost use Rattle.cspf_serve.specs.ServedSteps.{AreReady, AreSeats, IsClosed, IsRunOn, IsSeat, IsSeated};
+ghost use Rattle.cspf_serve.specs.ServedSteps.{AreClientsReady, AreSeats, IsServedEnd, IsRunOn, IsSeat, IsSeated};
 ghost use Rattle.cspf_serve.specs.Updates.{UpdatesState, no_updates};
-ghost use Rattle.cspf_serve.specs.UpdatesStates.{IsFresh, Keeps};
+ghost use Rattle.cspf_serve.specs.UpdatesStates.{IsFresh, KeepsUpdates};
 
 use crate::RunError;
 use crate::serving::updates::Updates;
@@ -112,7 +112,7 @@ fn close_all<J: Write, Q: Read + Drop, V: Replies + Drop>(
     requires source { All (λ c. c.state.known.source ≡ updates.old.publisher.source) serving.items }
     requires none { room.items ≡ [] }
     requires room { vec_len serving ≤ vec_capacity room }
-    ensures closed { AllZip (IsClosed updates.old.publisher.batches) serving.items result.items }
+    ensures closed { AllZip (IsServedEnd updates.old.publisher.batches) serving.items result.items }
     ensures same { updates.new ≡ updates.old }
 {
     let mut served = room;
@@ -133,7 +133,7 @@ fn are_accepted<V>(clients: &[ServedClient<V>]) -> bool
 
 /// 0 where no row and no batch was refused on any stream and no change is open, else 2.
 fn status_of<J: Write, V>(updates: &Updates<J>, clients: &[ServedClient<V>]) -> u8
-    ensures { (first : PublisherState J) (t : UpdatesState) → Keeps J.contents first updates.now t
+    ensures { (first : PublisherState J) (t : UpdatesState) → KeepsUpdates J.contents first updates.now t
         → IsServedStatus t clients.now result }
 {
     if updates.has_refused() {
@@ -167,8 +167,8 @@ fn answer_updates<R: Read, W: Write, J: Write, T: Wait>(
 ) -> Result<(), StreamError>
     requires plain { IsPlain rows.old }
     requires fresh { IsFresh updates.old }
-    ensures { (first : PublisherState J) → Keeps J.contents first updates.old no_updates
-        → (t : UpdatesState) × Keeps J.contents first updates.new t
+    ensures { (first : PublisherState J) → KeepsUpdates J.contents first updates.old no_updates
+        → (t : UpdatesState) × KeepsUpdates J.contents first updates.new t
         × IsUpdatesRun result (rows_left R.remaining rows.old) t
         (W.contents said.old) (W.contents said.new) }
 {
@@ -184,7 +184,7 @@ fn ask_all<Q: Read + Drop + Send, V: Replies + Send, T: Threads + Sync>(
     alloc: Global,
     serving: &mut [ServingClient<Q, V>],
 )
-    requires ready { AreReady serving.old }
+    requires ready { AreClientsReady serving.old }
     ensures { AllZip (IsRunOn Q.remaining V.contents) serving.old serving.new }
 {
     let count = serving.len();
@@ -215,26 +215,26 @@ fn serve_all<
     said: &mut W,
     updates: &mut Updates<J>,
 ) -> Result<(), StreamError>
-    requires ready { AreReady serving.old }
+    requires ready { AreClientsReady serving.old }
     requires plain { IsPlain rows.old }
     requires fresh { IsFresh updates.old }
     ensures clients { AllZip (IsRunOn Q.remaining V.contents) serving.old serving.new }
-    ensures updates { (first : PublisherState J) → Keeps J.contents first updates.old no_updates
-        → (t : UpdatesState) × Keeps J.contents first updates.new t
+    ensures updates { (first : PublisherState J) → KeepsUpdates J.contents first updates.old no_updates
+        → (t : UpdatesState) × KeepsUpdates J.contents first updates.new t
         × IsUpdatesRun result (rows_left R.remaining rows.old) t
         (W.contents said.old) (W.contents said.new) }
 {
     // Each closure has one of its own: memory that both name is one loan too many.
     let room = alloc;
     let mut ask = ||
-        requires ready { AreReady serving.now }
+        requires ready { AreClientsReady serving.now }
         ensures { AllZip (IsRunOn Q.remaining V.contents) serving.entry.now serving.exit.now }
     { ask_all(rt, room, serving) };
     let mut publish = || -> Result<(), StreamError>
         requires plain { IsPlain rows.now }
         requires fresh { IsFresh updates.now }
-        ensures { (first : PublisherState J) → Keeps J.contents first updates.entry.now no_updates
-            → (t : UpdatesState) × Keeps J.contents first updates.exit.now t
+        ensures { (first : PublisherState J) → KeepsUpdates J.contents first updates.entry.now no_updates
+            → (t : UpdatesState) × KeepsUpdates J.contents first updates.exit.now t
             × IsUpdatesRun result (rows_left R.remaining rows.entry.now) t
             (W.contents said.entry.now) (W.contents said.exit.now) }
     { answer_updates(rt, alloc, rows, said, updates) };

@@ -5,9 +5,9 @@ ghost use Rattle.csv.specs.Reading.{has_failed};
 ghost use Rattle.cspf_rows.specs.Records.{rows_of, rows_left, IsPlain};
 ghost use Rattle.cspf_rows.specs.Rows.{row_of};
 ghost use Rattle.cspf_serve.specs.declared.solve.error.SolveError.TheVariants.{Read as IsRead};
-ghost use Rattle.cspf_serve.specs.Script.{RunState, start, at_next_row, IsRowAnswered, IsRun, IsScript, last_line, summary_of};
+ghost use Rattle.cspf_serve.specs.Script.{RunState, start, at_next_row, IsRowAnswered, IsSolveRun, IsScript, last_line, summary_of};
 ghost use Rattle.cspf_serve.specs.OutputAtError.{IsOutputAtError};
-ghost use Rattle.cspf_serve.specs.SolverStates.{Keeps, AreFew, IsCut, IsEndCut};
+ghost use Rattle.cspf_serve.specs.SolverStates.{KeepsRun, AreFew, IsCut, IsEndCut};
 
 use super::solver::Solver;
 use crate::{SolveError, Summary};
@@ -50,9 +50,9 @@ fn solve_rows<R: Read, W: Write>(
     writer: &mut W,
 ) -> Result<Summary, SolveError>
     requires plain { IsPlain rows.old }
-    requires fresh { Keeps solver.old start }
+    requires fresh { KeepsRun solver.old start }
     ensures whole { IfOk result (λ summary. IfSome (rows_left R.remaining rows.old) (λ all.
-        (lines : List ℕ) × IsRun all lines summary
+        (lines : List ℕ) × IsSolveRun all lines summary
         × Appends (W.contents writer.old) (W.contents writer.new) lines)) }
     ensures stopped { IfErr result (λ error. IfSome (rows_left R.remaining rows.old) (λ all.
         (out : List ℕ) × IsOutputAtError error all out
@@ -81,13 +81,13 @@ fn answer_row<W: Write>(
 ) -> Result<u128, SolveError>
     requires few { AreFew solver.old }
     requires room { written ≤ MOST_ROWS * 2 ^ 64 }
-    ensures answered { IfOk result (λ size. (s : RunState) → Keeps solver.old s
+    ensures answered { IfOk result (λ size. (s : RunState) → KeepsRun solver.old s
         → (line : List ℕ) × (after : RunState)
         × IsRowAnswered (at_next_row s) (row_of (fields_of fields.now)) line after
-        × Keeps solver.new after × Appends (W.contents writer.old) (W.contents writer.new) line
+        × KeepsRun solver.new after × Appends (W.contents writer.old) (W.contents writer.new) line
         × (size ≡ length line)) }
     ensures small { IfOk result (λ size. size ≤ 2 ^ 64) }
-    ensures stopped { IfErr result (λ error. (s : RunState) → Keeps solver.old s
+    ensures stopped { IfErr result (λ error. (s : RunState) → KeepsRun solver.old s
         → IsCut (at_next_row s) (row_of (fields_of fields.now))
         (W.contents writer.old) (W.contents writer.new) written error) }
 {
@@ -105,10 +105,10 @@ fn finish<W: Write>(
 ) -> Result<Summary, SolveError>
     requires few { AreFew solver.now }
     requires room { written ≤ MOST_ROWS * 2 ^ 64 }
-    ensures ended { IfOk result (λ summary. (s : RunState) → Keeps solver.now s
+    ensures ended { IfOk result (λ summary. (s : RunState) → KeepsRun solver.now s
         → Appends (W.contents writer.old) (W.contents writer.new) (last_line too_many s.changes)
         × (summary ≡ summary_of s too_many)) }
-    ensures stopped { IfErr result (λ error. (s : RunState) → Keeps solver.now s
+    ensures stopped { IfErr result (λ error. (s : RunState) → KeepsRun solver.now s
         → IsEndCut (last_line too_many s.changes)
         (W.contents writer.old) (W.contents writer.new) written error) }
 {

@@ -37,11 +37,11 @@ pub struct Solver {
 impl Solver {
     ghost use Rattle.cspf_serve.specs.Script.{RunState, start, at_next_row, after_change_row, after_batch, after_refused_batch, IsAccepted, IsBatchRefusal, IsEndAnswered, IsRowAnswered, last_line, summary_of};
     ghost use Rattle.cspf_serve.specs.LineTexts.{line_text};
-    ghost use Rattle.cspf_serve.specs.SolverStates.{Keeps, AreFew};
+    ghost use Rattle.cspf_serve.specs.SolverStates.{KeepsRun, AreFew};
 
     /// Version 0, with the empty database and no open changes.
     pub fn new(alloc: Global) -> Result<Solver, AllocError>
-        ensures { IfOk result (λ solver. Keeps solver start) }
+        ensures { IfOk result (λ solver. KeepsRun solver start) }
     {
         Ok(Solver {
             table: Table::new(alloc)?,
@@ -64,8 +64,8 @@ impl Solver {
         row: &Result<Row, RowError>,
     ) -> Result<Vec<u8>, AllocError>
         requires { AreFew self.old }
-        ensures { IfOk result (λ line. (s : RunState) → Keeps self.old s → (after : RunState)
-            × Keeps self.new after × IsRowAnswered (at_next_row s) row.now line.items after) }
+        ensures { IfOk result (λ line. (s : RunState) → KeepsRun self.old s → (after : RunState)
+            × KeepsRun self.new after × IsRowAnswered (at_next_row s) row.now line.items after) }
     {
         self.rows += 1;
         match row {
@@ -86,8 +86,8 @@ impl Solver {
         requires count { self.old.count ≤ MOST_ROWS }
         requires answers { self.old.answers ≤ MOST_ROWS }
         requires refused { self.old.refused ≤ MOST_ROWS }
-        ensures { IfOk result (λ line. (s : RunState) → Keeps self.old s → (after : RunState)
-            × Keeps self.new after × IsRowAnswered s (Ok row.now) line.items after) }
+        ensures { IfOk result (λ line. (s : RunState) → KeepsRun self.old s → (after : RunState)
+            × KeepsRun self.new after × IsRowAnswered s (Ok row.now) line.items after) }
     {
         match row {
             Row::Put(link) => {
@@ -121,8 +121,8 @@ impl Solver {
     /// One more open change.
     fn open(&mut self, change: Change) -> Result<(), AllocError>
         requires { self.old.count ≤ MOST_ROWS }
-        ensures { OnOk result ((s : RunState) → Keeps self.old s
-            → Keeps self.new (after_change_row s change)) }
+        ensures { OnOk result ((s : RunState) → KeepsRun self.old s
+            → KeepsRun self.new (after_change_row s change)) }
     {
         keep(&mut self.batch.changes, change)?;
         self.count += 1;
@@ -133,10 +133,10 @@ impl Solver {
     /// are open afterwards.
     fn end(&mut self, number: u32, count: u32) -> Result<(), BatchRefusal>
         requires { self.old.refused ≤ MOST_ROWS }
-        ensures { (s : RunState) → Keeps self.old s → MatchResult result
-            (λ done. IsAccepted s number count × Keeps self.new (after_batch s number))
+        ensures { (s : RunState) → KeepsRun self.old s → MatchResult result
+            (λ done. IsAccepted s number count × KeepsRun self.new (after_batch s number))
             (λ why. (¬ IsAccepted s number count) × IsBatchRefusal s number count why
-            × Keeps self.new (after_refused_batch s)) }
+            × KeepsRun self.new (after_refused_batch s)) }
     {
         self.batch.number = number;
         let found = self.accept(count);
@@ -149,7 +149,7 @@ impl Solver {
     /// Ends a batch as `end` does, and answers its line.
     fn end_line(&mut self, number: u32, count: u32) -> Line
         requires { self.old.refused ≤ MOST_ROWS }
-        ensures { (s : RunState) → Keeps self.old s → (after : RunState) × Keeps self.new after
+        ensures { (s : RunState) → KeepsRun self.old s → (after : RunState) × KeepsRun self.new after
             × IsEndAnswered s number count (line_text result) after }
     {
         match self.end(number, count) {
@@ -163,11 +163,11 @@ impl Solver {
     #[tactic(auto, using(crate::proofs::BatchRefusals::refused))]
     fn accept(&mut self, count: u32) -> Result<(), BatchRefusal>
         ensures refused { self.new.refused ≡ self.old.refused }
-        ensures done { (s : RunState) → Keeps self.old s → MatchResult result
+        ensures done { (s : RunState) → KeepsRun self.old s → MatchResult result
             (λ done. IsAccepted s self.old.batch.number count
-            × Keeps self.new (after_batch s self.old.batch.number))
+            × KeepsRun self.new (after_batch s self.old.batch.number))
             (λ why. (¬ IsAccepted s self.old.batch.number count)
-            × IsBatchRefusal s self.old.batch.number count why × Keeps self.new s) }
+            × IsBatchRefusal s self.old.batch.number count why × KeepsRun self.new s) }
     {
         // Law: one more batch makes its changes in the database of the batches before it.
         absorbing();
@@ -196,7 +196,7 @@ impl Solver {
     /// Drops the open changes.
     fn refuse(&mut self)
         requires { self.old.refused ≤ MOST_ROWS }
-        ensures { (s : RunState) → Keeps self.old s → Keeps self.new (after_refused_batch s) }
+        ensures { (s : RunState) → KeepsRun self.old s → KeepsRun self.new (after_refused_batch s) }
     {
         self.drop_changes();
         self.refused += 1;
@@ -223,7 +223,7 @@ impl Solver {
 
     /// The last line: rows that aren't read come before changes that are still open.
     pub fn last_line(&self, alloc: Global, too_many: bool) -> Result<Vec<u8>, AllocError>
-        ensures { IfOk result (λ line. (s : RunState) → Keeps self.now s
+        ensures { IfOk result (λ line. (s : RunState) → KeepsRun self.now s
             → line.items ≡ last_line too_many s.changes) }
     {
         if too_many {
@@ -239,7 +239,7 @@ impl Solver {
     /// The summary, where the run ends here.
     pub(crate) fn summary(&self, too_many: bool) -> Summary
         requires { self.now.refused ≤ MOST_ROWS }
-        ensures { (s : RunState) → Keeps self.now s → result ≡ summary_of s too_many }
+        ensures { (s : RunState) → KeepsRun self.now s → result ≡ summary_of s too_many }
     {
         let unended = !too_many && self.count > 0;
         Summary {

@@ -1,5 +1,5 @@
 use Rattle.std.proofs.Common.{◌<◌, ◌∙◌, sym, subst}
-use Rattle.cspf_audit.specs.Reading.{HasRead}
+use Rattle.cspf_audit.specs.Reading.{HasReadLines}
 use Rattle.cspf_audit.proofs.IdPlaces.{place_within}
 use Rattle.cspf_audit.proofs.ReadingSteps.{take_line}
 use Rattle.cspf_audit.proofs.replies.read_replies.Goals as goal
@@ -11,6 +11,6 @@ pub loop-line-preserved : goal.loop-line-preserved
 loop-line-preserved c =
     let next = take_line c.args.lines.now c.loop-line.line-index c.line-item.result c.text.result.now c.loop-line-test.true c.line-item.is c.text.ensures in record {
       counted = c.in_ok-take.ensures.length ∙ c.loop-line.invariant.counted;
-      read = λ batches so_many. subst (HasRead batches c.args.requests.now c.take.new.self) next
+      read = λ batches so_many. subst (HasReadLines batches c.args.requests.now c.take.new.self) next
           (c.in_ok-take.ensures.read batches c.args.requests.now _ so_many c.requires.own c.requires.places (c.loop-line.invariant.read batches so_many));
     }

@@ -2,12 +2,12 @@ use Rattle.std.proofs.Common.{◌<◌, length, sym, arith}
 use Rattle.std.proofs.lemmas.Bool.{eqb-false}
 use Rattle.std.proofs.lemmas.List.{length_push}
 use Rattle.std.proofs.lemmas.Result.{err_from_is_err_and}
-use Rattle.cspf_ero.specs.Reading.{hops_at}
+use Rattle.cspf_ero.specs.Reading.{subobject_hops}
 use Rattle.cspf_ero.proofs.HopReading.{behind-nil, read_more, read_refused}
 use Rattle.cspf_ero.proofs.reader.read_hops.Goals as goal
 
 pub loop-rest-init : goal.loop-rest-init
-loop-rest-init c = rw c.none-hops.ensures (behind-nil (hops_at 7 4 c.args.body.now))
+loop-rest-init c = rw c.none-hops.ensures (behind-nil (subobject_hops 7 4 c.args.body.now))
 
 pub returns-in_err-read_hop : goal.returns-in_err-read_hop
 returns-in_err-read_hop c =

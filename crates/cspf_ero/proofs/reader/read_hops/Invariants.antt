@@ -1,5 +1,5 @@
 use Rattle.std.proofs.Common.{◌≡◌, ◌+◌, ◌*◌, ◌-◌, length}
-use Rattle.cspf_ero.specs.Reading.{hops_at}
+use Rattle.cspf_ero.specs.Reading.{subobject_hops}
 use Rattle.cspf_ero.proofs.HopReading.{behind}
 use Rattle.cspf_ero.proofs.reader.read_hops.Given as goal
 
@@ -8,4 +8,4 @@ decreases-loop-rest l = length l.rest
 
 -- the hops so far, and those of the rest, are all
 abbrev pub invariant-loop-rest : goal.invariant-loop-rest
-invariant-loop-rest l = behind l.hops (hops_at (7 - length l.hops) (4 + 8 * length l.hops) l.rest) ≡ hops_at 7 4 l.body
+invariant-loop-rest l = behind l.hops (subobject_hops (7 - length l.hops) (4 + 8 * length l.hops) l.rest) ≡ subobject_hops 7 4 l.body

@@ -1,7 +1,6 @@
 use Rattle.std.proofs.Common.{◌≡◌, ◌+◌, min, List, ◌++◌, [], ◌∷◌, length, take, drop, sym, ap, subst, ◌∙◌, arith, length-append}
-use Rattle.cspf_model.specs.Numbered.{NumberedChanges}
+use Rattle.cspf_model.specs.Numbered.{NumberedChanges, AreNumberedFrom}
 use Rattle.cspf_model.specs.Changes.{changes_of}
-use Rattle.cspf_rows.specs.Journal.{AreNumberedFrom}
 use Rattle.cspf_snapshot.specs.Snapshots.{AreFullButLast}
 use Rattle.cspf_snapshot.proofs.FullBatches.{AreFull, few_so_far, all_next, full_next, whole_next, numbered_push}
 use Rattle.cspf_snapshot.proofs.cutting.cut_into_batches.Goals as goal

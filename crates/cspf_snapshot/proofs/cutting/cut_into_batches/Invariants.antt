@@ -1,6 +1,6 @@
 use Rattle.std.proofs.Common.{◌≡◌, ◌≢◌, ◌++◌, [], length}
+use Rattle.cspf_model.specs.Numbered.{AreNumberedFrom}
 use Rattle.cspf_model.specs.Changes.{changes_of}
-use Rattle.cspf_rows.specs.Journal.{AreNumberedFrom}
 use Rattle.cspf_snapshot.specs.Snapshots.{AreFullButLast}
 use Rattle.cspf_snapshot.proofs.FullBatches.{AreFull}
 use Rattle.cspf_snapshot.proofs.cutting.cut_into_batches.Given as goal

@@ -1,6 +1,6 @@
 use Rattle.std.proofs.Common.{◌≡◌, ◌∙◌}
+use Rattle.cspf_model.specs.Numbered.{AreNumberedFrom}
 use Rattle.cspf_model.specs.Changes.{changes_of}
-use Rattle.cspf_rows.specs.Journal.{AreNumberedFrom}
 use Rattle.cspf_snapshot.specs.Snapshots.{AreFullButLast, IsSnapshot}
 use Rattle.cspf_snapshot.proofs.SnapshotMade.{AreListsOf, is_snapshot, if_ok_by}
 use Rattle.cspf_snapshot.proofs.making.snapshot.Goals as goal

@@ -1,5 +1,5 @@
 use Rattle.std.proofs.Common.{sym, subst}
-use Rattle.cspf_client.specs.ClientRuns.{IsRun}
+use Rattle.cspf_client.specs.ClientRuns.{IsClientRun}
 use Rattle.cspf_client.specs.ServingStates.{ServingState}
 use Rattle.cspf_client.proofs.Forward.{forward_stream}
 use Rattle.cspf_client.proofs.Runs.{run_of}
@@ -20,7 +20,7 @@ returns-clause-run g c =
       replies = c.end.new.self;
       end = c.end_of-self-inside.result;
     } in
-    subst (λ (s : ServingState g.row.Q.Denot g.row.V.Denot). IsRun g.Q.Read.remaining g.V.Write.contents s after) c.self.view_is
+    subst (λ (s : ServingState g.row.Q.Denot g.row.V.Denot). IsClientRun g.Q.Read.remaining g.V.Write.contents s after) c.self.view_is
     (run_of g.Q.Read.remaining g.V.Write.contents before after c.in-Some.requests (sym c.in-Some.ensures.value) c.answer_all-ended.result
     (rw c.has_no_entry.ensures at c.end_of-self-inside.ensures) (rw c.end.ensures e.whole) (rw c.end.ensures e.stopped))
 

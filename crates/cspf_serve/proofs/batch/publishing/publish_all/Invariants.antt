@@ -1,7 +1,7 @@
 use Rattle.std.proofs.Common.{◌≡◌, ◌-◌, ◌≤◌, ℕ, List, [], length, Option, None, false}
 use Rattle.cspf_model.specs.Numbered.{NumberedChanges}
 use Rattle.cspf_rows.specs.GivenBatches.{CanRead, HasGiven, rows_read}
-use Rattle.cspf_serve.specs.PublishedBatches.{ArePublished}
+use Rattle.cspf_serve.specs.PublishedBatches.{ArePublishedOrRefused}
 use Rattle.cspf_serve.proofs.batch.publishing.publish_all.Given as goal
 
 -- the batches so far are published, or those before the first one that doesn't fit
@@ -13,7 +13,7 @@ invariant-loop-batch g l = record {
   going : l.unfit ≡ None → l.publisher.stopped ≡ false;
   given : (all : Option (List (List (List ℕ)))) → HasGiven g.R.Read.remaining all l.fn.journal []
       → (given : List NumberedChanges) × HasGiven g.R.Read.remaining all l.journal given × (length given ≡ l.count)
-      × ArePublished given l.publisher.batches l.unfit;
+      × ArePublishedOrRefused given l.publisher.batches l.unfit;
 }
 
 abbrev pub decreases-loop-batch : goal.decreases-loop-batch

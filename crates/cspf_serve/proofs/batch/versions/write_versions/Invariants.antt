@@ -1,7 +1,6 @@
 use Rattle.std.proofs.Common.{◌≡◌, List, take, length}
 use Rattle.std.specs.Io.KnownBytes.{Appends}
-use Rattle.cspf_model.specs.Numbered.{NumberedChanges}
-use Rattle.cspf_rows.specs.Journal.{AreNumberedFrom}
+use Rattle.cspf_model.specs.Numbered.{NumberedChanges, AreNumberedFrom}
 use Rattle.cspf_serve.specs.BatchRun.{version_lines}
 use Rattle.cspf_serve.proofs.batch.versions.write_versions.Given as goal
 

@@ -1,7 +1,7 @@
 use Rattle.std.proofs.Common.{sym, subst}
 use Rattle.std.proofs.lemmas.Result.{IfOk-weaker}
 use Rattle.cspf_serve.specs.Updates.{at_next_update}
-use Rattle.cspf_serve.specs.UpdatesStates.{KeptUpdates, Keeps}
+use Rattle.cspf_serve.specs.UpdatesStates.{KeptUpdates, KeepsUpdates}
 use Rattle.cspf_serve.proofs.UpdatesSteps.{next_keeps, takes_refusal, loses_nothing, at_error, error_weaker}
 use Rattle.cspf_serve.proofs.serving.updates.UpdatesAnswering.answer.Goals as goal
 
@@ -25,4 +25,4 @@ returns-in_ok-line-in-Err-clause-answered g c = λ first s kept at.
     let k : KeptUpdates g.row.J.Denot = record { publisher = c.self.inside.publisher; changes = c.self.inside.changes; refused = c.self.inside.refused } in
     rw c.in-Err.is
     (takes_refusal g.J.Write.contents k c.args.place c.in-Err.error c.in_ok-line-in-Err.line.items c.in_ok-line-in-Err.ensures first s
-    (subst (λ (x : KeptUpdates g.row.J.Denot). Keeps g.J.Write.contents first x s) (sym c.self.view_is) kept) at)
+    (subst (λ (x : KeptUpdates g.row.J.Denot). KeepsUpdates g.J.Write.contents first x s) (sym c.self.view_is) kept) at)
