@@ -9,6 +9,7 @@ use Rattle.cspf_model.specs.declared.link.Link.{Link}
 use Rattle.cspf_db.specs.declared.table.Table.TheInside.{Inside}
 use Rattle.cspf_db.specs.declared.table.router_rows.Span.{Span}
 use Rattle.cspf_model.specs.Database.{Database, Key, key_of, key_cmp, router_count}
+use Rattle.cspf_model.specs.Lemmas.LinkRows.{AreByKey, database_of, marks_in, marked_database}
 use Rattle.cspf_db.specs.Index.{with_nothing, router_list}
 use Rattle.cspf_model.specs.declared.limits.TheConstants.{MOST_LINKS, MOST_MARKS, MOST_ROUTERS}
 use Rattle.cspf_db.specs.declared.limits.TheConstants.{ROOM_FOR_LINKS, ROOM_FOR_MARKS, ROOM_FOR_ROUTERS}
