@@ -11,8 +11,8 @@ use crate::query::{Query, may_be_left};
 use crate::ring::Ring;
 use crate::strict::{first_broken, starts_of};
 use cspf_db::NO_LINK;
-use cspf_model::MOST_ROUTERS;
 use cspf_graph::accepts;
+use cspf_model::MOST_ROUTERS;
 use std::alloc::{AllocError, Global};
 use std::cmp::Reverse;
 

@@ -15,8 +15,8 @@ use crate::labels::{Label, Waiting, node_of, put};
 use crate::limits::COST_WEIGHT;
 use crate::query::Query;
 use cspf_db::{NO_LINK, Table};
-use cspf_model::MOST_ROUTERS;
 use cspf_graph::{accepts, may_leave_at};
+use cspf_model::MOST_ROUTERS;
 use std::alloc::{AllocError, Global};
 use std::collections::BinaryHeap;
 

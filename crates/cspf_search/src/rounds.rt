@@ -14,8 +14,8 @@ use crate::edge::Edge;
 use crate::forward_star::ForwardStar;
 use crate::query::Query;
 use cspf_db::{NO_LINK, Table};
-use cspf_model::{Link, MOST_ROUTERS, Request};
 use cspf_graph::{accepts, may_leave_at};
+use cspf_model::{Link, MOST_ROUTERS, Request};
 use std::cmp::Ordering;
 
 /// How two nodes compare: by the cost of their walks, then by the number of links, then by the leg,

@@ -28,8 +28,8 @@ use crate::limits::{NO_WAY, ROOM_FOR_NODES, ROOM_FOR_WAITING};
 use crate::query::Query;
 use crate::roles::{find_roles, raised};
 use crate::rounds::{Round, first};
-use cspf_model::{MOST_ROUTERS, Outcome, Request, Route, counted_routers};
 use cspf_db::Table;
+use cspf_model::{MOST_ROUTERS, Outcome, Request, Route, counted_routers};
 use std::alloc::{AllocError, Global};
 use std::collections::BinaryHeap;
 

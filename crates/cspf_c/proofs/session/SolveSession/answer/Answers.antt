@@ -1,5 +1,5 @@
 use Rattle.cspf_c.proofs.Streams.{stream_counted, stream_answered}
-use Rattle.cspf_c.proofs.session.Session.answer.Goals as goal
+use Rattle.cspf_c.proofs.session.SolveSession.answer.Goals as goal
 
 pub invariant_of-result : goal.invariant_of-result
 invariant_of-result c = record { counted = stream_counted c.args.self.taken c.answer_rows.new.answering _ _ _ c.in-Ok.ensures.whole c.args.self.counted }
