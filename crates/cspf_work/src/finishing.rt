@@ -8,8 +8,8 @@ ghost use Rattle.cspf_work.specs.Working.{AreResults};
 use crate::ServeError;
 use crate::collecting::collect;
 use crate::worker::Results;
-use cspf_model::Request;
 use cspf_draw::{Counter, LastSeat};
+use cspf_model::Request;
 use cspf_publish::{Answer, Asker};
 use std::alloc::Global;
 

@@ -6,10 +6,10 @@ ghost use Rattle.cspf_work.specs.Working.{IsIdle, IsWorkerRun, AreReady, AreRun,
 
 use crate::Gate;
 use crate::crew::{Crew, dismiss};
-use crate::serving::serve;
 use crate::worker::{Results, Worker};
-use cspf_model::Request;
+use crate::worker_loop::serve;
 use cspf_draw::LastSeat;
+use cspf_model::Request;
 use std::alloc::Global;
 use std::thread;
 use std::thread::Threads;
