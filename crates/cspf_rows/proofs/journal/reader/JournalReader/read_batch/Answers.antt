@@ -3,7 +3,7 @@ use Rattle.std.proofs.lemmas.Result.{err_from_is_err_and}
 use Rattle.cspf_rows.specs.declared.journal.JournalStep.TheVariants.{Batch, End}
 use Rattle.cspf_rows.specs.declared.read_error.ReadError.TheVariants.{TooManyRows}
 use Rattle.cspf_rows.proofs.JournalSteps.{same_fault, given, came_batch, came_end}
-use Rattle.cspf_rows.proofs.journal_reader.JournalReader.read_batch.Goals as goal
+use Rattle.cspf_rows.proofs.journal.reader.JournalReader.read_batch.Goals as goal
 
 pub returns-in_err-step-clause-too_many : goal.returns-in_err-step-clause-too_many
 returns-in_err-step-clause-too_many g c =

@@ -2,7 +2,7 @@ use Rattle.std.proofs.Common.{length-append, refl, arith}
 use Rattle.std.proofs.lemmas.Result.{err_from_is_err_and}
 use Rattle.cspf_rows.specs.declared.read_error.ReadError.TheVariants.{TooManyRows}
 use Rattle.cspf_rows.proofs.JournalSteps.{same_fault}
-use Rattle.cspf_rows.proofs.whole_journal.read_batches.Goals as goal
+use Rattle.cspf_rows.proofs.journal.whole.read_batches.Goals as goal
 
 pub returns-in_err-read_batch-clause-too_many : goal.returns-in_err-read_batch-clause-too_many
 returns-in_err-read_batch-clause-too_many g c =

@@ -3,7 +3,7 @@ use Rattle.std.proofs.lemmas.Result.{err_from_is_err_and}
 use Rattle.csv.specs.Records.{fields_of}
 use Rattle.cspf_rows.specs.declared.read_error.ReadError.TheVariants.{TooManyRows}
 use Rattle.cspf_rows.proofs.JournalSteps.{ReadsOne, same_fault, read_behind, read_too_many, read_torn}
-use Rattle.cspf_rows.proofs.journal_reader.JournalReader.skip_rest.Goals as goal
+use Rattle.cspf_rows.proofs.journal.reader.JournalReader.skip_rest.Goals as goal
 
 pub returns-in_err-next_row-clause-too_many : goal.returns-in_err-next_row-clause-too_many
 returns-in_err-next_row-clause-too_many g c = λ refused all given changes h.

@@ -1,6 +1,6 @@
 use Rattle.std.proofs.Common.{◌-◌, ◌≤◌, ℕ, List, [], length, Option}
 use Rattle.cspf_rows.specs.GivenBatches.{CanRead, HasGiven}
-use Rattle.cspf_rows.proofs.whole_journal.read_batches.Given as goal
+use Rattle.cspf_rows.proofs.journal.whole.read_batches.Given as goal
 
 -- the batches so far were given
 abbrev pub invariant-loop-batch : goal.invariant-loop-batch

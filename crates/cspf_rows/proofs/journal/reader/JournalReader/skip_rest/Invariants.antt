@@ -3,7 +3,7 @@ use Rattle.cspf_model.specs.declared.batch.Change.{Change}
 use Rattle.cspf_model.specs.Numbered.{NumberedChanges}
 use Rattle.cspf_rows.specs.GivenBatches.{CanRead}
 use Rattle.cspf_rows.specs.JournalReading.{HasRead}
-use Rattle.cspf_rows.proofs.journal_reader.JournalReader.skip_rest.Given as goal
+use Rattle.cspf_rows.proofs.journal.reader.JournalReader.skip_rest.Given as goal
 
 abbrev pub invariant-loop : goal.invariant-loop
 invariant-loop g l = record {

@@ -2,7 +2,7 @@ use Rattle.std.proofs.Common.{◌-◌, ◌≤◌, ℕ, List, [], Option, false}
 use Rattle.cspf_model.specs.Numbered.{NumberedChanges}
 use Rattle.cspf_rows.specs.GivenBatches.{CanRead}
 use Rattle.cspf_rows.specs.JournalReading.{HasRead}
-use Rattle.cspf_rows.proofs.journal_reader.JournalReader.read_batch.Given as goal
+use Rattle.cspf_rows.proofs.journal.reader.JournalReader.read_batch.Given as goal
 
 -- behind the batches so far stand the rows of the open changes
 abbrev pub invariant-loop-step : goal.invariant-loop-step

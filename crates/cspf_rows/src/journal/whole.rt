@@ -3,8 +3,8 @@ ghost use Rattle.cspf_rows.specs.Records.{rows_of};
 ghost use Rattle.cspf_rows.specs.GivenBatches.{CanRead, HasGiven, HasFailed};
 ghost use Rattle.cspf_rows.specs.Journal.{IsJournal};
 
+use crate::journal::reader::JournalReader;
 use crate::journal::{Journal, JournalStep, Rest};
-use crate::journal_reader::JournalReader;
 use crate::limits::MOST_ROWS;
 use crate::read_error::ReadError;
 use cspf_model::Batch;

@@ -1,5 +1,5 @@
 use Rattle.cspf_rows.proofs.JournalSteps.{whole_read, many_read}
-use Rattle.cspf_rows.proofs.whole_journal.read_journal.Goals as goal
+use Rattle.cspf_rows.proofs.journal.whole.read_journal.Goals as goal
 
 pub returns-clause-whole : goal.returns-clause-whole
 returns-clause-whole g c =

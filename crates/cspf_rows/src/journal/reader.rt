@@ -8,8 +8,8 @@ ghost use Rattle.cspf_rows.specs.declared.journal.Rest.TheVariants.{Torn as IsTo
 ghost use Rattle.cspf_rows.specs.Records.{rows_of, rows_left, Takes};
 ghost use Rattle.cspf_rows.specs.Journal.{IsJournal};
 
+use crate::journal::taken_row::{Taken, take};
 use crate::journal::{JournalStep, Rest};
-use crate::journal_row::{Taken, take};
 use crate::limits::MOST_ROWS;
 use crate::read_error::ReadError;
 use crate::records::{next_record, open_records};

@@ -11,7 +11,7 @@ use std::alloc::AllocError;
 
 /// What a row is behind the open changes of a batch.
 #[derive(Clone, Copy)]
-pub(crate) enum Taken {
+pub(super) enum Taken {
     /// One more open change.
     Change,
     /// The end of the batch.
@@ -22,7 +22,7 @@ pub(crate) enum Taken {
 
 /// Takes a row behind the open changes of the batch that has the next number. It takes no memory
 /// where the row is no change.
-pub(crate) fn take(fields: &ByteRecord, next: u32, batch: &mut Batch) -> Result<Taken, AllocError>
+pub(super) fn take(fields: &ByteRecord, next: u32, batch: &mut Batch) -> Result<Taken, AllocError>
     ensures { IfOk result (IsTaken (row_of (fields_of fields.now)) next batch.old batch.new) }
 {
     match Row::read(fields) {

@@ -1,5 +1,5 @@
 use Rattle.cspf_rows.proofs.BatchRecords.{AreRowsReadBack, texts_cut, journals_read_back}
-use Rattle.cspf_rows.proofs.journal_laws.journals_are_read_back.Goals as goal
+use Rattle.cspf_rows.proofs.journal.laws.journals_are_read_back.Goals as goal
 
 pub returns : goal.returns
 returns c =

@@ -3,7 +3,7 @@ use Rattle.std.proofs.lemmas.Result.{err_from_is_err_and}
 use Rattle.csv.specs.Records.{fields_of}
 use Rattle.cspf_rows.specs.declared.read_error.ReadError.TheVariants.{TooManyRows}
 use Rattle.cspf_rows.proofs.JournalSteps.{ReadsOne, same_fault, read_change, read_batch, read_end, read_rest}
-use Rattle.cspf_rows.proofs.journal_reader.JournalReader.take_row.Goals as goal
+use Rattle.cspf_rows.proofs.journal.reader.JournalReader.take_row.Goals as goal
 
 pub returns-then-not-branch-clause-some : goal.returns-then-not-branch-clause-some
 returns-then-not-branch-clause-some g c = λ all given h.
