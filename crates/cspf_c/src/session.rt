@@ -55,7 +55,7 @@ pub struct SolveSession {
 
 impl SolveSession {
     /// Version 0, with the empty database and no open changes. No row was given.
-    pub fn new(alloc: Global) -> Result<SolveSession, AllocError>
+    pub(crate) fn new(alloc: Global) -> Result<SolveSession, AllocError>
         ensures { IfOk result (λ session. HasAnswered session.taken [] []) }
     {
         let taken = TakenRows {
@@ -68,7 +68,11 @@ impl SolveSession {
 
     /// Takes the rows of some bytes, which are read as a stream of their own, and answers their
     /// lines. Where memory is refused the session is over.
-    pub fn answer(self, alloc: Global, bytes: &[u8]) -> Result<(SolveSession, Vec<u8>), AllocError>
+    pub(crate) fn answer(
+        self,
+        alloc: Global,
+        bytes: &[u8],
+    ) -> Result<(SolveSession, Vec<u8>), AllocError>
         ensures { IfOk result (λ answer. (rows : List (List (List ℕ))) (lines : List ℕ)
             → HasAnswered self.taken rows lines → HasAnswered answer.0.taken
             (rows ++ rows_of bytes.now) (lines ++ answer.1.items)) }
@@ -84,7 +88,7 @@ impl SolveSession {
     }
 
     /// The last line of a run over the rows that were given.
-    pub fn last_line(&self, alloc: Global) -> Result<Vec<u8>, AllocError>
+    pub(crate) fn last_line(&self, alloc: Global) -> Result<Vec<u8>, AllocError>
         ensures { IfOk result (λ line. (rows : List (List (List ℕ))) (lines : List ℕ)
             → HasAnswered self.now.taken rows lines
             → (summary : Summary) × IsSolveRun rows (lines ++ line.items) summary) }

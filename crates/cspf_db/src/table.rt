@@ -30,9 +30,9 @@ mod tally;
 mod transits;
 
 use crate::limits::{NO_LINK, ROOM_FOR_LINKS, ROOM_FOR_MARKS, ROOM_FOR_ROUTERS};
-use cspf_model::{Batch, Link, MOST_ROUTERS, Refusal};
 use address_range::{AddressRange, range_of};
 use cspf_addr::{Addr, Prefix};
+use cspf_model::{Batch, Link, MOST_ROUTERS, Refusal};
 use marks::{change_marks, is_marked};
 use overwriting::write_over;
 use reverses::{list_reverses, reverse_index};

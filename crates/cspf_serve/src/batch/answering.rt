@@ -36,7 +36,7 @@ impl<G: Gate> Gate for PartGate<'_, G> {
 }
 
 /// Answers requests at the last published version and writes their lines, a part of them at a time.
-pub(crate) fn answer_in_parts<J: Write, W: Write, G: Gate + Sync, T: Threads + Sync>(
+pub(super) fn answer_in_parts<J: Write, W: Write, G: Gate + Sync, T: Threads + Sync>(
     rt: &T,
     alloc: Global,
     publisher: &mut Publisher<J>,

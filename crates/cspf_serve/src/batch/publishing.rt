@@ -23,7 +23,7 @@ use std::sync::Wait;
 /// time. From the first one on that doesn't fit none is published, and its line is answered. The
 /// journal is read to its end. Rows behind the batches are left out where that is asked for, and
 /// else refused.
-pub(crate) fn publish_journal<R: Read + Drop, J: Write, T: Wait>(
+pub(super) fn publish_journal<R: Read + Drop, J: Write, T: Wait>(
     rt: &T,
     alloc: Global,
     journal: R,

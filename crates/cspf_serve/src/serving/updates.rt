@@ -26,7 +26,7 @@ use std::sync::Wait;
 
 /// The updates' side of a run: the publisher, who lets clients know what is published, the open
 /// changes, and how many rows and batches were refused.
-pub(crate) struct Updates<J> {
+pub(super) struct Updates<J> {
     publisher: Publisher<J>,
     tellers: Vec<Teller>,
     changes: OpenChanges,
@@ -240,14 +240,14 @@ impl<J: Write> Updates<J> {
     }
 
     /// Whether a row or a batch was refused, or changes are open.
-    pub(crate) fn has_refused(&self) -> bool
+    pub(super) fn has_refused(&self) -> bool
         ensures { IsTrue result ↔ ((0 < self.now.refused) ⊎ (0 < self.now.changes.count)) }
     {
         self.refused > 0 || self.changes.count > 0
     }
 
     /// Tells what is published.
-    pub(crate) fn tell(&mut self) -> Told
+    pub(super) fn tell(&mut self) -> Told
         ensures batches { result.batches ≡ self.old.publisher.batches }
         ensures source { result.source ≡ self.old.publisher.source }
         ensures same { self.new ≡ self.old }

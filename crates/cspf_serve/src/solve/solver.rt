@@ -237,7 +237,7 @@ impl Solver {
     }
 
     /// The summary, where the run ends here.
-    pub(crate) fn summary(&self, too_many: bool) -> Summary
+    pub(super) fn summary(&self, too_many: bool) -> Summary
         requires { self.now.refused ≤ MOST_ROWS }
         ensures { (s : RunState) → KeepsRun self.now s → result ≡ summary_of s too_many }
     {
