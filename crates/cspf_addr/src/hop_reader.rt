@@ -1,3 +1,5 @@
+//! The reader of a list of hops, and why a text is refused as one.
+
 ghost use Rattle.std.specs.Prelude.{◌≡◌, ◌≤◌, length};
 ghost use Rattle.cspf_addr.specs.HopLists.{hops_of, hops_from, parts_of, AreHopListsReadBack};
 ghost use Rattle.cspf_addr.specs.HopListLaws.{AreHopListsRead, AreBadHopsNamed, AreTooManyRefused};

@@ -1,3 +1,5 @@
+//! The audit itself: it reads the three streams in their order, and then has each line judged.
+
 ghost use Rattle.std.specs.Prelude.{◌≤◌, length, IfOk, IfErr, IfSome};
 ghost use Rattle.cspf_model.specs.Changes.{AreLawful};
 ghost use Rattle.cspf_rows.specs.Records.{rows_of};

@@ -1,3 +1,6 @@
+//! Holds each line that claims to be a reply against the reply that the plain search gives at
+//! its version.
+
 ghost use Rattle.std.specs.Prelude.{◌≡◌, ◌↔◌, IsTrue, IfOk, OnOk, ◌∷◌, ◌++◌, [], length};
 ghost use Rattle.cspf_model.specs.Changes.{AreLawful};
 ghost use Rattle.cspf_audit.specs.Findings.{IsRightReply, AreFindings};

@@ -1,3 +1,5 @@
+//! Cuts the stream of replies into lines, at most `MOST_ROWS` of them.
+
 ghost use Rattle.std.specs.Prelude.{◌≡◌, ◌≤◌, [], length, IfOk, IfErr, OnOk, IfSome};
 ghost use Rattle.cspf_rows.specs.declared.limits.TheConstants.{MOST_ROWS};
 ghost use Rattle.std.specs.Io.BufRead.{strip_last};

@@ -1,3 +1,6 @@
+//! The functions that C calls. Each takes the session out of its handle, uses it once, and puts
+//! it back.
+
 ghost use Rattle.std.specs.Prelude.{◌≡◌, MatchOption};
 ghost use Rattle.std.specs.declared.option.Option.TheVariants.{None, Some};
 ghost use Rattle.cspf_c.specs.Calls.{IsOpened, IsCalled, IsHeld, AreGiven, IsEnded, AreCopied, size_of_lines};

@@ -1,3 +1,6 @@
+//! The session that a handle holds, without a pointer: a solver, and how many rows it was
+//! given.
+
 ghost use Rattle.std.specs.Prelude.{◌≡◌, ◌++◌, ℕ, List, [], IfOk};
 ghost use Rattle.cspf_rows.specs.Records.{rows_of};
 ghost use Rattle.cspf_serve.specs.Script.{IsSolveRun};

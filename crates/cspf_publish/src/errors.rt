@@ -1,3 +1,5 @@
+//! Why a publisher is not opened, a batch is not published, and a request is not answered.
+
 ghost use Rattle.std.specs.Prelude.{◌≡◌};
 ghost use Rattle.cspf_publish.specs.declared.errors.OpenError.TheVariants as open_error;
 

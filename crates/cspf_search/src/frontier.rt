@@ -1,3 +1,6 @@
+//! One step of the search with a heap: what a settled node leads to is offered to the labels
+//! there.
+
 ghost use Rattle.cspf_model.specs.declared.limits.TheConstants.{MOST_LINKS};
 ghost use Rattle.std.specs.Prelude.{◌≡◌, ◌+◌, ◌*◌, ◌%◌, ◌<◌, ◌≤◌, ◌⊎◌, Some, length, slice_get, slice_index_or, OnOk};
 ghost use Rattle.std.specs.BinaryHeap.{heap_items, heap_len};

@@ -1,3 +1,5 @@
+//! The state of the search against the links in one leg, from which the bounds come.
+
 ghost use Rattle.std.specs.Prelude.{◌≡◌, ◌<◌, ◌≤◌, ℕ, false, IfSome, OnOk, length, set};
 ghost use Rattle.cspf_model.specs.declared.limits.TheConstants.{MOST_ROUTERS};
 

@@ -1,3 +1,6 @@
+//! One round of the plain search: the first node that a turn or a link leads to from any
+//! settled node.
+
 ghost use Rattle.std.specs.Prelude.{◌≡◌, ◌+◌, ◌-◌, ◌%◌, ◌<◌, ◌↔◌, Some, None, IsTrue, length, slice_get, slice_index_or};
 ghost use Rattle.std.specs.Option.{ForSome, IsSomeAnd};
 ghost use Rattle.cspf_db.specs.Index.{links_of, links_from_index};

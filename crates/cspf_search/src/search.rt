@@ -1,3 +1,6 @@
+//! Both searches, `best` with a heap and `best_by_rounds` without one, and the outcome of what
+//! they settled.
+
 ghost use Rattle.cspf_search.specs.Bounds.{bound_at};
 ghost use Rattle.cspf_model.specs.declared.limits.TheConstants.{MOST_ROUTE_LINKS};
 ghost use Rattle.cspf_search.specs.declared.limits.TheConstants.{NO_WAY};

@@ -1,3 +1,5 @@
+//! Workers that answer requests while this thread publishes batches.
+
 ghost use Rattle.std.specs.Prelude.{◌⊎◌, ◌<◌, ◌≤◌, ◌≡◌, List, length, All, IfOk, IfErr, vec_len};
 ghost use Rattle.std.specs.List.Sorted.{IsStrictlyIncreasing};
 ghost use Rattle.cspf_draw.specs.DrawnNumbers.{CounterId};

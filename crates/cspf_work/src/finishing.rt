@@ -1,3 +1,5 @@
+//! Ends the workers: the draws are closed, and the answers are collected.
+
 ghost use Rattle.std.specs.Prelude.{◌≡◌, ◌⊎◌, List, Some, All, IfOk, IfErr, IsNone};
 ghost use Rattle.std.specs.List.Sorted.{IsStrictlyIncreasing};
 ghost use Rattle.cspf_publish.specs.KnownBatches.{KnownBatches};

@@ -1,3 +1,5 @@
+//! Runs all workers at once, one thread for each where threads can be made.
+
 ghost use Rattle.std.specs.Prelude.{◌≡◌, List, length};
 ghost use Rattle.cspf_draw.specs.DrawnNumbers.{CounterId};
 ghost use Rattle.cspf_publish.specs.KnownBatches.{KnownBatches};

@@ -1,3 +1,5 @@
+//! The loop of one worker: it draws the index of a request, asks it, and keeps the answer.
+
 ghost use Rattle.std.specs.Prelude.{◌≡◌, ◌+◌, ◌<◌, ◌≤◌, ◌++◌, [], ◌∷◌, length, OnOk, IfErr, IfSome, IsNone};
 ghost use Rattle.cspf_publish.specs.KnownBatches.{KnownBatches};
 ghost use Rattle.cspf_work.specs.Served.{IsFaultOfWorker};

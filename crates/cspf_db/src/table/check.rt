@@ -1,3 +1,5 @@
+//! Whether a batch fits the table: the limits, and that no key is changed twice.
+
 ghost use Rattle.std.specs.Prelude.{count_by, ◌≡◌, ℕ, ◌+◌, ◌*◌, ◌<◌, ◌≤◌, ◌↔◌, true, All, length, map, IfOk, IfErr, IfSome, IfNone, IsTrue};
 ghost use Rattle.std.specs.Bool.{OnTrue, OnFalse};
 ghost use Rattle.std.specs.List.{IsDistinct};

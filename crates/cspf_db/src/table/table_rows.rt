@@ -1,3 +1,5 @@
+//! The rows of a table, which are its links in order of their keys: searched, put and removed.
+
 ghost use Rattle.std.specs.Prelude.{◌≡◌, ◌≢◌, ℕ, ◌+◌, ◌<◌, ◌≤◌, true, false, All, filter, length, nat_eq, slice_range, slice_set, vec_len, IfOk, IfErr, IfSome, IfNone};
 ghost use Rattle.std.specs.Vec.{vec_capacity};
 ghost use Rattle.std.specs.List.{HoldsAt, insert, remove as without};

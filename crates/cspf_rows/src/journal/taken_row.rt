@@ -1,3 +1,5 @@
+//! What the next row of a journal means to the batch that is being read.
+
 ghost use Rattle.std.specs.Prelude.{◌≡◌, ◌↔◌, ℕ, IsTrue, IfOk, length};
 ghost use Rattle.csv.specs.Records.{fields_of};
 ghost use Rattle.cspf_rows.specs.Rows.{row_of};

@@ -1,3 +1,5 @@
+//! Reads a whole journal into a list of its batches.
+
 ghost use Rattle.std.specs.Prelude.{◌≡◌, ◌<◌, ◌≤◌, ◌∷◌, ◌++◌, ℕ, List, Option, [], length, IfOk, IfSome, OnOk};
 ghost use Rattle.cspf_rows.specs.Records.{rows_of};
 ghost use Rattle.cspf_rows.specs.GivenBatches.{CanRead, HasGiven, HasFailed};

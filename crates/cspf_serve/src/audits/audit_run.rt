@@ -1,3 +1,5 @@
+//! The run of `audit`: three streams in, a line for each fault and the count of good lines out.
+
 ghost use Rattle.std.specs.Prelude.{◌≡◌, ℕ, List, IfOk, IfErr, OnOk};
 ghost use Rattle.std.specs.Io.KnownBytes.{Appends};
 ghost use Rattle.cspf_serve.specs.AuditRun.{IsAuditErrorLine, IsAuditRun, audit_lines, audit_status};

@@ -1,3 +1,6 @@
+//! Answers the requests of a run in parts, so that the answers of one part alone are kept in
+//! memory.
+
 ghost use Rattle.std.specs.Prelude.{◌≡◌, ◌+◌, ◌<◌, ◌≤◌, ◌⊎◌, length, drop, All, IfOk, IfErr, OnOk, vec_len};
 ghost use Rattle.cspf_model.specs.Changes.{database_after};
 ghost use Rattle.cspf_publish.specs.declared.limits.TheConstants.{MOST_ASKERS};

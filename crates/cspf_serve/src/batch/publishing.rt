@@ -1,3 +1,5 @@
+//! Publishes the batches of a journal as they are read, up to the first one that does not fit.
+
 ghost use Rattle.std.specs.Prelude.{◌≡◌, ◌+◌, ◌≤◌, ◌∷◌, ◌++◌, List, Option, ℕ, [], None, length, IfOk, IfErr, IfSome, OnOk, OnErr, false};
 ghost use Rattle.cspf_model.specs.Numbered.{NumberedChanges, AreNumberedFrom};
 ghost use Rattle.cspf_model.specs.declared.limits.TheConstants.{MOST_VERSIONS};

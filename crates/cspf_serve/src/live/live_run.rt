@@ -1,3 +1,6 @@
+//! The run of `live`: it publishes updates while workers answer requests, and writes the lines
+//! of both.
+
 ghost use Rattle.std.specs.Prelude.{◌≡◌, ℕ, ◌<◌, ◌≤◌, ◌⊎◌, List, [], length, All, IfOk, IfErr, IfSome, slice_get, vec_len, false};
 ghost use Rattle.std.specs.Io.KnownBytes.{Appends};
 ghost use Rattle.cspf_model.specs.Numbered.{AreNumberedFrom};

@@ -1,3 +1,5 @@
+//! The changes of the updates that no batch has taken yet.
+
 ghost use Rattle.std.specs.Prelude.{◌≡◌, ◌+◌, ◌∷◌, ◌++◌, ◌<◌, ◌^◌, [], List, IfErr, OnOk, OnErr};
 ghost use Rattle.cspf_model.specs.declared.batch.Change.{Change as Changed};
 ghost use Rattle.cspf_publish.specs.ApplyErrors.{IsApplyError};

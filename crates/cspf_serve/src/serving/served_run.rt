@@ -1,3 +1,6 @@
+//! The run of `serve`: this thread answers the updates, and a thread for each client answers
+//! its requests.
+
 ghost use Rattle.std.specs.Prelude.{◌≡◌, ◌<◌, ◌≤◌, ◌↔◌, [], false, All, IfOk, IfErr, IsTrue, List, vec_len, vec_capacity};
 ghost use Rattle.std.specs.List.{AllZip};
 ghost use Rattle.logbook.specs.Pages.{Book};

@@ -1,3 +1,5 @@
+//! How one row of the updates is answered, and how the clients hear of each published batch.
+
 ghost use Rattle.std.specs.Prelude.{◌≡◌, ◌+◌, ◌<◌, ◌≤◌, ◌⊎◌, ◌^◌, ◌++◌, ◌∷◌, [], List, Ok, All, IsTrue, ◌↔◌, length, IfOk, IfErr, OnOk, OnErr};
 ghost use Rattle.cspf_ero.specs.ReplyLine.{IsReply};
 ghost use Rattle.cspf_model.specs.Best.{Answer, IsBestAnswer};

@@ -1,3 +1,5 @@
+//! The run of `snapshot`: a journal in, the few batches that make its last database out.
+
 ghost use Rattle.std.specs.Prelude.{◌≡◌, IfOk, IfErr, IfSome, OnOk};
 ghost use Rattle.std.specs.Io.KnownBytes.{Appends};
 ghost use Rattle.cspf_rows.specs.JournalLaws.{journal_text};

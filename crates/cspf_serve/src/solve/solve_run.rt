@@ -1,3 +1,5 @@
+//! The run of `solve`: one stream of rows in, the line of each out.
+
 ghost use Rattle.std.specs.Prelude.{◌≡◌, ℕ, ◌+◌, ◌*◌, ◌^◌, ◌≤◌, ◌<◌, List, true, length, IfOk, IfErr, IfSome, take};
 ghost use Rattle.std.specs.Io.KnownBytes.{Appends};
 ghost use Rattle.csv.specs.Records.{fields_of};

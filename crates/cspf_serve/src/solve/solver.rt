@@ -1,3 +1,5 @@
+//! What answers one row after the other: the table, the open changes, and the counts of a run.
+
 ghost use Rattle.std.specs.Prelude.{◌≡◌, ℕ, ◌+◌, ◌<◌, ◌≤◌, List, [], ◌∷◌, ◌++◌, take, IfOk, OnOk, OnErr, MatchResult};
 ghost use Rattle.cspf_model.specs.declared.batch.Change.{Change as Changed};
 ghost use Rattle.cspf_model.specs.Best.{Answer, IsBestAnswer};
