@@ -61,7 +61,7 @@ impl Prefix {
     }
 
     /// The prefix of length 0, which covers all addresses.
-    pub fn of_all() -> Prefix
+    pub(crate) fn of_all() -> Prefix
         ensures { result ≡ record { address = 0; length = 0 } }
     {
         Prefix {
