@@ -12,7 +12,7 @@ use thiserror::Error;
 #[derive(Clone, Copy, Debug, PartialEq, Eq, Error)]
 pub enum HopsError {
     /// More than seven parts.
-    #[error("more than 7 hops")]
+    #[error("more than {most} hops", most = MOST_HOPS)]
     TooManyHops,
     /// The first part that is no hop, numbered from 1.
     #[error("part {at} is not a hop")]
