@@ -6,8 +6,8 @@ ghost use Rattle.cspf_search.specs.Strict.{IsApart, IsBroken};
 
 use crate::query::{Query, may_be_left};
 use crate::roles::is_loose;
-use cspf_graph::admissible;
 use cspf_model::MOST_ROUTERS;
+use cspf_graph::admissible;
 
 /// Whether a route that stands at the router at an index may turn to the leg behind that to a hop, there
 /// or behind one link.
