@@ -1,3 +1,5 @@
+//! A hop of an explicit route: a prefix, and whether the hop is strict or loose.
+
 ghost use Rattle.std.specs.Prelude.{◌≡◌, IfOk};
 ghost use Rattle.std.specs.String.{string_bytes};
 ghost use Rattle.cspf_addr.specs.HopText.{hop_of, loose_of, AreHopTextsRead, AreHopsReadBack};

@@ -1,3 +1,5 @@
+//! The reader of a list of hops, and why a text is refused as one.
+
 ghost use Rattle.std.specs.Prelude.{◌≡◌, ◌≤◌, length};
 ghost use Rattle.cspf_addr.specs.HopLists.{hops_of, hops_from, parts_of, AreHopListsReadBack};
 ghost use Rattle.cspf_addr.specs.HopListLaws.{AreHopListsRead, AreBadHopsNamed, AreTooManyRefused};
@@ -10,7 +12,7 @@ use thiserror::Error;
 #[derive(Clone, Copy, Debug, PartialEq, Eq, Error)]
 pub enum HopsError {
     /// More than seven parts.
-    #[error("more than 7 hops")]
+    #[error("more than {most} hops", most = MOST_HOPS)]
     TooManyHops,
     /// The first part that is no hop, numbered from 1.
     #[error("part {at} is not a hop")]

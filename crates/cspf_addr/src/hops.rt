@@ -1,3 +1,5 @@
+//! Lists of at most seven hops, which are kept in place and take no memory.
+
 ghost use Rattle.std.specs.Prelude.{◌≡◌, ◌<◌, ◌≤◌, ◌++◌, [], ◌∷◌, length, slice_get, ◌==◌};
 
 use crate::hop::Hop;

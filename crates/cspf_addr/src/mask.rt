@@ -1,3 +1,5 @@
+//! Masks: sets of the 32 administrative groups, their text, and the reader of that text.
+
 ghost use Rattle.std.specs.Prelude.{◌≡◌, ◌≤◌, ℕ, length, if◌then◌else◌, IfOk, OnErr};
 ghost use Rattle.std.specs.Result.{result_ok};
 ghost use Rattle.std.specs.String.{string_bytes};

@@ -1,3 +1,6 @@
+//! Prefixes of addresses: the type, which addresses one covers, its text, and the reader of
+//! that text.
+
 ghost use Rattle.std.specs.Prelude.{◌≡◌, ◌<◌, ◌≤◌, ◌↔◌, IsTrue, IfOk, IfErr};
 ghost use Rattle.std.specs.String.{string_bytes};
 ghost use Rattle.cspf_addr.specs.PrefixParts.{with_first_bits, IsPrefix};
@@ -58,7 +61,7 @@ impl Prefix {
     }
 
     /// The prefix of length 0, which covers all addresses.
-    pub fn of_all() -> Prefix
+    pub(crate) fn of_all() -> Prefix
         ensures { result ≡ record { address = 0; length = 0 } }
     {
         Prefix {

@@ -14,7 +14,7 @@ use Rattle.cspf_ero.specs.ReplyHead.{BeginsWithHead, HasOneHead}
 use Rattle.cspf_audit.specs.declared.claim.Claim.{Claim}
 use Rattle.cspf_audit.specs.declared.finding.Finding.{Finding}
 use Rattle.cspf_audit.specs.declared.finding.Finding.TheVariants as finding
-use Rattle.cspf_audit.specs.declared.replies.Replies.{Replies}
+use Rattle.cspf_audit.specs.declared.replies.ReplyFindings.{ReplyFindings}
 use Rattle.cspf_audit.specs.declared.replies.Reading.TheVariants as reading
 use Rattle.cspf_audit.specs.Requests.{HaveOwnIds, IsAsked}
 use Rattle.cspf_audit.specs.Reading.{place_of, ArePlaces, IsClaim, AreClaims, AreOpenFindings, AreNamed, HasReadLines, IsReading}
@@ -203,7 +203,7 @@ module _ (one : HasOneHead) (batches : List NumberedChanges) (requests : List Re
             only (suc k, low, same) = absurd (omega arith)
 
 -- what was read is kept as these lists
-pub has_read : (batches : List NumberedChanges) (requests : List Request) (seen : List (List ℕ)) (replies : Replies) (findings : List Finding) (claims : List Claim) (named : List Bool)
+pub has_read : (batches : List NumberedChanges) (requests : List Request) (seen : List (List ℕ)) (replies : ReplyFindings) (findings : List Finding) (claims : List Claim) (named : List Bool)
     → replies.findings.items ≡ findings → replies.claims.items ≡ claims → replies.named.items ≡ named
     → AreOpenFindings batches requests seen claims findings × AreClaims requests (length batches) seen claims × AreNamed requests seen named → HasReadLines batches requests replies seen
 has_read batches requests seen replies findings claims named found claimed marked those = record {

@@ -16,7 +16,7 @@ use Rattle.cspf_audit.specs.declared.faults.AuditFault.TheVariants as fault
 use Rattle.cspf_audit.specs.declared.finding.Finding.{Finding}
 use Rattle.cspf_audit.specs.declared.finding.Finding.TheVariants as finding
 use Rattle.cspf_audit.specs.declared.replay.Replay.{Replay}
-use Rattle.cspf_audit.specs.declared.replies.Replies.{Replies}
+use Rattle.cspf_audit.specs.declared.replies.ReplyFindings.{ReplyFindings}
 use Rattle.cspf_audit.specs.declared.replies.Reading.{Reading}
 use Rattle.cspf_audit.specs.declared.replies.Reading.TheVariants as reading
 use Rattle.cspf_audit.specs.Requests.{RepeatsId}
@@ -82,7 +82,7 @@ pub record AreNamed (requests : List Request) (lines : List (List ℕ)) (named :
       → (slice_get named index ≡ Some true) ↔ IsNamed lines q.id
 
 -- what was read of these lines
-pub record HasReadLines (batches : List NumberedChanges) (requests : List Request) (replies : Replies) (seen : List (List ℕ)) : Type 0 where
+pub record HasReadLines (batches : List NumberedChanges) (requests : List Request) (replies : ReplyFindings) (seen : List (List ℕ)) : Type 0 where
   pub found : AreOpenFindings batches requests seen replies.claims.items replies.findings.items
   pub claims : AreClaims requests (length batches) seen replies.claims.items
   pub named : AreNamed requests seen replies.named.items

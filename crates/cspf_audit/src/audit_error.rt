@@ -1,3 +1,6 @@
+//! Why an audit ends before it judges replies, and how the errors of the readers become this
+//! one.
+
 ghost use Rattle.std.specs.Prelude.{◌≡◌};
 ghost use Rattle.cspf_rows.specs.declared.read_error.ReadError.{ReadError as IsReadError};
 ghost use Rattle.cspf_audit.specs.ErrorNames.{audit_error_of, requests_error_of, IsIoFault};

@@ -1,3 +1,5 @@
+//! The audit itself: it reads the three streams in their order, and then has each line judged.
+
 ghost use Rattle.std.specs.Prelude.{◌≤◌, length, IfOk, IfErr, IfSome};
 ghost use Rattle.cspf_model.specs.Changes.{AreLawful};
 ghost use Rattle.cspf_rows.specs.Records.{rows_of};
@@ -12,7 +14,7 @@ use crate::comparing::compare_all;
 use crate::faults::Audit;
 use crate::ids::index_ids;
 use crate::journal::lawful_journal;
-use crate::lines::{Line, read_lines};
+use crate::lines::{ReplyLine, read_lines};
 use crate::replies::read_replies;
 use crate::reporting::report;
 use cspf_model::{Batch, Request};
@@ -50,7 +52,7 @@ fn audit_lines(
     batches: &[Batch],
     requests: &[Request],
     ids: &BTreeMap<u64, usize>,
-    lines: &[Line],
+    lines: &[ReplyLine],
 ) -> Result<Audit, AllocError>
     requires lawful { AreLawful batches.now }
     requires places { ArePlaces ids.now requests.now }

@@ -1,3 +1,6 @@
+//! Holds each line that claims to be a reply against the reply that the plain search gives at
+//! its version.
+
 ghost use Rattle.std.specs.Prelude.{◌≡◌, ◌↔◌, IsTrue, IfOk, OnOk, ◌∷◌, ◌++◌, [], length};
 ghost use Rattle.cspf_model.specs.Changes.{AreLawful};
 ghost use Rattle.cspf_audit.specs.Findings.{IsRightReply, AreFindings};
@@ -5,11 +8,11 @@ ghost use Rattle.cspf_audit.specs.Reading.{AreOpenFindings, AreClaims};
 
 use crate::claim::Claim;
 use crate::finding::Finding;
-use crate::lines::Line;
+use crate::lines::ReplyLine;
 use crate::replay::Replay;
 use cspf_db::Table;
-use cspf_model::{Batch, Request, one_best_answer};
 use cspf_ero::{one_reply_line, reply_line};
+use cspf_model::{Batch, Request, one_best_answer};
 use cspf_search::best_by_rounds;
 use std::alloc::{AllocError, Global};
 
@@ -19,7 +22,7 @@ pub(crate) fn compare_all(
     alloc: Global,
     batches: &[Batch],
     requests: &[Request],
-    lines: &[Line],
+    lines: &[ReplyLine],
     claims: &[Claim],
     findings: &mut [Finding],
 ) -> Result<(), AllocError>

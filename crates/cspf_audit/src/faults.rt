@@ -1,3 +1,5 @@
+//! What an audit finds: the faults, their text, and the number of good lines.
+
 use std::fmt;
 
 /// What is wrong with the replies. Lines count from 1, those that are passed over too.

@@ -1,3 +1,5 @@
+//! Cuts the stream of replies into lines, at most `MOST_ROWS` of them.
+
 ghost use Rattle.std.specs.Prelude.{◌≡◌, ◌≤◌, [], length, IfOk, IfErr, OnOk, IfSome};
 ghost use Rattle.cspf_rows.specs.declared.limits.TheConstants.{MOST_ROWS};
 ghost use Rattle.std.specs.Io.BufRead.{strip_last};
@@ -12,9 +14,9 @@ use std::marker::Model;
 
 /// The bytes of a line, its line feed aside.
 #[derive(Drop)]
-pub(crate) struct Line(Vec<u8>);
+pub(crate) struct ReplyLine(Vec<u8>);
 
-impl Model for Line {
+impl Model for ReplyLine {
     ghost use Rattle.std.specs.Prelude.{ℕ, List};
 
     ghost Value = { List ℕ };
@@ -22,7 +24,7 @@ impl Model for Line {
     ghost view = { λ a. a.0.items };
 }
 
-impl Line {
+impl ReplyLine {
     /// Its bytes.
     pub(crate) fn text(&self) -> &[u8]
         ensures { result.now ≡ self.now }
@@ -33,7 +35,10 @@ impl Line {
 
 /// The lines of a stream, which is read to its end, or to its line after `MOST_ROWS`, which is
 /// refused as `TooManyRows`.
-pub(crate) fn read_lines<P: Read + Drop>(alloc: Global, replies: P) -> Result<Vec<Line>, AuditError>
+pub(crate) fn read_lines<P: Read + Drop>(
+    alloc: Global,
+    replies: P,
+) -> Result<Vec<ReplyLine>, AuditError>
     ensures whole { IfOk result (λ lines. IfSome (P.remaining replies) (λ bytes.
         AreLines bytes lines.items)) }
     ensures most { IfOk result (λ lines. length lines.items ≤ MOST_ROWS) }
@@ -51,7 +56,7 @@ pub(crate) fn read_lines<P: Read + Drop>(alloc: Global, replies: P) -> Result<Ve
 fn read_all<B: BufRead>(
     alloc: Global,
     reader: &mut B,
-    lines: &mut Vec<Line>,
+    lines: &mut Vec<ReplyLine>,
 ) -> Result<(), AuditError>
     requires fresh { lines.old.items ≡ [] }
     ensures whole { OnOk result (IfSome (B.remaining reader.old) (λ bytes.
@@ -74,7 +79,7 @@ fn read_all<B: BufRead>(
 }
 
 /// Reads the next line, if there is one.
-fn next_line<B: BufRead>(alloc: Global, reader: &mut B) -> Result<Option<Line>, AuditError>
+fn next_line<B: BufRead>(alloc: Global, reader: &mut B) -> Result<Option<ReplyLine>, AuditError>
     ensures takes { IfOk result (TakesLine (B.remaining reader.old) (B.remaining reader.new)) }
     ensures error { IfErr result IsReadingFault }
 {
@@ -83,7 +88,7 @@ fn next_line<B: BufRead>(alloc: Global, reader: &mut B) -> Result<Option<Line>, 
         return Ok(None);
     }
     cut_feed(&mut text);
-    Ok(Some(Line(text)))
+    Ok(Some(ReplyLine(text)))
 }
 
 /// Takes a line feed off the end of a line.

@@ -1,3 +1,5 @@
+//! What each line of the replies says by its head alone, before its words are compared.
+
 ghost use Rattle.std.specs.Prelude.{◌≡◌, ◌++◌, ◌∷◌, [], ◌<◌, ℕ, List, length, Some, OnOk, IfOk};
 ghost use Rattle.std.specs.BTreeMap.{get};
 ghost use Rattle.std.specs.Ordering.{nat_cmp};
@@ -8,16 +10,16 @@ ghost use Rattle.cspf_audit.specs.Reading.{ArePlaces, HasReadLines, IsReading};
 
 use crate::claim::Claim;
 use crate::finding::Finding;
-use crate::lines::Line;
+use crate::lines::ReplyLine;
 use crate::words::is_passed_over;
-use cspf_model::Request;
 use cspf_ero::{one_head, reply_head};
+use cspf_model::Request;
 use std::alloc::{AllocError, Global};
 use std::collections::BTreeMap;
 
 /// What the lines of replies say, as far as they were read.
 #[derive(Drop)]
-pub(crate) struct Replies {
+pub(crate) struct ReplyFindings {
     /// What is found of each line. Lines that claim to be replies count as good.
     pub(crate) findings: Vec<Finding>,
     /// The lines that claim to be replies.
@@ -39,18 +41,18 @@ enum Reading {
 /// the last one.
 pub(crate) fn read_replies(
     alloc: Global,
-    lines: &[Line],
+    lines: &[ReplyLine],
     requests: &[Request],
     ids: &BTreeMap<u64, usize>,
     last: usize,
-) -> Result<Replies, AllocError>
+) -> Result<ReplyFindings, AllocError>
     requires places { ArePlaces ids.now requests.now }
     requires own { HaveOwnIds requests.now }
     ensures { IfOk result (λ replies. (batches : List NumberedChanges) → length batches ≡ last
         → HasReadLines batches requests.now replies lines.now) }
 {
     let named = vec![in alloc; false; requests.len()]?;
-    let mut replies = Replies {
+    let mut replies = ReplyFindings {
         findings: Vec::new(alloc),
         claims: Vec::new(alloc),
         named,
@@ -61,7 +63,7 @@ pub(crate) fn read_replies(
     Ok(replies)
 }
 
-impl Replies {
+impl ReplyFindings {
     /// Takes the next line.
     fn take(
         &mut self,

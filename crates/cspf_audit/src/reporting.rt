@@ -1,3 +1,5 @@
+//! Makes the faults of an audit from what was found of each line and of each request.
+
 ghost use Rattle.std.specs.Prelude.{◌≡◌, ◌++◌, ◌≤◌, List, ℕ, length, IfOk, OnOk};
 ghost use Rattle.cspf_rows.specs.declared.limits.TheConstants.{MOST_ROWS};
 ghost use Rattle.cspf_audit.specs.Audits.{faults_from, good_count, fault_at};

@@ -8,10 +8,10 @@ use Rattle.cspf_serve.specs.Script.{RunState, at_next_row, IsRowAnswered}
 use Rattle.cspf_serve.specs.SolveLaws.{CountsByOne}
 use Rattle.cspf_serve.specs.SolverStates.{KeepsRun, AreFew}
 use Rattle.cspf_c.specs.History.{IsCounted}
-use Rattle.cspf_c.specs.declared.session.Taken.{Taken}
+use Rattle.cspf_c.specs.declared.session.TakenRows.{TakenRows}
 
 -- what the solver owes before a row
-pub few : (taken : Taken) → ∥ IsCounted taken ∥₁ → AreFew taken.solver
+pub few : (taken : TakenRows) → ∥ IsCounted taken ∥₁ → AreFew taken.solver
 few taken truly = record {
   rows = ∥∥₁_elim truly le_prop (λ counted. omega (arith, counted.kept.rows, counted.rows, counted.most));
   count = ∥∥₁_elim truly le_prop (λ counted. omega (arith, counted.kept.count, counted.changes, counted.most));
@@ -20,7 +20,7 @@ few taken truly = record {
 }
 
 -- the counts after one more answer
-pub counted_more : CountsByOne → (old new : Taken) (r : Result Row RowError) (line : List ℕ) → new.answered ≡ old.answered + 1 → old.answered < 1000000
+pub counted_more : CountsByOne → (old new : TakenRows) (r : Result Row RowError) (line : List ℕ) → new.answered ≡ old.answered + 1 → old.answered < 1000000
     → ((s : RunState) → KeepsRun old.solver s → (t : RunState) × KeepsRun new.solver t × IsRowAnswered (at_next_row s) r line t)
     → IsCounted old → IsCounted new
 counted_more counts old new r line one room step counted =

@@ -12,7 +12,7 @@ use Rattle.cspf_serve.specs.SolveLaws.{CountsByOne, GoesOnByOneRow}
 use Rattle.cspf_serve.specs.declared.solve.summary.Summary.{Summary}
 use Rattle.cspf_serve.specs.SolverStates.{KeepsRun}
 use Rattle.cspf_c.specs.History.{HasAnswered, IsCounted, IsOneMore, IsPast}
-use Rattle.cspf_c.specs.declared.session.Taken.{Taken}
+use Rattle.cspf_c.specs.declared.session.TakenRows.{TakenRows}
 use Rattle.cspf_c.proofs.RowCounts.{counted_more}
 
 abbrev Rows : Type 0
@@ -23,7 +23,7 @@ unfolding AreRowsAnswered
 none_answered s = (refl, refl)
 
 -- before the first row
-pub none_given : (taken : Taken) → KeepsRun taken.solver start → taken.answered ≡ 0 → taken.too_many ≡ false → HasAnswered taken [] []
+pub none_given : (taken : TakenRows) → KeepsRun taken.solver start → taken.answered ≡ 0 → taken.too_many ≡ false → HasAnswered taken [] []
 none_given taken kept none few = record {
   done = [];
   rest = [];
@@ -35,7 +35,7 @@ none_given taken kept none few = record {
   past = rw few (refl, omega (arith, none));
 }
 
-pub none_counted : (taken : Taken) → KeepsRun taken.solver start → taken.answered ≡ 0 → IsCounted taken
+pub none_counted : (taken : TakenRows) → KeepsRun taken.solver start → taken.answered ≡ 0 → IsCounted taken
 none_counted taken kept none = record {
   state = start;
   kept = kept;
@@ -53,7 +53,7 @@ none_past : (too_many : Bool) (count : ℕ) (rest : Rows) → IsPast too_many co
 none_past false count rest past room = (past.0, refl)
 none_past true count rest past room = let wrong : ⊥ = omega (arith, past.1, room) in absurd wrong
 
-has_more : GoesOnByOneRow → (old new : Taken) (line : List ℕ) (rows : Rows) (lines : List ℕ) (fields : List (List ℕ)) → new.answered ≡ old.answered + 1 → new.too_many ≡ old.too_many
+has_more : GoesOnByOneRow → (old new : TakenRows) (line : List ℕ) (rows : Rows) (lines : List ℕ) (fields : List (List ℕ)) → new.answered ≡ old.answered + 1 → new.too_many ≡ old.too_many
     → old.answered < 1000000 → ((s : RunState) → KeepsRun old.solver s → (t : RunState) × KeepsRun new.solver t × IsRowAnswered (at_next_row s) (row_of fields) line t)
     → HasAnswered old rows lines → HasAnswered new (rows ++ (fields ∷ [])) (lines ++ line)
 has_more more old new line rows lines fields one same room step has =
@@ -70,7 +70,7 @@ has_more more old new line rows lines fields one same room step has =
       past = rw (same, none.1) (refl, omega (arith, one, room));
     }
 
-pub one_more : GoesOnByOneRow → CountsByOne → (place : ℕ) (old new : Taken) (r : Result Row RowError) (line : List ℕ) → new.answered ≡ old.answered + 1 → new.too_many ≡ old.too_many
+pub one_more : GoesOnByOneRow → CountsByOne → (place : ℕ) (old new : TakenRows) (r : Result Row RowError) (line : List ℕ) → new.answered ≡ old.answered + 1 → new.too_many ≡ old.too_many
     → old.answered < 1000000 → ((s : RunState) → KeepsRun old.solver s → (t : RunState) × KeepsRun new.solver t × IsRowAnswered (at_next_row s) r line t)
     → IsOneMore place old r line new
 one_more more counts place old new r line one same room step = record {
@@ -85,7 +85,7 @@ one_past : (too_many : Bool) (count : ℕ) (rest : Rows) (fields : List (List �
 one_past false count rest fields past full = (omega (arith, length-append rest (fields ∷ [])), omega (arith, past.1, full))
 one_past true count rest fields past full = (omega (arith, length-append rest (fields ∷ [])), past.1)
 
-pub counted_still : (old : Taken) → IsCounted old → IsCounted (record old { too_many = true })
+pub counted_still : (old : TakenRows) → IsCounted old → IsCounted (record old { too_many = true })
 counted_still old counted = record {
   state = counted.state;
   kept = counted.kept;
@@ -96,7 +96,7 @@ counted_still old counted = record {
   most = counted.most;
 }
 
-pub one_past_all : (place : ℕ) (old new : Taken) (r : Result Row RowError) → new ≡ record old { too_many = true } → 1000000 ≤ old.answered → IsOneMore place old r [] new
+pub one_past_all : (place : ℕ) (old new : TakenRows) (r : Result Row RowError) → new ≡ record old { too_many = true } → 1000000 ≤ old.answered → IsOneMore place old r [] new
 one_past_all place old new r is full = rw is (record {
   counted = λ counted. ∥∥₁_map counted (counted_still old);
   answered = λ rows lines fields is has. record {
@@ -113,12 +113,12 @@ one_past_all place old new r is full = rw is (record {
 
 -- ---- all rows of a stream
 
-pub all_counted : (place : ℕ) (old new : Taken) (more : Rows) (out : List ℕ) → AreTaken IsOneMore place old more out new → ∥ IsCounted old ∥₁ → ∥ IsCounted new ∥₁
+pub all_counted : (place : ℕ) (old new : TakenRows) (more : Rows) (out : List ℕ) → AreTaken IsOneMore place old more out new → ∥ IsCounted old ∥₁ → ∥ IsCounted new ∥₁
 unfolding AreTaken
 all_counted place old new [] out a counted = rw a.1 counted
 all_counted place old new (fields ∷ more) out a counted = all_counted (suc place) a.1 new more a.2 a.5 (a.3.counted counted)
 
-pub all_answered : (place : ℕ) (old new : Taken) (more : Rows) (out : List ℕ) (rows : Rows) (lines : List ℕ)
+pub all_answered : (place : ℕ) (old new : TakenRows) (more : Rows) (out : List ℕ) (rows : Rows) (lines : List ℕ)
     → AreTaken IsOneMore place old more out new → HasAnswered old rows lines → HasAnswered new (rows ++ more) (lines ++ out)
 unfolding AreTaken
 all_answered place old new [] out rows lines a has = rw (a.0, a.1, append-nil rows, append-nil lines) has
@@ -139,7 +139,7 @@ rows_read false count rows done rest split same past =
 rows_read true count rows done rest split same past =
     rw split (take_at done rest 1000000 (same ∙ past.1), lt-ltb 1000000 (length (done ++ rest)) (omega (arith, same, past.0, past.1, length-append done rest)))
 
-pub ended : (taken : Taken) (rows : Rows) (lines last : List ℕ) → ((s : RunState) → KeepsRun taken.solver s → last ≡ last_line taken.too_many s.changes)
+pub ended : (taken : TakenRows) (rows : Rows) (lines last : List ℕ) → ((s : RunState) → KeepsRun taken.solver s → last ≡ last_line taken.too_many s.changes)
     → HasAnswered taken rows lines → (summary : Summary) × IsSolveRun rows (lines ++ last) summary
 ended taken rows lines last line has =
     let read = rows_read taken.too_many taken.answered rows has.done has.rest has.split has.count has.past in (

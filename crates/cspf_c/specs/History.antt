@@ -6,7 +6,7 @@ use Rattle.cspf_rows.specs.declared.row.Row.{Row}
 use Rattle.cspf_rows.specs.declared.row_error.RowError.{RowError}
 use Rattle.cspf_serve.specs.Script.{RunState, start, AreRowsAnswered}
 use Rattle.cspf_serve.specs.SolverStates.{KeepsRun}
-use Rattle.cspf_c.specs.declared.session.Taken.{Taken}
+use Rattle.cspf_c.specs.declared.session.TakenRows.{TakenRows}
 
 -- rows behind the first 1,000,000: none, or some where as many are answered
 abbrev pub IsPast : Bool → ℕ → List (List (List ℕ)) → Type 0
@@ -15,7 +15,7 @@ IsPast true count rest = (0 < length rest) × (count ≡ MOST_ROWS)
 
 -- These rows were given, one behind the other, and these lines are their answers: of the rows that
 -- are answered, which are the first 1,000,000.
-pub record HasAnswered (taken : Taken) (rows : List (List (List ℕ))) (lines : List ℕ) : Type 0 where
+pub record HasAnswered (taken : TakenRows) (rows : List (List (List ℕ))) (lines : List ℕ) : Type 0 where
   pub done : List (List (List ℕ))
   pub rest : List (List (List ℕ))
   pub after : RunState
@@ -26,7 +26,7 @@ pub record HasAnswered (taken : Taken) (rows : List (List (List ℕ))) (lines : 
   pub past : IsPast taken.too_many taken.answered rest
 
 -- Private: the counts of a state that is kept, none of them above that of the answered rows.
-pub record IsCounted (taken : Taken) : Type 0 where
+pub record IsCounted (taken : TakenRows) : Type 0 where
   pub state : RunState
   pub kept : KeepsRun taken.solver state
   pub rows : state.rows ≡ taken.answered
@@ -36,7 +36,7 @@ pub record IsCounted (taken : Taken) : Type 0 where
   pub most : taken.answered ≤ MOST_ROWS
 
 -- Private: one more row is given, and answered this line.
-pub record IsOneMore (place : ℕ) (old : Taken) (row : Result Row RowError) (line : List ℕ) (new : Taken) : Type 0 where
+pub record IsOneMore (place : ℕ) (old : TakenRows) (row : Result Row RowError) (line : List ℕ) (new : TakenRows) : Type 0 where
   pub counted : ∥ IsCounted old ∥₁ → ∥ IsCounted new ∥₁
   pub answered : (rows : List (List (List ℕ))) (lines : List ℕ) (fields : List (List ℕ)) → row_of fields ≡ row → HasAnswered old rows lines
       → HasAnswered new (rows ++ (fields ∷ [])) (lines ++ line)

@@ -1,3 +1,6 @@
+//! The functions that C calls. Each takes the session out of its handle, uses it once, and puts
+//! it back.
+
 ghost use Rattle.std.specs.Prelude.{◌≡◌, MatchOption};
 ghost use Rattle.std.specs.declared.option.Option.TheVariants.{None, Some};
 ghost use Rattle.cspf_c.specs.Calls.{IsOpened, IsCalled, IsHeld, AreGiven, IsEnded, AreCopied, size_of_lines};
@@ -50,8 +53,9 @@ fn lines_size(made: &Result<Opened, AllocError>) -> usize
     }
 }
 
-/// Opens a session, with the empty database and no open changes. One that the handle held is closed
-/// first.
+/// Opens a session, with the empty database and no open changes. The new session is made before one
+/// that the handle held is closed, so there is memory for both until then. Where memory is refused
+/// that one is closed too.
 #[unsafe(no_mangle)]
 pub extern "C" fn routed_open(alloc: Global, handle: &mut Handle) -> u32
     ensures { IsOpened result handle.new.value }

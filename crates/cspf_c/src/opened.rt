@@ -2,13 +2,13 @@ ghost use Rattle.std.specs.Prelude.{◌≡◌, ◌++◌, ℕ, List, [], length, 
 ghost use Rattle.cspf_c.specs.Calls.{AreGiven, IsEnded};
 ghost use Rattle.cspf_c.specs.History.{HasAnswered};
 
-use crate::session::Session;
+use crate::session::SolveSession;
 use std::alloc::{AllocError, Global};
 
 /// What a handle holds: a session, and the lines of the call before.
 #[derive(Drop)]
 pub struct Opened {
-    pub(crate) session: Session,
+    pub(crate) session: SolveSession,
     pub(crate) lines: Vec<u8>,
 }
 
@@ -18,7 +18,7 @@ impl Opened {
         ensures { IfOk result (λ opened. HasAnswered opened.session.taken [] [] × (opened.lines.items ≡ [])) }
     {
         Ok(Opened {
-            session: Session::new(alloc)?,
+            session: SolveSession::new(alloc)?,
             lines: Vec::new(alloc),
         })
     }

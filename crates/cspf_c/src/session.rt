@@ -1,3 +1,6 @@
+//! The session that a handle holds, without a pointer: a solver, and how many rows it was
+//! given.
+
 ghost use Rattle.std.specs.Prelude.{◌≡◌, ◌++◌, ℕ, List, [], IfOk};
 ghost use Rattle.cspf_rows.specs.Records.{rows_of};
 ghost use Rattle.cspf_serve.specs.Script.{IsSolveRun};
@@ -11,7 +14,7 @@ use std::alloc::{AllocError, Global};
 
 /// The rows that a session was given.
 #[derive(Drop)]
-pub struct Taken {
+pub struct TakenRows {
     /// The solver of the first 1,000,000 of them.
     solver: Solver,
     /// How many rows the solver was given.
@@ -20,7 +23,7 @@ pub struct Taken {
     too_many: bool,
 }
 
-impl Answering<()> for Taken {
+impl Answering<()> for TakenRows {
     ghost answers = { IsOneMore };
 
     ghost fails = { λ place old row new. Unit {0} };
@@ -48,43 +51,47 @@ impl Answering<()> for Taken {
 
 /// A database, its open changes, and the rows that led to it.
 #[derive(Drop)]
-pub struct Session {
-    taken: Taken,
+pub struct SolveSession {
+    taken: TakenRows,
     ghost counted: { ∥ IsCounted taken ∥₁ },
 }
 
-impl Session {
+impl SolveSession {
     /// Version 0, with the empty database and no open changes. No row was given.
-    pub fn new(alloc: Global) -> Result<Session, AllocError>
+    pub(crate) fn new(alloc: Global) -> Result<SolveSession, AllocError>
         ensures { IfOk result (λ session. HasAnswered session.taken [] []) }
     {
-        let taken = Taken {
+        let taken = TakenRows {
             solver: Solver::new(alloc)?,
             answered: 0,
             too_many: false,
         };
-        Ok(Session { taken })
+        Ok(SolveSession { taken })
     }
 
     /// Takes the rows of some bytes, which are read as a stream of their own, and answers their
     /// lines. Where memory is refused the session is over.
-    pub fn answer(self, alloc: Global, bytes: &[u8]) -> Result<(Session, Vec<u8>), AllocError>
+    pub(crate) fn answer(
+        self,
+        alloc: Global,
+        bytes: &[u8],
+    ) -> Result<(SolveSession, Vec<u8>), AllocError>
         ensures { IfOk result (λ answer. (rows : List (List (List ℕ))) (lines : List ℕ)
             → HasAnswered self.taken rows lines → HasAnswered answer.0.taken
             (rows ++ rows_of bytes.now) (lines ++ answer.1.items)) }
     {
-        let Session { mut taken } = self;
+        let SolveSession { mut taken } = self;
         let mut lines = Vec::new(alloc);
         let mut rows = open_records(alloc, bytes);
         match answer_rows(&(), alloc, &mut rows, &mut lines, &mut taken) {
-            Ok(()) => Ok((Session { taken }, lines)),
+            Ok(()) => Ok((SolveSession { taken }, lines)),
             // No slice fails, and none has 2^64 rows.
             Err(_) => Err(AllocError),
         }
     }
 
     /// The last line of a run over the rows that were given.
-    pub fn last_line(&self, alloc: Global) -> Result<Vec<u8>, AllocError>
+    pub(crate) fn last_line(&self, alloc: Global) -> Result<Vec<u8>, AllocError>
         ensures { IfOk result (λ line. (rows : List (List (List ℕ))) (lines : List ℕ)
             → HasAnswered self.now.taken rows lines
             → (summary : Summary) × IsSolveRun rows (lines ++ line.items) summary) }

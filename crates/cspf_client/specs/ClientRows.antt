@@ -29,8 +29,9 @@ pub record IsRefusedRow (place : ℕ) (why : RowError) (s : SessionState) (line 
   pub after : t ≡ record s { refused = s.refused + 1 }
 
 -- A request is answered by the best answer in the database of the batches that the asker knows
--- afterwards, at their number as the version. They begin with all that it knew before, and with all
--- that was told to the client before.
+-- afterwards, at their number as the version. They begin with all that it knew before, and with the
+-- news that the client hears now. News that is left in the ring, or that the ring had no room for, may
+-- be of more batches.
 pub record IsRequestAnswered (q : Request) (s : SessionState) (line : List ℕ) (t : SessionState) : Type 0 where
   pub hears : HearsNews s t
   pub entry : t.no_entry ≡ s.no_entry

@@ -1,3 +1,6 @@
+//! A client of a server: its streams, how all its rows are answered, and what is left of it at
+//! the end.
+
 ghost use Rattle.std.specs.Prelude.{◌≡◌, ◌<◌, None, OnOk, IfErr};
 ghost use Rattle.std.specs.Option.{option_map};
 ghost use Rattle.cspf_rows.specs.Records.{IsPlain, rows_of, rows_left};

@@ -119,7 +119,7 @@ impl Listener {
     }
 
     /// Takes all words in the ring, at most `KEPT_NEWS`, and lets the asker learn them.
-    pub fn catch_up(&mut self, asker: &mut Asker)
+    pub(crate) fn catch_up(&mut self, asker: &mut Asker)
         requires { asker.old.source ≡ self.old.source }
         ensures { Hears self.old self.new asker.old asker.new }
     {

@@ -1,3 +1,5 @@
+//! How one row of a client is answered, by its asker and the news that it heard.
+
 ghost use Rattle.std.specs.Prelude.{◌≡◌, ◌+◌, ◌<◌, ◌≤◌, Ok, IfOk, OnOk, OnErr, IsTrue, IsFalse, length};
 ghost use Rattle.cspf_ero.specs.ReplyLine.{IsReply};
 ghost use Rattle.cspf_model.specs.Outcome.{answer_of};
@@ -6,8 +8,8 @@ ghost use Rattle.cspf_client.specs.ErrorNames.{entry_noted};
 ghost use Rattle.cspf_client.specs.ClientRows.{IsClientAnswered, IsClientUnanswered, IsRefusedRow, IsRequestAnswered, IsRequestUnanswered};
 
 use crate::news::Listener;
-use cspf_model::Request;
 use cspf_ero::reply_line;
+use cspf_model::Request;
 use cspf_publish::{Answer, AskError, Asker, Told};
 use cspf_rows::{Row, RowError};
 use cspf_stream::{Answering, refused_row};

@@ -1,3 +1,6 @@
+//! The table that keeps a traffic engineering database, with the lists that the search reads.
+//! The modules below have one list or one step of a change each.
+
 ghost use Rattle.std.specs.Prelude.{◌≡◌, ◌<◌, ◌≤◌, ◌↔◌, ℕ, All, Contains, length, map, slice_index, slice_index_or, IfOk, OnOk, IfErr, OnErr, IfSome, IfNone, IsTrue};
 ghost use Rattle.std.specs.List.Sorted.{IsStrictlyIncreasing};
 ghost use Rattle.std.specs.FinSet as set;
@@ -30,9 +33,9 @@ mod tally;
 mod transits;
 
 use crate::limits::{NO_LINK, ROOM_FOR_LINKS, ROOM_FOR_MARKS, ROOM_FOR_ROUTERS};
-use cspf_model::{Batch, Link, MOST_ROUTERS, Refusal};
 use address_range::{AddressRange, range_of};
 use cspf_addr::{Addr, Prefix};
+use cspf_model::{Batch, Link, MOST_ROUTERS, Refusal};
 use marks::{change_marks, is_marked};
 use overwriting::write_over;
 use reverses::{list_reverses, reverse_index};

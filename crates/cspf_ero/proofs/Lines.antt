@@ -2,6 +2,8 @@
 use Rattle.std.proofs.Common.{◌≡◌, ℕ, ◌*◌, ◌^◌, ◌<◌, ◌≤◌, Bool, true, false, List, [], ◌∷◌, ◌++◌, codes, length, append_assoc, length-append, lit≤, arith}
 use Rattle.std.proofs.lemmas.Fmt.{length-decimal-le}
 use Rattle.std.specs.Fmt.{decimal}
+use Rattle.cspf_model.specs.declared.limits.TheConstants.{MOST_ROUTE_LINKS}
+use Rattle.cspf_ero.specs.declared.limits.TheConstants.{MOST_LINE_BYTES, MOST_OBJECT_BYTES}
 use Rattle.cspf_ero.specs.ReplyLine.{yes_or_no}
 
 regrouped : (a id b version c d cost e hops f again g : List ℕ)
@@ -30,7 +32,7 @@ version_digits version small = length-decimal-le 10 version (omega arith) (omega
 pub cost_digits : (cost : ℕ) → cost < 2 ^ 45 → length (decimal cost) ≤ 14
 cost_digits cost small = length-decimal-le 14 cost (omega arith) (omega arith) (omega arith)
 
-pub hops_digits : (hops : ℕ) → hops ≤ 8184 → length (decimal hops) ≤ 4
+pub hops_digits : (hops : ℕ) → hops ≤ MOST_ROUTE_LINKS → length (decimal hops) ≤ 4
 hops_digits hops small = length-decimal-le 4 hops (omega arith) (omega arith) (omega arith)
 
 pub again_letters : (again : Bool) → length (yes_or_no again) ≤ 3
@@ -48,5 +50,5 @@ pub short_most : (id version words : List ℕ) → length id ≤ 20 → length v
 short_most id version words a b c = simp length-append (omega arith)
 
 -- a line that is closed by the digits of an object
-pub line_most : (front digits object : List ℕ) → length front ≤ 87 → length object ≤ 65476 → length digits ≡ 2 * length object → length (front ++ digits ++ 10 ∷ []) ≤ 131040
+pub line_most : (front digits object : List ℕ) → length front ≤ 87 → length object ≤ MOST_OBJECT_BYTES → length digits ≡ 2 * length object → length (front ++ digits ++ 10 ∷ []) ≤ MOST_LINE_BYTES
 line_most front digits object a b c = simp length-append (omega arith)

@@ -1,3 +1,4 @@
+use cspf_addr::MOST_HOPS;
 use thiserror::Error;
 
 /// Why bytes are no EXPLICIT_ROUTE object that spells 1 to 7 hops. Offsets count from 0, the first
@@ -17,7 +18,7 @@ pub enum EroError {
     #[error("no subobject")]
     Empty,
     /// More than seven subobjects.
-    #[error("more than 7 subobjects")]
+    #[error("more than {most} subobjects", most = MOST_HOPS)]
     TooManyHops,
     /// A subobject that isn't an IPv4 prefix.
     #[error("a subobject of type {kind} at {at}")]

@@ -9,6 +9,7 @@
 mod ero_error;
 mod head;
 mod laws;
+mod limits;
 mod reader;
 mod reply;
 mod writer;
@@ -16,6 +17,7 @@ mod writer;
 pub use ero_error::EroError;
 pub use head::{Head, reply_head};
 pub use laws::{objects_are_read, one_head, one_reply_line, routes_are_read_back};
+pub use limits::{MOST_LINE_BYTES, MOST_OBJECT_BYTES};
 pub use reader::{FIRST_BYTES, read_ero, read_ero_front};
 pub use reply::reply_line;
 pub use writer::write_ero;

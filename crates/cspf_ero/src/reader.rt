@@ -1,3 +1,5 @@
+//! The reader of EXPLICIT_ROUTE objects: bytes in, hops or the first refusal out.
+
 ghost use Rattle.std.specs.Prelude.{◌≡◌, ◌≤◌, ℕ, List, length, take, IfOk};
 ghost use Rattle.cspf_ero.specs.Reading.{ero_of, sized_ero_of, subobject_hops, hop_at};
 

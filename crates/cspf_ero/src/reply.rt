@@ -1,3 +1,5 @@
+//! The line that answers a request, with the object of its route in hexadecimal digits.
+
 ghost use Rattle.std.specs.Prelude.{◌≡◌, ◌++◌, ◌+◌, ◌*◌, ◌≤◌, ◌<◌, ◌^◌, ◌↔◌, Bool, IsTrue, IfOk, OnOk, length, codes};
 ghost use Rattle.std.specs.Fmt.{decimal};
 ghost use Rattle.std.specs.String.{string_bytes};
@@ -6,6 +8,7 @@ ghost use Rattle.cspf_model.specs.Walks.{cost_of};
 ghost use Rattle.cspf_model.specs.RouteLinks.{VisitsTwice};
 ghost use Rattle.cspf_model.specs.Outcome.{answer_of};
 ghost use Rattle.cspf_model.specs.Best.{route as of_route};
+ghost use Rattle.cspf_ero.specs.declared.limits.TheConstants.{MOST_LINE_BYTES, MOST_OBJECT_BYTES};
 ghost use Rattle.cspf_ero.specs.ReplyLine.{IsReply, measures_text, yes_or_no};
 
 use crate::writer::write_ero;
@@ -13,7 +16,8 @@ use cspf_model::{Outcome, Route};
 use std::alloc::{AllocError, Global};
 
 /// The line that answers the request with this id at a version, its line feed included. The object
-/// of a route is written in lower-case hexadecimal digits. It has at most 131,040 bytes.
+/// of a route is written in lower-case hexadecimal digits. It has at most
+/// `MOST_LINE_BYTES` bytes.
 pub fn reply_line(
     alloc: Global,
     id: u64,
@@ -21,7 +25,7 @@ pub fn reply_line(
     outcome: &Outcome,
 ) -> Result<Vec<u8>, AllocError>
     ensures line { IfOk result (λ line. IsReply id version (answer_of outcome.now) line.items) }
-    ensures most { IfOk result (λ line. length line.items ≤ 131040) }
+    ensures most { IfOk result (λ line. length line.items ≤ MOST_LINE_BYTES) }
 {
     match outcome {
         Outcome::Route(route) => route_line(alloc, id, version, route),
@@ -45,7 +49,7 @@ fn short_line(alloc: Global, id: u64, version: u32, words: &str) -> Result<Vec<u
 /// The line of a route.
 fn route_line(alloc: Global, id: u64, version: u32, route: &Route) -> Result<Vec<u8>, AllocError>
     ensures line { IfOk result (λ line. IsReply id version (of_route route.now) line.items) }
-    ensures most { IfOk result (λ line. length line.items ≤ 131040) }
+    ensures most { IfOk result (λ line. length line.items ≤ MOST_LINE_BYTES) }
 {
     let object = write_ero(alloc, route)?;
     let front = route_front(alloc, id, version, route)?;
@@ -77,7 +81,7 @@ fn yes_or_no(test: bool) -> &'static str
 
 /// Writes the two hexadecimal digits of each byte.
 fn write_digits(line: &mut Vec<u8>, bytes: &[u8]) -> Result<(), AllocError>
-    requires { length bytes.now ≤ 65476 }
+    requires { length bytes.now ≤ MOST_OBJECT_BYTES }
     ensures { OnOk result (line.new.items ≡ line.old.items ++ encode_lower bytes.now) }
 {
     let start = line.len();

@@ -1,16 +1,18 @@
 ghost use Rattle.std.specs.Prelude.{◌≡◌, ◌+◌, ◌*◌, ◌≤◌, length, take, IfOk, IsOk, OnOk, if◌then◌else◌};
 ghost use Rattle.std.specs.Int.{w16, from_be_bytes};
+ghost use Rattle.cspf_ero.specs.declared.limits.TheConstants.{MOST_OBJECT_BYTES};
 ghost use Rattle.cspf_ero.specs.Objects.{object_of};
 
 use cspf_model::Route;
 use std::alloc::{AllocError, Global};
 
 /// The EXPLICIT_ROUTE object of a route (RFC 2205 3.1.2, RFC 3209 4.3): a strict subobject with the
-/// remote address for each link in order, the head-end not included. It has at most 65,476 bytes.
+/// remote address for each link in order, the head-end not included. It has at most
+/// `MOST_OBJECT_BYTES` bytes.
 pub fn write_ero(alloc: Global, route: &Route) -> Result<Vec<u8>, AllocError>
     ensures object { IfOk result (λ bytes. bytes.items ≡ object_of route.now) }
     ensures length { IfOk result (λ bytes. length bytes.items ≡ 4 + 8 * length route.now) }
-    ensures most { IfOk result (λ bytes. length bytes.items ≤ 65476) }
+    ensures most { IfOk result (λ bytes. length bytes.items ≤ MOST_OBJECT_BYTES) }
     ensures field { IfOk result (λ bytes. from_be_bytes w16 (take 2 bytes.items) ≡ length bytes.items) }
 {
     let links = route.links();

@@ -1,3 +1,5 @@
+//! Changes of a database, and the numbered batches of changes that take effect together.
+
 ghost use Rattle.std.specs.Prelude.{◌≡◌, IfOk};
 
 use crate::Link;

@@ -1,3 +1,5 @@
+//! A link with its traffic engineering attributes, and why one is refused.
+
 ghost use Rattle.std.specs.Prelude.{◌≡◌, ◌≢◌, length, IfOk, OnErr};
 
 use cspf_addr::{Addr, Mask};

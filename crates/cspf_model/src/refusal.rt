@@ -1,10 +1,11 @@
+use crate::limits::{MOST_CHANGES, MOST_LINKS, MOST_MARKS, MOST_ROUTERS};
 use thiserror::Error;
 
 /// Why a batch doesn't fit a table. Places of changes count from 1.
 #[derive(Clone, Copy, Debug, PartialEq, Eq, Error)]
 pub enum Refusal {
     /// The batch has more than `MOST_CHANGES` changes.
-    #[error("more than 4096 changes")]
+    #[error("more than {most} changes", most = MOST_CHANGES)]
     TooLong,
     /// Two changes are on one key.
     #[error("change {at} is on the key of an earlier change")]
@@ -19,12 +20,12 @@ pub enum Refusal {
         at: usize,
     },
     /// More than `MOST_LINKS` links would be left.
-    #[error("more than 16384 links")]
+    #[error("more than {most} links", most = MOST_LINKS)]
     Full,
     /// More than `MOST_ROUTERS` routers would be left.
-    #[error("more than 1024 routers")]
+    #[error("more than {most} routers", most = MOST_ROUTERS)]
     TooManyRouters,
     /// More than `MOST_MARKS` routers without transit would be left.
-    #[error("more than 1024 routers without transit")]
+    #[error("more than {most} routers without transit", most = MOST_MARKS)]
     TooManyMarks,
 }

@@ -1,3 +1,5 @@
+//! A request for an explicit route, and why one is refused.
+
 ghost use Rattle.std.specs.Prelude.{◌≢◌, ◌<◌, IfOk, IfErr};
 
 use cspf_addr::{Addr, Hops, Mask};

@@ -1,3 +1,5 @@
+//! An explicit route: links that follow each other, and their cost.
+
 ghost use Rattle.cspf_model.specs.declared.limits.TheConstants.{MOST_ROUTE_LINKS};
 ghost use Rattle.std.specs.Prelude.{◌≡◌, ◌<◌, ◌≤◌, ◌^◌, ◌↔◌, IsTrue, length, map, nat_eq};
 ghost use Rattle.std.specs.List.{list_any, IsDistinct};

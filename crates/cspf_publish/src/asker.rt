@@ -1,3 +1,5 @@
+//! Askers, which answer requests from the published replica without waiting.
+
 ghost use Rattle.std.specs.Prelude.{◌≡◌, ◌⊎◌, length, IfOk, IfSome, IfNone, IfErr};
 ghost use Rattle.left_right.specs.Sides.{view};
 ghost use Rattle.cspf_publish.specs.Answers.{IsAnswerAfter, IsBestAfter};

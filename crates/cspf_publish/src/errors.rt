@@ -1,7 +1,10 @@
+//! Why a publisher is not opened, a batch is not published, and a request is not answered.
+
 ghost use Rattle.std.specs.Prelude.{◌≡◌};
 ghost use Rattle.cspf_publish.specs.declared.errors.OpenError.TheVariants as open_error;
 
-use cspf_model::Refusal;
+use crate::limits::MOST_ASKERS;
+use cspf_model::{MOST_VERSIONS, Refusal};
 use std::alloc::AllocError;
 use thiserror::Error;
 
@@ -9,7 +12,7 @@ use thiserror::Error;
 #[derive(Clone, Copy, Debug, PartialEq, Eq, Error)]
 pub enum OpenError {
     /// The number of askers isn't 1 to 64.
-    #[error("the number of askers is not 1 to 64")]
+    #[error("the number of askers is not 1 to {most}", most = MOST_ASKERS)]
     Askers,
     /// Out of memory.
     #[error("out of memory")]
@@ -46,7 +49,7 @@ pub enum ApplyError {
     #[error("stopped by a fault of the journal")]
     Stopped,
     /// 1,000,000 batches are published.
-    #[error("1000000 batches are published")]
+    #[error("{most} batches are published", most = MOST_VERSIONS)]
     Exhausted,
     /// The batch's number isn't the version plus 1.
     #[error("expected batch {expected}")]

@@ -15,13 +15,13 @@ use std::sync::Wait;
 
 /// A writer, and the list whose batches it has the texts of. What is known of a longer list is made
 /// by `record` alone, so nothing can be shown that isn't recorded.
-pub(crate) struct Journal<W> {
+pub(crate) struct JournalWriter<W> {
     writer: W,
     list: BatchList,
     stopped: bool,
 }
 
-impl<W> Model for Journal<W> {
+impl<W> Model for JournalWriter<W> {
     ghost use Rattle.cspf_publish.specs.PublisherStates.{JournalState};
 
     ghost Value = { JournalState W };
@@ -34,9 +34,9 @@ impl<W> Model for Journal<W> {
     } };
 }
 
-impl<W> Journal<W> {
+impl<W> JournalWriter<W> {
     /// The journal of a list.
-    pub(crate) fn new(writer: W, list: BatchList) -> Journal<W>
+    pub(crate) fn new(writer: W, list: BatchList) -> JournalWriter<W>
         ensures { result ≡ record {
           batches = list.batches;
           source = list.source;
@@ -44,7 +44,7 @@ impl<W> Journal<W> {
           writer = writer;
         } }
     {
-        Journal {
+        JournalWriter {
             writer,
             list,
             stopped: false,
@@ -62,7 +62,7 @@ impl<W> Journal<W> {
     pub(crate) fn into_writer(self) -> W
         ensures { result ≡ self.writer }
     {
-        let Journal {
+        let JournalWriter {
             writer,
             list: _list,
             stopped: _,
@@ -71,7 +71,7 @@ impl<W> Journal<W> {
     }
 }
 
-impl<W: Write> Journal<W> {
+impl<W: Write> JournalWriter<W> {
     /// Adds a batch to the list, and writes its text whole. Only then are the batches up to it
     /// known. On an error that many bytes of the text are written, and the journal is stopped. It
     /// takes no memory.

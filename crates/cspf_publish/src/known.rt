@@ -28,7 +28,7 @@ impl Model for Known {
 
 impl Known {
     /// The batches that are seen, with how many they are.
-    pub fn new(version: u32, seen: Seen<Batch, u64, History>) -> Known
+    pub(crate) fn new(version: u32, seen: Seen<Batch, u64, History>) -> Known
         requires { (version ≡ length seen.log) × IsHistory seen.log }
         ensures { result ≡ record { batches = seen.log; source = seen.book } }
     {
@@ -36,14 +36,14 @@ impl Known {
     }
 
     /// What is seen of the list.
-    pub fn seen(&self) -> Seen<Batch, u64, History>
+    pub(crate) fn seen(&self) -> Seen<Batch, u64, History>
         ensures { (result.log ≡ self.now.batches) × (result.book ≡ self.now.source) }
     {
         self.seen.again()
     }
 
     /// How many batches are known.
-    pub fn version(&self) -> u32
+    pub(crate) fn version(&self) -> u32
         ensures version { result ≡ length self.now.batches }
         ensures history { IsHistory self.now.batches }
     {
@@ -51,7 +51,7 @@ impl Known {
     }
 
     /// The same once more.
-    pub fn copy(&self) -> Known
+    pub(crate) fn copy(&self) -> Known
         ensures { result ≡ self.now }
     {
         Known {
@@ -62,7 +62,7 @@ impl Known {
 
     /// Takes over what the other knows where that is no less. The shorter list is a prefix of the
     /// longer.
-    pub fn raise(&mut self, other: &Known) -> bool
+    pub(crate) fn raise(&mut self, other: &Known) -> bool
         requires { other.now.source ≡ self.old.source }
         ensures { MatchBool result
             ((self.new ≡ other.now) × BeginsWith other.now.batches self.old.batches)

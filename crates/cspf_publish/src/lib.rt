@@ -25,8 +25,8 @@ mod told;
 
 pub use answer::Answer;
 pub use asker::Asker;
-pub use errors::{ApplyError, AskError, OpenError};
 pub use cspf_model::MOST_VERSIONS;
+pub use errors::{ApplyError, AskError, OpenError};
 pub use limits::MOST_ASKERS;
 pub use publisher::{Publisher, open};
 pub use told::Told;

@@ -1,3 +1,6 @@
+//! The publisher: it checks each batch, writes its text to the journal, and then shows it to
+//! the askers.
+
 ghost use Rattle.std.specs.Prelude.{◌≡◌, ◌<◌, ◌≤◌, ◌↔◌, ◌++◌, [], ◌∷◌, false, length, All, IfOk, OnOk, IfErr, OnErr, vec_len};
 ghost use Rattle.std.specs.Io.KnownBytes.{Appends};
 ghost use Rattle.cspf_publish.specs.Answers.{IsAnswerAfter};
@@ -6,7 +9,7 @@ ghost use Rattle.cspf_rows.specs.BatchText.{batch_text};
 ghost use Rattle.cspf_publish.specs.Histories.{IsHistory};
 
 use crate::batch_list::BatchList;
-use crate::journal::Journal;
+use crate::journal::JournalWriter;
 use crate::replicas::Replicas;
 use crate::{Answer, ApplyError, Asker, MOST_ASKERS, OpenError, Told};
 use cspf_model::{Batch, MOST_VERSIONS, Request};
@@ -20,7 +23,7 @@ use std::sync::Wait;
 /// `close`.
 pub struct Publisher<W> {
     replicas: Replicas,
-    journal: Journal<W>,
+    journal: JournalWriter<W>,
 }
 
 impl<W> Model for Publisher<W> {
@@ -73,7 +76,7 @@ pub fn open<W: Write, R: Wait>(
     };
     match replicas.askers(room, askers) {
         Ok(all) => {
-            let journal = Journal::new(journal, list);
+            let journal = JournalWriter::new(journal, list);
             Ok((Publisher { replicas, journal }, all))
         }
         Err(refused) => {

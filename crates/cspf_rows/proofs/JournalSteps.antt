@@ -8,8 +8,8 @@ use Rattle.cspf_rows.specs.declared.journal.Rest.TheVariants as rest
 use Rattle.cspf_rows.specs.declared.journal.Journal.{Journal}
 use Rattle.cspf_rows.specs.declared.journal.JournalStep.{JournalStep}
 use Rattle.cspf_rows.specs.declared.journal.JournalStep.TheVariants as step
-use Rattle.cspf_rows.specs.declared.journal_reader.JournalReader.{JournalReader}
-use Rattle.cspf_rows.specs.declared.journal_row.Taken.TheVariants as taken
+use Rattle.cspf_rows.specs.declared.journal.reader.JournalReader.{JournalReader}
+use Rattle.cspf_rows.specs.declared.journal.taken_row.Taken.TheVariants as taken
 use Rattle.cspf_rows.specs.declared.read_error.ReadError.{ReadError}
 use Rattle.cspf_rows.specs.Rows.{row_of}
 use Rattle.cspf_rows.specs.Records.{rows_of, rows_left, Takes}

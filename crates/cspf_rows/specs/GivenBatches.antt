@@ -2,7 +2,7 @@
 use Rattle.std.specs.Prelude.{◌≡◌, ◌≤◌, ℕ, true, false, Option, List, [], length}
 use Rattle.csv.specs.Reading.{has_failed}
 use Rattle.cspf_model.specs.Numbered.{NumberedChanges, AreNumberedFrom}
-use Rattle.cspf_rows.specs.declared.journal_reader.JournalReader.{JournalReader}
+use Rattle.cspf_rows.specs.declared.journal.reader.JournalReader.{JournalReader}
 use Rattle.cspf_rows.specs.declared.limits.TheConstants.{MOST_ROWS}
 use Rattle.cspf_rows.specs.JournalReading.{HasRead}
 use Rattle.cspf_rows.specs.Records.{IsPlain}

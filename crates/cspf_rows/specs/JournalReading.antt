@@ -5,9 +5,9 @@ use Rattle.cspf_model.specs.declared.batch.Change.{Change}
 use Rattle.cspf_model.specs.Numbered.{NumberedChanges, AreNumberedFrom}
 use Rattle.cspf_rows.specs.declared.journal.JournalStep.{JournalStep}
 use Rattle.cspf_rows.specs.declared.journal.JournalStep.TheVariants as step
-use Rattle.cspf_rows.specs.declared.journal_reader.JournalReader.{JournalReader}
-use Rattle.cspf_rows.specs.declared.journal_row.Taken.{Taken}
-use Rattle.cspf_rows.specs.declared.journal_row.Taken.TheVariants as taken
+use Rattle.cspf_rows.specs.declared.journal.reader.JournalReader.{JournalReader}
+use Rattle.cspf_rows.specs.declared.journal.taken_row.Taken.{Taken}
+use Rattle.cspf_rows.specs.declared.journal.taken_row.Taken.TheVariants as taken
 use Rattle.cspf_rows.specs.declared.limits.TheConstants.{MOST_ROWS}
 use Rattle.cspf_rows.specs.declared.row.Row.{Row}
 use Rattle.cspf_rows.specs.declared.row.Row.TheVariants as row

@@ -1,4 +1,15 @@
+//! Journals: the longest prefix of a stream of rows that is whole batches with the numbers 1, 2, 3 and so
+//! on, and what stands behind it.
+
+mod laws;
+mod reader;
+mod taken_row;
+mod whole;
+
 use cspf_model::Batch;
+pub use laws::{journals_are_one, journals_are_read_back};
+pub use reader::JournalReader;
+pub use whole::read_journal;
 
 /// What stands behind the batches of a journal.
 #[derive(Clone, Copy, Debug, PartialEq, Eq)]

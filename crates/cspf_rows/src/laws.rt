@@ -7,8 +7,8 @@ use cspf_addr::{
     addresses_are_spelled_once, hop_lists_are_read_back, masks_are_spelled,
     numbers_are_spelled_once,
 };
-use cspf_model::fields_of_links_and_requests;
 use cspf_ero::objects_are_read;
+use cspf_model::fields_of_links_and_requests;
 
 /// The laws that rows are read by.
 fn texts_are_read()

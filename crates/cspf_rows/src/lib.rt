@@ -16,9 +16,6 @@
 mod batch;
 mod field;
 mod journal;
-mod journal_laws;
-mod journal_reader;
-mod journal_row;
 mod laws;
 mod limits;
 mod object;
@@ -30,12 +27,12 @@ mod request_reader;
 mod requests_error;
 mod row;
 mod row_error;
-mod whole_journal;
 
 pub use batch::batch_text;
-pub use journal::{Journal, JournalStep, Rest};
-pub use journal_laws::{journals_are_one, journals_are_read_back};
-pub use journal_reader::JournalReader;
+pub use journal::{
+    Journal, JournalReader, JournalStep, Rest, journals_are_one, journals_are_read_back,
+    read_journal,
+};
 pub use laws::{rows_are_read, rows_are_read_back, rows_are_refused};
 pub use limits::MOST_ROWS;
 pub use output::put_all;
@@ -46,4 +43,3 @@ pub use request_reader::read_requests;
 pub use requests_error::RequestsError;
 pub use row::Row;
 pub use row_error::{HopsFault, RowError};
-pub use whole_journal::read_journal;

@@ -1,3 +1,5 @@
+//! Reads the hops of an object that a field has in hexadecimal digits, without taking memory.
+
 ghost use Rattle.std.specs.Prelude.{◌≡◌, ◌*◌, ◌%◌, ◌≤◌, ◌↔◌, IsTrue, ℕ, List, length, take};
 ghost use Rattle.std.specs.List.{AllPass};
 ghost use Rattle.hex.specs.Hex.{decode_of, is_hex_digit};

@@ -1,3 +1,5 @@
+//! Rows: what a record says, or the first reason why it says nothing.
+
 ghost use Rattle.std.specs.Prelude.{◌≡◌};
 ghost use Rattle.csv.specs.Records.{fields_of};
 

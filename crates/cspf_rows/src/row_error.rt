@@ -1,3 +1,5 @@
+//! Why a record is no row, and the words of each refusal.
+
 ghost use Rattle.std.specs.Prelude.{◌≡◌};
 
 use cspf_addr::HopsError;

@@ -1,3 +1,6 @@
+//! The settled walks of a search. Each node has the last link of its walk and the index of the
+//! node before it, so no walk is copied.
+
 ghost use Rattle.std.specs.Prelude.{◌≡◌, ◌<◌, IfOk, length};
 ghost use Rattle.cspf_search.specs.Settled.{locals_cmp};
 ghost use Rattle.cspf_search.specs.Arena.{AreNodes, IsNext, index_of, walk_at, walk_of, walks};

@@ -1,3 +1,6 @@
+//! Lower bounds of the cost that is still to come. A search against the links finds them, from
+//! the last leg back to the first.
+
 ghost use Rattle.std.specs.Prelude.{◌≡◌, ◌≢◌, ◌+◌, ◌*◌, ◌<◌, ◌≤◌, ◌⊎◌, ◌↔◌, ℕ, min, true, false, IsTrue, IfOk, IfSome, OnOk, length, slice_index, slice_index_or, All, Contains};
 ghost use Rattle.cspf_search.specs.Query.{IsQuery};
 ghost use Rattle.cspf_search.specs.Frontier.{IsEnd};
@@ -11,8 +14,8 @@ use crate::query::{Query, may_be_left};
 use crate::ring::Ring;
 use crate::strict::{first_broken, starts_of};
 use cspf_db::NO_LINK;
-use cspf_model::MOST_ROUTERS;
 use cspf_graph::accepts;
+use cspf_model::MOST_ROUTERS;
 use std::alloc::{AllocError, Global};
 use std::cmp::Reverse;
 

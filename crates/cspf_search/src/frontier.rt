@@ -1,3 +1,6 @@
+//! One step of the search with a heap: what a settled node leads to is offered to the labels
+//! there.
+
 ghost use Rattle.cspf_model.specs.declared.limits.TheConstants.{MOST_LINKS};
 ghost use Rattle.std.specs.Prelude.{◌≡◌, ◌+◌, ◌*◌, ◌%◌, ◌<◌, ◌≤◌, ◌⊎◌, Some, length, slice_get, slice_index_or, OnOk};
 ghost use Rattle.std.specs.BinaryHeap.{heap_items, heap_len};
@@ -15,8 +18,8 @@ use crate::labels::{Label, Waiting, node_of, put};
 use crate::limits::COST_WEIGHT;
 use crate::query::Query;
 use cspf_db::{NO_LINK, Table};
-use cspf_model::MOST_ROUTERS;
 use cspf_graph::{accepts, may_leave_at};
+use cspf_model::MOST_ROUTERS;
 use std::alloc::{AllocError, Global};
 use std::collections::BinaryHeap;
 

@@ -1,3 +1,6 @@
+//! The labels of states, the heap of the states that wait, and how the next state to settle is
+//! found.
+
 ghost use Rattle.cspf_model.specs.declared.limits.TheConstants.{MOST_ROUTERS};
 ghost use Rattle.std.specs.Prelude.{◌≡◌, ◌+◌, ◌*◌, ◌<◌, ◌≤◌, ◌↔◌, IsTrue, All, Contains, length, set, IfSome, IfNone, OnOk};
 ghost use Rattle.std.specs.BinaryHeap.{IsHeap, heap_items, heap_len};

@@ -1,3 +1,5 @@
+//! The state of the search against the links in one leg, from which the bounds come.
+
 ghost use Rattle.std.specs.Prelude.{◌≡◌, ◌<◌, ◌≤◌, ℕ, false, IfSome, OnOk, length, set};
 ghost use Rattle.cspf_model.specs.declared.limits.TheConstants.{MOST_ROUTERS};
 
@@ -8,7 +10,7 @@ use std::cmp::Reverse;
 use std::collections::BinaryHeap;
 
 /// The bound of a router that waits, and its index in the list of routers.
-type Waiting = Reverse<(u32, u16)>;
+type WaitingRouter = Reverse<(u32, u16)>;
 
 /// How far a search against the links is in a leg.
 #[derive(Drop)]
@@ -18,7 +20,7 @@ pub(crate) struct Ring {
     /// For each router whether the links that arrive there were all looked at.
     pub(crate) done: Vec<bool>,
     /// The routers that wait.
-    pub(crate) heap: BinaryHeap<Waiting, Global>,
+    pub(crate) heap: BinaryHeap<WaitingRouter, Global>,
     ghost bounds: { length near.items ≡ MOST_ROUTERS },
     ghost marks: { length done.items ≡ MOST_ROUTERS },
 }

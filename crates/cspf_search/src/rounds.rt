@@ -1,3 +1,6 @@
+//! One round of the plain search: the first node that a turn or a link leads to from any
+//! settled node.
+
 ghost use Rattle.std.specs.Prelude.{◌≡◌, ◌+◌, ◌-◌, ◌%◌, ◌<◌, ◌↔◌, Some, None, IsTrue, length, slice_get, slice_index_or};
 ghost use Rattle.std.specs.Option.{ForSome, IsSomeAnd};
 ghost use Rattle.cspf_db.specs.Index.{links_of, links_from_index};
@@ -14,8 +17,8 @@ use crate::edge::Edge;
 use crate::forward_star::ForwardStar;
 use crate::query::Query;
 use cspf_db::{NO_LINK, Table};
-use cspf_model::{Link, MOST_ROUTERS, Request};
 use cspf_graph::{accepts, may_leave_at};
+use cspf_model::{Link, MOST_ROUTERS, Request};
 use std::cmp::Ordering;
 
 /// How two nodes compare: by the cost of their walks, then by the number of links, then by the leg,

@@ -1,3 +1,6 @@
+//! Both searches, `best` with a heap and `best_by_rounds` without one, and the outcome of what
+//! they settled.
+
 ghost use Rattle.cspf_search.specs.Bounds.{bound_at};
 ghost use Rattle.cspf_model.specs.declared.limits.TheConstants.{MOST_ROUTE_LINKS};
 ghost use Rattle.cspf_search.specs.declared.limits.TheConstants.{NO_WAY};
@@ -28,8 +31,8 @@ use crate::limits::{NO_WAY, ROOM_FOR_NODES, ROOM_FOR_WAITING};
 use crate::query::Query;
 use crate::roles::{find_roles, raised};
 use crate::rounds::{Round, first};
-use cspf_model::{MOST_ROUTERS, Outcome, Request, Route, counted_routers};
 use cspf_db::Table;
+use cspf_model::{MOST_ROUTERS, Outcome, Request, Route, counted_routers};
 use std::alloc::{AllocError, Global};
 use std::collections::BinaryHeap;
 

@@ -14,7 +14,7 @@ use Rattle.cspf_publish.specs.declared.errors.ApplyError.{ApplyError}
 use Rattle.cspf_publish.specs.declared.errors.ApplyError.TheVariants as error
 use Rattle.cspf_rows.specs.declared.journal.Rest.{Rest}
 use Rattle.cspf_rows.specs.declared.journal.Rest.TheVariants as rest
-use Rattle.cspf_rows.specs.declared.journal_reader.JournalReader.{JournalReader}
+use Rattle.cspf_rows.specs.declared.journal.reader.JournalReader.{JournalReader}
 use Rattle.cspf_rows.specs.declared.read_error.ReadError.{ReadError}
 use Rattle.cspf_rows.specs.declared.read_error.ReadError.TheVariants as read_error
 use Rattle.cspf_rows.specs.GivenBatches.{HasGiven}

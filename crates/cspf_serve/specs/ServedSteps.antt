@@ -13,7 +13,7 @@ use Rattle.cspf_client.specs.declared.client.ServedClient.{ServedClient}
 use Rattle.cspf_client.specs.declared.error.ClientError.TheVariants.{Ahead}
 use Rattle.cspf_client.specs.ServingStates.{ServingState, IsReady, reader_rows}
 use Rattle.cspf_client.specs.ClientRuns.{IsClientRun}
-use Rattle.cspf_serve.specs.declared.serving.run.Seats.{Seats}
+use Rattle.cspf_serve.specs.declared.serving.served_run.Seats.{Seats}
 
 -- an asker and a listener of one publisher
 pub record IsSeat (source : Book) (ends : KnownBatches × ListenerState) : Type 0 where

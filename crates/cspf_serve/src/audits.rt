@@ -1,5 +1,5 @@
 //! Replies to requests are audited by a journal.
 
-mod run;
+mod audit_run;
 
-pub use run::run_audit;
+pub use audit_run::run_audit;

@@ -1,10 +1,10 @@
 //! The batches of a journal are published, and then the requests of a stream are answered.
 
 mod answering;
+mod batch_run;
 mod laws;
 mod publishing;
-mod run;
 mod versions;
 
+pub use batch_run::run_batch;
 pub use laws::lines_of_a_script;
-pub use run::run_batch;

@@ -1,3 +1,5 @@
+//! The lines of a run, all but the replies to requests.
+
 use crate::BatchRefusal;
 use crate::apply_words::ApplyWords;
 use cspf_audit::AuditFault;

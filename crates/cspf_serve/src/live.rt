@@ -1,5 +1,5 @@
 //! Batches are published over a journal while workers answer requests.
 
-mod run;
+mod live_run;
 
-pub use run::run_live_rows;
+pub use live_run::run_live_rows;

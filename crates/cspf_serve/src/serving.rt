@@ -1,7 +1,7 @@
 //! Updates are published as they come in, while clients ask, each on a stream of its own.
 
 mod open_changes;
-mod run;
+mod served_run;
 mod updates;
 
-pub use run::{Served, run_serve};
+pub use served_run::{Served, run_serve};

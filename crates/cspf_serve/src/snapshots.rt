@@ -1,5 +1,5 @@
 //! The last database of a journal, as the few batches that make it from nothing.
 
-mod run;
+mod snapshot_run;
 
-pub use run::run_snapshot;
+pub use snapshot_run::run_snapshot;

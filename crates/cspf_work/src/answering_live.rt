@@ -1,3 +1,5 @@
+//! Workers that answer requests while this thread publishes batches.
+
 ghost use Rattle.std.specs.Prelude.{◌⊎◌, ◌<◌, ◌≤◌, ◌≡◌, List, length, All, IfOk, IfErr, vec_len};
 ghost use Rattle.std.specs.List.Sorted.{IsStrictlyIncreasing};
 ghost use Rattle.cspf_draw.specs.DrawnNumbers.{CounterId};
@@ -15,8 +17,8 @@ use crate::pool::run_all;
 use crate::strays::first_stray;
 use crate::worker::{Results, Worker};
 use crate::{Gate, Live, MOST_REQUESTS, ServeError};
-use cspf_model::{Batch, Request};
 use cspf_draw::{Counter, LastSeat};
+use cspf_model::{Batch, Request};
 use cspf_publish::{ApplyError, Asker, MOST_ASKERS, Publisher};
 use std::alloc::Global;
 use std::io::Write;

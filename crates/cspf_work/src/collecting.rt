@@ -1,3 +1,6 @@
+//! Puts the answers of all workers into the requests' order, and refuses a missing and a
+//! doubled one.
+
 ghost use Rattle.std.specs.Prelude.{◌≡◌, ℕ, ◌+◌, ◌<◌, ◌⊎◌, ◌++◌, List, [], ◌∷◌, Some, None, map, All, IfOk, OnOk, IfErr, slice_get, vec_len};
 ghost use Rattle.cspf_work.specs.declared.worker.Reply.{Reply as Done};
 ghost use Rattle.cspf_work.specs.Served.{HoldEachOnce};

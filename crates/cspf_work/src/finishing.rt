@@ -1,3 +1,5 @@
+//! Ends the workers: the draws are closed, and the answers are collected.
+
 ghost use Rattle.std.specs.Prelude.{◌≡◌, ◌⊎◌, List, Some, All, IfOk, IfErr, IsNone};
 ghost use Rattle.std.specs.List.Sorted.{IsStrictlyIncreasing};
 ghost use Rattle.cspf_publish.specs.KnownBatches.{KnownBatches};
@@ -8,8 +10,8 @@ ghost use Rattle.cspf_work.specs.Working.{AreResults};
 use crate::ServeError;
 use crate::collecting::collect;
 use crate::worker::Results;
-use cspf_model::Request;
 use cspf_draw::{Counter, LastSeat};
+use cspf_model::Request;
 use cspf_publish::{Answer, Asker};
 use std::alloc::Global;
 

@@ -21,9 +21,9 @@ mod limits;
 mod live;
 mod pool;
 mod serve_error;
-mod serving;
 mod strays;
 mod worker;
+mod worker_loop;
 
 pub use answering::answer_all;
 pub use answering_latest::answer_latest;

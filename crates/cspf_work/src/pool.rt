@@ -1,3 +1,5 @@
+//! Runs all workers at once, one thread for each where threads can be made.
+
 ghost use Rattle.std.specs.Prelude.{◌≡◌, List, length};
 ghost use Rattle.cspf_draw.specs.DrawnNumbers.{CounterId};
 ghost use Rattle.cspf_publish.specs.KnownBatches.{KnownBatches};
@@ -6,10 +8,10 @@ ghost use Rattle.cspf_work.specs.Working.{IsIdle, IsWorkerRun, AreReady, AreRun,
 
 use crate::Gate;
 use crate::crew::{Crew, dismiss};
-use crate::serving::serve;
 use crate::worker::{Results, Worker};
-use cspf_model::Request;
+use crate::worker_loop::serve;
 use cspf_draw::LastSeat;
+use cspf_model::Request;
 use std::alloc::Global;
 use std::thread;
 use std::thread::Threads;

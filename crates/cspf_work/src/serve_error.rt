@@ -1,3 +1,5 @@
+//! Why workers do not answer all requests.
+
 ghost use Rattle.std.specs.Prelude.{◌≡◌};
 ghost use Rattle.cspf_work.specs.AskingErrors.{serve_error_of};
 ghost use Rattle.cspf_work.specs.declared.serve_error.ServeError.TheVariants as serve_error;

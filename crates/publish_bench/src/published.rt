@@ -1,3 +1,5 @@
+//! Times a publisher by itself, and askers beside one.
+
 use cspf_model::{Batch, Request};
 use cspf_publish::{Asker, Publisher, open};
 use std::alloc::Global;

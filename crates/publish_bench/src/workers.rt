@@ -1,3 +1,5 @@
+//! Times workers with fixed shares of the requests, and workers that draw them.
+
 ghost use Rattle.std.specs.Prelude.{◌<◌};
 
 use crate::published::{Nothing, apply_all};

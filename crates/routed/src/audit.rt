@@ -51,7 +51,7 @@ of standard error is routed: stopped, and with --explain the line before it says
 const REPLIES: &str = "replies";
 
 /// The command with its options.
-pub fn command<'a>(alloc: Global) -> Result<Command<'a>, AllocError> {
+pub(crate) fn command<'a>(alloc: Global) -> Result<Command<'a>, AllocError> {
     Command::new(alloc, NAME)
         .about(ABOUT)
         .after_help(HELP)
@@ -71,7 +71,7 @@ pub struct AuditWords<'a> {
 
 impl<'a> AuditWords<'a> {
     /// The words that `clap` found.
-    pub fn read(words: &ArgMatches<'a>) -> Option<AuditWords<'a>> {
+    pub(crate) fn read(words: &ArgMatches<'a>) -> Option<AuditWords<'a>> {
         Some(AuditWords {
             journal: words.get_str(JOURNAL)?,
             requests: words.get_str(REQUESTS)?,
@@ -107,7 +107,7 @@ impl<'a> AuditWords<'a> {
     }
 
     /// Runs the command, and answers the status.
-    pub fn run(self, rt: &HostRuntime, explain: bool) -> u8 {
+    pub(crate) fn run(self, rt: &HostRuntime, explain: bool) -> u8 {
         let ran = self.judge(rt);
         end(rt, ran, self.row_files(), explain)
     }

@@ -43,7 +43,7 @@ or a batch was refused, 3 where memory was refused or a file or another device f
 line of standard error is routed: stopped, and with --explain the line before it says why.";
 
 /// The command with its options.
-pub fn command<'a>(alloc: Global) -> Result<Command<'a>, AllocError> {
+pub(crate) fn command<'a>(alloc: Global) -> Result<Command<'a>, AllocError> {
     Command::new(alloc, NAME)
         .about(ABOUT)
         .after_help(HELP)
@@ -65,7 +65,7 @@ pub struct BatchWords<'a> {
 
 impl<'a> BatchWords<'a> {
     /// The words that `clap` found.
-    pub fn read(words: &ArgMatches<'a>) -> Option<BatchWords<'a>> {
+    pub(crate) fn read(words: &ArgMatches<'a>) -> Option<BatchWords<'a>> {
         Some(BatchWords {
             journal: words.get_str(JOURNAL)?,
             requests: words.get_str(REQUESTS)?,
@@ -109,7 +109,12 @@ impl<'a> BatchWords<'a> {
     }
 
     /// Runs the command, and answers the status.
-    pub fn run<T: Threads + Wait + Sync>(self, rt: &HostRuntime, handle: &T, explain: bool) -> u8 {
+    pub(crate) fn run<T: Threads + Wait + Sync>(
+        self,
+        rt: &HostRuntime,
+        handle: &T,
+        explain: bool,
+    ) -> u8 {
         let ran = self.answer(rt, handle);
         end(rt, ran, self.row_files(), explain)
     }

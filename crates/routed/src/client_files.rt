@@ -84,7 +84,7 @@ fn read_all<'a>(
 }
 
 /// The files of all clients. Nothing is opened, so that a refusal leaves all files as they are.
-pub fn client_names<'a>(
+pub(crate) fn client_names<'a>(
     rt: &HostRuntime,
     journal: &'a str,
     words: &[&'a str],
@@ -256,7 +256,7 @@ fn open_client<'a>(
 }
 
 /// The files of all clients, opened one after the other.
-pub fn open_clients<'a>(
+pub(crate) fn open_clients<'a>(
     rt: &HostRuntime,
     names: &[ClientNames<'a>],
 ) -> Result<Vec<Client<File, Closing>>, Stopped<'a>>

@@ -18,7 +18,7 @@ const VERSION: &str = "0.1.0";
 const ABOUT: &str = "A route server over a traffic engineering database";
 
 /// The command that the words of the command line name.
-pub fn parse<'a>(alloc: Global, words: &'a [String]) -> Result<ArgMatches<'a>, Error> {
+pub(crate) fn parse<'a>(alloc: Global, words: &'a [String]) -> Result<ArgMatches<'a>, Error> {
     Command::new(alloc, "routed")
         .about(ABOUT)
         .version(VERSION)
@@ -47,7 +47,7 @@ pub enum Asked<'m, 'a> {
 impl<'m, 'a> Asked<'m, 'a> {
     /// The command that has this name, with the words that `clap` found. None where one lacks that
     /// `clap` wants, which it refuses itself.
-    pub fn read(name: &str, words: &'m ArgMatches<'a>) -> Option<Asked<'m, 'a>> {
+    pub(crate) fn read(name: &str, words: &'m ArgMatches<'a>) -> Option<Asked<'m, 'a>> {
         Some(match name {
             batch::NAME => Asked::Batch(BatchWords::read(words)?),
             live::NAME => Asked::Live(LiveWords::read(words)?),
@@ -60,7 +60,12 @@ impl<'m, 'a> Asked<'m, 'a> {
 
     /// Runs the command, and answers the status. With `explain` a run says why it stops, and which row
     /// its files are refused for.
-    pub fn run<T: Threads + Wait + Sync>(self, rt: &HostRuntime, handle: &T, explain: bool) -> u8 {
+    pub(crate) fn run<T: Threads + Wait + Sync>(
+        self,
+        rt: &HostRuntime,
+        handle: &T,
+        explain: bool,
+    ) -> u8 {
         match self {
             Asked::Solve => solve::run(rt, explain),
             Asked::Batch(words) => words.run(rt, handle, explain),

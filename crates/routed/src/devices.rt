@@ -21,7 +21,7 @@ const NOTHING: &str = "/dev/null";
 pub type Output<'a, 'r> = Noted<'a, BufWriter<Printer<'r, HostRuntime>>>;
 
 /// Standard output, behind a buffer.
-pub fn output<'a, 'r>(rt: &'r HostRuntime) -> Result<Output<'a, 'r>, Stopped<'a>> {
+pub(crate) fn output<'a, 'r>(rt: &'r HostRuntime) -> Result<Output<'a, 'r>, Stopped<'a>> {
     match BufWriter::new(rt.alloc(), io::writer(rt)) {
         Ok(writer) => Ok(Noted::new(Name::of_stream(OUTPUT), writer)),
         Err(_) => Err(Stopped::Memory),
@@ -30,7 +30,7 @@ pub fn output<'a, 'r>(rt: &'r HostRuntime) -> Result<Output<'a, 'r>, Stopped<'a>
 
 /// Files that take the places of standard streams which are closed, so that no file that is opened
 /// later is taken for one of these.
-pub fn held_places(rt: &HostRuntime) -> [Option<File>; 3] {
+pub(crate) fn held_places(rt: &HostRuntime) -> [Option<File>; 3] {
     [
         File::open(rt, NOTHING).ok(),
         File::open(rt, NOTHING).ok(),
@@ -39,7 +39,7 @@ pub fn held_places(rt: &HostRuntime) -> [Option<File>; 3] {
 }
 
 /// A file to read, which the option of this name gives.
-pub fn opened<'a>(
+pub(crate) fn opened<'a>(
     rt: &HostRuntime,
     option: &'static str,
     path: &'a str,
@@ -52,7 +52,7 @@ pub fn opened<'a>(
 }
 
 /// A journal to write, which isn't there yet.
-pub fn created<'a>(
+pub(crate) fn created<'a>(
     rt: &HostRuntime,
     path: &'a str,
 ) -> Result<Noted<'a, Limited<File>>, Stopped<'a>> {
@@ -68,7 +68,7 @@ pub fn created<'a>(
 }
 
 /// Flushes a writer.
-pub fn flush<'a, W: Write>(writer: &mut Noted<'a, W>) -> Result<(), Stopped<'a>> {
+pub(crate) fn flush<'a, W: Write>(writer: &mut Noted<'a, W>) -> Result<(), Stopped<'a>> {
     match writer.flush() {
         Ok(()) => Ok(()),
         Err(error) => Err(Stopped::by(writer.name(), Action::Flush, error)),

@@ -5,14 +5,14 @@ use crate::statuses::{STOPPED, UNFIT};
 use crate::stopped::Stopped;
 
 /// Says that a run stops, and answers its status.
-pub fn stop(rt: &HostRuntime) -> u8 {
+pub(crate) fn stop(rt: &HostRuntime) -> u8 {
     let _ = eprintln!(rt; "routed: stopped");
     STOPPED
 }
 
 /// The status of a run. With `explain` it says why the run stopped, or which row its files are refused
 /// for.
-pub fn end<'a>(
+pub(crate) fn end<'a>(
     rt: &HostRuntime,
     ran: Result<u8, Stopped<'a>>,
     files: RowFiles<'a>,

@@ -29,7 +29,7 @@ pub struct Limited<W> {
 
 impl<W> Limited<W> {
     /// Nothing has been written to the file.
-    pub fn new(rt: &HostRuntime, file: W) -> Limited<W>
+    pub(crate) fn new(rt: &HostRuntime, file: W) -> Limited<W>
         ensures { result.file ≡ file }
     {
         Limited {

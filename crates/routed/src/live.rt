@@ -52,7 +52,7 @@ line before it says why.";
 const UPDATES: &str = "updates";
 
 /// The command with its options.
-pub fn command<'a>(alloc: Global) -> Result<Command<'a>, AllocError> {
+pub(crate) fn command<'a>(alloc: Global) -> Result<Command<'a>, AllocError> {
     Command::new(alloc, NAME)
         .about(ABOUT)
         .after_help(HELP)
@@ -74,7 +74,7 @@ pub struct LiveWords<'a> {
 
 impl<'a> LiveWords<'a> {
     /// The words that `clap` found.
-    pub fn read(words: &ArgMatches<'a>) -> Option<LiveWords<'a>> {
+    pub(crate) fn read(words: &ArgMatches<'a>) -> Option<LiveWords<'a>> {
         Some(LiveWords {
             updates: words.get_str(UPDATES)?,
             requests: words.get_str(REQUESTS)?,
@@ -122,7 +122,12 @@ impl<'a> LiveWords<'a> {
     }
 
     /// Runs the command, and answers the status.
-    pub fn run<T: Threads + Wait + Sync>(self, rt: &HostRuntime, handle: &T, explain: bool) -> u8 {
+    pub(crate) fn run<T: Threads + Wait + Sync>(
+        self,
+        rt: &HostRuntime,
+        handle: &T,
+        explain: bool,
+    ) -> u8 {
         let ran = self.answer(rt, handle);
         end(rt, ran, self.row_files(), explain)
     }

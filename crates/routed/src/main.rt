@@ -1,5 +1,6 @@
-//! `routed` answers route requests over a traffic engineering database. `command_line.rt` has the
-//! commands, each of which stands in a file of its own.
+//! `routed` answers route requests over a traffic engineering database. `command_line.rt` reads which of
+//! the six commands is meant: `solve`, `batch`, `live`, `serve`, `snapshot` or `audit`. Each has a file
+//! of its own.
 //!
 //! The status is 0, or 2 where anything was refused or a fault was found; 1 where the command line was
 //! refused; 3 where memory was refused or a device failed.

@@ -13,12 +13,12 @@ pub struct Name<'a> {
 
 impl<'a> Name<'a> {
     /// A standard stream.
-    pub fn of_stream(word: &'static str) -> Name<'a> {
+    pub(crate) fn of_stream(word: &'static str) -> Name<'a> {
         Name { word, path: None }
     }
 
     /// The file at the path that an option gives.
-    pub fn of_file(word: &'static str, path: &'a str) -> Name<'a> {
+    pub(crate) fn of_file(word: &'static str, path: &'a str) -> Name<'a> {
         Name {
             word,
             path: Some(path),
@@ -26,7 +26,7 @@ impl<'a> Name<'a> {
     }
 
     /// The path of a file.
-    pub fn path(self) -> Option<&'a str> {
+    pub(crate) fn path(self) -> Option<&'a str> {
         self.path
     }
 }
@@ -75,7 +75,7 @@ pub struct Fault<'a> {
 
 impl<'a> Fault<'a> {
     /// This call on this device failed by this error.
-    pub fn new(name: Name<'a>, action: Action, error: io::Error) -> Fault<'a> {
+    pub(crate) fn new(name: Name<'a>, action: Action, error: io::Error) -> Fault<'a> {
         Fault {
             name,
             action,
@@ -100,7 +100,7 @@ pub struct Noted<'a, D> {
 
 impl<'a, D> Noted<'a, D> {
     /// No call on this device has failed yet.
-    pub fn new(name: Name<'a>, device: D) -> Noted<'a, D>
+    pub(crate) fn new(name: Name<'a>, device: D) -> Noted<'a, D>
         ensures { result.device ≡ device }
     {
         Noted {
@@ -111,12 +111,12 @@ impl<'a, D> Noted<'a, D> {
     }
 
     /// What the device is called.
-    pub fn name(&self) -> Name<'a> {
+    pub(crate) fn name(&self) -> Name<'a> {
         self.name
     }
 
     /// The last call that failed.
-    pub fn fault(&self) -> Option<Fault<'a>> {
+    pub(crate) fn fault(&self) -> Option<Fault<'a>> {
         self.fault
     }
 

@@ -22,7 +22,7 @@ pub const EXPLAIN: &str = "explain";
 const WORKERS: &str = "workers";
 
 /// An option that has to name a file.
-pub fn file<'a>(alloc: Global, name: &'a str, help: &'a str) -> Arg<'a> {
+pub(crate) fn file<'a>(alloc: Global, name: &'a str, help: &'a str) -> Arg<'a> {
     Arg::new(alloc, name)
         .long(name)
         .value_name("FILE")
@@ -32,7 +32,7 @@ pub fn file<'a>(alloc: Global, name: &'a str, help: &'a str) -> Arg<'a> {
 }
 
 /// The flag by which the rows behind the batches of a journal are left out.
-pub fn accept_torn<'a>(alloc: Global) -> Arg<'a> {
+pub(crate) fn accept_torn<'a>(alloc: Global) -> Arg<'a> {
     Arg::new(alloc, ACCEPT_TORN)
         .long(ACCEPT_TORN)
         .action(ArgAction::SetTrue)
@@ -40,7 +40,7 @@ pub fn accept_torn<'a>(alloc: Global) -> Arg<'a> {
 }
 
 /// The flag by which a run that stops says why.
-pub fn explain<'a>(alloc: Global) -> Arg<'a> {
+pub(crate) fn explain<'a>(alloc: Global) -> Arg<'a> {
     Arg::new(alloc, EXPLAIN)
         .long(EXPLAIN)
         .action(ArgAction::SetTrue)
@@ -48,7 +48,7 @@ pub fn explain<'a>(alloc: Global) -> Arg<'a> {
 }
 
 /// The option that says how many workers answer.
-pub fn workers<'a>(alloc: Global) -> Arg<'a> {
+pub(crate) fn workers<'a>(alloc: Global) -> Arg<'a> {
     Arg::new(alloc, WORKERS)
         .long(WORKERS)
         .value_name("N")
@@ -67,7 +67,7 @@ pub struct WorkerCount {
 
 impl WorkerCount {
     /// The number that the words give; none where it is outside these bounds, which `clap` refuses.
-    pub fn read(words: &ArgMatches<'_>) -> Option<WorkerCount> {
+    pub(crate) fn read(words: &ArgMatches<'_>) -> Option<WorkerCount> {
         let count = words.get_one::<u8>(WORKERS)? as usize;
         if count == 0 || count > MOST_ASKERS {
             return None;
@@ -76,7 +76,7 @@ impl WorkerCount {
     }
 
     /// Their number.
-    pub fn count(self) -> usize
+    pub(crate) fn count(self) -> usize
         ensures { (0 < result) × (result ≤ MOST_ASKERS) }
     {
         self.count

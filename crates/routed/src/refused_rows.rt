@@ -166,7 +166,7 @@ pub struct RowFiles<'a> {
 
 impl<'a> RowFiles<'a> {
     /// No such files.
-    pub fn none() -> RowFiles<'a> {
+    pub(crate) fn none() -> RowFiles<'a> {
         RowFiles {
             journal: None,
             requests: None,
@@ -174,7 +174,7 @@ impl<'a> RowFiles<'a> {
     }
 
     /// Says which row the first of the files that are refused is refused for.
-    pub fn explain(self, rt: &HostRuntime) {
+    pub(crate) fn explain(self, rt: &HostRuntime) {
         if let Some((name, row)) = self.refused(rt) {
             let _ = eprintln!(rt; "routed: {name}: {row}");
         }

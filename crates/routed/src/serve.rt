@@ -58,7 +58,7 @@ each client that ended before its rows did why it ended.";
 const CLIENT: &str = "client";
 
 /// The command with its options.
-pub fn command<'a>(alloc: Global) -> Result<Command<'a>, AllocError> {
+pub(crate) fn command<'a>(alloc: Global) -> Result<Command<'a>, AllocError> {
     let client = Arg::new(alloc, CLIENT)
         .long(CLIENT)
         .value_name("IN=OUT")
@@ -82,7 +82,7 @@ pub struct ServeWords<'m, 'a> {
 
 impl<'m, 'a> ServeWords<'m, 'a> {
     /// The words that `clap` found.
-    pub fn read(words: &'m ArgMatches<'a>) -> Option<ServeWords<'m, 'a>> {
+    pub(crate) fn read(words: &'m ArgMatches<'a>) -> Option<ServeWords<'m, 'a>> {
         Some(ServeWords {
             journal: words.get_str(JOURNAL)?,
             clients: words.get_strs(CLIENT)?,
@@ -90,7 +90,12 @@ impl<'m, 'a> ServeWords<'m, 'a> {
     }
 
     /// Runs the command where the files may be had, and answers the status.
-    pub fn run<T: Threads + Wait + Sync>(self, rt: &HostRuntime, handle: &T, explain: bool) -> u8 {
+    pub(crate) fn run<T: Threads + Wait + Sync>(
+        self,
+        rt: &HostRuntime,
+        handle: &T,
+        explain: bool,
+    ) -> u8 {
         match client_names(rt, self.journal, self.clients) {
             Ok(names) => {
                 let ran = serve(rt, handle, self.journal, &names, explain);

@@ -36,7 +36,7 @@ refused, 3 where memory was refused, a file or another device failed: then the l
 error is routed: stopped, and with --explain the line before it says why.";
 
 /// The command with its options.
-pub fn command<'a>(alloc: Global) -> Result<Command<'a>, AllocError> {
+pub(crate) fn command<'a>(alloc: Global) -> Result<Command<'a>, AllocError> {
     Command::new(alloc, NAME)
         .about(ABOUT)
         .after_help(HELP)
@@ -54,7 +54,7 @@ pub struct SnapshotWords<'a> {
 
 impl<'a> SnapshotWords<'a> {
     /// The words that `clap` found.
-    pub fn read(words: &ArgMatches<'a>) -> Option<SnapshotWords<'a>> {
+    pub(crate) fn read(words: &ArgMatches<'a>) -> Option<SnapshotWords<'a>> {
         Some(SnapshotWords {
             journal: words.get_str(JOURNAL)?,
             accept_torn: words.get_flag(ACCEPT_TORN),
@@ -80,7 +80,7 @@ impl<'a> SnapshotWords<'a> {
     }
 
     /// Runs the command, and answers the status.
-    pub fn run(self, rt: &HostRuntime, explain: bool) -> u8 {
+    pub(crate) fn run(self, rt: &HostRuntime, explain: bool) -> u8 {
         let ran = self.write(rt);
         end(rt, ran, self.row_files(), explain)
     }

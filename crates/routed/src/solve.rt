@@ -54,7 +54,7 @@ are answered by
   ask 7 v1 route cost=10 hops=1 again=no ero=000c140101080a000c022000";
 
 /// The command with its options.
-pub fn command<'a>(alloc: Global) -> Result<Command<'a>, AllocError> {
+pub(crate) fn command<'a>(alloc: Global) -> Result<Command<'a>, AllocError> {
     Command::new(alloc, NAME)
         .about(ABOUT)
         .after_help(HELP)
@@ -76,6 +76,6 @@ fn answer<'a>(rt: &HostRuntime) -> Result<u8, Stopped<'a>> {
 }
 
 /// Runs the command, and answers the status.
-pub fn run(rt: &HostRuntime, explain: bool) -> u8 {
+pub(crate) fn run(rt: &HostRuntime, explain: bool) -> u8 {
     end(rt, answer(rt), RowFiles::none(), explain)
 }

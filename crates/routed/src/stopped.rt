@@ -22,12 +22,12 @@ pub enum Stopped<'a> {
 
 impl<'a> Stopped<'a> {
     /// This call on this device failed.
-    pub fn by(name: Name<'a>, action: Action, error: io::Error) -> Stopped<'a> {
+    pub(crate) fn by(name: Name<'a>, action: Action, error: io::Error) -> Stopped<'a> {
         Stopped::Device(Fault::new(name, action, error))
     }
 
     /// The error of `solve`, where these are the last calls on its devices that failed.
-    pub fn solving(
+    pub(crate) fn solving(
         error: SolveError,
         read: Option<Fault<'a>>,
         written: Option<Fault<'a>>,
@@ -44,7 +44,7 @@ impl<'a> Stopped<'a> {
     }
 
     /// The error of the updates of `serve`, where these are the last calls on their streams that failed.
-    pub fn streaming(
+    pub(crate) fn streaming(
         error: StreamError,
         read: Option<Fault<'a>>,
         written: Option<Fault<'a>>,
@@ -62,7 +62,7 @@ impl<'a> Stopped<'a> {
     }
 
     /// The error of `batch`, `live`, `serve`, `snapshot` or `audit`, where this is the call on a device that failed, if any.
-    pub fn running(error: RunError, noted: Option<Fault<'a>>) -> Stopped<'a> {
+    pub(crate) fn running(error: RunError, noted: Option<Fault<'a>>) -> Stopped<'a> {
         match (error, noted) {
             (RunError::Memory, _) => Stopped::Memory,
             (RunError::Device, Some(fault)) => Stopped::Device(fault),
@@ -73,7 +73,10 @@ impl<'a> Stopped<'a> {
 
 /// What a run of `batch`, `live`, `snapshot` or `audit` answered, where this is the call on a device
 /// that failed, if any.
-pub fn ended<'a>(ran: Result<u8, RunError>, noted: Option<Fault<'a>>) -> Result<u8, Stopped<'a>> {
+pub(crate) fn ended<'a>(
+    ran: Result<u8, RunError>,
+    noted: Option<Fault<'a>>,
+) -> Result<u8, Stopped<'a>> {
     match ran {
         Ok(status) => Ok(status),
         Err(error) => Err(Stopped::running(error, noted)),

@@ -12,7 +12,7 @@ pub struct AddressRange {
 }
 
 /// The addresses that the prefix covers.
-pub fn range_of(prefix: Prefix) -> AddressRange
+pub(super) fn range_of(prefix: Prefix) -> AddressRange
     ensures { IsRangeOf prefix result }
 {
     let size = 1u64 << (32 - prefix.length());
@@ -25,7 +25,7 @@ pub fn range_of(prefix: Prefix) -> AddressRange
 
 impl AddressRange {
     /// Whether the address is one of them.
-    pub fn contains(&self, address: Addr) -> bool
+    pub(super) fn contains(&self, address: Addr) -> bool
         ensures { IsTrue result ↔ IsInRange self.now address }
     {
         let number = u64::from(address.number());
@@ -33,7 +33,7 @@ impl AddressRange {
     }
 
     /// Whether none of them is between two others.
-    pub fn misses(&self, lowest: Addr, highest: Addr) -> bool
+    pub(super) fn misses(&self, lowest: Addr, highest: Addr) -> bool
         ensures { result ≡ true
             → (address : ℕ) → lowest ≤ address → address ≤ highest → ¬ IsInRange self.now address }
     {

@@ -1,3 +1,5 @@
+//! Whether a batch fits the table: the limits, and that no key is changed twice.
+
 ghost use Rattle.std.specs.Prelude.{count_by, ◌≡◌, ℕ, ◌+◌, ◌*◌, ◌<◌, ◌≤◌, ◌↔◌, true, All, length, map, IfOk, IfErr, IfSome, IfNone, IsTrue};
 ghost use Rattle.std.specs.Bool.{OnTrue, OnFalse};
 ghost use Rattle.std.specs.List.{IsDistinct};
@@ -16,12 +18,12 @@ ghost use Rattle.cspf_model.specs.Lemmas.CountedEnds.{with_ends, HasListedEnds, 
 ghost use Rattle.cspf_model.specs.Refusals.{AreOnceEach, ArePresent, IsRefusal};
 ghost use Rattle.cspf_model.specs.declared.limits.TheConstants.{MOST_MARKS};
 
-use cspf_model::{Batch, Change, Link, MOST_CHANGES, MOST_LINKS, MOST_ROUTERS, Refusal};
 use crate::table::leaving::any_goes;
 use crate::table::marks::has_too_many_marks;
 use crate::table::routers::Routers;
 use crate::table::tally::{Tally, count_brought, tally_all};
 use cspf_addr::Addr;
+use cspf_model::{Batch, Change, Link, MOST_CHANGES, MOST_LINKS, MOST_ROUTERS, Refusal};
 
 /// Whether the change is on this key.
 fn is_on(change: &Change, key: (Addr, Option<Addr>)) -> bool
@@ -122,21 +124,21 @@ fn repeat(changes: &[Change]) -> Option<usize>
 }
 
 /// Whether none of the changes is on the key of the row.
-pub fn is_untouched(row: &Link, changes: &[Change]) -> bool
+pub(super) fn is_untouched(row: &Link, changes: &[Change]) -> bool
     ensures { result ≡ is_untouched changes.now row.now }
 {
     !any_on(changes, (row.from, Some(row.local)))
 }
 
 /// Whether the change takes out a link.
-pub fn is_removal(change: &Change) -> bool
+pub(super) fn is_removal(change: &Change) -> bool
     ensures { result ≡ removes_link change.now }
 {
     matches!(change, Change::Remove { .. })
 }
 
 /// How many changes take out a link.
-pub fn count_removed(changes: &[Change]) -> usize
+pub(super) fn count_removed(changes: &[Change]) -> usize
     ensures { result ≡ count_by removes_link changes.now }
 {
     changes.iter().filter(|change| is_removal(change)).count()
@@ -244,7 +246,7 @@ fn has_too_many_routers(
 
 /// Whether the batch fits the rows and the marks, with what it does to the rows, and else the first
 /// reason why it doesn't.
-pub fn fits(
+pub(super) fn fits(
     rows: &[Link],
     routers: &[Addr],
     ends: &[u16],

@@ -4,7 +4,7 @@ ghost use Rattle.std.specs.Vec.{vec_capacity};
 ghost use Rattle.std.specs.List.{insert};
 
 /// Inserts the item at an index. There is capacity, so this takes no memory and can't fail.
-pub fn insert_within<T: Copy>(items: &mut Vec<T>, at: usize, item: T)
+pub(super) fn insert_within<T: Copy>(items: &mut Vec<T>, at: usize, item: T)
     requires bound { at ≤ vec_len items.old }
     requires capacity { vec_len items.old < vec_capacity items.old }
     ensures items { items.new.items ≡ insert items.old.items at item }
@@ -15,7 +15,7 @@ pub fn insert_within<T: Copy>(items: &mut Vec<T>, at: usize, item: T)
 }
 
 /// Appends the items. There is capacity, so this takes no memory and can't fail.
-pub fn extend_within<T: Copy>(items: &mut Vec<T>, more: &[T])
+pub(super) fn extend_within<T: Copy>(items: &mut Vec<T>, more: &[T])
     requires { vec_len items.old + length more.now ≤ vec_capacity items.old }
     ensures items { items.new.items ≡ items.old.items ++ more.now }
     ensures len { vec_len items.new ≡ vec_len items.old + length more.now }

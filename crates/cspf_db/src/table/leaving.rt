@@ -11,8 +11,8 @@ ghost use Rattle.cspf_model.specs.Lemmas.RowsLeft.{is_untouched};
 use crate::table::check::is_untouched;
 use crate::table::router_list::search;
 use crate::table::table_rows::{index_of, span};
-use cspf_model::{Change, Link};
 use cspf_addr::Addr;
+use cspf_model::{Change, Link};
 
 /// Whether the change puts a link that ends at the router.
 fn puts_at(change: &Change, router: Addr) -> bool
@@ -25,7 +25,7 @@ fn puts_at(change: &Change, router: Addr) -> bool
 }
 
 /// Whether one of the changes does.
-pub fn any_puts_at(changes: &[Change], router: Addr) -> bool
+pub(super) fn any_puts_at(changes: &[Change], router: Addr) -> bool
     ensures { result ≡ list_any (puts_at router) changes.now }
 {
     changes.iter().any(|change| puts_at(change, router))
@@ -111,7 +111,7 @@ fn takes_one(
 
 /// Whether a router goes with the changes. Looked at are those from which or to which a row ran that
 /// a change is on.
-pub fn any_goes(rows: &[Link], routers: &[Addr], ends: &[u16], changes: &[Change]) -> bool
+pub(super) fn any_goes(rows: &[Link], routers: &[Addr], ends: &[u16], changes: &[Change]) -> bool
     requires by_key { AreByKey rows.now }
     requires all { routers.now ≡ router_list (database_of rows.now) }
     requires ends { AreEndsOf rows.now routers.now ends.now }

@@ -10,13 +10,13 @@ ghost use Rattle.cspf_db.specs.Tables.Rows.{AreRising};
 ghost use Rattle.cspf_model.specs.declared.limits.TheConstants.{MOST_CHANGES, MOST_MARKS};
 ghost use Rattle.cspf_db.specs.declared.limits.TheConstants.{ROOM_FOR_MARKS};
 
-use cspf_model::{Change, MOST_MARKS};
 use crate::table::insertion::insert_within;
 use crate::table::router_list::search;
 use cspf_addr::Addr;
+use cspf_model::{Change, MOST_MARKS};
 
 /// Whether the router is marked.
-pub fn is_marked(marks: &[Addr], router: Addr) -> bool
+pub(super) fn is_marked(marks: &[Addr], router: Addr) -> bool
     requires { AreRising marks.now }
     ensures { result ≡ set.contains (marks_in marks.now) router }
 {
@@ -68,7 +68,7 @@ fn count_removed(marks: &[Addr], changes: &[Change]) -> usize
 }
 
 /// Whether there are more than 1,024 marks after the changes.
-pub fn has_too_many_marks(marks: &[Addr], changes: &[Change]) -> bool
+pub(super) fn has_too_many_marks(marks: &[Addr], changes: &[Change]) -> bool
     requires rising { AreRising marks.now }
     requires most { length marks.now ≤ MOST_MARKS }
     requires short { length changes.now ≤ MOST_CHANGES }
@@ -103,7 +103,7 @@ fn set_mark(marks: &mut Vec<Addr>, router: Addr, transit: bool)
 }
 
 /// Makes the changes of marks among the changes. There is room, so this takes no memory.
-pub fn change_marks(marks: &mut Vec<Addr>, changes: &[Change])
+pub(super) fn change_marks(marks: &mut Vec<Addr>, changes: &[Change])
     requires rising { AreRising marks.old.items }
     requires room { vec_len marks.old + length changes.now ≤ vec_capacity marks.old }
     ensures marked { marks_in marks.new.items ≡ all_marked (marks_in marks.old.items) changes.now }

@@ -18,11 +18,11 @@ ghost use Rattle.cspf_db.specs.Tables.Rows.{AreRising, AreEndsOf};
 ghost use Rattle.cspf_model.specs.declared.limits.TheConstants.{MOST_LINKS};
 ghost use Rattle.cspf_db.specs.declared.limits.TheConstants.{ROOM_FOR_LINKS, ROOM_FOR_ROUTERS};
 
-use cspf_model::{Change, Link, MOST_CHANGES};
 use crate::table::insertion::extend_within;
 use crate::table::router_list::index_among;
 use crate::table::table_rows::compare;
 use cspf_addr::Addr;
+use cspf_model::{Change, Link, MOST_CHANGES};
 use std::cmp::Ordering;
 
 /// The index of the first row, from an index on, whose key isn't below this one.
@@ -119,7 +119,7 @@ fn merge_one(
 }
 
 /// Merges changes in order of the key into the rows, with the column of ends.
-pub fn merge(
+pub(super) fn merge(
     merged: &mut Vec<Link>,
     merged_ends: &mut Vec<u16>,
     rows: &[Link],
@@ -186,7 +186,7 @@ fn copy_changes(sorted: &mut Vec<Change>, order: &[((Addr, Option<Addr>), u16)],
 
 /// Copies changes on keys of their own in order of the key, with room to put their keys in order. The
 /// changes themselves are copied once. It takes no memory.
-pub fn sort_changes(
+pub(super) fn sort_changes(
     order: &mut Vec<((Addr, Option<Addr>), u16)>,
     sorted: &mut Vec<Change>,
     changes: &[Change],

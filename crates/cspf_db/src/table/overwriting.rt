@@ -27,7 +27,7 @@ fn write_one(rows: &mut Vec<Link>, change: &Change)
 }
 
 /// Makes changes that put links in place of ones between the same interfaces.
-pub fn write_over(rows: &mut Vec<Link>, changes: &[Change])
+pub(super) fn write_over(rows: &mut Vec<Link>, changes: &[Change])
     requires by_key { AreByKey rows.old.items }
     requires alike { All (IsAlike rows.old.items) changes.now }
     ensures changed { database_of rows.new.items ≡ all_relinked (database_of rows.old.items) changes.now }

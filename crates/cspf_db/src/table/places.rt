@@ -7,14 +7,14 @@ ghost use Rattle.cspf_model.specs.Lemmas.CountedEnds.{any_to, is_end_of};
 ghost use Rattle.cspf_model.specs.Lemmas.LinkRows.{AreByKey};
 ghost use Rattle.cspf_db.specs.Tables.Rows.{AreRising, IsEndColumn, ArePlacesIn};
 
-use cspf_model::Link;
 use crate::limits::ROOM_FOR_ROUTERS;
 use crate::table::router_list::index_near;
 use crate::table::table_rows::begins;
 use cspf_addr::Addr;
+use cspf_model::Link;
 
 /// Lists where the routers are in a list that has them all. Where both rise, few are searched.
-pub fn list_places(places: &mut Vec<u16>, routers: &[Addr], others: &[Addr])
+pub(super) fn list_places(places: &mut Vec<u16>, routers: &[Addr], others: &[Addr])
     requires rising { AreRising others.now }
     requires few { length others.now ≤ ROOM_FOR_ROUTERS }
     requires among { All (Contains others.now) routers.now }
@@ -33,7 +33,7 @@ pub fn list_places(places: &mut Vec<u16>, routers: &[Addr], others: &[Addr])
 }
 
 /// Puts in place of each end the place of its router in another list.
-pub fn move_ends(ends: &mut Vec<u16>, places: &[u16])
+pub(super) fn move_ends(ends: &mut Vec<u16>, places: &[u16])
     requires { All (λ end. end < length places.now) ends.old.items }
     ensures moved { ends.new.items ≡ map (λ end. slice_index places.now end) ends.old.items }
     ensures capacity { vec_capacity ends.old ≤ vec_capacity ends.new }
@@ -112,7 +112,7 @@ fn keep_marked(
 }
 
 /// Keeps the routers that are ends of rows, and lists the places of each among them.
-pub fn keep_ends(
+pub(super) fn keep_ends(
     kept: &mut Vec<Addr>,
     places: &mut Vec<u16>,
     routers: &[Addr],

@@ -10,12 +10,12 @@ ghost use Rattle.cspf_model.specs.Lemmas.LinkRows.{AreByKey};
 ghost use Rattle.cspf_db.specs.Tables.Rows.{AreSpansAtEnds, IsSpanOf};
 ghost use Rattle.cspf_db.specs.Tables.Reverses.{AreReversesBut, AreReversesOf, IsIndexOfReverse, index_before, index_behind, no_key, same_key};
 
-use cspf_model::Link;
 use crate::limits::NO_LINK;
 use crate::table::insertion::insert_within;
 use crate::table::router_rows::Span;
 use crate::table::table_rows::index_of;
 use cspf_addr::Addr;
+use cspf_model::Link;
 
 /// The index, if the row there is the reverse of the link, which has the key of its reverse.
 fn index_back(rows: &[Link], at: usize, link: &Link) -> u16
@@ -33,7 +33,7 @@ fn index_back(rows: &[Link], at: usize, link: &Link) -> u16
 }
 
 /// The index of the row that is the reverse of the link, if there is one.
-pub fn reverse_index(rows: &[Link], link: &Link) -> u16
+pub(super) fn reverse_index(rows: &[Link], link: &Link) -> u16
     requires by_key { AreByKey rows.now }
     requires most { length rows.now ≤ MOST_LINKS }
     ensures { IsIndexOfReverse no_key rows.now link.now result }
@@ -60,7 +60,7 @@ fn reverse_within(rows: &[Link], span: &Span, link: &Link) -> u16
 }
 
 /// Lists where the reverse of each row is.
-pub fn list_reverses(reverses: &mut Vec<u16>, rows: &[Link], ends: &[u16], spans: &[Span])
+pub(super) fn list_reverses(reverses: &mut Vec<u16>, rows: &[Link], ends: &[u16], spans: &[Span])
     requires by_key { AreByKey rows.now }
     requires most { length rows.now ≤ MOST_LINKS }
     requires ends { length ends.now ≡ length rows.now }
@@ -76,7 +76,7 @@ pub fn list_reverses(reverses: &mut Vec<u16>, rows: &[Link], ends: &[u16], spans
 }
 
 /// Parts the row with this key, if there is one, from its reverse.
-pub fn unpair(reverses: &mut [u16], rows: &[Link], from: Addr, local: Addr)
+pub(super) fn unpair(reverses: &mut [u16], rows: &[Link], from: Addr, local: Addr)
     requires by_key { AreByKey rows.now }
     requires most { length rows.now ≤ MOST_LINKS }
     requires before { AreReversesBut no_key rows.now reverses.old }
@@ -94,7 +94,7 @@ pub fn unpair(reverses: &mut [u16], rows: &[Link], from: Addr, local: Addr)
 }
 
 /// Pairs the row at an index with its reverse, if there is one.
-pub fn pair(reverses: &mut [u16], rows: &[Link], at: usize)
+pub(super) fn pair(reverses: &mut [u16], rows: &[Link], at: usize)
     requires by_key { AreByKey rows.now }
     requires most { length rows.now ≤ MOST_LINKS }
     requires within { at < length rows.now }
@@ -151,7 +151,7 @@ fn move_before(reverses: &mut [u16], at: usize)
 
 /// Puts no reverse for the row that was put between others, and says at which index the row that was
 /// put is. There is room, so this takes no memory and can't fail.
-pub fn put_reverse(reverses: &mut Vec<u16>, place: Result<usize, usize>) -> usize
+pub(super) fn put_reverse(reverses: &mut Vec<u16>, place: Result<usize, usize>) -> usize
     requires few { vec_len reverses.old ≤ MOST_LINKS }
     requires upto { IfErr place (λ at. at ≤ length reverses.old.items) }
     requires room { vec_len reverses.old < vec_capacity reverses.old }
@@ -171,7 +171,7 @@ pub fn put_reverse(reverses: &mut Vec<u16>, place: Result<usize, usize>) -> usiz
 }
 
 /// Takes out the reverse of the row that was taken out, if one was.
-pub fn remove_reverse(reverses: &mut Vec<u16>, place: Option<usize>)
+pub(super) fn remove_reverse(reverses: &mut Vec<u16>, place: Option<usize>)
     requires { IfSome place (λ at. at < length reverses.old.items) }
     ensures out { IfSome place (λ at. reverses.new.items
         ≡ map (index_before at) (without reverses.old.items at)) }

@@ -8,13 +8,13 @@ ghost use Rattle.cspf_model.specs.Lemmas.CountedEnds.{HasListedEnds};
 ghost use Rattle.cspf_db.specs.Tables.Rows.{AreRising, IsPlaceOf};
 ghost use Rattle.cspf_db.specs.declared.limits.TheConstants.{ROOM_FOR_ROUTERS};
 
-use cspf_model::Change;
 use crate::table::insertion::insert_within;
 use cspf_addr::Addr;
+use cspf_model::Change;
 use std::cmp::Ordering;
 
 /// The index of the router, and else the index at which it would stand.
-pub fn search(routers: &[Addr], router: Addr) -> Result<usize, usize>
+pub(super) fn search(routers: &[Addr], router: Addr) -> Result<usize, usize>
     requires { AreRising routers.now }
     ensures within { IfOk result (λ at. at < length routers.now) }
     ensures found { IfOk result (HoldsAt (λ y. y ≡ router) routers.now) }
@@ -28,7 +28,7 @@ pub fn search(routers: &[Addr], router: Addr) -> Result<usize, usize>
 }
 
 /// Whether the router is one of them.
-pub fn is_among(routers: &[Addr], router: Addr) -> bool
+pub(super) fn is_among(routers: &[Addr], router: Addr) -> bool
     requires { AreRising routers.now }
     ensures { result ≡ true → Contains routers.now router }
 {
@@ -67,7 +67,7 @@ fn add_ends_of(routers: &mut Vec<Addr>, change: &Change)
 }
 
 /// Adds both ends of each link that the changes put.
-pub fn add_ends(routers: &mut Vec<Addr>, changes: &[Change])
+pub(super) fn add_ends(routers: &mut Vec<Addr>, changes: &[Change])
     requires rising { AreRising routers.old.items }
     requires room { vec_len routers.old + 2 * length changes.now ≤ vec_capacity routers.old }
     ensures kept { All (Contains routers.new.items) routers.old.items }
@@ -82,7 +82,7 @@ pub fn add_ends(routers: &mut Vec<Addr>, changes: &[Change])
 }
 
 /// The index of a router of the list.
-pub fn index_among(routers: &[Addr], router: Addr) -> u16
+pub(super) fn index_among(routers: &[Addr], router: Addr) -> u16
     requires rising { AreRising routers.now }
     requires few { length routers.now ≤ ROOM_FOR_ROUTERS }
     requires among { Contains routers.now router }
@@ -95,7 +95,7 @@ pub fn index_among(routers: &[Addr], router: Addr) -> u16
 }
 
 /// The same, where the index is looked at first at which the router may be.
-pub fn index_near(routers: &[Addr], near: usize, router: Addr) -> u16
+pub(super) fn index_near(routers: &[Addr], near: usize, router: Addr) -> u16
     requires rising { AreRising routers.now }
     requires few { length routers.now ≤ ROOM_FOR_ROUTERS }
     requires among { Contains routers.now router }

@@ -7,9 +7,9 @@ ghost use Rattle.cspf_model.specs.Lemmas.LinkRows.{AreByKey};
 ghost use Rattle.cspf_db.specs.Tables.Rows.{AreSpansOf, IsSpanOf};
 ghost use Rattle.cspf_model.specs.declared.limits.TheConstants.{MOST_LINKS, MOST_ROUTERS};
 
-use cspf_model::Link;
 use crate::table::table_rows::span;
 use cspf_addr::Addr;
+use cspf_model::Link;
 
 /// Where the rows from a router begin and end, and the lowest and the highest address of its
 /// interfaces on them. Where there are no rows, the lowest is above the highest.
@@ -171,7 +171,7 @@ fn resize(spans: &mut Vec<Span>, count: usize)
 
 /// Lists where the rows from each router are. A router that has as many rows as the one at its index
 /// had before costs a few reads. Where the routers rise, this passes over the other rows once.
-pub fn list_spans(spans: &mut Vec<Span>, routers: &[Addr], rows: &[Link])
+pub(super) fn list_spans(spans: &mut Vec<Span>, routers: &[Addr], rows: &[Link])
     requires by_key { AreByKey rows.now }
     requires most { length rows.now ≤ MOST_LINKS }
     requires few { length routers.now ≤ MOST_ROUTERS }

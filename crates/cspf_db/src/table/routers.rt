@@ -1,3 +1,5 @@
+//! A set of routers that is kept in place, by which the routers after a batch are counted.
+
 ghost use Rattle.std.specs.Prelude.{◌≡◌, true, ◌<◌, ◌≤◌, [], ◌∷◌, length};
 ghost use Rattle.std.specs.Bool.{OnTrue, OnFalse};
 ghost use Rattle.std.specs.FinSet as set;
@@ -62,7 +64,7 @@ impl Routers {
     ghost use Rattle.cspf_model.specs.Lemmas.CountedEnds.{with_ends};
 
     /// No routers.
-    pub fn new() -> Self
+    pub(super) fn new() -> Self
         ensures { result ≡ set.empty }
     {
         Routers::kept_in([0; MOST_ROUTERS], [0; SLOTS])
@@ -117,14 +119,14 @@ impl Routers {
     }
 
     /// Whether both ends of a link are found at once, so that they need not be added.
-    pub fn has_ends(&self, link: &Link) -> bool
+    pub(super) fn has_ends(&self, link: &Link) -> bool
         ensures { result ≡ true → self.now ≡ with_ends self.now (link.now ∷ []) }
     {
         self.has(link.from.number()) && self.has(link.to.number())
     }
 
     /// Adds both ends of a link. It is false where there would be more than 1,024 routers.
-    pub fn add_ends(&mut self, link: &Link) -> bool
+    pub(super) fn add_ends(&mut self, link: &Link) -> bool
         ensures added { OnTrue result (self.new ≡ with_ends self.old (link.now ∷ [])) }
         ensures full { OnFalse result (MOST_ROUTERS < set.len (with_ends self.old (link.now ∷ []))) }
         ensures few { OnTrue result (set.len self.new ≤ MOST_ROUTERS) }

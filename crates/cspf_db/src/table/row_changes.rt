@@ -21,8 +21,8 @@ use crate::table::router_list::index_among;
 use crate::table::scratch::Scratch;
 use crate::table::table_rows::{index_alike, put, remove};
 use crate::table::tally::Tally;
-use cspf_model::{Change, Link};
 use cspf_addr::Addr;
+use cspf_model::{Change, Link};
 
 /// Puts the end of the row that was put over another, or between others. There is room, so
 /// this takes no memory and can't fail.
@@ -142,7 +142,7 @@ fn put_rows(
 
 /// Makes changes on keys of their own one by one, the removals first, so that the rows are never more
 /// than a table may have. They put links between known routers alone.
-pub fn change_rows(
+fn change_rows(
     rows: &mut Vec<Link>,
     ends: &mut Vec<u16>,
     reverses: &mut Vec<u16>,
@@ -205,7 +205,7 @@ fn change_with_ends(
 
 /// Makes the changes of a batch that fits, with what they do to the rows, and says whether the column
 /// of reverses follows.
-pub fn change_table(
+pub(super) fn change_table(
     rows: &mut Vec<Link>,
     routers: &mut Vec<Addr>,
     ends: &mut Vec<u16>,

@@ -1,14 +1,16 @@
+//! The room in which a batch's changes are made, which the table takes once, when it is made.
+
 ghost use Rattle.std.specs.Prelude.{◌≡◌, ◌<◌, ◌≤◌, All, Contains, length, map, slice_index, vec_len};
 ghost use Rattle.std.specs.Vec.{vec_capacity};
 ghost use Rattle.cspf_model.specs.declared.limits.TheConstants.{MOST_CHANGES, MOST_LINKS, MOST_ROUTERS};
 ghost use Rattle.cspf_db.specs.declared.limits.TheConstants.{ROOM_FOR_LINKS, ROOM_FOR_ROUTERS};
 
 use crate::limits::{ROOM_FOR_LINKS, ROOM_FOR_ROUTERS};
-use cspf_model::{Change, Link, MOST_CHANGES};
 use crate::table::merging::{merge, sort_changes};
 use crate::table::places::{keep_ends, list_places, move_ends};
 use crate::table::router_list::add_ends;
 use cspf_addr::Addr;
+use cspf_model::{Change, Link, MOST_CHANGES};
 use std::alloc::{AllocError, Global};
 use std::mem::swap;
 
@@ -50,7 +52,7 @@ impl Scratch {
     ghost use Rattle.cspf_model.specs.Refusals.{AreOnceEach};
 
     /// Room for the rows of a full table and a batch.
-    pub fn new(alloc: Global) -> Result<Self, AllocError> {
+    pub(super) fn new(alloc: Global) -> Result<Self, AllocError> {
         Ok(Scratch {
             merged: Vec::with_capacity(alloc, ROOM_FOR_LINKS)?,
             ends: Vec::with_capacity(alloc, ROOM_FOR_LINKS)?,
@@ -63,7 +65,7 @@ impl Scratch {
 
     /// Makes changes on keys of their own, however many rows they move, with the
     /// column of ends. They put links between listed routers alone. It takes no memory.
-    pub fn change(
+    pub(super) fn change(
         &mut self,
         rows: &mut Vec<Link>,
         ends: &mut Vec<u16>,
@@ -94,7 +96,7 @@ impl Scratch {
 
     /// Lists the ends of the links that the changes put, those that aren't listed, where there are
     /// any. The column of ends says of the rows what it said.
-    pub fn add_routers(
+    pub(super) fn add_routers(
         &mut self,
         routers: &mut Vec<Addr>,
         ends: &mut Vec<u16>,
@@ -128,7 +130,12 @@ impl Scratch {
     }
 
     /// Drops the routers that are no end of a row. The column of ends follows.
-    pub fn drop_routers(&mut self, routers: &mut Vec<Addr>, ends: &mut Vec<u16>, rows: &[Link])
+    pub(super) fn drop_routers(
+        &mut self,
+        routers: &mut Vec<Addr>,
+        ends: &mut Vec<u16>,
+        rows: &[Link],
+    )
         requires by_key { AreByKey rows.now }
         requires rising { AreRising routers.old.items }
         requires few { vec_len routers.old ≤ ROOM_FOR_ROUTERS }

@@ -1,3 +1,5 @@
+//! The rows of a table, which are its links in order of their keys: searched, put and removed.
+
 ghost use Rattle.std.specs.Prelude.{◌≡◌, ◌≢◌, ℕ, ◌+◌, ◌<◌, ◌≤◌, true, false, All, filter, length, nat_eq, slice_range, slice_set, vec_len, IfOk, IfErr, IfSome, IfNone};
 ghost use Rattle.std.specs.Vec.{vec_capacity};
 ghost use Rattle.std.specs.List.{HoldsAt, insert, remove as without};
@@ -11,19 +13,19 @@ ghost use Rattle.cspf_db.specs.Tables.Rows.{HasSameEnds};
 ghost use Rattle.cspf_model.specs.Lemmas.CountedEnds.{any_from};
 
 use crate::table::insertion::insert_within;
-use cspf_model::{Change, Link};
 use cspf_addr::{Addr, Prefix};
+use cspf_model::{Change, Link};
 use std::cmp::Ordering;
 
 /// How the key of the row compares with another.
-pub fn compare(row: &Link, from: Addr, local: Addr) -> Ordering
+pub(super) fn compare(row: &Link, from: Addr, local: Addr) -> Ordering
     ensures { result ≡ key_cmp (key_of row.now) (from, local) }
 {
     row.from.cmp(&from).then(row.local.cmp(&local))
 }
 
 /// The index of the row with this key, and else the index at which it would stand.
-pub fn search(rows: &[Link], from: Addr, local: Addr) -> Result<usize, usize>
+pub(super) fn search(rows: &[Link], from: Addr, local: Addr) -> Result<usize, usize>
     requires { AreByKey rows.now }
     ensures within { IfOk result (λ at. at < length rows.now) }
     ensures found { IfOk result (HoldsAt (λ l. key_of l ≡ (from, local)) rows.now) }
@@ -41,7 +43,7 @@ pub fn search(rows: &[Link], from: Addr, local: Addr) -> Result<usize, usize>
 }
 
 /// The index of the row with this key, if there is one.
-pub fn index_of(rows: &[Link], from: Addr, local: Addr) -> Option<usize>
+pub(super) fn index_of(rows: &[Link], from: Addr, local: Addr) -> Option<usize>
     requires { AreByKey rows.now }
     ensures bound { IfSome result (λ at. at < length rows.now) }
     ensures some { IfSome result (λ at. HoldsAt (λ l. key_of l ≡ (from, local)) rows.now at) }
@@ -51,7 +53,7 @@ pub fn index_of(rows: &[Link], from: Addr, local: Addr) -> Option<usize>
 }
 
 /// Whether the row at the index, which has the link's key, runs between the same interfaces.
-pub fn is_alike(rows: &[Link], at: usize, link: &Link) -> bool
+pub(super) fn is_alike(rows: &[Link], at: usize, link: &Link) -> bool
     requires within { at < length rows.now }
     requires key { HoldsAt (λ l. key_of l ≡ key_of link.now) rows.now at }
     ensures { result ≡ true → HoldsAt (λ l. HasSameEnds l link.now) rows.now at }
@@ -60,7 +62,7 @@ pub fn is_alike(rows: &[Link], at: usize, link: &Link) -> bool
 }
 
 /// The index of the row with the link's key, if there is one and it runs between the same interfaces.
-pub fn index_alike(rows: &[Link], link: &Link) -> Option<usize>
+pub(super) fn index_alike(rows: &[Link], link: &Link) -> Option<usize>
     requires { AreByKey rows.now }
     ensures within { IfSome result (λ at. at < length rows.now) }
     ensures alike { IfSome result (HoldsAt (λ l. HasSameEnds l link.now) rows.now) }
@@ -74,7 +76,7 @@ pub fn index_alike(rows: &[Link], link: &Link) -> Option<usize>
 }
 
 /// Where the rows from the router begin and end.
-pub fn span(rows: &[Link], router: Addr) -> (usize, usize)
+pub(super) fn span(rows: &[Link], router: Addr) -> (usize, usize)
     requires { AreByKey rows.now }
     ensures order { result.0 ≤ result.1 }
     ensures bound { result.1 ≤ length rows.now }
@@ -87,7 +89,7 @@ pub fn span(rows: &[Link], router: Addr) -> (usize, usize)
 }
 
 /// The rows from the router, in order.
-pub fn rows_from(rows: &[Link], router: Addr) -> &[Link]
+pub(super) fn rows_from(rows: &[Link], router: Addr) -> &[Link]
     requires { AreByKey rows.now }
     ensures { result.now ≡ links_from (database_of rows.now) router }
 {
@@ -96,7 +98,7 @@ pub fn rows_from(rows: &[Link], router: Addr) -> &[Link]
 }
 
 /// Whether a row begins at the router.
-pub fn begins(rows: &[Link], router: Addr) -> bool
+pub(super) fn begins(rows: &[Link], router: Addr) -> bool
     requires { AreByKey rows.now }
     ensures { result ≡ any_from rows.now router }
 {
@@ -105,7 +107,7 @@ pub fn begins(rows: &[Link], router: Addr) -> bool
 }
 
 /// Whether one of the rows has the address of its interface within the prefix.
-pub fn any_within(rows: &[Link], prefix: Prefix) -> bool
+pub(super) fn any_within(rows: &[Link], prefix: Prefix) -> bool
     ensures yes { result ≡ true
         → (at : ℕ) × (at < length rows.now) × HoldsAt (λ l. Covers prefix l.local) rows.now at }
     ensures no { result ≡ false → All (λ l. ¬ Covers prefix l.local) rows.now }
@@ -115,7 +117,7 @@ pub fn any_within(rows: &[Link], prefix: Prefix) -> bool
 
 /// Puts the link in place of the row with its key, or between the lower keys and the higher ones,
 /// and says at which index.
-pub fn put(rows: &mut Vec<Link>, link: Link) -> Result<usize, usize>
+pub(super) fn put(rows: &mut Vec<Link>, link: Link) -> Result<usize, usize>
     requires by_key { AreByKey rows.old.items }
     requires room { vec_len rows.old < vec_capacity rows.old }
     ensures changed { database_of rows.new.items
@@ -142,7 +144,7 @@ pub fn put(rows: &mut Vec<Link>, link: Link) -> Result<usize, usize>
 }
 
 /// Takes out the row with this key, if there is one, and says at which index.
-pub fn remove(rows: &mut Vec<Link>, from: Addr, local: Addr) -> Option<usize>
+pub(super) fn remove(rows: &mut Vec<Link>, from: Addr, local: Addr) -> Option<usize>
     requires { AreByKey rows.old.items }
     ensures changed { database_of rows.new.items
         ≡ relinked (database_of rows.old.items) (Change.Remove from local) }

@@ -15,8 +15,8 @@ ghost use Rattle.cspf_model.specs.declared.limits.TheConstants.{MOST_CHANGES};
 use crate::table::leaving::any_puts_at;
 use crate::table::router_list::is_among;
 use crate::table::table_rows::{index_of, is_alike};
-use cspf_model::{Change, Link};
 use cspf_addr::Addr;
+use cspf_model::{Change, Link};
 
 /// How many links changes put where there is none, how many ends of the links that they put are not
 /// among the routers, where an end of several links is counted for each, and whether no row moves.
@@ -118,7 +118,7 @@ fn tally_one(rows: &[Link], routers: &[Addr], change: &Change) -> Option<Tally>
 }
 
 /// What the changes do. Else the index of the first removal of a link that isn't there.
-pub fn tally_all(rows: &[Link], routers: &[Addr], changes: &[Change]) -> Result<Tally, usize>
+pub(super) fn tally_all(rows: &[Link], routers: &[Addr], changes: &[Change]) -> Result<Tally, usize>
     requires by_key { AreByKey rows.now }
     requires all { routers.now ≡ router_list (database_of rows.now) }
     requires short { length changes.now ≤ MOST_CHANGES }
@@ -184,7 +184,7 @@ fn count_first_ends(routers: &[Addr], others: &[Change], change: &Change) -> usi
 
 /// How many ends of the links that the changes put are not among the routers, each counted once. It
 /// takes as long as to compare all pairs of changes.
-pub fn count_brought(routers: &[Addr], changes: &[Change]) -> usize
+pub(super) fn count_brought(routers: &[Addr], changes: &[Change]) -> usize
     requires rising { AreRising routers.now }
     requires short { length changes.now ≤ MOST_CHANGES }
     ensures few { result ≤ 2 * length changes.now }

@@ -34,7 +34,7 @@ fn is_unmarked_at(marks: &[Addr], at: usize, router: Addr) -> bool
 }
 
 /// Lists whether each router has transit. This passes over the routers and the marks once.
-pub fn list_transits(transits: &mut Vec<bool>, routers: &[Addr], marks: &[Addr])
+pub(super) fn list_transits(transits: &mut Vec<bool>, routers: &[Addr], marks: &[Addr])
     requires routers { AreRising routers.now }
     requires marks { AreRising marks.now }
     requires few { length routers.now ≤ MOST_ROUTERS }

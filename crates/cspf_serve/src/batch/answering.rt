@@ -1,3 +1,6 @@
+//! Answers the requests of a run in parts, so that the answers of one part alone are kept in
+//! memory.
+
 ghost use Rattle.std.specs.Prelude.{◌≡◌, ◌+◌, ◌<◌, ◌≤◌, ◌⊎◌, length, drop, All, IfOk, IfErr, OnOk, vec_len};
 ghost use Rattle.cspf_model.specs.Changes.{database_after};
 ghost use Rattle.cspf_publish.specs.declared.limits.TheConstants.{MOST_ASKERS};
@@ -36,7 +39,7 @@ impl<G: Gate> Gate for PartGate<'_, G> {
 }
 
 /// Answers requests at the last published version and writes their lines, a part of them at a time.
-pub(crate) fn answer_in_parts<J: Write, W: Write, G: Gate + Sync, T: Threads + Sync>(
+pub(super) fn answer_in_parts<J: Write, W: Write, G: Gate + Sync, T: Threads + Sync>(
     rt: &T,
     alloc: Global,
     publisher: &mut Publisher<J>,

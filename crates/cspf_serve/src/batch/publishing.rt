@@ -1,3 +1,5 @@
+//! Publishes the batches of a journal as they are read, up to the first one that does not fit.
+
 ghost use Rattle.std.specs.Prelude.{◌≡◌, ◌+◌, ◌≤◌, ◌∷◌, ◌++◌, List, Option, ℕ, [], None, length, IfOk, IfErr, IfSome, OnOk, OnErr, false};
 ghost use Rattle.cspf_model.specs.Numbered.{NumberedChanges, AreNumberedFrom};
 ghost use Rattle.cspf_model.specs.declared.limits.TheConstants.{MOST_VERSIONS};
@@ -23,7 +25,7 @@ use std::sync::Wait;
 /// time. From the first one on that doesn't fit none is published, and its line is answered. The
 /// journal is read to its end. Rows behind the batches are left out where that is asked for, and
 /// else refused.
-pub(crate) fn publish_journal<R: Read + Drop, J: Write, T: Wait>(
+pub(super) fn publish_journal<R: Read + Drop, J: Write, T: Wait>(
     rt: &T,
     alloc: Global,
     journal: R,

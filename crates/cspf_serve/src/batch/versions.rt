@@ -11,7 +11,7 @@ use std::alloc::Global;
 use std::io::Write;
 
 /// Writes the versions that this many batches make, which are 1, 2, 3 and so on.
-pub(crate) fn write_versions<W: Write>(
+pub(super) fn write_versions<W: Write>(
     alloc: Global,
     count: u32,
     writer: &mut W,

@@ -1,3 +1,5 @@
+//! The changes of the updates that no batch has taken yet.
+
 ghost use Rattle.std.specs.Prelude.{◌≡◌, ◌+◌, ◌∷◌, ◌++◌, ◌<◌, ◌^◌, [], List, IfErr, OnOk, OnErr};
 ghost use Rattle.cspf_model.specs.declared.batch.Change.{Change as Changed};
 ghost use Rattle.cspf_publish.specs.ApplyErrors.{IsApplyError};
@@ -13,7 +15,7 @@ use std::sync::Wait;
 /// The changes that no `end` row has taken yet: the first of them, as many as are kept, and how many
 /// they are.
 #[derive(Drop)]
-pub(crate) struct OpenChanges {
+pub(super) struct OpenChanges {
     pub(crate) batch: Batch,
     pub(crate) count: u64,
 }
@@ -34,7 +36,7 @@ impl OpenChanges {
     }
 
     /// One more behind them.
-    pub(crate) fn add(&mut self, change: Change) -> Result<(), AllocError>
+    pub(super) fn add(&mut self, change: Change) -> Result<(), AllocError>
         requires { self.old.count + 1 < 2 ^ 64 }
         ensures open { OnOk result ((all : List Changed) → AreOpen self.old all
             → AreOpen self.new (all ++ change ∷ [])) }

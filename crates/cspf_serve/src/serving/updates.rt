@@ -1,3 +1,5 @@
+//! How one row of the updates is answered, and how the clients hear of each published batch.
+
 ghost use Rattle.std.specs.Prelude.{◌≡◌, ◌+◌, ◌<◌, ◌≤◌, ◌⊎◌, ◌^◌, ◌++◌, ◌∷◌, [], List, Ok, All, IsTrue, ◌↔◌, length, IfOk, IfErr, OnOk, OnErr};
 ghost use Rattle.cspf_ero.specs.ReplyLine.{IsReply};
 ghost use Rattle.cspf_model.specs.Best.{Answer, IsBestAnswer};
@@ -14,8 +16,8 @@ use crate::BatchRefusal;
 use crate::line::Line;
 use crate::serving::open_changes::OpenChanges;
 use cspf_client::Teller;
-use cspf_model::{Change, MOST_VERSIONS, Request, one_refusal};
 use cspf_ero::reply_line;
+use cspf_model::{Change, MOST_VERSIONS, Request, one_refusal};
 use cspf_publish::{Publisher, Told};
 use cspf_rows::{Row, RowError};
 use cspf_stream::{Answering, refused_row};
@@ -26,7 +28,7 @@ use std::sync::Wait;
 
 /// The updates' side of a run: the publisher, who lets clients know what is published, the open
 /// changes, and how many rows and batches were refused.
-pub(crate) struct Updates<J> {
+pub(super) struct Updates<J> {
     publisher: Publisher<J>,
     tellers: Vec<Teller>,
     changes: OpenChanges,
@@ -240,14 +242,14 @@ impl<J: Write> Updates<J> {
     }
 
     /// Whether a row or a batch was refused, or changes are open.
-    pub(crate) fn has_refused(&self) -> bool
+    pub(super) fn has_refused(&self) -> bool
         ensures { IsTrue result ↔ ((0 < self.now.refused) ⊎ (0 < self.now.changes.count)) }
     {
         self.refused > 0 || self.changes.count > 0
     }
 
     /// Tells what is published.
-    pub(crate) fn tell(&mut self) -> Told
+    pub(super) fn tell(&mut self) -> Told
         ensures batches { result.batches ≡ self.old.publisher.batches }
         ensures source { result.source ≡ self.old.publisher.source }
         ensures same { self.new ≡ self.old }

@@ -1,7 +1,7 @@
 ghost use Rattle.cspf_serve.specs.SolveLaws.{CountsByOne, GoesOnByOneRow, HaveOneReply, StopsAtAPrefix};
 
-use cspf_model::{one_best_answer, one_refusal};
 use cspf_ero::one_reply_line;
+use cspf_model::{one_best_answer, one_refusal};
 
 /// Law: rows have one reply. Two runs over the same rows write the same lines, and come to the same
 /// summary.

@@ -1,3 +1,5 @@
+//! What answers one row after the other: the table, the open changes, and the counts of a run.
+
 ghost use Rattle.std.specs.Prelude.{◌≡◌, ℕ, ◌+◌, ◌<◌, ◌≤◌, List, [], ◌∷◌, ◌++◌, take, IfOk, OnOk, OnErr, MatchResult};
 ghost use Rattle.cspf_model.specs.declared.batch.Change.{Change as Changed};
 ghost use Rattle.cspf_model.specs.Best.{Answer, IsBestAnswer};
@@ -6,8 +8,8 @@ ghost use Rattle.cspf_ero.specs.ReplyLine.{IsReply};
 use crate::line::Line;
 use crate::{BatchRefusal, Summary};
 use cspf_db::Table;
-use cspf_model::{Batch, Change, MOST_CHANGES, MOST_VERSIONS, Request, absorbing};
 use cspf_ero::reply_line;
+use cspf_model::{Batch, Change, MOST_CHANGES, MOST_VERSIONS, Request, absorbing};
 use cspf_rows::{MOST_ROWS, Row, RowError};
 use cspf_search::best;
 use std::alloc::{AllocError, Global};
@@ -237,7 +239,7 @@ impl Solver {
     }
 
     /// The summary, where the run ends here.
-    pub(crate) fn summary(&self, too_many: bool) -> Summary
+    pub(super) fn summary(&self, too_many: bool) -> Summary
         requires { self.now.refused ≤ MOST_ROWS }
         ensures { (s : RunState) → KeepsRun self.now s → result ≡ summary_of s too_many }
     {

@@ -1,3 +1,5 @@
+//! Reads the journal and the requests of a run, and makes the line of the first refusal.
+
 ghost use Rattle.std.specs.Prelude.{◌≡◌, ◌≤◌, List, ℕ, true, false, length, IfOk, IfErr, OnOk, OnErr, IfSome};
 ghost use Rattle.cspf_rows.specs.Records.{rows_of};
 ghost use Rattle.cspf_rows.specs.declared.journal.Rest.TheVariants.{Torn as IsTorn};

@@ -1,0 +1,78 @@
+//! What the next row of a journal means to the batch that is being read.
+
+ghost use Rattle.std.specs.Prelude.{◌≡◌, ◌↔◌, ℕ, IsTrue, IfOk, length};
+ghost use Rattle.csv.specs.Records.{fields_of};
+ghost use Rattle.cspf_rows.specs.Rows.{row_of};
+ghost use Rattle.cspf_rows.specs.JournalReading.{IsTaken};
+ghost use Rattle.cspf_rows.specs.Journal.{change_row};
+
+use crate::row::Row;
+use cspf_model::{Batch, Change};
+use csv::ByteRecord;
+use std::alloc::AllocError;
+
+/// What a row is behind the open changes of a batch.
+#[derive(Clone, Copy)]
+pub(super) enum Taken {
+    /// One more open change.
+    Change,
+    /// The end of the batch.
+    Batch,
+    /// A row that the batch doesn't have.
+    Behind,
+}
+
+/// Takes a row behind the open changes of the batch that has the next number. It takes no memory
+/// where the row is no change.
+pub(super) fn take(fields: &ByteRecord, next: u32, batch: &mut Batch) -> Result<Taken, AllocError>
+    ensures { IfOk result (IsTaken (row_of (fields_of fields.now)) next batch.old batch.new) }
+{
+    match Row::read(fields) {
+        Ok(row) => take_row(&row, next, batch),
+        Err(_) => Ok(Taken::Behind),
+    }
+}
+
+/// Takes a row that is read.
+fn take_row(row: &Row, next: u32, batch: &mut Batch) -> Result<Taken, AllocError>
+    ensures { IfOk result (IsTaken (Ok row.now) next batch.old batch.new) }
+{
+    match row {
+        Row::Put(link) => add(Change::Put(*link), batch),
+        Row::Remove { from, local } => {
+            let change = Change::Remove {
+                from: *from,
+                local: *local,
+            };
+            add(change, batch)
+        }
+        Row::Node { router, transit } => {
+            let change = Change::Node {
+                router: *router,
+                transit: *transit,
+            };
+            add(change, batch)
+        }
+        Row::End { number, count } if is_whole(batch, next, *number, *count) => {
+            batch.number = next;
+            Ok(Taken::Batch)
+        }
+        Row::End { .. } | Row::Ask(_) => Ok(Taken::Behind),
+    }
+}
+
+/// One more open change.
+fn add(change: Change, batch: &mut Batch) -> Result<Taken, AllocError>
+    ensures { IfOk result (λ taken. (next : ℕ)
+        → IsTaken (Ok (change_row change)) next batch.old batch.new taken) }
+{
+    batch.changes.push(change)?;
+    Ok(Taken::Change)
+}
+
+/// Whether the open changes are whole as the batch with this number and this many changes.
+fn is_whole(batch: &Batch, next: u32, number: u32, count: u32) -> bool
+    ensures { IsTrue result ↔ ((number ≡ next) × (count ≡ length batch.now.changes)) }
+{
+    number == next && count as usize == batch.changes.len()
+}

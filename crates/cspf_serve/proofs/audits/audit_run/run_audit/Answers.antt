@@ -1,0 +1,12 @@
+use Rattle.cspf_serve.proofs.AuditRunLines.{audited, unaudited}
+use Rattle.cspf_serve.proofs.audits.audit_run.run_audit.Goals as goal
+
+pub returns-in-Ok-clause-whole : goal.returns-in-Ok-clause-whole
+returns-in-Ok-clause-whole g c =
+    audited (g.W.Write.contents c.args.writer.now) (g.W.Write.contents c.write_audit.new.writer) (g.R.Read.remaining c.args.journal) (g.Q.Read.remaining c.args.requests) (g.P.Read.remaining c.args.replies)
+    c.write_audit.result c.in-Ok.found c.write_audit.ensures.status c.write_audit.ensures.lines c.in-Ok.ensures.whole
+
+pub returns-in-Err-clause-whole : goal.returns-in-Err-clause-whole
+returns-in-Err-clause-whole g c =
+    unaudited (g.W.Write.contents c.args.writer.now) (g.W.Write.contents c.refuse.new.writer) (g.R.Read.remaining c.args.journal) (g.Q.Read.remaining c.args.requests) (g.P.Read.remaining c.args.replies)
+    c.refuse.result c.audit_end_of.result c.in-Err.error c.audit_end_of.ensures.refused c.in-Err.ensures.err c.refuse.ensures.status c.refuse.ensures.line

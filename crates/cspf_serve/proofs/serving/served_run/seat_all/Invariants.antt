@@ -1,0 +1,13 @@
+use Rattle.std.proofs.Common.{◌≡◌, ◌++◌, All, length}
+use Rattle.std.specs.Vec.Iter.{into_iter_items}
+use Rattle.cspf_serve.specs.ServedSteps.{IsSeat}
+use Rattle.cspf_serve.proofs.serving.served_run.seat_all.Given as goal
+
+abbrev pub invariant-loop-asker : goal.invariant-loop-asker
+invariant-loop-asker g l = record {
+  left : l.yielded ++ into_iter_items l.asker-iterator ≡ l.fn.askers.items;
+  same : l.publisher ≡ l.fn.publisher;
+  tellers : All (λ t. t.source ≡ l.fn.publisher.source) l.tellers.items;
+  ends : All (IsSeat l.fn.publisher.source) l.ends.items;
+  many : length l.ends.items ≡ length l.yielded;
+}

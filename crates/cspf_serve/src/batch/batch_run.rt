@@ -1,0 +1,199 @@
+//! The run of `batch`: a journal and requests in, the lines of both out.
+
+ghost use Rattle.std.specs.Prelude.{◌≡◌, ℕ, ◌<◌, ◌⊎◌, ◌≤◌, ◌++◌, List, [], length, All, Ok, IfOk, IfErr, IfSome, OnOk, vec_len, false};
+ghost use Rattle.std.specs.Io.KnownBytes.{Appends};
+ghost use Rattle.cspf_model.specs.Numbered.{NumberedChanges};
+ghost use Rattle.cspf_rows.specs.Records.{rows_of};
+ghost use Rattle.cspf_serve.specs.declared.solve.summary.Summary.{Summary as Counts};
+ghost use Rattle.cspf_serve.specs.Script.{IsSolveRun};
+ghost use Rattle.cspf_serve.specs.BatchRun.{AreAccepted, IsOneUnfit, IsBatchRun};
+ghost use Rattle.cspf_serve.specs.BatchLaws.{IsCleanJournal};
+ghost use Rattle.cspf_serve.specs.EarlyEnds.{IfRefused, IfFailed, Writes, WritesAllBut};
+ghost use Rattle.cspf_serve.specs.PublishedBatches.{ArePublishedOrRefused};
+ghost use Rattle.cspf_serve.specs.RunFaults.{IsStreamFault, IsAnsweringFault, IsBatchFault};
+ghost use Rattle.cspf_publish.specs.declared.limits.TheConstants.{MOST_ASKERS};
+ghost use Rattle.cspf_rows.specs.declared.limits.TheConstants.{MOST_ROWS};
+ghost use Rattle.cspf_work.specs.declared.limits.TheConstants.{MOST_REQUESTS};
+
+use crate::batch::answering::answer_in_parts;
+use crate::batch::laws::lines_of_a_script;
+use crate::batch::publishing::publish_journal;
+use crate::batch::versions::write_versions;
+use crate::line::Line;
+use crate::streams::early_end::EarlyEnd;
+use crate::streams::input::requests_of;
+use crate::streams::opening::open_for;
+use crate::streams::output::refuse;
+use crate::{Gate, RunError};
+use cspf_model::Request;
+use cspf_publish::{Asker, Publisher};
+use std::alloc::Global;
+use std::io;
+use std::io::{Read, Write};
+use std::sync::Wait;
+use std::thread::Threads;
+
+/// What a run reads.
+#[derive(Drop)]
+struct Streams<R, Q> {
+    journal: R,
+    requests: Q,
+    /// Whether rows behind the batches of the journal are left out, and not refused.
+    accept_torn: bool,
+}
+
+/// Publishes the batches of a journal, one after the other, and then answers the requests of a
+/// stream at the last version by this many workers: `IsBatchRun`. One batch is kept at a time. Both
+/// streams are read before the first line is written. The status is 2 where anything was refused,
+/// and else 0. After an error nothing is said of what the writer holds. The writer isn't flushed.
+pub fn run_batch<
+    R: Read + Drop,
+    Q: Read + Drop,
+    W: Write,
+    G: Gate + Sync,
+    T: Threads + Wait + Sync,
+>(
+    rt: &T,
+    alloc: Global,
+    journal: R,
+    requests: Q,
+    writer: &mut W,
+    workers: usize,
+    accept_torn: bool,
+    gate: &G,
+) -> Result<u8, RunError>
+    requires workers { (0 < workers) × (workers ≤ MOST_ASKERS) }
+    ensures whole { IfOk result (λ status. IfSome (R.remaining journal) (λ kept.
+        IfSome (Q.remaining requests) (λ asked. (lines : List ℕ)
+        × IsBatchRun accept_torn (rows_of kept) (rows_of asked) lines status
+        × Appends (W.contents writer.old) (W.contents writer.new) lines))) }
+    // The lines are those of one script of both streams.
+    ensures script { result ≡ Ok 0 → IfSome (R.remaining journal) (λ kept.
+        IfSome (Q.remaining requests) (λ asked. IsCleanJournal (rows_of kept)
+        → length (rows_of kept ++ rows_of asked) ≤ MOST_ROWS → (lines : List ℕ) × (counts : Counts)
+        × IsSolveRun (rows_of kept ++ rows_of asked) lines counts
+        × Appends (W.contents writer.old) (W.contents writer.new) lines)) }
+    ensures error { IfErr result
+        (IsBatchFault accept_torn (R.remaining journal) (Q.remaining requests)) }
+{
+    // Law: where nothing is refused the lines are those of a script.
+    lines_of_a_script();
+    let streams = Streams {
+        journal,
+        requests,
+        accept_torn,
+    };
+    answer(rt, alloc, streams, writer, workers, gate)
+}
+
+/// Publishes the batches of a journal over a journal that keeps nothing, and then answers requests
+/// at the last version. Answers the status.
+fn answer<R: Read + Drop, Q: Read + Drop, W: Write, G: Gate + Sync, T: Threads + Wait + Sync>(
+    rt: &T,
+    alloc: Global,
+    streams: Streams<R, Q>,
+    writer: &mut W,
+    workers: usize,
+    gate: &G,
+) -> Result<u8, RunError>
+    requires workers { (0 < workers) × (workers ≤ MOST_ASKERS) }
+    ensures whole { IfOk result (λ status. IfSome (R.remaining streams.journal) (λ kept.
+        IfSome (Q.remaining streams.requests) (λ asked.
+        Writes (W.contents writer.old) (W.contents writer.new) (λ lines.
+        IsBatchRun streams.accept_torn (rows_of kept) (rows_of asked) lines status)))) }
+    ensures error { IfErr result (IsBatchFault streams.accept_torn
+        (R.remaining streams.journal) (Q.remaining streams.requests)) }
+{
+    match open_for(rt, alloc, io::sink(), workers) {
+        Ok((publisher, askers)) => {
+            let mut publisher = publisher;
+            let lent = &mut publisher;
+            let done = answer_lent(rt, alloc, lent, askers, streams, writer, gate);
+            publisher.close(rt);
+            match done {
+                Ok(()) => Ok(0),
+                Err(end) => refuse(alloc, end, writer),
+            }
+        }
+        Err((error, _journal)) => Err(error),
+    }
+}
+
+/// Publishes the batches of a journal and answers requests while a publisher is lent.
+fn answer_lent<
+    J: Write,
+    R: Read + Drop,
+    Q: Read + Drop,
+    W: Write,
+    G: Gate + Sync,
+    T: Threads + Wait + Sync,
+>(
+    rt: &T,
+    alloc: Global,
+    publisher: &mut Publisher<J>,
+    askers: Vec<Asker>,
+    streams: Streams<R, Q>,
+    writer: &mut W,
+    gate: &G,
+) -> Result<(), EarlyEnd>
+    requires fresh { (publisher.old.batches ≡ []) × (publisher.old.stopped ≡ false) }
+    requires askers { (0 < vec_len askers) × (vec_len askers ≤ MOST_ASKERS) }
+    requires source { All (λ a. a.source ≡ publisher.old.source) askers.items }
+    ensures ok { OnOk result (IfSome (R.remaining streams.journal) (λ kept.
+        IfSome (Q.remaining streams.requests) (λ asked.
+        Writes (W.contents writer.old) (W.contents writer.new) (λ lines.
+        IsBatchRun streams.accept_torn (rows_of kept) (rows_of asked) lines 0)))) }
+    ensures err { IfErr result (λ end. IfRefused end (λ line.
+        IfSome (R.remaining streams.journal) (λ kept. IfSome (Q.remaining streams.requests)
+        (λ asked. WritesAllBut line (W.contents writer.old) (W.contents writer.new) (λ lines.
+        IsBatchRun streams.accept_torn (rows_of kept) (rows_of asked) lines 2))))) }
+    ensures failed { IfErr result (λ end. IfFailed end (IsBatchFault streams.accept_torn
+        (R.remaining streams.journal) (Q.remaining streams.requests))) }
+{
+    let Streams {
+        journal,
+        requests,
+        accept_torn,
+    } = streams;
+    let unfit = publish_journal(rt, alloc, journal, accept_torn, publisher)?;
+    let asked = requests_of(alloc, requests)?;
+    answer_read(rt, alloc, publisher, askers, unfit, &asked, writer, gate)
+}
+
+/// Writes the versions that are published, and then the line of the batch that doesn't fit, or
+/// answers requests where all fit.
+fn answer_read<J: Write, W: Write, G: Gate + Sync, T: Threads + Sync>(
+    rt: &T,
+    alloc: Global,
+    publisher: &mut Publisher<J>,
+    askers: Vec<Asker>,
+    unfit: Option<Line>,
+    requests: &[Request],
+    writer: &mut W,
+    gate: &G,
+) -> Result<(), EarlyEnd>
+    requires askers { (0 < vec_len askers) × (vec_len askers ≤ MOST_ASKERS) }
+    requires source { All (λ a. a.source ≡ publisher.old.source) askers.items }
+    requires requests { length requests.now ≤ MOST_REQUESTS }
+    ensures ok { OnOk result ((batches : List NumberedChanges)
+        → ArePublishedOrRefused batches publisher.old.batches unfit
+        → Writes (W.contents writer.old) (W.contents writer.new)
+        (AreAccepted batches requests.now)) }
+    ensures err { IfErr result (λ end. IfRefused end (λ line. (batches : List NumberedChanges)
+        → ArePublishedOrRefused batches publisher.old.batches unfit
+        → WritesAllBut line (W.contents writer.old) (W.contents writer.new)
+        (IsOneUnfit batches))) }
+    ensures failed { IfErr result (λ end. IfFailed end (λ e. IsStreamFault e
+        ⊎ IsAnsweringFault (λ index version. (index < length requests.now)
+        × ((batches : List NumberedChanges) → ArePublishedOrRefused batches publisher.old.batches unfit
+        → length batches < version)) e)) }
+{
+    write_versions(alloc, publisher.version(), writer)?;
+    match unfit {
+        Some(line) => Err(EarlyEnd::Refused(line)),
+        None => {
+            answer_in_parts(rt, alloc, publisher, askers, requests, writer, gate)?;
+            Ok(())
+        }
+    }
+}

@@ -1,0 +1,174 @@
+//! The run of `live`: it publishes updates while workers answer requests, and writes the lines
+//! of both.
+
+ghost use Rattle.std.specs.Prelude.{◌≡◌, ℕ, ◌<◌, ◌≤◌, ◌⊎◌, List, [], length, All, IfOk, IfErr, IfSome, slice_get, vec_len, false};
+ghost use Rattle.std.specs.Io.KnownBytes.{Appends};
+ghost use Rattle.cspf_model.specs.Numbered.{AreNumberedFrom};
+ghost use Rattle.cspf_publish.specs.Histories.{IsHistory};
+ghost use Rattle.cspf_rows.specs.Records.{rows_of};
+ghost use Rattle.cspf_serve.specs.EarlyEnds.{Writes};
+ghost use Rattle.cspf_serve.specs.LiveRun.{AreAnsweredLive, IsLiveRun, AreRecordedAtError, IsRecordedAtError};
+ghost use Rattle.cspf_serve.specs.LiveLines.{AreLiveLines, IsFaultShown, last_text, last_status};
+ghost use Rattle.cspf_serve.specs.RunFaults.{IsStreamFault, IsAnsweringFault, IsRunFault, IsLiveFault};
+ghost use Rattle.cspf_model.specs.declared.limits.TheConstants.{MOST_VERSIONS};
+ghost use Rattle.cspf_publish.specs.declared.limits.TheConstants.{MOST_ASKERS};
+ghost use Rattle.cspf_work.specs.declared.limits.TheConstants.{MOST_REQUESTS};
+
+use crate::line::Line;
+use crate::streams::input::{Inputs, inputs_of};
+use crate::streams::opening::open_for;
+use crate::streams::output::{put_line, refuse};
+use crate::streams::replies::write_replies;
+use crate::{Gate, Live, RunError, run_live};
+use cspf_model::{Batch, Request};
+use cspf_publish::{Answer, ApplyError, Asker, Publisher};
+use std::alloc::Global;
+use std::io::{Read, Write};
+use std::sync::Wait;
+use std::thread::Threads;
+
+/// Publishes the batches of updates over a journal while this many workers answer the requests of a
+/// stream: `IsLiveRun`. Both streams are read before. The status is 2 where anything was refused,
+/// and else 0. The journal's writer is handed back, after an error too: it then has the text of each
+/// published batch, and after a fault of its own the beginning of one more. After an error nothing is
+/// said of what the other writer holds. Neither is flushed.
+pub fn run_live_rows<
+    R: Read + Drop,
+    Q: Read + Drop,
+    J: Write,
+    W: Write,
+    G: Gate + Sync,
+    T: Threads + Wait + Sync,
+>(
+    rt: &T,
+    alloc: Global,
+    updates: R,
+    requests: Q,
+    journal: J,
+    writer: &mut W,
+    workers: usize,
+    gate: &G,
+) -> (Result<u8, RunError>, J)
+    requires workers { (0 < workers) × (workers ≤ MOST_ASKERS) }
+    ensures whole { IfOk result.0 (λ status. IfSome (R.remaining updates) (λ kept.
+        IfSome (Q.remaining requests) (λ asked. (lines : List ℕ) × (text : List ℕ)
+        × IsLiveRun (rows_of kept) (rows_of asked) lines text status
+        × Appends (W.contents writer.old) (W.contents writer.new) lines
+        × Appends (J.contents journal) (J.contents result.1) text))) }
+    ensures error { IfErr result.0 (IsLiveFault (Q.remaining requests)) }
+    ensures recorded { IfErr result.0 (λ e. IfSome (R.remaining updates) (λ kept. (text : List ℕ)
+        × IsRecordedAtError (rows_of kept) text
+        × Appends (J.contents journal) (J.contents result.1) text)) }
+{
+    let Inputs { batches, requests } = match inputs_of(alloc, updates, requests, false) {
+        Ok(read) => read,
+        Err(end) => return (refuse(alloc, end, writer), journal),
+    };
+    let (publisher, askers) = match open_for(rt, alloc, journal, workers) {
+        Ok(opened) => opened,
+        Err((error, journal)) => return (Err(error), journal),
+    };
+    answer_opened(
+        rt, alloc, publisher, askers, &batches, &requests, writer, gate,
+    )
+}
+
+/// Publishes batches by a new publisher while workers answer requests.
+fn answer_opened<J: Write, W: Write, G: Gate + Sync, T: Threads + Wait + Sync>(
+    rt: &T,
+    alloc: Global,
+    publisher: Publisher<J>,
+    askers: Vec<Asker>,
+    batches: &[Batch],
+    requests: &[Request],
+    writer: &mut W,
+    gate: &G,
+) -> (Result<u8, RunError>, J)
+    requires fresh { (publisher.batches ≡ []) × (publisher.stopped ≡ false) }
+    requires askers { (0 < vec_len askers) × (vec_len askers ≤ MOST_ASKERS) }
+    requires source { All (λ a. a.source ≡ publisher.source) askers.items }
+    requires batches { length batches.now ≤ MOST_VERSIONS }
+    requires requests { length requests.now ≤ MOST_REQUESTS }
+    ensures whole { AreNumberedFrom 1 batches.now → IfOk result.0 (λ status. (lines : List ℕ)
+        × (text : List ℕ) × AreAnsweredLive batches.now requests.now lines text status
+        × Appends (W.contents writer.old) (W.contents writer.new) lines
+        × Appends (J.contents publisher.journal) (J.contents result.1) text) }
+    ensures error { IfErr result.0 (IsRunFault
+        (λ index version. (index < length requests.now) × (0 < version))) }
+    ensures recorded { AreNumberedFrom 1 batches.now → IfErr result.0 (λ e. (text : List ℕ)
+        × AreRecordedAtError batches.now text
+        × Appends (J.contents publisher.journal) (J.contents result.1) text) }
+{
+    match run_live(rt, alloc, publisher, askers, batches, requests, gate) {
+        Ok(live) => end_live(rt, alloc, live, batches, writer),
+        Err((error, publisher, _askers)) => (Err(RunError::from(error)), publisher.close(rt)),
+    }
+}
+
+/// Writes the lines of what was answered and applied, and ends the publisher.
+fn end_live<J: Write, W: Write, T: Wait>(
+    rt: &T,
+    alloc: Global,
+    live: Live<J>,
+    batches: &[Batch],
+    writer: &mut W,
+) -> (Result<u8, RunError>, J)
+    ensures lines { IfOk result.0 (λ status. Writes (W.contents writer.old) (W.contents writer.new)
+        (AreLiveLines live.list.items batches.now (length live.publisher.batches) live.fault
+        status)) }
+    ensures journal { result.1 ≡ live.publisher.journal }
+    ensures history { IsHistory live.publisher.batches }
+    ensures error { IfErr result.0 IsStreamFault }
+{
+    let Live {
+        publisher,
+        list,
+        drawn: _,
+        askers: _,
+        applied: _,
+        fault,
+    } = live;
+    let version = publisher.version();
+    let written = write_live(alloc, list.as_slice(), batches, version, fault, writer);
+    (written, publisher.close(rt))
+}
+
+/// Writes the lines of a live run, and answers its status.
+fn write_live<W: Write>(
+    alloc: Global,
+    answers: &[Answer],
+    batches: &[Batch],
+    applied: u32,
+    fault: Option<ApplyError>,
+    writer: &mut W,
+) -> Result<u8, RunError>
+    ensures text { IfOk result (λ status. Writes (W.contents writer.old) (W.contents writer.new)
+        (AreLiveLines answers.now batches.now applied fault status)) }
+    ensures error { IfErr result IsStreamFault }
+{
+    write_replies(alloc, answers, writer)?;
+    put_line(alloc, Line::Applied { count: applied }, writer)?;
+    match fault_line(batches, applied, fault) {
+        Some(line) => {
+            put_line(alloc, line, writer)?;
+            Ok(2)
+        }
+        None => Ok(0),
+    }
+}
+
+/// The line of the batch that wasn't applied, if any.
+fn fault_line(batches: &[Batch], applied: u32, fault: Option<ApplyError>) -> Option<Line>
+    ensures { IsFaultShown (slice_get batches.now applied) fault
+        (last_text result) (last_status result) }
+{
+    let Some(error) = fault else {
+        return None;
+    };
+    let Some(batch) = batches.get(applied as usize) else {
+        // Never: the batch behind those that were applied is the one that wasn't.
+        return None;
+    };
+    let number = batch.number;
+    Some(Line::Unpublished { number, error })
+}
