@@ -1,12 +1,13 @@
 #!/usr/bin/env python3
-"""What has to be believed of the theorem: the definitions, types and limits that the contracts of its calls rest on.
+"""The definitions, types and limits that the contracts of the theorem's calls rest on: what has to be believed.
 
     tests/theorem.py
 
 It prints each definition of specs/ with the line where it stands, then the types and limits of src/, and last how many they are.
 It begins with the words that the contracts cite, and goes from each word to those that its definition cites, until nothing new comes.
-Of a type it takes the public fields or variants, the facts that they keep, and as what clauses see it (`Value` of its `Model`); what is
-private isn't needed to read a clause. It stops at the words of the kit. tests/texts compares THEOREM.md and docs/MODEL.md with it.
+Of a type it takes the public fields or variants, the facts that they keep, and what clauses see it as (`Value` of its `Model`); what is
+private isn't needed to read a clause. It stops at the words of the kit. tests/texts compares THEOREM.md and docs/MODEL.md with it. The
+status is 1 where a word leads nowhere.
 """
 import os
 import re
@@ -26,8 +27,65 @@ RUST = re.compile(r"(?<![\w.])[A-Za-z]\w*")
 ATTRIBUTES = re.compile(r"^(#\s*\[.*?\]\s*)+")
 TYPE = re.compile(r"(struct|enum|union|type|trait) ")
 NUMBER = re.compile(r"(const|static) ")
-OF_TREE = re.compile(r"Rattle\.(cspf_\w+|routed|[a-z]+_(?:tests|bench))\.specs\.(.+)")
+OF_TREE = re.compile(r"Rattle\.(cspf_\w+|routed)\.specs\.(.+)")
 PRIVATE = ".. (private fields)"
+# A small tree, in which a call rests on some of what is there.
+SMALL = {
+    "crates/cspf_low/src/lib.rt": """mod shelf;
+pub use shelf::{Shelf, take};
+""",
+    "crates/cspf_low/src/shelf.rt": """ghost use Rattle.std.specs.Prelude.{◌≡◌, IfOk};
+ghost use Rattle.cspf_low.specs.Shelves.{IsTakenFrom as Taken, IsUncited};
+pub struct Shelf {
+    books: Vec<Book>,
+}
+pub struct Book(u32);
+pub enum Fault {
+    #[error("none")]
+    None(Why),
+}
+pub struct Why;
+pub const MOST: usize = 9;
+impl Model for Shelf {
+    ghost use Rattle.cspf_low.specs.Shelves.{Rows, books_of, IsKept};
+    ghost Value = { Rows };
+    ghost view = { λ s. books_of s.books };
+    ghost invariant = { IsKept };
+}
+/// IsUncited
+pub fn take(shelf: &mut Shelf) -> Result<u32, Fault>
+    ensures { IfOk result (Taken shelf.old shelf.new) }
+{
+    IsUncited
+}
+""",
+    "crates/cspf_low/specs/Shelves.antt": """use Rattle.std.specs.Prelude.{ℕ, List, length}
+use Rattle.cspf_low.specs.Orders.{up}
+use Rattle.cspf_low.specs.declared.shelf.TheConstants.{MOST}
+-- books
+pub record Books : Type 0 where
+  pub books_of : List ℕ
+-- the first one is taken
+abbrev pub IsTakenFrom : Books → Books → Type 0
+IsTakenFrom old new = hidden old new up
+-- not public
+abbrev hidden : Books → Books → Order → Type 0
+hidden old new order = IsFew new.IsUncited -- IsUncited
+-- few
+abbrev pub IsFew : Books → Type 0
+IsFew b = length b.books_of ≤ MOST
+abbrev pub Rows : Type 0
+Rows = List Books
+abbrev pub IsKept : Books → Type 0
+abbrev pub IsUncited : Books → Type 0
+""",
+    "crates/cspf_low/specs/Orders.antt": """pub data Order : Type 0 where
+  up : Order
+  down : Order
+abbrev pub is_up : Order → Type 0
+""",
+}
+SMALL_RESTS = "Books Fault IsFew IsTakenFrom MOST Order Rows Shelf Why take".split()
 LISTED = re.compile(r"\[`([^`]+)`\]\(([^)]+)\)")
 MARKED = re.compile(r"`([^`]+)`†")
 
@@ -51,10 +109,16 @@ class Closure:
         """Follows what parts of a contract cite: words of specs/, and types and limits by their names in Rust."""
         there = tokens(parts)
         for name, where in it.words.items():
-            if all(part in there for part in name.split("◌") if part):
+            # (of a module all is followed: by its own name it stands before a dot)
+            if not where[1] or all(part in there for part in name.split("◌") if part):
                 self.word(where, it)
         for name in sorted({name for part in parts for name in RUST.findall(part)}):
-            self.item(self.named([name], self.modules[it.home]))
+            self.item(self.named([name], self.module_of(it)))
+
+    def module_of(self, it):
+        """The module of src/ that says it. (Of a number that no caller can name the home is written like that of a definition.)"""
+        crate, _, module = it.home.partition(" ")
+        return self.modules[crate if module in ("", "lib") else f"{crate}::{module}"]
 
     def named(self, path, module):
         """The type or limit of the tree at a path that is written in a module."""
@@ -156,6 +220,11 @@ def told(found):
 def theorem(checks):
     """THEOREM.md says README's sentence and lists exactly what the calls rest on, each where it stands; docs/MODEL.md marks the definitions."""
     text, readme, model = (open(os.path.join(TOP, name), encoding="utf-8").read() for name in ("THEOREM.md", "README.md", "docs/MODEL.md"))
+    small = Closure(Tree(SMALL), ["cspf_low::take", "cspf_low::put"])
+    parts = (small.calls, small.words, small.types, small.limits)
+    checks.same("what the call of a small tree rests on", sorted(it.name for some in parts for it in some.values()), SMALL_RESTS)
+    checks.same("the lines of its definitions", small.lines, 13)
+    checks.same("what isn't there", small.lost, ["the call cspf_low::put"])
     found = closure()
     for lost in found.lost:
         checks.fail(f"the theorem rests on something that is not there: {lost}")
@@ -170,8 +239,8 @@ def theorem(checks):
         checks.true(f"the theorem rests on {name} of {file}", (name, file) in resting, "THEOREM.md lists it")
     checks.same("THEOREM.md lists each once", len([name for cell, _ in rows for name in LISTED.findall(cell)]), len(listed))
     for it in found.limits.values():
-        number = next(part.rpartition(" = ")[2].replace("_", "") for part in it.parts if NUMBER.match(part))
-        wanted = f"{int(number):,}" if number.isdigit() else number
+        number = next(part.rpartition(" = ")[2] for part in it.parts if NUMBER.match(part))
+        wanted = f"{int(number):,}" if re.fullmatch(r"[\d_]+", number) else f"`{number}`"
         checks.true(f"THEOREM.md says that {it.name} is {wanted}", f" {wanted} " in listed.get((it.name, it.file), ""))
     checks.true(f"THEOREM.md says how many: {told(found)}", told(found) in text)
     marked = [(crate, span.split()[0]) for crate, cell in names_of(model) for span in MARKED.findall(cell)]
