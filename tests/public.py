@@ -5,6 +5,7 @@ under #[cfg(test)] have no public contracts. A contract is known by the paths by
 `pub use`, those of other crates of the tree too. Neither comments nor white space count, nor the order of clauses, nor attributes
 that only say how it is proved.
 """
+import os
 import re
 
 TOKEN = re.compile(r"""(?P<blank>(?:\s+|//[^\n]*|/\*.*?\*/)+)|(?P<token>b?r(?P<fence>\#*)".*?"(?P=fence)|b?"(?:\\.|[^"\\])*"|b?'(?:\\[^']*'|[^'\\]')|'\w+
@@ -17,6 +18,19 @@ OF_TESTS = re.compile(r"#\[(cfg\(test\)|test)\]")
 LEFT_OUT = re.compile(r"_(tests|bench)$")
 WORD = re.compile(r"[^\s(){}\[\],;.]+")
 HEAD = re.compile(r"((?:(?:pub|abbrev|unfoldable|opaque|data|record|axiom)\s+)*)([^\s:(){},]+)")
+READ = (".rt", ".antt")
+
+
+def present(top):
+    """The texts of the crates of a folder as they are."""
+    found = {}
+    for at, folders, files in os.walk(os.path.join(top, "crates")):
+        folders[:] = [it for it in folders if it != "out" or "/specs" in at or "/proofs" in at or "/src" in at]
+        for name in files:
+            if name.endswith(READ):
+                with open(os.path.join(at, name), encoding="utf-8") as file:
+                    found[os.path.relpath(os.path.join(at, name), top)] = file.read()
+    return found
 
 
 class Contract:
@@ -25,6 +39,7 @@ class Contract:
     def __init__(self, name, parts, words, file, line, home):
         self.name, self.parts, self.words = name, parts, words
         self.file, self.line, self.home, self.paths = file, line, home, []
+        self.size = 0  # of a definition: its lines that are no comments
 
     @property
     def where(self):
@@ -362,6 +377,8 @@ def named(texts, words):
         # (what follows a dot is a field)
         bare = re.sub(r'"(?:\\.|[^"\\])*"', '""', text)
         there = {it[0] for it in WORD.finditer(bare) if bare[it.start() - 1:it.start()] != "."}
+        # (each step of a `do` is a `>>=`)
+        there |= {">>="} if "←" in there else set()
         for here, where in words.items():
             if all(part in there for part in here.split("◌") if part):
                 used[where[1] or where[0]] = where
@@ -528,11 +545,13 @@ def definitions(crate, path, text):
         if name == "use":
             words.update(imported(re.sub(r"^(pub )?(use|open) ", "", whole)))
         else:
-            made.append((number, name, is_public, "\n".join(re.sub(r"\s+", " ", it) for it in joined(piece))))
-    for _, name, is_public, whole in made:
+            made.append((number, name, is_public, "\n".join(re.sub(r"\s+", " ", it) for it in joined(piece)), len(piece)))
+    sizes = {}
+    for _, name, is_public, whole, size in made:
         if not is_public:
             texts.setdefault(name, []).append(whole)
-    for number, name, is_public, whole in made:
+            sizes[name] = sizes.get(name, 0) + size
+    for number, name, is_public, whole, size in made:
         if is_public:
             parts, taken = [whole], set()
             while True:
@@ -543,7 +562,9 @@ def definitions(crate, path, text):
                 taken.update(more)
                 parts += [text for it in more for text in texts[it]]
             texts_here, used = named(parts, words)
-            yield Contract(name, [line for part in texts_here for line in part.split("\n")], used, path, number, f"{crate} {module}")
+            one = Contract(name, [line for part in texts_here for line in part.split("\n")], used, path, number, f"{crate} {module}")
+            one.size = size + sum(sizes[it] for it in taken)
+            yield one
 
 
 def joined(lines):
