@@ -4,7 +4,9 @@ ghost use Rattle.std.specs.BinaryHeap.{heap_items, heap_len};
 ghost use Rattle.cspf_db.specs.Index.{links_of, links_from_index};
 ghost use Rattle.cspf_search.specs.Arena.{AreNodes, AreInLegs};
 ghost use Rattle.cspf_search.specs.Rounds.{CrossesBelow};
-ghost use Rattle.cspf_search.specs.Frontier.{AreLabels, AreListed, AreRoles, AreTied, CrossesUpTo, GoesTo, IsEnd, IsNodeAt, IsOffer, IsStateIndex, NodeMayLeave, StaysAt, label_at, nowhere, rank_of};
+ghost use Rattle.cspf_search.specs.Frontier.{AreLabels, AreTied, CrossesUpTo, GoesTo, IsNodeAt, IsOffer, NodeMayLeave, StaysAt, label_at, nowhere, rank_of};
+ghost use Rattle.cspf_graph.specs.Lists.{AreListed, IsIndexOf};
+ghost use Rattle.cspf_graph.specs.Roles.{AreRoles, IsStateIndex};
 ghost use Rattle.cspf_search.specs.Source.{AreBefore, AreUpToRow, IsEdge, IsSource};
 ghost use Rattle.cspf_search.specs.Query.{IsQuery, CrossesBefore};
 
@@ -15,8 +17,8 @@ use crate::labels::{Label, Waiting, node_of, put};
 use crate::limits::COST_WEIGHT;
 use crate::query::Query;
 use cspf_db::{NO_LINK, Table};
-use cspf_model::MOST_ROUTERS;
 use cspf_graph::{accepts, may_leave_at};
+use cspf_model::MOST_ROUTERS;
 use std::alloc::{AllocError, Global};
 use std::collections::BinaryHeap;
 

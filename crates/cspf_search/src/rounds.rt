@@ -4,7 +4,9 @@ ghost use Rattle.cspf_db.specs.Index.{links_of, links_from_index};
 ghost use Rattle.cspf_search.specs.Settled.{state_cmp};
 ghost use Rattle.cspf_search.specs.Arena.{AreNodes, AreInLegs, IsNext, state_of, index_of, walk_of};
 ghost use Rattle.cspf_search.specs.Rounds.{CrossesBelow, IsFirst, RanksBefore, earlier_of};
-ghost use Rattle.cspf_search.specs.Frontier.{AreListed, AreRoles, CrossesUpTo, IsEnd, IsNodeAt, NodeMayLeave, nowhere, state_at};
+ghost use Rattle.cspf_graph.specs.Lists.{AreListed, IsIndexOf};
+ghost use Rattle.cspf_graph.specs.Roles.{AreRoles};
+ghost use Rattle.cspf_search.specs.Frontier.{CrossesUpTo, IsNodeAt, NodeMayLeave, nowhere, state_at};
 ghost use Rattle.cspf_search.specs.Query.{CrossesBefore, CrossesToRow};
 ghost use Rattle.cspf_search.specs.RoundSteps.{IsLook, IsRound};
 ghost use Rattle.cspf_search.specs.Source.{IsEdge};
@@ -14,8 +16,8 @@ use crate::edge::Edge;
 use crate::forward_star::ForwardStar;
 use crate::query::Query;
 use cspf_db::{NO_LINK, Table};
-use cspf_model::{Link, MOST_ROUTERS, Request};
 use cspf_graph::{accepts, may_leave_at};
+use cspf_model::{Link, MOST_ROUTERS, Request};
 use std::cmp::Ordering;
 
 /// How two nodes compare: by the cost of their walks, then by the number of links, then by the leg,
