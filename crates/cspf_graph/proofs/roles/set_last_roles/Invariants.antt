@@ -1,4 +1,4 @@
-use Rattle.std.proofs.Common.{◌≡◌, ◌≢◌, ℕ, ◌/◌, ◌%◌, ◌<◌, length, slice_index, slice_index_or}
+use Rattle.std.proofs.Common.{◌≡◌, ◌≢◌, ℕ, ◌+◌, ◌/◌, ◌%◌, ◌<◌, length, slice_index, slice_index_or}
 use Rattle.cspf_db.specs.Index.{router_list}
 use Rattle.cspf_graph.specs.declared.roles.Role.{Role}
 use Rattle.cspf_graph.specs.Roles.{IsRole, IsStateIndex}
