@@ -1,1 +1,4 @@
+pub mod RouterIndexes
+pub mod RoleLists
+pub mod Slices
 pub mod TargetLemmas

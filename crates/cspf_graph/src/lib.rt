@@ -1,16 +1,21 @@
-//! Which links a request may use, which routers its walks may go on from, and which the legs of its
-//! routes end at and may stand at. `accepts`, `admissible`, `may_leave`, `member` and `inside` are exact
-//! for `IsAdmitted`, `IsUsable`, `MayLeave`, `IsTarget` and `IsInside` of `cspf_db`, and so is
-//! `may_leave_at`. No call takes memory.
+//! Which links a request may use, which routers its walks may go on from, which the legs of its routes
+//! end at and may stand at, and what a route may do at each router in each leg. `accepts`, `admissible`,
+//! `may_leave`, `may_leave_at`, `member` and `inside` are exact for `IsAdmitted`, `IsUsable`, `MayLeave`,
+//! `IsTarget` and `IsInside` of `cspf_model`, and `may_be_left` and `find_roles` for `MayBeLeft`, `MayEnter`
+//! and `MayTurn`, which are made of them. No call but `find_roles` takes memory.
 #![tactic(auto)]
 
 mod admission;
+mod lists;
+mod roles;
 mod targets;
 mod transit;
 
 pub use admission::{accepts, admissible};
+pub use lists::listed;
+pub use roles::{Role, Roles, find_roles, is_loose};
 pub use targets::{inside, member};
-pub use transit::{may_leave, may_leave_at};
+pub use transit::{may_be_left, may_leave, may_leave_at};
 
 #[cfg(test)]
 mod tests;

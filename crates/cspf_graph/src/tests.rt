@@ -164,3 +164,51 @@ fn routers_that_walks_go_on_from(rt: HostRuntime) -> Result<(), Fail> {
     assert_eq!(rt; table.routers().len(), 2);
     Ok(())
 }
+
+// The strict hop covers an address of router 2 alone, and the head-end 1 and the tail-end 3 are marked.
+#[test]
+fn roles_in_legs(rt: HostRuntime) -> Result<(), Fail> {
+    let alloc = rt.alloc();
+    let mut table = Table::new(alloc)?;
+    let transit = false;
+    let changes = [
+        Change::Put(link(1, 0x0a00_0001, 2)?),
+        Change::Put(link(2, 0x0b00_0002, 3)?),
+        Change::Node {
+            router: Addr::new(1),
+            transit,
+        },
+        Change::Node {
+            router: Addr::new(3),
+            transit,
+        },
+    ];
+    table.absorb(&Batch {
+        number: 1,
+        changes: Vec::from_slice(alloc, &changes)?,
+    });
+    let asked = request(0, (0, 0, 0), false)?;
+    let Some(from) = table.place_of(asked.from) else {
+        return Err(Fail::from("no router 1"));
+    };
+    let Some(to) = table.place_of(asked.to) else {
+        return Err(Fail::from("no router 3"));
+    };
+    let roles = find_roles(alloc, &table, &asked, from, to)?;
+    // where its state is in the list, whether a link may lead there, whether a route may turn there
+    let cases = [
+        (0, false, false),
+        (1, true, true),
+        (2, false, false),
+        (1024, false, false),
+        (1025, true, false),
+        (1026, true, true),
+    ];
+    for (at, enter, target) in cases {
+        let role = roles.states[at];
+        assert_eq!(rt; (role.enter, role.target), (enter, target), "at {at}");
+    }
+    assert_eq!(rt; roles.targets.len(), 1);
+    assert_eq!(rt; roles.targets[0].as_slice(), [1].as_slice());
+    Ok(())
+}

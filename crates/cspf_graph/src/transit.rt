@@ -1,9 +1,11 @@
 ghost use Rattle.std.specs.Prelude.{◌<◌, ◌↔◌, IsTrue, length, slice_index};
 ghost use Rattle.cspf_db.specs.Index.{router_list};
 ghost use Rattle.cspf_model.specs.Admissible.{MayLeave};
+ghost use Rattle.cspf_graph.specs.Roles.{MayBeLeft};
 
 use cspf_addr::Addr;
 use cspf_db::Table;
+use cspf_model::Request;
 
 /// Whether a walk with so many links that has come to the router may go on from there: where the router
 /// has transit, or where the walk begins there (RFC 6987).
@@ -20,4 +22,14 @@ pub fn may_leave_at(table: &Table, place: usize, links_so_far: u32) -> bool
         ↔ MayLeave table.now (slice_index (router_list table.now) place) links_so_far }
 {
     links_so_far == 0 || table.transit_at(place)
+}
+
+/// Whether some walk of the request may leave the router at an index of `Table::routers`: it has
+/// transit, or the walk may begin there.
+pub fn may_be_left(table: &Table, place: usize, request: &Request) -> bool
+    requires { place < length (router_list table.now) }
+    ensures { IsTrue result
+        ↔ MayBeLeft table.now request.now (slice_index (router_list table.now) place) }
+{
+    table.transit_at(place) || table.routers()[place] == request.from
 }

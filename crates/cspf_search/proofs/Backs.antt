@@ -11,7 +11,8 @@ use Rattle.cspf_model.specs.Database.{Database}
 use Rattle.cspf_model.specs.Admissible.{IsUsable, MayLeave}
 use Rattle.cspf_model.specs.Walks.{cost_of, locals_of}
 use Rattle.cspf_search.specs.declared.arena.Node.{Node}
-use Rattle.cspf_search.specs.States.{State, MayEnter, MayTurn}
+use Rattle.cspf_search.specs.States.{State}
+use Rattle.cspf_graph.specs.Roles.{MayEnter, MayTurn}
 use Rattle.cspf_search.specs.Settled.{state_cmp, locals_cmp}
 use Rattle.cspf_search.specs.Arena.{walk_with, walk_at, walks, walk_of, index_of, IsNumbered, HasLast, AreNodes, IsNext}
 use Rattle.cspf_search.specs.Frontier.{node_by}

@@ -5,10 +5,9 @@ use Rattle.cspf_model.specs.declared.request.Request.{Request}
 use Rattle.cspf_model.specs.Database.{Database}
 use Rattle.cspf_model.specs.Targets.{IsInside, IsTarget}
 use Rattle.cspf_search.specs.declared.limits.TheConstants.{NO_WAY}
-use Rattle.cspf_search.specs.States.{MayTurn}
-use Rattle.cspf_search.specs.Frontier.{AreListed, IsStateIndex}
+use Rattle.cspf_graph.specs.Roles.{MayTurn, IsStateIndex, AreTargetsOf}
+use Rattle.cspf_graph.specs.Lists.{AreListed, router_at}
 use Rattle.cspf_search.specs.Bounds.{AreBounds, bound_at}
-use Rattle.cspf_search.specs.Roles.{AreTargetsOf, router_at}
 use Rattle.cspf_search.specs.Settled.{IsWithin}
 use Rattle.cspf_search.specs.Strict.{IsBroken}
 

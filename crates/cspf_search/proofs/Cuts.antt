@@ -10,7 +10,8 @@ use Rattle.cspf_model.specs.Walks.{AreJoined, IsWalk, end_of, routers_of, router
 use Rattle.cspf_model.specs.Targets.{IsTarget, IsTargetOf, IsInside}
 use Rattle.cspf_model.specs.Legs.{AreLegs, IsCutInto}
 use Rattle.cspf_model.specs.Routes.{IsRoute}
-use Rattle.cspf_search.specs.States.{State, MayStand, by_link, by_turn, Reaches, starts, steps, end_state}
+use Rattle.cspf_search.specs.States.{State, by_link, by_turn, Reaches, starts, steps, end_state}
+use Rattle.cspf_graph.specs.Roles.{MayStand}
 
 -- a link that runs to a router with transit, or to the tail-end
 abbrev RunsOn : Database → Request → Link → Type 0

@@ -12,10 +12,12 @@ use Rattle.cspf_model.specs.Database.{Database}
 use Rattle.cspf_model.specs.Admissible.{IsUsable}
 use Rattle.cspf_db.specs.Index.{links_of, links_from_index, router_list}
 use Rattle.cspf_search.specs.declared.arena.Node.{Node}
-use Rattle.cspf_search.specs.States.{State, MayEnter, MayTurn}
+use Rattle.cspf_search.specs.States.{State}
+use Rattle.cspf_graph.specs.Roles.{MayEnter, MayTurn, IsStateIndex}
 use Rattle.cspf_search.specs.Arena.{walk_at, walks, index_of}
 use Rattle.cspf_search.specs.Rounds.{CrossesBy, Turns, CrossesFrom, CrossesBelow}
-use Rattle.cspf_search.specs.Frontier.{state_at, IsStateIndex, nowhere, IsNodeAt, IsEnd, NodeMayLeave, CrossesUpTo}
+use Rattle.cspf_search.specs.Frontier.{state_at, nowhere, IsNodeAt, NodeMayLeave, CrossesUpTo}
+use Rattle.cspf_graph.specs.Lists.{IsIndexOf}
 use Rattle.cspf_search.proofs.Scans.{kept_link, new_link, either_link}
 
 -- what is kept of a list
@@ -125,7 +127,7 @@ module _ (d : Database) (q : Request) (nodes : List Node) (at state : ℕ) (is :
 
   -- a link
 
-  module _ (row : ℕ) (l : Link) (listed : slice_get (links_from_index d (state % 1024)) row ≡ Some l) (end : ℕ) (ends : IsEnd d l.to end) (few : length (router_list d) ≤ 1024) where
+  module _ (row : ℕ) (l : Link) (listed : slice_get (links_from_index d (state % 1024)) row ≡ Some l) (end : ℕ) (ends : IsIndexOf d l.to end) (few : length (router_list d) ≤ 1024) where
     pub link_index : IsStateIndex d q (state - state % 1024 + end)
     link_index =
         let place : (state - state % 1024 + end) % 1024 ≡ end = omega (arith, ends.within) in

@@ -11,7 +11,8 @@ use Rattle.cspf_model.specs.declared.request.Request.{Request}
 use Rattle.cspf_model.specs.Database.{Database, AreLinksOf, IsLinkOf, IsRouterOf}
 use Rattle.cspf_model.specs.Walks.{cost_of}
 use Rattle.cspf_search.specs.declared.arena.Node.{Node}
-use Rattle.cspf_search.specs.States.{State, MayEnter, IsStep, by_link, by_turn, Reaches, starts, steps, start_of, MayTurn}
+use Rattle.cspf_search.specs.States.{State, IsStep, by_link, by_turn, Reaches, starts, steps, start_of}
+use Rattle.cspf_graph.specs.Roles.{MayEnter, MayTurn}
 use Rattle.cspf_search.specs.Settled.{IsNoLater, AreSettled, Crosses, IsFirstCrossing, IsStuck, locals_cmp}
 use Rattle.cspf_search.specs.Arena.{walk_at, walks, walk_of, state_of, labels_of, AreNodes, AreInLegs, IsNext, root_of}
 use Rattle.cspf_search.specs.Rounds.{CrossesBy, Turns, CrossesBelow, IsFirstOf, IsFirst}

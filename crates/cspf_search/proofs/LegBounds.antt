@@ -7,13 +7,14 @@ use Rattle.cspf_model.specs.declared.request.Request.{Request}
 use Rattle.cspf_model.specs.Database.{Database}
 use Rattle.cspf_db.specs.Index.{router_list}
 use Rattle.cspf_search.specs.declared.ring.Ring.{Ring}
-use Rattle.cspf_search.specs.declared.roles.Role.{Role}
-use Rattle.cspf_search.specs.Frontier.{AreListed, AreRoles, IsEnd, IsStateIndex, nothing}
+use Rattle.cspf_graph.specs.declared.roles.Role.{Role}
+use Rattle.cspf_graph.specs.Lists.{AreListed, IsIndexOf}
+use Rattle.cspf_graph.specs.Roles.{AreRoles, IsStateIndex, MayEnter, MayTurn}
+use Rattle.cspf_graph.specs.RoleSteps.{nothing}
 use Rattle.cspf_search.specs.declared.limits.TheConstants.{NO_WAY}
 use Rattle.cspf_search.specs.Settled.{IsWithin}
-use Rattle.cspf_search.specs.States.{MayEnter, MayTurn}
 use Rattle.cspf_search.specs.Bounds.{ArePassed, AreBounds, Falls, IsLegBound, IsRing, IsDeadEnd, AreLooked, bound_at, is_done}
-use Rattle.cspf_search.proofs.Ranks.{same_or_not}
+use Rattle.cspf_graph.proofs.RouterIndexes.{same_or_not}
 
 -- where nothing is done nothing was looked at
 pub none_done : (d : Database) (q : Request) (leg : ℕ) (ring : Ring) → ((w : ℕ) → is_done ring w ≡ false) → IsRing d q leg ring
@@ -31,11 +32,11 @@ same_ring d q leg old new near marks ring u w on l admissible enters from end =
     rw near (ring u w (rw marks at on) l admissible enters from end)
 
 -- a router that no link may lead a route to in the leg has none to look at
-pub one_shut : (d : Database) (q : Request) (leg to : ℕ) (ring : Ring) → IsRing d q leg ring → ((l : Link) → MayEnter d q (leg + 1) l.to → IsEnd d l.to to → ⊥)
+pub one_shut : (d : Database) (q : Request) (leg to : ℕ) (ring : Ring) → IsRing d q leg ring → ((l : Link) → MayEnter d q (leg + 1) l.to → IsIndexOf d l.to to → ⊥)
     → AreLooked d q leg ring.near.items (set ring.done.items to true)
 one_shut d q leg to ring is shut u w on l admissible enters from end =
     elim (same_or_not w to) [
-      | inl here ↦ absurd (shut l enters (subst (IsEnd d l.to) here end))
+      | inl here ↦ absurd (shut l enters (subst (IsIndexOf d l.to) here end))
       | inr ne ↦ is u w (sym (get_or-set_other ring.done.items to w true false ne) ∙ on) l admissible enters from end
     ]
 
@@ -46,7 +47,7 @@ module _ (d : Database) (q : Request) (leg to base : ℕ) (old new : Ring) (ring
   one_router_more u w on l admissible enters from end =
       elim (same_or_not w to) [
         | inl here ↦
-            let low = passed u l admissible from (subst (IsEnd d l.to) here end) in
+            let low = passed u l admissible from (subst (IsIndexOf d l.to) here end) in
             let is : bound_at new.near.items w ≡ bound_at new.near.items to = ap (bound_at new.near.items) here in
             (omega (arith, low.0, is, same), λ way. low.1 (omega (arith, way, is, same)))
         | inr ne ↦

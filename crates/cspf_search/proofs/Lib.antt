@@ -21,5 +21,4 @@ pub mod Answered
 pub mod Reversed
 pub mod LegBounds
 mod Broken
-mod RoleLists
-pub mod Slices
+pub mod LegTargets

@@ -14,11 +14,13 @@ use Rattle.cspf_db.specs.Index.{links_of, links_from_index, router_list}
 use Rattle.cspf_search.specs.declared.arena.Node.{Node}
 use Rattle.cspf_search.specs.declared.forward_star.ForwardStar.{ForwardStar}
 use Rattle.cspf_search.specs.declared.rounds.Look.{Look}
-use Rattle.cspf_search.specs.States.{State, MayEnter, MayTurn}
+use Rattle.cspf_search.specs.States.{State}
+use Rattle.cspf_graph.specs.Roles.{MayEnter, MayTurn}
 use Rattle.cspf_search.specs.Settled.{state_cmp}
 use Rattle.cspf_search.specs.Arena.{state_of, walk_of, index_of, AreNodes, IsNext}
 use Rattle.cspf_search.specs.Rounds.{CrossesBy, Turns, CrossesBelow, IsFirst, RanksBefore, earlier_of}
-use Rattle.cspf_search.specs.Frontier.{state_at, nowhere, node_by, IsNodeAt, IsEnd, NodeMayLeave, CrossesUpTo}
+use Rattle.cspf_search.specs.Frontier.{state_at, nowhere, node_by, IsNodeAt, NodeMayLeave, CrossesUpTo}
+use Rattle.cspf_graph.specs.Lists.{IsIndexOf}
 use Rattle.cspf_search.specs.ForwardStars.{IsForwardStar}
 use Rattle.cspf_search.specs.Query.{CrossesToRow}
 use Rattle.cspf_search.specs.RoundSteps.{IsLook}
@@ -40,7 +42,7 @@ some_at (x ∷ xs) (suc i) h = some_at xs i (omega arith)
 
 -- the router at the end of a link
 pub row_end : (d : Database) (s : State) (star : ForwardStar) → IsForwardStar d s star → (row : ℕ) (l : Link) → row < length (links_from_index d (star.state % 1024))
-    → slice_get (links_from_index d (star.state % 1024)) row ≡ Some l → (end : ℕ) → end ≡ slice_index star.ends.now row → IsEnd d l.to end
+    → slice_get (links_from_index d (star.state % 1024)) row ≡ Some l → (end : ℕ) → end ≡ slice_index star.ends.now row → IsIndexOf d l.to end
 row_end d s star is row l h here end at =
     end_of_row d star.ends.now (links_from_index d (star.state % 1024)) is.within is.each row l end h
     (sym (get_or_from_slice_get (links_from_index d (star.state % 1024)) row l l here)) at
@@ -109,7 +111,7 @@ module _ (d : Database) (q : Request) (nodes : List Node) (are : AreNodes nodes)
 
   -- a link
 
-  module _ (row : ℕ) (l : Link) (here : slice_get (links_from_index d (state % 1024)) row ≡ Some l) (end : ℕ) (ends : IsEnd d l.to end)
+  module _ (row : ℕ) (l : Link) (here : slice_get (links_from_index d (state % 1024)) row ≡ Some l) (end : ℕ) (ends : IsIndexOf d l.to end)
       (few : length (router_list d) ≤ 1024) (before : IsFirst nodes (CrossesUpTo d q nodes at (state % 1024) row) a) where
     link_off : ((w : List Link) (t : State) → CrossesBy d q nodes at l w t → ⊥) → IsFirst nodes (CrossesUpTo d q nodes at (state % 1024) (row + 1)) a
     link_off never =
@@ -173,7 +175,7 @@ module _ (look : Look) (is : IsLook look) (row : ℕ) (within : row < length (li
   pub row_link : (l : Link) × (slice_get (links_from_index look.query.table.now (look.star.state % 1024)) row ≡ Some l)
   row_link = some_at (links_from_index look.query.table.now (look.star.state % 1024)) row within
 
-  pub row_is_end : IsEnd look.query.table.now row_link.0.to end
+  pub row_is_end : IsIndexOf look.query.table.now row_link.0.to end
   row_is_end = row_end look.query.table.now (state_of (slice_index_or look.nodes.now look.at nowhere)) look.star is.star row row_link.0 within row_link.1 end at
 
   -- the mark of the state there

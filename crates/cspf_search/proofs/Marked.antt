@@ -11,13 +11,16 @@ use Rattle.cspf_search.specs.States.{State, Reaches}
 use Rattle.cspf_search.specs.Settled.{AreSettled}
 use Rattle.cspf_search.specs.Arena.{walk_at, walks, state_of, index_of, labels_of, AreNodes, IsInLeg}
 use Rattle.cspf_search.specs.Rounds.{CrossesBelow, IsFirstOf}
-use Rattle.cspf_search.specs.Frontier.{state_at, IsStateIndex, AreListed, nowhere}
+use Rattle.cspf_search.specs.Frontier.{state_at, nowhere}
+use Rattle.cspf_graph.specs.Roles.{IsStateIndex}
+use Rattle.cspf_graph.specs.Lists.{AreListed}
 use Rattle.cspf_search.specs.ForwardStars.{IsForwardStar, AreForwardStars, AreStateMarks}
 use Rattle.cspf_search.proofs.Labelled.{label_at}
 use Rattle.cspf_search.proofs.Few.{HasFewRouters, AreApart}
 use Rattle.cspf_search.proofs.Grown.{reached_router, nodes_in_legs, settled_more}
 use Rattle.cspf_search.proofs.Pushed.{index_old, index_new, open_new}
-use Rattle.cspf_search.proofs.Ranks.{same_or_not, state_apart}
+use Rattle.cspf_graph.proofs.RouterIndexes.{same_or_not}
+use Rattle.cspf_search.proofs.Ranks.{state_apart}
 
 -- at first nothing is settled
 

@@ -16,9 +16,12 @@ use Rattle.cspf_search.specs.declared.labels.Label.{Label}
 use Rattle.cspf_search.specs.States.{State}
 use Rattle.cspf_search.specs.Settled.{IsNoLater}
 use Rattle.cspf_search.specs.Arena.{walk_of, state_of, index_of, AreNodes, IsNext}
-use Rattle.cspf_search.specs.Frontier.{state_at, IsStateIndex, AreListed, node_of, rank_of, walk_rank, no_rank, lift, IsBeyond, IsReached, IsLabel, is_settled, is_reached, is_unreached, HeapKey, key_at, label_at, heap_key_cmp, no_label, IsKey, AreLabels, IsOffer, AreTied, Gains, StaysAt, GoesTo}
+use Rattle.cspf_search.specs.Frontier.{state_at, node_of, rank_of, walk_rank, no_rank, lift, IsBeyond, IsReached, IsLabel, is_settled, is_reached, is_unreached, HeapKey, key_at, label_at, heap_key_cmp, no_label, IsKey, AreLabels, IsOffer, AreTied, Gains, StaysAt, GoesTo}
+use Rattle.cspf_graph.specs.Roles.{IsStateIndex}
+use Rattle.cspf_graph.specs.Lists.{AreListed}
 use Rattle.cspf_search.proofs.Orders.{walks_total}
-use Rattle.cspf_search.proofs.Ranks.{same_or_not, before_by_rank, before_by_locals, locals_turned, rank_parts, rank_is, walk_short, links_short, rank_small, lift_small, beyond_lower, state_apart}
+use Rattle.cspf_graph.proofs.RouterIndexes.{same_or_not}
+use Rattle.cspf_search.proofs.Ranks.{before_by_rank, before_by_locals, locals_turned, rank_parts, rank_is, walk_short, links_short, rank_small, lift_small, beyond_lower, state_apart}
 
 lowered : {A : Type 0} (cap lower ahead : ℕ) (w : List Link) → lower ≤ cap → A ⊎ IsBeyond cap ahead w → A ⊎ IsBeyond lower ahead w
 lowered cap lower ahead w h (inl a) = inl a

@@ -16,18 +16,21 @@ use Rattle.cspf_search.specs.declared.arena.Node.{Node}
 use Rattle.cspf_search.specs.declared.goal.Goal.{Goal}
 use Rattle.cspf_search.specs.declared.labels.Label.{Label}
 use Rattle.cspf_search.specs.declared.limits.TheConstants.{NO_WAY}
-use Rattle.cspf_search.specs.States.{State, MayTurn, steps, start_of, end_state}
+use Rattle.cspf_search.specs.States.{State, steps, start_of, end_state}
+use Rattle.cspf_graph.specs.Roles.{MayTurn, IsStateIndex}
 use Rattle.cspf_search.specs.Settled.{RanksNoLater, AreSettled, Crosses, IsStuck, IsFirstCrossing}
 use Rattle.cspf_search.specs.Arena.{walk_of, state_of, same_state, index_of, labels_of, AreNodes, root_of}
 use Rattle.cspf_search.specs.Rounds.{CrossesBelow}
 use Rattle.cspf_search.specs.Bounds.{AreBounds, bound_at}
-use Rattle.cspf_search.specs.Frontier.{IsFloor, state_at, IsStateIndex, AreListed, IsEnd, nowhere, node_of, walk_rank, no_rank, lift, IsBeyond, IsReached, IsLabel, is_settled, is_reached, is_unreached, HeapKey, heap_key_cmp, key_at, label_at, IsKey, IsLive, AreLabels, IsLeast}
+use Rattle.cspf_search.specs.Frontier.{IsFloor, state_at, nowhere, node_of, walk_rank, no_rank, lift, IsBeyond, IsReached, IsLabel, is_settled, is_reached, is_unreached, HeapKey, heap_key_cmp, key_at, label_at, IsKey, IsLive, AreLabels, IsLeast}
+use Rattle.cspf_graph.specs.Lists.{AreListed, IsIndexOf}
 use Rattle.cspf_search.proofs.Orders.{potentials_total, rank_from_walk}
 use Rattle.cspf_search.proofs.Settles.{no_way}
 use Rattle.cspf_search.proofs.Cuts.{reached_leg, last_target}
 use Rattle.cspf_search.proofs.Labelled.{same_state-true, open_index, index_at}
 use Rattle.cspf_search.proofs.Grown.{reached_router, crosses_from, crosses_to, root_nodes}
-use Rattle.cspf_search.proofs.Ranks.{same_or_not, before_by_rank, rank_before, rank_tied, rank_is, walk_short, rank_small, crossing_short, state_apart, index_for, potential_of, potential_at, lift_is, potential_consistent}
+use Rattle.cspf_graph.proofs.RouterIndexes.{same_or_not}
+use Rattle.cspf_search.proofs.Ranks.{before_by_rank, rank_before, rank_tied, rank_is, walk_short, rank_small, crossing_short, state_apart, index_for, potential_of, potential_at, lift_is, potential_consistent}
 
 -- the label of an open state isn't 0
 pub open_rank : (d : Database) (nodes : List Node) (P : List Link → State → Type 0) (cap ahead : ℕ) (t : State) (label : Label) → IsLabel d nodes P cap ahead t label
@@ -189,7 +192,7 @@ module _ (d : Database) (q : Request) (of : AreLinksOf d (links_of d)) (listed :
 
 -- the first labels
 
-module _ (d : Database) (q : Request) (listed : AreListed d) (place : ℕ) (at : IsEnd d q.from place) where
+module _ (d : Database) (q : Request) (listed : AreListed d) (place : ℕ) (at : IsIndexOf d q.from place) where
   start_index : IsStateIndex d q place
   start_index = record { low = omega (arith, at.within, listed.few); place = let e : place % 1024 ≡ place = omega (arith, at.within, listed.few) in rw e at.within }
 
@@ -248,12 +251,12 @@ module _ (d : Database) (q : Request) (listed : AreListed d) (place : ℕ) (at :
       }
 
 -- the goal is the state of the tail-end in the leg behind the last hop
-pub goal_index : (d : Database) (q : Request) → AreListed d → (to legs : ℕ) → legs ≡ length q.hops + 1 → IsEnd d q.to to → IsStateIndex d q ((legs - 1) * 1024 + to)
+pub goal_index : (d : Database) (q : Request) → AreListed d → (to legs : ℕ) → legs ≡ length q.hops + 1 → IsIndexOf d q.to to → IsStateIndex d q ((legs - 1) * 1024 + to)
 goal_index d q listed to legs count end =
     let place : ((legs - 1) * 1024 + to) % 1024 ≡ to = omega (arith, end.within, listed.few) in
     record { low = omega (arith, end.within, listed.few); place = rw place end.within }
 
-pub goal_state : (d : Database) (q : Request) → AreListed d → (to legs : ℕ) → legs ≡ length q.hops + 1 → IsEnd d q.to to → state_at d ((legs - 1) * 1024 + to) ≡ end_state q
+pub goal_state : (d : Database) (q : Request) → AreListed d → (to legs : ℕ) → legs ≡ length q.hops + 1 → IsIndexOf d q.to to → state_at d ((legs - 1) * 1024 + to) ≡ end_state q
 goal_state d q listed to legs count end =
     let place : ((legs - 1) * 1024 + to) % 1024 ≡ to = omega (arith, end.within, listed.few) in
     let leg : ((legs - 1) * 1024 + to) / 1024 + 1 ≡ length q.hops + 1 = omega (arith, end.within, listed.few) in

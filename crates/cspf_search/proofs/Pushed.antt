@@ -17,7 +17,8 @@ use Rattle.cspf_search.specs.States.{State}
 use Rattle.cspf_search.specs.Settled.{IsNoLater}
 use Rattle.cspf_search.specs.Arena.{walk_of, state_of, same_state, index_of, IsNext}
 use Rattle.cspf_search.specs.Rounds.{CrossesFrom, CrossesBelow}
-use Rattle.cspf_search.specs.Frontier.{state_at, AreListed, nowhere, node_of, rank_of, IsLabel, is_settled, is_reached, is_unreached, HeapKey, key_at, label_at, lift, no_label, AreLabels, IsLeast}
+use Rattle.cspf_search.specs.Frontier.{state_at, nowhere, node_of, rank_of, IsLabel, is_settled, is_reached, is_unreached, HeapKey, key_at, label_at, lift, no_label, AreLabels, IsLeast}
+use Rattle.cspf_graph.specs.Lists.{AreListed}
 use Rattle.cspf_search.proofs.Labelled.{walk_at-old, walk_of-old, same_state-true, index_at}
 use Rattle.cspf_search.proofs.Few.{AreApart}
 use Rattle.cspf_search.proofs.Offered.{labels_set}

@@ -1,10 +1,9 @@
 -- Ranks as numbers, and the indexes of states.
-use Rattle.std.proofs.Common.{◌≡◌, ◌≢◌, ◌⊎◌, inl, inr, ℕ, zero, suc, ◌+◌, ◌-◌, ◌*◌, ◌/◌, ◌%◌, ◌^◌, ◌<◌, ◌≤◌, true, false, nat_eq, Option, Some, None, position, List, length, slice_index, slice_index_or, refl, sym, ap, ◌∙◌, arith, add-one, subst}
+use Rattle.std.proofs.Common.{◌≡◌, inl, inr, ℕ, suc, ◌+◌, ◌-◌, ◌*◌, ◌/◌, ◌%◌, ◌^◌, ◌<◌, ◌≤◌, true, false, nat_eq, Option, Some, None, position, List, length, slice_index, slice_index_or, refl, sym, ap, ◌∙◌, arith, subst}
 use Rattle.std.specs.Ordering.{nat_cmp, ordering_then, ordering_reverse, is_gt}
 use Rattle.std.specs.declared.cmp.Ordering.{Ordering}
 use Rattle.std.specs.declared.cmp.Ordering.TheVariants.{Less, Equal, Greater}
 use Rattle.std.specs.Cmp.{nat_cmp_total}
-use Rattle.std.specs.List.Sorted.{IsStrictlyIncreasing}
 use Rattle.std.proofs.lemmas.Cmp.{tied_itself, nat_list_cmp_total}
 use Rattle.std.proofs.lemmas.Bool.{cases_lt, eq-eqb, eqb-true}
 use Rattle.std.proofs.lemmas.Bool.Decides.{nat_tests}
@@ -16,22 +15,18 @@ use Rattle.cspf_model.specs.declared.request.Request.{Request}
 use Rattle.cspf_model.specs.Database.{Database, IsRouterOf}
 use Rattle.cspf_model.specs.Walks.{cost_of, locals_of}
 use Rattle.cspf_db.specs.Index.{router_list}
+use Rattle.cspf_graph.proofs.RouterIndexes.{same_index}
 use Rattle.cspf_search.specs.declared.arena.Node.{Node}
 use Rattle.cspf_search.specs.declared.goal.Goal.{Goal}
-use Rattle.cspf_search.specs.States.{State, LeadsOn, MayEnter, MayTurn}
+use Rattle.cspf_search.specs.States.{State, LeadsOn}
+use Rattle.cspf_graph.specs.Roles.{MayEnter, MayTurn, IsStateIndex}
 use Rattle.cspf_search.specs.Settled.{IsNoLater, RanksNoLater, IsConsistent, locals_cmp, IsWithin}
 use Rattle.cspf_search.specs.Arena.{walk_at, walks, walk_of, AreNodes, IsNext}
 use Rattle.cspf_search.specs.Bounds.{bound_at, AreBounds}
 use Rattle.cspf_search.specs.Rounds.{CrossesFrom}
 use Rattle.cspf_search.proofs.Labelled.{position-None}
-use Rattle.cspf_search.specs.Frontier.{state_at, IsStateIndex, AreListed, IsEnd, nowhere, rank_of, walk_rank, no_rank, lift, IsBeyond}
-
-pub same_or_not : (i j : ℕ) → (i ≡ j) ⊎ (i ≢ j)
-same_or_not i j =
-    elim (cases_lt i j) [
-      | inl lt ↦ inr (λ e. omega arith)
-      | inr ge ↦ elim (cases_lt j i) [ inl lt ↦ inr (λ e. omega arith) | inr le ↦ inl (omega arith) ]
-    ]
+use Rattle.cspf_search.specs.Frontier.{state_at, nowhere, rank_of, walk_rank, no_rank, lift, IsBeyond}
+use Rattle.cspf_graph.specs.Lists.{AreListed}
 
 -- numbers of less than 16,384 links
 
@@ -126,26 +121,6 @@ pub lift_small : (goal : Goal) (i : ℕ) → slice_index_or goal.bounds.now i 0 
 lift_small goal i small = omega (arith, small)
 
 -- indexes of states
-
-rises : (xs : List ℕ) → IsStrictlyIncreasing xs → (i j : ℕ) → i < j → j < length xs → slice_index xs i < slice_index xs j
-rises xs up i zero lt h = absurd (omega arith)
-rises xs up i (suc j) lt h =
-    let next : slice_index xs j < slice_index xs (suc j) = rw add-one at (up j (omega arith)) in
-    elim (cases_lt i j) [
-      | inl less ↦ omega (arith, rises xs up i j less (omega arith), next)
-      | inr ge ↦ let e : i ≡ j = omega arith in rw e next
-    ]
-
-same_index : (xs : List ℕ) → IsStrictlyIncreasing xs → (i j : ℕ) → i < length xs → j < length xs → slice_index xs i ≡ slice_index xs j → i ≡ j
-same_index xs up i j low high e =
-    elim (cases_lt i j) [
-      | inl lt ↦ absurd (omega (arith, rises xs up i j lt high))
-      | inr ge ↦ elim (cases_lt j i) [ inl lt ↦ absurd (omega (arith, rises xs up j i lt low)) | inr le ↦ omega arith ]
-    ]
-
--- a router is at one place of the list
-pub one_place : (d : Database) → AreListed d → (router i j : ℕ) → IsEnd d router i → IsEnd d router j → i ≡ j
-one_place d listed router i j at there = same_index (router_list d) listed.rising i j at.within there.within (at.is ∙ sym there.is)
 
 module _ (d : Database) (q : Request) (listed : AreListed d) where
   -- no two indexes are of one state

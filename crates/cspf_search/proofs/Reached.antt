@@ -13,19 +13,23 @@ use Rattle.cspf_db.specs.Index.{links_of, router_list}
 use Rattle.cspf_search.specs.declared.arena.Node.{Node}
 use Rattle.cspf_search.specs.declared.goal.Goal.{Goal}
 use Rattle.cspf_search.specs.declared.labels.Label.{Label}
-use Rattle.cspf_search.specs.declared.roles.Role.{Role}
-use Rattle.cspf_search.specs.States.{State, MayTurn, end_state}
+use Rattle.cspf_graph.specs.declared.roles.Role.{Role}
+use Rattle.cspf_search.specs.States.{State, end_state}
+use Rattle.cspf_graph.specs.Roles.{MayTurn, IsStateIndex, AreRoles}
 use Rattle.cspf_search.specs.Settled.{Labels, AreSettled, IsClosed}
 use Rattle.cspf_search.specs.Arena.{walk_at, walks, state_of, index_of, labels_of, AreNodes, root_of}
 use Rattle.cspf_search.specs.Rounds.{CrossesBelow}
 use Rattle.cspf_search.specs.declared.limits.TheConstants.{NO_WAY}
 use Rattle.cspf_search.specs.Bounds.{AreBounds, bound_at}
-use Rattle.cspf_search.specs.Frontier.{state_at, IsStateIndex, AreListed, AreRoles, IsRaised, nothing, IsEnd, IsNodeAt, nowhere, node_of, IsReached, HeapKey, label_at, no_label, lift, IsKey, IsLive, AreLabels, IsLeast, IsFloor}
+use Rattle.cspf_search.specs.Frontier.{state_at, IsRaised, IsNodeAt, nowhere, node_of, IsReached, HeapKey, label_at, no_label, lift, IsKey, IsLive, AreLabels, IsLeast, IsFloor}
+use Rattle.cspf_graph.specs.Lists.{AreListed, IsIndexOf}
+use Rattle.cspf_graph.specs.RoleSteps.{nothing}
 use Rattle.cspf_search.proofs.Few.{HasFewRouters}
 use Rattle.cspf_search.proofs.Cuts.{last_target}
 use Rattle.cspf_search.proofs.Labelled.{open_index}
 use Rattle.cspf_search.proofs.Grown.{settled_by}
-use Rattle.cspf_search.proofs.Ranks.{one_place, state_apart, index_for}
+use Rattle.cspf_graph.proofs.RouterIndexes.{one_place}
+use Rattle.cspf_search.proofs.Ranks.{state_apart, index_for}
 use Rattle.cspf_search.proofs.Pushed.{index_new, open_old, open_new, labels_settle}
 use Rattle.cspf_search.proofs.Settles.{no_route}
 use Rattle.cspf_search.proofs.Popped.{open_rank, shut_start, first_popped, popped, nothing_left, root_only, goal_index, goal_state}
@@ -37,8 +41,8 @@ pub record IsAsked (d : Database) (q : Request) (legs from to : ℕ) (goal : Goa
   pub few : HasFewRouters d
   pub count : legs ≡ length q.hops + 1
   pub most : legs ≤ 8
-  pub start : IsEnd d q.from from
-  pub end : IsEnd d q.to to
+  pub start : IsIndexOf d q.from from
+  pub end : IsIndexOf d q.to to
   pub at : goal.at ≡ (legs - 1) * 1024 + to
   pub bounds : AreBounds d q goal.bounds.now
 
@@ -170,7 +174,7 @@ module _ (d : Database) (q : Request) (legs from to : ℕ) (goal : Goal) (asked 
               let leg : i / 1024 + 1 ≡ suc (length q.hops) = omega (arith, same, ap (λ (t : State). t.leg) goal_end) in
               let target = rw leg at ((told.each i nothing least.index).target.0 raised.target).target in
               let arrives : slice_index (router_list d) (i % 1024) ≡ q.to = subst (λ (T : Type 0). T) (last_target d q (slice_index (router_list d) (i % 1024))) target in
-              let here : IsEnd d q.to (i % 1024) = record { within = least.index.place; is = arrives } in
+              let here : IsIndexOf d q.to (i % 1024) = record { within = least.index.place; is = arrives } in
               let place = one_place d asked.listed q.to (i % 1024) to here asked.end in
               omega (arith, same, place, asked.at, asked.end.within, asked.listed.few)
 

@@ -7,9 +7,9 @@ use Rattle.cspf_model.specs.declared.link.Link.{Link}
 use Rattle.cspf_db.specs.declared.limits.TheConstants.{NO_LINK}
 use Rattle.cspf_model.specs.Database.{Database, AreLinksOf, HasReverse, IsLinkOf, IsReverse, key_of, link_at}
 use Rattle.cspf_db.specs.Index.{links_of, links_from_index, router_list, IsReverseAt}
-use Rattle.cspf_search.specs.Frontier.{AreListed, IsEnd}
+use Rattle.cspf_graph.specs.Lists.{AreListed, IsIndexOf}
 use Rattle.cspf_search.proofs.Expanded.{kept_from}
-use Rattle.cspf_search.proofs.Ranks.{same_or_not, one_place}
+use Rattle.cspf_graph.proofs.RouterIndexes.{same_or_not, one_place}
 use Rattle.cspf_search.proofs.Taken.{end_of_row}
 
 -- beside the links from a router there is an end each
@@ -57,12 +57,12 @@ module _ (d : Database) (links : AreLinksOf d (links_of d)) where
       (beside : (nth : ℕ) (e : Link) → nth < length (links_from_index d to) → IsReverseAt d (slice_index_or (links_from_index d to) nth e) (slice_index_or reverses nth 0)) where
     -- A link that has a reverse is found from where it ends: beside its reverse, a row from there, stand
     -- the index of the router that it arrives from, and its own.
-    pub found_back : (l : Link) → IsLinkOf d l → HasReverse d l → (u : ℕ) → IsEnd d l.from u → IsEnd d l.to to
+    pub found_back : (l : Link) → IsLinkOf d l → HasReverse d l → (u : ℕ) → IsIndexOf d l.from u → IsIndexOf d l.to to
         → (nth : ℕ) × (nth < length (links_from_index d to)) × (slice_index ends nth ≡ u) × (slice_get (links_of d) (slice_index reverses nth) ≡ Some l)
     found_back l of has u from end =
         let at = kept_from d to has.0 (links.whole has.0 has.1) (has.2.from ∙ sym end.is) in
         let row_end = end_of_row d ends (links_from_index d to) within each at.0 has.0 (slice_index ends at.0) at.1 (sym at.2) refl in
-        let arrives : IsEnd d l.from (slice_index ends at.0) = subst (λ k. IsEnd d k (slice_index ends at.0)) has.2.to row_end in (
+        let arrives : IsIndexOf d l.from (slice_index ends at.0) = subst (λ k. IsIndexOf d k (slice_index ends at.0)) has.2.to row_end in (
           at.0,
           at.1,
           one_place d listed l.from (slice_index ends at.0) u arrives from,

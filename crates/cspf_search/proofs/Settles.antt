@@ -14,7 +14,8 @@ use Rattle.cspf_model.specs.Walks.{cost_of}
 use Rattle.cspf_model.specs.Routes.{IsRoute}
 use Rattle.cspf_model.specs.Best.{IsBestRoute}
 use Rattle.cspf_search.specs.declared.limits.TheConstants.{NO_WAY}
-use Rattle.cspf_search.specs.States.{State, LeadsOn, IsStep, by_link, by_turn, Reaches, starts, steps, start_of, end_state, MayTurn}
+use Rattle.cspf_search.specs.States.{State, LeadsOn, IsStep, by_link, by_turn, Reaches, starts, steps, start_of, end_state}
+use Rattle.cspf_graph.specs.Roles.{MayTurn}
 use Rattle.cspf_search.specs.Settled.{Labels, IsNoLater, potential_cmp, RanksNoLater, IsConsistent, AreSettled, Crosses, IsClosed, IsFirstCrossing, IsStuck, locals_cmp}
 use Rattle.cspf_search.proofs.Orders.{walks_total, potentials_total, walk_cmp-push, potential_cmp-push, potential_cmp-turn, walk_from_less, rank_from_walk}
 use Rattle.cspf_search.proofs.Cuts.{reached_walk, reached_leg, route_reaches, reaches_route}

@@ -13,12 +13,14 @@ use Rattle.cspf_search.specs.declared.goal.Goal.{Goal}
 use Rattle.cspf_search.specs.declared.edge.Edge.{Edge}
 use Rattle.cspf_search.specs.declared.frontier.Source.{Source}
 use Rattle.cspf_search.specs.declared.labels.Label.{Label}
-use Rattle.cspf_search.specs.declared.roles.Role.{Role}
-use Rattle.cspf_search.specs.States.{State, MayEnter, MayTurn}
+use Rattle.cspf_graph.specs.declared.roles.Role.{Role}
+use Rattle.cspf_search.specs.States.{State}
+use Rattle.cspf_graph.specs.Roles.{MayEnter, MayTurn, IsStateIndex, IsRole}
 use Rattle.cspf_search.specs.Arena.{walk_at, walks, walk_of, state_of, index_of, AreNodes, IsNext}
 use Rattle.cspf_search.specs.Rounds.{CrossesBy, Turns, CrossesBelow}
 use Rattle.cspf_search.specs.Source.{IsEdge, IsSource}
-use Rattle.cspf_search.specs.Frontier.{state_at, IsStateIndex, AreListed, nowhere, node_by, node_of, rank_of, IsNodeAt, IsEnd, NodeMayLeave, IsOffer, AreTied, StaysAt, GoesTo, HeapKey, label_at, lift, AreLabels, IsRole, CrossesUpTo}
+use Rattle.cspf_search.specs.Frontier.{state_at, nowhere, node_by, node_of, rank_of, IsNodeAt, NodeMayLeave, IsOffer, AreTied, StaysAt, GoesTo, HeapKey, label_at, lift, AreLabels, CrossesUpTo}
+use Rattle.cspf_graph.specs.Lists.{AreListed, IsIndexOf, router_at}
 use Rattle.cspf_search.proofs.Ranks.{lift_small}
 use Rattle.cspf_search.proofs.Backs.{turned_next, by_next}
 use Rattle.cspf_search.proofs.Offered.{labels_stay, labels_offered, labels_same, lost_by_rank, tied_label, left_open, IsLost}
@@ -27,7 +29,7 @@ use Rattle.cspf_search.proofs.Expanded.{filter_short, there, leg, turn_index, tu
 -- the router that the end beside a link tells
 pub end_of_row : (d : Database) (ends : List ℕ) (links : List Link) → All (λ end. end < length (router_list d)) ends
     → map (λ end. slice_index (router_list d) end) ends ≡ map (λ (l : Link). l.to) links → (i : ℕ) (l : Link) (end : ℕ) → i < length links
-    → l ≡ slice_index_or links i l → end ≡ slice_index ends i → IsEnd d l.to end
+    → l ≡ slice_index_or links i l → end ≡ slice_index ends i → IsIndexOf d l.to end
 end_of_row d ends links within each i l end h is at =
     let long : i < length ends =
     omega (arith, h, ap (λ (ns : List ℕ). length ns) each, length-map ends (λ end. slice_index (router_list d) end), length-map links (λ (l : Link). l.to)) in
@@ -165,14 +167,14 @@ module _ (source : Source) (of : IsSource source) (labels : List Label) (keys : 
     here : slice_get (links_from_index d (state % 1024)) row ≡ Some l
     here = is_edge.row
 
-    ends : IsEnd d l.to end
+    ends : IsIndexOf d l.to end
     ends = is_edge.end
 
     along : IsNext nodes (node_by at (slice_index_or nodes at nowhere) (Some l))
     along = by_next d q nodes are at is.within (slice_index_or nodes at nowhere) (there d q nodes at state is) l small
 
     -- whether a route may stand where the link ends, as told for the state there
-    pub link_told : (role : Role) → IsRole d q (state_at d (state - state % 1024 + end)) role → IsTrue role.enter ↔ MayEnter d q (state / 1024 + 1) l.to
+    pub link_told : (role : Role) → IsRole d q ((state - state % 1024 + end) / 1024 + 1) (router_at d ((state - state % 1024 + end) % 1024)) role → IsTrue role.enter ↔ MayEnter d q (state / 1024 + 1) l.to
     link_told role told =
         let legs = leg d q nodes at state is in
         let same : record { leg = state / 1024 + 1; router = l.to } ≡ state_at d (state - state % 1024 + end) =

@@ -8,9 +8,10 @@ use Rattle.cspf_model.specs.Admissible.{IsAdmitted}
 use Rattle.cspf_db.specs.Index.{router_list, links_of}
 use Rattle.cspf_search.specs.declared.limits.TheConstants.{NO_WAY}
 use Rattle.cspf_search.specs.declared.ring.Ring.{Ring}
-use Rattle.cspf_search.specs.Frontier.{IsEnd, IsStateIndex}
+use Rattle.cspf_graph.specs.Lists.{IsIndexOf}
+use Rattle.cspf_graph.specs.Roles.{IsStateIndex, MayBeLeft, MayEnter, MayTurn}
 use Rattle.cspf_search.specs.Settled.{IsWithin}
-use Rattle.cspf_search.specs.States.{LeadsOn, MayBeLeft, MayEnter, MayTurn}
+use Rattle.cspf_search.specs.States.{LeadsOn}
 
 -- the bound of the state at an index
 abbrev pub bound_at : List ℕ → ℕ → ℕ
@@ -34,7 +35,7 @@ pub record AreBounds (d : Database) (q : Request) (bounds : List ℕ) : Type 0 w
 -- The bound of each router from a leg on, as far as an edge, where these are the bounds of its targets
 -- behind it: so it is for the lower of the two.
 pub record IsLegBound (d : Database) (q : Request) (leg : ℕ) (near : List ℕ) (edge : ℕ) (ahead : List ℕ) : Type 0 where
-  pub links : (u w : ℕ) (l : Link) → LeadsOn d q l → MayEnter d q (leg + 1) l.to → IsEnd d l.from u → IsEnd d l.to w
+  pub links : (u w : ℕ) (l : Link) → LeadsOn d q l → MayEnter d q (leg + 1) l.to → IsIndexOf d l.from u → IsIndexOf d l.to w
       → IsWithin (min (bound_at near u) edge) (min (bound_at near w) edge) l.metric
   pub targets : (p : ℕ) → p < length (router_list d)
       → MayTurn d q (leg + 1) (slice_index (router_list d) p) → min (bound_at near p) edge ≤ bound_at ahead p
@@ -58,7 +59,7 @@ is_done ring w = slice_index_or ring.done.items w false
 -- in a leg the bounds of the routers that are marked are within each link that leads on to them
 abbrev pub AreLooked : Database → Request → ℕ → List ℕ → List Bool → Type 0
 AreLooked d q leg near marks =
-    (u w : ℕ) → slice_index_or marks w false ≡ true → (l : Link) → LeadsOn d q l → MayEnter d q (leg + 1) l.to → IsEnd d l.from u → IsEnd d l.to w
+    (u w : ℕ) → slice_index_or marks w false ≡ true → (l : Link) → LeadsOn d q l → MayEnter d q (leg + 1) l.to → IsIndexOf d l.from u → IsIndexOf d l.to w
     → IsWithin (bound_at near u) (bound_at near w) l.metric
 
 -- so it is of the routers that are done
@@ -85,5 +86,5 @@ IsPassed d q base ring from at =
 -- so it is of each link that leads on to a router
 abbrev pub ArePassed : Database → Request → ℕ → Ring → ℕ → Type 0
 ArePassed d q base ring to =
-    (u : ℕ) (l : Link) → LeadsOn d q l → IsEnd d l.from u → IsEnd d l.to to
+    (u : ℕ) (l : Link) → LeadsOn d q l → IsIndexOf d l.from u → IsIndexOf d l.to to
     → IsWithin (bound_at ring.near.items u) base l.metric

@@ -9,7 +9,8 @@ use Rattle.cspf_search.specs.declared.arena.Node.{Node}
 use Rattle.cspf_search.specs.declared.forward_star.ForwardStar.{ForwardStar}
 use Rattle.cspf_search.specs.States.{State}
 use Rattle.cspf_search.specs.Arena.{state_of, index_of}
-use Rattle.cspf_search.specs.Frontier.{state_at, IsStateIndex, nowhere}
+use Rattle.cspf_search.specs.Frontier.{state_at, nowhere}
+use Rattle.cspf_graph.specs.Roles.{IsStateIndex}
 
 -- the index of a state, and the links from its router with the index of the router at the end of each
 -- and that of its reverse

@@ -1,23 +1,25 @@
 -- Private words of the search from a heap: the labels of states, and the keys that wait.
-use Rattle.std.specs.Prelude.{◌≡◌, ℕ, true, false, set, ◌+◌, ◌-◌, ◌*◌, ◌/◌, ◌%◌, ◌^◌, ◌<◌, ◌≤◌, ◌⊎◌, ◌↔◌, IsTrue, Option, Some, None, List, ◌∷◌, All, Contains, length, take, slice_get, slice_index, slice_index_or}
+use Rattle.std.specs.Prelude.{◌≡◌, ℕ, true, false, set, ◌+◌, ◌-◌, ◌*◌, ◌/◌, ◌%◌, ◌^◌, ◌<◌, ◌≤◌, ◌⊎◌, IsTrue, Option, Some, None, List, ◌∷◌, All, Contains, length, take, slice_get, slice_index, slice_index_or}
 use Rattle.std.specs.Ordering.{nat_cmp, ordering_then, is_gt}
 use Rattle.std.specs.declared.cmp.Ordering.{Ordering}
 use Rattle.std.specs.declared.cmp.Reverse.{Reverse}
 use Rattle.std.specs.BinaryHeap.{IsHeap}
-use Rattle.std.specs.List.Sorted.{IsPermutation, IsStrictlyIncreasing}
-use Rattle.cspf_model.specs.declared.limits.TheConstants.{MOST_LINKS, MOST_ROUTERS}
+use Rattle.std.specs.List.Sorted.{IsPermutation}
+use Rattle.cspf_model.specs.declared.limits.TheConstants.{MOST_ROUTERS}
 use Rattle.cspf_search.specs.declared.limits.TheConstants.{COST_WEIGHT}
 use Rattle.cspf_model.specs.declared.link.Link.{Link}
 use Rattle.cspf_model.specs.declared.request.Request.{Request}
-use Rattle.cspf_model.specs.Database.{Database, IsRouterOf}
+use Rattle.cspf_model.specs.Database.{Database}
 use Rattle.cspf_model.specs.Admissible.{MayLeave}
 use Rattle.cspf_model.specs.Walks.{cost_of}
 use Rattle.cspf_db.specs.Index.{router_list, links_of, links_from_index}
 use Rattle.cspf_search.specs.declared.arena.Node.{Node}
 use Rattle.cspf_search.specs.declared.goal.Goal.{Goal}
 use Rattle.cspf_search.specs.declared.labels.Label.{Label}
-use Rattle.cspf_search.specs.declared.roles.Role.{Role}
-use Rattle.cspf_search.specs.States.{State, MayEnter, MayTurn}
+use Rattle.cspf_graph.specs.declared.roles.Role.{Role}
+use Rattle.cspf_search.specs.States.{State}
+use Rattle.cspf_graph.specs.Roles.{IsStateIndex}
+use Rattle.cspf_graph.specs.RoleSteps.{nothing}
 use Rattle.cspf_search.specs.Settled.{Labels, IsNoLater, IsClosed, locals_cmp}
 use Rattle.cspf_search.specs.Arena.{walk_at, walks, walk_of, state_of, index_of, IsNext}
 use Rattle.cspf_search.specs.Rounds.{CrossesFrom, CrossesBelow}
@@ -26,33 +28,6 @@ use Rattle.cspf_search.specs.Rounds.{CrossesFrom, CrossesBelow}
 -- the list of routers
 abbrev pub state_at : Database → ℕ → State
 state_at d i = record { leg = i / MOST_ROUTERS + 1; router = slice_index (router_list d) (i % MOST_ROUTERS) }
-
--- The list of routers is that of the database, and rises.
-pub record AreListed (d : Database) : Type 0 where
-  pub known : (router : ℕ) → Contains (router_list d) router ↔ IsRouterOf d router
-  pub rising : IsStrictlyIncreasing (router_list d)
-  pub few : length (router_list d) ≤ MOST_ROUTERS
-  pub room : length (links_of d) ≤ MOST_LINKS
-
--- the index is that of a router in a leg of the request
-pub record IsStateIndex (d : Database) (q : Request) (i : ℕ) : Type 0 where
-  pub low : i < (length q.hops + 1) * MOST_ROUTERS
-  pub place : i % MOST_ROUTERS < length (router_list d)
-
--- whether a link may lead a route to a state, and whether it may turn to the next leg there
-pub record IsRole (d : Database) (q : Request) (t : State) (role : Role) : Type 0 where
-  pub enter : IsTrue role.enter ↔ MayEnter d q t.leg t.router
-  pub target : IsTrue role.target ↔ MayTurn d q t.leg t.router
-
--- so it is for each router in each leg
-pub record AreRoles (d : Database) (q : Request) (roles : List Role) : Type 0 where
-  pub many : length roles ≡ (length q.hops + 1) * MOST_ROUTERS
-  pub each : (i : ℕ) (e : Role) → IsStateIndex d q i
-      → IsRole d q (state_at d i) (slice_index_or roles i e)
-
--- a stand for the indexes past the end of a list
-abbrev pub nothing : Role
-nothing = record { enter = false; target = false }
 
 -- a node for the indexes past the end of a list
 abbrev pub nowhere : Node
@@ -201,11 +176,6 @@ pub record IsNodeAt (d : Database) (q : Request) (nodes : List Node) (at state :
 abbrev pub NodeMayLeave : Database → List Node → ℕ → ℕ → Type 0
 NodeMayLeave d nodes at state =
     MayLeave d (slice_index (router_list d) (state % MOST_ROUTERS)) (length (walk_at (walks nodes) at))
-
--- the router at an index of the list of routers is where a link ends
-pub record IsEnd (d : Database) (router : ℕ) (place : ℕ) : Type 0 where
-  pub within : place < length (router_list d)
-  pub is : slice_index (router_list d) place ≡ router
 
 -- a label may be offered
 pub record IsOffer (d : Database) (nodes : List Node) (label : Label) : Type 0 where

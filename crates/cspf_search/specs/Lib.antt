@@ -6,7 +6,6 @@ pub mod Bounds
 pub mod Rounds
 pub mod Frontier
 pub mod ForwardStars
-pub mod Roles
 pub mod Query
 pub mod Searched
 pub mod RoundSteps

@@ -10,8 +10,9 @@ use Rattle.cspf_search.specs.declared.arena.Node.{Node}
 use Rattle.cspf_search.specs.declared.query.Query.{Query}
 use Rattle.cspf_search.specs.States.{State}
 use Rattle.cspf_search.specs.Rounds.{CrossesBelow}
-use Rattle.cspf_search.specs.Frontier.{AreListed, AreRoles, CrossesUpTo}
-use Rattle.cspf_search.specs.Roles.{AreTargets}
+use Rattle.cspf_graph.specs.Lists.{AreListed}
+use Rattle.cspf_graph.specs.Roles.{AreRoles, AreTargets}
+use Rattle.cspf_search.specs.Frontier.{CrossesUpTo}
 
 -- The lists of the table are those of its database, for each state it is known what a route may do, and for each leg to
 -- a hop where it ends.

@@ -8,7 +8,8 @@ use Rattle.cspf_model.specs.declared.request.Request.{Request}
 use Rattle.cspf_model.specs.Database.{Database}
 use Rattle.cspf_model.specs.Walks.{cost_of, locals_of, walk_cmp}
 use Rattle.cspf_search.specs.declared.limits.TheConstants.{NO_WAY}
-use Rattle.cspf_search.specs.States.{State, LeadsOn, IsStep, Reaches, start_of, MayEnter, MayTurn}
+use Rattle.cspf_search.specs.States.{State, LeadsOn, IsStep, Reaches, start_of}
+use Rattle.cspf_graph.specs.Roles.{MayEnter, MayTurn}
 
 -- the walk that is settled at each state, if there is one
 abbrev pub Labels : Type 0

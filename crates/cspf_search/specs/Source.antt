@@ -6,7 +6,9 @@ use Rattle.cspf_search.specs.declared.edge.Edge.{Edge}
 use Rattle.cspf_search.specs.declared.frontier.Source.{Source}
 use Rattle.cspf_search.specs.declared.labels.Label.{Label}
 use Rattle.cspf_search.specs.Arena.{AreNodes}
-use Rattle.cspf_search.specs.Frontier.{AreLabels, IsEnd, IsNodeAt, IsStateIndex, HeapKey, nowhere, rank_of}
+use Rattle.cspf_search.specs.Frontier.{AreLabels, IsNodeAt, HeapKey, nowhere, rank_of}
+use Rattle.cspf_graph.specs.Lists.{IsIndexOf}
+use Rattle.cspf_graph.specs.Roles.{IsStateIndex}
 use Rattle.cspf_search.specs.Query.{IsQuery, CrossesBefore, CrossesToRow}
 
 -- the node at an index, with its state behind the closed legs and its rank
@@ -21,7 +23,7 @@ pub record IsSource (source : Source) : Type 0 where
 -- a link from the router at an index
 pub record IsEdge (d : Database) (place : ℕ) (edge : Edge) : Type 0 where
   pub row : slice_get (links_from_index d place) edge.row ≡ Some edge.link.now
-  pub end : IsEnd d edge.link.now.to edge.end
+  pub end : IsIndexOf d edge.link.now.to edge.end
   pub reverse : IsReverseAt d edge.link.now edge.reverse
 
 -- labels for what leads on from the nodes before a source

@@ -1,39 +1,20 @@
 -- Private words of the search: where a walk stands in the legs of a request, and what leads on.
-use Rattle.std.specs.Prelude.{◌≡◌, ◌⊎◌, ℕ, suc, ◌+◌, ◌≤◌, List, [], ◌∷◌, ◌++◌, length}
+use Rattle.std.specs.Prelude.{ℕ, suc, ◌+◌, ◌≤◌, List, [], ◌∷◌, ◌++◌, length}
 use Rattle.cspf_model.specs.declared.link.Link.{Link}
 use Rattle.cspf_model.specs.declared.request.Request.{Request}
-use Rattle.cspf_model.specs.Database.{Database, HasTransit}
+use Rattle.cspf_model.specs.Database.{Database}
 use Rattle.cspf_model.specs.Admissible.{IsAdmissible, MayLeave}
-use Rattle.cspf_model.specs.Targets.{IsTarget, IsInside}
+use Rattle.cspf_graph.specs.Roles.{MayBeLeft, MayEnter, MayTurn}
 
 -- where a walk stands: in a leg of the request, at a router
 pub record State : Type 0 where
   pub leg : ℕ
   pub router : ℕ
 
--- A walk may leave the router: it has transit, or the walk may begin there.
-abbrev pub MayBeLeft : Database → Request → ℕ → Type 0
-MayBeLeft d q router = HasTransit d router ⊎ (router ≡ q.from)
-
 -- an admissible link that some walk may take
 pub record LeadsOn (d : Database) (q : Request) (l : Link) : Type 0 where
   pub admissible : IsAdmissible d q l
   pub left : MayBeLeft d q l.from
-
--- A link may lead a route to the router in the leg: it is inside the leg, and the route may go on from
--- there or end there.
-pub record MayEnter (d : Database) (q : Request) (leg router : ℕ) : Type 0 where
-  pub inside : IsInside d q leg router
-  pub through : HasTransit d router ⊎ (router ≡ q.to)
-
--- A route may stand at the router: it goes on from there, begins there or ends there.
-abbrev pub MayStand : Database → Request → ℕ → Type 0
-MayStand d q router = HasTransit d router ⊎ ((router ≡ q.from) ⊎ (router ≡ q.to))
-
--- A route may turn to the next leg at the router: it is a target of the leg, and a route may stand there.
-pub record MayTurn (d : Database) (q : Request) (leg router : ℕ) : Type 0 where
-  pub target : IsTarget d q leg router
-  pub stands : MayStand d q router
 
 -- What leads on from a walk that stands at a state, to a walk and its state: where the walk may leave
 -- its router, an admissible link to a router that it may enter in the leg, and, at a target of the leg

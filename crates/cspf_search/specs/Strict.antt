@@ -5,8 +5,9 @@ use Rattle.cspf_model.specs.declared.request.Request.{Request}
 use Rattle.cspf_model.specs.Database.{Database}
 use Rattle.cspf_db.specs.Index.{router_list}
 use Rattle.cspf_model.specs.Targets.{IsLoose, IsTarget}
-use Rattle.cspf_search.specs.States.{LeadsOn, MayTurn}
-use Rattle.cspf_search.specs.Roles.{router_at}
+use Rattle.cspf_search.specs.States.{LeadsOn}
+use Rattle.cspf_graph.specs.Roles.{MayTurn}
+use Rattle.cspf_graph.specs.Lists.{router_at}
 
 -- a route in the leg to a hop, which stands at the router, may turn to the next leg neither there nor behind one link
 pub record IsApart (d : Database) (q : Request) (leg router : ℕ) : Type 0 where

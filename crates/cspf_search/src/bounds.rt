@@ -3,18 +3,18 @@
 
 ghost use Rattle.std.specs.Prelude.{◌≡◌, ◌≢◌, ◌+◌, ◌*◌, ◌<◌, ◌≤◌, ◌⊎◌, ◌↔◌, ℕ, min, true, false, IsTrue, IfOk, IfSome, OnOk, length, slice_index, slice_index_or, All, Contains};
 ghost use Rattle.cspf_search.specs.Query.{IsQuery};
-ghost use Rattle.cspf_search.specs.Frontier.{IsEnd};
-ghost use Rattle.cspf_search.specs.Roles.{AreTargetsOf};
+ghost use Rattle.cspf_graph.specs.Lists.{IsIndexOf};
+ghost use Rattle.cspf_graph.specs.Roles.{AreTargetsOf};
 ghost use Rattle.cspf_search.specs.Bounds.{ArePassed, AreReached, AreBounds, Falls, IsLegBound, IsLower, IsPassed, IsRing, IsDeadEnd, bound_at, is_done};
 ghost use Rattle.cspf_db.specs.Index.{links_of, router_list};
 ghost use Rattle.cspf_db.specs.declared.limits.TheConstants.{NO_LINK};
 
 use crate::limits::{FARTHEST, NO_WAY};
-use crate::query::{Query, may_be_left};
+use crate::query::Query;
 use crate::ring::Ring;
 use crate::strict::{first_broken, starts_of};
 use cspf_db::NO_LINK;
-use cspf_graph::accepts;
+use cspf_graph::{accepts, may_be_left};
 use cspf_model::MOST_ROUTERS;
 use std::alloc::{AllocError, Global};
 use std::cmp::Reverse;
@@ -50,7 +50,7 @@ fn pass(
     if near <= ahead || !accepts(link, query.request) {
         return Ok(());
     }
-    if !may_be_left(query, from) {
+    if !may_be_left(query.table, usize::from(from), query.request) {
         return Ok(());
     }
     ring.lower(from, ahead)
@@ -218,7 +218,7 @@ fn search_back(
     ring: &mut Ring,
 ) -> Result<(), AllocError>
     requires query { IsQuery query }
-    requires to { IsEnd query.table.now query.request.now.to to }
+    requires to { IsIndexOf query.table.now query.request.now.to to }
     requires leg { leg_index ≤ length query.request.now.hops }
     ensures ring { OnOk result (IsRing query.entry.table.now query.entry.request.now leg_index ring.new) }
     ensures targets { OnOk result
@@ -242,7 +242,7 @@ fn leg_edge(
     ring: &mut Ring,
 ) -> Result<u32, AllocError>
     requires query { IsQuery query }
-    requires to { IsEnd query.table.now query.request.now.to to }
+    requires to { IsIndexOf query.table.now query.request.now.to to }
     requires leg { leg_index ≤ length query.request.now.hops }
     ensures { IfOk result (λ edge.
         IsLegBound query.entry.table.now query.entry.request.now leg_index ring.new.near.items edge ahead.now) }
@@ -286,7 +286,7 @@ fn set_legs(
     bounds: &mut [u32],
 ) -> Result<(), AllocError>
     requires query { IsQuery query }
-    requires to { IsEnd query.table.now query.request.now.to to }
+    requires to { IsIndexOf query.table.now query.request.now.to to }
     requires bounds { AreBounds query.table.now query.request.now bounds.old }
     requires zeros { (i : ℕ) → bound_at bounds.old i ≡ 0 }
     ensures { OnOk result (AreBounds query.entry.table.now query.entry.request.now bounds.new) }
@@ -323,7 +323,7 @@ fn shut_at(bounds: &mut [u32], first: usize, places: &[u16])
 /// it. It answers whether there is one. The head-end is the router at an index.
 fn shut_broken(query: Query<'_>, from: usize, bounds: &mut [u32]) -> bool
     requires query { IsQuery query }
-    requires from { IsEnd query.table.now query.request.now.from from }
+    requires from { IsIndexOf query.table.now query.request.now.from from }
     requires many { length bounds.old ≡ (length query.request.now.hops + 1) * MOST_ROUTERS }
     requires zeros { (i : ℕ) → bound_at bounds.old i ≡ 0 }
     ensures found { result ≡ true → AreBounds query.entry.table.now query.entry.request.now bounds.new }
@@ -348,8 +348,8 @@ pub(crate) fn bounds(
     to: usize,
 ) -> Result<Vec<u32>, AllocError>
     requires query { IsQuery query }
-    requires from { IsEnd query.table.now query.request.now.from from }
-    requires to { IsEnd query.table.now query.request.now.to to }
+    requires from { IsIndexOf query.table.now query.request.now.from from }
+    requires to { IsIndexOf query.table.now query.request.now.to to }
     ensures { IfOk result (λ bounds. AreBounds query.entry.table.now query.entry.request.now bounds.items) }
 {
     let mut bounds = Vec::from_elem(alloc, 0u32, query.legs * MOST_ROUTERS)?;

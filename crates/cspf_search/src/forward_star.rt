@@ -2,7 +2,7 @@ ghost use Rattle.cspf_model.specs.declared.limits.TheConstants.{MOST_LEGS};
 ghost use Rattle.std.specs.Prelude.{◌≡◌, ◌*◌, ◌<◌, ◌≤◌};
 ghost use Rattle.cspf_model.specs.Database.{IsRouterOf};
 ghost use Rattle.cspf_search.specs.Arena.{state_of};
-ghost use Rattle.cspf_search.specs.Frontier.{AreListed};
+ghost use Rattle.cspf_graph.specs.Lists.{AreListed};
 ghost use Rattle.cspf_search.specs.ForwardStars.{IsForwardStar};
 
 use crate::arena::Node;

@@ -7,7 +7,9 @@ ghost use Rattle.std.specs.BinaryHeap.{heap_items, heap_len};
 ghost use Rattle.cspf_db.specs.Index.{links_of, links_from_index};
 ghost use Rattle.cspf_search.specs.Arena.{AreNodes, AreInLegs};
 ghost use Rattle.cspf_search.specs.Rounds.{CrossesBelow};
-ghost use Rattle.cspf_search.specs.Frontier.{AreLabels, AreListed, AreRoles, AreTied, CrossesUpTo, GoesTo, IsEnd, IsNodeAt, IsOffer, IsStateIndex, NodeMayLeave, StaysAt, label_at, nowhere, rank_of};
+ghost use Rattle.cspf_search.specs.Frontier.{AreLabels, AreTied, CrossesUpTo, GoesTo, IsNodeAt, IsOffer, NodeMayLeave, StaysAt, label_at, nowhere, rank_of};
+ghost use Rattle.cspf_graph.specs.Lists.{AreListed, IsIndexOf};
+ghost use Rattle.cspf_graph.specs.Roles.{AreRoles, IsStateIndex};
 ghost use Rattle.cspf_search.specs.Source.{AreBefore, AreUpToRow, IsEdge, IsSource};
 ghost use Rattle.cspf_search.specs.Query.{IsQuery, CrossesBefore};
 

@@ -6,6 +6,7 @@
 mod arena;
 mod bounds;
 mod edge;
+mod floor;
 mod forward_star;
 mod frontier;
 mod goal;
@@ -13,7 +14,6 @@ mod labels;
 mod limits;
 mod query;
 mod ring;
-mod roles;
 mod rounds;
 mod search;
 mod strict;

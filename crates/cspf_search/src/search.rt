@@ -4,16 +4,15 @@
 ghost use Rattle.cspf_search.specs.Bounds.{bound_at};
 ghost use Rattle.cspf_model.specs.declared.limits.TheConstants.{MOST_ROUTE_LINKS};
 ghost use Rattle.cspf_search.specs.declared.limits.TheConstants.{NO_WAY};
-ghost use Rattle.std.specs.Prelude.{◌≡◌, ◌+◌, ◌*◌, ◌<◌, ◌≤◌, ◌⊎◌, ℕ, None, List, ◌∷◌, [], IfOk, IfSome, IfNone, OnOk, length, nat_eq, true};
-ghost use Rattle.std.specs.List.{AllByRecursion, IsDistinct};
+ghost use Rattle.std.specs.Prelude.{◌≡◌, ◌+◌, ◌*◌, ◌<◌, ◌≤◌, ◌⊎◌, None, ◌∷◌, [], IfOk, IfSome, IfNone, OnOk, length, true};
 ghost use Rattle.cspf_model.specs.declared.link.Link.{Link as Linked};
 ghost use Rattle.cspf_model.specs.Best.{HasEnds, IsBestAnswer};
-ghost use Rattle.cspf_model.specs.Database.{AreLinksOf, IsRouterOf};
+ghost use Rattle.cspf_model.specs.Database.{IsRouterOf};
 ghost use Rattle.cspf_model.specs.Outcome.{answer_of};
 ghost use Rattle.cspf_search.specs.States.{end_state};
 ghost use Rattle.cspf_search.specs.Arena.{AreNodes, labels_of, root_of, walk_at, walks};
-ghost use Rattle.cspf_db.specs.Index.{links_of};
-ghost use Rattle.cspf_search.specs.Frontier.{AreListed, IsEnd, IsOpenOf, IsRaised, heap_key_cmp};
+ghost use Rattle.cspf_graph.specs.Lists.{IsIndexOf};
+ghost use Rattle.cspf_search.specs.Frontier.{IsOpenOf, IsRaised, heap_key_cmp};
 ghost use Rattle.std.specs.BinaryHeap.{IsHeap, heap_items, heap_len};
 ghost use Rattle.cspf_search.specs.Query.{IsQuery, CrossesBefore};
 ghost use Rattle.cspf_model.specs.RouteLinks.{AreLinked};
@@ -23,16 +22,17 @@ ghost use Rattle.cspf_search.specs.Searched.{IsSearched};
 
 use crate::arena::{Node, index_of, links_to};
 use crate::bounds::bounds;
+use crate::floor::raised;
 use crate::forward_star::star_of;
 use crate::frontier::expand;
 use crate::goal::Goal;
 use crate::labels::{Label, OPEN, SETTLED, Waiting, drop_closed, least, node_of};
 use crate::limits::{NO_WAY, ROOM_FOR_NODES, ROOM_FOR_WAITING};
 use crate::query::Query;
-use crate::roles::{find_roles, raised};
 use crate::rounds::{Round, first};
 use cspf_db::Table;
-use cspf_model::{MOST_ROUTERS, Outcome, Request, Route, counted_routers};
+use cspf_graph::{find_roles, listed};
+use cspf_model::{MOST_ROUTERS, Outcome, Request, Route};
 use std::alloc::{AllocError, Global};
 use std::collections::BinaryHeap;
 
@@ -107,20 +107,6 @@ fn route_to(alloc: Global, nodes: &[Node], at: usize) -> Result<Route, AllocErro
     Ok(Route::new(links, nodes[at].cost))
 }
 
-/// What the table's lists of routers and links are to its database.
-fn listed(table: &Table)
-    ensures listed { AreListed table.now }
-    ensures links { AreLinksOf table.now (links_of table.now) }
-    ensures known { (router place : ℕ) → IsEnd table.now router place
-        → IsRouterOf table.now router }
-    ensures few { (routers : List ℕ) → IsDistinct nat_eq routers
-        → AllByRecursion (IsRouterOf table.now) routers → length routers ≤ MOST_ROUTERS }
-{
-    counted_routers();
-    let _links = table.links();
-    let _routers = table.routers();
-}
-
 /// Whether the bounds say that there is no way from the state at an index.
 fn is_shut(goal: Goal<'_>, at: usize) -> bool
     requires { at < length goal.bounds.now }
@@ -158,8 +144,8 @@ fn close(
 /// head-end and the tail-end are told by their index in the list of routers.
 fn reached(alloc: Global, query: Query<'_>, from: usize, to: usize) -> Result<Vec<Node>, AllocError>
     requires query { IsQuery query }
-    requires from { IsEnd query.table.now query.request.now.from from }
-    requires to { IsEnd query.table.now query.request.now.to to }
+    requires from { IsIndexOf query.table.now query.request.now.from from }
+    requires to { IsIndexOf query.table.now query.request.now.to to }
     ensures { IfOk result (λ nodes. IsSearched query.entry.table.now query.entry.request.now nodes.items) }
 {
     let bounds = bounds(alloc, query, from, to)?;

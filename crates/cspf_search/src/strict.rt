@@ -1,13 +1,13 @@
 ghost use Rattle.std.specs.Prelude.{◌≡◌, ◌<◌, true, false, IfSome, length};
 ghost use Rattle.cspf_db.specs.Index.{router_list};
 ghost use Rattle.cspf_search.specs.Query.{IsQuery};
-ghost use Rattle.cspf_search.specs.Roles.{AreTargetsOf, router_at};
+ghost use Rattle.cspf_graph.specs.Roles.{AreTargetsOf};
+ghost use Rattle.cspf_graph.specs.Lists.{router_at};
 ghost use Rattle.cspf_search.specs.Strict.{IsApart, IsBroken};
 
-use crate::query::{Query, may_be_left};
-use crate::roles::is_loose;
+use crate::query::Query;
+use cspf_graph::{admissible, is_loose, may_be_left};
 use cspf_model::MOST_ROUTERS;
-use cspf_graph::admissible;
 
 /// Whether a route that stands at the router at an index may turn to the leg behind that to a hop, there
 /// or behind one link.
@@ -23,7 +23,7 @@ fn joins(query: Query<'_>, leg_index: usize, place: u16) -> bool
     if query.roles[first + at].target {
         return true;
     }
-    if !may_be_left(query, place) {
+    if !may_be_left(query.table, at, query.request) {
         return false;
     }
     let links = query.table.out_at(at);

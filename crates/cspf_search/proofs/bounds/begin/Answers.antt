@@ -1,10 +1,10 @@
 use Rattle.std.proofs.Common.{◌≡◌, ℕ, ◌+◌, ◌*◌, ◌<◌, ◌≤◌, inl, inr, IsTrue, List, set, length, slice_index_or, ap, arith}
 use Rattle.std.proofs.lemmas.List.{take_all, get_or-set_same, get_or-set_other}
 use Rattle.cspf_search.specs.Bounds.{bound_at}
-use Rattle.cspf_search.specs.Frontier.{nothing}
+use Rattle.cspf_graph.specs.RoleSteps.{nothing}
 use Rattle.cspf_search.proofs.LegBounds.{told_target}
-use Rattle.cspf_search.proofs.Ranks.{same_or_not}
-use Rattle.cspf_search.proofs.RoleLists.{read_targets, taken_more}
+use Rattle.cspf_graph.proofs.RouterIndexes.{same_or_not}
+use Rattle.cspf_search.proofs.LegTargets.{read_targets, taken_more}
 use Rattle.cspf_search.proofs.bounds.begin.Goals as goal
 use Rattle.cspf_search.proofs.bounds.begin.Goals.{then-query-first+in_ok-begin_at, else-query-first}
 

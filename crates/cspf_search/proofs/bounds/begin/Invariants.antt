@@ -1,6 +1,6 @@
 use Rattle.std.proofs.Common.{◌≡◌, ◌≤◌, ℕ, ◌+◌, Contains, take, IsTrue, false, slice_index_or}
 use Rattle.cspf_search.specs.Bounds.{bound_at, is_done}
-use Rattle.cspf_search.specs.Frontier.{nothing}
+use Rattle.cspf_graph.specs.RoleSteps.{nothing}
 use Rattle.cspf_search.proofs.bounds.begin.Given as goal
 
 abbrev pub invariant-loop-place : goal.invariant-loop-place

@@ -1,6 +1,6 @@
 use Rattle.std.proofs.Common.{◌≡◌, ◌+◌, ◌*◌, ◌∙◌, length, replicate, arith}
 use Rattle.cspf_search.proofs.LegBounds.{zero_bounds, zeros_at}
-use Rattle.cspf_search.proofs.Slices.{written_back}
+use Rattle.cspf_graph.proofs.Slices.{written_back}
 use Rattle.cspf_search.proofs.bounds.bounds.Goals as goal
 
 pub shut_broken-requires-clause-many : goal.shut_broken-requires-clause-many

@@ -2,9 +2,9 @@ use Rattle.std.proofs.Common.{ℕ, ◌+◌, ◌*◌, ◌<◌, ◌≤◌, IsTrue,
 use Rattle.std.proofs.lemmas.List.{take_all}
 use Rattle.cspf_search.specs.declared.limits.TheConstants.{NO_WAY}
 use Rattle.cspf_search.specs.Bounds.{bound_at}
-use Rattle.cspf_search.specs.Frontier.{nothing}
+use Rattle.cspf_graph.specs.RoleSteps.{nothing}
 use Rattle.cspf_search.proofs.LegBounds.{told_target}
-use Rattle.cspf_search.proofs.RoleLists.{read_targets, taken_more}
+use Rattle.cspf_search.proofs.LegTargets.{read_targets, taken_more}
 use Rattle.cspf_search.proofs.bounds.is_dead_end.Goals as goal
 use Rattle.cspf_search.proofs.bounds.is_dead_end.Goals.{else-query-first-via-then-query-first+else-bound_ahead-lt-NO_WAY, else-query-first-via-else-query-first}
 

@@ -4,7 +4,7 @@ use Rattle.cspf_db.specs.Index.{router_list}
 use Rattle.cspf_model.specs.Targets.{IsTarget}
 use Rattle.cspf_search.specs.Bounds.{bound_at}
 use Rattle.cspf_search.proofs.Cuts.{last_target}
-use Rattle.cspf_search.proofs.Ranks.{one_place}
+use Rattle.cspf_graph.proofs.RouterIndexes.{one_place}
 use Rattle.cspf_search.proofs.bounds.search_back.Goals as goal
 
 -- the last leg has one target

@@ -3,8 +3,8 @@ use Rattle.std.proofs.lemmas.List.{take_more, get_or-set_same, get_or-set_other}
 use Rattle.std.proofs.lemmas.List.Elements.{Contains-push, Contains-append_left}
 use Rattle.cspf_search.specs.Bounds.{bound_at}
 use Rattle.cspf_search.specs.declared.limits.TheConstants.{NO_WAY}
-use Rattle.cspf_search.proofs.Ranks.{same_or_not}
-use Rattle.cspf_search.proofs.RoleLists.{taken_more}
+use Rattle.cspf_graph.proofs.RouterIndexes.{same_or_not}
+use Rattle.cspf_search.proofs.LegTargets.{taken_more}
 use Rattle.cspf_search.proofs.bounds.shut_at.Goals as goal
 
 pub loop-place-preserved : goal.loop-place-preserved

@@ -1,6 +1,6 @@
 use Rattle.std.proofs.Common.{◌∙◌, inl, inr, arith}
 use Rattle.cspf_search.proofs.Broken.{broken_bounds}
-use Rattle.cspf_search.proofs.RoleLists.{head_alone}
+use Rattle.cspf_graph.proofs.RoleLists.{head_alone}
 use Rattle.cspf_search.proofs.bounds.shut_broken.Goals as goal
 
 pub first_broken-requires-clause-head : goal.first_broken-requires-clause-head

@@ -3,9 +3,10 @@ use Rattle.std.proofs.lemmas.List.{get_or_read}
 use Rattle.cspf_model.specs.declared.link.Link.{Link}
 use Rattle.cspf_model.specs.declared.request.Request.{Request}
 use Rattle.cspf_model.specs.Database.{Database}
-use Rattle.cspf_search.specs.declared.roles.Role.{Role}
-use Rattle.cspf_search.specs.States.{MayEnter}
-use Rattle.cspf_search.specs.Frontier.{AreListed, AreRoles, IsEnd, IsStateIndex, nothing}
+use Rattle.cspf_graph.specs.declared.roles.Role.{Role}
+use Rattle.cspf_graph.specs.Roles.{MayEnter, AreRoles, IsStateIndex}
+use Rattle.cspf_graph.specs.Lists.{AreListed, IsIndexOf}
+use Rattle.cspf_graph.specs.RoleSteps.{nothing}
 use Rattle.cspf_search.specs.Bounds.{bound_at}
 use Rattle.cspf_search.proofs.LegBounds.{fallen_ring, one_router_more, one_shut}
 use Rattle.cspf_search.proofs.bounds.take.Goals as goal
@@ -23,7 +24,7 @@ returns-else-index-base-clause-ring c =
 
 -- where the role says so no link may lead a route there
 shut : (d : Database) (q : Request) (roles : List Role) (leg to : ℕ) → AreListed d → AreRoles d q roles → leg ≤ length q.hops → (e : Role) → (slice_index_or roles (leg * 1024 + to) e).enter ≡ false
-    → (l : Link) → MayEnter d q (leg + 1) l.to → IsEnd d l.to to → ⊥
+    → (l : Link) → MayEnter d q (leg + 1) l.to → IsIndexOf d l.to to → ⊥
 shut d q roles leg to listed are within e role l enters end =
     let few : to < 1024 = omega (arith, end.within, listed.few) in
     let at_leg : (leg * 1024 + to) / 1024 ≡ leg = omega (arith, few) in

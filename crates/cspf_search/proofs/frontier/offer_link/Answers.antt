@@ -5,7 +5,7 @@ use Rattle.std.proofs.lemmas.Result.{on_ok_weaker}
 use Rattle.cspf_model.specs.Admissible.{IsUsable}
 use Rattle.cspf_db.specs.Index.{links_from_index}
 use Rattle.cspf_search.specs.declared.labels.Label.{Label}
-use Rattle.cspf_search.specs.declared.roles.Role.{Role}
+use Rattle.cspf_graph.specs.declared.roles.Role.{Role}
 use Rattle.cspf_search.specs.Frontier.{nowhere, rank_of, label_at}
 use Rattle.cspf_search.proofs.Expanded.{link_index}
 use Rattle.cspf_search.proofs.Heaps.{rank_read}

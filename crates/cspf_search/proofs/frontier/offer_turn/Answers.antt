@@ -2,7 +2,7 @@ use Rattle.std.proofs.Common.{◌+◌, ◌/◌, ◌%◌, ◌<◌, ◌≤◌, inl
 use Rattle.std.proofs.lemmas.Bool.{false≢true, not-true, not-false}
 use Rattle.std.proofs.lemmas.Result.{on_ok_weaker}
 use Rattle.cspf_search.specs.declared.labels.Label.{Label}
-use Rattle.cspf_search.specs.declared.roles.Role.{Role}
+use Rattle.cspf_graph.specs.declared.roles.Role.{Role}
 use Rattle.cspf_search.specs.Frontier.{label_at}
 use Rattle.cspf_search.proofs.Expanded.{turn_index}
 use Rattle.cspf_search.proofs.Heaps.{rank_read}

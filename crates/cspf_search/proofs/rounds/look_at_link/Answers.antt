@@ -3,7 +3,7 @@ use Rattle.std.proofs.lemmas.Bool.{false≢true, not-true, not-false}
 use Rattle.std.proofs.lemmas.List.{get_or_read}
 use Rattle.std.proofs.lemmas.Option.{slice_get_read}
 use Rattle.cspf_search.specs.declared.arena.Node.{Node}
-use Rattle.cspf_search.specs.declared.roles.Role.{Role}
+use Rattle.cspf_graph.specs.declared.roles.Role.{Role}
 use Rattle.cspf_search.specs.Arena.{IsNext}
 use Rattle.cspf_search.specs.Frontier.{nowhere}
 use Rattle.cspf_search.proofs.Expanded.{link_index}

@@ -1,7 +1,7 @@
 use Rattle.std.proofs.Common.{◌+◌, ◌/◌, ◌<◌, false, length, sym, ◌∙◌, arith}
 use Rattle.std.proofs.lemmas.Bool.{false≢true, not-true, not-false}
 use Rattle.std.proofs.lemmas.List.{get_or_read}
-use Rattle.cspf_search.specs.declared.roles.Role.{Role}
+use Rattle.cspf_graph.specs.declared.roles.Role.{Role}
 use Rattle.cspf_search.specs.Frontier.{nowhere}
 use Rattle.cspf_search.proofs.Expanded.{turn_index}
 use Rattle.cspf_search.proofs.Looked.{no_turn, turn_settled, turn_kept}

@@ -12,7 +12,7 @@ use Rattle.cspf_search.proofs.Grown.{root_nodes, root_settled}
 use Rattle.cspf_search.proofs.Heaps.{labels_open}
 use Rattle.cspf_search.proofs.Popped.{first_labels}
 use Rattle.cspf_search.proofs.Reached.{IsAsked, taken, ended, no_start, first_floor, first_left, stepped, stepped_few, node_there, at_goal, settle, still_left, floor_on, labels_on}
-use Rattle.cspf_search.proofs.Slices.{written_back}
+use Rattle.cspf_graph.proofs.Slices.{written_back}
 use Rattle.cspf_search.proofs.search.reached.Goals as goal
 
 pub expand-requires-clause-before : goal.expand-requires-clause-before

@@ -1,9 +1,9 @@
 use Rattle.std.proofs.Common.{slice_index, refl}
 use Rattle.std.proofs.lemmas.Bool.{false≢true}
 use Rattle.std.proofs.lemmas.List.{take_all}
-use Rattle.cspf_search.specs.Roles.{router_at}
+use Rattle.cspf_graph.specs.Lists.{router_at}
 use Rattle.cspf_search.specs.Strict.{IsApart}
-use Rattle.cspf_search.proofs.RoleLists.{taken_more}
+use Rattle.cspf_search.proofs.LegTargets.{taken_more}
 use Rattle.cspf_search.proofs.strict.is_broken.Goals as goal
 
 pub loop-place-preserved : goal.loop-place-preserved

@@ -1,5 +1,5 @@
 use Rattle.std.proofs.Common.{ℕ, Contains, take}
-use Rattle.cspf_search.specs.Roles.{router_at}
+use Rattle.cspf_graph.specs.Lists.{router_at}
 use Rattle.cspf_search.specs.Strict.{IsApart}
 use Rattle.cspf_search.proofs.strict.is_broken.Given as goal
 

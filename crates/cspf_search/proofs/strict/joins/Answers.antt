@@ -3,8 +3,8 @@ use Rattle.std.proofs.lemmas.Bool.{cases_lt, false≢true}
 use Rattle.std.proofs.lemmas.List.{get_or_default}
 use Rattle.cspf_model.specs.Admissible.{IsUsable}
 use Rattle.cspf_db.specs.Index.{links_from_index}
-use Rattle.cspf_search.specs.Frontier.{nothing}
-use Rattle.cspf_search.specs.States.{MayTurn}
+use Rattle.cspf_graph.specs.RoleSteps.{nothing}
+use Rattle.cspf_graph.specs.Roles.{MayTurn}
 use Rattle.cspf_search.proofs.Expanded.{kept_from}
 use Rattle.cspf_search.proofs.LegBounds.{told_target}
 use Rattle.cspf_search.proofs.Taken.{end_of_row}

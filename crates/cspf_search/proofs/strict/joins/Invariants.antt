@@ -1,7 +1,7 @@
 use Rattle.std.proofs.Common.{ℕ, ◌+◌, ◌<◌, IsTrue, slice_index, slice_index_or}
 use Rattle.cspf_model.specs.declared.link.Link.{Link}
 use Rattle.cspf_model.specs.Admissible.{IsUsable}
-use Rattle.cspf_search.specs.Frontier.{nothing}
+use Rattle.cspf_graph.specs.RoleSteps.{nothing}
 use Rattle.cspf_search.proofs.strict.joins.Given as goal
 
 abbrev pub invariant-loop-row : goal.invariant-loop-row

@@ -1,6 +1,6 @@
 use Rattle.std.proofs.Common.{◌≡◌, ◌+◌, ◌-◌, subst, arith}
-use Rattle.cspf_search.specs.Roles.{AreTargetsOf}
-use Rattle.cspf_search.proofs.RoleLists.{read_targets}
+use Rattle.cspf_graph.specs.Roles.{AreTargetsOf}
+use Rattle.cspf_search.proofs.LegTargets.{read_targets}
 use Rattle.cspf_search.proofs.strict.starts_of.Goals as goal
 
 pub returns-else-leg_index-eq0 : goal.returns-else-leg_index-eq0

@@ -1,7 +1,7 @@
 use Rattle.std.proofs.Common.{◌≡◌, ◌+◌, ◌∷◌, ◌++◌, [], take, sym, ap, ◌∙◌}
 use Rattle.std.proofs.lemmas.List.{take_more, take_all}
-use Rattle.cspf_search.proofs.RoleLists.{one_marked}
-use Rattle.cspf_search.proofs.roles.mark.Goals as goal
+use Rattle.cspf_graph.proofs.RoleLists.{one_marked}
+use Rattle.cspf_graph.proofs.roles.mark.Goals as goal
 
 pub loop-place-preserved : goal.loop-place-preserved
 loop-place-preserved c =

@@ -1,6 +1,6 @@
 use Rattle.std.proofs.Common.{◌*◌, length, ap, refl}
-use Rattle.cspf_search.proofs.RoleLists.{roles_on}
-use Rattle.cspf_search.proofs.roles.set_roles.Goals as goal
+use Rattle.cspf_graph.proofs.RoleLists.{roles_on}
+use Rattle.cspf_graph.proofs.roles.set_roles.Goals as goal
 
 pub returns : goal.returns
 returns c =

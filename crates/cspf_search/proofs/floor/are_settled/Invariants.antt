@@ -1,6 +1,7 @@
 use Rattle.std.proofs.Common.{◌≡◌, ℕ, ◌+◌, Contains, take, IsTrue, slice_index_or}
-use Rattle.cspf_search.specs.Frontier.{label_at, nothing}
-use Rattle.cspf_search.proofs.roles.are_settled.Given as goal
+use Rattle.cspf_search.specs.Frontier.{label_at}
+use Rattle.cspf_graph.specs.RoleSteps.{nothing}
+use Rattle.cspf_search.proofs.floor.are_settled.Given as goal
 
 abbrev pub invariant-loop-place : goal.invariant-loop-place
 invariant-loop-place l =

@@ -1,19 +1,19 @@
 -- What a route may do in the leg to a hop, by the targets before it and its own.
-use Rattle.std.proofs.Common.{◌≡◌, ◌≢◌, ◌⊎◌, ◌↔◌, inl, inr, ℕ, zero, suc, ◌+◌, ◌*◌, ◌/◌, ◌%◌, ◌<◌, ◌≤◌, ◌&&◌, ◌++◌, ◌∷◌, [], true, false, Bool, IsTrue, List, Contains, nat_eq, set, length-set, take, Vec, Global, length, slice_get, slice_index_or, refl, sym, ap, subst, ◌∙◌, arith}
+use Rattle.std.proofs.Common.{◌≡◌, ◌≢◌, ◌⊎◌, ◌↔◌, inl, inr, ℕ, zero, suc, ◌+◌, ◌*◌, ◌/◌, ◌%◌, ◌<◌, ◌≤◌, ◌&&◌, ◌++◌, ◌∷◌, [], true, false, Bool, IsTrue, List, Contains, nat_eq, set, length-set, length, slice_get, slice_index_or, refl, sym, ap, subst, ◌∙◌, arith}
 use Rattle.std.proofs.lemmas.Bool.{false≢true, cases_lt, eqb-true, eq-eqb}
-use Rattle.std.proofs.lemmas.List.{take_more, get_or_default, get_or-set_same, get_or-set_other}
+use Rattle.std.proofs.lemmas.List.{get_or_default, get_or-set_same, get_or-set_other}
 use Rattle.std.proofs.lemmas.List.Elements.{Contains-push_cases, Contains-push, Contains-append_left}
 use Rattle.cspf_model.specs.declared.request.Request.{Request}
 use Rattle.cspf_model.specs.Database.{Database, HasTransit}
 use Rattle.cspf_db.specs.Index.{router_list}
 use Rattle.cspf_model.specs.Targets.{IsInside, IsLoose, IsTarget}
-use Rattle.cspf_search.specs.declared.roles.Role.{Role}
-use Rattle.cspf_search.specs.declared.roles.RoleRows.{RoleRows}
-use Rattle.cspf_search.specs.States.{MayTurn}
-use Rattle.cspf_search.specs.Frontier.{AreListed, AreRoles, IsEnd, IsRole, IsStateIndex, nothing}
-use Rattle.cspf_search.specs.Roles.{AreRolesUpTo, AreRoleRows, AreTargets, AreTargetsOf, AreRolesMarked, IsSpread, StayElsewhere, role_at, router_at}
+use Rattle.cspf_graph.specs.declared.roles.Role.{Role}
+use Rattle.cspf_graph.specs.declared.roles.RoleRows.{RoleRows}
+use Rattle.cspf_graph.specs.Roles.{IsRole, IsStateIndex, AreTargetsOf}
+use Rattle.cspf_graph.specs.Lists.{AreListed, IsIndexOf, router_at}
+use Rattle.cspf_graph.specs.RoleSteps.{nothing, AreRolesUpTo, AreRoleRows, AreRolesMarked, IsSpread, StayElsewhere, role_at}
 use Rattle.std.proofs.lemmas.Option.{slice_get_past}
-use Rattle.cspf_search.proofs.Ranks.{one_place, same_or_not}
+use Rattle.cspf_graph.proofs.RouterIndexes.{one_place, same_or_not}
 
 -- what holds where it did, and besides at the first of some indexes at which more does, holds so with one index more
 pub with_index : (Old More Now Next : ℕ → Type 0) (n : ℕ) (front : List ℕ) (place : ℕ)
@@ -83,7 +83,7 @@ and_is true b = (λ on. (refl, on), λ both. both.1)
 and_is false b = (λ on. absurd (false≢true on), λ both. absurd (false≢true both.0))
 
 -- a leg to a hop, where the roles behind the last hop are known
-module _ (d : Database) (q : Request) (listed : AreListed d) (leg from : ℕ) (within : leg < length q.hops) (start : IsEnd d q.from from) (rows : RoleRows) (first : rows.first ≡ leg * 1024)
+module _ (d : Database) (q : Request) (listed : AreListed d) (leg from : ℕ) (within : leg < length q.hops) (start : IsIndexOf d q.from from) (rows : RoleRows) (first : rows.first ≡ leg * 1024)
     (last : rows.last ≡ length q.hops * 1024) (count : rows.count ≡ length (router_list d)) (before own : List ℕ) (are_before : AreTargetsOf d q leg before) (are_own : AreTargetsOf d q (leg + 1) own)
     (loose : Bool) (is_loose : IsTrue loose ↔ IsLoose (slice_get q.hops leg)) (old spread some new : List Role) (known : AreRolesUpTo d q leg old) (spreads : IsSpread rows loose old spread)
     (many : length old ≡ (length q.hops + 1) * 1024) (marks : AreRolesMarked rows before false from spread some) (marks_own : AreRolesMarked rows own true from some new) where
@@ -105,7 +105,7 @@ module _ (d : Database) (q : Request) (listed : AreListed d) (leg from : ℕ) (w
 
   -- what may be entered behind the last hop
   module _ (p : ℕ) (low : p < length (router_list d)) where
-    at_last : IsRole d q (record { leg = length q.hops + 1; router = router_at d p }) (role_at old (rows.last + p))
+    at_last : IsRole d q (length q.hops + 1) (router_at d p) (role_at old (rows.last + p))
     at_last =
         let few : p < 1024 = omega (arith, low, listed.few) in
         let leg_is : (rows.last + p) / 1024 ≡ length q.hops = omega (arith, last, few) in
@@ -161,7 +161,7 @@ module _ (d : Database) (q : Request) (listed : AreListed d) (leg from : ℕ) (w
           λ so. own_is.1 (inr (so.0, (refl, so.1))),
         )
 
-    pub leg_role : IsRole d q (record { leg = leg + 1; router = router_at d p }) (role_at new (rows.first + p))
+    pub leg_role : IsRole d q (leg + 1) (router_at d p) (role_at new (rows.first + p))
     leg_role = record {
       enter = (
         λ on. elim (entered.0 on) [
@@ -211,7 +211,7 @@ module _ (d : Database) (q : Request) (listed : AreListed d) (leg from : ℕ) (w
         | inl here ↦
             let at : rows.first + i % 1024 ≡ i = omega (arith, first, here) in
             let made = leg_role (i % 1024) ix.place in
-            rw any (rw here (subst (λ k. IsRole d q (record { leg = leg + 1; router = router_at d (i % 1024) }) (role_at new k)) at made))
+            rw any (rw here (subst (λ k. IsRole d q (leg + 1) (router_at d (i % 1024)) (role_at new k)) at made))
         | inr ne ↦
             let was = known i nothing ix (elim up [ inl is_last ↦ inl is_last | inr lt ↦ let less : i / 1024 < leg = omega (arith, lt, ne) in inr less ]) in
             rw (any, away ne) was
@@ -226,7 +226,7 @@ none_there : (p : ℕ) → Contains [] p → ⊥
 none_there p (k, low, is) = omega (arith, low)
 
 -- the head-end is all that the leg before the first hop has
-pub head_alone : (d : Database) (q : Request) (listed : AreListed d) (from : ℕ) → IsEnd d q.from from → AreTargetsOf d q 0 (from ∷ [])
+pub head_alone : (d : Database) (q : Request) (listed : AreListed d) (from : ℕ) → IsIndexOf d q.from from → AreTargetsOf d q 0 (from ∷ [])
 head_alone d q listed from start = record {
   within = λ k x low. rw (one_item from k x low) start.within;
   each = λ p low. (
@@ -234,20 +234,3 @@ head_alone d q listed from start = record {
     λ is. subst (Contains (from ∷ [])) (sym (one_place d listed q.from p from (record { within = low; is = is }) start)) (Contains-push [] from),
   );
 }
-
--- a list that was read is that of its leg
-pub read_targets : (d : Database) (q : Request) (targets : List (Vec ℕ Global)) (leg : ℕ) (read : Vec ℕ Global) (places : List ℕ) → AreTargets d q targets → leg < length q.hops
-    → places ≡ (slice_index_or targets leg read).items → AreTargetsOf d q (leg + 1) places
-read_targets d q targets leg read places are within is = rw is (are.each leg read within)
-
--- the role of a router where a route may turn
-pub role_turns : (d : Database) (q : Request) (roles : List Role) → AreRoles d q roles → (i : ℕ) → IsStateIndex d q i → IsTrue (slice_index_or roles i nothing).target
-    → MayTurn d q (i / 1024 + 1) (router_at d (i % 1024))
-role_turns d q roles are i ix on = (are.each i nothing ix).target.0 on
-
--- what holds at the first of some indexes holds with one more
-pub taken_more : (P : ℕ → Type 0) (places : List ℕ) (k place : ℕ) → k < length places → place ≡ slice_index_or places k 0 → ((p : ℕ) → Contains (take k places) p → P p) → P place
-    → (p : ℕ) → Contains (take (k + 1) places) p → P p
-taken_more P places k place within read before here p has =
-    let more : take (k + 1) places ≡ take k places ++ place ∷ [] = take_more places k 0 within ∙ ap (λ x. take k places ++ x ∷ []) (sym read) in
-    elim (Contains-push_cases (take k places) place p (rw more at has)) [ inl front ↦ before p front | inr is ↦ subst P is here ]

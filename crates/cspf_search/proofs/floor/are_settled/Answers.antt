@@ -1,8 +1,10 @@
 use Rattle.std.proofs.Common.{◌≡◌, ◌+◌, ◌-◌, ◌/◌, ◌%◌, ◌<◌, IsTrue, length, slice_index_or, subst, arith}
 use Rattle.std.proofs.lemmas.List.{take_all}
-use Rattle.cspf_search.specs.Frontier.{IsStateIndex, label_at, nothing}
-use Rattle.cspf_search.proofs.RoleLists.{read_targets, role_turns}
-use Rattle.cspf_search.proofs.roles.are_settled.Goals as goal
+use Rattle.cspf_graph.specs.Roles.{IsStateIndex}
+use Rattle.cspf_search.specs.Frontier.{label_at}
+use Rattle.cspf_graph.specs.RoleSteps.{nothing}
+use Rattle.cspf_search.proofs.LegTargets.{read_targets, role_turns}
+use Rattle.cspf_search.proofs.floor.are_settled.Goals as goal
 
 pub returns : goal.returns
 returns c _ i place same target =

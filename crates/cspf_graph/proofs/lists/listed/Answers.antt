@@ -1,7 +1,7 @@
 use Rattle.std.proofs.Common.{arith}
 use Rattle.std.proofs.lemmas.List.Elements.{Contains-get_or}
 use Rattle.cspf_db.specs.Index.{router_list}
-use Rattle.cspf_search.proofs.search.listed.Goals as goal
+use Rattle.cspf_graph.proofs.lists.listed.Goals as goal
 
 pub returns-clause-listed : goal.returns-clause-listed
 returns-clause-listed c =

@@ -1,23 +1,22 @@
-ghost use Rattle.std.specs.Prelude.{◌≡◌, ◌≢◌, true, ◌+◌, ◌*◌, ◌<◌, ◌↔◌, ◌⊎◌, All, IsTrue, IfOk, length, slice_get, slice_index};
+ghost use Rattle.std.specs.Prelude.{◌≡◌, ◌≢◌, true, ◌+◌, ◌*◌, ◌<◌, ◌↔◌, ◌⊎◌, All, IsTrue, IfOk, length, slice_get};
 ghost use Rattle.cspf_db.specs.Index.{router_list};
 ghost use Rattle.cspf_model.specs.Targets.{IsLoose};
-ghost use Rattle.cspf_search.specs.Frontier.{AreListed, AreTargetsSettled, IsEnd, IsRaised, IsRole, AreRoles};
-ghost use Rattle.cspf_search.specs.Query.{IsQuery};
-ghost use Rattle.cspf_search.specs.Roles.{AreRolesUpTo, AreRoleRows, AreTargets, AreTargetsOf, AreRolesMarked, IsSpread};
+ghost use Rattle.cspf_graph.specs.Lists.{AreListed, IsIndexOf, router_at};
+ghost use Rattle.cspf_graph.specs.Roles.{AreRoles, AreTargets, AreTargetsOf, IsRole};
+ghost use Rattle.cspf_graph.specs.RoleSteps.{AreRoleRows, AreRolesMarked, AreRolesUpTo, IsSpread};
 
-use crate::labels::Label;
-use crate::query::Query;
+use crate::lists::listed;
 use cspf_db::Table;
 use cspf_model::{MOST_ROUTERS, Request};
 use std::alloc::{AllocError, Global};
 
 /// What a route may do at a router in a leg.
 #[derive(Clone, Copy, Debug)]
-pub(crate) struct Role {
+pub struct Role {
     /// Whether a link may lead it there.
-    pub(crate) enter: bool,
+    pub enter: bool,
     /// Whether the router is a target of the leg that a route may stand at.
-    pub(crate) target: bool,
+    pub target: bool,
 }
 
 /// Where a route may neither come by a link nor turn to the next leg.
@@ -30,10 +29,8 @@ const NOTHING: Role = Role {
 /// and the tail-end is its one target.
 fn last_role(table: &Table, request: &Request, place: usize) -> Role
     requires { place < length (router_list table.now) }
-    ensures { IsRole table.now request.now (record {
-      leg = length request.now.hops + 1;
-      router = slice_index (router_list table.now) place;
-    }) result }
+    ensures { IsRole table.now request.now (length request.now.hops + 1)
+        (router_at table.now place) result }
 {
     let last = table.routers()[place] == request.to;
     Role {
@@ -45,11 +42,9 @@ fn last_role(table: &Table, request: &Request, place: usize) -> Role
 /// The same where the router isn't the tail-end.
 fn passed_role(table: &Table, request: &Request, place: usize) -> Role
     requires { place < length (router_list table.now) }
-    ensures { slice_index (router_list table.now) place ≢ request.now.to
-        → IsRole table.now request.now (record {
-          leg = length request.now.hops + 1;
-          router = slice_index (router_list table.now) place;
-        }) result }
+    ensures { router_at table.now place ≢ request.now.to
+        → IsRole table.now request.now (length request.now.hops + 1)
+        (router_at table.now place) result }
 {
     Role {
         enter: table.transit_at(place),
@@ -61,7 +56,7 @@ fn passed_role(table: &Table, request: &Request, place: usize) -> Role
 /// router at an index.
 fn set_last_roles(table: &Table, request: &Request, to: usize, roles: &mut [Role])
     requires listed { AreListed table.now }
-    requires to { IsEnd table.now request.now.to to }
+    requires to { IsIndexOf table.now request.now.to to }
     requires many { length roles.old ≡ (length request.now.hops + 1) * MOST_ROUTERS }
     ensures { AreRolesUpTo table.now request.now 0 roles.new }
 {
@@ -141,7 +136,7 @@ fn targets_of(
 }
 
 /// Whether the leg to the hop at an index is loose.
-pub(crate) fn is_loose(request: &Request, leg_index: usize) -> bool
+pub fn is_loose(request: &Request, leg_index: usize) -> bool
     requires { leg_index < length request.now.hops }
     ensures { IsTrue result ↔ IsLoose (slice_get request.now.hops leg_index) }
 {
@@ -169,7 +164,7 @@ fn set_roles(table: &Table, request: &Request, leg: Leg<'_>, from: usize, roles:
     requires listed { AreListed table.now }
     requires starts { AreTargetsOf table.now request.now leg.index leg.starts.now }
     requires targets { AreTargetsOf table.now request.now (leg.index + 1) leg.targets.now }
-    requires from { IsEnd table.now request.now.from from }
+    requires from { IsIndexOf table.now request.now.from from }
     requires many { length roles.old ≡ (length request.now.hops + 1) * MOST_ROUTERS }
     requires known { AreRolesUpTo table.now request.now leg.index roles.old }
     ensures { AreRolesUpTo table.now request.now (leg.entry.index + 1) roles.new }
@@ -186,28 +181,29 @@ fn set_roles(table: &Table, request: &Request, leg: Leg<'_>, from: usize, roles:
 
 /// What a route may do at each router in each leg, and where the legs to hops end.
 #[derive(Drop)]
-pub(crate) struct Roles {
-    /// For each state what a route may do there.
-    pub(crate) states: Vec<Role>,
-    /// For each hop the targets of the leg to it, by their index in the list of routers.
-    pub(crate) targets: Vec<Vec<u16>>,
+pub struct Roles {
+    /// What a route may do at each router in each leg: 1,024 for each leg, and among them that of a
+    /// router at its index in `Table::routers`.
+    pub states: Vec<Role>,
+    /// For each hop the targets of the leg to it, by their index in `Table::routers`.
+    pub targets: Vec<Vec<u16>>,
 }
 
 /// What a route may do at each router in each leg, and where the legs to hops end. The head-end and the
-/// tail-end are the routers at these indexes.
-pub(crate) fn find_roles(
+/// tail-end are the routers at these indexes of `Table::routers`.
+pub fn find_roles(
     alloc: Global,
     table: &Table,
     request: &Request,
     from: usize,
     to: usize,
 ) -> Result<Roles, AllocError>
-    requires listed { AreListed table.now }
-    requires from { IsEnd table.now request.now.from from }
-    requires to { IsEnd table.now request.now.to to }
+    requires from { IsIndexOf table.now request.now.from from }
+    requires to { IsIndexOf table.now request.now.to to }
     ensures states { IfOk result (λ roles. AreRoles table.now request.now roles.states.items) }
     ensures targets { IfOk result (λ roles. AreTargets table.now request.now roles.targets.items) }
 {
+    listed(table);
     let hops = request.hops.len();
     let mut states = Vec::from_elem(alloc, NOTHING, (hops + 1) * MOST_ROUTERS)?;
     set_last_roles(table, request, to, &mut states);
@@ -229,41 +225,4 @@ pub(crate) fn find_roles(
         targets.push(own)?;
     }
     Ok(Roles { states, targets })
-}
-
-/// Whether each target of the leg to a hop is settled at which a route may stand. The leg is that of the
-/// state at an index.
-fn are_settled(query: Query<'_>, labels: &[Label], at: usize) -> bool
-    requires query { IsQuery query }
-    requires many { length labels.now ≡ length query.roles.now }
-    ensures { result ≡ true
-        → AreTargetsSettled query.entry.table.now query.entry.roles.now labels.now at }
-{
-    let first = at - at % MOST_ROUTERS;
-    if at / MOST_ROUTERS >= query.targets.len() {
-        return false;
-    }
-    for place in &query.targets[at / MOST_ROUTERS] {
-        let index = first + usize::from(*place);
-        if query.roles[index].target && labels[index].rank != 0 {
-            return false;
-        }
-    }
-    true
-}
-
-/// The floor once the state at an index is settled: where each target of its leg at which a route may
-/// stand is, behind that leg.
-pub(crate) fn raised(query: Query<'_>, labels: &[Label], floor: usize, at: usize) -> usize
-    requires query { IsQuery query }
-    requires within { at < length query.roles.now }
-    requires many { length labels.now ≡ length query.roles.now }
-    ensures { (result ≡ floor)
-        ⊎ IsRaised query.entry.table.now query.entry.roles.now labels.now at result }
-{
-    if query.roles[at].target && are_settled(query, labels, at) {
-        at - at % MOST_ROUTERS + MOST_ROUTERS
-    } else {
-        floor
-    }
 }

@@ -1,37 +1,22 @@
--- Private words of the search: where the legs to hops end, and what a route may do in them.
-use Rattle.std.specs.Prelude.{◌≡◌, ℕ, Bool, true, false, ◌+◌, ◌/◌, ◌<◌, ◌≤◌, ◌⊎◌, ◌↔◌, ◌&&◌, IsTrue, List, All, Contains, length, slice_index, slice_index_or}
-use Rattle.std.specs.Prelude.{Vec}
-use Rattle.std.specs.declared.alloc.Global.{Global}
+-- Private words of the roles: how they are found, leg by leg.
+use Rattle.std.specs.Prelude.{◌≡◌, ℕ, Bool, true, false, ◌+◌, ◌/◌, ◌%◌, ◌<◌, ◌≤◌, ◌⊎◌, ◌↔◌, ◌&&◌, IsTrue, List, Contains, length, slice_index_or}
 use Rattle.cspf_model.specs.declared.limits.TheConstants.{MOST_ROUTERS}
 use Rattle.cspf_model.specs.declared.request.Request.{Request}
 use Rattle.cspf_model.specs.Database.{Database}
-use Rattle.cspf_db.specs.Index.{router_list}
-use Rattle.cspf_model.specs.Targets.{IsTarget}
-use Rattle.cspf_search.specs.declared.roles.Role.{Role}
-use Rattle.cspf_search.specs.declared.roles.RoleRows.{RoleRows}
-use Rattle.cspf_search.specs.Frontier.{IsRole, IsStateIndex, nothing, state_at}
+use Rattle.cspf_graph.specs.declared.roles.Role.{Role}
+use Rattle.cspf_graph.specs.declared.roles.RoleRows.{RoleRows}
+use Rattle.cspf_graph.specs.Lists.{router_at}
+use Rattle.cspf_graph.specs.Roles.{IsRole, IsStateIndex}
 
--- the router at an index of the list
-abbrev pub router_at : Database → ℕ → ℕ
-router_at d p = slice_index (router_list d) p
-
--- the indexes in the list of routers of the targets of a leg
-pub record AreTargetsOf (d : Database) (q : Request) (leg : ℕ) (places : List ℕ) : Type 0 where
-  pub within : All (λ p. p < length (router_list d)) places
-  pub each : (p : ℕ) → p < length (router_list d)
-      → Contains places p ↔ IsTarget d q leg (router_at d p)
-
--- so it is for the leg to each hop
-pub record AreTargets (d : Database) (q : Request) (targets : List (Vec ℕ Global)) : Type 0 where
-  pub many : length targets ≡ length q.hops
-  pub each : (i : ℕ) (e : Vec ℕ Global) → i < length q.hops
-      → AreTargetsOf d q (i + 1) (slice_index_or targets i e).items
+-- a stand for the indexes past the end of a list
+abbrev pub nothing : Role
+nothing = record { enter = false; target = false }
 
 -- the roles are known in the last leg and in the first legs
 abbrev pub AreRolesUpTo : Database → Request → ℕ → List Role → Type 0
 AreRolesUpTo d q legs roles =
     (i : ℕ) (e : Role) → IsStateIndex d q i → (i / MOST_ROUTERS ≡ length q.hops) ⊎ (i / MOST_ROUTERS < legs)
-    → IsRole d q (state_at d i) (slice_index_or roles i e)
+    → IsRole d q (i / MOST_ROUTERS + 1) (router_at d (i % MOST_ROUTERS)) (slice_index_or roles i e)
 
 -- the role at an index
 abbrev pub role_at : List Role → ℕ → Role

@@ -1,8 +1,9 @@
 use Rattle.std.proofs.Common.{◌≡◌, ◌+◌, ◌*◌, ◌∷◌, [], ◌<◌, ℕ, length, slice_index_or}
 use Rattle.std.specs.Prelude.{Vec}
 use Rattle.std.specs.declared.alloc.Global.{Global}
-use Rattle.cspf_search.specs.Roles.{AreRolesUpTo, AreTargetsOf}
-use Rattle.cspf_search.proofs.roles.find_roles.Given as goal
+use Rattle.cspf_graph.specs.RoleSteps.{AreRolesUpTo}
+use Rattle.cspf_graph.specs.Roles.{AreTargetsOf}
+use Rattle.cspf_graph.proofs.roles.find_roles.Given as goal
 
 abbrev pub invariant-loop-leg_index : goal.invariant-loop-leg_index
 invariant-loop-leg_index l = record {

@@ -2,8 +2,8 @@ use Rattle.std.proofs.Common.{◌≡◌, ◌+◌, suc, slice_get, Some, inl, inr
 use Rattle.std.proofs.lemmas.Option.{none-some, slice_get_cases}
 use Rattle.std.proofs.lemmas.Result.{IfOk-weaker}
 use Rattle.cspf_model.specs.Targets.{IsTarget, IsTargetOf}
-use Rattle.cspf_search.specs.Roles.{router_at}
-use Rattle.cspf_search.proofs.roles.targets_of.Goals as goal
+use Rattle.cspf_graph.specs.Lists.{router_at}
+use Rattle.cspf_graph.proofs.roles.targets_of.Goals as goal
 
 pub returns-in-Some : goal.returns-in-Some
 returns-in-Some c =

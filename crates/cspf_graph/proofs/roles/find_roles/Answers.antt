@@ -1,12 +1,12 @@
 use Rattle.std.proofs.Common.{◌≡◌, ◌+◌, ◌-◌, ◌∷◌, [], ◌∙◌, inl, inr, List, length, slice_index_or, ap, subst, arith}
-use Rattle.cspf_search.specs.Roles.{AreTargetsOf}
+use Rattle.cspf_graph.specs.Roles.{AreTargetsOf}
 use Rattle.std.proofs.lemmas.Bool.{cases_lt}
 use Rattle.std.proofs.lemmas.List.{get_or_append_left, get_or_push, length_push}
-use Rattle.cspf_search.specs.declared.roles.Role.{Role}
-use Rattle.cspf_search.proofs.RoleLists.{head_alone}
-use Rattle.cspf_search.proofs.Slices.{written_back}
-use Rattle.cspf_search.proofs.roles.find_roles.Goals as goal
-use Rattle.cspf_search.proofs.roles.find_roles.Goals.{then-leg_index-eq0, else-leg_index-eq0}
+use Rattle.cspf_graph.specs.declared.roles.Role.{Role}
+use Rattle.cspf_graph.proofs.RoleLists.{head_alone}
+use Rattle.cspf_graph.proofs.Slices.{written_back}
+use Rattle.cspf_graph.proofs.roles.find_roles.Goals as goal
+use Rattle.cspf_graph.proofs.roles.find_roles.Goals.{then-leg_index-eq0, else-leg_index-eq0}
 
 pub set_roles-requires-clause-starts : goal.set_roles-requires-clause-starts
 set_roles-requires-clause-starts c =
@@ -14,7 +14,7 @@ set_roles-requires-clause-starts c =
     let q = c.args.request.now in
     elim c.if-leg_index-eq0.branch [
       | then-leg_index-eq0 w ↦
-          rw (w.starts-is, w.as_slice-starts.ensures, c.loop-leg_index.invariant.head, w.if-leg_index-eq0.true) (head_alone d q c.requires.listed c.args.from c.requires.from)
+          rw (w.starts-is, w.as_slice-starts.ensures, c.loop-leg_index.invariant.head, w.if-leg_index-eq0.true) (head_alone d q c.listed.ensures.listed c.args.from c.requires.from)
       | else-leg_index-eq0 w ↦
           let one : c.loop-leg_index.leg_index - 1 + 1 ≡ c.loop-leg_index.leg_index = omega (arith, w.if-leg_index-eq0.false) in
           let known = c.loop-leg_index.invariant.targets (c.loop-leg_index.leg_index - 1) w.index.result.now (omega (arith, one)) in

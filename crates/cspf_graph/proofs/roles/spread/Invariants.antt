@@ -1,6 +1,6 @@
 use Rattle.std.proofs.Common.{◌≡◌, ℕ, ◌+◌, ◌<◌, ◌&&◌, false}
-use Rattle.cspf_search.specs.Roles.{StayElsewhere, role_at}
-use Rattle.cspf_search.proofs.roles.spread.Given as goal
+use Rattle.cspf_graph.specs.RoleSteps.{StayElsewhere, role_at}
+use Rattle.cspf_graph.proofs.roles.spread.Given as goal
 
 abbrev pub invariant-loop-place : goal.invariant-loop-place
 invariant-loop-place l = record {

@@ -3,26 +3,27 @@ use Rattle.std.proofs.lemmas.List.{get_or-set_same, get_or-set_other}
 use Rattle.cspf_model.specs.declared.request.Request.{Request}
 use Rattle.cspf_model.specs.Database.{Database}
 use Rattle.cspf_db.specs.Index.{router_list}
-use Rattle.cspf_search.specs.declared.roles.Role.{Role}
-use Rattle.cspf_search.specs.Frontier.{IsRole, state_at}
-use Rattle.cspf_search.proofs.Ranks.{one_place, same_or_not}
-use Rattle.cspf_search.proofs.roles.set_last_roles.Goals as goal
+use Rattle.cspf_graph.specs.declared.roles.Role.{Role}
+use Rattle.cspf_graph.specs.Roles.{IsRole}
+use Rattle.cspf_graph.specs.Lists.{router_at}
+use Rattle.cspf_graph.proofs.RouterIndexes.{one_place, same_or_not}
+use Rattle.cspf_graph.proofs.roles.set_last_roles.Goals as goal
 
 module _ (d : Database) (q : Request) (hops place at : ℕ) (roles : List Role) (role : Role) (all : hops ≡ length q.hops) (low : place < 1024) (is : at ≡ hops * 1024 + place)
     (within : at < length roles) where
   -- what is set for a router is found there
-  set_there : IsRole d q (record { leg = length q.hops + 1; router = slice_index (router_list d) place }) role
-      → (i : ℕ) (e : Role) → i / 1024 ≡ length q.hops → i % 1024 ≡ place → IsRole d q (state_at d i) (slice_index_or (set roles at role) i e)
+  set_there : IsRole d q (length q.hops + 1) (router_at d place) role
+      → (i : ℕ) (e : Role) → i / 1024 ≡ length q.hops → i % 1024 ≡ place → IsRole d q (i / 1024 + 1) (router_at d (i % 1024)) (slice_index_or (set roles at role) i e)
   set_there made i e last here =
       let same : i ≡ at = omega (arith, is, all, last, here) in
-      subst (λ k. IsRole d q (state_at d i) (slice_index_or (set roles at role) k e)) (sym same)
-      (subst (IsRole d q (state_at d i)) (sym (get_or-set_same roles at role e within)) (rw (last, here) made))
+      subst (λ k. IsRole d q (i / 1024 + 1) (router_at d (i % 1024)) (slice_index_or (set roles at role) k e)) (sym same)
+      (subst (IsRole d q (i / 1024 + 1) (router_at d (i % 1024))) (sym (get_or-set_same roles at role e within)) (rw (last, here) made))
 
   -- and what was known elsewhere stays
-  kept_elsewhere : (i : ℕ) (e : Role) → i % 1024 ≢ place → IsRole d q (state_at d i) (slice_index_or roles i e) → IsRole d q (state_at d i) (slice_index_or (set roles at role) i e)
+  kept_elsewhere : (i : ℕ) (e : Role) → i % 1024 ≢ place → IsRole d q (i / 1024 + 1) (router_at d (i % 1024)) (slice_index_or roles i e) → IsRole d q (i / 1024 + 1) (router_at d (i % 1024)) (slice_index_or (set roles at role) i e)
   kept_elsewhere i e there known =
       let ne : i ≢ at = λ same. there (omega (arith, same, is, low)) in
-      subst (IsRole d q (state_at d i)) (sym (get_or-set_other roles at i role e ne)) known
+      subst (IsRole d q (i / 1024 + 1) (router_at d (i % 1024))) (sym (get_or-set_other roles at i role e ne)) known
 
 pub loop-place-preserved : goal.loop-place-preserved
 loop-place-preserved c i e ix last up passed =

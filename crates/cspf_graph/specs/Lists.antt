@@ -1,0 +1,22 @@
+-- The routers of a database by their index in the list of routers.
+use Rattle.std.specs.Prelude.{◌≡◌, ℕ, ◌<◌, ◌≤◌, ◌↔◌, Contains, length, slice_index}
+use Rattle.std.specs.List.Sorted.{IsStrictlyIncreasing}
+use Rattle.cspf_model.specs.declared.limits.TheConstants.{MOST_LINKS, MOST_ROUTERS}
+use Rattle.cspf_model.specs.Database.{Database, IsRouterOf}
+use Rattle.cspf_db.specs.Index.{router_list, links_of}
+
+-- the router at an index of the list
+abbrev pub router_at : Database → ℕ → ℕ
+router_at d p = slice_index (router_list d) p
+
+-- The router at an index of the list is this one.
+pub record IsIndexOf (d : Database) (router : ℕ) (place : ℕ) : Type 0 where
+  pub within : place < length (router_list d)
+  pub is : slice_index (router_list d) place ≡ router
+
+-- The list of routers is that of the database, and rises.
+pub record AreListed (d : Database) : Type 0 where
+  pub known : (router : ℕ) → Contains (router_list d) router ↔ IsRouterOf d router
+  pub rising : IsStrictlyIncreasing (router_list d)
+  pub few : length (router_list d) ≤ MOST_ROUTERS
+  pub room : length (links_of d) ≤ MOST_LINKS
