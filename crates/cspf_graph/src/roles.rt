@@ -1,3 +1,5 @@
+//! What a route may do at each router of a table in each leg: enter, stay, be a target, be left.
+
 ghost use Rattle.std.specs.Prelude.{◌≡◌, ◌≢◌, true, ◌+◌, ◌*◌, ◌<◌, ◌↔◌, ◌⊎◌, All, IsTrue, IfOk, length, slice_get};
 ghost use Rattle.cspf_db.specs.Index.{router_list};
 ghost use Rattle.cspf_model.specs.Targets.{IsLoose};

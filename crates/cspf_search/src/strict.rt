@@ -1,3 +1,5 @@
+//! Strict legs that no route comes through: where one cannot be passed, nothing is searched.
+
 ghost use Rattle.std.specs.Prelude.{◌≡◌, ◌<◌, true, false, IfSome, length};
 ghost use Rattle.cspf_db.specs.Index.{router_list};
 ghost use Rattle.cspf_search.specs.Query.{IsQuery};
