@@ -1,4 +1,4 @@
-//! Whether a batch fits the table: the limits, and that no key is changed twice.
+//! Whether a batch fits the table, and the first reason why it doesn't.
 
 ghost use Rattle.std.specs.Prelude.{count_by, ◌≡◌, ℕ, ◌+◌, ◌*◌, ◌<◌, ◌≤◌, ◌↔◌, true, All, length, map, IfOk, IfErr, IfSome, IfNone, IsTrue};
 ghost use Rattle.std.specs.Bool.{OnTrue, OnFalse};
