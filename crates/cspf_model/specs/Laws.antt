@@ -100,7 +100,13 @@ FewerLinksComeFirst =
     (l m n : Link) → l.metric ≡ 20 → m.metric ≡ 10 → n.metric ≡ 10
     → walk_cmp (l ∷ []) (m ∷ n ∷ []) ≡ Less
 
--- of walks of the same cost and number of links the first local address that differs decides, whatever
+-- two links come before one that costs more
+abbrev pub CheaperLinksComeFirst : Type 0
+CheaperLinksComeFirst =
+    (l m n : Link) → l.metric ≡ 1 → m.metric ≡ 1 → n.metric ≡ 3
+    → walk_cmp (l ∷ m ∷ []) (n ∷ []) ≡ Less
+
+-- of walks of the same cost and number of links the first local addresses that differ decide, whatever
 -- the last ones are: 10.0.0.1 and then 10.0.0.9 come before 10.0.0.2 and then 10.0.0.3
 abbrev pub FirstAddressDecides : Type 0
 FirstAddressDecides =

@@ -5,7 +5,7 @@ ghost use Rattle.std.specs.Cmp.{IsTotalOrder};
 ghost use Rattle.cspf_model.specs.declared.limits.TheConstants.{MOST_LINKS, MOST_ROUTERS, MOST_MARKS, MOST_CHANGES, MOST_VERSIONS, MOST_ROUTE_LINKS};
 ghost use Rattle.cspf_model.specs.Walks.{walk_cmp};
 ghost use Rattle.cspf_model.specs.Fields.{AreFieldsOfLinks, AreFieldsOfRequests};
-ghost use Rattle.cspf_model.specs.Laws.{WalksAreTold, RoutesAreRanked, OneBestAnswer, LastChangeDecides, OneDatabase, OneMoreBatch, LawfulByOneMore, FirstBatchesAreLawful, RoutersAreCounted, NoRouterIsLeftOut, LinksAreAtTheirKeys, OneRefusal, RefusedIsUnfit, AddressesCompareAsNumbers, FewerLinksComeFirst, LastPutStands, LastRemovalStands, ExactBandwidthIsEnough, LessBandwidthIsNot, FirstAddressDecides, NextAddressDecides, AreAdmittedWith, AreRefusedWith};
+ghost use Rattle.cspf_model.specs.Laws.{WalksAreTold, RoutesAreRanked, OneBestAnswer, LastChangeDecides, OneDatabase, OneMoreBatch, LawfulByOneMore, FirstBatchesAreLawful, RoutersAreCounted, NoRouterIsLeftOut, LinksAreAtTheirKeys, OneRefusal, RefusedIsUnfit, AddressesCompareAsNumbers, FewerLinksComeFirst, CheaperLinksComeFirst, LastPutStands, LastRemovalStands, ExactBandwidthIsEnough, LessBandwidthIsNot, FirstAddressDecides, NextAddressDecides, AreAdmittedWith, AreRefusedWith};
 
 mod hop_laws;
 mod network_laws;
@@ -67,10 +67,12 @@ pub fn one_refusal()
     ensures unfit { RefusedIsUnfit }
 {}
 
-/// Two orders of routes: addresses compare as numbers, and fewer links go before smaller addresses.
+/// Three orders of routes: addresses compare as numbers, fewer links go before smaller addresses, and
+/// a smaller cost goes before fewer links.
 pub fn worked_orders()
     ensures numbers { AddressesCompareAsNumbers }
     ensures fewer { FewerLinksComeFirst }
+    ensures cheaper { CheaperLinksComeFirst }
 {}
 
 /// Three changes of one key: the last one stands.
@@ -85,16 +87,16 @@ pub fn worked_admission()
     ensures too_little { LessBandwidthIsNot }
 {}
 
-/// Of walks of the same cost and number of links the first local address that differs decides, also
+/// Of walks of the same cost and number of links the first local addresses that differ decide, even
 /// where the last ones would decide otherwise.
 pub fn worked_ties()
     ensures first { FirstAddressDecides }
     ensures next { NextAddressDecides }
 {}
 
-/// Affinities of requests for a link of the groups 1 and 2 (mask 6), each admitted and refused by
-/// one bit: exclude-any, include-any and include-all. A mask of 0 asks for nothing, of a link of no
-/// group too.
+/// A link of the groups 1 and 2 (mask 6) is admitted and refused by one bit of each affinity:
+/// exclude-any, include-any and include-all. A mask of 0 asks for nothing, so a link of no group is
+/// admitted.
 pub fn worked_affinities()
     ensures exclude_any { AreAdmittedWith 6 9 0 0 }
     ensures excluded { AreRefusedWith 6 13 0 0 }
