@@ -8,8 +8,10 @@ mod table;
 pub use cspf_model::{
     Batch, Change, Link, LinkError, MOST_CHANGES, MOST_LINKS, MOST_MARKS, MOST_ROUTERS, Refusal,
     Request, RequestError, absorbing, counted_routers, fields_of_links_and_requests,
-    last_change_decides, lawful_batches, one_best_answer, one_refusal, order_of_walks,
-    route_without_hops, worked_admission, worked_changes, worked_orders, worked_routes,
+    last_change_decides, lawful_batches, limits_of_formats, one_best_answer, one_refusal,
+    order_of_walks, route_without_hops, worked_admission, worked_affinities, worked_changes,
+    worked_ends, worked_marks, worked_orders, worked_reverses, worked_routes, worked_ties,
+    worked_unknown_ends,
 };
 pub use limits::NO_LINK;
 pub use table::Table;

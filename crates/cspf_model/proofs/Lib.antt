@@ -2,3 +2,4 @@
 pub mod Databases
 pub mod Batches
 pub mod Routes
+pub mod Networks

@@ -12,9 +12,10 @@ use Rattle.cspf_model.specs.Database.{Database, key_of, AreAtTheirKeys, IsRouter
 use Rattle.cspf_model.specs.Changes.{link_key, after_changes, last_on, link_after, database_after, IsDatabaseOf, Fits, AreLawful}
 use Rattle.cspf_model.specs.Refusals.{IsRefusal}
 use Rattle.cspf_model.specs.Admissible.{IsAdmitted}
-use Rattle.cspf_model.specs.Walks.{IsWalk, locals_of, walk_cmp}
+use Rattle.cspf_model.specs.Walks.{IsWalk, cost_of, locals_of, walk_cmp}
 use Rattle.cspf_model.specs.Routes.{IsRoute}
 use Rattle.cspf_model.specs.Best.{Answer, IsBestAnswer}
+use Rattle.cspf_model.specs.Examples.{address}
 
 -- walks of one request with the same local addresses are one walk
 abbrev pub WalksAreTold : Type 0
@@ -99,6 +100,28 @@ FewerLinksComeFirst =
     (l m n : Link) → l.metric ≡ 20 → m.metric ≡ 10 → n.metric ≡ 10
     → walk_cmp (l ∷ []) (m ∷ n ∷ []) ≡ Less
 
+-- two links come before one that costs more
+abbrev pub CheaperLinksComeFirst : Type 0
+CheaperLinksComeFirst =
+    (l m n : Link) → l.metric ≡ 1 → m.metric ≡ 1 → n.metric ≡ 3
+    → walk_cmp (l ∷ m ∷ []) (n ∷ []) ≡ Less
+
+-- of walks of the same cost and number of links the first local addresses that differ decide, whatever
+-- the last ones are: 10.0.0.1 and then 10.0.0.9 come before 10.0.0.2 and then 10.0.0.3
+abbrev pub FirstAddressDecides : Type 0
+FirstAddressDecides =
+    (l m n o : Link) → cost_of (l ∷ m ∷ []) ≡ cost_of (n ∷ o ∷ [])
+    → l.local ≡ address 10 0 0 1 → m.local ≡ address 10 0 0 9
+    → n.local ≡ address 10 0 0 2 → o.local ≡ address 10 0 0 3
+    → walk_cmp (l ∷ m ∷ []) (n ∷ o ∷ []) ≡ Less
+
+-- where the first local addresses are the same, the next ones decide
+abbrev pub NextAddressDecides : Type 0
+NextAddressDecides =
+    (l m n o : Link) → cost_of (l ∷ m ∷ []) ≡ cost_of (n ∷ o ∷ [])
+    → l.local ≡ n.local → m.local ≡ address 10 0 0 2 → o.local ≡ address 10 0 0 3
+    → walk_cmp (l ∷ m ∷ []) (n ∷ o ∷ []) ≡ Less
+
 -- a link that is put, taken out and put again is there as it was put last
 abbrev pub LastPutStands : Type 0
 LastPutStands =
@@ -128,3 +151,22 @@ abbrev pub LessBandwidthIsNot : Type 0
 LessBandwidthIsNot =
     (q : Request) (l : Link)
     → slice_index l.free q.setup ≡ 1000 → q.bandwidth ≡ 1001 → ¬ IsAdmitted q l
+
+-- the request has these affinities, and asks for no bandwidth
+pub record AsksForGroups (q : Request) (excluded any all : ℕ) : Type 0 where
+  pub exclude_any : q.exclude_any ≡ excluded
+  pub include_any : q.include_any ≡ any
+  pub include_all : q.include_all ≡ all
+  pub bandwidth : q.bandwidth ≡ 0
+
+-- a link of these groups is admitted for requests with these affinities
+abbrev pub AreAdmittedWith : (group exclude_any include_any include_all : ℕ) → Type 0
+AreAdmittedWith group exclude_any include_any include_all =
+    (q : Request) (l : Link)
+    → l.group ≡ group → AsksForGroups q exclude_any include_any include_all → IsAdmitted q l
+
+-- a link of these groups is not admitted for them
+abbrev pub AreRefusedWith : (group exclude_any include_any include_all : ℕ) → Type 0
+AreRefusedWith group exclude_any include_any include_all =
+    (q : Request) (l : Link)
+    → l.group ≡ group → AsksForGroups q exclude_any include_any include_all → ¬ IsAdmitted q l

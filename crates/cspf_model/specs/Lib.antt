@@ -16,4 +16,5 @@ pub mod Outcome
 pub mod Fields
 pub mod Refusals
 pub mod Laws
+pub mod NetworkLaws
 pub mod Lemmas

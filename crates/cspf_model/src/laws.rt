@@ -1,13 +1,17 @@
 //! What follows from the definitions of `specs/` alone. Each call here does nothing: its contract
 //! is the law.
+ghost use Rattle.std.specs.Prelude.{◌≡◌};
 ghost use Rattle.std.specs.Cmp.{IsTotalOrder};
+ghost use Rattle.cspf_model.specs.declared.limits.TheConstants.{MOST_LINKS, MOST_ROUTERS, MOST_MARKS, MOST_CHANGES, MOST_VERSIONS, MOST_ROUTE_LINKS};
 ghost use Rattle.cspf_model.specs.Walks.{walk_cmp};
 ghost use Rattle.cspf_model.specs.Fields.{AreFieldsOfLinks, AreFieldsOfRequests};
-ghost use Rattle.cspf_model.specs.Laws.{WalksAreTold, RoutesAreRanked, OneBestAnswer, LastChangeDecides, OneDatabase, OneMoreBatch, LawfulByOneMore, FirstBatchesAreLawful, RoutersAreCounted, NoRouterIsLeftOut, LinksAreAtTheirKeys, OneRefusal, RefusedIsUnfit, AddressesCompareAsNumbers, FewerLinksComeFirst, LastPutStands, LastRemovalStands, ExactBandwidthIsEnough, LessBandwidthIsNot};
+ghost use Rattle.cspf_model.specs.Laws.{WalksAreTold, RoutesAreRanked, OneBestAnswer, LastChangeDecides, OneDatabase, OneMoreBatch, LawfulByOneMore, FirstBatchesAreLawful, RoutersAreCounted, NoRouterIsLeftOut, LinksAreAtTheirKeys, OneRefusal, RefusedIsUnfit, AddressesCompareAsNumbers, FewerLinksComeFirst, CheaperLinksComeFirst, LastPutStands, LastRemovalStands, ExactBandwidthIsEnough, LessBandwidthIsNot, FirstAddressDecides, NextAddressDecides, AreAdmittedWith, AreRefusedWith};
 
 mod hop_laws;
+mod network_laws;
 
 pub use hop_laws::{route_without_hops, worked_routes};
+pub use network_laws::{worked_ends, worked_marks, worked_reverses, worked_unknown_ends};
 
 /// Walks are in a total order. Their local addresses tell the walks of a request apart, so only
 /// equal routes of one request tie.
@@ -63,10 +67,12 @@ pub fn one_refusal()
     ensures unfit { RefusedIsUnfit }
 {}
 
-/// Two orders of routes: addresses compare as numbers, and fewer links go before smaller addresses.
+/// Three orders of routes: addresses compare as numbers, fewer links go before smaller addresses, and
+/// a smaller cost goes before fewer links.
 pub fn worked_orders()
     ensures numbers { AddressesCompareAsNumbers }
     ensures fewer { FewerLinksComeFirst }
+    ensures cheaper { CheaperLinksComeFirst }
 {}
 
 /// Three changes of one key: the last one stands.
@@ -79,4 +85,34 @@ pub fn worked_changes()
 pub fn worked_admission()
     ensures enough { ExactBandwidthIsEnough }
     ensures too_little { LessBandwidthIsNot }
+{}
+
+/// Of walks of the same cost and number of links the first local addresses that differ decide, even
+/// where the last ones would decide otherwise.
+pub fn worked_ties()
+    ensures first { FirstAddressDecides }
+    ensures next { NextAddressDecides }
+{}
+
+/// A link of the groups 1 and 2 (mask 6) is admitted and refused by one bit of each affinity:
+/// exclude-any, include-any and include-all. A mask of 0 asks for nothing, so a link of no group is
+/// admitted.
+pub fn worked_affinities()
+    ensures exclude_any { AreAdmittedWith 6 9 0 0 }
+    ensures excluded { AreRefusedWith 6 13 0 0 }
+    ensures include_any { AreAdmittedWith 6 0 13 0 }
+    ensures none_included { AreRefusedWith 6 0 9 0 }
+    ensures include_all { AreAdmittedWith 6 0 0 6 }
+    ensures not_all_included { AreRefusedWith 6 0 0 7 }
+    ensures no_groups { AreAdmittedWith 0 0 0 0 }
+{}
+
+/// The limits are those of the formats.
+pub fn limits_of_formats()
+    ensures links { MOST_LINKS ≡ 16384 }
+    ensures routers { MOST_ROUTERS ≡ 1024 }
+    ensures marks { MOST_MARKS ≡ 1024 }
+    ensures changes { MOST_CHANGES ≡ 4096 }
+    ensures versions { MOST_VERSIONS ≡ 1000000 }
+    ensures route_links { MOST_ROUTE_LINKS ≡ 8184 }
 {}

@@ -15,8 +15,9 @@ mod route;
 pub use batch::{Batch, Change};
 pub use laws::{
     absorbing, counted_routers, fields_of_links_and_requests, last_change_decides, lawful_batches,
-    one_best_answer, one_refusal, order_of_walks, route_without_hops, worked_admission,
-    worked_changes, worked_orders, worked_routes,
+    limits_of_formats, one_best_answer, one_refusal, order_of_walks, route_without_hops,
+    worked_admission, worked_affinities, worked_changes, worked_ends, worked_marks, worked_orders,
+    worked_reverses, worked_routes, worked_ties, worked_unknown_ends,
 };
 pub use limits::{
     MOST_CHANGES, MOST_LEGS, MOST_LINKS, MOST_MARKS, MOST_ROUTE_LINKS, MOST_ROUTERS, MOST_VERSIONS,

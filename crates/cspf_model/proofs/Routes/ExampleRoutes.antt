@@ -24,7 +24,7 @@ use Rattle.cspf_model.proofs.Databases.LinksOfRows.{rows_listed}
 use Rattle.cspf_model.specs.Examples.{router, inner, link, back, both_ways, asked_fields, from_1_to_3, from_1_to_inner_1, from_1_to_inner_2, from_3_to_inner_1, from_inner_1_to_4, from_inner_2_to_inner_1, six_links, way_outside, way_inside, inner_hop, loose_inner_hop, first_router_hop, from_1_to_2, from_2_to_3, from_2_to_4, three_links, interface_hop, IsNetwork, AreFound, MayStandAtOwners, MayNotStandElsewhere, MayStandAnywhere, IsOutsideBeforeInside, MayBeEmpty, MayBeMetByAnyLink}
 
 -- the request with these fields
-abbrev made : (f : RequestFields) → f.setup < 8 → f.from ≢ f.to → Request
+abbrev pub made : (f : RequestFields) → f.setup < 8 → f.from ≢ f.to → Request
 made f priority two_ends = record {
   id = f.id;
   from = f.from;
@@ -40,7 +40,7 @@ made f priority two_ends = record {
 }
 
 -- what holds of the request with these fields holds of each request that says them
-for_each : (f : RequestFields) (P : Request → Type 0)
+pub for_each : (f : RequestFields) (P : Request → Type 0)
     → ((priority : f.setup < 8) (two_ends : f.from ≢ f.to) → P (made f priority two_ends))
     → (q : Request) → HasRequestFields q f → P q
 for_each f P holds q says =
@@ -78,7 +78,7 @@ not_owned d prefix r rows listed apart none owns =
     elim owns.covered [ inl covered ↦ apart covered | inr by_link ↦ each_link (λ l. ¬ BeginsWithin prefix r l) d rows listed none by_link.0 by_link.1 by_link.2 ]
 
 -- each link with bandwidth left is admitted
-admitted : (tail_end : ℕ) (hops : List Hop) (priority : 0 < 8) (two_ends : router 1 ≢ tail_end) (from local to remote metric : ℕ) (apart : from ≢ to)
+pub admitted : (tail_end : ℕ) (hops : List Hop) (priority : 0 < 8) (two_ends : router 1 ≢ tail_end) (from local to remote metric : ℕ) (apart : from ≢ to)
     → IsAdmitted (made (asked_fields tail_end hops) priority two_ends) (link from local to remote metric 1000 apart)
 admitted tail_end hops priority two_ends from local to remote metric apart = record {
   affinity = record { exclude_any = refl; include_any = inl refl; include_all = inl refl };

@@ -2,12 +2,12 @@
 use Rattle.std.specs.Int.Bits.{and_zero_r}
 use Rattle.std.proofs.Common.{◌≡◌, ◌+◌, true, cond, Some, None, [], ◌∷◌, sym, ap, ◌∙◌, inl, bit_and, arith}
 use Rattle.std.specs.Ordering.{nat_cmp, eq_by_cmp, ordering_then}
-use Rattle.std.specs.declared.cmp.Ordering.TheVariants.{Less, Equal}
+use Rattle.std.specs.declared.cmp.Ordering.TheVariants.{Less, Equal, Greater}
 use Rattle.std.specs.Cmp.{nat_cmp_total, tied_itself}
 use Rattle.cspf_model.specs.declared.batch.Change.TheVariants.{Put, Remove}
 use Rattle.cspf_model.specs.Database.{key_of, key_cmp}
 use Rattle.cspf_model.specs.Changes.{link_key, last_on, link_after}
-use Rattle.cspf_model.specs.Laws.{AddressesCompareAsNumbers, FewerLinksComeFirst, LastPutStands, LastRemovalStands, ExactBandwidthIsEnough, LessBandwidthIsNot}
+use Rattle.cspf_model.specs.Laws.{AddressesCompareAsNumbers, FewerLinksComeFirst, CheaperLinksComeFirst, LastPutStands, LastRemovalStands, ExactBandwidthIsEnough, LessBandwidthIsNot}
 use Rattle.cspf_model.proofs.Databases.Keys.{key_itself}
 
 -- 10.0.0.9 before 10.0.0.10
@@ -24,6 +24,13 @@ fewer_first l m n twenty ten also =
     ap (λ a. ordering_then (nat_cmp (0 + a) (0 + m.metric + n.metric)) Less) twenty
     ∙ ap (λ a. ordering_then (nat_cmp 20 (0 + a + n.metric)) Less) ten
     ∙ ap (λ a. ordering_then (nat_cmp 20 (10 + a)) Less) also
+
+-- two links of 1 before one of 3
+pub cheaper_first : CheaperLinksComeFirst
+cheaper_first l m n one also three =
+    ap (λ a. ordering_then (nat_cmp (0 + a + m.metric) (0 + n.metric)) Greater) one
+    ∙ ap (λ a. ordering_then (nat_cmp (1 + a) (0 + n.metric)) Greater) also
+    ∙ ap (λ a. ordering_then (nat_cmp 2 (0 + a)) Greater) three
 
 -- the last put stands
 pub put_stands : LastPutStands

@@ -1,0 +1,59 @@
+-- A walk with one more link.
+use Rattle.std.proofs.Common.{◌≡◌, ℕ, List, [], ◌∷◌, ◌++◌, map, refl, inl, inr, arith}
+use Rattle.std.specs.List.{AllByRecursion}
+use Rattle.cspf_model.specs.declared.link.Link.{Link}
+use Rattle.cspf_model.specs.Database.{HasTransit}
+use Rattle.cspf_model.specs.Admissible.{IsAdmissible}
+use Rattle.cspf_model.specs.Walks.{AreJoined, end_of}
+use Rattle.cspf_model.specs.NetworkLaws.{MayComeNext, WalksGrowByOneLink}
+
+-- what holds of each item and of one more
+module _ {A : Type 0} (P : A → Type 0) where
+  all_more : (xs : List A) (x : A) → AllByRecursion P xs → P x → AllByRecursion P (xs ++ x ∷ [])
+  all_more [] x all holds = (holds, tt)
+  all_more (y ∷ ys) x all holds = (all.0, all_more ys x all.1 holds)
+
+  last_one : (xs : List A) (x : A) → AllByRecursion P (xs ++ x ∷ []) → P x
+  last_one [] x all = all.0
+  last_one (y ∷ ys) x all = last_one ys x all.1
+
+-- links that are joined, and one more
+joined_more : (router : ℕ) (links : List Link) (l : Link) → AreJoined router links → l.from ≡ end_of router links → AreJoined router (links ++ l ∷ [])
+joined_more router [] l joined from = (from, tt)
+joined_more router (m ∷ links) l joined from = (joined.0, joined_more m.to links l joined.1 from)
+
+last_joined : (router : ℕ) (links : List Link) (l : Link) → AreJoined router (links ++ l ∷ []) → l.from ≡ end_of router links
+last_joined router [] l joined = joined.0
+last_joined router (m ∷ links) l joined = last_joined m.to links l joined.1
+
+-- the routers that the links behind the first begin at
+module _ (P : ℕ → Type 0) where
+  starts_more : (links : List Link) (l : Link) → AllByRecursion P (map (λ m. m.from) links) → P l.from → AllByRecursion P (map (λ m. m.from) (links ++ l ∷ []))
+  starts_more [] l all holds = (holds, tt)
+  starts_more (m ∷ links) l all holds = (all.0, starts_more links l all.1 holds)
+
+  last_start : (links : List Link) (l : Link) → AllByRecursion P (map (λ m. m.from) (links ++ l ∷ [])) → P l.from
+  last_start [] l all = all.0
+  last_start (m ∷ links) l all = last_start links l all.1
+
+-- a walk may go on from its last router where that has transit or the walk is empty
+pub walks_grow : WalksGrowByOneLink
+walks_grow d q [] l is = (
+  λ more. record { admissible = more.links.0; joined = more.joined.0; leaves = inr refl },
+  λ next. record { links = (next.admissible, tt); joined = (next.joined, tt); transit = tt },
+)
+walks_grow d q (m ∷ walk) l is = (
+  λ more. record {
+    admissible = last_one (IsAdmissible d q) (m ∷ walk) l more.links;
+    joined = last_joined q.from (m ∷ walk) l more.joined;
+    leaves = inl (last_start (HasTransit d) walk l more.transit);
+  },
+  λ next. record {
+    links = all_more (IsAdmissible d q) (m ∷ walk) l is.links next.admissible;
+    joined = joined_more q.from (m ∷ walk) l is.joined next.joined;
+    transit = starts_more (HasTransit d) walk l is.transit (transit_of next);
+  },
+)
+  where
+    transit_of : MayComeNext d q (m ∷ walk) l → HasTransit d l.from
+    transit_of next = elim next.leaves [ inl transit ↦ transit | inr none ↦ absurd (omega (arith, none)) ]

@@ -1,0 +1,136 @@
+-- Which links are walks of the triangle with which marks.
+use Rattle.std.proofs.Common.{◌≡◌, ◌≢◌, ℕ, ◌<◌, false, List, [], ◌∷◌, refl, sym, ap, ◌∙◌, lit<, ◌||◌, ◌&&◌, not}
+use mathlib.Core.Bool.{true≢false}
+use Rattle.std.proofs.lemmas.Bool.{eqb-false}
+use Rattle.std.specs.Ordering.{is_eq}
+use Rattle.std.specs.Cmp.{nat_cmp_total, tied_itself}
+use Rattle.std.specs.FinSet as set
+use Rattle.cspf_model.specs.declared.request.Request.{Request}
+use Rattle.cspf_model.specs.Database.{Database, HasTransit}
+use Rattle.cspf_model.specs.Admissible.{IsAdmissible}
+use Rattle.cspf_model.specs.Walks.{IsWalk}
+use Rattle.cspf_model.specs.Examples.{router, back, asked_fields, from_1_to_2, from_1_to_3, from_2_to_3}
+use Rattle.cspf_model.specs.NetworkLaws.{network, triangle, from_2_to_1, way_by_2, way_and_back, way_by_1_again, IsWalkWithMarks, IsNoWalkWithMarks, MayBeAsked, IsMarkedByChange, IsUnmarkedByChange}
+use Rattle.cspf_model.proofs.Routes.FieldRecords.{requests_said}
+use Rattle.cspf_model.proofs.Routes.ExampleRoutes.{made, for_each, admitted}
+use Rattle.cspf_model.proofs.Networks.NetworkLinks.{link_at-network, marks-network}
+
+-- a request of 1.1.1.1 to 3.3.3.3
+pub may_be_asked : MayBeAsked
+may_be_asked =
+    let q : Request = made (asked_fields (router 3) []) (lit< tt) (eqb-false (router 1) (router 3) refl) in
+    (q, (requests_said q (asked_fields (router 3) [])).1 refl)
+
+-- a router that is not among the marks has transit
+has_transit : (marks : List ℕ) (r : ℕ) → set.contains (network triangle marks).marks r ≡ false → HasTransit (network triangle marks) r
+has_transit marks r off on = true≢false (sym on ∙ off)
+
+module _ (marks : List ℕ) (priority : 0 < 8) (two_ends : router 1 ≢ router 3) where
+  -- the request, in the triangle with these marks
+  abbrev d : Database
+  d = network triangle marks
+
+  abbrev q : Request
+  q = made (asked_fields (router 3) []) priority two_ends
+
+  -- its links in use
+  way_1_to_2 : IsAdmissible d q from_1_to_2
+  way_1_to_2 = record {
+    link = link_at-network triangle marks (router 1, from_1_to_2.local);
+    usable = record {
+      admitted = admitted (router 3) [] priority two_ends _ _ _ _ _ _;
+      reverse = (from_2_to_1, link_at-network triangle marks (router 2, from_2_to_1.local), record { from = refl; local = refl; to = refl; remote = refl });
+    };
+  }
+
+  way_2_to_1 : IsAdmissible d q from_2_to_1
+  way_2_to_1 = record {
+    link = link_at-network triangle marks (router 2, from_2_to_1.local);
+    usable = record {
+      admitted = admitted (router 3) [] priority two_ends _ _ _ _ _ _;
+      reverse = (from_1_to_2, link_at-network triangle marks (router 1, from_1_to_2.local), record { from = refl; local = refl; to = refl; remote = refl });
+    };
+  }
+
+  way_2_to_3 : IsAdmissible d q from_2_to_3
+  way_2_to_3 = record {
+    link = link_at-network triangle marks (router 2, from_2_to_3.local);
+    usable = record {
+      admitted = admitted (router 3) [] priority two_ends _ _ _ _ _ _;
+      reverse = (back from_2_to_3, link_at-network triangle marks (router 3, from_2_to_3.remote), record { from = refl; local = refl; to = refl; remote = refl });
+    };
+  }
+
+  way_1_to_3 : IsAdmissible d q from_1_to_3
+  way_1_to_3 = record {
+    link = link_at-network triangle marks (router 1, from_1_to_3.local);
+    usable = record {
+      admitted = admitted (router 3) [] priority two_ends _ _ _ _ _ _;
+      reverse = (back from_1_to_3, link_at-network triangle marks (router 3, from_1_to_3.remote), record { from = refl; local = refl; to = refl; remote = refl });
+    };
+  }
+
+  -- the walks, where the routers that they pass through have transit
+  by_2 : HasTransit d (router 2) → IsWalk d q way_by_2
+  by_2 passed = record {
+    links = (way_1_to_2, (way_2_to_3, tt));
+    joined = (refl, (refl, tt));
+    transit = (passed, tt);
+  }
+
+  and_back : HasTransit d (router 2) → IsWalk d q way_and_back
+  and_back passed = record {
+    links = (way_1_to_2, (way_2_to_1, tt));
+    joined = (refl, (refl, tt));
+    transit = (passed, tt);
+  }
+
+  by_1_again : HasTransit d (router 2) → HasTransit d (router 1) → IsWalk d q way_by_1_again
+  by_1_again passed again = record {
+    links = (way_1_to_2, (way_2_to_1, (way_1_to_3, tt)));
+    joined = (refl, (refl, (refl, tt)));
+    transit = (passed, (again, tt));
+  }
+
+-- with no marks and with marks at both ends they are walks
+pub unmarked : IsWalkWithMarks [] way_by_2
+unmarked q says =
+    for_each (asked_fields (router 3) []) (λ q. IsWalk (network triangle []) q way_by_2)
+    (λ priority two_ends. by_2 [] priority two_ends (has_transit [] (router 2) (marks-network triangle [] (router 2)))) q says
+
+pub head_end : IsWalkWithMarks (router 1 ∷ []) way_by_2
+head_end q says =
+    for_each (asked_fields (router 3) []) (λ q. IsWalk (network triangle (router 1 ∷ [])) q way_by_2)
+    (λ priority two_ends. by_2 (router 1 ∷ []) priority two_ends (has_transit (router 1 ∷ []) (router 2) (marks-network triangle (router 1 ∷ []) (router 2)))) q says
+
+pub tail_end : IsWalkWithMarks (router 3 ∷ []) way_by_2
+tail_end q says =
+    for_each (asked_fields (router 3) []) (λ q. IsWalk (network triangle (router 3 ∷ [])) q way_by_2)
+    (λ priority two_ends. by_2 (router 3 ∷ []) priority two_ends (has_transit (router 3 ∷ []) (router 2) (marks-network triangle (router 3 ∷ []) (router 2)))) q says
+
+pub to_head_end : IsWalkWithMarks (router 1 ∷ []) way_and_back
+to_head_end q says =
+    for_each (asked_fields (router 3) []) (λ q. IsWalk (network triangle (router 1 ∷ [])) q way_and_back)
+    (λ priority two_ends. and_back (router 1 ∷ []) priority two_ends (has_transit (router 1 ∷ []) (router 2) (marks-network triangle (router 1 ∷ []) (router 2)))) q says
+
+pub again_unmarked : IsWalkWithMarks [] way_by_1_again
+again_unmarked q says =
+    for_each (asked_fields (router 3) []) (λ q. IsWalk (network triangle []) q way_by_1_again)
+    (λ priority two_ends. by_1_again [] priority two_ends (has_transit [] (router 2) (marks-network triangle [] (router 2))) (has_transit [] (router 1) (marks-network triangle [] (router 1)))) q says
+
+-- a marked router in the middle is not passed
+pub middle : IsNoWalkWithMarks (router 2 ∷ []) way_by_2
+middle q says walk = walk.transit.0 (marks-network triangle (router 2 ∷ []) (router 2))
+
+-- nor is the head-end
+pub again : IsNoWalkWithMarks (router 1 ∷ []) way_by_1_again
+again q says walk = walk.transit.1.0 (marks-network triangle (router 1 ∷ []) (router 1))
+
+-- a change marks
+pub marked : IsMarkedByChange
+marked d r = set.contains-insert nat_cmp_total d.marks r r ∙ ap (λ o. is_eq o || set.contains d.marks r) (tied_itself nat_cmp_total r)
+
+-- a change takes the mark away
+pub mark_taken : IsUnmarkedByChange
+mark_taken d r on =
+    true≢false (sym on ∙ set.contains-remove nat_cmp_total d.marks r r ∙ ap (λ o. not (is_eq o) && set.contains d.marks r) (tied_itself nat_cmp_total r))
