@@ -1,13 +1,11 @@
 -- One more batch of a journal.
-use Rattle.std.proofs.Common.{◌≡◌, ℕ, ◌+◌, ◌<◌, List, [], ◌∷◌, ◌++◌, length, take, drop, get_or, sym, ap, subst, ◌∙◌, append_assoc}
+use Rattle.std.proofs.Common.{◌≡◌, ℕ, ◌+◌, ◌<◌, List, [], ◌∷◌, ◌++◌, length, take, drop, get_or, sym, ap, subst, ◌∙◌}
 use Rattle.std.proofs.lemmas.List.{take-append-drop}
 use Rattle.std.proofs.lemmas.Grind.{take_at_read}
 use Rattle.cspf_model.specs.Numbered.{NumberedChanges}
 use Rattle.cspf_model.specs.Database.{Database}
 use Rattle.cspf_model.specs.Changes.{AreLawful, Fits, after_changes, database_after}
 use Rattle.cspf_model.specs.Laws.{OneMoreBatch, LawfulByOneMore, FirstBatchesAreLawful}
-use Rattle.cspf_model.specs.declared.refusal.Refusal.{Refusal}
-use Rattle.cspf_model.specs.Refusals.{IsRefusal, IsFirstUnfit}
 
 module _ (batches : List NumberedChanges) (i : ℕ) (b : NumberedChanges) (within : i < length batches) (is_next : b ≡ get_or batches i b) where
   one_more : take (i + 1) batches ≡ take i batches ++ b ∷ []
@@ -26,18 +24,6 @@ module _ (batches : List NumberedChanges) (i : ℕ) (b : NumberedChanges) (withi
   fits_next law first lawful =
       let front : AreLawful (take (i + 1) batches) = first (take (i + 1) batches) (drop (i + 1) batches) (subst AreLawful (sym (take-append-drop (i + 1) batches)) lawful) in
       ((law (take i batches) b).0 (subst AreLawful one_more front)).1
-
-  -- it is the first that doesn't fit where the batches so far are lawful
-  pub first_unfit : (number : ℕ) (why : Refusal) → number ≡ b.number → AreLawful (take i batches) → IsRefusal (database_after (take i batches)) b why → IsFirstUnfit batches number why
-  first_unfit number why is_its lawful refused = record {
-    before = take i batches;
-    batch = b;
-    after = drop (i + 1) batches;
-    split = sym (take-append-drop (i + 1) batches) ∙ ap (λ front. front ++ drop (i + 1) batches) one_more ∙ append_assoc (take i batches) (b ∷ []) (drop (i + 1) batches);
-    lawful = lawful;
-    is_its = is_its;
-    refused = refused;
-  }
 
   -- a table in the database of the batches so far is in the next one's behind it
   pub absorbed : OneMoreBatch → LawfulByOneMore → FirstBatchesAreLawful → AreLawful batches → (before after : Database) → before ≡ database_after (take i batches)

@@ -6,8 +6,8 @@ ghost use Rattle.cspf_audit.specs.AuditErrors.{IsLawfulJournal};
 ghost use Rattle.cspf_audit.specs.ErrorNames.{IsJournalFault, IsUnfitBatch};
 
 use crate::AuditError;
-use cspf_db::Table;
-use cspf_model::{Batch, absorbing, lawful_batches};
+use cspf_db::{Table, UnfitBatch, replay_into};
+use cspf_model::Batch;
 use cspf_rows::{Journal, Rest, read_journal};
 use std::alloc::Global;
 use std::io::Read;
@@ -39,15 +39,9 @@ fn check_all(alloc: Global, batches: &[Batch]) -> Result<(), AuditError>
     ensures ok { OnOk result (AreLawful batches.now) }
     ensures err { IfErr result (IsUnfitBatch batches.now) }
 {
-    // Laws: one more batch makes its changes, and keeps the batches lawful where it fits.
-    absorbing();
-    lawful_batches();
     let mut table = Table::new(alloc)?;
-    for batch in batches {
-        if let Err(refusal) = table.try_absorb(batch) {
-            let number = batch.number;
-            return Err(AuditError::Batch { number, refusal });
-        }
+    match replay_into(&mut table, batches) {
+        Ok(()) => Ok(()),
+        Err(UnfitBatch { number, refusal }) => Err(AuditError::Batch { number, refusal }),
     }
-    Ok(())
 }

@@ -3,6 +3,7 @@
 #![tactic(auto)]
 
 mod limits;
+mod replay;
 mod table;
 
 pub use cspf_model::{
@@ -14,4 +15,5 @@ pub use cspf_model::{
     worked_unknown_ends,
 };
 pub use limits::NO_LINK;
+pub use replay::{UnfitBatch, replay_into};
 pub use table::Table;

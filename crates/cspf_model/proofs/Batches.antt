@@ -3,3 +3,4 @@ pub mod RouterSets
 pub mod LeastReasons
 pub mod LawfulBatches
 pub mod RisingKeys
+pub mod FirstUnfit

@@ -1,4 +1,3 @@
-pub mod FirstUnfit
 pub mod FullBatches
 pub mod KeyOrder
 pub mod Parts

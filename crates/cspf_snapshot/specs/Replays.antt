@@ -1,9 +1,7 @@
 -- Why batches aren't replayed.
-use Rattle.std.specs.Prelude.{◌≡◌, ℕ, List, ◌∷◌, ◌++◌}
-use Rattle.cspf_model.specs.declared.refusal.Refusal.{Refusal}
+use Rattle.std.specs.Prelude.{List}
 use Rattle.cspf_model.specs.Numbered.{NumberedChanges}
-use Rattle.cspf_model.specs.Changes.{AreLawful, database_after}
-use Rattle.cspf_model.specs.Refusals.{IsRefusal, IsFirstUnfit}
+use Rattle.cspf_model.specs.Refusals.{IsFirstUnfit}
 use Rattle.cspf_snapshot.specs.declared.replay_error.ReplayError.{ReplayError}
 use Rattle.cspf_snapshot.specs.declared.replay_error.ReplayError.TheVariants as error
 

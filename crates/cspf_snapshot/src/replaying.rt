@@ -3,8 +3,8 @@ ghost use Rattle.cspf_model.specs.Changes.{AreLawful, database_after};
 ghost use Rattle.cspf_snapshot.specs.Replays.{IsReplayError};
 
 use crate::ReplayError;
-use cspf_db::Table;
-use cspf_model::{Batch, absorbing, lawful_batches};
+use cspf_db::{Table, UnfitBatch, replay_into};
+use cspf_model::Batch;
 use std::alloc::Global;
 
 /// The table after batches, in order, from an empty one. The first that doesn't fit the database of
@@ -14,15 +14,9 @@ pub fn replay(alloc: Global, batches: &[Batch]) -> Result<Table, ReplayError>
     ensures database { IfOk result (λ table. table ≡ database_after batches.now) }
     ensures err { IfErr result (IsReplayError batches.now) }
 {
-    // Laws: one more batch makes its changes, and keeps the batches lawful where it fits.
-    absorbing();
-    lawful_batches();
     let mut table = Table::new(alloc)?;
-    for batch in batches {
-        if let Err(refusal) = table.try_absorb(batch) {
-            let number = batch.number;
-            return Err(ReplayError::Refused { number, refusal });
-        }
+    match replay_into(&mut table, batches) {
+        Ok(()) => Ok(table),
+        Err(UnfitBatch { number, refusal }) => Err(ReplayError::Refused { number, refusal }),
     }
-    Ok(table)
 }

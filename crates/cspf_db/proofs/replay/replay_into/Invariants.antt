@@ -1,6 +1,6 @@
 use Rattle.std.proofs.Common.{◌≡◌, take}
 use Rattle.cspf_model.specs.Changes.{AreLawful, database_after}
-use Rattle.cspf_snapshot.proofs.replaying.replay.Given as goal
+use Rattle.cspf_db.proofs.replay.replay_into.Given as goal
 
 abbrev pub invariant-loop-batch : goal.invariant-loop-batch
 invariant-loop-batch l = record {

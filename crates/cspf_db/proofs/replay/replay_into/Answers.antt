@@ -1,8 +1,8 @@
 use Rattle.std.proofs.Common.{ap, subst}
 use Rattle.cspf_model.specs.Numbered.{NumberedChanges}
 use Rattle.cspf_model.specs.Refusals.{IsRefusal}
-use Rattle.cspf_snapshot.proofs.FirstUnfit.{first_unfit}
-use Rattle.cspf_snapshot.proofs.replaying.replay.Goals as goal
+use Rattle.cspf_model.proofs.Batches.FirstUnfit.{first_unfit}
+use Rattle.cspf_db.proofs.replay.replay_into.Goals as goal
 
 pub returns-in-Err-clause-err : goal.returns-in-Err-clause-err
 returns-in-Err-clause-err c =
