@@ -1,3 +1,5 @@
+//! The calls of this crate on small tables, by cases that are worked by hand.
+
 ghost use Rattle.std.specs.Prelude.{◌≡◌, IfOk, length};
 
 use super::*;
