@@ -16,6 +16,3 @@ pub use lists::listed;
 pub use roles::{Role, Roles, find_roles, is_loose};
 pub use targets::{inside, member};
 pub use transit::{may_be_left, may_leave, may_leave_at};
-
-#[cfg(test)]
-mod tests;
