@@ -21,6 +21,3 @@ pub use counter::Counter;
 pub use drawer::Drawer;
 pub use limits::{MOST_DRAWERS, MOST_REQUESTS};
 pub use seats::{FirstSeat, LastSeat};
-
-#[cfg(test)]
-mod tests;

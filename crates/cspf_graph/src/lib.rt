@@ -11,6 +11,3 @@ mod transit;
 pub use admission::{accepts, admissible};
 pub use targets::{inside, member};
 pub use transit::{may_leave, may_leave_at};
-
-#[cfg(test)]
-mod tests;

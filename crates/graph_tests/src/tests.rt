@@ -1,8 +1,8 @@
 ghost use Rattle.std.specs.Prelude.{◌≡◌, IfOk, length};
 
-use super::*;
 use cspf_addr::{Addr, Hop, Hops, Mask, Prefix};
 use cspf_db::Table;
+use cspf_graph::{accepts, admissible, inside, may_leave, may_leave_at, member};
 use cspf_model::{Batch, Change, Link, Request};
 use std::alloc::Global;
 use std::test::Fail;
@@ -68,28 +68,31 @@ fn change(alloc: Global, table: &mut Table, change: Change) -> Result<(), Fail> 
 
 #[test]
 fn admissible_links(rt: HostRuntime) -> Result<(), Fail> {
-    let alloc = rt.alloc();
-    let mut table = Table::new(alloc)?;
+    let mut table = Table::new(rt.alloc())?;
     let link = link(1, 2, 3)?;
+    let (reverse, other) = (back(&link, link.local)?, back(&link, Addr::new(8))?);
     let (accepting, refusing) = (
         request(0, (0, 0, 0), false)?,
         request(0, (0x4, 0, 0), false)?,
     );
-    change(alloc, &mut table, Change::Put(link))?;
-    assert!(rt; !admissible(&table, &link, &accepting));
-    // the reverse's own attributes don't count, and are all that counts for itself
-    let reverse = back(&link, link.local)?;
-    change(alloc, &mut table, Change::Put(reverse))?;
-    assert!(rt; admissible(&table, &link, &accepting));
-    assert!(rt; !admissible(&table, &link, &refusing));
-    assert!(rt; !admissible(&table, &reverse, &accepting));
     let (from, local) = (reverse.from, reverse.local);
-    change(alloc, &mut table, Change::Remove { from, local })?;
-    assert!(rt; !admissible(&table, &link, &accepting));
-    // a link back over other interfaces is no reverse
-    let other = back(&link, Addr::new(8))?;
-    change(alloc, &mut table, Change::Put(other))?;
-    assert!(rt; !admissible(&table, &link, &accepting));
+    let steps = [
+        (Change::Put(link), false),
+        // the reverse's own attributes don't count, and are all that counts for itself
+        (Change::Put(reverse), true),
+        (Change::Remove { from, local }, false),
+        // a link back over other interfaces is no reverse
+        (Change::Put(other), false),
+    ];
+    for (step, is_usable) in steps {
+        change(rt.alloc(), &mut table, step)?;
+        let found = [
+            admissible(&table, &link, &accepting),
+            admissible(&table, &link, &refusing),
+            admissible(&table, &reverse, &accepting),
+        ];
+        assert_eq!(rt; found, [is_usable, false, false], "{step:?}");
+    }
     Ok(())
 }
 
@@ -119,16 +122,18 @@ fn targets_of_legs(rt: HostRuntime) -> Result<(), Fail> {
     ];
     for (number, targets, within) in cases {
         let router = Addr::new(number);
-        for leg in 0..3 {
-            assert_eq!(rt;
-                member(&table, router, leg, &strict),
-                targets[leg],
-                "{number} {leg}"
-            );
-        }
-        assert_eq!(rt; inside(&table, router, 1, &strict), within, "{number}");
-        assert!(rt; inside(&table, router, 1, &loose));
-        assert!(rt; inside(&table, router, 2, &strict));
+        let found = [
+            member(&table, router, 0, &strict),
+            member(&table, router, 1, &strict),
+            member(&table, router, 2, &strict),
+        ];
+        assert_eq!(rt; found, targets, "{number}");
+        let found = [
+            inside(&table, router, 1, &strict),
+            inside(&table, router, 1, &loose),
+            inside(&table, router, 2, &strict),
+        ];
+        assert_eq!(rt; found, [within, true, true], "{number}");
     }
     Ok(())
 }

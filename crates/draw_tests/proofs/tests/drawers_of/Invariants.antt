@@ -1,5 +1,5 @@
 use Rattle.std.proofs.Common.{◌≡◌, ◌+◌, vec_len}
-use Rattle.cspf_draw.proofs.tests.drawers_of.Given as goal
+use Rattle.draw_tests.proofs.tests.drawers_of.Given as goal
 
 abbrev pub invariant-loop : goal.invariant-loop
 invariant-loop l = record {

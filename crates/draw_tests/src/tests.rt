@@ -1,7 +1,6 @@
-//! What is drawn: in turn, and from several threads.
 ghost use Rattle.std.specs.Prelude.{◌≡◌, ◌+◌, ◌<◌, ◌≤◌, length, IfOk, vec_len};
 
-use crate::{Counter, Drawer, FirstSeat, MOST_DRAWERS};
+use cspf_draw::{Counter, Drawer, FirstSeat, MOST_DRAWERS};
 use std::alloc::{AllocError, Global};
 use std::process::Abort;
 use std::sync::atomic::{AtomicU64, Ordering};
