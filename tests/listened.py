@@ -8,7 +8,6 @@ import os
 import random
 import re
 import resource
-import runpy
 import shutil
 import signal
 import socket
@@ -23,6 +22,8 @@ from reference import publish, whole_batches
 from served import BATCHES, CLIENTS, PATIENCE, ROUTERS, Lines, batches_of, judged, wait_for
 from snapshots import snapshot_of
 from versions import Versions
+
+from routed import listen
 
 HERE = os.path.dirname(os.path.abspath(__file__))
 TOP = os.path.dirname(HERE)
@@ -484,10 +485,7 @@ def idle(program, checks, room, versions):
         reading.socket.close()
         checks.same("the end of the one that asked", asking.rest(), "")
         checks.same("others are ended in their turn", [connection.rest() for connection in taken], [""] * 4)
-    sys.path.insert(0, os.path.dirname(LISTEN))
-    idle_of, place = (runpy.run_path(LISTEN)[name] for name in ("idle_of", "Place"))
-    del sys.path[0]
-    found = [idle_of(argparse.Namespace(idle=given, ask=place(text))) for given, text in [
+    found = [listen.idle_of(argparse.Namespace(idle=given, ask=listen.Place(text))) for given, text in [
         (None, "8001"), (None, "[::1]:8001"), (None, "./8001"), (0, "8001"), (7, "8001"), (7, "./ask")]]
     checks.same("the seconds of --idle, by default and given", found, [300, 300, 0, 0, 7, 7])
 
@@ -682,8 +680,12 @@ def causes(program, checks, room, versions):
                              stdout=full, stderr=subprocess.PIPE, text=True, timeout=PATIENCE)
     checks.same("standard output is full", (ran.returncode, ran.stderr), (3, "listen: standard output: write: No space left on device\n"))
     copy = os.path.join(room, "copy")
-    shutil.copytree(os.path.dirname(LISTEN), f"{copy}/tools", ignore=shutil.ignore_patterns("__pycache__"))
-    ran = subprocess.run([f"{copy}/tools/listen", "--journal", absent, "--ask", f"{room}/ask", "--updates", path], capture_output=True, text=True)
+    for folder in ("tools", "python"):
+        shutil.copytree(os.path.join(TOP, folder), f"{copy}/{folder}", ignore=shutil.ignore_patterns("__pycache__"))
+    shutil.copy(os.path.join(TOP, "crates.txt"), copy)
+    around = {**os.environ, "PATH": os.path.dirname(sys.executable) + ":/usr/bin:/bin", "ROUTED_PROGRAM": ""}
+    ran = subprocess.run([f"{copy}/tools/listen", "--journal", absent, "--ask", f"{room}/ask", "--updates", path], capture_output=True, text=True,
+                         env=around)
     wanted = f"listen: {copy}/crates/routed/out/routed: No such file or directory (README.md says how it is built)\n"
     checks.same("a program that isn't built", (ran.returncode, ran.stdout, ran.stderr), (3, "", wanted))
     for words in (["run"], ["serve", "--seconds", "0.1"], ["serve", "--listen"]):

@@ -9,8 +9,7 @@ import sys
 import tempfile
 import threading
 
-import networks
-from networks import Refused, Stopped
+from .networks import Refused, Stopped
 
 Ran = collections.namedtuple("Ran", "name status out err")  # a run of the program
 AHEAD = 2  # scenarios for each thread of Dask's workers that are handed out
@@ -41,8 +40,7 @@ def over_dask(address, given, scenarios):
     except ImportError as fault:
         raise Stopped(f"{sys.executable}: {fault}") from None
     logging.disable()  # what goes wrong is told once, below
-    for module in (networks, sys.modules[__name__]):
-        cloudpickle.register_pickle_by_value(module)  # a worker needs neither
+    cloudpickle.register_pickle_by_value(sys.modules[__package__])  # a worker doesn't need it
     try:
         with distributed.Client(address, timeout=5, set_as_default=False) as client:
             workers = client.scheduler_info()["workers"]

@@ -1,7 +1,7 @@
 """The database that a program has when the feed comes to it: as `tools/listen` tells it, or from the journal of the program's run."""
 import re
 import secrets
-from batches import Ended, apply
+from .batches import Ended, apply
 
 EARLIER = re.compile(r"(?:version|batch|row|ask) \d+( .*)?")  # lines of rows that an earlier feed sent, which it didn't read
 OCTET = r"(?:\d|[1-9]\d|1\d\d|2[0-4]\d|25[0-5])"
