@@ -39,7 +39,8 @@ install: $(PROGRAM)
 	install -d $(bin) $(lib)/routed $(modules)/feed $(lib)/systemd/system $(lib)/sysusers.d $(lib)/tmpfiles.d
 	install -d $(share)/man/man1 $(share)/man/man5 $(share)/doc/routed/docs $(share)/doc/routed/examples/etc
 	install $(PROGRAM) $(bin)/routed
-	install deploy/routed-tools $(bin)/routed-tools
+	install tools/routed-tools $(bin)/routed-tools
+	sed -i '1s|.*|#!/usr/bin/python3|' $(bin)/routed-tools
 	install -m 644 python/routed/*.py $(modules)
 	install -m 644 python/routed/feed/*.py $(modules)/feed
 	install deploy/keep deploy/serve deploy/fed $(lib)/routed

@@ -17,7 +17,7 @@ from snapshots import snapshot_of
 HERE = os.path.dirname(os.path.abspath(__file__))
 TOP = os.path.dirname(HERE)
 DEPLOY = os.path.join(TOP, "deploy")
-KILLS = 100
+KILLS, SERVING = 100, 0.2  # and the seconds of a run in which it is killed
 FREE = ",".join(["7"] * 8)
 TOOLS = f"""#!/bin/sh
 PYTHONPATH={TOP}/python PYTHONDONTWRITEBYTECODE=1 exec {sys.executable} -m routed "$@"
@@ -204,19 +204,23 @@ def kill(child, kind):
 
 
 def kills(program, checks):
-    """100 runs of deploy/serve, each killed at a drawn moment, while batches are brought as fast as they are told."""
+    """100 runs of deploy/serve, each killed at a drawn moment: half of them of a start, the others while batches are brought as fast as
+    they are told. One more start shows what the last left."""
     start, draw, updater = time.monotonic(), random.Random(29), Updater()
     with tempfile.TemporaryDirectory() as room:
         env = around(program, room)
-        wrong, phases, span = [], {"starting": 0, "serving": 0}, None
+        wrong, phases, took = [], {"starting": 0, "serving": 0}, 0.0
         for at in range(KILLS + 1):
             begun = time.monotonic()
             child = subprocess.Popen([os.path.join(DEPLOY, "serve"), "--clients", "2"], env=env, start_new_session=True,
                                      stdout=subprocess.PIPE, stderr=subprocess.DEVNULL, text=True)
-            if not at:
-                checks.same("it is ready", child.stdout.readline(), "ready\n")
-                span = 2 * (time.monotonic() - begun)  # as long as a start again
-            timer = threading.Timer(draw.uniform(0, span) if at < KILLS else span, kill, [child, at % 4])
+            if at % 2 or at in (0, KILLS):
+                checks.same(f"start {at} is ready", child.stdout.readline(), "ready\n")
+                took = max(took, time.monotonic() - begun)
+                moment = draw.uniform(0, SERVING)
+            else:
+                moment = draw.uniform(0, took)
+            timer = threading.Timer(moment, kill, [child, at // 2 % 4])
             timer.start()
             good = updater.bring(env["ROUTED_UPDATES"], draw, child)
             timer.join()
