@@ -28,11 +28,13 @@ import sys
 import tempfile
 
 sys.dont_write_bytecode = True
+HERE = os.path.dirname(os.path.abspath(__file__))
+sys.path.insert(1, os.path.join(HERE, "../python"))
 import changes  # beside this file
 import reference
 import wrong
+from routed.program import BUILT
 
-HERE = os.path.dirname(os.path.abspath(__file__))
 MOST_DIFFERENCES = 20
 FREE = ",".join(["1000"] * 8)
 LINK = f"put,1.1.1.1,10.0.12.1,2.2.2.2,10.0.12.2,10,0x1,{FREE}"
@@ -395,7 +397,7 @@ def wrong_programs_pass(count, seed):
 
 def main():
     words = argparse.ArgumentParser(description=__doc__, formatter_class=argparse.RawDescriptionHelpFormatter)
-    words.add_argument("--program", default=os.path.join(os.path.dirname(HERE), "crates/routed/out/routed"))
+    words.add_argument("--program", default=BUILT)
     words.add_argument("--changed", type=int, default=24_000, metavar="N")
     words.add_argument("--seed", type=int, default=1)
     words.add_argument("--jobs", type=int, default=4)

@@ -1,5 +1,9 @@
-"""What passed and what failed, and the last line that says it."""
+"""What passed and what failed, and the last line that says it. Who imports this finds the tools of this tree, too."""
+import os
 import sys
+
+TOP = os.path.dirname(os.path.dirname(os.path.abspath(__file__)))
+sys.path.insert(1, os.path.join(TOP, "python"))
 
 
 class Checks:

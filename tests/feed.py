@@ -7,7 +7,6 @@ and what has to come is waited for.
 import contextlib
 import os
 import re
-import runpy
 import select
 import signal
 import socket
@@ -17,8 +16,12 @@ import sys
 import tempfile
 import time
 
+from readers import dressed  # beside this file
+
 HERE = os.path.dirname(os.path.abspath(__file__))
 TOP = os.path.dirname(HERE)
+sys.dont_write_bytecode = True
+sys.path.insert(1, os.path.join(TOP, "python"))  # for a feed in a process of its own
 FEED = os.path.join(TOP, "feeds/ospf")
 LISTEN = os.path.join(TOP, "tools/listen")
 NAN, INFINITE = float("nan"), float("inf")
@@ -121,10 +124,8 @@ class Router:
 def played(clock, reports, *words):
     """The feed in a process of its own, with all patience for connections and, where the ends of two pipes are given, by
     the clock that comes from the first. Each time that nothing is left to do, it says so to the second."""
-    sys.path.insert(0, os.path.dirname(FEED))
-    import api  # of the feed
+    from routed.feed import api, ospf
     api.PATIENCE = PATIENCE
-    sys.argv = [FEED, *words]
     if clock >= 0:
         at, count = NOON, 0
         wait, read, receive = select.select, os.read, socket.socket.recv
@@ -153,7 +154,7 @@ def played(clock, reports, *words):
         select.select = selected
         os.read = lambda source, most: counted(read(source, most)) if source == 0 else read(source, most)
         socket.socket.recv = lambda made, most: counted(receive(made, most))
-    runpy.run_path(FEED, run_name="__main__")
+    sys.exit(ospf.main(list(words)))
 
 
 class Feed:
@@ -789,12 +790,13 @@ def journals(checks):
         router = Router()
 
         def feed_of(text, version):
-            with open(path, "w", encoding="ascii") as file:
+            with open(path, "w", encoding="utf-8", newline="") as file:
                 file.write(text)
             return Feed(router, "--hold", "3", "--journal", path, version=version, told=["row 2 refused: kind"], is_accepted=False)
 
         last = whole + f"put,{C},10.5.5.5,{A}"
         for name, text in [("", whole), (", without its last line feed", whole[:-1]), (", torn behind its last batch", last),
+                           (", with a byte order mark, carriage returns and quotes", dressed(whole)),
                            (", in which a batch is being written", f"{whole}drop,{B},{B_A}\n"),
                            (", behind which a number is left out", whole + "end,4,0\n")]:
             feed = feed_of(text, 2)

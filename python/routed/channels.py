@@ -10,7 +10,7 @@ import secrets
 import socket
 import time
 
-from loop import READ, WRITE  # beside this file
+from .loop import READ, WRITE
 
 LONGEST = 1 << 16  # bytes of a line and of a turn; the longest row that is accepted is far shorter
 LINGER, PAUSE = 1, 0.1  # seconds: for what a closing connection still sends, and until accepting is tried again

@@ -1,0 +1,1 @@
+"""Tools round the route server `routed`; `routed-tools` runs them."""

@@ -1,0 +1,38 @@
+"""Runs one of the tools round `routed`.
+
+    routed-tools listen|connect|feed|sweep|join|draw|draw-failures|why ...
+
+`routed-tools TOOL --help` says what a tool takes. Those that run `routed` find it by --program, else by the environment
+variable ROUTED_PROGRAM, else on PATH, else where the source tree builds it.
+"""
+import importlib
+import sys
+
+TOOLS = {
+    "listen": (".listen", "sockets in front of `routed serve`, for programs that come and go"),
+    "connect": (".connect", "standard input and output at a socket of listen"),
+    "feed": (".feed.ospf", "rows of a live network, from the OSPF API of one of its routers"),
+    "sweep": (".sweep", "what the failure of each circuit, router or pair of circuits does to requests"),
+    "join": (".join", "one sweep of its parts"),
+    "draw": (".draw", "a picture of a network, with the routes of replies"),
+    "draw-failures": (".draw_failures", "a picture of what circuits' failures do"),
+    "why": (".why", "three small networks, asked of FRR's cspf and of `routed solve`"),
+}
+
+
+def usage():
+    """The text of --help."""
+    return __doc__ + "\n" + "".join(f"  {name:14} {what}\n" for name, (_, what) in TOOLS.items())
+
+
+def main(words=None):
+    """Runs the tool that the first word names with the others, and answers its status."""
+    name, *rest = (sys.argv[1:] if words is None else words) or [""]
+    if name in ("-h", "--help"):
+        print(usage(), end="")
+        return 0
+    if name not in TOOLS:
+        what = f"{name!r} is no tool" if name else "a tool is wanted"
+        print(f"routed-tools: {what}: {', '.join(TOOLS)}", file=sys.stderr)
+        return 2
+    return importlib.import_module(TOOLS[name][0], __package__).main(rest)
