@@ -1,5 +1,7 @@
 """Reads GraphML as the Topology Zoo has it: nodes with Latitude, Longitude and label, edges with their speed. Other data are counted."""
+import collections
 import math
+import re
 import xml.etree.ElementTree as xml
 
 from .imported import Circuit, Found
@@ -24,15 +26,14 @@ def read(data):
     found.left["graph after the first"] += len(graphs) - 1
     for node in [it for it in graphs[0] if plain(it) == "node"]:
         site(node, keys, found)
-    one_way = []
-    for edge in [it for it in graphs[0] if plain(it) == "edge"]:
-        circuit(edge, keys, graphs[0].get("edgedefault") == "directed", found, one_way)
+    edges = [circuit(it, keys, graphs[0].get("edgedefault") == "directed", found) for it in graphs[0] if plain(it) == "edge"]
+    for where, edge in paired(edges):
+        found.add_circuit(where, edge)
     for it in graphs[0]:
         if plain(it) == "data":
             found.left[f"{name_of(it, keys)} of the graph"] += 1
         elif plain(it) not in ("node", "edge", "desc"):
             found.left[plain(it)] += 1
-    pair_up(one_way, found)
     return found
 
 
@@ -84,39 +85,35 @@ def site(node, keys, found):
     found.add_site(where, name, values.get("label", ""), None if east is None or north is None else (east, north))
 
 
-def circuit(edge, keys, is_directed, found, one_way):
+def circuit(edge, keys, is_directed, found):
     one, other = edge.get("source"), edge.get("target")
     where = f"edge {one} {other}"
     values = data_of(edge, "edge", EDGE, keys, found)
     bits = number(where, values, "linkspeedraw")
-    if bits is None and number(where, values, "linkspeed") is not None:
-        unit = values.get("linkspeedunits", "")
-        if unit not in UNITS:
-            raise ValueError(f"{where}: no unit of speed: {unit}")
-        bits = number(where, values, "linkspeed") * UNITS[unit]
+    if bits is None and values.get("linkspeed"):
+        if re.fullmatch(r"\d+(\.\d+)?", values["linkspeed"]) and values.get("linkspeedunits", "") in UNITS:
+            bits = float(values["linkspeed"]) * UNITS[values.get("linkspeedunits", "")]
+        else:
+            found.left["LinkSpeed that can't be read"] += 1
     if bits is not None and bits < 0:
         raise ValueError(f"{where}: a speed is below 0")
     if edge.get("id"):
         found.left["id of an edge"] += 1
     bytes_per_second = None if bits is None else bits / 8
-    is_one_way = {"true": True, "false": False}.get(edge.get("directed"), is_directed)
-    read = Circuit(one, other, not is_one_way, bytes_per_second, bytes_per_second, None)
-    if is_one_way:
-        one_way.append((where, read))
-    else:
-        found.add_circuit(where, read)
+    is_both = not {"true": True, "false": False}.get(edge.get("directed"), is_directed)
+    return where, Circuit(one, other, is_both, bytes_per_second, bytes_per_second, None)
 
 
-def pair_up(one_way, found):
-    """Two directed edges, there and back, are a circuit; others run one way."""
-    waiting = {}
-    for where, edge in one_way:
-        back = waiting.get((edge.other, edge.one))
-        if back:
-            there, first = back.pop(0)
-            found.add_circuit(there, first._replace(is_both=True, back=edge.capacity))
+def paired(edges):
+    """The edges, each two that are directed there and back made one circuit, at the place of the first."""
+    circuits, waiting = [], collections.defaultdict(list)
+    for where, edge in edges:
+        back = waiting[edge.other, edge.one]
+        if edge.is_both or not back:
+            if not edge.is_both:
+                waiting[edge.one, edge.other].append(len(circuits))
+            circuits.append((where, edge))
         else:
-            waiting.setdefault((edge.one, edge.other), []).append((where, edge))
-    for alone in waiting.values():
-        for where, edge in alone:
-            found.add_circuit(where, edge)
+            first = back.pop(0)
+            circuits[first] = circuits[first][0], circuits[first][1]._replace(is_both=True, back=edge.capacity)
+    return circuits

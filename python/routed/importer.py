@@ -48,9 +48,9 @@ def kind_of_metric(found, asked):
     """What metrics are: what is asked for, or the routing costs where all links have one, else kilometers where all sites have a
     position, else 1."""
     ends = [found.sites[end] for circuit in found.circuits for end in circuit[:2]]
-    lacks = {"cost": any(circuit.cost is None for circuit in found.circuits),
-             "km": not is_on_earth(ends) or any(site.place is None for site in ends), "one": False}
-    if asked and lacks[asked]:
+    lacks = {"cost": not ends or any(circuit.cost is None for circuit in found.circuits),
+             "km": not ends or not is_on_earth(ends) or any(site.place is None for site in ends), "one": False}
+    if asked and ends and lacks[asked]:
         raise ValueError({"cost": "--metric cost: a link has no routing cost", "km": "--metric km: a site has no longitude and latitude"}[asked])
     return asked or next(kind for kind, is_lacking in lacks.items() if not is_lacking)
 
@@ -88,7 +88,7 @@ def asks(found, setup):
 def places(found, is_linked):
     """Lines of the sites with links and positions, in kilometers to the east and the south where these are longitudes and latitudes."""
     placed = [(at, site) for at, (name, site) in enumerate(found.sites.items(), 1) if name in is_linked and site.place]
-    if not is_on_earth(found.sites.values()):
+    if not is_on_earth([site for _, site in placed]):
         yield "# router, east, south, name"
         yield from (f"{router(at)} {site.place[0]:g} {-site.place[1]:g} {site.name}" for at, site in placed)
         return
