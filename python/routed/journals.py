@@ -85,6 +85,18 @@ def batches(data, has_asks=False):
             changes.append(fields)
 
 
+def texts(data):
+    """The text of each batch of a journal, which has nothing else."""
+    said, rows = [], 0
+    for number, changes in enumerate(batches(data), 1):
+        rows += len(changes) + 1
+        said.append("".join(",".join(fields) + "\n" for fields in [*changes, ["end", str(number), str(len(changes))]]))
+    left = sum(1 for _ in records(data)) - rows
+    if left:
+        raise Refused(f"unended {left}")
+    return said
+
+
 def why_not(wanted, changes, number, count):
     """The words by which an end row is refused, None where it ends a batch."""
     if number != wanted:
