@@ -14,6 +14,7 @@ GAP, GAP_ASIDE = 1, 4  # pixels that stay free above and below a text, and besid
 EDGE = 4  # pixels from a text to the edge of the picture
 CELL = 64  # pixels of a cell in which boxes are looked up
 STEP = 6  # pixels between two points of a line, and the size of their cells
+NEAR, CLOSE = 8, 4  # pixels from a text to a router that it isn't of, and what is against a spot that is nearer
 ROUNDS = 4
 # Thousandths of the font size, from the space to the tilde.
 WIDTHS = [int(it) for it in (
@@ -143,7 +144,8 @@ class Sheet:
         """Gives texts their boxes, those with the fewest spots first; then each may move to a better one. Texts of calls before may move, and
         stay in the picture. The ink is what is against a spot for each point of a line under it."""
         for text in wanted:
-            free = [(against + ink * self.under(box), at, wider(box)) for at, (box, against) in enumerate(text.spots) if self.is_free(box)]
+            free = [(against + ink * self.under(box) + CLOSE * len(self.drawn.meeting(wider(box, NEAR)).keys() - {text.key}), at, wider(box))
+                    for at, (box, against) in enumerate(text.spots) if self.is_free(box)]
             self.spots[text.key] = [box for _, _, box in sorted(free)]
         order = sorted((text.key for text in wanted), key=lambda key: len(self.spots[key]))
         for _ in range(ROUNDS):
@@ -183,8 +185,10 @@ class Sheet:
         return is_inside and not self.drawn.meeting(box)
 
 
-def wider(box):
-    return box[0] - GAP_ASIDE, box[1] - GAP, box[2] + GAP_ASIDE, box[3] + GAP
+def wider(box, aside=None):
+    """The box with the gaps of texts round it, or with as much on each side."""
+    across, down = (GAP_ASIDE, GAP) if aside is None else (aside, aside)
+    return box[0] - across, box[1] - down, box[2] + across, box[3] + down
 
 
 def narrower(box):

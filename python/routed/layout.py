@@ -14,6 +14,7 @@ LONGEST = 1.0  # how far a router moves in a round, at first
 FARTHEST = 2.0  # how far out a router may be before the rounds, in the usual distances from the middle
 REACH = 2.0  # how far routers push each other off, in lengths of a circuit; four times as far in a small network
 SMALL = 100
+NEAR = 0.8  # the same where some routers stay where they are
 APART = 1.5  # between components
 
 
@@ -23,26 +24,34 @@ def lay_out(routers, pairs):
 
 
 def complete(places, routers, pairs):
-    """The places, and one for each router that has none: in the middle of its neighbors where a way leads to a router with a place,
-    else beside all of these."""
+    """The places, and one for each router that has none: among its neighbors where a way leads to a router with a place, else beside all
+    of these."""
     places = {router: places[router] for router in routers if router in places}
-    if not places:
-        return lay_out(routers, pairs)
-    neighbors, absent = neighbors_of(routers, pairs), [router for router in routers if router not in places]
-    order = [router for router in hops_from(places, neighbors) if router not in places]
-    for turn in range(30 if order else 0):
+    if not places or len(places) == len(routers):
+        return places or lay_out(routers, pairs)
+    neighbors, given, unit = neighbors_of(routers, pairs), set(places), usual_length(places, pairs, len(routers))
+    order = [router for router in hops_from(places, neighbors) if router not in given]
+    for _ in range(30):
         for router in order:
             near = [places[other] for other in neighbors[router] if other in places]
             places[router] = tuple(sum(axis) / len(near) for axis in zip(*near))
-    alone = [router for router in absent if router not in places]
-    if alone:
-        left, top, right, bottom = bounds(places)
-        lengths = sorted(math.dist(places[one], places[other]) for one, other in pairs if one in places and other in places)
-        unit = lengths[len(lengths) // 2] if lengths else 0
-        unit = unit or max(right - left, bottom - top) or 1.0
-        for router, (x, y) in lay_out(alone, [pair for pair in pairs if pair[0] in set(alone)]).items():
-            places[router] = right + unit * (APART + x), top + unit * y
+    if order:
+        drawn = random.Random(1)
+        scaled = {router: (x / unit + drawn.uniform(-0.1, 0.1), y / unit + drawn.uniform(-0.1, 0.1)) for router, (x, y) in places.items()}
+        moved = relaxed(scaled, {router: neighbors[router] for router in places}, given)
+        places.update({router: (moved[router][0] * unit, moved[router][1] * unit) for router in order})
+    alone = [router for router in routers if router not in places]
+    _, top, right, _ = bounds(places)
+    for router, (x, y) in lay_out(alone, [pair for pair in pairs if pair[0] not in places]).items():
+        places[router] = right + unit * (APART + x), top + unit * y
     return places
+
+
+def usual_length(places, pairs, count):
+    """The median length of circuits between routers with places, or what is usual for their number."""
+    lengths = sorted(math.dist(places[one], places[other]) for one, other in pairs if one in places and other in places)
+    left, top, right, bottom = bounds(places)
+    return (lengths and lengths[len(lengths) // 2]) or max(right - left, bottom - top) / math.sqrt(count) or 1.0
 
 
 def neighbors_of(routers, pairs):
@@ -119,9 +128,11 @@ def main_axis(rows, others, drawn):
     return axis
 
 
-def relaxed(places, neighbors):
-    """The places behind some rounds, in which circuits pull and near routers push."""
-    index, reach = {router: at for at, router in enumerate(places)}, REACH if len(places) > SMALL else 4 * REACH
+def relaxed(places, neighbors, still=()):
+    """The places behind some rounds, in which circuits pull and near routers push. Some stay where they are."""
+    index = {router: at for at, router in enumerate(places)}
+    reach = NEAR if still else REACH if len(places) > SMALL else 4 * REACH
+    moving = [at for router, at in index.items() if router not in still]
     xs, ys = ([place[axis] for place in places.values()] for axis in (0, 1))
     pairs = [(index[one], index[other], 3 / (len(neighbors[one]) + len(neighbors[other])))
              for one in places for other in neighbors[one] if one < other]
@@ -142,7 +153,8 @@ def relaxed(places, neighbors):
                 across[other] += x / square
                 down[one] -= y / square
                 down[other] += y / square
-        for router, (x, y) in enumerate(zip(across, down)):
+        for router in moving:
+            x, y = across[router], down[router]
             far = math.sqrt(x * x + y * y)
             step = most / far if far > most else 1.0
             xs[router] += x * step
