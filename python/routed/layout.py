@@ -8,8 +8,9 @@ import collections
 import math
 import random
 
-PIVOTS = 40
-ROUNDS = 60
+PIVOTS = 30
+ROUNDS = 60  # half as many in a large network
+STRETCHED = 2.0  # circuits that are longer pull as if they were as long as this for their length
 LONGEST = 1.0  # how far a router moves in a round, at first
 FARTHEST = 2.0  # how far out a router may be before the rounds, in the usual distances from the middle
 REACH = 2.0  # how far routers push each other off, in lengths of a circuit; four times as far in a small network
@@ -115,7 +116,7 @@ def pivoted(routers, neighbors):
 def main_axis(rows, others, drawn):
     """The axis along which rows are spread most, across those that are found already: by the power method."""
     axis = [drawn.uniform(-1, 1) for _ in rows[0]]
-    for _ in range(50):
+    for _ in range(25):
         lengths = [sum(a * b for a, b in zip(row, axis)) for row in rows]
         axis = [sum(length * it for length, it in zip(lengths, column)) for column in zip(*rows)]
         for other in others:
@@ -136,11 +137,12 @@ def relaxed(places, neighbors, still=()):
     xs, ys = ([place[axis] for place in places.values()] for axis in (0, 1))
     pairs = [(index[one], index[other], 3 / (len(neighbors[one]) + len(neighbors[other])))
              for one in places for other in neighbors[one] if one < other]
-    for turn in range(ROUNDS):
-        most, across, down = LONGEST * (1 - turn / ROUNDS) + 0.02, [0.0] * len(xs), [0.0] * len(xs)
+    rounds = ROUNDS if len(places) <= 4 * SMALL else ROUNDS // 2
+    for turn in range(rounds):
+        most, across, down = LONGEST * (1 - turn / rounds) + 0.02, [0.0] * len(xs), [0.0] * len(xs)
         for one, other, pull in pairs:
             x, y = xs[other] - xs[one], ys[other] - ys[one]
-            force = math.sqrt(x * x + y * y) * pull
+            force = min(math.sqrt(x * x + y * y), STRETCHED) * pull
             across[one] += force * x
             across[other] -= force * x
             down[one] += force * y

@@ -31,10 +31,14 @@ def lines_of(links):
     return lines
 
 
-def groups_of(links):
+def groups_of(lines):
     """The color and the dashes of each group that a link has."""
     return {group: (GROUP_COLORS[at % len(GROUP_COLORS)], GROUP_DASHES[at // len(GROUP_COLORS) % len(GROUP_DASHES)])
-            for at, group in enumerate(sorted({link.group for link in links.values()}))}
+            for at, group in enumerate(sorted({link.group for link, _ in lines}))}
+
+
+def most_free(lines, priority):
+    return max((one.free[priority] for pair in lines for one in pair if one), default=0)
 
 
 def width_of(free, most):
@@ -65,11 +69,12 @@ def about(link, back, names, priority, overbooked):
     return "\n".join(says)
 
 
-def circuits(lines, curves, names, priority, groups, most, overbooked, opacity):
+def circuits(lines, curves, names, priority, overbooked, opacity):
     """The circuits and the links of one way; those that are overbooked have a band under them."""
     for (link, back), line in zip(lines, curves):
         if any(one.name in overbooked for one in (link, back) if one):
             yield shapes.line("band", line.path(), shapes.BAND)
+    most, groups = most_free(lines, priority), groups_of(lines)
     for (link, back), line in zip(lines, curves):
         free = min(one.free[priority] for one in (link, back or link))
         color, dash = groups[link.group]
@@ -108,47 +113,45 @@ def marks_of_routes(routes, places):
     return shown, radii
 
 
-def notes_of(opacity, links, routes, groups, names, priority, is_marked, is_overbooked, numbers, is_one_way):
-    """The legend."""
-    most = max((link.free[priority] for link in links.values()), default=0)
-    notes = [(shapes.sample(f"stroke:{color};stroke-dasharray:{dash or 'none'};stroke-width:4{opacity}"), f"group 0x{group:x}")
-             for group, (color, dash) in groups.items()]
-    if links:
-        notes.append((shapes.sample(f"stroke:#444;stroke-width:{WIDEST}"),
-                      f"widest: {most:,} bytes per second unreserved at priority {priority}; dotted: none"))
-    else:
-        notes.append((None, "The network has no routers."))
-    if is_one_way:
+def notes_of_circuits(lines, priority, opacity):
+    """The legend of groups and widths."""
+    if not lines:
+        return [(None, "The network has no routers.")]
+    notes = [(shapes.sample(f"stroke:{color};stroke-dasharray:{dash or 'none'};stroke-width:4{opacity}"), f"group 0x{group:x}" if group else "no group (0x0)")
+             for group, (color, dash) in groups_of(lines).items()]
+    notes.append((shapes.sample(f"stroke:#444;stroke-width:{WIDEST}"),
+                  f"widest: {most_free(lines, priority):,} bytes per second unreserved at priority {priority}; dotted: none"))
+    if not all(back for _, back in lines):
         notes.append((shapes.one_way_sample, "one direction alone, or in other groups than its reverse"))
-    if is_overbooked:
-        notes.append((shapes.sample(shapes.BAND), "overbooked: more is asked of it than it has unreserved"))
-    if is_marked:
-        notes.append((lambda x, y: shapes.router(x, y, True), "no transit: no route passes through it"))
-    for route, (color, dash) in zip(routes, ROUTE_STYLES):
-        notes.append((shapes.sample(f"stroke:{color};stroke-dasharray:{dash or 'none'};stroke-width:3"), route_text(route, names)))
-    if routes:
-        notes.append((lambda x, y: shapes.ring(x, y, 9, ROUTE_STYLES[0][0]), "ring: where a route begins"))
-        notes.append((lambda x, y: shapes.diamond(x, y, 11, ROUTE_STYLES[0][0]), "diamond: where it ends"))
-    return notes + shapes.number_notes(numbers, names)
+    return notes
+
+
+def notes_of_routes(routes, names):
+    """The legend of routes."""
+    notes = [(shapes.sample(f"stroke:{color};stroke-dasharray:{dash or 'none'};stroke-width:3"), route_text(route, names))
+             for route, (color, dash) in zip(routes, ROUTE_STYLES)]
+    ends = [(lambda x, y: shapes.ring(x, y, 9, RED), "ring: where a route begins"), (lambda x, y: shapes.diamond(x, y, 11, RED), "diamond: where it ends")]
+    return notes + ends if routes else []
 
 
 def network_picture(title, links, marks, places, names, routes, priority, overbooked):
-    """The lines of the whole picture. What is overbooked: by a link's name the priority, what is asked and what is unreserved."""
+    """The lines of the whole picture. What is overbooked: by a link's name what `swept` reads of it."""
     places, wide, high = fit(places)
-    lines, groups, sheet, opacity = lines_of(links), groups_of(links), Sheet(wide, high), ";stroke-opacity:0.5" if routes else ""
-    most = max((link.free[priority] for link in links.values()), default=0)
-    curves = shapes.curves([(link.key[0], link.neighbor) for link, _ in lines], places)
-    at = {}
+    lines, sheet, opacity = lines_of(links), Sheet(wide, high), ";stroke-opacity:0.5" if routes else ""
+    curves, at = shapes.curves([(link.key[0], link.neighbor) for link, _ in lines], places), {}
     for (link, back), line in zip(lines, curves):
         at[link.key] = line
         if back:
             at[back.key] = line.reversed()
-    drawn = list(circuits(lines, curves, names, priority, groups, most, overbooked, opacity))
-    drawn += route_lines(routes, at, sheet, names)
+    drawn = [*circuits(lines, curves, names, priority, overbooked, opacity), *route_lines(routes, at, sheet, names)]
     ends, radii = marks_of_routes(routes, places)
     shapes.place_names(sheet, places, names, radii, curves)
     texts, numbers = shapes.texts_of_names(sheet, places, names)
-    drawn += ends + list(shapes.routers(places, names, marks, numbers)) + texts
-    notes = notes_of(opacity, links, routes, groups, names, priority, not marks.isdisjoint(places), bool(overbooked), numbers, any(not back for _, back in lines))
-    shown, more = legend(notes, wide, high)
+    drawn += [*ends, *shapes.routers(places, names, marks, numbers), *texts]
+    notes = notes_of_circuits(lines, priority, opacity)
+    if overbooked:
+        notes.append((shapes.sample(shapes.BAND), "overbooked: more is asked of it than it has unreserved"))
+    if not marks.isdisjoint(places):
+        notes.append((lambda x, y: shapes.router(x, y, True), "no transit: no route passes through it"))
+    shown, more = legend(notes + notes_of_routes(routes, names) + shapes.number_notes(numbers, names), wide, high)
     return picture(title, wide, high + more + 10, drawn + shown)

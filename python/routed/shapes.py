@@ -89,9 +89,8 @@ def router(x, y, is_marked, radius=ROUTER, text=""):
     style, inside = 'style="fill:#fff;stroke:#000;stroke-width:2"', hover(text) if text else ""
     if not is_marked:
         return f'<circle class="router" cx="{x:.1f}" cy="{y:.1f}" r="{radius}" {style}>{inside}</circle>'
-    half = radius + 1
-    cross = "" if radius != ROUTER else f"zl{2 * half} {2 * half}m0 -{2 * half}l-{2 * half} {2 * half}"
-    return f'<path class="no-transit" d="M{x - half:.1f} {y - half:.1f}h{2 * half}v{2 * half}h-{2 * half}{cross or "z"}" {style}>{inside}</path>'
+    half, cross = (7, "l14 14m0 -14l-14 14") if radius == ROUTER else (radius, "")  # a number takes the place of the cross
+    return f'<path class="no-transit" d="M{x - half:.1f} {y - half:.1f}h{2 * half}v{2 * half}h-{2 * half}z{cross}" {style}>{inside}</path>'
 
 
 def plate(box):
