@@ -143,8 +143,9 @@ class Updater:
         self.sent = key, row
         return f"drop,{key}\n" if gone else f"put,{row}\n"
 
-    def bring(self, place, draw, child):
-        """Brings batches until the server is gone; whether what it had at first was what was told, None where nobody was told."""
+    def bring(self, place, draw, child, begun):
+        """Brings batches until the server is gone, and says so when it begins; whether what the server had at first was what was told,
+        None where nobody was told."""
         while True:
             if child.poll() is not None:
                 return None
@@ -153,11 +154,11 @@ class Updater:
                 break
             time.sleep(0.002)
         try:
-            return self.talk(taken, draw)
+            return self.talk(taken, draw, begun)
         finally:
             taken.socket.close()
 
-    def talk(self, taken, draw):
+    def talk(self, taken, draw, begun):
         good = None
         with contextlib.suppress(OSError, EOFError):
             version = int(heard(taken, "snapshot\n").split()[1])
@@ -167,6 +168,7 @@ class Updater:
                 if kind == "put":
                     links[",".join(rest.split(",")[:2])] = rest
             good = self.learn(links)
+            begun()
             while heard(taken, f"{self.next(draw)}end,{version + 1},1\n") == f"version {version + 1}\n":
                 self.keep(*self.sent)
                 self.sent, version = None, version + 1
@@ -214,15 +216,14 @@ def kills(program, checks):
             begun = time.monotonic()
             child = subprocess.Popen([os.path.join(DEPLOY, "serve"), "--clients", "2"], env=env, start_new_session=True,
                                      stdout=subprocess.PIPE, stderr=subprocess.DEVNULL, text=True)
-            if at % 2 or at in (0, KILLS):
+            is_served = at % 2 or at in (0, KILLS)
+            timer = threading.Timer(draw.uniform(0, SERVING if is_served else took), kill, [child, at // 2 % 4])
+            if is_served:
                 checks.same(f"start {at} is ready", child.stdout.readline(), "ready\n")
                 took = max(took, time.monotonic() - begun)
-                moment = draw.uniform(0, SERVING)
             else:
-                moment = draw.uniform(0, took)
-            timer = threading.Timer(moment, kill, [child, at // 2 % 4])
-            timer.start()
-            good = updater.bring(env["ROUTED_UPDATES"], draw, child)
+                timer.start()
+            good = updater.bring(env["ROUTED_UPDATES"], draw, child, timer.start if is_served else lambda: None)
             timer.join()
             child.wait(PATIENCE)
             child.stdout.close()
