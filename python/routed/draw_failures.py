@@ -1,95 +1,119 @@
-"""Draws as SVG what each circuit's failure does, from the lines that `tools/sweep` prints of single circuits.
+"""Draws as SVG what each circuit's failure does, from the lines that `sweep` prints of single circuits.
 
-A circuit has the color of the worst that its failure does, and on it stands how many requests lose their route and how many get
-a longer one. The lines come on standard input, and the picture goes to standard output.
+A circuit has the color of the worst that its failure does, and on it stands how many requests lose their route, how many get a longer
+one and how many links are overbooked then. The lines come on standard input, and the picture goes to standard output.
 """
 import argparse
-import collections
-import math
-import re
 import sys
-from xml.sax.saxutils import escape
 
-from .canvas import BLUE, GRAY, HEIGHT, LEGEND_LINE, RED, TEXT, WIDTH, fit, picture, read_places
+from . import positions, shapes
+from .canvas import BLUE, GRAY, ORANGE, RED, fit, legend, picture, text_in
+from .labels import SMALL, Sheet, Wanted, box_of
+from .swept import failures, overbooked_before
 
-ASIDE = 14  # how far apart circuits between the same two routers are
-ALONG = 0.55  # where the counts of a circuit stand on it
-KINDS = {"lost": (RED, "a request loses its route"), "longer": (BLUE, "none does, and one gets a longer route"), "none": (GRAY, "neither")}
-STYLE = f"text{{font:{TEXT}px sans-serif;text-anchor:middle;paint-order:stroke;stroke:#fff;stroke-width:5px}}.note{{text-anchor:start}}"
-OUT = re.compile(r"scenario (\d+) out (circuit|link) (\S+) (\S+) (\S+) (\S+)")
-COUNTS = re.compile(r"scenario (\d+) lost=(\d+) longer=(\d+) most=\d+ overbooked=\d+")
-WHOLE = re.compile(r"scenarios=(\d+) lost=\d+ longer=\d+ overbooked=\d+")
-
-Failure = collections.namedtuple("Failure", "one other lost longer")
-
-
-def read_failures(lines):
-    """What each scenario does. They are there all, and each has one circuit out."""
-    outs, found, count = {}, [], None
-    for line in lines:
-        line = line.rstrip("\n")
-        if out := OUT.fullmatch(line):
-            if out[1] in outs:
-                raise ValueError(f"scenario {out[1]} has two circuits out")
-            outs[out[1]] = out[3], out[5]
-        elif counts := COUNTS.fullmatch(line):
-            if counts[1] not in outs:
-                raise ValueError(f"scenario {counts[1]} has no circuit out")
-            found.append(Failure(*outs[counts[1]], int(counts[2]), int(counts[3])))
-        elif whole := WHOLE.fullmatch(line):
-            count = int(whole[1])
-    if count is None or count != len(found):
-        raise ValueError("the sweep isn't whole")
-    return found
+KINDS = {"lost": (f"stroke:{RED};stroke-width:6", "a request loses its route"),
+         "longer": (f"stroke:{BLUE};stroke-width:4", "no request loses its route, and one gets a longer one"),
+         "overbooked": (f"stroke:{ORANGE};stroke-width:4;stroke-dasharray:10 4", "no route is lost or longer, and a link is overbooked more than before"),
+         "none": (f"stroke:{GRAY};stroke-width:2", "no request and no link is worse off")}
+INK = {"lost": "#a84300", "longer": "#005a8e", "overbooked": "#8a5f00"}  # of the counts, dark enough to read
+ALONG = (0.5, 0.44, 0.56, 0.38, 0.62, 0.32, 0.68, 0.26, 0.74, 0.2, 0.8)  # where on its circuit a count may be
+IDS = 12  # of requests that are named where the pointer is
 
 
 def kind_of(failure):
-    return "lost" if failure.lost else "longer" if failure.longer else "none"
+    return "lost" if failure.lost else "longer" if failure.longer else "overbooked" if failure.overbooked else "none"
 
 
-def drawn(failures, places, names):
-    """The circuits, with what their failures do, the routers and the legend. Circuits between the same two routers are side by side."""
-    beside, texts = collections.Counter(), []
-    for failure in failures:
-        ends = tuple(sorted((failure.one, failure.other)))
-        (x, y), (to_x, to_y) = (places[end] for end in ends)
-        far, aside = math.hypot(to_x - x, to_y - y) or 1.0, beside[ends] * ASIDE
-        beside[ends] += 1
-        over, down = -(to_y - y) / far * aside, (to_x - x) / far * aside
-        color, _ = KINDS[kind_of(failure)]
-        yield (f'<line class="{kind_of(failure)}" x1="{x + over:.0f}" y1="{y + down:.0f}" x2="{to_x + over:.0f}" y2="{to_y + down:.0f}" '
-               f'style="stroke:{color};stroke-width:4"/>')
+def counts_of(failure):
+    return f"{failure.lost}/{failure.longer}/{len(failure.overbooked)}"
+
+
+def between(failure, names):
+    return f"{names[failure.one]} {'–' if failure.is_circuit else 'to'} {names[failure.other]}"
+
+
+def about(failure, names, over):
+    """What is said of a circuit where the pointer is on it."""
+    says = [f"without {between(failure, names)} ({failure.link})"]
+    for count, ids, what in ((failure.lost, failure.lost_ids, "lose their route"), (failure.longer, failure.longer_ids, "get a longer one")):
+        says += [f"{count} {what}: {', '.join(ids[:IDS])}{', ..' if len(ids) > IDS else ''}"] if count else []
+    says += [f"overbooked then: {link}" for link in failure.overbooked[:IDS]]
+    says += [f"overbooked while nothing fails, at priority {it.priority}: {it.asked:,} bytes per second are asked of {it.unreserved:,}" for it in over]
+    return "\n".join(says)
+
+
+def place_counts(found, curves, sheet):
+    """Gives the counts their boxes, each on its circuit or beside it."""
+    wanted = []
+    for index, (failure, line) in enumerate(zip(found, curves)):
         if kind_of(failure) != "none":
-            at_x, at_y = x + (to_x - x) * ALONG + over, y + (to_y - y) * ALONG + down + 5
-            texts.append(f'<text class="counts" x="{at_x:.0f}" y="{at_y:.0f}" style="fill:{color}">{failure.lost}/{failure.longer}</text>')
-    for router, (x, y) in sorted(places.items()):
-        yield f'<circle cx="{x:.0f}" cy="{y:.0f}" r="6" style="fill:#fff;stroke:#000;stroke-width:2"/>'
-        half = 0.31 * TEXT * len(names[router]) + 4
-        yield f'<text class="name" x="{min(max(x, half), WIDTH - half):.0f}" y="{y - 13:.0f}">{escape(names[router])}</text>'
-    yield from texts
-    for at, (color, text) in enumerate(KINDS.values()):
-        y = HEIGHT + LEGEND_LINE * at
-        yield f'<line x1="20" y1="{y}" x2="60" y2="{y}" style="stroke:{color};stroke-width:4"/><text class="note" x="70" y="{y + 5}">{text}</text>'
-    yield f'<text class="note" x="20" y="{HEIGHT + LEGEND_LINE * len(KINDS) + 5}">l/m: without the circuit l requests lose their route, and m get a longer one</text>'
+            spots = [(box_of(*line.aside(aside).at(part), counts_of(failure), SMALL), against + abs(part - 0.5) * 10)
+                     for aside, against in ((0, 0), (14, 12), (-14, 12)) for part in ALONG]
+            wanted.append(Wanted(index, counts_of(failure), spots))
+    sheet.place(wanted, ink=0.3)
+
+
+def failures_picture(title, found, over, places, names):
+    """The lines of the whole picture."""
+    places, wide, high = fit(places)
+    sheet, curves, drawn = Sheet(wide, high), shapes.curves([(it.one, it.other) for it in found], places), []
+    drawn += [shapes.line("band", line.path(), shapes.BAND) for failure, line in zip(found, curves) if over[failure]]
+    for failure, line in zip(found, curves):
+        drawn.append(shapes.line(kind_of(failure), line.path(), KINDS[kind_of(failure)][0], about(failure, names, over[failure])))
+        drawn += [] if failure.is_circuit else [shapes.arrow(line, "#444", 0.8)]
+    shapes.place_names(sheet, places, names, dict.fromkeys(places, shapes.NUMBERED), curves)
+    place_counts(found, curves, sheet)
+    texts, numbers = shapes.texts_of_names(sheet, places, names)
+    drawn += list(shapes.routers(places, names, set(), numbers)) + texts
+    absent = []
+    for index, failure in enumerate(found):
+        if box := sheet.box(index):
+            drawn += [shapes.plate(box), text_in(box, counts_of(failure), "counts", SMALL, INK[kind_of(failure)])]
+        elif kind_of(failure) != "none":
+            absent.append(failure)
+    shown, more = legend(notes_of(found, over, names, absent, numbers), wide, high)
+    return picture(title, wide, high + more + 10, drawn + shown)
+
+
+def notes_of(found, over, names, absent, numbers):
+    """The legend, and what has no room in the picture."""
+    kinds = {kind_of(failure) for failure in found}
+    notes = [(shapes.sample(style), text) for kind, (style, text) in KINDS.items() if kind in kinds]
+    if not found:
+        notes.append((None, "The network has no circuits."))
+    if kinds - {"none"}:
+        notes.append((None, "l/m/o: l requests lose their route, m get a longer one, o links are overbooked more than before"))
+    if any(over.values()):
+        notes.append((shapes.sample(shapes.BAND), "overbooked while nothing fails: more is asked of it than it has unreserved"))
+    if not all(failure.is_circuit for failure in found):
+        notes.append((shapes.one_way_sample, "one direction alone"))
+    if absent:
+        notes.append((None, "Counts without room: " + ", ".join(f"{between(it, names)} {counts_of(it)}" for it in absent)))
+    return notes + shapes.number_notes(numbers, names)
+
+
+def by_circuit(found, before):
+    """What is overbooked of each circuit while nothing fails, in either direction. A line names a link by its addresses in order."""
+    def names_of(failure):
+        router, local, neighbor, remote = failure.link.split()
+        return failure.link, f"{neighbor} {remote} {router} {local}"
+    return {failure: [it for name in names_of(failure)[:2 if failure.is_circuit else 1] for it in before.get(name, ())] for failure in found}
 
 
 def main(words=None):
     """Takes the words of a command line, and answers the status."""
     asked = argparse.ArgumentParser(prog="draw-failures", description=__doc__, formatter_class=argparse.RawDescriptionHelpFormatter)
-    asked.add_argument("--places", required=True, metavar="FILE", help="lines of a router's address, x, y and a name")
+    positions.add_options(asked)
     asked.add_argument("--title", default="Failures of circuits")
     given = asked.parse_args(words)
     try:
-        failures = read_failures(sys.stdin)
-        places, names = {}, {}
-        with open(given.places, encoding="utf-8") as lines:
-            for _, router, place, name in read_places(lines):
-                places[router], names[router] = place, name
-        absent = sorted({end for failure in failures for end in (failure.one, failure.other)} - set(places))
-        if absent:
-            raise ValueError(f"there is no place of {absent[0]}")
-        shown = drawn(failures, fit(places), names)
-        print(*picture(given.title, STYLE, HEIGHT + LEGEND_LINE * (len(KINDS) + 1), shown), sep="\n")
+        lines = sys.stdin.read().splitlines()
+        found = failures(lines)
+        over = by_circuit(found, overbooked_before(lines))
+        routers = sorted({end for failure in found for end in (failure.one, failure.other)})
+        pairs = sorted({tuple(sorted((failure.one, failure.other))) for failure in found})
+        places, names = positions.positions(given, routers, pairs, "draw-failures")
+        print(*failures_picture(given.title, found, over, places, names), sep="\n")
     except (ValueError, OSError) as fault:
         print(f"draw-failures: {fault}", file=sys.stderr)
         return 1

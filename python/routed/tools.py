@@ -1,6 +1,6 @@
 """Runs one of the tools round `routed`.
 
-    routed-tools listen|connect|feed|sweep|join|draw|draw-failures|why ...
+    routed-tools listen|connect|feed|sweep|join|draw|draw-failures|import|why ...
 
 `routed-tools TOOL --help` says what a tool takes. Those that run `routed` find it by --program, else by the environment
 variable ROUTED_PROGRAM, else on PATH, else where the source tree builds it.
@@ -16,6 +16,7 @@ TOOLS = {
     "join": (".join", "one sweep of its parts"),
     "draw": (".draw", "a picture of a network, with the routes of replies"),
     "draw-failures": (".draw_failures", "a picture of what circuits' failures do"),
+    "import": (".importer", "rows of a network in the format of SNDlib, or in GraphML"),
     "why": (".why", "three small networks, asked of FRR's cspf and of `routed solve`"),
 }
 

@@ -1,0 +1,195 @@
+"""Texts of a picture, placed so that none covers another, a router or the edge: what finds no room is left out, and its caller lists it.
+
+A box is left, top, right and bottom in pixels. The widths of characters are those of DejaVu Sans or Verdana, the wider of the two, so a
+text is never wider than its box in the fonts that pictures name.
+"""
+import collections
+import math
+import unicodedata
+
+FONT = "'DejaVu Sans',Verdana,sans-serif"
+TEXT, SMALL = 15, 13  # pixels: of names and the legend, and of counts
+ASCENT, DESCENT = 0.93, 0.24  # of the font size, above and below the base line
+GAP, GAP_ASIDE = 1, 4  # pixels that stay free above and below a text, and beside it
+EDGE = 4  # pixels from a text to the edge of the picture
+CELL = 64  # pixels of a cell in which boxes are looked up
+STEP = 6  # pixels between two points of a line, and the size of their cells
+NEAR, CLOSE = 8, 4  # pixels from a text to a router that it isn't of, and what is against a spot that is nearer
+ROUNDS = 4
+# Thousandths of the font size, from the space to the tilde.
+WIDTHS = [int(it) for it in (
+    "352 401 460 838 636 1077 780 275 454 454 636 838 364 454 364 454 636 636 636 636 636 636 636 636 636 636 454 454 838 838 838 546 "
+    "1000 684 686 698 771 632 575 776 752 421 455 693 557 863 748 788 603 788 696 685 616 732 684 989 686 616 686 454 454 454 838 636 "
+    "636 613 635 550 635 615 352 635 634 278 344 592 278 974 634 612 635 635 427 521 394 634 592 818 592 592 526 636 454 636 838").split()]
+
+# A text that wants a place: what it is of, the text, and its spots: pairs of a box and what is against it, 0 for the best.
+Wanted = collections.namedtuple("Wanted", "key text spots")
+
+
+def width(text, size=TEXT):
+    """The pixels of a line of text. What isn't ASCII is as wide as its base letter, or as the widest letters are."""
+    whole = 0
+    for letter in unicodedata.normalize("NFD", text):
+        if " " <= letter <= "~":
+            whole += WIDTHS[ord(letter) - 32]
+        elif not unicodedata.combining(letter):
+            whole += 1100
+    return whole * size / 1000
+
+
+def box_of(x, y, text, size=TEXT):
+    """The box of a text whose middle is at a point."""
+    wide, high = width(text, size) / 2, (ASCENT + DESCENT) * size / 2
+    return x - wide, y - high, x + wide, y + high
+
+
+def base_of(box, size=TEXT):
+    """The middle of a box, and the base line of the text in it."""
+    return (box[0] + box[2]) / 2, box[3] - DESCENT * size
+
+
+def cut(text, room, size=TEXT):
+    """The text, cut where it is wider than the room."""
+    if width(text, size) <= room:
+        return text
+    while text and width(text + "…", size) > room:
+        text = text[:-1]
+    return text + "…"
+
+
+def wrapped(text, room, size=TEXT):
+    """The text as lines that are no wider than the room."""
+    lines = [""]
+    for word in text.split():
+        longer = f"{lines[-1]} {word}".strip()
+        if width(longer, size) <= room:
+            lines[-1] = longer
+        else:
+            lines.append(cut(word, room, size))
+    return [line for line in lines if line]
+
+
+def spots_round(x, y, radius, text, size=TEXT):
+    """Where a text may be round a circle, the better ones first."""
+    wide, high = width(text, size) / 2, (ASCENT + DESCENT) * size / 2
+    up, aside, slant = radius + high + GAP, radius + wide + GAP_ASIDE, 0.7 * radius + GAP_ASIDE
+    corner = slant + wide, slant + high
+    around = [(0, -up, 0), (aside, 0, 1), (-aside, 0, 1), (0, up, 1)]
+    around += [(side * corner[0], down * corner[1], 2) for down in (-1, 1) for side in (1, -1)]
+    around += [(side * wide * part, down * up, 3) for part in (0.4, 0.75) for down in (-1, 1) for side in (1, -1)]
+    around += [(side * aside, down * high * 0.6, 3) for down in (-1, 1) for side in (1, -1)]
+    around += [(side * wide * part, down * (up + 7), 5) for part in (0, 0.5) for down in (-1, 1) for side in ((1, -1) if part else (1,))]
+    return [(box_of(x + to_x, y + to_y, text, size), against) for to_x, to_y, against in around]
+
+
+def meet(one, other):
+    return one[0] < other[2] and other[0] < one[2] and one[1] < other[3] and other[1] < one[3]
+
+
+class Boxes:
+    """Boxes by the cells that they touch, each under a key."""
+
+    def __init__(self):
+        self.cells = collections.defaultdict(dict)
+
+    def cells_of(self, box):
+        for column in range(int(box[0] // CELL), int(box[2] // CELL) + 1):
+            for row in range(int(box[1] // CELL), int(box[3] // CELL) + 1):
+                yield column, row
+
+    def put(self, key, box):
+        for cell in self.cells_of(box):
+            self.cells[cell][key] = box
+
+    def drop(self, key, box):
+        for cell in self.cells_of(box):
+            del self.cells[cell][key]
+
+    def meeting(self, box):
+        """The keys of boxes that the box meets, those in the first cells first."""
+        found = {}
+        for cell in self.cells_of(box):
+            for key, other in self.cells.get(cell, {}).items():
+                if meet(box, other):
+                    found[key] = other
+        return found
+
+
+class Sheet:
+    """A picture's free room: what is drawn there, and the texts placed so far."""
+
+    def __init__(self, wide, high):
+        self.wide, self.high = wide, high
+        self.drawn, self.texts, self.ink = Boxes(), Boxes(), collections.Counter()
+        self.spots, self.placed = {}, {}
+
+    def block(self, key, box):
+        """No text may be there."""
+        self.drawn.put(key, box)
+
+    def line(self, points, weight=1):
+        """Texts had better not be on this line."""
+        for (x, y), (to_x, to_y) in zip(points, points[1:]):
+            steps = max(1, int(math.hypot(to_x - x, to_y - y) / STEP))
+            for step in range(steps):
+                at = step / steps
+                self.ink[int((x + (to_x - x) * at) // STEP), int((y + (to_y - y) * at) // STEP)] += weight
+
+    def under(self, box):
+        """How much of lines is under a box."""
+        return sum(self.ink.get((column, row), 0) for column in range(int(box[0] // STEP), int(box[2] // STEP) + 1)
+                   for row in range(int(box[1] // STEP), int(box[3] // STEP) + 1))
+
+    def place(self, wanted, ink=1.0):
+        """Gives texts their boxes, those with the fewest spots first; then each may move to a better one. Texts of calls before may move, and
+        stay in the picture. The ink is what is against a spot for each point of a line under it."""
+        for text in wanted:
+            free = [(against + ink * self.under(box) + CLOSE * len(self.drawn.meeting(wider(box, NEAR)).keys() - {text.key}), at, wider(box))
+                    for at, (box, against) in enumerate(text.spots) if self.is_free(box)]
+            self.spots[text.key] = [box for _, _, box in sorted(free)]
+        order = sorted((text.key for text in wanted), key=lambda key: len(self.spots[key]))
+        for _ in range(ROUNDS):
+            for key in order:
+                if key in self.placed:
+                    self.texts.drop(key, self.placed[key])
+                box = self.first_free(key)
+                if box is None and self.make_room(key):
+                    box = self.first_free(key)
+                if box is not None:
+                    self.placed[key] = box
+                    self.texts.put(key, box)
+
+    def first_free(self, key):
+        return next((box for box in self.spots[key] if not self.texts.meeting(box)), None)
+
+    def make_room(self, key):
+        """Moves one text so that another has a spot, where that can be done."""
+        for box in self.spots[key]:
+            in_the_way = list(self.texts.meeting(box))
+            if len(in_the_way) == 1:
+                other, = in_the_way
+                self.texts.drop(other, self.placed[other])
+                to = next((it for it in self.spots[other] if not meet(it, box) and not self.texts.meeting(it)), None)
+                self.placed[other] = to or self.placed[other]
+                self.texts.put(other, self.placed[other])
+                if to:
+                    return True
+        return False
+
+    def box(self, key):
+        """The box of a text, None where it has no room."""
+        return narrower(self.placed[key]) if key in self.placed else None
+
+    def is_free(self, box):
+        is_inside = EDGE <= box[0] and EDGE <= box[1] and box[2] <= self.wide - EDGE and box[3] <= self.high - EDGE
+        return is_inside and not self.drawn.meeting(box)
+
+
+def wider(box, aside=None):
+    """The box with the gaps of texts round it, or with as much on each side."""
+    across, down = (GAP_ASIDE, GAP) if aside is None else (aside, aside)
+    return box[0] - across, box[1] - down, box[2] + across, box[3] + down
+
+
+def narrower(box):
+    return box[0] + GAP_ASIDE, box[1] + GAP, box[2] - GAP_ASIDE, box[3] - GAP

@@ -1,0 +1,197 @@
+"""Places of routers that have none: made from the links alone, the same each time.
+
+Each component is laid out by itself. Pivot MDS (Brandes and Pich, 2006) places routers by their distances in hops from some pivots, and
+rounds of springs and of repulsion within a grid of cells make the rest even. Components are put beside each other in rows.
+A place is a pair of x and y, in units of a usual circuit's length.
+"""
+import collections
+import math
+import random
+
+PIVOTS = 30
+ROUNDS = 60  # half as many in a large network
+STRETCHED = 2.0  # circuits that are longer pull as if they were as long as this for their length
+LONGEST = 1.0  # how far a router moves in a round, at first
+FARTHEST = 2.0  # how far out a router may be before the rounds, in the usual distances from the middle
+REACH = 2.0  # how far routers push each other off, in lengths of a circuit; four times as far in a small network
+SMALL = 100
+NEAR = 0.8  # the same where some routers stay where they are
+APART = 1.5  # between components
+
+
+def lay_out(routers, pairs):
+    """A place for each router, from the pairs of routers that have a circuit."""
+    return packed([component(part, neighbors) for part, neighbors in components(routers, pairs)])
+
+
+def complete(places, routers, pairs):
+    """The places, and one for each router that has none: among its neighbors where a way leads to a router with a place, else beside all
+    of these."""
+    places = {router: places[router] for router in routers if router in places}
+    if not places or len(places) == len(routers):
+        return places or lay_out(routers, pairs)
+    neighbors, given, unit = neighbors_of(routers, pairs), set(places), usual_length(places, pairs, len(routers))
+    order = [router for router in hops_from(places, neighbors) if router not in given]
+    for _ in range(30):
+        for router in order:
+            near = [places[other] for other in neighbors[router] if other in places]
+            places[router] = tuple(sum(axis) / len(near) for axis in zip(*near))
+    if order:
+        drawn = random.Random(1)
+        scaled = {router: (x / unit + drawn.uniform(-0.1, 0.1), y / unit + drawn.uniform(-0.1, 0.1)) for router, (x, y) in places.items()}
+        moved = relaxed(scaled, {router: neighbors[router] for router in places}, given)
+        places.update({router: (moved[router][0] * unit, moved[router][1] * unit) for router in order})
+    alone = [router for router in routers if router not in places]
+    _, top, right, _ = bounds(places)
+    for router, (x, y) in lay_out(alone, [pair for pair in pairs if pair[0] not in places]).items():
+        places[router] = right + unit * (APART + x), top + unit * y
+    return places
+
+
+def usual_length(places, pairs, count):
+    """The median length of circuits between routers with places, or what is usual for their number."""
+    lengths = sorted(math.dist(places[one], places[other]) for one, other in pairs if one in places and other in places)
+    left, top, right, bottom = bounds(places)
+    return (lengths and lengths[len(lengths) // 2]) or max(right - left, bottom - top) / math.sqrt(count) or 1.0
+
+
+def neighbors_of(routers, pairs):
+    neighbors = {router: set() for router in routers}
+    for one, other in pairs:
+        neighbors[one].add(other)
+        neighbors[other].add(one)
+    return {router: sorted(near) for router, near in neighbors.items()}
+
+
+def hops_from(roots, neighbors):
+    """How many hops each router is from the nearest of the roots, those that can be reached, the nearest first."""
+    hops, queue = {root: 0 for root in roots}, collections.deque(roots)
+    while queue:
+        router = queue.popleft()
+        for other in neighbors[router]:
+            if other not in hops:
+                hops[other] = hops[router] + 1
+                queue.append(other)
+    return hops
+
+
+def components(routers, pairs):
+    """The components, the largest first: the routers of each, and their neighbors."""
+    neighbors, seen, found = neighbors_of(routers, pairs), set(), []
+    for router in sorted(routers):
+        if router not in seen:
+            part = sorted(hops_from([router], neighbors))
+            seen.update(part)
+            found.append((part, neighbors))
+    return sorted(found, key=lambda it: -len(it[0]))
+
+
+def component(routers, neighbors):
+    places = pivoted(routers, neighbors)
+    return relaxed(places, {router: neighbors[router] for router in routers}) if len(routers) > 2 else places
+
+
+def pivoted(routers, neighbors):
+    """Places by Pivot MDS, in units of a hop. Each is moved a little, so that no two are the same."""
+    drawn = random.Random(1)
+    columns, nearest, pivot = [], dict.fromkeys(routers, math.inf), routers[0]
+    while len(columns) < min(PIVOTS, len(routers)):
+        hops = hops_from([pivot], neighbors)
+        columns.append([hops[router] ** 2 for router in routers])
+        nearest = {router: min(nearest[router], hops[router]) for router in routers}
+        pivot = max(routers, key=nearest.get)
+    means = [sum(column) / len(routers) for column in columns]
+    rows = [[square - mean for square, mean in zip(row, means)] for row in zip(*columns)]
+    rows = [[(sum(row) / len(row) - it) / 2 for it in row] for row in rows]
+    axes = []
+    for _ in range(2):
+        axes.append(main_axis(rows, axes, drawn))
+    points = [[sum(a * b for a, b in zip(row, axis)) for axis in axes] for row in rows]
+    usual = sorted(math.hypot(*point) for point in points)[len(points) // 2] or 1.0
+    unit = math.sqrt(len(routers)) / 3 / usual  # so that about one router is on each unit of area
+    return {router: tuple(it * unit * min(1, FARTHEST * usual / (math.hypot(*point) or 1.0)) + drawn.uniform(-0.1, 0.1) for it in point)
+            for router, point in zip(routers, points)}
+
+
+def main_axis(rows, others, drawn):
+    """The axis along which rows are spread most, across those that are found already: by the power method."""
+    axis = [drawn.uniform(-1, 1) for _ in rows[0]]
+    for _ in range(25):
+        lengths = [sum(a * b for a, b in zip(row, axis)) for row in rows]
+        axis = [sum(length * it for length, it in zip(lengths, column)) for column in zip(*rows)]
+        for other in others:
+            along = sum(a * b for a, b in zip(axis, other))
+            axis = [a - along * b for a, b in zip(axis, other)]
+        length = math.sqrt(sum(a * a for a in axis))
+        if length < 1e-9:
+            return [0.0] * len(axis)
+        axis = [a / length for a in axis]
+    return axis
+
+
+def relaxed(places, neighbors, still=()):
+    """The places behind some rounds, in which circuits pull and near routers push. Some stay where they are."""
+    index = {router: at for at, router in enumerate(places)}
+    reach = NEAR if still else REACH if len(places) > SMALL else 4 * REACH
+    moving = [at for router, at in index.items() if router not in still]
+    xs, ys = ([place[axis] for place in places.values()] for axis in (0, 1))
+    pairs = [(index[one], index[other], 3 / (len(neighbors[one]) + len(neighbors[other])))
+             for one in places for other in neighbors[one] if one < other]
+    rounds = ROUNDS if len(places) <= 4 * SMALL else ROUNDS // 2
+    for turn in range(rounds):
+        most, across, down = LONGEST * (1 - turn / rounds) + 0.02, [0.0] * len(xs), [0.0] * len(xs)
+        for one, other, pull in pairs:
+            x, y = xs[other] - xs[one], ys[other] - ys[one]
+            force = min(math.sqrt(x * x + y * y), STRETCHED) * pull
+            across[one] += force * x
+            across[other] -= force * x
+            down[one] += force * y
+            down[other] -= force * y
+        for one, other in near_pairs(list(zip(xs, ys)), reach):
+            x, y = xs[other] - xs[one], ys[other] - ys[one]
+            square = x * x + y * y + 1e-6
+            if square < reach * reach:
+                across[one] -= x / square
+                across[other] += x / square
+                down[one] -= y / square
+                down[other] += y / square
+        for router in moving:
+            x, y = across[router], down[router]
+            far = math.sqrt(x * x + y * y)
+            step = most / far if far > most else 1.0
+            xs[router] += x * step
+            ys[router] += y * step
+    return dict(zip(places, zip(xs, ys)))
+
+
+def near_pairs(places, reach):
+    """The pairs of indexes of places that may be nearer than the reach, by a grid of cells of that size."""
+    cells = collections.defaultdict(list)
+    for index, (x, y) in enumerate(places):
+        cells[int(x // reach), int(y // reach)].append(index)
+    for (column, row), here in list(cells.items()):
+        for at, one in enumerate(here):
+            for other in here[at + 1:]:
+                yield one, other
+        for beside in ((column + 1, row - 1), (column + 1, row), (column + 1, row + 1), (column, row + 1)):
+            for other in cells.get(beside, ()):
+                for one in here:
+                    yield one, other
+
+
+def bounds(places):
+    xs, ys = zip(*places.values())
+    return min(xs), min(ys), max(xs), max(ys)
+
+
+def packed(parts):
+    """The places of components in one picture: beside each other in rows, the largest first."""
+    places, across, down, high = {}, 0.0, 0.0, 0.0
+    sizes = [bounds(part) for part in parts]
+    wide = max([1.4 * math.sqrt(sum((r - l + APART) * (b - t + APART) for l, t, r, b in sizes)), *(r - l for l, _, r, _ in sizes)], default=0)
+    for part, (left, top, right, bottom) in zip(parts, sizes):
+        if across and across + right - left > wide:
+            across, down, high = 0.0, down + high + APART, 0.0
+        places.update({router: (x - left + across, y - top + down) for router, (x, y) in part.items()})
+        across, high = across + right - left + APART, max(high, bottom - top)
+    return places

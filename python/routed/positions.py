@@ -1,0 +1,59 @@
+"""Where routers are: by a file of positions, by what was kept of the last picture, else laid out."""
+import os
+import sys
+
+from .layout import complete
+
+FARTHEST = 1e12  # of x and y from 0
+
+
+def read_places(lines):
+    """Where routers stand: the number of the line, the router's address, its place and its name, from an address, x, y and a name in
+    each line."""
+    seen = set()
+    for number, line in enumerate(lines, 1):
+        fields = line.split(None, 3)
+        if fields and not fields[0].startswith("#"):
+            try:
+                router, place = fields[0], (float(fields[1]), float(fields[2]))
+            except (ValueError, IndexError):
+                raise ValueError(f"places, line {number}: an address, x and y are wanted") from None
+            if not all(abs(axis) <= FARTHEST for axis in place):
+                raise ValueError(f"places, line {number}: x and y are at most {FARTHEST:g}")
+            if router in seen:
+                raise ValueError(f"places, line {number}: {router} is there twice")
+            seen.add(router)
+            yield number, router, place, " ".join(fields[3].split()) if len(fields) > 3 else router
+
+
+def add_options(parser):
+    parser.add_argument("--places", metavar="FILE", help="lines of a router's address, x, y and a name; routers without one are laid out")
+    parser.add_argument("--keep", metavar="FILE", help="take the positions that are kept here, and keep those of routers that are new")
+
+
+def positions(asked, routers, pairs, program):
+    """Positions and names of the routers. A position of a router that isn't there is said and passed over."""
+    places, names, kept = {}, {router: router for router in routers}, {}
+    if asked.keep and os.path.exists(asked.keep):
+        with open(asked.keep, encoding="utf-8") as lines:
+            kept = {router: (place, name) for _, router, place, name in read_places(lines)}
+        places = {router: kept[router][0] for router in routers if router in kept}
+        names.update({router: kept[router][1] for router in places})
+    if asked.places:
+        with open(asked.places, encoding="utf-8") as lines:
+            for number, router, place, name in read_places(lines):
+                if router in names:
+                    places[router], names[router] = place, name
+                else:
+                    print(f"{program}: places, line {number}: the network has no router {router}", file=sys.stderr)
+    places = complete(places, routers, pairs)
+    if asked.keep:
+        keep(asked.keep, kept | {router: (places[router], names[router]) for router in routers})
+    return places, names
+
+
+def keep(path, kept):
+    """Writes the positions whole, or not at all."""
+    with open(f"{path}.new", "w", encoding="utf-8") as file:
+        file.writelines(f"{router} {x!r} {y!r} {name}\n" for router, ((x, y), name) in kept.items())
+    os.replace(f"{path}.new", path)

@@ -1,0 +1,150 @@
+"""The shapes of pictures: curves of circuits, routers, marks and names."""
+import collections
+import math
+
+from .canvas import hover, text_in
+from .labels import Boxes, Wanted, spots_round
+
+BEND = 16  # how far apart circuits between the same two routers are
+BENDS = [0, 20, -20, 34, -34, 50, -50]  # how far a circuit may go aside, so that it doesn't pass under a third router
+CLEAR = 13  # pixels from a circuit to the middle of a third router
+ROUTER, NUMBERED = 6, 9  # radius of a router, and of one that has a number in place of a name; all names keep off the larger one
+BAND = "stroke:#ffc46b;stroke-width:15"  # under what is overbooked
+INK = 1.5  # what a name pays for each point of a circuit under it
+MOST_SAMPLED = 3000  # circuits, above which they don't go round routers, and names don't go round circuits
+
+
+class Curve(collections.namedtuple("Curve", "start control end")):
+    """A quadratic Bézier curve."""
+
+    def at(self, part):
+        """The point at a part of the curve, from 0 to 1."""
+        return tuple((1 - part) ** 2 * a + 2 * part * (1 - part) * b + part ** 2 * c for a, b, c in zip(*self))
+
+    def angle(self, part):
+        """The direction at a part of the curve, in radians."""
+        over, down = ((1 - part) * (b - a) + part * (c - b) for a, b, c in zip(*self))
+        return math.atan2(down, over)
+
+    def points(self):
+        steps = max(2, int(math.dist(self.start, self.end) / 8))
+        return [self.at(step / steps) for step in range(steps + 1)]
+
+    def reversed(self):
+        return Curve(self.end, self.control, self.start)
+
+    def aside(self, far):
+        """The curve moved to the right of its direction, in pixels."""
+        angle = math.atan2(self.end[1] - self.start[1], self.end[0] - self.start[0])
+        over, down = -far * math.sin(angle), far * math.cos(angle)
+        return Curve(*((x + over, y + down) for x, y in self))
+
+    def path(self, verb="M"):
+        (x, y), (by_x, by_y), (to_x, to_y) = self
+        return f"{verb}{x:.1f} {y:.1f}Q{by_x:.1f} {by_y:.1f} {to_x:.1f} {to_y:.1f}"
+
+
+def curve(start, end, bend):
+    """A curve whose middle is that far to the right of the straight line."""
+    angle = math.atan2(end[1] - start[1], end[0] - start[0])
+    return Curve(start, ((start[0] + end[0]) / 2 - 2 * bend * math.sin(angle), (start[1] + end[1]) / 2 + 2 * bend * math.cos(angle)), end)
+
+
+def curves(ends, places):
+    """A curve for each pair of ends. Several between the same two routers are apart, and none passes under a third router where that can be
+    avoided."""
+    between, found, routers = collections.defaultdict(list), [None] * len(ends), Boxes()
+    for router, (x, y) in places.items():
+        routers.put(router, (x - CLEAR, y - CLEAR, x + CLEAR, y + CLEAR))
+    for index, pair in enumerate(ends):
+        between[tuple(sorted(pair))].append(index)
+    for pair, together in between.items():
+        def tried(bend):
+            return [curve(places[pair[0]], places[pair[1]], bend + (at - (len(together) - 1) / 2) * BEND) for at in range(len(together))]
+
+        def is_clear(them):
+            return all(set(routers.meeting((x, y, x, y))) <= set(pair) for it in them for x, y in it.points())
+
+        made = tried(0)
+        if len(ends) <= MOST_SAMPLED:
+            made = next((them for them in map(tried, BENDS) if is_clear(them)), made)
+        for index, it in zip(together, made):
+            found[index] = it if ends[index] == pair else it.reversed()
+    return found
+
+
+def arrow(line, color, part=0.55):
+    """The head of an arrow on a curve."""
+    (x, y), angle = line.at(part), line.angle(part)
+    tip, left, right = ((x + far * math.cos(angle + turn), y + far * math.sin(angle + turn)) for far, turn in ((8, 0), (7, 2.5), (7, -2.5)))
+    return f'<path class="arrow" d="M{tip[0]:.1f} {tip[1]:.1f}L{left[0]:.1f} {left[1]:.1f}L{right[0]:.1f} {right[1]:.1f}z" style="fill:{color}"/>'
+
+
+def line(kind, path, style, text=""):
+    return f'<path class="{kind}" d="{path}" style="{style}">{hover(text)}</path>' if text else f'<path class="{kind}" d="{path}" style="{style}"/>'
+
+
+def router(x, y, is_marked, radius=ROUTER, text=""):
+    """A circle; a square with a cross in it for a router without transit."""
+    style, inside = 'style="fill:#fff;stroke:#000;stroke-width:2"', hover(text) if text else ""
+    if not is_marked:
+        return f'<circle class="router" cx="{x:.1f}" cy="{y:.1f}" r="{radius}" {style}>{inside}</circle>'
+    half, cross = (7, "l14 14m0 -14l-14 14") if radius == ROUTER else (radius, "")  # a number takes the place of the cross
+    return f'<path class="no-transit" d="M{x - half:.1f} {y - half:.1f}h{2 * half}v{2 * half}h-{2 * half}z{cross}" {style}>{inside}</path>'
+
+
+def plate(box):
+    """White under a text that is on a line."""
+    left, top, right, bottom = box
+    return f'<rect x="{left - 1:.1f}" y="{top + 1:.1f}" width="{right - left + 2:.1f}" height="{bottom - top - 2:.1f}" rx="4" style="fill:#fff"/>'
+
+
+def ring(x, y, radius, color, dash=""):
+    """Where a route begins."""
+    return f'<circle class="from" cx="{x:.1f}" cy="{y:.1f}" r="{radius}" style="fill:none;stroke:{color};stroke-width:2.5;stroke-dasharray:{dash or "none"}"/>'
+
+
+def diamond(x, y, radius, color, dash=""):
+    """Where a route ends."""
+    return (f'<path class="to" d="M{x:.1f} {y - radius:.1f}l{radius} {radius}l-{radius} {radius}l-{radius} -{radius}z" '
+            f'style="stroke:{color};stroke-width:2.5;stroke-dasharray:{dash or "none"}"/>')
+
+
+def sample(style):
+    """A line of the legend's sample."""
+    return lambda x, y: f'<line x1="{x - 20}" y1="{y}" x2="{x + 20}" y2="{y}" style="{style}"/>'
+
+
+def one_way_sample(x, y):
+    return sample("stroke:#444;stroke-width:2")(x, y) + arrow(curve((x - 20, y), (x + 20, y), 0), "#444", 0.8)
+
+
+def place_names(sheet, places, names, radii, curves):
+    """Gives the routers' names their boxes, beside the routers and off the circuits where that can be."""
+    for router, (x, y) in places.items():
+        sheet.block(router, (x - radii[router], y - radii[router], x + radii[router], y + radii[router]))
+    for it in curves if len(curves) <= MOST_SAMPLED else ():
+        sheet.line(it.points(), INK)
+    sheet.place([Wanted(router, names[router], spots_round(*places[router], radii[router], names[router])) for router in sorted(places)])
+
+
+def texts_of_names(sheet, places, names):
+    """The names that have room, and the numbers of the routers whose names have none."""
+    boxes = {router: sheet.box(router) for router in sorted(places)}
+    return ([text_in(box, names[router], "name") for router, box in boxes.items() if box],
+            {router: number for number, router in enumerate([router for router, box in boxes.items() if not box], 1)})
+
+
+def routers(places, names, marks, numbers):
+    """The routers. One whose name has no room has a number in it."""
+    for at in sorted(places):
+        says = names[at] if names[at] == at else f"{names[at]}, {at}"
+        yield router(*places[at], at in marks, NUMBERED if at in numbers else ROUTER, says + (", no transit" if at in marks else ""))
+        if at in numbers:
+            x, y = places[at]
+            yield f'<text class="number" x="{x:.1f}" y="{y + 3.3:.1f}">{numbers[at]}</text>'
+
+
+def number_notes(numbers, names):
+    """The list of the names that have no room."""
+    return [(None, "Names without room: " + ", ".join(f"{number} {names[router]}" for router, number in numbers.items()))] if numbers else []

@@ -1,0 +1,54 @@
+"""Reads what `sweep` prints: what each circuit's failure does, and which links are overbooked while nothing fails."""
+import collections
+import re
+
+OUT = re.compile(r"scenario (\d+) out (circuit|link) (\S+) (\S+) (\S+) (\S+)")
+REQUEST = re.compile(r"scenario (\d+) (lost|longer) request (\d+) .*")
+OVERBOOKED = re.compile(r"(?:before|scenario (\d+)) overbooked (\S+ \S+ \S+ \S+) priority=(\d) asked=(\d+) above=(\d+) unreserved=(\d+)")
+COUNTS = re.compile(r"scenario (\d+) lost=(\d+) longer=(\d+) most=\d+ overbooked=\d+")
+WHOLE = re.compile(r"scenarios=(\d+) lost=\d+ longer=\d+ overbooked=\d+")
+
+# A link's setup priority, what is asked of it at that priority and above, and what it has unreserved.
+Overbooked = collections.namedtuple("Overbooked", "priority asked unreserved")
+# A circuit's link, its router and its neighbor, whether it is a circuit; how many requests lose their route and how many get a longer one,
+# and which; and the links that are overbooked without it, and not as much with it.
+Failure = collections.namedtuple("Failure", "link one other is_circuit lost longer lost_ids longer_ids overbooked")
+
+
+def overbooked_before(lines):
+    """What is overbooked while nothing fails: of each link, by its name."""
+    found = collections.defaultdict(list)
+    for line in lines:
+        if (over := OVERBOOKED.fullmatch(line.rstrip("\n"))) and over[1] is None:
+            found[over[2]].append(Overbooked(int(over[3]), int(over[4]) + int(over[5]), int(over[6])))
+    return dict(found)
+
+
+def failures(lines):
+    """What each scenario does, all being there and each having one circuit out."""
+    outs, requests, over, found, count = {}, collections.defaultdict(list), collections.defaultdict(set), [], None
+    before = collections.Counter()
+    for line in lines:
+        line = line.rstrip("\n")
+        if out := OUT.fullmatch(line):
+            if out[1] in outs:
+                raise ValueError(f"scenario {out[1]} has two circuits out")
+            outs[out[1]] = " ".join(out.groups()[2:]), out[3], out[5], out[2] == "circuit"
+        elif request := REQUEST.fullmatch(line):
+            requests[request[1], request[2]].append(request[3])
+        elif it := OVERBOOKED.fullmatch(line):
+            asked = int(it[4]) + int(it[5])
+            if it[1] is None:
+                before[it[2], it[3]] = asked
+            elif asked > before[it[2], it[3]]:
+                over[it[1]].add(it[2])
+        elif counts := COUNTS.fullmatch(line):
+            if counts[1] not in outs:
+                raise ValueError(f"scenario {counts[1]} has no circuit out")
+            found.append(Failure(*outs[counts[1]], int(counts[2]), int(counts[3]), *(tuple(requests[counts[1], kind]) for kind in ("lost", "longer")),
+                                 tuple(sorted(over[counts[1]]))))
+        elif whole := WHOLE.fullmatch(line):
+            count = int(whole[1])
+    if count is None or count != len(found):
+        raise ValueError("the sweep isn't whole")
+    return found
