@@ -2,10 +2,13 @@ use cspf_addr::number;
 
 #[test]
 fn numbers_below_2_to_64(rt: HostRuntime) {
-    assert_eq!(rt; number(b"0"), Some(0));
-    assert_eq!(rt; number(b"18446744073709551615"), Some(u64::MAX));
-    assert_eq!(rt; number(b"18446744073709551616"), None);
-    assert_eq!(rt; number(b"07"), None);
-    assert_eq!(rt; number(b"+7"), None);
-    assert_eq!(rt; number(b""), None);
+    let read = [
+        number(b"0"),
+        number(b"18446744073709551615"),
+        number(b"18446744073709551616"),
+        number(b"07"),
+        number(b"+7"),
+        number(b""),
+    ];
+    assert_eq!(rt; read, [Some(0), Some(u64::MAX), None, None, None, None]);
 }

@@ -1,5 +1,7 @@
+//! What tables make of batches: links that are replaced, changes that are refused, and what fits a
+//! full table. The fields and keys of links and requests too.
 use super::edits::Edit::{self, Node, Put, Remove};
-use super::edits::{batch_of, link};
+use super::edits::{answer, batch_of, link};
 use cspf_addr::{Addr, Hop, Hops, Mask, Prefix};
 use cspf_db::Table;
 use cspf_model::{Batch, Change, Link, LinkError, Refusal, Request, RequestError};
@@ -15,57 +17,57 @@ const THREE: u32 = 50529027; // 3.3.3.3
 
 const INTERFACE: u32 = 167775233; // 10.0.12.1
 
-// The link from 1.1.1.1 to 2.2.2.2 with this local address. The addresses of its two interfaces differ
-// in their last bit.
+// Puts of links from 1.1.1.1 to 2.2.2.2, each with its local address. The addresses of a link's two
+// interfaces differ in their last bit.
+const FIRST: Edit = Put(ONE, 0, TWO, 1);
+
+const FIVE: Edit = Put(ONE, 5, TWO, 4);
+
+const SEVEN: Edit = Put(ONE, 7, TWO, 6);
+
+const LAST: Edit = Put(ONE, 16384, TWO, 16385);
+
+// The link of one of these puts.
 fn one_to_two(local: u32) -> Result<Link, LinkError> {
     link(ONE, local, TWO, local ^ 1)
-}
-
-fn put(local: u32) -> Edit {
-    Put(ONE, local, TWO, local ^ 1)
-}
-
-fn drop_of(local: u32) -> Edit {
-    Remove(ONE, local)
 }
 
 // Puts of links from 1.1.1.1 to 2.2.2.2 whose local addresses are the numbers of a range.
 fn puts(alloc: Global, first: u32, end: u32) -> Result<Batch, Fail> {
     let mut changes = Vec::new(alloc);
     for local in first..end {
-        changes.push(put(local).change()?)?;
+        changes.push(Change::Put(one_to_two(local)?))?;
     }
     Ok(Batch { number: 1, changes })
 }
 
-// A table with the links whose local addresses are 0 to 16,383.
-fn full_table(alloc: Global) -> Result<Table, Fail> {
-    let mut table = Table::new(alloc)?;
-    for first in [0, 4096, 8192, 12288] {
-        let batch = puts(alloc, first, first + 4096)?;
-        table.absorb(&batch);
-    }
-    Ok(table)
+// A link's ends, metric and group as numbers, and its unreserved bandwidths.
+fn fields_of(link: &Link) -> ([u32; 6], [u64; 8]) {
+    let numbers = [
+        link.from.number(),
+        link.local.number(),
+        link.to.number(),
+        link.remote.number(),
+        link.metric,
+        link.group.bits(),
+    ];
+    (numbers, link.free)
 }
 
 #[test]
 fn fields_of_links(rt: HostRuntime) -> Result<(), Fail> {
-    let self_link = link(ONE, 5, ONE, 4);
-    assert_eq!(rt; self_link.err(), Some(LinkError::SelfLink));
-    let made = one_to_two(5)?;
-    assert_eq!(rt; (made.from, made.local), (Addr::new(ONE), Addr::new(5)));
-    assert_eq!(rt; (made.to, made.remote), (Addr::new(TWO), Addr::new(4)));
-    assert_eq!(rt; (made.metric, made.group), (10, Mask::new(1)));
-    assert_eq!(rt; made.free, [1000; 8]);
+    assert_eq!(rt; link(ONE, 5, ONE, 4).err(), Some(LinkError::SelfLink));
+    let made = fields_of(&one_to_two(5)?);
+    assert_eq!(rt; made, ([ONE, 5, TWO, 4, 10, 1], [1000; 8]));
     Ok(())
 }
 
 #[test]
 fn keys_of_links(rt: HostRuntime) -> Result<(), Fail> {
     let one = Addr::new(ONE);
-    let (five, six) = (put(5).change()?, drop_of(6).change()?);
-    assert_eq!(rt; five.key(), (one, Some(Addr::new(5))));
-    assert_eq!(rt; six.key(), (one, Some(Addr::new(6))));
+    let keys = (FIVE.change()?.key(), Remove(ONE, 6).change()?.key());
+    let wanted = ((one, Some(Addr::new(5))), (one, Some(Addr::new(6))));
+    assert_eq!(rt; keys, wanted);
     Ok(())
 }
 
@@ -73,44 +75,49 @@ fn keys_of_links(rt: HostRuntime) -> Result<(), Fail> {
 fn refused_requests(rt: HostRuntime) {
     let (one, none) = (Addr::new(ONE), Mask::new(0));
     let high = Request::new(7, one, one, 8, 1, none, none, none, Hops::none());
-    assert_eq!(rt; high.err(), Some(RequestError::Priority));
     let same = Request::new(7, one, one, 7, 1, none, none, none, Hops::none());
-    assert_eq!(rt; same.err(), Some(RequestError::SameEnds));
-}
-
-// A loose hop to 2.2.2.2.
-fn one_hop() -> Result<Hops, Fail> {
-    let mut hops = Hops::none();
-    hops.push(Hop {
-        prefix: Prefix::new(Addr::new(TWO), 32)?,
-        loose: true,
-    });
-    Ok(hops)
+    let wanted = (Some(RequestError::Priority), Some(RequestError::SameEnds));
+    assert_eq!(rt; (high.err(), same.err()), wanted);
 }
 
 #[test]
 fn fields_of_requests(rt: HostRuntime) -> Result<(), Fail> {
-    let (one, two, hops) = (Addr::new(ONE), Addr::new(TWO), one_hop()?);
-    let (low, middle, high) = (Mask::new(1), Mask::new(2), Mask::new(4));
+    let (one, two, mut hops) = (Addr::new(ONE), Addr::new(TWO), Hops::none());
+    hops.push(Hop {
+        prefix: Prefix::new(two, 32)?,
+        loose: true,
+    });
+    let groups = [Mask::new(1), Mask::new(2), Mask::new(4)];
+    let [low, middle, high] = groups;
     let request = Request::new(8, one, two, 7, 9, low, middle, high, hops)?;
-    assert_eq!(rt; (request.id, request.from, request.to), (8, one, two));
-    assert_eq!(rt; (request.setup, request.bandwidth), (7, 9));
-    assert_eq!(rt; (request.exclude_any, request.include_any), (low, middle));
-    assert_eq!(rt; request.include_all, high);
-    assert_eq!(rt; request.hops, hops);
+    let numbers = (request.id, request.setup, request.bandwidth);
+    let of_links = [
+        request.exclude_any,
+        request.include_any,
+        request.include_all,
+    ];
+    assert_eq!(rt; (numbers, of_links), ((8, 7, 9), groups));
+    assert_eq!(rt; (request.from, request.to, request.hops), (one, two, hops));
     Ok(())
 }
 
 #[test]
 fn a_copied_batch(rt: HostRuntime) -> Result<(), Fail> {
     let alloc = rt.alloc();
-    let mut batch = batch_of(alloc, &[put(5), drop_of(6)])?;
+    let mut batch = batch_of(alloc, &[FIVE, Remove(ONE, 6)])?;
     let copy = batch.copy(alloc)?;
     let _ = batch.changes.pop();
     assert_eq!(rt; copy.number, 1);
-    let wanted = [put(5).change()?, drop_of(6).change()?];
+    let wanted = [FIVE.change()?, Remove(ONE, 6).change()?];
     assert_eq!(rt; copy.changes.as_slice(), wanted.as_slice());
     Ok(())
+}
+
+// A table of two links.
+fn two_links(alloc: Global) -> Result<Table, Fail> {
+    let mut table = Table::new(alloc)?;
+    table.absorb(&batch_of(alloc, &[FIVE, SEVEN])?);
+    Ok(table)
 }
 
 // The link from 1.1.1.1 by the interface 5 to 3.3.3.3, with attributes of its own.
@@ -126,114 +133,104 @@ fn other_link() -> Result<Link, LinkError> {
     )
 }
 
-// A table of two links.
-fn two_links(alloc: Global) -> Result<Table, Fail> {
-    let mut table = Table::new(alloc)?;
-    table.absorb(&batch_of(alloc, &[put(5), put(7)])?);
-    Ok(table)
-}
-
 // That table, once one of its links is replaced by the other link.
-fn replaced(alloc: Global) -> Result<Table, Fail> {
+fn replaced(alloc: Global, new: Link) -> Result<Table, Fail> {
     let mut table = two_links(alloc)?;
-    let mut changes = Vec::new(alloc);
-    changes.push(Change::Put(other_link()?))?;
+    let changes = [Change::Put(new)].to_vec(alloc)?;
     table.absorb(&Batch { number: 1, changes });
     Ok(table)
 }
 
-#[test]
-fn a_link_and_the_one_beside_it(rt: HostRuntime) -> Result<(), Fail> {
-    let (one, five, seven) = (Addr::new(ONE), Addr::new(5), Addr::new(7));
-    let (old, beside) = (one_to_two(5)?, one_to_two(7)?);
-    let before = two_links(rt.alloc())?;
-    assert_eq!(rt; before.find(one, five), Some(old));
-    let after = replaced(rt.alloc())?;
-    assert_eq!(rt; after.find(one, seven), Some(beside));
-    Ok(())
+// The links from 1.1.1.1 by the interfaces 5 and 7.
+fn find_both(table: &Table) -> [Option<Link>; 2] {
+    let one = Addr::new(ONE);
+    let five = table.find(one, Addr::new(5));
+    [five, table.find(one, Addr::new(7))]
 }
 
 #[test]
 fn a_replaced_link(rt: HostRuntime) -> Result<(), Fail> {
-    let new = other_link()?;
-    let table = replaced(rt.alloc())?;
-    assert_eq!(rt; table.links().len(), 2);
-    assert!(rt; table.links().contains(&new));
-    assert_eq!(rt; table.find(Addr::new(ONE), Addr::new(5)), Some(new));
+    let (old, beside, new) = (one_to_two(5)?, one_to_two(7)?, other_link()?);
+    let found = find_both(&two_links(rt.alloc())?);
+    assert_eq!(rt; found, [Some(old), Some(beside)]);
+    let table = replaced(rt.alloc(), new)?;
+    assert_eq!(rt; find_both(&table), [Some(new), Some(beside)]);
+    assert_eq!(rt; table.links(), [new, beside].as_slice());
     Ok(())
 }
 
 #[test]
 fn fields_of_a_replaced_link(rt: HostRuntime) -> Result<(), Fail> {
-    let table = replaced(rt.alloc())?;
-    let found = table.find(Addr::new(ONE), Addr::new(5)).ok_or("no link")?;
-    let (three, remote) = (Addr::new(THREE), Addr::new(9));
-    assert_eq!(rt; (found.to, found.remote), (three, remote));
-    assert_eq!(rt; (found.metric, found.group), (20, Mask::new(2)));
-    assert_eq!(rt; found.free, [0, 1, 2, 3, 4, 5, 6, 7]);
+    let table = replaced(rt.alloc(), other_link()?)?;
+    let [found, _] = find_both(&table);
+    let found = fields_of(&found.ok_or("no link")?);
+    let free = [0, 1, 2, 3, 4, 5, 6, 7];
+    assert_eq!(rt; found, ([ONE, 5, THREE, 9, 20, 2], free));
     Ok(())
 }
 
 // An empty table refuses the batch for this reason, and stays empty.
 fn refuse(rt: &impl Abort, alloc: Global, batch: &Batch, refusal: Refusal) -> Result<(), Fail> {
     let mut table = Table::new(alloc)?;
-    assert_eq!(rt; table.check(batch), Err(refusal));
-    table.absorb(batch);
-    assert!(rt; table.links().is_empty());
-    assert!(rt; !table.has_router(Addr::new(ONE)));
+    let answer = answer(&mut table, batch, false);
+    let left = (table.links().len(), table.has_router(Addr::new(ONE)));
+    assert_eq!(rt; (answer, left), (Err(refusal), (0, false)));
     Ok(())
 }
 
 #[test]
 fn refused_changes(rt: HostRuntime) -> Result<(), Fail> {
     let alloc = rt.alloc();
-    let twice = batch_of(alloc, &[put(1), put(1)])?;
-    refuse(&rt, alloc, &twice, Refusal::Duplicate { at: 2 })?;
-    let absent = batch_of(alloc, &[drop_of(1), put(2)])?;
-    refuse(&rt, alloc, &absent, Refusal::Absent { at: 1 })?;
-    let long = puts(alloc, 0, 4097)?;
-    refuse(&rt, alloc, &long, Refusal::TooLong)
+    let cases = [
+        ([FIVE, FIVE], Refusal::Duplicate { at: 2 }),
+        ([Remove(ONE, 1), SEVEN], Refusal::Absent { at: 1 }),
+    ];
+    for (edits, refusal) in cases {
+        refuse(&rt, alloc, &batch_of(alloc, &edits)?, refusal)?;
+    }
+    refuse(&rt, alloc, &puts(alloc, 0, 4097)?, Refusal::TooLong)
 }
 
-#[test]
-fn a_full_table(rt: HostRuntime) -> Result<(), Fail> {
-    let alloc = rt.alloc();
-    let mut table = full_table(alloc)?;
+// A table with the links whose local addresses are 0 to 16,383.
+fn full_table(alloc: Global) -> Result<Table, Fail> {
+    let mut table = Table::new(alloc)?;
+    for first in [0, 4096, 8192, 12288] {
+        table.absorb(&puts(alloc, first, first + 4096)?);
+    }
+    Ok(table)
+}
+
+// The table answers so to the changes, has 16,384 links, and then may have the first and the last.
+fn change_full(
+    rt: &impl Abort,
+    alloc: Global,
+    table: &mut Table,
+    edits: &[Edit],
+    wanted: (Result<(), Refusal>, bool, bool),
+) -> Result<(), Fail> {
+    let batch = batch_of(alloc, edits)?;
+    let answer = answer(table, &batch, false);
+    let first = table.find(Addr::new(ONE), Addr::new(0)).is_some();
+    let last = table.find(Addr::new(ONE), Addr::new(16384)).is_some();
+    assert_eq!(rt; (answer, first, last), wanted);
     assert_eq!(rt; table.links().len(), 16384);
-    let more = batch_of(alloc, &[put(16384)])?;
-    assert_eq!(rt; table.check(&more), Err(Refusal::Full));
-    table.absorb(&more);
-    assert!(rt; table.find(Addr::new(ONE), Addr::new(16384)).is_none());
     Ok(())
 }
 
 // A put and a removal, in either order, leave a full table as full as it was.
 #[test]
-fn another_link_in_a_full_table(rt: HostRuntime) -> Result<(), Fail> {
+fn a_full_table(rt: HostRuntime) -> Result<(), Fail> {
     let alloc = rt.alloc();
-    let (one, first, last) = (Addr::new(ONE), Addr::new(0), Addr::new(16384));
     let mut table = full_table(alloc)?;
-    let drop_first = batch_of(alloc, &[drop_of(0), put(16384)])?;
-    assert_eq!(rt; table.check(&drop_first), Ok(()));
-    table.absorb(&drop_first);
-    assert_eq!(rt; table.links().len(), 16384);
-    assert!(rt; table.find(one, first).is_none());
-    assert!(rt; table.find(one, last).is_some());
-    Ok(())
-}
-
-#[test]
-fn the_first_link_in_a_full_table(rt: HostRuntime) -> Result<(), Fail> {
-    let alloc = rt.alloc();
-    let (one, first, last) = (Addr::new(ONE), Addr::new(0), Addr::new(16384));
-    let mut table = full_table(alloc)?;
-    table.absorb(&batch_of(alloc, &[drop_of(0), put(16384)])?);
-    let put_first = batch_of(alloc, &[put(0), drop_of(16384)])?;
-    assert_eq!(rt; table.check(&put_first), Ok(()));
-    table.absorb(&put_first);
-    assert_eq!(rt; table.links().len(), 16384);
-    assert!(rt; table.find(one, first).is_some());
-    assert!(rt; table.find(one, last).is_none());
+    let steps: [(&[Edit], (Result<(), Refusal>, bool, bool)); 4] = [
+        (&[], (Ok(()), true, false)),
+        (&[LAST], (Err(Refusal::Full), true, false)),
+        (&[Remove(ONE, 0), LAST], (Ok(()), false, true)),
+        (&[FIRST, Remove(ONE, 16384)], (Ok(()), true, false)),
+    ];
+    for (edits, wanted) in steps {
+        change_full(&rt, alloc, &mut table, edits, wanted)?;
+    }
     Ok(())
 }
 
@@ -241,21 +238,9 @@ fn the_first_link_in_a_full_table(rt: HostRuntime) -> Result<(), Fail> {
 fn star(alloc: Global, end: u32) -> Result<Batch, Fail> {
     let mut changes = Vec::new(alloc);
     for to in 1..end {
-        changes.push(spoke(to, to).change()?)?;
+        changes.push(Change::Put(link(0, to, to, to ^ 1)?))?;
     }
     Ok(Batch { number: 1, changes })
-}
-
-// A put of the link from the router 0 by this interface to a router.
-fn spoke(local: u32, to: u32) -> Edit {
-    Put(0, local, to, local ^ 1)
-}
-
-// A table with one link from the router 0 to each of the routers 1 to 1,023.
-fn full_star(alloc: Global) -> Result<Table, Fail> {
-    let mut table = Table::new(alloc)?;
-    table.absorb(&star(alloc, 1024)?);
-    Ok(table)
 }
 
 #[test]
@@ -263,139 +248,140 @@ fn as_many_routers_as_are_kept(rt: HostRuntime) -> Result<(), Fail> {
     let alloc = rt.alloc();
     let mut table = Table::new(alloc)?;
     let mut star = star(alloc, 1025)?;
-    assert_eq!(rt; table.check(&star), Err(Refusal::TooManyRouters));
+    let more = table.check(&star);
     let _ = star.changes.pop();
-    assert_eq!(rt; table.check(&star), Ok(()));
-    table.absorb(&star);
+    let answers = (more, answer(&mut table, &star, false));
+    assert_eq!(rt; answers, (Err(Refusal::TooManyRouters), Ok(())));
     assert!(rt; table.has_router(Addr::new(1023)));
     Ok(())
 }
 
-#[test]
-fn routers_after_a_refused_batch(rt: HostRuntime) -> Result<(), Fail> {
-    let alloc = rt.alloc();
-    let mut table = full_star(alloc)?;
-    let more = batch_of(alloc, &[spoke(1024, 1024)])?;
-    assert_eq!(rt; table.check(&more), Err(Refusal::TooManyRouters));
-    table.absorb(&more);
-    assert!(rt; !table.has_router(Addr::new(1024)));
+// The table has these routers, or not.
+fn assert_routers(rt: &impl Abort, table: &Table, routers: &[(u32, bool)]) {
     assert_eq!(rt; table.routers().len(), 1024);
+    for (router, known) in routers {
+        assert_eq!(rt; table.has_router(Addr::new(*router)), *known, "{router}");
+    }
+}
+
+// A table with one link from the router 0 to each of the routers 1 to 1,023 answers so to the changes,
+// by one call and by two, and then has these routers, or not.
+fn change_star(
+    rt: &impl Abort,
+    alloc: Global,
+    edits: &[Edit],
+    wanted: Result<(), Refusal>,
+    routers: &[(u32, bool)],
+) -> Result<(), Fail> {
+    let batch = batch_of(alloc, edits)?;
+    for at_once in [false, true] {
+        let mut table = Table::new(alloc)?;
+        table.absorb(&star(alloc, 1024)?);
+        assert_eq!(rt; answer(&mut table, &batch, at_once), wanted, "{batch:?}");
+        assert_routers(rt, &table, routers);
+    }
     Ok(())
 }
+
+const TOO_MANY: Result<(), Refusal> = Err(Refusal::TooManyRouters);
 
 #[test]
-fn routers_after_a_batch(rt: HostRuntime) -> Result<(), Fail> {
-    let alloc = rt.alloc();
-    let mut table = full_star(alloc)?;
-    let moved = batch_of(alloc, &[spoke(1024, 1024), Remove(0, 1023)])?;
-    assert_eq!(rt; table.check(&moved), Ok(()));
-    table.absorb(&moved);
-    assert!(rt; table.has_router(Addr::new(1024)));
-    assert!(rt; !table.has_router(Addr::new(1023)));
+fn routers_that_come_as_others_go(rt: HostRuntime) -> Result<(), Fail> {
+    let cases: [(&[Edit], Result<(), Refusal>, &[(u32, bool)]); 6] = [
+        // another router, alone and as one goes
+        (&[Put(0, 1024, 1024, 1025)], TOO_MANY, &[(1024, false)]),
+        (
+            &[Put(0, 1024, 1024, 1025), Remove(0, 1023)],
+            Ok(()),
+            &[(1024, true), (1023, false)],
+        ),
+        // a link turns to another router, which may have one of its own
+        (&[Put(0, 5, 2000, 4)], Ok(()), &[(2000, true), (5, false)]),
+        (
+            &[Put(0, 6, 3000, 7), Put(3000, 3001, 0, 3000)],
+            Ok(()),
+            &[(3000, true), (6, false)],
+        ),
+        // a router that stays has a link to another one
+        (&[Put(7, 7, 4000, 6)], TOO_MANY, &[(4000, false)]),
+        // two links turn
+        (
+            &[Put(0, 8, 5000, 9), Put(0, 9, 6000, 8)],
+            Ok(()),
+            &[(5000, true), (6000, true), (8, false), (9, false)],
+        ),
+    ];
+    for (edits, wanted, routers) in cases {
+        change_star(&rt, rt.alloc(), edits, wanted, routers)?;
+    }
     Ok(())
 }
 
-#[test]
-fn a_router_comes_as_another_goes(rt: HostRuntime) -> Result<(), Fail> {
-    let alloc = rt.alloc();
-    let mut table = full_star(alloc)?;
-    let turned = batch_of(alloc, &[spoke(5, 2000)])?;
-    assert_eq!(rt; table.try_absorb(&turned), Ok(()));
-    assert!(rt; table.has_router(Addr::new(2000)));
-    assert!(rt; !table.has_router(Addr::new(5)));
-    Ok(())
-}
-
-#[test]
-fn a_router_comes_at_both_ends(rt: HostRuntime) -> Result<(), Fail> {
-    let alloc = rt.alloc();
-    let mut table = full_star(alloc)?;
-    let both = batch_of(alloc, &[spoke(6, 3000), Put(3000, 3001, 0, 3000)])?;
-    assert_eq!(rt; table.try_absorb(&both), Ok(()));
-    assert!(rt; table.has_router(Addr::new(3000)));
-    assert!(rt; !table.has_router(Addr::new(6)));
-    Ok(())
-}
-
-#[test]
-fn a_router_comes_and_none_goes(rt: HostRuntime) -> Result<(), Fail> {
-    let alloc = rt.alloc();
-    let mut table = full_star(alloc)?;
-    let more = batch_of(alloc, &[Put(7, 7, 4000, 6)])?;
-    let refused = table.try_absorb(&more);
-    assert_eq!(rt; refused, Err(Refusal::TooManyRouters));
-    assert!(rt; !table.has_router(Addr::new(4000)));
-    Ok(())
-}
-
-#[test]
-fn two_routers_come_as_two_go(rt: HostRuntime) -> Result<(), Fail> {
-    let alloc = rt.alloc();
-    let mut table = full_star(alloc)?;
-    let both = batch_of(alloc, &[spoke(8, 5000), spoke(9, 6000)])?;
-    assert_eq!(rt; table.try_absorb(&both), Ok(()));
-    assert_eq!(rt; table.routers().len(), 1024);
-    assert!(rt; table.has_router(Addr::new(5000)) && table.has_router(Addr::new(6000)));
-    assert!(rt; !table.has_router(Addr::new(8)) && !table.has_router(Addr::new(9)));
-    Ok(())
-}
-
-// A link and its reverse, which has nothing unreserved, and a table that had the first at another
-// metric, and the second with bandwidth.
-fn changed(rt: &impl Abort, alloc: Global) -> Result<(Table, Link, Link), Fail> {
-    let mut table = Table::new(alloc)?;
-    table.absorb(&batch_of(alloc, &[Put(ONE, 4, TWO, 5), Put(TWO, 5, ONE, 4)])?);
-    let (mut dear, mut full) = (link(ONE, 4, TWO, 5)?, link(TWO, 5, ONE, 4)?);
-    dear.metric = 11;
-    full.free = [0; 8];
-    let changes = [Change::Put(full), Change::Put(dear)].to_vec(alloc)?;
+// The table takes both puts in one batch.
+fn put_both(
+    rt: &impl Abort,
+    alloc: Global,
+    table: &mut Table,
+    both: [Change; 2],
+) -> Result<(), Fail> {
+    let changes = both.to_vec(alloc)?;
     let both = Batch { number: 1, changes };
     assert_eq!(rt; table.try_absorb(&both), Ok(()));
-    Ok((table, dear, full))
-}
-
-#[test]
-fn new_attributes(rt: HostRuntime) -> Result<(), Fail> {
-    let (table, dear, full) = changed(&rt, rt.alloc())?;
-    assert_eq!(rt; table.links(), [dear, full].as_slice());
-    assert!(rt; table.has_reverse(&dear));
     Ok(())
 }
 
+// A link and its reverse come. Then the first has another metric, and the second nothing unreserved;
+// and then the first is as it was, and its router is marked.
 #[test]
-fn new_attributes_and_a_mark(rt: HostRuntime) -> Result<(), Fail> {
+fn new_attributes(rt: HostRuntime) -> Result<(), Fail> {
     let alloc = rt.alloc();
-    let (mut table, _, full) = changed(&rt, alloc)?;
-    let marked = batch_of(alloc, &[Put(ONE, 4, TWO, 5), Node(ONE, false)])?;
-    assert_eq!(rt; table.try_absorb(&marked), Ok(()));
-    assert_eq!(rt; table.links(), [link(ONE, 4, TWO, 5)?, full].as_slice());
+    let mut table = Table::new(alloc)?;
+    let (old, mut full) = (link(ONE, 4, TWO, 5)?, link(TWO, 5, ONE, 4)?);
+    let mut dear = old;
+    dear.metric = 11;
+    put_both(
+        &rt,
+        alloc,
+        &mut table,
+        [Change::Put(old), Change::Put(full)],
+    )?;
+    full.free = [0; 8];
+    put_both(
+        &rt,
+        alloc,
+        &mut table,
+        [Change::Put(full), Change::Put(dear)],
+    )?;
+    assert_eq!(rt; table.links(), [dear, full].as_slice());
+    assert!(rt; table.has_reverse(&dear));
+    let marked = Node(ONE, false).change()?;
+    put_both(&rt, alloc, &mut table, [Change::Put(old), marked])?;
+    assert_eq!(rt; table.links(), [old, full].as_slice());
     assert!(rt; !table.transit(Addr::new(ONE)));
     Ok(())
 }
 
-// A table with the link from 1.1.1.1 by 10.0.12.1 to 2.2.2.2.
-fn one_link(alloc: Global) -> Result<Table, Fail> {
-    let mut table = Table::new(alloc)?;
-    table.absorb(&batch_of(alloc, &[put(INTERFACE)])?);
-    Ok(table)
-}
-
-#[test]
-fn owners_of_an_interface(rt: HostRuntime) -> Result<(), Fail> {
-    let table = one_link(rt.alloc())?;
-    let interface = Prefix::new(Addr::new(INTERFACE), 24)?;
-    assert!(rt; table.owns(Addr::new(ONE), interface));
-    assert!(rt; !table.owns(Addr::new(TWO), interface));
-    Ok(())
-}
-
+// Which routers own an interface and other addresses, in a table with the link from 1.1.1.1 by
+// 10.0.12.1 to 2.2.2.2.
 #[test]
 fn owners_of_prefixes(rt: HostRuntime) -> Result<(), Fail> {
-    let table = one_link(rt.alloc())?;
-    let (one, two, three) = (Addr::new(ONE), Addr::new(TWO), Addr::new(THREE));
-    let (second, third) = (Prefix::new(two, 8)?, Prefix::new(three, 8)?);
-    assert!(rt; table.owns(two, second));
-    assert!(rt; !table.owns(one, second));
-    assert!(rt; !table.owns(three, third));
+    let mut table = Table::new(rt.alloc())?;
+    let one_link = [Put(ONE, INTERFACE, TWO, INTERFACE ^ 1)];
+    table.absorb(&batch_of(rt.alloc(), &one_link)?);
+    let cases = [
+        (ONE, (INTERFACE, 24), true),
+        (TWO, (INTERFACE, 24), false),
+        (TWO, (TWO, 8), true),
+        (ONE, (TWO, 8), false),
+        (THREE, (THREE, 8), false),
+    ];
+    for (router, (address, length), owns) in cases {
+        let prefix = Prefix::new(Addr::new(address), length)?;
+        assert_eq!(rt;
+            table.owns(Addr::new(router), prefix),
+            owns,
+            "{router} {prefix:?}"
+        );
+    }
     Ok(())
 }

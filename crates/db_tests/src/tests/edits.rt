@@ -1,6 +1,8 @@
-//! What the tests share: links that differ in their ends alone, and changes by their numbers.
+//! What the tests share: links that differ in their ends alone, changes by their numbers, and what a
+//! table answers to a batch.
 use cspf_addr::{Addr, Mask};
-use cspf_model::{Batch, Change, Link, LinkError};
+use cspf_db::Table;
+use cspf_model::{Batch, Change, Link, LinkError, Refusal};
 use std::alloc::Global;
 use std::test::Fail;
 
@@ -63,4 +65,14 @@ pub(super) fn batch_of(alloc: Global, edits: &[Edit]) -> Result<Batch, Fail> {
         changes.push(edit.change()?)?;
     }
     Ok(Batch { number: 1, changes })
+}
+
+// What a table answers to a batch, which it absorbs if the batch fits: by one call, or by two.
+pub(super) fn answer(table: &mut Table, batch: &Batch, at_once: bool) -> Result<(), Refusal> {
+    if at_once {
+        return table.try_absorb(batch);
+    }
+    let answer = table.check(batch);
+    table.absorb(batch);
+    answer
 }

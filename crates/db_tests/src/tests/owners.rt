@@ -1,7 +1,7 @@
 //! Which routers own an address that a prefix covers, and where their links stand, after batches that
 //! put and drop links and that move rows.
 use super::edits::Edit::{self, Put, Remove};
-use super::edits::batch_of;
+use super::edits::{answer, batch_of};
 use super::reverses::Draw;
 use cspf_addr::{Addr, Prefix};
 use cspf_db::Table;
@@ -17,22 +17,20 @@ const SECOND: u32 = 0x0a00_0002;
 
 const THIRD: u32 = 0x0a00_0003;
 
-// An interface 192.168.x.y.
-fn interface(x: u32, y: u32) -> u32 {
-    0xc0a8_0000 | (x & 255) << 8 | y & 255
-}
+// Interfaces 192.168.0.1, 192.168.1.1 and so on, and 172.16.0.1, which is the other one of each link.
+const ZERO_1: u32 = 0xc0a8_0001;
 
-// A put of a link to the interface 172.16.0.1 of its router.
-fn put(from: u32, local: u32, to: u32) -> Edit {
-    Put(from, local, to, 0xac10_0001)
-}
+const ONE_1: u32 = 0xc0a8_0101;
 
-// Makes the changes.
-fn change(rt: &impl Abort, alloc: Global, table: &mut Table, edits: &[Edit]) -> Result<(), Fail> {
-    let batch = batch_of(alloc, edits)?;
-    assert_eq!(rt; table.try_absorb(&batch), Ok(()), "{batch:?}");
-    Ok(())
-}
+const ONE_5: u32 = 0xc0a8_0105;
+
+const ONE_9: u32 = 0xc0a8_0109;
+
+const TWO_1: u32 = 0xc0a8_0201;
+
+const SEVEN_1: u32 = 0xc0a8_0701;
+
+const REMOTE: u32 = 0xac10_0001;
 
 // The owners of the prefix are the routers that own it by a look at each. How many there are is the
 // result.
@@ -53,137 +51,97 @@ fn assert_alike(
     Ok(wanted.len())
 }
 
-// A prefix, and the routers that own it: its first bits and its length, and from which index in the
-// list of routers on up to which.
-#[derive(Clone, Copy)]
-struct Case {
-    prefix: (u32, u8),
-    owners: (u16, u16),
-}
+// A prefix by its address and length, and the routers that own it by their indexes.
+type Case = (u32, u8, &'static [u16]);
 
-// A case.
-fn owned(prefix: (u32, u8), owners: (u16, u16)) -> Case {
-    Case { prefix, owners }
-}
-
-// The routers of the case own its prefix, and no others.
-fn assert_owners(rt: &impl Abort, alloc: Global, table: &Table, case: &Case) -> Result<(), Fail> {
-    let prefix = Prefix::new(Addr::new(case.prefix.0), case.prefix.1)?;
-    let mut wanted = Vec::new(alloc);
-    for at in case.owners.0..case.owners.1 {
-        wanted.push(at)?;
-    }
-    let owners = table.owners(alloc, prefix)?;
-    assert_eq!(rt; owners.as_slice(), wanted.as_slice(), "{prefix:?}");
-    assert_alike(rt, alloc, table, prefix)?;
-    Ok(())
-}
-
-// So it is for each case.
-fn assert_cases(rt: &impl Abort, alloc: Global, table: &Table, cases: &[Case]) -> Result<(), Fail> {
-    for case in cases {
-        assert_owners(rt, alloc, table, case)?;
+// The routers of each case own its prefix, and no others.
+fn assert_owners(
+    rt: &impl Abort,
+    alloc: Global,
+    table: &Table,
+    cases: &[Case],
+) -> Result<(), Fail> {
+    for (address, length, wanted) in cases {
+        let prefix = Prefix::new(Addr::new(*address), *length)?;
+        let owners = table.owners(alloc, prefix)?;
+        assert_eq!(rt; owners.as_slice(), *wanted, "{prefix:?}");
+        assert_alike(rt, alloc, table, prefix)?;
     }
     Ok(())
 }
 
 // A table with four links from the first router, one from the second, and none from the third.
-fn small_table(rt: &impl Abort, alloc: Global) -> Result<Table, Fail> {
-    let mut table = Table::new(alloc)?;
-    let links = [
-        put(FIRST, interface(1, 5), SECOND),
-        put(FIRST, interface(1, 1), SECOND),
-        put(FIRST, interface(1, 9), THIRD),
-        put(FIRST, interface(7, 1), THIRD),
-        put(SECOND, interface(2, 1), THIRD),
-    ];
-    change(rt, alloc, &mut table, &links)?;
-    Ok(table)
-}
+const LINKS: &[Edit] = &[
+    Put(FIRST, ONE_5, SECOND, REMOTE),
+    Put(FIRST, ONE_1, SECOND, REMOTE),
+    Put(FIRST, ONE_9, THIRD, REMOTE),
+    Put(FIRST, SEVEN_1, THIRD, REMOTE),
+    Put(SECOND, TWO_1, THIRD, REMOTE),
+];
+
+// Owners by the router; by an interface at either end of a router's rows, in their middle, of another
+// router's between them, and of several; and none between a router's interfaces, below and above them,
+// and by the remote address.
+const OWNERS: &[Case] = &[
+    (FIRST, 32, &[0]),
+    (SECOND, 32, &[1]),
+    (THIRD, 32, &[2]),
+    (FIRST, 24, &[0, 1, 2]),
+    (SECOND, 31, &[1, 2]),
+    (0, 0, &[0, 1, 2]),
+    (ONE_1, 32, &[0]),
+    (SEVEN_1, 32, &[0]),
+    (ONE_5, 32, &[0]),
+    (0xc0a8_0108, 30, &[0]), // 192.168.1.8
+    (0xc0a8_0200, 24, &[1]), // 192.168.2.0
+    (0xc0a8_0000, 16, &[0, 1]), // 192.168.0.0
+    (0xc0a8_0106, 32, &[]), // 192.168.1.6
+    (0xc0a8_0100, 32, &[]), // 192.168.1.0
+    (0xc0a8_0702, 32, &[]), // 192.168.7.2
+    (REMOTE, 32, &[]),
+];
+
+// The highest interface of a router goes, and a lower one comes.
+const MOVE: &[Edit] = &[Remove(FIRST, SEVEN_1), Put(FIRST, ZERO_1, THIRD, REMOTE)];
+
+const OWNERS_AFTER_MOVE: &[Case] = &[
+    (SEVEN_1, 32, &[]),
+    (ZERO_1, 32, &[0]),
+    (ONE_9, 32, &[0]),
+    (TWO_1, 32, &[1]),
+];
+
+// A router goes.
+const GO: &[Edit] = &[
+    Remove(FIRST, ONE_1),
+    Remove(FIRST, ONE_5),
+    Remove(FIRST, ONE_9),
+    Remove(FIRST, SEVEN_1),
+];
+
+const OWNERS_AFTER_GO: &[Case] = &[
+    (FIRST, 32, &[]),
+    (ONE_1, 32, &[]),
+    (TWO_1, 32, &[0]),
+    (THIRD, 32, &[1]),
+    (0, 0, &[0, 1]),
+];
 
 #[test]
-fn owners_by_the_router(rt: HostRuntime) -> Result<(), Fail> {
-    let alloc = rt.alloc();
-    let table = small_table(&rt, alloc)?;
-    let cases = [
-        owned((FIRST, 32), (0, 1)),
-        owned((SECOND, 32), (1, 2)),
-        owned((THIRD, 32), (2, 3)),
-        owned((FIRST, 24), (0, 3)),
-        owned((SECOND, 31), (1, 3)),
-        owned((0, 0), (0, 3)),
+fn owners_after_batches(rt: HostRuntime) -> Result<(), Fail> {
+    let steps: [(&[Edit], &[Case]); 3] = [
+        (&[], OWNERS),
+        (MOVE, OWNERS_AFTER_MOVE),
+        (GO, OWNERS_AFTER_GO),
     ];
-    assert_cases(&rt, alloc, &table, &cases)
-}
-
-#[test]
-fn owners_by_an_interface(rt: HostRuntime) -> Result<(), Fail> {
-    let alloc = rt.alloc();
-    let table = small_table(&rt, alloc)?;
-    // at either end of a router's rows, in their middle, of another router's between them, and of several
-    let cases = [
-        owned((interface(1, 1), 32), (0, 1)),
-        owned((interface(7, 1), 32), (0, 1)),
-        owned((interface(1, 5), 32), (0, 1)),
-        owned((interface(1, 8), 30), (0, 1)),
-        owned((interface(2, 0), 24), (1, 2)),
-        owned((interface(0, 0), 16), (0, 2)),
-    ];
-    assert_cases(&rt, alloc, &table, &cases)
-}
-
-#[test]
-fn no_owners(rt: HostRuntime) -> Result<(), Fail> {
-    let alloc = rt.alloc();
-    let table = small_table(&rt, alloc)?;
-    // between a router's interfaces, below and above them, and by the remote address
-    let cases = [
-        owned((interface(1, 6), 32), (0, 0)),
-        owned((interface(1, 0), 32), (0, 0)),
-        owned((interface(7, 2), 32), (0, 0)),
-        owned((0xac10_0001, 32), (0, 0)),
-    ];
-    assert_cases(&rt, alloc, &table, &cases)
-}
-
-#[test]
-fn owners_as_an_interface_moves(rt: HostRuntime) -> Result<(), Fail> {
-    let alloc = rt.alloc();
-    let mut table = small_table(&rt, alloc)?;
-    // the highest one goes, and a lower one comes
-    let changes = [
-        Remove(FIRST, interface(7, 1)),
-        put(FIRST, interface(0, 1), THIRD),
-    ];
-    change(&rt, alloc, &mut table, &changes)?;
-    let cases = [
-        owned((interface(7, 1), 32), (0, 0)),
-        owned((interface(0, 1), 32), (0, 1)),
-        owned((interface(1, 9), 32), (0, 1)),
-        owned((interface(2, 1), 32), (1, 2)),
-    ];
-    assert_cases(&rt, alloc, &table, &cases)
-}
-
-#[test]
-fn owners_behind_a_router_that_goes(rt: HostRuntime) -> Result<(), Fail> {
-    let alloc = rt.alloc();
-    let mut table = small_table(&rt, alloc)?;
-    let changes = [
-        Remove(FIRST, interface(1, 1)),
-        Remove(FIRST, interface(1, 5)),
-        Remove(FIRST, interface(1, 9)),
-        Remove(FIRST, interface(7, 1)),
-    ];
-    change(&rt, alloc, &mut table, &changes)?;
-    let cases = [
-        owned((FIRST, 32), (0, 0)),
-        owned((interface(1, 1), 32), (0, 0)),
-        owned((interface(2, 1), 32), (0, 1)),
-        owned((THIRD, 32), (1, 2)),
-        owned((0, 0), (0, 2)),
-    ];
-    assert_cases(&rt, alloc, &table, &cases)
+    for (edits, cases) in steps {
+        let mut table = Table::new(rt.alloc())?;
+        let first = answer(&mut table, &batch_of(rt.alloc(), LINKS)?, true);
+        let second = answer(&mut table, &batch_of(rt.alloc(), edits)?, true);
+        assert_eq!(rt; (first, second), (Ok(()), Ok(())));
+        assert_owners(&rt, rt.alloc(), &table, cases)?;
+    }
+    Ok(())
 }
 
 // The links from each router stand where a look at each of the links finds them.

@@ -1,6 +1,6 @@
 //! Where the reverses of links are, after batches that put and drop them and that move rows.
 use super::edits::Edit::{self, Put, Remove};
-use super::edits::{batch_of, link};
+use super::edits::{answer, batch_of, link};
 use cspf_addr::Mask;
 use cspf_db::{NO_LINK, Table};
 use cspf_model::{Batch, Change, Link, LinkError};
@@ -44,9 +44,10 @@ fn assert_reverse(rt: &impl Abort, table: &Table, link: &Link, reverse: u16) -> 
     } else {
         Some(usize::from(reverse))
     };
-    assert_eq!(rt; found, wanted, "{link:?}");
-    assert_eq!(rt; table.has_reverse(link), wanted.is_some(), "{link:?}");
-    wanted.is_some()
+    let has_one = wanted.is_some();
+    let found = (found, table.has_reverse(link));
+    assert_eq!(rt; found, (wanted, has_one), "{link:?}");
+    has_one
 }
 
 // So it is for each link of the table. How many have a reverse is the result.
@@ -74,131 +75,118 @@ fn reverses_of(alloc: Global, table: &Table) -> Result<Vec<u16>, AllocError> {
     Ok(all)
 }
 
-// Makes the changes, and then the reverses of all links are these.
-fn change(
-    rt: &impl Abort,
-    alloc: Global,
-    table: &mut Table,
-    edits: &[Edit],
-    wanted: &[u16],
-) -> Result<(), Fail> {
-    let batch = batch_of(alloc, edits)?;
-    assert_eq!(rt; table.check(&batch), Ok(()), "{batch:?}");
-    table.absorb(&batch);
-    let found = reverses_of(alloc, table)?;
-    assert_eq!(rt; found.as_slice(), wanted, "{batch:?}");
-    assert_reverses(rt, table);
-    Ok(())
-}
-
-// Makes the changes of each step, and then the reverses of all links are those of the step.
-fn make(
-    rt: &impl Abort,
-    alloc: Global,
-    table: &mut Table,
-    steps: &[(&[Edit], &[u16])],
-) -> Result<(), Fail> {
-    for (edits, wanted) in steps {
-        change(rt, alloc, table, edits, wanted)?;
-    }
-    Ok(())
-}
-
 // A link and its reverse.
 const THERE: Edit = Put(20, 1, 30, 2);
 
 const BACK: Edit = Put(30, 2, 20, 1);
 
-#[test]
-fn reverses_that_come(rt: HostRuntime) -> Result<(), Fail> {
-    let alloc = rt.alloc();
+// A batch that fits, and then the indexes of the reverses of all links, and whether the table has the
+// reverse of the link there.
+type Step = (&'static [Edit], &'static [u16], bool);
+
+// A link alone, and its reverse in a later batch.
+const COME: &[Step] = &[
+    (&[], &[], false),
+    (&[THERE], &[NO_LINK], false),
+    (&[BACK], &[1, 0], true),
+];
+
+// Both come one after the other and in one batch, and one of the two goes: the table has the reverse
+// of a link that it doesn't have.
+const COME_AND_GO: &[Step] = &[
+    (&[THERE], &[NO_LINK], false),
+    (&[BACK], &[1, 0], true),
+    (&[Remove(30, 2), Remove(20, 1)], &[], false),
+    (&[BACK, THERE], &[1, 0], true),
+    (&[Remove(20, 1)], &[NO_LINK], true),
+    (&[THERE], &[1, 0], true),
+    (&[Remove(30, 2)], &[NO_LINK], false),
+];
+
+const REPLACED: &[Step] = &[
+    (&[THERE, BACK], &[1, 0], true),
+    // either end has another remote address
+    (&[Put(20, 1, 30, 3)], &[NO_LINK, NO_LINK], true),
+    (&[THERE], &[1, 0], true),
+    (&[Put(30, 2, 20, 3)], &[NO_LINK, NO_LINK], false),
+    (&[BACK], &[1, 0], true),
+    // or runs to another router
+    (&[Put(20, 1, 40, 2)], &[NO_LINK, NO_LINK], true),
+    (&[THERE], &[1, 0], true),
+    (&[Put(30, 2, 10, 1)], &[NO_LINK, NO_LINK], false),
+    // links back between the same routers over other interfaces
+    (
+        &[Remove(30, 2), Put(30, 3, 20, 4), Put(30, 4, 20, 3)],
+        &[NO_LINK, NO_LINK, NO_LINK],
+        false,
+    ),
+    // a second pair of interfaces, with its own reverse
+    (&[Put(20, 4, 30, 3)], &[NO_LINK, 2, 1, NO_LINK], false),
+];
+
+const MOVED: &[Step] = &[
+    (&[THERE, BACK], &[1, 0], true),
+    // rows before both, between them, and behind them
+    (
+        &[Put(10, 1, 20, 7), Put(10, 2, 30, 7)],
+        &[NO_LINK, NO_LINK, 3, 2],
+        true,
+    ),
+    (
+        &[Put(20, 5, 30, 5)],
+        &[NO_LINK, NO_LINK, 4, NO_LINK, 2],
+        true,
+    ),
+    (
+        &[Put(40, 1, 20, 9)],
+        &[NO_LINK, NO_LINK, 4, NO_LINK, 2, NO_LINK],
+        true,
+    ),
+    (&[Remove(10, 2)], &[NO_LINK, 3, NO_LINK, 1, NO_LINK], true),
+    // one comes as another goes, and the reverse of one that stays
+    (
+        &[Remove(10, 1), Put(20, 7, 10, 1), Put(20, 9, 40, 1)],
+        &[4, NO_LINK, NO_LINK, 5, 0, 3],
+        true,
+    ),
+    (
+        &[Remove(20, 5), Remove(20, 7), Remove(40, 1)],
+        &[2, NO_LINK, 0],
+        true,
+    ),
+];
+
+// The steps, one after the other, on an empty table.
+fn make(rt: &impl Abort, alloc: Global, steps: &[Step]) -> Result<(), Fail> {
     let mut table = Table::new(alloc)?;
-    let one_way = link(20, 1, 30, 2)?;
-    assert!(rt; !table.has_reverse(&one_way));
-    // a link alone, and its reverse in a later batch
-    change(&rt, alloc, &mut table, &[THERE], &[NO_LINK])?;
-    assert!(rt; !table.has_reverse(&one_way));
-    change(&rt, alloc, &mut table, &[BACK], &[1, 0])?;
-    assert!(rt; table.has_reverse(&one_way));
+    let there = link(20, 1, 30, 2)?;
+    for (edits, reverses, has_back) in steps {
+        let batch = batch_of(alloc, edits)?;
+        let found = (answer(&mut table, &batch, false), table.has_reverse(&there));
+        assert_eq!(rt; found, (Ok(()), *has_back), "{batch:?}");
+        let found = reverses_of(alloc, &table)?;
+        assert_eq!(rt; found.as_slice(), *reverses, "{batch:?}");
+        assert_reverses(rt, &table);
+    }
     Ok(())
 }
 
 #[test]
-fn reverses_that_come_and_go(rt: HostRuntime) -> Result<(), Fail> {
-    let alloc = rt.alloc();
-    let mut table = Table::new(alloc)?;
-    let one_way = link(20, 1, 30, 2)?;
-    // both come one after the other and in one batch, and one of the two goes: the table has the
-    // reverse of a link that it doesn't have
-    let first: [(&[Edit], &[u16]); 5] = [
-        (&[THERE], &[NO_LINK]),
-        (&[BACK], &[1, 0]),
-        (&[Remove(30, 2), Remove(20, 1)], &[]),
-        (&[BACK, THERE], &[1, 0]),
-        (&[Remove(20, 1)], &[NO_LINK]),
-    ];
-    make(&rt, alloc, &mut table, &first)?;
-    assert!(rt; table.has_reverse(&one_way));
-    let second: [(&[Edit], &[u16]); 2] = [(&[THERE], &[1, 0]), (&[Remove(30, 2)], &[NO_LINK])];
-    make(&rt, alloc, &mut table, &second)?;
-    assert!(rt; !table.has_reverse(&one_way));
+fn reverses_after_batches(rt: HostRuntime) -> Result<(), Fail> {
+    for steps in [COME, COME_AND_GO, REPLACED, MOVED] {
+        make(&rt, rt.alloc(), steps)?;
+    }
     Ok(())
 }
 
-#[test]
-fn reverses_of_replaced_links(rt: HostRuntime) -> Result<(), Fail> {
-    let alloc = rt.alloc();
-    let mut table = Table::new(alloc)?;
-    let steps: [(&[Edit], &[u16]); 10] = [
-        (&[THERE, BACK], &[1, 0]),
-        // either end has another remote address
-        (&[Put(20, 1, 30, 3)], &[NO_LINK, NO_LINK]),
-        (&[THERE], &[1, 0]),
-        (&[Put(30, 2, 20, 3)], &[NO_LINK, NO_LINK]),
-        (&[BACK], &[1, 0]),
-        // or runs to another router
-        (&[Put(20, 1, 40, 2)], &[NO_LINK, NO_LINK]),
-        (&[THERE], &[1, 0]),
-        (&[Put(30, 2, 10, 1)], &[NO_LINK, NO_LINK]),
-        // links back between the same routers over other interfaces
-        (
-            &[Remove(30, 2), Put(30, 3, 20, 4), Put(30, 4, 20, 3)],
-            &[NO_LINK, NO_LINK, NO_LINK],
-        ),
-        // a second pair of interfaces, with its own reverse
-        (&[Put(20, 4, 30, 3)], &[NO_LINK, 2, 1, NO_LINK]),
-    ];
-    make(&rt, alloc, &mut table, &steps)
-}
-
-#[test]
-fn reverses_that_move(rt: HostRuntime) -> Result<(), Fail> {
-    let alloc = rt.alloc();
-    let mut table = Table::new(alloc)?;
-    let steps: [(&[Edit], &[u16]); 7] = [
-        (&[THERE, BACK], &[1, 0]),
-        // rows before both, between them, and behind them
-        (
-            &[Put(10, 1, 20, 7), Put(10, 2, 30, 7)],
-            &[NO_LINK, NO_LINK, 3, 2],
-        ),
-        (&[Put(20, 5, 30, 5)], &[NO_LINK, NO_LINK, 4, NO_LINK, 2]),
-        (
-            &[Put(40, 1, 20, 9)],
-            &[NO_LINK, NO_LINK, 4, NO_LINK, 2, NO_LINK],
-        ),
-        (&[Remove(10, 2)], &[NO_LINK, 3, NO_LINK, 1, NO_LINK]),
-        // one comes as another goes, and the reverse of one that stays
-        (
-            &[Remove(10, 1), Put(20, 7, 10, 1), Put(20, 9, 40, 1)],
-            &[4, NO_LINK, NO_LINK, 5, 0, 3],
-        ),
-        (
-            &[Remove(20, 5), Remove(20, 7), Remove(40, 1)],
-            &[2, NO_LINK, 0],
-        ),
-    ];
-    make(&rt, alloc, &mut table, &steps)
+// Whether one of the changes is on this change's key.
+fn has_key(changes: &[Change], change: &Change) -> bool {
+    for other in changes {
+        if other.key() == change.key() {
+            return true;
+        }
+    }
+    false
 }
 
 // Draws numbers, the same each time.
@@ -278,7 +266,7 @@ impl Draw {
                 break;
             }
             let change = self.change(table, interfaces)?;
-            if changes.iter().all(|other| other.key() != change.key()) {
+            if !has_key(&changes, &change) {
                 changes.push(change)?;
             }
         }
@@ -288,9 +276,8 @@ impl Draw {
 
 // A drawn batch is absorbed, and each link has its reverse. How many have one is the result.
 fn absorb_drawn(rt: &impl Abort, table: &mut Table, batch: &Batch, count: usize) -> u32 {
-    assert_eq!(rt; batch.changes.len(), count);
-    assert_eq!(rt; table.check(batch), Ok(()));
-    table.absorb(batch);
+    let found = (batch.changes.len(), answer(table, batch, false));
+    assert_eq!(rt; found, (count, Ok(())));
     assert_reverses(rt, table)
 }
 

@@ -1,3 +1,5 @@
+//! The rows of a table, and which routers they run between, after batches that put and drop links in
+//! any order.
 use super::edits::Edit::{Put, Remove};
 use super::edits::{batch_of, link};
 use cspf_addr::Addr;
@@ -68,9 +70,8 @@ fn assert_ends(
     ends: &[u16],
 ) -> Result<(), Fail> {
     for (link, end) in out.iter().zip(ends) {
-        assert_eq!(rt; link.from, from);
         let to = routers.get(*end as usize).ok_or("no such router")?;
-        assert_eq!(rt; link.to, *to);
+        assert_eq!(rt; (link.from, link.to), (from, *to));
     }
     Ok(())
 }
@@ -80,11 +81,10 @@ fn assert_routers(rt: &impl Abort, table: &Table, count: usize) -> Result<(), Fa
     let routers = table.routers();
     assert_eq!(rt; routers.len(), 1024);
     for (at, router) in routers.iter().enumerate() {
-        assert_eq!(rt; table.place_of(*router), Some(at));
         let (out, ends) = (table.out_at(at), table.ends_at(at));
-        assert_eq!(rt; out.len(), count);
-        assert_eq!(rt; table.out(*router).len(), count);
-        assert_eq!(rt; ends.len(), count);
+        let counts = [out.len(), table.out(*router).len(), ends.len()];
+        let found = (table.place_of(*router), counts);
+        assert_eq!(rt; found, (Some(at), [count; 3]));
         assert_ends(rt, routers, *router, out, ends)?;
     }
     Ok(())
@@ -114,31 +114,25 @@ fn rows_in_any_order(rt: HostRuntime) -> Result<(), Fail> {
     Ok(())
 }
 
-// A table with one link, from router 0 to router 1.
-fn one_link(alloc: Global) -> Result<Table, Fail> {
-    let mut table = Table::new(alloc)?;
-    table.absorb(&batch_of(alloc, &[Put(0, 0, 1, 0)])?);
-    Ok(table)
+// The places of the routers 1 and 2, how many links each has, and how many routers there are.
+fn places(table: &Table) -> ([Option<usize>; 2], [usize; 3]) {
+    let (one, two) = (Addr::new(1), Addr::new(2));
+    let links = (table.out(one).len(), table.out(two).len());
+    let counts = [links.0, links.1, table.routers().len()];
+    ([table.place_of(one), table.place_of(two)], counts)
 }
 
 #[test]
-fn routers_that_come(rt: HostRuntime) -> Result<(), Fail> {
-    let table = one_link(rt.alloc())?;
-    assert_eq!(rt; table.routers().len(), 2);
-    assert_eq!(rt; table.place_of(Addr::new(1)), Some(1));
-    assert_eq!(rt; table.place_of(Addr::new(2)), None);
-    assert!(rt; table.out(Addr::new(1)).is_empty());
-    assert!(rt; table.out(Addr::new(2)).is_empty());
-    Ok(())
-}
-
-#[test]
-fn routers_that_go(rt: HostRuntime) -> Result<(), Fail> {
-    let alloc = rt.alloc();
-    let mut table = one_link(alloc)?;
-    table.absorb(&batch_of(alloc, &[Remove(0, 0)])?);
-    assert!(rt; table.routers().is_empty());
-    assert_eq!(rt; table.place_of(Addr::new(1)), None);
+fn routers_that_come_and_go(rt: HostRuntime) -> Result<(), Fail> {
+    let mut table = Table::new(rt.alloc())?;
+    let steps = [
+        (Put(0, 0, 1, 0), ([Some(1), None], [0, 0, 2])),
+        (Remove(0, 0), ([None, None], [0, 0, 0])),
+    ];
+    for (edit, wanted) in steps {
+        table.absorb(&batch_of(rt.alloc(), &[edit])?);
+        assert_eq!(rt; places(&table), wanted);
+    }
     Ok(())
 }
 
@@ -180,9 +174,9 @@ fn assert_named(
 fn assert_listed(rt: &impl Abort, table: &Table, names: &[u32]) -> Result<(), Fail> {
     assert_eq!(rt; table.routers().len(), names.len());
     for (at, name) in names.iter().enumerate() {
-        assert_eq!(rt; table.place_of(Addr::new(*name)), Some(at));
         let (out, ends) = (table.out_at(at), table.ends_at(at));
-        assert_eq!(rt; out.len(), ends.len());
+        let found = (table.place_of(Addr::new(*name)), out.len());
+        assert_eq!(rt; found, (Some(at), ends.len()));
         assert_named(rt, names, *name, out, ends)?;
     }
     Ok(())

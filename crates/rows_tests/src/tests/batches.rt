@@ -73,12 +73,18 @@ fn assert_three(
     ensures { OnOk result (CanRead journal.new) }
 {
     let [first, second, third] = THREE;
-    assert!(rt; gives_batch(journal, batch));
-    assert!(rt; has_text(alloc, batch, first)?);
-    assert!(rt; gives_batch(journal, batch));
-    assert!(rt; has_text(alloc, batch, second)?);
-    assert!(rt; gives_batch(journal, batch));
-    assert!(rt; has_text(alloc, batch, third)?);
+    assert!(rt;
+        gives_batch(journal, batch) && has_text(alloc, batch, first)?,
+        "the first"
+    );
+    assert!(rt;
+        gives_batch(journal, batch) && has_text(alloc, batch, second)?,
+        "the second"
+    );
+    assert!(rt;
+        gives_batch(journal, batch) && has_text(alloc, batch, third)?,
+        "the third"
+    );
     assert!(rt; batch.changes.capacity() >= 3);
     Ok(())
 }

@@ -90,12 +90,9 @@ fn requests_end_at_a_refused_row(rt: HostRuntime) {
         for (before, place) in [(0, 1), (1, 2), (300, 301)] {
             let mut rows = RowByRow::new(ASK, before, last);
             let found = read_requests(rt.alloc(), &mut rows);
-            assert_eq!(rt;
-                found.err(),
-                Some(at_row(error, place)),
-                "{last:?} at {place}"
-            );
-            assert_eq!(rt; rows.begun, place, "{last:?} at {place}");
+            let found = (found.err(), rows.begun);
+            let wanted = (Some(at_row(error, place)), place);
+            assert_eq!(rt; found, wanted, "{last:?}");
         }
     }
 }
@@ -104,8 +101,8 @@ fn requests_end_at_a_refused_row(rt: HostRuntime) {
 fn requests_end_at_a_row_too_many(rt: HostRuntime) {
     let mut rows = RowByRow::new(ASK, MOST_ROWS, ASK);
     let found = read_requests(rt.alloc(), &mut rows);
-    assert_eq!(rt; found.err(), Some(RequestsError::TooManyRows));
-    assert_eq!(rt; rows.begun, MOST_ROWS + 1);
+    let found = (found.err(), rows.begun);
+    assert_eq!(rt; found, (Some(RequestsError::TooManyRows), MOST_ROWS + 1));
 }
 
 #[test]
@@ -113,7 +110,8 @@ fn a_journal_ends_at_a_row_too_many(rt: HostRuntime) {
     for row in [b"drop,1.1.1.1,10.0.0.1\n".as_slice(), b"foo\n".as_slice()] {
         let mut rows = RowByRow::new(row, MOST_ROWS, b"end,1,0\n");
         let found = read_journal(rt.alloc(), &mut rows);
-        assert_eq!(rt; found.err(), Some(ReadError::TooManyRows), "{row:?}");
-        assert_eq!(rt; rows.begun, MOST_ROWS + 1, "{row:?}");
+        let found = (found.err(), rows.begun);
+        let wanted = (Some(ReadError::TooManyRows), MOST_ROWS + 1);
+        assert_eq!(rt; found, wanted, "{row:?}");
     }
 }

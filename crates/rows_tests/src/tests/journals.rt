@@ -42,16 +42,11 @@ fn one_put(alloc: Global) -> Result<Batch, Fail> {
     Ok(Batch { number: 1, changes })
 }
 
-fn assert_text_of_one_put(rt: &impl Abort, text: &[u8]) {
-    assert!(rt; text == ONE_PUT);
-    assert_eq!(rt; text.len(), 102);
-}
-
 #[test]
 fn text_of_one_put(rt: HostRuntime) -> Result<(), Fail> {
     let batch = one_put(rt.alloc())?;
     let text = batch_text(rt.alloc(), &batch)?;
-    assert_text_of_one_put(&rt, &text);
+    assert!(rt; text.as_slice() == ONE_PUT && text.len() == 102, "{text:?}");
     Ok(())
 }
 
@@ -69,18 +64,38 @@ drop,1.1.1.1,0.0.0.3\ndrop,1.1.1.1,0.0.0.4\ndrop,1.1.1.1,0.0.0.5\ndrop,1.1.1.1,0
 drop,1.1.1.1,0.0.0.7\ndrop,1.1.1.1,0.0.0.8\ndrop,1.1.1.1,0.0.0.9\ndrop,1.1.1.1,0.0.0.10\n\
 drop,1.1.1.1,0.0.0.11\nend,3,12\n";
 
-/// How many bytes of the three batches stand in whole batches where their text is cut here, and
-/// whether nothing is left behind these.
-fn whole_part(cut: usize) -> (usize, bool) {
-    match cut {
-        0 => (0, true),
-        1..=173 => (0, false),
-        174..=175 => (175, true),
-        176..=204 => (175, false),
-        205..=206 => (206, true),
-        207..=467 => (206, false),
-        _ => (469, true),
+/// From which cut on how many bytes of the three batches stand in whole batches, and whether nothing is
+/// left behind these.
+const THREE_BATCHES: [(usize, usize, bool); 7] = [
+    (0, 0, true),
+    (1, 0, false),
+    (174, 175, true),
+    (176, 175, false),
+    (205, 206, true),
+    (207, 206, false),
+    (468, 469, true),
+];
+
+/// The same of the batches that say whether routers have transit.
+const NODE_BATCHES: [(usize, usize, bool); 7] = [
+    (0, 0, true),
+    (1, 0, false),
+    (22, 23, true),
+    (24, 23, false),
+    (83, 84, true),
+    (85, 84, false),
+    (114, 115, true),
+];
+
+/// The whole part of a text that is cut here.
+fn whole_part(parts: &[(usize, usize, bool)], cut: usize) -> (usize, bool) {
+    let mut found = (0, true);
+    for &(from, whole, clean) in parts {
+        if from <= cut {
+            found = (whole, clean);
+        }
     }
+    found
 }
 
 /// The text of the three batches.
@@ -93,23 +108,30 @@ fn three_batches(alloc: Global) -> Result<Vec<u8>, AllocError> {
 }
 
 /// The journal that is left of the text, where it is cut at each byte.
-fn assert_cuts(rt: &impl Abort, alloc: Global, text: &[u8]) -> Result<(), Fail> {
-    assert_eq!(rt; text.len(), 469);
-    for cut in 0..470 {
+fn assert_cuts(
+    rt: &impl Abort,
+    alloc: Global,
+    text: &[u8],
+    parts: &[(usize, usize, bool)],
+) -> Result<(), Fail> {
+    for cut in 0..=text.len() {
         let (found, is_clean) = read_texts(alloc, text.get(..cut).unwrap_or(&[]))?;
-        let (whole, clean) = whole_part(cut);
+        let (whole, clean) = whole_part(parts, cut);
         let wanted = text.get(..whole).unwrap_or(&[]);
-        assert!(rt; found.as_slice() == wanted, "cut at {cut}");
-        assert_eq!(rt; is_clean, clean, "cut at {cut}");
+        assert!(rt;
+            found.as_slice() == wanted && is_clean == clean,
+            "cut at {cut}"
+        );
     }
     Ok(())
 }
 
 #[test]
-fn three_batches_cut_at_each_byte(rt: HostRuntime) -> Result<(), Fail> {
-    let alloc = rt.alloc();
-    let text = three_batches(alloc)?;
-    assert_cuts(&rt, alloc, &text)
+fn batches_cut_at_each_byte(rt: HostRuntime) -> Result<(), Fail> {
+    let text = three_batches(rt.alloc())?;
+    assert_eq!(rt; (text.len(), NODES.len()), (469, 115));
+    assert_cuts(&rt, rt.alloc(), &text, &THREE_BATCHES)?;
+    assert_cuts(&rt, rt.alloc(), NODES, &NODE_BATCHES)
 }
 
 /// Whether a router has transit, and the text of a batch that says so of 1.1.1.1.
@@ -130,35 +152,22 @@ fn one_node(alloc: Global, transit: bool) -> Result<Batch, AllocError> {
     Ok(Batch { number: 1, changes })
 }
 
-fn assert_node_text(rt: &impl Abort, text: &[u8], wanted: &[u8]) {
-    assert!(rt; text == wanted, "{wanted:?}");
-    assert_eq!(rt; text.len(), 23);
-}
-
-fn assert_node_read(rt: &impl Abort, journal: &Journal, transit: bool) {
-    assert_eq!(rt; journal.rest, Rest::Clean);
-    assert_eq!(rt; journal.batches.len(), 1);
-    assert_eq!(rt; journal.batches[0].number, 1);
-    let changes = journal.batches[0].changes.as_slice();
-    assert!(rt; changes == [node(transit)].as_slice(), "{changes:?}");
-}
-
-#[test]
-fn text_of_one_node(rt: HostRuntime) -> Result<(), Fail> {
-    let alloc = rt.alloc();
-    for (transit, wanted) in ONE_NODE {
-        let batch = one_node(alloc, transit)?;
-        let text = batch_text(alloc, &batch)?;
-        assert_node_text(&rt, &text, wanted);
+/// Whether a journal is that batch.
+fn is_one_node(journal: &Journal, transit: bool) -> bool {
+    if journal.rest != Rest::Clean || journal.batches.len() != 1 {
+        return false;
     }
-    Ok(())
+    let batch = &journal.batches[0];
+    batch.number == 1 && batch.changes.as_slice() == [node(transit)].as_slice()
 }
 
 #[test]
 fn a_journal_of_one_node(rt: HostRuntime) -> Result<(), Fail> {
-    for (transit, text) in ONE_NODE {
-        let journal = read_journal(rt.alloc(), text)?;
-        assert_node_read(&rt, &journal, transit);
+    for (transit, wanted) in ONE_NODE {
+        let text = batch_text(rt.alloc(), &one_node(rt.alloc(), transit)?)?;
+        assert!(rt; text.as_slice() == wanted && text.len() == 23, "{text:?}");
+        let journal = read_journal(rt.alloc(), wanted)?;
+        assert!(rt; is_one_node(&journal, transit), "{transit}");
     }
     Ok(())
 }
@@ -167,33 +176,6 @@ fn a_journal_of_one_node(rt: HostRuntime) -> Result<(), Fail> {
 const NODES: &[u8] = b"node,1.1.1.1,0\nend,1,1\n\
 node,2.2.2.2,0\ndrop,1.1.1.1,10.0.12.1\nnode,1.1.1.1,1\nend,2,3\n\
 node,255.255.255.255,1\nend,3,1\n";
-
-/// The same as `whole_part`, of these batches.
-fn whole_part_of_nodes(cut: usize) -> (usize, bool) {
-    match cut {
-        0 => (0, true),
-        1..=21 => (0, false),
-        22..=23 => (23, true),
-        24..=82 => (23, false),
-        83..=84 => (84, true),
-        85..=113 => (84, false),
-        _ => (115, true),
-    }
-}
-
-#[test]
-fn batches_of_nodes_cut_at_each_byte(rt: HostRuntime) -> Result<(), Fail> {
-    let alloc = rt.alloc();
-    assert_eq!(rt; NODES.len(), 115);
-    for cut in 0..116 {
-        let (found, is_clean) = read_texts(alloc, NODES.get(..cut).unwrap_or(&[]))?;
-        let (whole, clean) = whole_part_of_nodes(cut);
-        let wanted = NODES.get(..whole).unwrap_or(&[]);
-        assert!(rt; found.as_slice() == wanted, "cut at {cut}");
-        assert_eq!(rt; is_clean, clean, "cut at {cut}");
-    }
-    Ok(())
-}
 
 /// Journals, the texts of their batches, and whether nothing is left behind these.
 const JOURNALS: [(&[u8], &[u8], bool); 20] = [
@@ -247,8 +229,10 @@ fn assert_journals(
 ) -> Result<(), Fail> {
     for &(text, batches, clean) in journals {
         let (found, is_clean) = read_texts(alloc, by_bytes(text))?;
-        assert!(rt; found.as_slice() == batches, "{text:?}");
-        assert_eq!(rt; is_clean, clean, "{text:?}");
+        assert!(rt;
+            found.as_slice() == batches && is_clean == clean,
+            "{text:?}"
+        );
     }
     Ok(())
 }
@@ -263,8 +247,8 @@ fn changes_take_the_room_they_need(rt: HostRuntime) -> Result<(), Fail> {
     let text = b"drop,1.1.1.1,0.0.0.0\ndrop,1.1.1.1,0.0.0.1\ndrop,1.1.1.1,0.0.0.2\nend,1,3\n";
     let journal = read_journal(rt.alloc(), text.as_slice())?;
     assert_eq!(rt; journal.batches.len(), 1);
-    assert_eq!(rt; journal.batches[0].changes.len(), 3);
-    assert_eq!(rt; journal.batches[0].changes.capacity(), 3);
+    let changes = &journal.batches[0].changes;
+    assert_eq!(rt; (changes.len(), changes.capacity()), (3, 3));
     Ok(())
 }
 
@@ -274,17 +258,16 @@ const CHANGE: &[u8] = b"drop,1.1.1.1,10.0.0.1\n";
 #[test]
 fn rows_of_a_journal_are_counted(rt: HostRuntime) -> Result<(), Fail> {
     let most = read_journal(rt.alloc(), repeated(CHANGE, MOST_ROWS))?;
-    assert!(rt; most.batches.is_empty());
-    assert_eq!(rt; most.rest, Rest::Torn);
+    assert_eq!(rt; (most.batches.len(), most.rest), (0, Rest::Torn));
     Ok(())
 }
 
 #[test]
 fn one_row_more_than_is_read(rt: HostRuntime) {
-    let more = read_journal(rt.alloc(), repeated(CHANGE, MOST_ROWS + 1));
-    assert_eq!(rt; more.err(), Some(ReadError::TooManyRows));
-    let torn = read_journal(rt.alloc(), repeated(b"foo\n", MOST_ROWS + 1));
-    assert_eq!(rt; torn.err(), Some(ReadError::TooManyRows));
+    for row in [CHANGE, b"foo\n"] {
+        let more = read_journal(rt.alloc(), repeated(row, MOST_ROWS + 1));
+        assert_eq!(rt; more.err(), Some(ReadError::TooManyRows), "{row:?}");
+    }
 }
 
 #[test]
@@ -292,10 +275,9 @@ fn readers_of_journals_that_fail(rt: HostRuntime) {
     for rows in [
         b"end,1,0\nend,2,0\n".as_slice(),
         b"drop,1.1.1.1,0.0.0.0\nend,1,1\ndrop,1.1.1.1,0.0.0.1\nend,2,1\n".as_slice(),
+        b"end,1,0\nfoo\n".as_slice(),
     ] {
         let journal = read_journal(rt.alloc(), failing(rows));
         assert_eq!(rt; journal.err(), Some(ReadError::Device), "{rows:?}");
     }
-    let torn = read_journal(rt.alloc(), failing(b"end,1,0\nfoo\n"));
-    assert_eq!(rt; torn.err(), Some(ReadError::Device));
 }

@@ -71,13 +71,12 @@ fn put(alloc: Global, width: usize, most: usize, fault: Fault) -> (Result<(), us
 fn whole_texts(rt: HostRuntime) {
     for (width, writes) in [(1, 24), (3, 8), (23, 2), (24, 1), (25, 1)] {
         let (found, writer) = put(rt.alloc(), width, 24, Fault::TakeNone);
-        assert!(rt; found == Ok(()), "{width} bytes a write");
-        assert!(rt; writer.held.as_slice() == TEXT, "{width} bytes a write");
-        assert_eq!(rt; (writer.writes, writer.flushes), (writes, 0));
+        let is_whole = found == Ok(()) && writer.held.as_slice() == TEXT;
+        let found = (is_whole, writer.writes, writer.flushes);
+        assert_eq!(rt; found, (true, writes, 0), "{width} bytes a write");
     }
     let mut held = Vec::new(rt.alloc());
-    assert!(rt; put_all(&mut held, b"") == Ok(()));
-    assert!(rt; held.is_empty());
+    assert!(rt; put_all(&mut held, b"") == Ok(()) && held.is_empty());
 }
 
 /// Nothing is written behind a write that goes wrong, though it would be taken, and nothing is
@@ -94,12 +93,9 @@ fn no_write_behind_a_fault(rt: HostRuntime) {
     for fault in faults {
         for (most, writes) in [(0, 1), (3, 2), (7, 4), (21, 8), (23, 9)] {
             let (found, writer) = put(rt.alloc(), 3, most, fault);
-            assert!(rt; found == Err(most), "{fault:?} after {most}");
-            assert!(rt;
-                writer.held.as_slice() == &TEXT[..most],
-                "{fault:?} after {most}"
-            );
-            assert_eq!(rt; (writer.writes, writer.flushes), (writes, 0), "{fault:?}");
+            let is_front = found == Err(most) && writer.held.as_slice() == &TEXT[..most];
+            let found = (is_front, writer.writes, writer.flushes);
+            assert_eq!(rt; found, (true, writes, 0), "{fault:?} after {most}");
         }
     }
 }

@@ -1,6 +1,7 @@
 use super::{by_bytes, failing, repeated};
 use cspf_model::Request;
 use cspf_rows::{MOST_ROWS, RequestsError, RowError, read_requests};
+use std::alloc::Global;
 use std::process::Abort;
 use std::test::Fail;
 
@@ -8,37 +9,31 @@ use std::test::Fail;
 const ASKS: &[u8] = b"ask,7,1.1.1.1,2.2.2.2,0,1000,0x0,0x0,0x0,\n\n\
 ask,8,2.2.2.2,1.1.1.1,7,0,0x0,0x0,0x0,";
 
-#[test]
-fn no_request(rt: HostRuntime) -> Result<(), Fail> {
-    let none = read_requests(rt.alloc(), by_bytes(b"\n"))?;
-    assert!(rt; none.is_empty());
+/// The id, the setup priority and the bandwidth of each.
+const WANTED: [(u64, u8, u64); 2] = [(7, 0, 1000), (8, 7, 0)];
+
+/// The text is read as these requests.
+fn assert_requests(
+    rt: &impl Abort,
+    alloc: Global,
+    text: &[u8],
+    wanted: &[(u64, u8, u64)],
+) -> Result<(), Fail> {
+    let found = read_requests(alloc, by_bytes(text))?;
+    assert_eq!(rt; found.len(), wanted.len());
+    for (request, wanted) in found.iter().zip(wanted) {
+        let numbers = (request.id, request.setup, request.bandwidth);
+        assert_eq!(rt; numbers, *wanted);
+    }
     Ok(())
-}
-
-fn assert_first(rt: &impl Abort, requests: &[Request]) {
-    assert_eq!(rt; requests.len(), 1);
-    assert_eq!(rt; requests[0].id, 7);
-}
-
-#[test]
-fn the_first_request_in_pieces(rt: HostRuntime) -> Result<(), Fail> {
-    let one = read_requests(rt.alloc(), by_bytes(&ASKS[..41]))?;
-    assert_first(&rt, &one);
-    Ok(())
-}
-
-fn assert_both(rt: &impl Abort, requests: &[Request]) {
-    assert_eq!(rt; requests.len(), 2);
-    assert_eq!(rt; requests[0].id, 7);
-    assert_eq!(rt; requests[0].bandwidth, 1000);
-    assert_eq!(rt; requests[1].id, 8);
-    assert_eq!(rt; requests[1].setup, 7);
 }
 
 #[test]
 fn requests_in_pieces(rt: HostRuntime) -> Result<(), Fail> {
-    let two = read_requests(rt.alloc(), by_bytes(ASKS))?;
-    assert_both(&rt, &two);
+    let texts = [b"\n".as_slice(), &ASKS[..41], ASKS];
+    for (count, text) in texts.iter().enumerate() {
+        assert_requests(&rt, rt.alloc(), text, &WANTED[..count])?;
+    }
     Ok(())
 }
 
@@ -106,20 +101,27 @@ fn requests_are_counted(rt: HostRuntime) -> Result<(), Fail> {
     Ok(())
 }
 
-#[test]
-fn one_request_more_than_is_read(rt: HostRuntime) {
-    let more = read_requests(rt.alloc(), repeated(ASK, MOST_ROWS + 1));
-    assert_eq!(rt; more.err(), Some(RequestsError::TooManyRows));
-}
+/// Streams that fail at their end, and how reading their requests ends.
+const FAILING: [(&[u8], RequestsError); 2] = [
+    (
+        b"ask,7,1.1.1.1,2.2.2.2,0,0,0x0,0x0,0x0,\n",
+        RequestsError::Device,
+    ),
+    (
+        b"foo\nend,1,0\n",
+        RequestsError::Bad {
+            row: 1,
+            error: RowError::Kind,
+        },
+    ),
+];
 
 #[test]
 fn readers_of_requests_that_fail(rt: HostRuntime) {
-    let requests = read_requests(
-        rt.alloc(),
-        failing(b"ask,7,1.1.1.1,2.2.2.2,0,0,0x0,0x0,0x0,\n"),
-    );
-    assert_eq!(rt; requests.err(), Some(RequestsError::Device));
-    let early = read_requests(rt.alloc(), failing(b"foo\nend,1,0\n"));
-    let error = RowError::Kind;
-    assert_eq!(rt; early.err(), Some(RequestsError::Bad { row: 1, error }));
+    for (text, error) in FAILING {
+        let found = read_requests(rt.alloc(), failing(text));
+        assert_eq!(rt; found.err(), Some(error), "{text:?}");
+    }
+    let more = read_requests(rt.alloc(), repeated(ASK, MOST_ROWS + 1));
+    assert_eq!(rt; more.err(), Some(RequestsError::TooManyRows));
 }

@@ -199,51 +199,49 @@ fn put_link(rt: &impl Abort, alloc: Global, text: &[u8]) -> Result<Link, Fail> {
     Ok(link)
 }
 
-fn assert_interfaces(rt: &impl Abort, link: &Link) {
-    assert_eq!(rt; link.from.number(), 0x0102_0304);
-    assert_eq!(rt; link.local.number(), 0x0a00_0c01);
-    assert_eq!(rt; link.to.number(), 0x0202_0202);
-    assert_eq!(rt; link.remote.number(), 0x0a00_0c02);
-}
-
 #[test]
 fn what_a_put_says(rt: HostRuntime) -> Result<(), Fail> {
     let text =
         b"put,1.2.3.4,10.0.12.1,2.2.2.2,10.0.12.2,4294967295,0xA,1,2,3,4,5,6,7,18446744073709551615";
     let link = put_link(&rt, rt.alloc(), text)?;
-    assert_interfaces(&rt, &link);
-    assert_eq!(rt; link.metric, u32::MAX);
-    assert_eq!(rt; link.group.bits(), 10);
-    assert_eq!(rt; link.free, [1, 2, 3, 4, 5, 6, 7, u64::MAX]);
+    let from = (link.from.number(), link.local.number());
+    let to = (link.to.number(), link.remote.number());
+    assert_eq!(rt;
+        (from, to),
+        ((0x0102_0304, 0x0a00_0c01), (0x0202_0202, 0x0a00_0c02))
+    );
+    let found = (link.metric, link.group.bits(), link.free);
+    assert_eq!(rt; found, (u32::MAX, 10, [1, 2, 3, 4, 5, 6, 7, u64::MAX]));
     Ok(())
 }
 
 #[test]
-fn what_a_drop_and_an_end_say(rt: HostRuntime) -> Result<(), Fail> {
-    let found = only_row(rt.alloc(), b"drop,1.2.3.4,10.0.12.1")??;
-    let row = Row::Remove {
-        from: Addr::new(0x0102_0304),
-        local: Addr::new(0x0a00_0c01),
-    };
-    assert_eq!(rt; found, row);
-    let found = only_row(rt.alloc(), b"end,7,4294967295")??;
-    let row = Row::End {
-        number: 7,
-        count: u32::MAX,
-    };
-    assert_eq!(rt; found, row);
-    Ok(())
-}
-
-#[test]
-fn what_a_node_says(rt: HostRuntime) -> Result<(), Fail> {
+fn what_other_changes_and_an_end_say(rt: HostRuntime) -> Result<(), Fail> {
     let router = Addr::new(0x0102_0304);
-    let without = only_row(rt.alloc(), b"node,1.2.3.4,0")??;
-    let transit = false;
-    assert_eq!(rt; without, Row::Node { router, transit });
-    let with = only_row(rt.alloc(), b"node,1.2.3.4,1")??;
-    let transit = true;
-    assert_eq!(rt; with, Row::Node { router, transit });
+    let (from, local) = (router, Addr::new(0x0a00_0c01));
+    let (number, count) = (7, u32::MAX);
+    let rows: [(&[u8], Row); 4] = [
+        (b"drop,1.2.3.4,10.0.12.1", Row::Remove { from, local }),
+        (b"end,7,4294967295", Row::End { number, count }),
+        (
+            b"node,1.2.3.4,0",
+            Row::Node {
+                router,
+                transit: false,
+            },
+        ),
+        (
+            b"node,1.2.3.4,1",
+            Row::Node {
+                router,
+                transit: true,
+            },
+        ),
+    ];
+    for (text, row) in &rows {
+        let found = only_row(rt.alloc(), text)?;
+        assert!(rt; found == Ok(*row), "{text:?}");
+    }
     Ok(())
 }
 
@@ -255,26 +253,16 @@ fn asked(rt: &impl Abort, alloc: Global, text: &[u8]) -> Result<Request, Fail> {
     Ok(request)
 }
 
-fn assert_numbers(rt: &impl Abort, request: &Request) {
-    assert_eq!(rt; request.id, 9);
-    assert_eq!(rt; request.from.number(), 0x0102_0304);
-    assert_eq!(rt; request.to.number(), 0x0202_0202);
-    assert_eq!(rt; request.setup, 7);
-    assert_eq!(rt; request.bandwidth, 1000);
-}
-
-fn assert_masks(rt: &impl Abort, request: &Request) {
-    assert_eq!(rt; request.exclude_any.bits(), 1);
-    assert_eq!(rt; request.include_any.bits(), 2);
-    assert_eq!(rt; request.include_all.bits(), 4);
-}
-
 #[test]
 fn what_an_ask_says(rt: HostRuntime) -> Result<(), Fail> {
     let text = b"ask,9,1.2.3.4,2.2.2.2,7,1000,0x1,0x2,0x4,10.9.0.1/16s 4.4.4.4/32l";
     let request = asked(&rt, rt.alloc(), text)?;
-    assert_numbers(&rt, &request);
-    assert_masks(&rt, &request);
+    let ends = (request.from.number(), request.to.number());
+    let numbers = (request.id, request.setup, request.bandwidth, ends);
+    assert_eq!(rt; numbers, (9, 7, 1000, (0x0102_0304, 0x0202_0202)));
+    let (exclude_any, include_any) = (request.exclude_any.bits(), request.include_any.bits());
+    let include_all = request.include_all.bits();
+    assert_eq!(rt; [exclude_any, include_any, include_all], [1, 2, 4]);
     assert_eq!(rt; request.hops.len(), 2);
     Ok(())
 }
