@@ -2,8 +2,8 @@ ghost use Rattle.std.specs.Prelude.{◌≡◌, [], IfOk};
 
 use cspf_addr::{Addr, Hops, Mask};
 use cspf_db::Table;
-use cspf_model::{Batch, Change, Link, Outcome, Request};
 use cspf_ero::{reply_line, write_ero};
+use cspf_model::{Batch, Change, Link, Outcome, Request};
 use cspf_search::best;
 use std::alloc::Global;
 use std::test::Fail;
