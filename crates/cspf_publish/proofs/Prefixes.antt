@@ -37,7 +37,7 @@ all_of (x ∷ xs) (y ∷ ys) p len =
 AreNumberedFrom-snoc : (n : ℕ) (bs : List NumberedChanges) (b : NumberedChanges)
     → AreNumberedFrom n bs → b.number ≡ length bs + n → AreNumberedFrom n (bs ++ b ∷ [])
 AreNumberedFrom-snoc n [] b all is = (omega (arith, is), tt)
-AreNumberedFrom-snoc n (c ∷ bs) b all is = (all.0, AreNumberedFrom-snoc (suc n) bs b all.1 (omega (arith, is)))
+AreNumberedFrom-snoc n (c ∷ bs) b all is = (all.0, AreNumberedFrom-snoc (n + 1) bs b all.1 (omega (arith, is)))
 
 -- a history stays one with a batch that may come next
 pub IsHistory-snoc : LawfulByOneMore → (bs : List NumberedChanges) (b : NumberedChanges) → IsHistory bs → MayFollow bs b → IsHistory (bs ++ b ∷ [])

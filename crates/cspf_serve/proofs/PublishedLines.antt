@@ -8,7 +8,6 @@ use Rattle.cspf_model.specs.Numbered.{NumberedChanges, AreNumberedFrom}
 use Rattle.cspf_model.specs.Changes.{database_after}
 use Rattle.cspf_model.specs.Refusals.{IsRefusal}
 use Rattle.cspf_publish.specs.ApplyErrors.{IsApplyError}
-use Rattle.cspf_publish.specs.Histories as history
 use Rattle.cspf_publish.specs.PublisherStates.{PublisherState}
 use Rattle.cspf_publish.specs.declared.errors.ApplyError.{ApplyError}
 use Rattle.cspf_publish.specs.declared.errors.ApplyError.TheVariants as error
@@ -44,11 +43,6 @@ version_more bs made numbered within =
     let none : NumberedChanges = record { number = 0; changes = [] } in
     let number : (get_or bs made none).number ≡ made + 1 = number_at 1 bs made none numbered within ∙ omega arith in
     rw (add-one made, take-suc bs made none within, ← add-one made) (simp flat_map-append (rw (number, append-nil (version_line (made + 1))) refl))
-
--- the numbers of a history
-pub numbered_history : (first : ℕ) (bs : List NumberedChanges) → history.AreNumberedFrom first bs → AreNumberedFrom first bs
-numbered_history first [] numbered = tt
-numbered_history first (b ∷ bs) numbered = (numbered.0, rw (add-one first) (numbered_history (suc first) bs numbered.1))
 
 -- the number of the last batch
 last_number : (first : ℕ) (bs : List NumberedChanges) (b : NumberedChanges) → AreNumberedFrom first (bs ++ (b ∷ [])) → b.number ≡ first + length bs

@@ -5,7 +5,6 @@ use Rattle.cspf_serve.specs.BatchRun.{AreReplies}
 use Rattle.cspf_serve.specs.EarlyEnds.{Writes}
 use Rattle.cspf_serve.specs.LineTexts.{line_text}
 use Rattle.cspf_serve.proofs.BatchLines.{accepted_written, unfit_written}
-use Rattle.cspf_serve.proofs.PublishedLines.{numbered_history}
 use Rattle.cspf_serve.proofs.batch.batch_run.answer_read.Goals as goal
 
 pub returns-in-Some-clause-err : goal.returns-in-Some-clause-err
@@ -13,7 +12,7 @@ returns-in-Some-clause-err g c = λ batches is.
     let published = c.args.publisher.now.batches in
     unfit_written batches published (line_text c.in-Some.line) (g.W.Write.contents c.args.writer.now) (g.W.Write.contents c.write_versions.new.writer)
     (rw c.in-Some.is at is) c.version.ensures.history.lawful
-    (c.in_ok-write_versions.ensures.text published (numbered_history 1 published c.version.ensures.history.numbers) (sym c.version.ensures.version))
+    (c.in_ok-write_versions.ensures.text published c.version.ensures.history.numbers (sym c.version.ensures.version))
 
 pub returns-in_ok-answer_in_parts-in-None-clause-ok :
     goal.returns-in_ok-answer_in_parts-in-None-clause-ok
@@ -23,6 +22,6 @@ returns-in_ok-answer_in_parts-in-None-clause-ok g c = λ batches is.
     accepted_written batches c.args.requests.now (database_after batches)
     (g.W.Write.contents c.args.writer.now) (g.W.Write.contents c.write_versions.new.writer) (g.W.Write.contents c.answer_in_parts.new.writer)
     (rw same at c.version.ensures.history.lawful) refl
-    (rw same at (c.in_ok-write_versions.ensures.text published (numbered_history 1 published c.version.ensures.history.numbers) (sym c.version.ensures.version)))
+    (rw same at (c.in_ok-write_versions.ensures.text published c.version.ensures.history.numbers (sym c.version.ensures.version)))
     (subst (λ (l : List NumberedChanges). Writes (g.W.Write.contents c.write_versions.new.writer) (g.W.Write.contents c.answer_in_parts.new.writer)
     (AreReplies (database_after l) (length l) c.args.requests.now)) same c.in_ok-answer_in_parts-in-None.ensures.text)
