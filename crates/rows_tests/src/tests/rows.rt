@@ -210,8 +210,8 @@ fn what_a_put_says(rt: HostRuntime) -> Result<(), Fail> {
         (from, to),
         ((0x0102_0304, 0x0a00_0c01), (0x0202_0202, 0x0a00_0c02))
     );
-    let found = (link.metric, link.group.bits(), link.free);
-    assert_eq!(rt; found, (u32::MAX, 10, [1, 2, 3, 4, 5, 6, 7, u64::MAX]));
+    assert_eq!(rt; (link.metric, link.group.bits()), (u32::MAX, 10));
+    assert_eq!(rt; link.free, [1, 2, 3, 4, 5, 6, 7, u64::MAX]);
     Ok(())
 }
 
