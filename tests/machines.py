@@ -78,8 +78,7 @@ def dask(program, checks):
         scheduler = start("dask_scheduler", "--port", "0", "--scheduler-file", f"{room}/scheduler")
         far = ("--dask", await_(address))
         checks.same("a scheduler without workers", run([python], program.path, *far), (3, BEFORE, f"sweep: {far[1]}: there is no worker\n"))
-        for at in (1, 2):
-            start("dask_worker", far[1], "--nthreads", "1", "--no-nanny", "--local-directory", f"{room}/{at}")
+        workers = [start("dask_worker", far[1], "--nthreads", "1", "--no-nanny", "--local-directory", f"{room}/{at}") for at in (1, 2)]
         code = "import distributed, sys; distributed.Client(sys.argv[1]).wait_for_workers(2, timeout=60)"
         subprocess.run([python, "-c", code, far[1]], check=True, capture_output=True, timeout=90)
         checks.same("two workers, each with a scenario at the same time", run([python], wrapped(program, room, TWO), *far), WHOLE)
@@ -89,6 +88,8 @@ def dask(program, checks):
             wanted = sweep(program.path, rows, asks, *words)
             checks.true(f"NSFNET {words}, one process", wanted[0] == 0 and wanted[1].count("\n") > 90, wanted)
             checks.same(f"NSFNET {words}, two workers", run([python], program.path, *far, *words, rows=rows, asks=asks), wanted)
+        checks.same("an empty network, two workers", run([python], program.path, *far, rows="", asks=""), sweep(program.path, "", ""))
+        checks.true("no program is left at a worker", await_(lambda: not any(children(worker) for worker in workers), 20), [children(worker) for worker in workers])
         path = wrapped(program, room, STOPS)
         status, out, err = run([python], path, *far)
         checks.true("a worker's program that stops in the second scenario", (status, out) == (3, BEFORE + OF_CIRCUITS[:SECOND]) and re.fullmatch(
@@ -106,6 +107,12 @@ def dask(program, checks):
         status, out, err = run([python], program.path, *far)
         checks.true("a scheduler that isn't there", (status, out) == (3, BEFORE) and re.fullmatch(
             rf"sweep: {far[1]}: OSError: Timed out trying to connect to .*\n", err), (status, out, err))
+
+
+def children(process):
+    """The processes that a process has started, but for those of Python itself."""
+    found = subprocess.run(["ps", "-o", "comm=", "--ppid", str(process.pid)], capture_output=True, text=True).stdout.split()
+    return [name for name in found if not name.startswith("python")]
 
 
 @contextlib.contextmanager
@@ -162,6 +169,8 @@ def ssh(program, checks):
         wanted = sweep(program.path, rows, asks)
         checks.true("NSFNET, here", wanted[0] == 0 and wanted[1].count("\n") > 90, wanted)
         checks.same("NSFNET, two machines", run(python, program.path, *both, "--workers", "2", rows=rows, asks=asks), wanted)
+        for name, rows, asks in (("an empty network", "", ""), ("no requests", RING, "")):
+            checks.same(f"{name}, two machines", run(python, program.path, *both, rows=rows, asks=asks), sweep(program.path, rows, asks))
         path = wrapped(program, room, STOPS)
         status, out, err = run(python, path, *both)
         checks.true("a far program that stops in the second scenario", (status, out) == (3, BEFORE + OF_CIRCUITS[:SECOND]) and re.fullmatch(

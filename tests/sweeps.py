@@ -298,7 +298,7 @@ def plain_ranking(done):
             yield f"most {kind} {rank} scenario {place} lost={len(lost)} longer={len(longer)} bandwidth={bandwidth(lost)} out {out}"
 
     yield from lines("requests", sorted((each for each in done if each[1] or each[2]), key=lambda each: (-len(each[1]), -len(each[2]))))
-    yield from lines("bandwidth", sorted((each for each in done if each[1]), key=lambda each: (-bandwidth(each[1]), -len(each[1]))))
+    yield from lines("bandwidth", sorted((each for each in done if each[1]), key=lambda each: (-bandwidth(each[1]), -len(each[1]), -len(each[2]))))
     counts = [(request["id"], sum(request in each[1] for each in done), sum(request in each[2] for each in done))
               for request in {request["id"]: request for each in done for request in each[1] + each[2]}.values()]
     for rank, (at, lost, longer) in enumerate(sorted(counts, key=lambda each: (-each[1] - each[2], -each[1], each[0]))[:10], 1):
@@ -456,11 +456,11 @@ def asked(program, checks):
             starts = [name.split(".")[0] for name in os.listdir(room)].count("solve")
             checks.true(f"streams of {most} rows, programs", starts >= least, starts)
     with tempfile.TemporaryDirectory() as room:
-        many = "".join(ask(at, A, C, bandwidth=1) for at in range(9000))
+        many = "".join(ask(at, A, C, bandwidth=1) for at in range(5000))
         status, out, err = sweep(wrapped(program, room), RING, many)
         counts = re.findall(r"(?m)^scenario \d+ (lost=\d+ longer=.*)$", out)
         checks.same("more requests and replies than pipes hold", (status, counts, err),
-                    (0, [f"lost=0 longer={longer} most={most} overbooked={full}" for longer, most, full in ((9000, 5, 2), (0, 0, 0), (9000, 5, 2), (0, 0, 0))], ""))
+                    (0, [f"lost=0 longer={longer} most={most} overbooked={full}" for longer, most, full in ((5000, 5, 2), (0, 0, 0), (5000, 5, 2), (0, 0, 0))], ""))
 
 
 def small(room, rows, asks, most, program):

@@ -106,7 +106,7 @@ def results(client, workers, place, future, late):
 
 def over_ssh(logins, jobs, given, scenarios, count, most_links):
     """The scenarios' outcomes, in their order, from what `routed solve` says on these machines, which need no Python."""
-    most_rows = 2 * most_links + 2 * -(-most_links // MOST_CHANGES) + min(len(given.requests), MOST_ASKS)
+    most_rows = 2 * (most_links + most_links // MOST_CHANGES + 1) + min(len(given.requests), MOST_ASKS)
     most = max(1, min(MOST_AT_ONCE, count // (SHARES * jobs * len(logins.split(","))), (MOST_ROWS - len(given.rows)) // most_rows))
     with tempfile.NamedTemporaryFile() as log, tempfile.TemporaryFile() as said:
         command = ["parallel", "--plain", "--pipe", "--keep-order", "--header", "1", "-N", str(most), "--jobs", str(jobs), "--sshlogin", logins,

@@ -72,7 +72,7 @@ class Solve:
     """A running `routed solve` on the network that some rows make."""
 
     def __init__(self, program, rows):
-        self.program, self.rows, self.version = program, 0, len(heads_of(rows))
+        self.program, self.rows, self.version, self.process = program, 0, len(heads_of(rows)), None
         self.said = tempfile.TemporaryFile()
         try:
             self.process = subprocess.Popen([program, "solve"], stdin=subprocess.PIPE, stdout=subprocess.PIPE, stderr=self.said, bufsize=0)
@@ -135,7 +135,10 @@ class Solve:
         return ended(self.program, status, self.said.read().decode(errors="replace").splitlines())
 
     def close(self):
-        self.process.kill()
-        self.process.wait()
-        for file in (self.process.stdin, self.process.stdout, self.said):
-            file.close()
+        if self.process:
+            self.process.kill()
+            self.process.wait()
+            for file in (self.process.stdin, self.process.stdout, self.said):
+                file.close()
+
+    __del__ = close  # at a worker of Dask nobody says when the sweep has ended
