@@ -11,14 +11,15 @@ import sys
 import tempfile
 import time
 
-from sweeps import ASKS, BEFORE, FAILS, OF_CIRCUITS, OF_ROUTERS, RING, SWEEP, THIRD, TOP, sweep, wrapped
+from sweeps import ASKS, BEFORE, DROPS, HANGS, OF_CIRCUITS, OF_ROUTERS, RING, SWEEP, THIRD, TOP, sweep, wrapped
 
 WHOLE = (0, BEFORE + OF_CIRCUITS, "")
-REFUSED = FAILS + "{ echo batch 2 refused: exhausted; exit 2; }"
-TWO = ('{ touch "$room/at.$$"; tries=0; while [ $(ls "$room" | grep -c ^at) -lt 2 ]; '
-       "do tries=$((tries + 1)); [ $tries -gt 3000 ] && exit 9; sleep 0.01; done; }")  # until two scenarios are worked on at once
-FAR = ["cat", "head", "mktemp", "perl", "rm", "sh", "tr"]  # what the far side has beside the program
-WRAPPED = ["grep", "ls", "mkdir", "mv", "sleep", "touch"]  # and what the wrapped ones take
+STOPS = 'if row == "drop,1.1.1.1,10.0.14.1":\n    stop(3, "routed: stopped\\n")'  # in the second scenario
+GOES = "if words[0] == 'snapshot':\n    os.remove(sys.argv[0])"
+TWO = DROPS + ('touch(f"at.{os.getpid()}"); '
+               'wait(lambda: sum(name.startswith("at.") for name in os.listdir(room)) > 1)')  # until two scenarios are worked on at once
+SECOND = OF_CIRCUITS.index("scenario 2")
+FAR = ["perl", "rm", "sh", "tr"]  # what the far side has beside the program
 
 
 def run(python, program, *words, rows=RING, asks=ASKS, environment=None):
@@ -48,9 +49,9 @@ def await_(what, seconds=60):
 def alone(program, checks):
     """Without an engine, and command lines that are refused."""
     status, out, err = run([sys.executable, "-S"], program.path, "--dask", "tcp://127.0.0.1:9")
-    checks.true("no distributed", (status, out) == (3, "") and re.fullmatch(r"sweep: \S+: No module named '\w+'\n", err), err)
+    checks.true("no distributed", (status, out) == (3, BEFORE) and re.fullmatch(r"sweep: \S+: No module named '\w+'\n", err), err)
     found = run([sys.executable], program.path, "--ssh", "nowhere", environment={"PATH": "/nowhere"})
-    checks.same("no parallel", found, (3, "", "sweep: parallel: No such file or directory\n"))
+    checks.same("no parallel", found, (3, BEFORE, "sweep: parallel: No such file or directory\n"))
     for words in (["--dask", "x"], ["--dask", "tcp://127.0.0.1:9", "--jobs", "1"], ["--dask", "tcp://127.0.0.1:9", "--ssh", "x"]):
         status, out, err = run([sys.executable], program.path, *words)
         checks.true(f"a command line {words}", (status, out) == (2, "") and "sweep: error: " in err, err)
@@ -76,32 +77,42 @@ def dask(program, checks):
 
         scheduler = start("dask_scheduler", "--port", "0", "--scheduler-file", f"{room}/scheduler")
         far = ("--dask", await_(address))
-        checks.same("a scheduler without workers", run([python], program.path, *far), (3, "", f"sweep: {far[1]}: there is no worker\n"))
-        for at in (1, 2):
-            start("dask_worker", far[1], "--nthreads", "1", "--no-nanny", "--local-directory", f"{room}/{at}")
+        checks.same("a scheduler without workers", run([python], program.path, *far), (3, BEFORE, f"sweep: {far[1]}: there is no worker\n"))
+        workers = [start("dask_worker", far[1], "--nthreads", "1", "--no-nanny", "--local-directory", f"{room}/{at}") for at in (1, 2)]
         code = "import distributed, sys; distributed.Client(sys.argv[1]).wait_for_workers(2, timeout=60)"
         subprocess.run([python, "-c", code, far[1]], check=True, capture_output=True, timeout=90)
-        checks.same("two workers, each with a scenario at the same time", run([python], wrapped(program, room, FAILS + TWO), *far), WHOLE)
+        checks.same("two workers, each with a scenario at the same time", run([python], wrapped(program, room, TWO), *far), WHOLE)
         checks.same("two workers, routers", run([python], program.path, *far, "--fail", "routers"), (0, BEFORE + OF_ROUTERS, ""))
         rows, asks = (open(os.path.join(TOP, f"examples/nsfnet.{kind}"), encoding="ascii").read() for kind in ("journal", "requests"))
         for words in ([], ["--fail", "pairs", "--part", "2/3"]):
             wanted = sweep(program.path, rows, asks, *words)
             checks.true(f"NSFNET {words}, one process", wanted[0] == 0 and wanted[1].count("\n") > 90, wanted)
             checks.same(f"NSFNET {words}, two workers", run([python], program.path, *far, *words, rows=rows, asks=asks), wanted)
-        checks.same("a scenario that a worker's program refuses", run([python], wrapped(program, room, REFUSED), *far),
-                    (1, "", "sweep: scenario 1: batch 2 refused: exhausted\n"))
-        path = wrapped(program, room, 'rm "$0"')
+        checks.same("an empty network, two workers", run([python], program.path, *far, rows="", asks=""), sweep(program.path, "", ""))
+        checks.true("no program is left at a worker", await_(lambda: not any(children(worker) for worker in workers), 20), [children(worker) for worker in workers])
+        path = wrapped(program, room, STOPS)
         status, out, err = run([python], path, *far)
-        checks.true("a program that isn't there at a worker", (status, out) == (3, "") and re.fullmatch(
+        checks.true("a worker's program that stops in the second scenario", (status, out) == (3, BEFORE + OF_CIRCUITS[:SECOND]) and re.fullmatch(
+            rf"sweep: tcp://127.0.0.1:\d+: scenario 2: {path} ended with status 3: routed: stopped\n", err), (status, out, err))
+        path = wrapped(program, room, first=GOES)
+        status, out, err = run([python], path, *far)
+        checks.true("a program that isn't there at a worker", (status, out) == (3, BEFORE) and re.fullmatch(
             rf"sweep: tcp://127.0.0.1:\d+: scenario 1: {path}: No such file or directory\n", err), (status, out, err))
-        status, out, err = run([python], wrapped(program, room, THIRD + 'mkdir "$room/once" && kill -9 $PPID'), *far)
-        checks.true("a worker that dies", (status, out) == (3, "") and re.fullmatch(
+        dies = THIRD + 'if not os.path.exists(room + "/once"):\n        touch("once"); os.kill(os.getppid(), signal.SIGKILL); stop(0)'
+        status, out, err = run([python], wrapped(program, room, dies), *far)
+        checks.true("a worker that dies", status == 3 and (BEFORE + OF_CIRCUITS).startswith(out) and out.startswith(BEFORE) and re.fullmatch(
             r"sweep: scenario \d: the worker tcp://127.0.0.1:\d+ is gone\n", err), (status, out, err))
         checks.same("the worker that is left", run([python], program.path, *far), WHOLE)
         ends(scheduler)
         status, out, err = run([python], program.path, *far)
-        checks.true("a scheduler that isn't there", (status, out) == (3, "") and re.fullmatch(
+        checks.true("a scheduler that isn't there", (status, out) == (3, BEFORE) and re.fullmatch(
             rf"sweep: {far[1]}: OSError: Timed out trying to connect to .*\n", err), (status, out, err))
+
+
+def children(process):
+    """The processes that a process has started, but for those of Python itself."""
+    found = subprocess.run(["ps", "-o", "comm=", "--ppid", str(process.pid)], capture_output=True, text=True).stdout.split()
+    return [name for name in found if not name.startswith("python")]
 
 
 @contextlib.contextmanager
@@ -111,7 +122,7 @@ def ssh_server(room, port):
         subprocess.run(["ssh-keygen", "-q", "-t", "ed25519", "-N", "", "-f", f"{room}/{name}"], check=True)
     for name in ("bin", "far"):
         os.mkdir(f"{room}/{name}")
-    for name in FAR + WRAPPED:
+    for name in FAR:
         os.symlink(shutil.which(name), f"{room}/bin/{name}")
     with open(f"{room}/host.pub") as key, open(f"{room}/known", "w") as known:
         known.write(f"[127.0.0.1]:{port},[localhost]:{port} {key.read()}")
@@ -153,47 +164,50 @@ def ssh(program, checks):
             return
         checks.same("no Python on the far side", far("command -v python3; command -v perl").stdout, f"{room}/bin/perl\n")
         both, python = ("--ssh", f"{one},{other}"), [sys.executable]
-        checks.same("two machines, each with a scenario at the same time", run(python, wrapped(program, room, FAILS + TWO), *both), WHOLE)
+        checks.same("two machines, each with a scenario at the same time", run(python, wrapped(program, room, TWO), *both), WHOLE)
         rows, asks = (open(os.path.join(TOP, f"examples/nsfnet.{kind}"), encoding="ascii").read() for kind in ("journal", "requests"))
         wanted = sweep(program.path, rows, asks)
         checks.true("NSFNET, here", wanted[0] == 0 and wanted[1].count("\n") > 90, wanted)
         checks.same("NSFNET, two machines", run(python, program.path, *both, "--workers", "2", rows=rows, asks=asks), wanted)
-        checks.same("a scenario that the far program refuses", run(python, wrapped(program, room, REFUSED), *both),
-                    (1, "", "sweep: scenario 1: batch 2 refused: exhausted\n"))
-        path = wrapped(program, room, 'rm "$0"')
+        for name, rows, asks in (("an empty network", "", ""), ("no requests", RING, "")):
+            checks.same(f"{name}, two machines", run(python, program.path, *both, rows=rows, asks=asks), sweep(program.path, rows, asks))
+        path = wrapped(program, room, STOPS)
         status, out, err = run(python, path, *both)
-        checks.true("a program that isn't there at the far side", (status, out) == (3, "") and re.fullmatch(
+        checks.true("a far program that stops in the second scenario", (status, out) == (3, BEFORE + OF_CIRCUITS[:SECOND]) and re.fullmatch(
+            rf"sweep: scenario 2: (127.0.0.1|localhost): {path} ended with status 3: routed: stopped\n", err), (status, out, err))
+        path = wrapped(program, room, first=GOES)
+        status, out, err = run(python, path, *both)
+        checks.true("a program that isn't there at the far side", (status, out) == (3, BEFORE) and re.fullmatch(
             rf"sweep: scenario 1: (127.0.0.1|localhost): {path} ended with status 127: sh: .*{path}: not found\n", err), (status, out, err))
-        status, out, err = run(python, wrapped(program, room, THIRD + "{ kill -9 $PPID; exit; }"), "--ssh", one)
-        checks.true("a far side that ends in a scenario", (status, out) == (3, "") and re.fullmatch(
-            r"sweep: scenario \d: 127.0.0.1 ended with status 137\n", err), (status, out, err))
+        status, out, err = run(python, wrapped(program, room, THIRD + "os.kill(os.getppid(), signal.SIGKILL); stop(0)"), "--ssh", one)
+        checks.true("a far side that ends in the third scenario", (status, out) == (3, BEFORE + OF_CIRCUITS[:OF_CIRCUITS.index("scenario 3")])
+                    and err == "sweep: scenario 3: 127.0.0.1 ended with status 137\n", (status, out, err))
         port = free_port()
         closed = re.sub(r"-p \d+", f"-p {port}", other)
         status, out, err = run(python, program.path, "--ssh", f"{one},{closed}")
-        checks.true("a machine that can't be reached", (status, out) == (3, "") and re.fullmatch(
+        checks.true("a machine that can't be reached", status == 3 and out.startswith(BEFORE) and (BEFORE + OF_CIRCUITS).startswith(out) and re.fullmatch(
             rf"sweep: scenario \d: localhost ended with status 255: ssh: connect to host localhost port {port}: Connection refused\n", err), (status, out, err))
         ended(program, checks, room, one)
 
 
 def ended(program, checks, room, login):
     """A sweep that is ended ends the far program, too, and leaves nothing there."""
-    hangs = wrapped(program, room, FAILS + '{ echo $$ $PPID > "$room/new"; mv "$room/new" "$room/hangs"; exec sleep 600; }')
+    hangs = wrapped(program, room, HANGS)
     for name, text in (("journal", RING), ("requests", ASKS)):
         with open(os.path.join(room, name), "w", encoding="ascii") as file:
             file.write(text)
     def folders():
         return {name for name in os.listdir(f"{room}/far") if os.path.isdir(f"{room}/far/{name}")}
 
-    before = folders()
+    there = folders()
     running = subprocess.Popen([SWEEP, f"{room}/journal", f"{room}/requests", "--program", hangs, "--ssh", login], stdout=subprocess.PIPE)
     await_(lambda: os.path.exists(f"{room}/hangs") or running.poll() is not None)
     hung, shell = open(f"{room}/hangs").read().split()
-    new = folders() - before
     running.terminate()
     out, _ = running.communicate(timeout=60)
     left = await_(lambda: not any(os.path.exists(f"/proc/{process}") for process in (hung, shell)))
-    checks.same("a sweep that is ended, and its far program with it", (running.returncode, out, left), (143, b"", True))
-    checks.same("its folder there", (len(new), new & folders()), (1, set()))
+    checks.same("a sweep that is ended, and its far program with it", (running.returncode, out, left), (143, BEFORE.encode(), True))
+    checks.same("folders there", folders(), there)
 
 
 def machines(program, checks):

@@ -1,11 +1,15 @@
 """Tests of tools/sweep and tools/join: failures worked by hand, failures by tests/reference.py, several jobs, parts, and what is refused."""
+import contextlib
 import hashlib
 import itertools
 import os
+import pty
 import random
 import re
 import subprocess
+import sys
 import tempfile
+import textwrap
 import time
 
 from reference import address_number, address_text, publish, requests_of, whole_batches
@@ -48,6 +52,14 @@ before without request 4 none
 before {A_TO_B}
 before routes=3 without=1 overbooked=1
 """
+RANKED = f"""most requests 1 scenario 2 lost=1 longer=0 bandwidth=30 out {AD}
+most requests 2 scenario 1 lost=0 longer=2 bandwidth=0 out {AB}
+most requests 3 scenario 3 lost=0 longer=1 bandwidth=0 out {BC}
+most bandwidth 1 scenario 2 lost=1 longer=0 bandwidth=30 out {AD}
+most failures 1 request 1 lost=0 longer=2
+most failures 2 request 3 lost=1 longer=0
+most failures 3 request 2 lost=0 longer=1
+"""
 OF_CIRCUITS = f"""scenario 1 out {AB}
 scenario 1 longer request 1 cost=25 was=20 more=5
 scenario 1 longer request 2 cost=35 was=10 more=25
@@ -56,15 +68,13 @@ scenario 1 overbooked {D} 10.0.34.4 {C} 10.0.34.3 {FULL}
 scenario 1 lost=0 longer=2 most=25 overbooked=2
 scenario 2 out {AD}
 scenario 2 lost request 3 none was=15
-scenario 2 {A_TO_B}
-scenario 2 lost=1 longer=0 most=0 overbooked=1
+scenario 2 lost=1 longer=0 most=0 overbooked=0
 scenario 3 out {BC}
 scenario 3 longer request 1 cost=25 was=20 more=5
 scenario 3 lost=0 longer=1 most=5 overbooked=0
 scenario 4 out {CD}
-scenario 4 {A_TO_B}
-scenario 4 lost=0 longer=0 most=0 overbooked=1
-scenarios=4 lost=1 longer=2 overbooked=3
+scenario 4 lost=0 longer=0 most=0 overbooked=0
+{RANKED}scenarios=4 lost=1 longer=2 overbooked=1
 """
 OF_ROUTERS = f"""scenario 1 out router {A}
 scenario 1 lost request 1 unknown-from was=20
@@ -80,14 +90,24 @@ scenario 3 lost request 1 unknown-to was=20
 scenario 3 lost=1 longer=0 most=0 overbooked=0
 scenario 4 out router {D}
 scenario 4 lost request 3 unknown-from was=15
-scenario 4 {A_TO_B}
-scenario 4 lost=1 longer=0 most=0 overbooked=1
-scenarios=4 lost=4 longer=1 overbooked=1
+scenario 4 lost=1 longer=0 most=0 overbooked=0
+most requests 1 scenario 1 lost=3 longer=0 bandwidth=150 out router {A}
+most requests 2 scenario 2 lost=1 longer=1 bandwidth=60 out router {B}
+most requests 3 scenario 3 lost=1 longer=0 bandwidth=60 out router {C}
+most requests 4 scenario 4 lost=1 longer=0 bandwidth=30 out router {D}
+most bandwidth 1 scenario 1 lost=3 longer=0 bandwidth=150 out router {A}
+most bandwidth 2 scenario 2 lost=1 longer=1 bandwidth=60 out router {B}
+most bandwidth 3 scenario 3 lost=1 longer=0 bandwidth=60 out router {C}
+most bandwidth 4 scenario 4 lost=1 longer=0 bandwidth=30 out router {D}
+most failures 1 request 1 lost=2 longer=1
+most failures 2 request 2 lost=2 longer=0
+most failures 3 request 3 lost=2 longer=0
+scenarios=4 lost=4 longer=1 overbooked=0
 """
 OF_PAIRS = "".join(f"scenario {place} out {one}\nscenario {place} out {other}\nscenario {place} {counts}\n" for place, one, other, counts in (
     (1, AB, AD, "lost=3 longer=0 most=0 overbooked=0"), (2, AB, BC, "lost=1 longer=1 most=5 overbooked=0"),
     (3, AB, CD, "lost=2 longer=0 most=0 overbooked=0"), (4, AD, BC, "lost=2 longer=0 most=0 overbooked=0"),
-    (5, AD, CD, "lost=1 longer=0 most=0 overbooked=1"), (6, BC, CD, "lost=1 longer=0 most=0 overbooked=0")))
+    (5, AD, CD, "lost=1 longer=0 most=0 overbooked=0"), (6, BC, CD, "lost=1 longer=0 most=0 overbooked=0")))
 
 
 def sweep(program, rows, asks, *words):
@@ -101,8 +121,8 @@ def sweep(program, rows, asks, *words):
 
 
 def facts(program, rows, asks, pattern, *words):
-    """The lines of a sweep in which the pattern is found."""
-    return [line for line in sweep(program.path, rows, asks, *words)[1].splitlines() if re.search(pattern, line)]
+    """The lines of a sweep in which the pattern is found, without the ranked ones."""
+    return [line for line in sweep(program.path, rows, asks, *words)[1].splitlines() if re.search(pattern, line) and not line.startswith("most ")]
 
 
 def ring(program, checks):
@@ -112,7 +132,7 @@ def ring(program, checks):
     status, out, err = sweep(program.path, RING, ASKS, "--fail", "pairs")
     found = "".join(line for line in out.splitlines(keepends=True) if re.match(r"scenario \d+ (out|lost=)", line))
     checks.same("pairs of a ring", (status, found, err), (0, OF_PAIRS, ""))
-    checks.same("the pairs' last line", out.splitlines()[-1:], ["scenarios=6 lost=6 longer=1 overbooked=1"])
+    checks.same("the pairs' last line", out.splitlines()[-1:], ["scenarios=6 lost=6 longer=1 overbooked=0"])
     again = RING + "drop,3.3.3.3,10.0.34.3\ndrop,4.4.4.4,10.0.34.4\nend,2,2\n" + circuit(3, 4) + "end,3,2"
     quoted = again.replace(A, f'"{A}"').replace("\n", "\r\n")
     wanted = (0, BEFORE.replace("version=1", "version=3") + OF_CIRCUITS, "")
@@ -143,7 +163,7 @@ def parts(program, checks):
     full = f"overbooked {A} 10.0.12.2 {B} 10.0.12.9 priority=7 asked=120 above=0 unreserved=100"
     checks.same("a circuit fails beside a cheaper link of one way to the same address",
                 facts(program, twins, ask(1, A, B) + ask(2, A, B), " out | overbooked | lost request "), [
-                    f"before {full}", f"scenario 1 out link {A} 10.0.12.1 {B} 10.0.12.9", f"scenario 1 {full}",
+                    f"before {full}", f"scenario 1 out link {A} 10.0.12.1 {B} 10.0.12.9",
                     f"scenario 2 out circuit {A} 10.0.12.2 {B} 10.0.12.9",
                     "scenario 2 lost request 1 none was=10", "scenario 2 lost request 2 none was=10"])
     stub = journal(circuit(1, 2), link(B, "10.0.23.2", C, "10.0.23.3"))
@@ -204,7 +224,7 @@ def loads(program, checks):
 
 
 def plain(rows, asks, fail):
-    """What a sweep says, from the routes of tests/reference.py as they are, with no object read."""
+    """What a sweep says, from the routes of tests/reference.py as they are, with no object read and each request asked in each scenario."""
     network, requests = publish(whole_batches(rows))[0][-1], requests_of(asks)
     version = len(whole_batches(rows))
     links = {key: network.links[key] for key in sorted(network.links)}
@@ -218,6 +238,8 @@ def plain(rows, asks, fail):
         return [(walk is None and left.answer(0, request).split(" ", 3)[3], walk) for request, walk in zip(requests, walks)]
 
     def overbooked(found):
+        """By link and priority, what is asked there and above, and its words."""
+        full = {}
         for key in links:
             taken = [(request["setup"], request["bandwidth"]) for request, (_, walk) in zip(requests, found)
                      for each in walk or () if (each["from"], each["local"]) == key]
@@ -226,7 +248,8 @@ def plain(rows, asks, fail):
                 above = sum(bandwidth for setup, bandwidth in taken if setup < priority)
                 free = links[key]["free"][priority]
                 if asked + above > free:
-                    yield f"overbooked {name(key)} priority={priority} asked={asked} above={above} unreserved={free}"
+                    full[key, priority] = asked + above, f"overbooked {name(key)} priority={priority} asked={asked} above={above} unreserved={free}"
+        return full
 
     def cost(walk):
         return sum(each["metric"] for each in walk)
@@ -241,24 +264,45 @@ def plain(rows, asks, fail):
         named = [(f"{'circuit' if len(keys) == 2 else 'link'} {name(keys[0])}", keys) for keys in circuits]
         failing = [[part] for part in named] if fail == "circuits" else list(itertools.combinations(named, 2))
     base = answers(())
-    full, without = list(overbooked(base)), [(request, word) for request, (word, walk) in zip(requests, base) if walk is None]
+    before, without = overbooked(base), [(request, word) for request, (word, walk) in zip(requests, base) if walk is None]
     yield f"network version={version} routers={len(network.routers())} links={len(links)} circuits={len(circuits)} requests={len(requests)}"
     yield from (f"before without request {request['id']} {word}" for request, word in without)
-    yield from (f"before {fact}" for fact in full)
-    yield f"before routes={len(requests) - len(without)} without={len(without)} overbooked={len(full)}"
-    totals = [0, 0, 0]
+    yield from (f"before {fact}" for _, fact in before.values())
+    yield f"before routes={len(requests) - len(without)} without={len(without)} overbooked={len(before)}"
+    totals, done = [0, 0, 0], []
     for place, scenario in enumerate(failing, 1):
         found = answers({key for _, keys in scenario for key in keys})
         both = [(request["id"], old, word, new) for request, (_, old), (word, new) in zip(requests, base, found) if old is not None]
         lost = [f"lost request {at} {word} was={cost(old)}" for at, old, word, new in both if new is None]
         longer = [(at, cost(new), cost(old)) for at, old, _, new in both if new is not None and cost(new) > cost(old)]
-        full, most = list(overbooked(found)), max([new - old for _, new, old in longer], default=0)
+        full = [fact for at, (taken, fact) in overbooked(found).items() if at not in before or taken > before[at][0]]
+        most = max([new - old for _, new, old in longer], default=0)
+        done.append((place, [request for request, (_, old), (_, new) in zip(requests, base, found) if old is not None and new is None],
+                     [request for at, _, _ in longer for request in requests if request["id"] == at], " and ".join(part for part, _ in scenario)))
         for fact in (*(f"out {part}" for part, _ in scenario), *lost,
                      *(f"longer request {at} cost={new} was={old} more={new - old}" for at, new, old in longer), *full,
                      f"lost={len(lost)} longer={len(longer)} most={most} overbooked={len(full)}"):
             yield f"scenario {place} {fact}"
         totals = [total + bool(counted) for total, counted in zip(totals, (lost, longer, full))]
+    yield from plain_ranking(done)
     yield f"scenarios={len(failing)} lost={totals[0]} longer={totals[1]} overbooked={totals[2]}"
+
+
+def plain_ranking(done):
+    """The ranked lines, from all scenarios: each its place, the requests that are lost, those that get longer, and what is out."""
+    def bandwidth(lost):
+        return sum(request["bandwidth"] for request in lost)
+
+    def lines(kind, order):
+        for rank, (place, lost, longer, out) in enumerate(order[:10], 1):
+            yield f"most {kind} {rank} scenario {place} lost={len(lost)} longer={len(longer)} bandwidth={bandwidth(lost)} out {out}"
+
+    yield from lines("requests", sorted((each for each in done if each[1] or each[2]), key=lambda each: (-len(each[1]), -len(each[2]))))
+    yield from lines("bandwidth", sorted((each for each in done if each[1]), key=lambda each: (-bandwidth(each[1]), -len(each[1]), -len(each[2]))))
+    counts = [(request["id"], sum(request in each[1] for each in done), sum(request in each[2] for each in done))
+              for request in {request["id"]: request for each in done for request in each[1] + each[2]}.values()]
+    for rank, (at, lost, longer) in enumerate(sorted(counts, key=lambda each: (-each[1] - each[2], -each[1], each[0]))[:10], 1):
+        yield f"most failures {rank} request {at} lost={lost} longer={longer}"
 
 
 def compared(program, checks):
@@ -276,54 +320,101 @@ def compared(program, checks):
 
 
 def drawn(draw):
-    """A network with parallel circuits, links of one way and a router without transit, and requests, some through interface addresses."""
+    """A network of two components, with parallel circuits, links of one way and a router without transit, and requests, some with hops
+    of each kind."""
     puts, locals_ = [], []
     for at in range(draw.randrange(8, 14)):
-        (one, other), free = draw.sample(range(1, 7), 2), draw.choice([10, 20, 30])
+        (one, other), free = draw.sample(range(1, 7), 2) if at else (7, 8), draw.choice([10, 20, 30])  # two by themselves
         ends = [(f"10.0.0.{number}", f"10.1.{at}.{number}") for number in (one, other)]
         two_ways = (link(*ends[0], *ends[1], draw.randrange(1, 4), free=free), link(*ends[1], *ends[0], draw.randrange(1, 4), free=free))
         puts += two_ways[:1 if draw.random() < 0.1 else 2]
         locals_.append(ends[0][1])
+
+    def hop():
+        """An interface, all interfaces of one circuit or of several, a router, or all of it."""
+        return draw.choice([f"{draw.choice(locals_)}/32", f"{draw.choice(locals_)}/32", f"{draw.choice(locals_)}/24", "10.1.0.7/22", "10.1.0.0/16",
+                            f"10.0.0.{draw.randrange(1, 7)}/32", "10.0.0.0/30", "0.0.0.0/0"])
+
+    def hops():
+        texts = [f"{hop()}{draw.choice('sl')}" for _ in range(draw.choice([0, 0, 1, 1, 2]))]
+        return object_of(texts) if texts and draw.random() < 0.3 else " ".join(texts)
+
     asks = []
     for at in range(14):
-        head, tail = draw.sample(range(1, 7), 2)
-        hops = " ".join(f"{hop}/32{draw.choice('sl')}" for hop in draw.sample(locals_, draw.choice([0, 0, 1, 2])))
-        asks.append(ask(at, f"10.0.0.{head}", f"10.0.0.{tail}", draw.randrange(8), draw.choice([5, 10, 15]), hops=hops))
+        head, tail = draw.sample(range(1, 7) if at else range(1, 9), 2)
+        asks.append(ask(at, f"10.0.0.{head}", f"10.0.0.{tail}", draw.randrange(8), draw.choice([5, 10, 15]), hops=hops()))
     return journal(*puts, f"node,10.0.0.{draw.randrange(1, 7)},0\n"), "".join(asks)
 
 
-def wrapped(program, room, script):
-    """A program that keeps its journal in `rows`, does what the script says, and then is `routed`."""
+def object_of(hops):
+    """These hops as the route object that says the same."""
+    parts = [(address_number(at).to_bytes(4, "big"), int(bits[:-1]), bits[-1] == "l") for at, bits in (hop.split("/") for hop in hops)]
+    data = b"".join(bytes([1 | is_loose << 7, 8, *at, bits, 0]) for at, bits, is_loose in parts)
+    return f"ero:{((4 + len(data)).to_bytes(2, 'big') + bytes([20, 1]) + data).hex()}"
+
+
+WRAPPED = """#!{python}
+import os, signal, subprocess, sys, time
+room, words = {room!r}, sys.argv[1:]
+if words[0] != "solve":
+{first}
+    os.execv({program!r}, ["routed", *words])
+def touch(name):
+    open(f"{{room}}/{{name}}", "w").close()
+def wait(until):
+    end = time.monotonic() + 60
+    while not until():
+        if time.monotonic() > end:
+            os._exit(9)
+        time.sleep(0.01)
+def stop(status, text=""):
+    sys.stderr.write(text)
+    sys.stderr.flush()
+    os._exit(status)
+running = subprocess.Popen([{program!r}, "solve"], stdin=subprocess.PIPE)
+touch(f"solve.{{os.getpid()}}")
+for count, row in enumerate(iter(sys.stdin.readline, ""), 1):
+    row = row.rstrip("\\n")
+{script}
+    running.stdin.write(f"{{row}}\\n".encode())
+    running.stdin.flush()
+running.stdin.close()
+sys.exit(running.wait())
+"""
+
+
+def wrapped(program, room, script="", first=""):
+    """A program that is `routed`, and does in `solve` what the script says of each `row`, and in other commands first what `first` says."""
     path = os.path.join(room, "wrapped")
     with open(path, "w") as file:
-        file.write(f'#!/bin/sh\nroom="{room}"\nrows=$(mktemp -p "$room")\ncat > "$rows"\n{script}\n"{program.path}" "$@" < "$rows"\n')
+        file.write(WRAPPED.format(python=sys.executable, room=room, program=program.path,
+                                  script=textwrap.indent(script, "    "), first=textwrap.indent(first, "    ")))
     os.chmod(path, 0o755)
     return path
 
 
-FAILS = "grep -q ^drop \"$rows\" && "  # in a scenario
-FIRST = "grep -q ^drop,1.1.1.1,10.0.12.1 \"$rows\" && "  # in the first one of the ring
-THIRD = "grep -q ^drop,2.2.2.2,10.0.23.2 \"$rows\" && "
+DROPS = 'if row.startswith("drop,"):\n    '  # in a scenario
+HANGS = DROPS + ('print(os.getpid(), os.getppid(), file=open(room + "/new", "w"), flush=True); '
+                 'os.rename(room + "/new", room + "/hangs"); time.sleep(600)')
+FIRST = 'if row == "drop,1.1.1.1,10.0.12.1":\n    '  # in the first one of the ring
+THIRD = 'if row == "drop,2.2.2.2,10.0.23.2":\n    '
 
 
 def jobs(program, checks):
     """Several scenarios are worked on at once, and their lines come in the scenarios' order."""
     with tempfile.TemporaryDirectory() as room:
-        def wait(while_):
-            return "{ tries=0; while " + while_ + "; do tries=$((tries + 1)); [ $tries -gt 6000 ] && exit 9; sleep 0.01; done; }"
-
-        meet = FAILS + '{ touch "$room/at.$$"; ' + wait('[ $(ls "$room" | grep -c ^at) -lt 3 ]') + "; }"
-        late = meet + f"\n{FIRST}" + wait('! [ -e "$room/third" ]') + f'\n{THIRD}touch "$room/third"'
+        late = (f'{DROPS}touch(f"at.{{os.getpid()}}"); wait(lambda: sum(name.startswith("at.") for name in os.listdir(room)) > 2)\n'
+                f'{FIRST}wait(lambda: os.path.exists(room + "/third"))\n{THIRD}touch("third")')
         found = sweep(wrapped(program, room, late), RING, ASKS, "--jobs", "3")
         checks.same("three that wait for each other, and the first for the third", found, (0, BEFORE + OF_CIRCUITS, ""))
-        stop = wrapped(program, room, THIRD + '{ echo "routed: stopped" >&2; exit 3; }')
+        stop = wrapped(program, room, f'{THIRD}stop(3, "routed: stopped\\n")')
         wanted = BEFORE + OF_CIRCUITS[:OF_CIRCUITS.index("scenario 3")]
         for count in ("1", "3"):
             checks.same(f"a program that stops in scenario 3, {count} jobs", sweep(stop, RING, ASKS, "--jobs", count),
                         (3, wanted, f"sweep: scenario 3: {stop} ended with status 3: routed: stopped\n"))
-        gone = wrapped(program, room, FAILS + "{ kill -9 $PPID; exit; }")
+        gone = wrapped(program, room, f"{DROPS}os.kill(os.getppid(), signal.SIGKILL); stop(0)")
         checks.same("a job that is ended", sweep(gone, RING, ASKS), (3, BEFORE, "sweep: scenario 1: its job was ended\n"))
-        hangs = wrapped(program, room, FAILS + '{ echo $$ > "$room/new"; mv "$room/new" "$room/hangs"; exec sleep 600; }')
+        hangs = wrapped(program, room, HANGS)
         for name, text in (("journal", RING), ("requests", ASKS)):
             with open(os.path.join(room, name), "w") as file:
                 file.write(text)
@@ -332,12 +423,80 @@ def jobs(program, checks):
             time.sleep(0.01)
         running.terminate()
         out, _ = running.communicate(timeout=120)  # ends where nobody has its standard output any more
-        hung = f"/proc/{open(f'{room}/hangs').read().strip()}"
+        hung = f"/proc/{open(f'{room}/hangs').read().split()[0]}"
         end = time.monotonic() + 60
         while os.path.exists(hung) and time.monotonic() < end:  # it is there until it is reaped
             time.sleep(0.01)
         alive = os.path.exists(hung)
         checks.same("a sweep that is ended, and its program with it", (running.returncode, out, alive), (143, BEFORE.encode(), False))
+
+
+def asked(program, checks):
+    """A scenario asks the requests that it can change, of one program, and of another one before a stream has too many rows."""
+    hopped = RING.replace("end,1,8", circuit(1, 2, 90).replace("10.0.12.", "10.0.21.") + "end,1,10")
+    asks = (ASKS + ask(5, B, C, hops="10.0.34.3/32l") + ask(6, A, B, hops="10.0.21.0/24l 2.2.2.2/32l") + ask(7, C, D, hops=f"{C}/32s 10.0.34.0/24s")
+            + ask(8, A, B, hops=object_of(["10.0.14.0/30l"])))
+    wanted = {AB: "1268", AB.replace("10.0.12.", "10.0.21."): "6", AD: "38", BC: "15", CD: "57"}
+    with tempfile.TemporaryDirectory() as room:
+        status, out, err = sweep(wrapped(program, room, 'print(row, file=open(room + "/rows", "a"))'), hopped, asks)
+        rows = open(f"{room}/rows", encoding="ascii").read()
+        found = {}
+        for dropped, some in re.findall(r"(?m)^((?:drop,\S+\n)+)end,\d+,\d+\n((?:ask,.*\n)+)(?:put,.*\n)+end,", rows):
+            one, other = (f"{row.split(',')[1]} {row.split(',')[2]}" for row in dropped.splitlines())
+            found[f"circuit {one} {other}"] = "".join(re.findall(r"(?m)^ask,(\d+)", some))
+        checks.same("which requests are asked", found, wanted)
+        checks.same("in one program", (status, err, [name.split(".")[0] for name in os.listdir(room)].count("solve")), (0, "", 1))
+        rows, asks = drawn(random.Random(1))
+        wanted = sweep(program.path, rows, asks, "--fail", "pairs")
+        checks.true("pairs of a drawn network", wanted[0] == 0 and wanted[1].count(" lost request ") > 50, wanted)
+    for most, least in ((60, 10), (300, 3)):
+        with tempfile.TemporaryDirectory() as room:
+            path = wrapped(program, room, f"if count > {most}:\n    stop(9)")
+            checks.same(f"streams of {most} rows", small(room, rows, asks, most, path), wanted)
+            starts = [name.split(".")[0] for name in os.listdir(room)].count("solve")
+            checks.true(f"streams of {most} rows, programs", starts >= least, starts)
+    with tempfile.TemporaryDirectory() as room:
+        many = "".join(ask(at, A, C, bandwidth=1) for at in range(5000))
+        status, out, err = sweep(wrapped(program, room), RING, many)
+        counts = re.findall(r"(?m)^scenario \d+ (lost=\d+ longer=.*)$", out)
+        checks.same("more requests and replies than pipes hold", (status, counts, err),
+                    (0, [f"lost=0 longer={longer} most={most} overbooked={full}" for longer, most, full in ((5000, 5, 2), (0, 0, 0), (5000, 5, 2), (0, 0, 0))], ""))
+
+
+def small(room, rows, asks, most, program):
+    """A sweep of pairs by this Python, with programs that take so many rows."""
+    for name, text in (("journal", rows), ("asks", asks)):
+        with open(f"{room}/{name}", "w", encoding="ascii") as file:
+            file.write(text)
+    code = ("import sys\nfrom routed import failures, solving, sweep\n"
+            f"solving.MOST_ROWS, failures.MOST_ASKS = {most}, 4\nsys.exit(sweep.main(sys.argv[1:]))")
+    ran = subprocess.run([sys.executable, "-c", code, f"{room}/journal", f"{room}/asks", "--fail", "pairs", "--program", program],
+                         capture_output=True, text=True, env={**os.environ, "PYTHONPATH": os.path.join(TOP, "python")})
+    return ran.returncode, ran.stdout, ran.stderr
+
+
+def progress(program, checks):
+    """How far it is and how long it takes is said where standard error is a terminal, and leaves no trace there."""
+    with tempfile.TemporaryDirectory() as room:
+        slow = wrapped(program, room, DROPS + "time.sleep(0.3)")
+        for name, text in (("journal", RING), ("requests", ASKS)):
+            with open(f"{room}/{name}", "w", encoding="ascii") as file:
+                file.write(text)
+        for name, is_all in (("standard error", False), ("both", True)):
+            terminal, far = pty.openpty()
+            ran = subprocess.Popen([SWEEP, f"{room}/journal", f"{room}/requests", "--program", slow], stdout=far if is_all else subprocess.PIPE, stderr=far)
+            os.close(far)
+            out = "" if is_all else ran.stdout.read().decode()
+            said = b""
+            with contextlib.suppress(OSError):  # a terminal that nobody has any more
+                while data := os.read(terminal, 4096):
+                    said += data
+            os.close(terminal)
+            said = said.decode().replace("\r\n", "\n")
+            steps = re.findall(r"\r\033\[Ksweep: (\d) of 4 scenarios(?:, \d+ s left)?(?=\r\033\[K)", said)
+            checks.true(f"{name} on a terminal: steps", steps[:1] == ["0"] and len(steps) > 2 and steps == sorted(set(steps)), said)
+            left = re.sub(r"\r\033\[K(sweep: [^\r]*)?", "", said)
+            checks.same(f"{name} on a terminal: lines", (ran.wait(), out + left), (0, BEFORE + OF_CIRCUITS))
 
 
 def joined(program, checks):
@@ -350,12 +509,17 @@ def joined(program, checks):
         return ran.returncode, ran.stdout, ran.stderr
 
     digest = hashlib.sha256(f"{RING}\0{ASKS}\0circuits".encode()).hexdigest()[:16]
-    scenarios = re.split(r"(?<=\n)(?=scenario \d+ out|scenarios=)", OF_CIRCUITS)
+    scenarios = re.split(r"(?<=\n)(?=scenario \d+ out|most requests 1)", OF_CIRCUITS)
     three = parted(3)
+    ranked = [f"most requests 1 scenario 1 lost=0 longer=2 bandwidth=0 out {AB}\nmost failures 1 request 1 lost=0 longer=1\n"
+              "most failures 2 request 2 lost=0 longer=1\n",
+              f"most requests 1 scenario 2 lost=1 longer=0 bandwidth=30 out {AD}\nmost bandwidth 1 scenario 2 lost=1 longer=0 bandwidth=30 out {AD}\n"
+              "most failures 1 request 3 lost=1 longer=0\n",
+              f"most requests 1 scenario 3 lost=0 longer=1 bandwidth=0 out {BC}\nmost failures 1 request 1 lost=0 longer=1\n"]
     checks.same("parts of a ring", three, [
-        BEFORE + scenarios[0] + f"part 1/3 input={digest} scenarios=1 lost=0 longer=1 overbooked=1\n",
-        BEFORE + scenarios[1] + f"part 2/3 input={digest} scenarios=1 lost=1 longer=0 overbooked=1\n",
-        BEFORE + scenarios[2] + scenarios[3] + f"part 3/3 input={digest} scenarios=2 lost=0 longer=1 overbooked=1\n"])
+        BEFORE + scenarios[0] + ranked[0] + f"part 1/3 input={digest} scenarios=1 lost=0 longer=1 overbooked=1\n",
+        BEFORE + scenarios[1] + ranked[1] + f"part 2/3 input={digest} scenarios=1 lost=1 longer=0 overbooked=0\n",
+        BEFORE + scenarios[2] + scenarios[3] + ranked[2] + f"part 3/3 input={digest} scenarios=2 lost=0 longer=1 overbooked=0\n"])
     for name, found, wanted in [("three parts", three, OF_CIRCUITS), ("one part", parted(1), OF_CIRCUITS), ("seven parts of four scenarios, two jobs", parted(7, "--jobs", "2"), OF_CIRCUITS),
                                 ("two parts of routers", parted(2, "--fail", "routers"), OF_ROUTERS)]:
         checks.same(f"joined: {name}", join("".join(found)), (0, BEFORE + wanted, ""))
@@ -375,10 +539,15 @@ def joined(program, checks):
             ("without the first", two + last, "part 2/3 stands where part 1/3 has to be"), ("in another order", one + last + two, "part 3/3 stands where part 2/3 has to be"),
             ("one twice", one + two + two + last, "part 2/3 stands where part 3/3 has to be"), ("one of another count", one + parted(2)[1], "part 2/2 stands where part 2/3 has to be"),
             ("cut", one + two + BEFORE, f"a part ends by {BEFORE.splitlines()[-1]!r}, and not by a line that says which part it is"),
-            ("cut before another", one + two[:two.index("part ")] + last, "a part ends by 'scenario 2 lost=1 longer=0 most=0 overbooked=1', and not by a line that says which part it is"),
+            ("cut before another", one + two[:two.index("part ")] + last, "a part ends by 'most failures 1 request 3 lost=1 longer=0', and not by a line that says which part it is"),
             ("without a scenario", one + two.replace(scenarios[1], "") + last, "part 2/3 hasn't the scenarios from 2 to 2"),
             ("with one twice", one + two.replace(scenarios[1], 2 * scenarios[1]) + last, "part 2/3 hasn't the scenarios from 2 to 2"),
-            ("a whole sweep", BEFORE + OF_CIRCUITS, "a part ends by 'scenario 4 lost=0 longer=0 most=0 overbooked=1', and not by a line that says which part it is")]:
+            ("cut in the scenarios", one + two[:two.index("most ")] + last, "a part ends by 'scenario 2 lost=1 longer=0 most=0 overbooked=0', and not by a line that says which part it is"),
+            ("with scenarios behind the ranking", one + two.replace("part 2", scenarios[1] + "part 2"), "a part ends by 'most failures 1 request 3 lost=1 longer=0', and not by a line that says which part it is"),
+            *((f"without {text.split(' scenario')[0].split(' request ')[0]}", one + two.replace(text, "") + last, "part 2/3 hasn't the ranking of its scenarios")
+              for text in ranked[1].splitlines(keepends=True)),
+            ("with another count", one + two.replace("failures 1 request 3 lost=1", "failures 1 request 3 lost=2") + last, "part 2/3 hasn't the ranking of its scenarios"),
+            ("a whole sweep", BEFORE + OF_CIRCUITS, "a part ends by 'most failures 3 request 2 lost=0 longer=1', and not by a line that says which part it is")]:
         status, _, err = join(text)
         checks.same(f"not joined: {name}", (status, err), (1, f"join: {why}\n"))
     status, _, err = join(one + other[1] + last)
@@ -413,31 +582,40 @@ def refused(program, checks):
         checks.same("standard output is full", (ran.returncode, ran.stderr), (1, "sweep: [Errno 28] No space left on device\n"))
     checks.same("a program that isn't there", sweep("/nowhere/routed", RING, ASKS), (3, "", "sweep: /nowhere/routed: No such file or directory\n"))
     def says(line):
-        return f"printf 'version 1\\n{line}\\n\\n\\n\\n'; exit 0"
+        return f"print('version 1\\n{line}\\n\\n\\n'); sys.exit(0)"
 
     first = "route cost=20 hops=2 again=no ero=0014140101080a000c02200001080a0017032000"
     marked = RING.replace("end,1,8", f"node,{B},0\nend,1,9")
     with tempfile.TemporaryDirectory() as room:
-        path = wrapped(program, room, says(f"ask 1 v1 {first}"))
+        path = wrapped(program, room, first=f"if words[0] == 'batch':\n    {says(f'ask 1 v1 {first}')}")
         checks.same("a program with a route through a router without transit", sweep(path, marked, ASKS),
                     (3, "", f"sweep: {path} wrote a route that the network doesn't have, to request 1: {first}\n"))
-    with tempfile.TemporaryDirectory() as room:
         for name, script, said in (
-                ("that stops", "echo routed: stopped >&2; exit 3", "{} ended with status 3: routed: stopped"),
-                ("that is ended", "kill -9 $$", "{} was ended by signal 9"),
-                ("that takes no such words", 'shift 5; echo "$@" >&2; exit 1', "{} ended with status 1: --workers 5"),
-                ("without a line", "exit 0", "{} wrote 0 lines, which aren't 1 versions and 4 replies"),
+                ("that stops", "sys.exit(print('routed: stopped', file=sys.stderr) or 3)", "{} ended with status 3: routed: stopped"),
+                ("that is ended", "os.kill(os.getpid(), signal.SIGKILL)", "{} was ended by signal 9"),
+                ("that takes no such words", "sys.exit(print(*words[5:], file=sys.stderr) or 1)", "{} ended with status 1: --workers 5"),
+                ("without a line", "sys.exit(0)", "{} wrote 0 lines, which aren't versions and 4 replies"),
                 ("with replies of another order", says("ask 2 v1 none"), "{} wrote no reply to request 1: ask 2 v1 none"),
                 ("with other words", says("ask 1 v1 nothing"), "{} wrote no reply to request 1: nothing"),
                 *((f"with a route that has {name}", says(f"ask 1 v1 {other}"),
                    "{} wrote a route that the network doesn't have, to request 1: " + other)
                   for name, other in (("another cost", first.replace("20", "21", 1)), ("no link", first.replace("0c02", "0c03")),
-                                      ("another end", "route cost=10 hops=1 again=no ero=000c140101080a000c022000"))),
-                ("that refuses a scenario", FAILS + "{ echo batch 2 refused: exhausted; exit 2; }", None)):
+                                      ("another end", "route cost=10 hops=1 again=no ero=000c140101080a000c022000")))):
+            path = wrapped(program, room, first=f"if words[0] == 'batch':\n    {script}")
+            checks.same(f"a program {name}", sweep(path, RING, ASKS, "--workers", "5"), (3, "", f"sweep: {said.format(path)}\n"))
+        path = wrapped(program, room, first="if words[0] == 'snapshot':\n    sys.exit(print('too many rows') or 2)")
+        checks.same("a program that makes no snapshot", sweep(path, RING, ASKS), (1, "", "sweep: too many rows\n"))
+        for name, script, said in (
+                ("that refuses a scenario", f"{DROPS}print('batch 2 refused: exhausted', flush=True); continue",
+                 "wrote 'batch 2 refused: exhausted' where 'version 2' has to be"),
+                ("that answers another version", 'if row.startswith("ask,1,"):\n    print("ask 1 v3 none", flush=True); continue',
+                 "wrote 'ask 1 v3 none' where '(version |ask 1 v)2' has to be"),
+                ("that writes a line more", 'if row == "end,3,2":\n    print("unended 1", flush=True)',
+                 "wrote (a line that nobody asked for: version 3|'unended 1' where .* has to be)"),
+                ("that stops before the network is there", 'stop(3, "routed: stopped\\n")', "ended with status 3: routed: stopped")):
             path = wrapped(program, room, script)
-            status, out, err = sweep(path, RING, ASKS, "--workers", "5")
-            wanted = (3, "", f"sweep: {said.format(path)}\n") if said else (1, BEFORE, "sweep: scenario 1: batch 2 refused: exhausted\n")
-            checks.same(f"a program {name}", (status, out, err), wanted)
+            status, out, err = sweep(path, RING, ASKS)
+            checks.true(f"a program {name}", (status, out) == (3, BEFORE) and re.fullmatch(f"sweep: scenario 1: {path} {said}\n", err), (status, out, err))
 
 
 def page(program, checks):
@@ -452,5 +630,5 @@ def page(program, checks):
 
 
 def sweeps(program, checks):
-    for part in (ring, parts, loads, compared, jobs, joined, refused, page):
+    for part in (ring, parts, loads, compared, asked, jobs, progress, joined, refused, page):
         part(program, checks)

@@ -1,6 +1,7 @@
-"""Scenarios of tools/sweep on other machines: by Dask's distributed, and by GNU parallel over ssh."""
+"""Scenarios of a sweep on other machines: by Dask's distributed, and by GNU parallel over ssh."""
 import collections
 import csv
+import itertools
 import logging
 import operator
 import re
@@ -11,19 +12,18 @@ import tempfile
 import threading
 
 from .networks import Refused, Stopped
+from .solving import MOST_ASKS, MOST_CHANGES, MOST_ROWS, Question, checked, ended, heads_of
 
-Ran = collections.namedtuple("Ran", "name status out err")  # a run of the program
-AHEAD = 2  # scenarios for each thread of Dask's workers that are handed out
-MOST_AT_ONCE = 50  # scenarios in one connection of ssh
-# Requests, journal, and a line for each scenario: its place, and the rows behind the journal, each with a semicolon behind it.
-ANSWER = (
-    "room=$(mktemp -d) && trap 'rm -r \"$room\"' EXIT && trap 'exit 1' HUP INT PIPE TERM && "
-    "head -c {asks} > \"$room/requests\" && head -c {journal} > \"$room/journal\" && while read -r place rows; do "
-    "(cat \"$room/journal\"; printf %s \"$rows\" | tr \";\" \"\\n\") | "
-    "{program} batch --journal /dev/stdin --requests \"$room/requests\" --workers {workers} 2>&1; "
-    "printf \"\\nstatus %s %s %s\\n\" \"$place\" $? \"$PARALLEL_SSHHOST\"; done")
+AHEAD = 2  # tasks for each thread of Dask's workers that are handed out
+MOST_IN_TASK = 64  # scenarios
+MOST_AT_ONCE = 500  # scenarios in one connection of ssh
+SHARES = 4  # tasks of a thread, or connections of a job, where there are scenarios enough
+# On standard input there is a line of rows with a semicolon between each two, which make the network, and one such line for each question.
+ANSWER = ("printf \"connection %s %s\\n\" \"$PARALLEL_SEQ\" \"$PARALLEL_SSHHOST\"; "
+          "tr \";\" \"\\n\" | {program} solve 2>&1; printf \"\\nstatus %s\\n\" $?")
 COMMAND = "exec sh -c"
-STATUS = re.compile(rb"status (\d+) (\d+) (\S+)\n")
+BEGINS = re.compile(r"connection (\d+) (\S+)\n")
+ENDS = re.compile(r"status (\d+)")
 
 
 class Teller:
@@ -32,15 +32,20 @@ class Teller:
     def __init__(self, given):
         self.given = given
 
-    def tell(self, place, parts):
-        """The worker's address, and the scenario's outcome or what kind of fault it has, in plain types."""
+    def tell(self, scenarios):
+        """The worker's address, and in plain types the outcomes of these scenarios, up to the first fault: of what kind it is, and its text."""
         from distributed import get_worker
-        found = self.given.outcome(place, parts)
-        return get_worker().address, (type(found).__name__, str(found)) if isinstance(found, Exception) else found
+        said = []
+        for place, parts in scenarios:
+            found = self.given.outcome(place, parts)
+            if isinstance(found, Exception):
+                return get_worker().address, [*said, (type(found).__name__, str(found))]
+            said.append(found)
+        return get_worker().address, said
 
 
 class ByValue:
-    """What arrives with its classes and functions, so that a worker doesn't need this package."""
+    """What arrives with its classes and functions, so that the other side doesn't need this package."""
 
     def __init__(self, sent):
         self.sent = sent
@@ -51,7 +56,7 @@ class ByValue:
         return cloudpickle.loads, (cloudpickle.dumps(self.sent),)
 
 
-def over_dask(address, given, scenarios):
+def over_dask(address, given, scenarios, count):
     """The scenarios' outcomes, in their order, from the workers of the scheduler at this address. All that are there have to stay."""
     try:
         import distributed
@@ -63,22 +68,23 @@ def over_dask(address, given, scenarios):
             workers = client.scheduler_info()["workers"]
             if not workers:
                 raise Stopped(f"{address}: there is no worker")
-            far, waiting = client.scatter(ByValue(Teller(given)), broadcast=True, hash=False), collections.deque()
-            most = AHEAD * sum(worker["nthreads"] for worker in workers.values())
-            for place, parts in scenarios():
-                if len(waiting) == most:
-                    yield result(client, workers, *waiting.popleft(), distributed.TimeoutError)
-                waiting.append((place, client.submit(operator.methodcaller("tell", place, [tuple(part) for part in parts]), far, pure=False)))
+            far, waiting, left = client.scatter(ByValue(Teller(given)), broadcast=True, hash=False), collections.deque(), scenarios()
+            threads = sum(worker["nthreads"] for worker in workers.values())
+            size = max(1, min(MOST_IN_TASK, count // (SHARES * threads)))
+            while some := [(place, [tuple(part) for part in parts]) for place, parts in itertools.islice(left, size)]:
+                if len(waiting) == AHEAD * threads:
+                    yield from results(client, workers, *waiting.popleft(), distributed.TimeoutError)
+                waiting.append((some[0][0], client.submit(operator.methodcaller("tell", some), far, pure=False)))
             while waiting:
-                yield result(client, workers, *waiting.popleft(), distributed.TimeoutError)
+                yield from results(client, workers, *waiting.popleft(), distributed.TimeoutError)
     except (Refused, Stopped):
         raise
     except Exception as fault:
         raise Stopped(f"{address}: {type(fault).__name__}: {fault}") from None
 
 
-def result(client, workers, place, future, late):
-    """The outcome of a scenario, as soon as it is there."""
+def results(client, workers, place, future, late):
+    """The outcomes of a task, which begins with the scenario at this place, as soon as they are there."""
     found = None
     while found is None:
         try:
@@ -90,41 +96,41 @@ def result(client, workers, place, future, late):
         gone = sorted(set(workers) - set(client.scheduler_info()["workers"]))
         if gone:
             raise Stopped(f"scenario {place}: the worker {gone[0]} is gone")
-    worker, outcome = found
-    if outcome[0] == "Refused":
-        return Refused(outcome[1])
-    return Stopped(f"{worker}: {outcome[1]}") if outcome[0] == "Stopped" else outcome
+    worker, outcomes = found
+    for outcome in outcomes:
+        if outcome[0] == "Refused":
+            yield Refused(outcome[1])
+        else:
+            yield Stopped(f"{worker}: {outcome[1]}") if outcome[0] == "Stopped" else outcome
 
 
-def over_ssh(logins, jobs, given, scenarios, count):
-    """The scenarios' outcomes, in their order, from what `routed batch` prints on these machines, which need no Python."""
-    asks, journal = (data + b"\n" for data in (given.asks, given.journal))  # so that both are whole lines
-    answer = ANSWER.format(asks=len(asks), journal=len(journal), program=shlex.quote(given.program), workers=given.workers)
-    most = max(1, min(MOST_AT_ONCE, count // (4 * jobs * len(logins.split(",")))))
+def over_ssh(logins, jobs, given, scenarios, count, most_links):
+    """The scenarios' outcomes, in their order, from what `routed solve` says on these machines, which need no Python."""
+    most_rows = 2 * (most_links + most_links // MOST_CHANGES + 1) + min(len(given.requests), MOST_ASKS)
+    most = max(1, min(MOST_AT_ONCE, count // (SHARES * jobs * len(logins.split(","))), (MOST_ROWS - len(given.rows)) // most_rows))
     with tempfile.NamedTemporaryFile() as log, tempfile.TemporaryFile() as said:
-        command = ["parallel", "--plain", "--pipe", "--keep-order", "--header", str((asks + journal).count(b"\n")), "-N", str(most),
-                   "--jobs", str(jobs), "--sshlogin", logins, "--joblog", log.name, f"{COMMAND} {shlex.quote(answer)}"]
+        command = ["parallel", "--plain", "--pipe", "--keep-order", "--header", "1", "-N", str(most), "--jobs", str(jobs), "--sshlogin", logins,
+                   "--joblog", log.name, f"{COMMAND} {shlex.quote(ANSWER.format(program=shlex.quote(given.program)))}"]
         try:
             running = subprocess.Popen(command, stdin=subprocess.PIPE, stdout=subprocess.PIPE, stderr=said)
         except OSError as fault:
             raise Stopped(f"parallel: {fault.strerror}") from None
-        writer = threading.Thread(target=write, args=(running.stdin, asks + journal, given, scenarios))
+        writer = threading.Thread(target=write, args=(running.stdin, Connections(given, most), scenarios))
         writer.start()
         try:
-            for place, parts in scenarios():
-                out, found = [], None
-                for line in running.stdout:
-                    if found := STATUS.fullmatch(line):
-                        break
-                    out.append(line)
-                if not found or int(found[1]) != place:  # its connection has failed; what parallel says of it stands before later lines
-                    running.terminate()
-                    running.wait()
-                    raise Stopped(f"scenario {place}: {cause(log.name, said)}")
-                printed = b"".join(out)[:-1]  # but for the line feed before the status
-                yield given.outcome(place, parts, Ran(f"{found[3].decode()}: {given.program}", int(found[2]), printed, printed))
-            if running.stdout.read() or running.wait():
-                raise Stopped(f"behind the last scenario: {cause(log.name, said)}")
+            connections = Connections(given, most, running.stdout)
+            try:
+                for at, parts in scenarios():
+                    place = f"scenario {at}"
+                    yield given.outcome(at, parts, connections.ask)
+                place = "behind the last scenario"
+                connections.end()
+                if running.stdout.read() or running.wait():
+                    raise Lost
+            except Lost:  # what parallel says of it stands before later lines
+                running.terminate()
+                running.wait()
+                raise Stopped(f"{place}: {cause(log.name, said)}") from None
         finally:
             running.terminate()
             running.stdout.close()
@@ -132,15 +138,92 @@ def over_ssh(logins, jobs, given, scenarios, count):
             writer.join()
 
 
-def write(stream, header, given, scenarios):
-    """What each connection begins with, and one line for each scenario."""
+class Lost(Exception):
+    """A connection ended before its lines did."""
+
+
+class Connections:
+    """The questions that connections share, and the lines that come back of them."""
+
+    def __init__(self, given, most, stream=None):
+        self.given, self.most, self.stream, self.asked = given, most, stream, 0
+        self.heads, self.version, self.name, self.read = heads_of(given.rows), None, None, None
+
+    def questions(self, links, indexes):
+        """The questions of a scenario, and of each whether a connection begins with it."""
+        for at in range(0, len(indexes), MOST_ASKS):
+            is_first = self.asked % self.most == 0
+            self.version = len(self.heads) if is_first else self.version
+            question = Question(links, [self.given.requests[index] for index in indexes[at:at + MOST_ASKS]], self.version)
+            self.asked, self.version = self.asked + 1, question.version
+            yield question, is_first
+
+    def ask(self, links, indexes):
+        """What the far programs say of these requests without these links."""
+        texts = []
+        for question, is_first in self.questions(links, indexes):
+            if is_first:
+                self.begin()
+            texts += self.checked(question.heads)[question.replies]
+        return texts
+
+    def begin(self):
+        """Reads what stands before the answers of a connection's first question."""
+        number = (self.asked - 1) // self.most + 1
+        self.end()
+        found = BEGINS.fullmatch(self.stream.readline().decode(errors="replace"))
+        if not found or int(found[1]) != number:
+            raise Lost
+        self.name = f"{found[2]}: {self.given.program}"
+        self.checked(self.heads)
+
+    def end(self):
+        """Reads the end of the connection so far, if there is one. No more than the program's status stands there."""
+        if self.name:
+            status, lines = self.rest()
+            if status or lines != [""]:
+                raise ended(self.name, status, lines)
+
+    def line(self):
+        """The next line of the connection."""
+        line = self.stream.readline().decode(errors="replace")
+        if not line or BEGINS.fullmatch(line):
+            raise Lost
+        self.read = line.rstrip("\n")
+        return self.read
+
+    def checked(self, heads):
+        """What the next lines say behind these heads. If the program has failed, the fault says how."""
+        try:
+            return checked(self.name, heads, iter(self.line, None))
+        except Stopped:
+            read, (status, lines) = self.read, self.rest()
+            if status:
+                raise ended(self.name, status, [read, *lines]) from None
+            raise
+
+    def rest(self):
+        """The program's status, and the lines that stand before it."""
+        lines = []
+        while not (found := ENDS.fullmatch(line := self.line())):
+            lines.append(line)
+        return int(found[1]), lines
+
+
+def write(stream, connections, scenarios):
+    """The network, with which each connection begins, and the questions, one line each."""
     try:
         with stream:
-            stream.write(header)
-            for place, parts in scenarios():
-                stream.write(b"%d %s\n" % (place, given.removals(parts)[1].replace(b"\n", b";")))
+            stream.write(line_of(connections.given.rows))
+            for _, parts in scenarios():
+                for question, _ in connections.questions(*connections.given.question(parts)):
+                    stream.write(line_of(question.rows))
     except BrokenPipeError:
         pass
+
+
+def line_of(rows):
+    return f"{';'.join(rows)}\n".encode()
 
 
 def cause(log, said):

@@ -1,10 +1,10 @@
-"""Links; and what tools/sweep reads: a journal's last version, what can fail of it as one, and requests."""
+"""Links; and what a sweep reads: a journal's last version, what can fail of it as one, and requests."""
 import collections
 
 from .journals import Refused, batches, key_of, records
 
 Link = collections.namedtuple("Link", "key name neighbor remote metric group free")
-Request = collections.namedtuple("Request", "id head tail setup bandwidth exclude_any include_any include_all")
+Request = collections.namedtuple("Request", "id head tail setup bandwidth exclude_any include_any include_all prefixes row")
 Part = collections.namedtuple("Part", "name keys")  # what fails as one: a circuit, a link of one way or a router
 
 
@@ -14,6 +14,20 @@ class Stopped(Exception):
 
 def number(address):
     return tuple(map(int, address.split(".")))
+
+
+def value(address):
+    return int.from_bytes(bytes(number(address)), "big")
+
+
+def prefixes_of(hops):
+    """The prefixes of a request's hops: of each its bits that count, as a number, and how many bits don't."""
+    if hops.startswith("ero:"):
+        data = bytes.fromhex(hops[4:])  # of a header and subobjects of eight bytes
+        found = [(int.from_bytes(data[at + 2:at + 6], "big"), data[at + 6]) for at in range(4, len(data), 8)]
+    else:
+        found = [(value(address), int(bits)) for address, bits in (hop[:-1].split("/") for hop in hops.split())]
+    return tuple((address >> 32 - bits, 32 - bits) for address, bits in found)
 
 
 def read_database(journal, until=None, has_asks=False):
@@ -41,7 +55,8 @@ def read_requests(rows):
     for place, fields in enumerate(records(rows), 1):
         if fields[1] in requests:
             raise Refused(f"request row {place} refused: same-id")
-        requests[fields[1]] = Request(*fields[1:4], int(fields[4]), int(fields[5]), *(int(mask, 16) for mask in fields[6:9]))
+        requests[fields[1]] = Request(*fields[1:4], int(fields[4]), int(fields[5]), *(int(mask, 16) for mask in fields[6:9]),
+                                      prefixes_of(fields[9]), ",".join(fields))
     return list(requests.values())
 
 

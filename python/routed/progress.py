@@ -1,0 +1,40 @@
+"""How far a sweep is, and how long the rest will take: one line on standard error, where that is a terminal."""
+import sys
+import time
+
+OFTEN = 0.5  # seconds between two lines
+ERASE = "\r\033[K"
+
+
+class Progress:
+    """`with` it, each step is one more of so many scenarios. What is printed meanwhile comes between `make_room` and `step`."""
+
+    def __init__(self, total):
+        self.total, self.done, self.begun, self.next = total, 0, time.monotonic(), 0
+        self.is_shown, self.is_beside_lines = sys.stderr.isatty(), sys.stdout.isatty()
+
+    def __enter__(self):
+        self.show()
+        return self
+
+    def __exit__(self, *_):
+        self.write(ERASE)
+
+    def make_room(self):
+        if self.is_beside_lines:
+            self.write(ERASE)
+
+    def step(self):
+        self.done += 1
+        if self.is_beside_lines or time.monotonic() >= self.next:
+            self.show()
+
+    def show(self):
+        self.next = time.monotonic() + OFTEN
+        seconds = (time.monotonic() - self.begun) / max(self.done, 1) * (self.total - self.done)
+        left = f"{seconds:.0f} s" if seconds < 120 else f"{seconds / 60:.0f} min"
+        self.write(f"{ERASE}sweep: {self.done} of {self.total} scenarios" + (f", {left} left" if self.done else ""))
+
+    def write(self, text):
+        if self.is_shown:
+            print(text, end="", file=sys.stderr, flush=True)
