@@ -49,7 +49,7 @@ def place_counts(found, curves, sheet):
         if kind_of(failure) != "none":
             spots = [(box_of(*line.aside(aside).at(part), counts_of(failure), SMALL), against + abs(part - 0.5) * 10)
                      for aside, against in ((0, 0), (14, 12), (-14, 12)) for part in ALONG]
-            wanted.append(Wanted(index, counts_of(failure), spots))
+            wanted.append(Wanted(index, spots))
     sheet.place(wanted, ink=0.3)
 
 
