@@ -2,6 +2,7 @@
 import collections
 import csv
 import logging
+import operator
 import re
 import shlex
 import subprocess
@@ -25,33 +26,49 @@ COMMAND = "exec sh -c"
 STATUS = re.compile(rb"status (\d+) (\d+) (\S+)\n")
 
 
-def told(given, place, parts):
-    """What a worker of Dask says: its address, and the scenario's outcome or what kind of fault it has, in plain types."""
-    from distributed import get_worker
-    found = given.outcome(place, parts)
-    return get_worker().address, (type(found).__name__, str(found)) if isinstance(found, Exception) else found
+class Teller:
+    """What each worker of Dask gets."""
+
+    def __init__(self, given):
+        self.given = given
+
+    def tell(self, place, parts):
+        """The worker's address, and the scenario's outcome or what kind of fault it has, in plain types."""
+        from distributed import get_worker
+        found = self.given.outcome(place, parts)
+        return get_worker().address, (type(found).__name__, str(found)) if isinstance(found, Exception) else found
+
+
+class ByValue:
+    """What arrives with its classes and functions, so that a worker doesn't need this package."""
+
+    def __init__(self, sent):
+        self.sent = sent
+
+    def __reduce__(self):
+        import cloudpickle
+        cloudpickle.register_pickle_by_value(sys.modules[__package__])
+        return cloudpickle.loads, (cloudpickle.dumps(self.sent),)
 
 
 def over_dask(address, given, scenarios):
     """The scenarios' outcomes, in their order, from the workers of the scheduler at this address. All that are there have to stay."""
     try:
-        import cloudpickle
         import distributed
     except ImportError as fault:
         raise Stopped(f"{sys.executable}: {fault}") from None
     logging.disable()  # what goes wrong is told once, below
-    cloudpickle.register_pickle_by_value(sys.modules[__package__])  # a worker doesn't need it
     try:
         with distributed.Client(address, timeout=5, set_as_default=False) as client:
             workers = client.scheduler_info()["workers"]
             if not workers:
                 raise Stopped(f"{address}: there is no worker")
-            far, waiting = client.scatter(given, broadcast=True, hash=False), collections.deque()
+            far, waiting = client.scatter(ByValue(Teller(given)), broadcast=True, hash=False), collections.deque()
             most = AHEAD * sum(worker["nthreads"] for worker in workers.values())
             for place, parts in scenarios():
                 if len(waiting) == most:
                     yield result(client, workers, *waiting.popleft(), distributed.TimeoutError)
-                waiting.append((place, client.submit(told, far, place, [tuple(part) for part in parts], pure=False)))
+                waiting.append((place, client.submit(operator.methodcaller("tell", place, [tuple(part) for part in parts]), far, pure=False)))
             while waiting:
                 yield result(client, workers, *waiting.popleft(), distributed.TimeoutError)
     except (Refused, Stopped):
