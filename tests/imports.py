@@ -107,6 +107,8 @@ def sndlib(checks):
     checks.true("demands that nothing is written of are listed", "left out: 2 demands, which --requests FILE writes\n" in said and written == {}, said)
     checks.same("another unit", run(SNDLIB, "--unit", "1000", "--requests", "requests")[1:4:2],
                 (ROWS.replace("1000000", "8000").replace("5000000", "40000"), {"requests": ASKS.replace("312500", "2500").replace("75000", "600")}))
+    checks.same("half a byte is rounded", run(SNDLIB, "--unit", "1000.125", "--requests", "requests")[1:4:2],
+                (ROWS.replace("1000000", "8001").replace("5000000", "40005"), {"requests": ASKS.replace("312500", "2501").replace("75000", "601")}))
     checks.same("another setup priority", run(SNDLIB, "--setup", "3", "--requests", "requests")[3], {"requests": ASKS.replace(",7,", ",3,")})
     priced = SNDLIB.replace("8.00 0.00 0.00 0.00", "8.00 0.00 2.40 0.00").replace("0.00 5.00 0.00 2.00", "0.00 5.00 0.20 2.00")
     rows = ROWS.replace("10.0.0.1,111", "10.0.0.1,2").replace("10.0.0.0,111", "10.0.0.0,2").replace(",111,", ",1,")

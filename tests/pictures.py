@@ -58,6 +58,11 @@ def hovers(picture, kind):
     return [it.find(SVG + "title").text for it in xml.fromstring(picture).iter() if it.get("class") == kind]
 
 
+def begin_of(path):
+    """Where a path begins."""
+    return tuple(float(it) for it in re.match("M([0-9.]+) ([0-9.]+)", path.get("d")).groups())
+
+
 def notes(picture):
     return [text.text for text in xml.fromstring(picture).iter(SVG + "text") if text.get("class") == "note"]
 
@@ -84,6 +89,13 @@ def circuits(checks):
     checks.same("an older version", len(shapes(picture, "circuit")), 1)
     _, picture, _ = draw(PAIR + "end,1,2\ndrop,2.2.2.2,10.0.0.2\n")
     checks.same("changes behind the last end row", len(shapes(picture, "circuit")), 1)
+    _, picture, _ = draw(link("2.2.2.2", "10.0.0.2", "1.1.1.1", "10.0.0.1") + "end,1,1\n")
+    checks.same("a link of one way begins at its router", begin_of(shapes(picture, "one-way")[0]), places_in(picture)["2.2.2.2"])
+    row = "1.1.1.1 0 0\n2.2.2.2 10 0\n3.3.3.3 20 0\n"
+    _, picture, _ = draw(LINE + PAIR.replace("10.0.0", "10.0.2").replace("2.2.2.2", "3.3.3.3") + "end,1,6\n", places=row)
+    numbers = [[float(it) for it in re.findall("-?[0-9.]+", line.get("d"))] for line in shapes(picture, "circuit")]
+    middles = [(it[1] + 2 * it[3] + it[5]) / 4 - it[1] for it in numbers]
+    checks.true("a circuit goes round a third router", sorted(abs(it) > 13 for it in middles) == [False, False, True], middles)
     twice = PAIR + PAIR.replace("10.0.0", "10.0.1")
     _, picture, _ = draw(twice + "end,1,4\n")
     checks.same("two circuits of one pair are apart", len({line.get("d") for line in shapes(picture, "circuit")}), 2)
@@ -125,6 +137,9 @@ def several(checks):
     checks.same("no two routes look alike", len(styles), 6)
     ends = {tuple(sorted((numbers[0], numbers[-1]))) for numbers in (re.findall(r"-?[0-9.]+ -?[0-9.]+", route.get("d")) for route in drawn)}
     checks.same("no two routes are on one line", len(ends), 6)
+    at = places_in(picture)
+    begins = [min(at, key=lambda router: math.dist(at[router], begin_of(route))) for route in drawn]
+    checks.same("each route begins at its head-end", begins, ["1.1.1.1", "1.1.1.1", "2.2.2.2", "1.1.1.1", "2.2.2.2", "1.1.1.1"])
     status, picture, said = draw(PAIR + "end,1,2\n", *asks, "--ask", "1", replies=replies)
     checks.same("seven routes are refused", (status, picture, said), (1, "", "draw: at most 6 routes\n"))
 
@@ -276,14 +291,19 @@ def least_distance(places):
     return min((math.dist(one, other) for one, other in itertools.combinations(places, 2)), default=1.0)
 
 
+def draw_failures(lines, places):
+    """Status, picture and standard error of one drawing of failures."""
+    with tempfile.NamedTemporaryFile("w") as file:
+        file.write(places)
+        file.flush()
+        ran = subprocess.run([os.path.join(TOP, "tools/draw-failures"), "--places", file.name], input=lines, capture_output=True, text=True)
+        return ran.returncode, ran.stdout, ran.stderr
+
+
 def failures(checks):
     """The failures of a ring of four routers, whose lines are worked by hand."""
     def drawn(lines, places="".join(f"{at}.{at}.{at}.{at} {at % 2} {at // 3} Router {at}\n" for at in (1, 2, 3, 4))):
-        with tempfile.NamedTemporaryFile("w") as file:
-            file.write(places)
-            file.flush()
-            ran = subprocess.run([os.path.join(TOP, "tools/draw-failures"), "--places", file.name], input=lines, capture_output=True, text=True)
-            return ran.returncode, ran.stdout, ran.stderr
+        return draw_failures(lines, places)
 
     status, picture, err = drawn(BEFORE + OF_CIRCUITS)
     checks.same("failures are drawn", (status, err), (0, ""))
@@ -330,8 +350,8 @@ def placer(checks):
         for at, (x, y) in enumerate(points):
             sheet.block(at, (x - 7, y - 7, x + 7, y + 7))
         words = ["x" * drawn.randint(1, 20) for _ in points]
-        sheet.place([Wanted(at, word, spots_round(*point, 7, word)) for at, (point, word) in enumerate(zip(points, words))])
-        sheet.place([Wanted(("second", at), "1/2/3", [(box_of(x + 30, y, "1/2/3"), 0)]) for at, (x, y) in enumerate(points)])
+        sheet.place([Wanted(at, spots_round(*point, 7, word)) for at, (point, word) in enumerate(zip(points, words))])
+        sheet.place([Wanted(("second", at), [(box_of(x + 30, y, "1/2/3"), 0)]) for at, (x, y) in enumerate(points)])
         boxes = [box for key in sheet.spots if (box := sheet.box(key))]
         blocks = [(x - 7, y - 7, x + 7, y + 7) for x, y in points]
         bad = sum(meets(one, other) for one, other in itertools.combinations(boxes, 2)) + sum(meets(box, it) for box in boxes for it in blocks)
@@ -340,13 +360,18 @@ def placer(checks):
         out = [key for key in sheet.spots if not sheet.box(key)]
         checks.true("no text is out that has room", all(sheet.first_free(key) is None for key in out), out)
     sheet = Sheet(200, 80)
-    sheet.place([Wanted("a", "name", [(box_of(100, 30, "name"), 0), (box_of(100, 50, "name"), 1)])])
-    sheet.place([Wanted("b", "name", [(box_of(100, 30, "name"), 0)])])
+    sheet.place([Wanted("a", [(box_of(100, 30, "name"), 0), (box_of(100, 50, "name"), 1)])])
+    sheet.place([Wanted("b", [(box_of(100, 30, "name"), 0)])])
     checks.true("a text moves so that another has room", sheet.box("a") and sheet.box("b"), sheet.placed)
     sheet = Sheet(200, 200)
     sheet.line([(0, 50), (200, 50)])
-    sheet.place([Wanted("a", "name", [(box_of(100, 50, "name"), 0), (box_of(100, 90, "name"), 1)])])
+    sheet.place([Wanted("a", [(box_of(100, 50, "name"), 0), (box_of(100, 90, "name"), 1)])])
     checks.same("a text isn't on a line where it need not be", sheet.box("a")[1] > 60, True)
+    sheet = Sheet(200, 200)
+    sheet.block("a", (93, 70, 107, 84))
+    sheet.block("b", (93, 25, 107, 39))
+    sheet.place([Wanted("a", [(box_of(100, 55, "name"), 0), (box_of(100, 100, "name"), 1)])])
+    checks.true("a text isn't near another router where it need not be", sheet.box("a")[1] > 84, sheet.box("a"))
     checks.true("a letter that is rare is wide", width("\u5317") >= TEXT and width("\u00e9") == width("e"), width("\u5317"))
     checks.same("a long text is wrapped", [wrapped("one two three", width("one two") + 1), wrapped("", 100)], [["one two", "three"], []])
     checks.true("a long word is cut", width(cut("x" * 200, 100)) <= 100 and cut("short", 100) == "short", cut("x" * 200, 100))
@@ -372,13 +397,25 @@ def crowded(checks):
     found = {}
     for sites in (14, 28, 50, 200):
         places = "".join(f"172.16.0.{at} {at * at % 7} {at * at % 11} Rechenzentrum {at} <Nord> & Süd\n" for at in range(1, sites + 1))
-        status, picture, said = draw(big_network(sites, 2 * sites), places=places)
+        rows = big_network(sites, 2 * sites)
+        status, picture, said = draw(rows, places=places)
         numbers = [text.text for text in xml.fromstring(picture).iter(SVG + "text") if text.get("class") == "number"]
         listed = re.findall(r"(?:^|, |: )(\d+) Rechenzentrum", " ".join(notes(picture)))
         checks.true(f"{sites} crowded sites: each has a name or a number that is listed", status == 0 and len(names(picture)) + len(numbers) == sites
                     and sorted(numbers, key=int) == listed == [str(at) for at in range(1, len(numbers) + 1)], (said, numbers, listed))
         found[f"{sites} crowded sites"] = picture
-        found[f"{sites} sites laid out"] = draw(big_network(sites, 2 * sites))[1]
+        circuits = list(dict.fromkeys(re.findall(r"(?m)^put,([^,]*,[^,]*,[^,]*,[^,]*),", rows)))[::2]
+        lines = "".join(f"scenario {at} out circuit {' '.join(it.split(','))}\nscenario {at} lost={at % 3} longer={at} most=1 overbooked=0\n"
+                        for at, it in enumerate(circuits, 1))
+        status, picture, said = draw_failures(f"{lines}scenarios={len(circuits)} lost=1 longer=1 overbooked=0\n", places)
+        counts = [text.text for text in xml.fromstring(picture).iter(SVG + "text") if text.get("class") == "counts"]
+        text = " ".join(note.removeprefix("Counts without room: ") for note in notes(picture))
+        wanted = {f"{at % 3}/{at}/0" for at in range(1, len(circuits) + 1)}
+        listed = set(re.findall(r"Rechenzentrum \d+ <Nord> & Süd (\d+/\d+/0)", text))
+        checks.true(f"{sites} crowded sites: each count is on its circuit or is listed", status == 0 and not listed & set(counts)
+                    and set(counts) | listed == wanted and len(counts) + len(listed) == len(wanted), (said, wanted - set(counts) - listed))
+        found[f"failures of {sites} crowded sites"] = picture
+        found[f"{sites} sites laid out"] = draw(rows)[1]
     return found
 
 

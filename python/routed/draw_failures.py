@@ -1,7 +1,7 @@
 """Draws as SVG what each circuit's failure does, from the lines that `sweep` prints of single circuits.
 
-A circuit has the color of the worst that its failure does, and on it stands how many requests lose their route, how many get a longer
-one and how many links are overbooked then. The lines come on standard input, and the picture goes to standard output.
+A circuit has the color of the worst that its failure does. A text on it says how many requests lose their route, how many get a longer
+one, and how many links are overbooked then. The lines come on standard input, and the picture goes to standard output.
 """
 import argparse
 import sys
@@ -49,7 +49,7 @@ def place_counts(found, curves, sheet):
         if kind_of(failure) != "none":
             spots = [(box_of(*line.aside(aside).at(part), counts_of(failure), SMALL), against + abs(part - 0.5) * 10)
                      for aside, against in ((0, 0), (14, 12), (-14, 12)) for part in ALONG]
-            wanted.append(Wanted(index, counts_of(failure), spots))
+            wanted.append(Wanted(index, spots))
     sheet.place(wanted, ink=0.3)
 
 

@@ -22,8 +22,8 @@ WIDTHS = [int(it) for it in (
     "1000 684 686 698 771 632 575 776 752 421 455 693 557 863 748 788 603 788 696 685 616 732 684 989 686 616 686 454 454 454 838 636 "
     "636 613 635 550 635 615 352 635 634 278 344 592 278 974 634 612 635 635 427 521 394 634 592 818 592 592 526 636 454 636 838").split()]
 
-# A text that wants a place: what it is of, the text, and its spots: pairs of a box and what is against it, 0 for the best.
-Wanted = collections.namedtuple("Wanted", "key text spots")
+# A text that wants a place: what it is of, and its spots: pairs of a box and what is against it, 0 for the best.
+Wanted = collections.namedtuple("Wanted", "key spots")
 
 
 def width(text, size=TEXT):
@@ -106,7 +106,7 @@ class Boxes:
             del self.cells[cell][key]
 
     def meeting(self, box):
-        """The keys of boxes that the box meets, those in the first cells first."""
+        """The boxes that the box meets, by their keys."""
         found = {}
         for cell in self.cells_of(box):
             for key, other in self.cells.get(cell, {}).items():

@@ -5,6 +5,7 @@ import sys
 from .layout import complete
 
 FARTHEST = 1e12  # of x and y from 0
+MANY = 300  # routers
 
 
 def read_places(lines):
@@ -46,6 +47,8 @@ def positions(asked, routers, pairs, program):
                     places[router], names[router] = place, name
                 else:
                     print(f"{program}: places, line {number}: the network has no router {router}", file=sys.stderr)
+    if len(routers) > MANY and len(places) < len(routers) and sys.stderr.isatty():
+        print(f"{program}: laying out {len(routers)} routers, which takes some seconds", file=sys.stderr)
     places = complete(places, routers, pairs)
     if asked.keep:
         keep(asked.keep, kept | {router: (places[router], names[router]) for router in routers})

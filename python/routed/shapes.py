@@ -125,7 +125,7 @@ def place_names(sheet, places, names, radii, curves):
         sheet.block(router, (x - radii[router], y - radii[router], x + radii[router], y + radii[router]))
     for it in curves if len(curves) <= MOST_SAMPLED else ():
         sheet.line(it.points(), INK)
-    sheet.place([Wanted(router, names[router], spots_round(*places[router], radii[router], names[router])) for router in sorted(places)])
+    sheet.place([Wanted(router, spots_round(*places[router], radii[router], names[router])) for router in sorted(places)])
 
 
 def texts_of_names(sheet, places, names):
