@@ -16,6 +16,8 @@ import sys
 import tempfile
 import time
 
+from readers import dressed  # beside this file
+
 HERE = os.path.dirname(os.path.abspath(__file__))
 TOP = os.path.dirname(HERE)
 sys.dont_write_bytecode = True
@@ -788,12 +790,13 @@ def journals(checks):
         router = Router()
 
         def feed_of(text, version):
-            with open(path, "w", encoding="ascii") as file:
+            with open(path, "w", encoding="utf-8", newline="") as file:
                 file.write(text)
             return Feed(router, "--hold", "3", "--journal", path, version=version, told=["row 2 refused: kind"], is_accepted=False)
 
         last = whole + f"put,{C},10.5.5.5,{A}"
         for name, text in [("", whole), (", without its last line feed", whole[:-1]), (", torn behind its last batch", last),
+                           (", with a byte order mark, carriage returns and quotes", dressed(whole)),
                            (", in which a batch is being written", f"{whole}drop,{B},{B_A}\n"),
                            (", behind which a number is left out", whole + "end,4,0\n")]:
             feed = feed_of(text, 2)

@@ -18,6 +18,7 @@ import threading
 import time
 
 import changes
+from readers import dressed
 from reference import publish, whole_batches
 from served import BATCHES, CLIENTS, PATIENCE, ROUTERS, Lines, batches_of, judged, wait_for
 from snapshots import snapshot_of
@@ -41,7 +42,7 @@ def listened(program, checks):
     asks = [f"ask,{at},10.0.0.{at},10.0.0.{(at * 5 + 1) % ROUTERS},{at % 8},{draw.choice([0, 5])},0x0,0x0,0x0," for at in range(ROUTERS)]
     versions = Versions(updates, asks)
     with tempfile.TemporaryDirectory() as room:
-        for part in (listening, stopping, held_up, one_thread, signals, places, ports, modes, posted, marks, idle, snapshot, beside_asks, failed_journal,
+        for part in (listening, stopping, held_up, one_thread, signals, places, ports, modes, posted, marks, idle, begun, connected, snapshot, beside_asks, failed_journal,
                      failed_snapshots, server_ends, causes):
             inner = os.path.join(room, part.__name__)
             os.mkdir(inner)
@@ -217,7 +218,7 @@ def stopping(program, checks, room, versions):
     """Connections that end in the middle leave nothing to the next one; loopback TCP; modes, SIGTERM, and sockets that can't be had."""
     ask, batch = f"{versions.asks[0]}\n", versions.texts[1]
     said = subprocess.run([LISTEN, "--help"], capture_output=True, text=True).stdout
-    for word in ["--journal", "--ask", "--updates", "--clients", "--mode", "--ask-mode", "--updates-mode", "--idle", "--program", "busy", "refused",
+    for word in ["--journal", "--begin", "--ask", "--updates", "--clients", "--mode", "--ask-mode", "--updates-mode", "--idle", "--program", "busy", "refused",
                  "snapshot end", "snapshot refused", "ready", "SIGTERM", "127.0.0.1", "[ADDRESS]:PORT", "65,536", "300"]:
         checks.true(f"help of tools/listen names {word}", word in said, said)
     with Front(program, room, "--clients", "1", "--mode", "660") as front:
@@ -637,6 +638,59 @@ def gone(file):
 
     wait_for(is_gone)
     return is_gone()
+
+
+# ---- what a run begins with, and our own client
+
+
+def begun(program, checks, room, versions):
+    """The batches of --begin are published before anybody is let in; where one isn't, the front ends and says which."""
+    begin, ask = os.path.join(room, "begin"), f"{versions.asks[0]}\n"
+    for name, text in (("as the program writes it", versions.texts[5]), ("with a byte order mark, carriage returns and quotes", dressed(versions.texts[5]))):
+        with open(begin, "w", encoding="utf-8", newline="") as file:
+            file.write(text)
+        with Front(program, room, "--begin", begin) as front:
+            checks.same(f"a first ask, and the next batch, {name}", (Connection(front.ask).talk(ask), Connection(front.updates).talk(batches_of(versions)[5])),
+                        (f"{versions.replies[5][0]}\n", "version 6\n"))
+            checks.same(f"the journal begins so: {name}", front.kept(), versions.texts[6])
+        os.unlink(front.journal)
+    for name, text, line in (("no rows", "foo\n", "row 1 refused: kind"), ("changes without an end", versions.texts[1] + "node,1.1.1.1,0\n", "unended 1"),
+                             ("another number", "end,2,0\n", "batch 2 refused: expected 1"), ("an ask", ask, "row 1 refused: kind"),
+                             ("a batch that doesn't fit", "end,1,0\ndrop,9.9.9.9,9.9.9.9\nend,2,1\nend,3,0\n", "batch 2 wasn't published"), ("no file", None, None)):
+        if text is not None:
+            with open(begin, "w", encoding="ascii") as file:
+                file.write(text)
+        path = begin if text is not None else os.path.join(room, "nowhere")
+        with Front(program, room, "--begin", path) as front:
+            checks.same(f"a beginning of {name}", (front.first, *front.ended()), ("", 3, f"listen: {path}: {line or 'read: No such file or directory'}\n"))
+        with contextlib.suppress(FileNotFoundError):
+            os.unlink(front.journal)
+
+
+def connected(program, checks, room, versions):
+    """`routed-tools connect` passes rows and lines on, and ends with either side."""
+    connect = [sys.executable, "-m", "routed", "connect"]
+    around = {**os.environ, "PYTHONPATH": os.path.join(TOP, "python"), "PYTHONDONTWRITEBYTECODE": "1"}
+
+    def run(place, rows):
+        ran = subprocess.run([*connect, place], input=rows, env=around, capture_output=True, text=True, timeout=PATIENCE)
+        return ran.returncode, ran.stdout, ran.stderr
+
+    with Front(program, room, ask="127.0.0.1:0") as front:
+        place, ask = front.first.split()[1], f"{versions.asks[0]}\n"
+        checks.same("its place is said, and it is ready", (front.first, front.said.next()), (f"ask {place}\n", "ready\n"))
+        checks.same("updates by connect", run(front.updates, versions.texts[3]), (0, "version 1\nversion 2\nversion 3\n", ""))
+        checks.same("many asks by connect at a port", run(place, ask * 2000), (0, f"{versions.replies[3][0]}\n" * 2000, ""))
+        with subprocess.Popen([*connect, front.updates], env=around, stdin=subprocess.PIPE, stdout=subprocess.PIPE) as child:
+            child.stdin.write(b"end,4,0\n")
+            child.stdin.flush()
+            checks.same("a line while its rows go on", child.stdout.readline(), b"version 4\n")
+            front.child.terminate()
+            checks.same("it ends with the socket", child.wait(PATIENCE), 0)
+        front.ended()
+        for given, why in ((front.updates, "No such file or directory"), (place, "Connection refused")):
+            checks.same(f"nobody listens: {why}", run(given, ""), (1, "", f"connect: {given}: {why}\n"))
+    checks.same("no place", run("a:b", "")[0], 2)
 
 
 # ---- ends and causes

@@ -100,6 +100,20 @@ def places(checks):
     checks.same("a place of no router", (status, said), (0, "draw: places, line 3: the network has no router 3.3.3.3\n"))
     for name, given in (("with no y", "1.1.1.1 0\n"), ("without numbers", "1.1.1.1 a b\n")):
         checks.same(f"a place {name} is refused", draw(PAIR + "end,1,2\n", places=given), (1, "", "draw: places, line 1: an address, x and y are wanted\n"))
+    for name, words, line in (("a reply of no lines", ("--ask", "7"), "--ask needs --replies, the lines that it is one of"),
+                              ("a version below 0", ("--version", "-1"), "argument --version: invalid version value: '-1'")):
+        status, picture, said = draw(PAIR + "end,1,2\n", *words)
+        checks.same(f"{name} is refused", (status, picture, said.splitlines()[-1:]), (2, "", [f"draw: error: {line}"]))
+    status, picture, said = draw(PAIR + "end,1,2\n", replies=REPLY)
+    checks.same("replies of which none is drawn are refused", (status, picture, said.splitlines()[-1:]),
+                (2, "", ["draw: error: --replies needs --ask, which says whose route is drawn"]))
+    for name, rows, why in (("no rows", "<svg/>\n", "row 1 refused: kind"), ("a word that is no kind", PAIR + "end,1,2\nfoo\n", "row 4 refused: kind"),
+                            ("too few fields", "put,1.1.1.1\n", "row 1 refused: fields"), ("a bad mask", PAIR.replace("0x1", "1", 1), "row 1 refused: mask 7"),
+                            ("another number", PAIR + "end,2,2\n", "batch 2 refused: expected 1"), ("another count", PAIR + "end,1,1\n", "batch 1 refused: counted 2"),
+                            ("a link twice", PAIR + PAIR + "end,1,4\n", "batch 1 refused: duplicate 3"),
+                            ("a link that isn't there", "drop,1.1.1.1,10.0.0.1\nend,1,1\n", "batch 1 refused: absent 1")):
+        status, picture, said = draw(rows)
+        checks.true(f"a file of {name} is refused", status == 1 and picture == "" and re.fullmatch(rf"draw: \S+/rows: {why}\n", said), said)
     status, picture, _ = draw("")
     checks.true("an empty network", status == 0 and xml.fromstring(picture) is not None)
     rows = open(os.path.join(TOP, "examples/nsfnet.journal")).read()

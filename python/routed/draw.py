@@ -1,7 +1,7 @@
 """Draws a network as SVG: routers, circuits, and the routes of replies.
 
-The rows are put, drop, node and end rows, as in a journal or a stream of `routed solve`; other rows are
-passed over, and so are changes behind the last end row. The picture goes to standard output.
+The rows are those of a journal or of a stream of `routed solve`; asks are passed over, and so are
+changes behind the last end row. A row or a batch that `routed` refuses is refused. The picture goes to standard output.
 """
 import argparse
 import math
@@ -11,7 +11,7 @@ import sys
 from xml.sax.saxutils import escape
 
 from .canvas import BLUE, GRAY, GREEN, HEIGHT, LEGEND_LINE, ORANGE, PURPLE, RED, SKY, TEXT, WIDTH, YELLOW, fit, picture, read_places
-from .networks import Link, reverse_of
+from .networks import Refused, read_database, reverse_of
 
 GLYPH = 0.62 * TEXT  # a generous width of one character
 GROUP_COLORS = [BLUE, ORANGE, GREEN, PURPLE, SKY, YELLOW, GRAY]
@@ -23,34 +23,6 @@ ROUTE_ASIDE = 7  # how far beside its circuits a route is drawn
 STYLE = f"text{{font:{TEXT}px sans-serif}}.name{{paint-order:stroke;stroke:#fff;stroke-width:4px}}path,line{{fill:none}}"
 ARROW = ('<defs><marker id="arrow" viewBox="0 0 10 10" refX="20" refY="5" markerWidth="14" markerHeight="14" '
          'markerUnits="userSpaceOnUse" orient="auto"><path d="M0 1L9 5L0 9z" style="fill:#444"/></marker></defs>')
-
-
-def read_database(rows, version):
-    """The links of the database by their keys, and its marks: the addresses of routers without transit."""
-    links, marks, changes, last = {}, set(), [], 0
-    for row in rows:
-        fields = row.rstrip("\r\n").split(",")
-        if fields[0] == "put" and len(fields) == 15:
-            key, numbers = (fields[1], fields[2]), [int(free) for free in fields[7:]]
-            changes.append((key, Link(key, " ".join(fields[1:5]), *fields[3:5], int(fields[5]), int(fields[6], 16), numbers)))
-        elif fields[0] == "drop" and len(fields) == 3:
-            changes.append(((fields[1], fields[2]), None))
-        elif fields[0] == "node" and len(fields) == 3:
-            changes.append(((fields[1], None), fields[2] == "0"))
-        elif fields[0] == "end":
-            if version is not None and last == version:
-                break
-            for (router, local), left in changes:
-                if local is None:
-                    marks = marks | {router} if left else marks - {router}
-                    continue
-                links.pop((router, local), None)
-                if left:
-                    links[router, local] = left
-            changes, last = [], last + 1
-    if version is not None and last < version:
-        raise ValueError(f"there is no version {version}, the last one is {last}")
-    return links, marks
 
 
 def walk_of(links, marks, reply):
@@ -258,24 +230,37 @@ def drawn(links, marks, places, names, routes, priority, notes):
         yield f'<text x="70" y="{y}">{escape(text)}</text>'
 
 
+def version(text):
+    """The number of a batch, 0 for the network before the first."""
+    value = int(text)
+    if value < 0:
+        raise ValueError
+    return value
+
+
 def options(words):
     asked = argparse.ArgumentParser(prog="draw", description=__doc__.split("\n\n")[0])
     asked.add_argument("rows", help="the file of rows or the journal")
-    asked.add_argument("--version", type=int, metavar="N", help="the network behind batch N, by default the last")
+    asked.add_argument("--version", type=version, metavar="N", help="the network behind batch N, by default the last")
     asked.add_argument("--replies", metavar="FILE", help="reply lines of routed")
     asked.add_argument("--ask", action="append", default=[], metavar="ID", help="draw the route of this reply; at most twice")
     asked.add_argument("--places", metavar="FILE", help="lines of a router's address, x, y and a name; else laid out by force")
     asked.add_argument("--priority", type=int, choices=range(8), default=0, help="whose unreserved bandwidth is the width")
     asked.add_argument("--title", default="Network")
-    return asked.parse_args(words)
+    given = asked.parse_args(words)
+    if given.ask and not given.replies:
+        asked.error("--ask needs --replies, the lines that it is one of")
+    if given.replies and not given.ask:
+        asked.error("--replies needs --ask, which says whose route is drawn")
+    return given
 
 
 def main(words=None):
     """Takes the words of a command line, and answers the status."""
     asked = options(words)
     try:
-        with open(asked.rows) as rows:
-            links, marks = read_database(rows, asked.version)
+        with open(asked.rows, "rb") as rows:
+            _, links, marks = read_database(rows.read(), asked.version, has_asks=True)
         routers = sorted({end for link in links.values() for end in (link.key[0], link.neighbor)})
         places, names = {}, {router: router for router in routers}
         if asked.places:
@@ -288,6 +273,9 @@ def main(words=None):
         places, notes = fit(places), legend(links, not marks.isdisjoint(places), routes, asked.priority)
         shown = drawn(links, marks, places, names, routes, asked.priority, notes)
         print(*picture(asked.title, STYLE, HEIGHT + LEGEND_LINE * len(notes) + 10, shown, ARROW), sep="\n")
+    except Refused as fault:
+        print(f"draw: {asked.rows}: {fault}", file=sys.stderr)
+        return 1
     except (OSError, ValueError) as fault:
         print(f"draw: {fault}", file=sys.stderr)
         return 1

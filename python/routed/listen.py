@@ -16,6 +16,8 @@ Where updates come in, the line `snapshot` asks for the database as it is. Behin
 `version V`, the rows of `routed snapshot` on the journal, which are batches from 1 on, and `snapshot end`; or else the one
 line `snapshot refused: WORDS`. Rows behind it wait for that.
 
+With --begin the batches of a file, as `routed snapshot` makes them, are published before any connection is taken.
+
 The server outlives connections: what one has published is there for the next, and N in `row N refused` counts rows of
 earlier ones and of this front too. Changes that a connection leaves open are dropped.
 
@@ -40,6 +42,7 @@ import sys
 
 from . import program
 from .channels import Channel, Listener, Updates
+from .journals import Refused, texts
 from .live_snapshots import Snapshots
 from .loop import Loop, READ
 
@@ -108,7 +111,8 @@ class Front:
             signal.signal(number, lambda *_: None)
 
     def begin(self):
-        """Starts the server. Rows are taken once it has answered one: all files are open then."""
+        """Starts the server, and brings what it begins with. Rows are taken once it has answered one: all files are open then."""
+        batches = beginning(self.options.begin)
         words = [self.options.program, "serve", "--explain", "--journal", self.options.journal]
         for number in range(self.options.clients + 1):
             (rows_out, rows_in), (lines_out, lines_in) = os.pipe(), os.pipe()
@@ -121,15 +125,18 @@ class Front:
             self.server = subprocess.Popen(words, stdin=self.theirs[0], stdout=self.theirs[1])
         os.close(self.theirs.pop(1))
         self.loop.want(self.signals, READ, self.signalled)
-        self.channels[0].ask(self.ready)
+        self.channels[0].to_server = "".join(batches).encode()
+        self.channels[0].ask(lambda version: self.ready(version, len(batches)))
         self.channels[0].settle()
 
     def close_theirs(self):
         while self.theirs:
             os.close(self.theirs.pop())
 
-    def ready(self, _):
+    def ready(self, version, wanted):
         self.close_theirs()
+        if version != wanted:
+            raise Stopped(f"{self.options.begin}: batch {version + 1} wasn't published")
         for kind, listener, channels in zip(("updates", "ask"), self.listeners, (self.channels[:1], self.channels[1:])):
             place = getattr(self.options, kind)
             Listener(self.loop, listener, channels, idle_of(self.options) if kind == "ask" else 0)
@@ -162,6 +169,19 @@ def say(line):
             os.write(sys.stdout.fileno(), f"{line}\n".encode())
 
 
+def beginning(path):
+    """The batches of a file that a run begins with; none where there is no file."""
+    if path is None:
+        return []
+    with tried(f"{path}: read"):
+        with open(path, "rb") as file:
+            data = file.read()
+    try:
+        return texts(data)
+    except Refused as fault:
+        raise Stopped(f"{path}: {fault}") from None
+
+
 def idle_of(options):
     """Seconds after which an idle asking connection is ended, 0 for never."""
     return options.idle if options.idle is not None else 0 if options.ask.path else IDLE
@@ -187,6 +207,7 @@ def main(given=None):
     """Takes the words of a command line, and answers the status."""
     words = argparse.ArgumentParser(prog="listen", description=__doc__, formatter_class=argparse.RawDescriptionHelpFormatter)
     words.add_argument("--journal", required=True, metavar="FILE", help="a new file, for the batches of this run")
+    words.add_argument("--begin", metavar="FILE", help="batches that are published before any connection is taken: a snapshot of the run before")
     words.add_argument("--ask", required=True, type=Place, metavar="PLACE", help="where clients ask")
     words.add_argument("--updates", required=True, type=Place, metavar="PLACE", help="where updates come in")
     words.add_argument("--clients", type=int, choices=range(1, 65), default=64, metavar="N", help="how many ask at once, 1 to 64 (64)")

@@ -1,15 +1,11 @@
 """Links; and what a sweep reads: a journal's last version, what can fail of it as one, and requests."""
 import collections
-import csv
-import io
+
+from .journals import Refused, batches, key_of, records
 
 Link = collections.namedtuple("Link", "key name neighbor remote metric group free")
 Request = collections.namedtuple("Request", "id head tail setup bandwidth exclude_any include_any include_all prefixes row")
 Part = collections.namedtuple("Part", "name keys")  # what fails as one: a circuit, a link of one way or a router
-
-
-class Refused(Exception):
-    """What was given can't be used; the text says why."""
 
 
 class Stopped(Exception):
@@ -34,30 +30,29 @@ def prefixes_of(hops):
     return tuple((address >> 32 - bits, 32 - bits) for address, bits in found)
 
 
-def rows_of(data):
-    """The rows of a file that the program has accepted."""
-    return filter(None, csv.reader(io.StringIO(data.decode("utf-8-sig"), newline="")))
-
-
-def read_database(journal):
-    """The journal's last version, its links in the order of their keys, and its marks. No key is twice in one batch."""
+def read_database(journal, until=None, has_asks=False):
+    """The journal's last version or this one, its links in the order of their keys, and its marks. A stream may have asks."""
     links, marks, version = {}, set(), 0
-    for kind, *fields in rows_of(journal):
-        key = tuple(fields[:2])
-        if kind == "put":
-            links[key] = Link(key, " ".join(fields[:4]), *fields[2:4], int(fields[4]), int(fields[5], 16), tuple(map(int, fields[6:])))
-        elif kind == "drop":
-            del links[key]
-        elif kind == "node":
-            (marks.add if fields[1] == "0" else marks.discard)(fields[0])
-        else:
-            version += 1
+    read = batches(journal, has_asks)
+    while version != until and (changes := next(read, None)) is not None:
+        version += 1
+        for at, change in enumerate(changes, 1):
+            kind, *fields = change
+            key = key_of(change)
+            if kind == "put":
+                links[key] = Link(key, " ".join(fields[:4]), *fields[2:4], int(fields[4]), int(fields[5], 16), tuple(map(int, fields[6:])))
+            elif kind == "node":
+                (marks.add if fields[1] == "0" else marks.discard)(fields[0])
+            elif links.pop(key, None) is None:
+                raise Refused(f"batch {version} refused: absent {at}")
+    if until is not None and version < until:
+        raise Refused(f"there is no version {until}, the last one is {version}")
     return version, {key: links[key] for key in sorted(links, key=lambda key: (number(key[0]), number(key[1])))}, marks
 
 
 def read_requests(rows):
     requests = {}
-    for place, fields in enumerate(rows_of(rows), 1):
+    for place, fields in enumerate(records(rows), 1):
         if fields[1] in requests:
             raise Refused(f"request row {place} refused: same-id")
         requests[fields[1]] = Request(*fields[1:4], int(fields[4]), int(fields[5]), *(int(mask, 16) for mask in fields[6:9]),

@@ -213,6 +213,8 @@ def main(asked=None):
     words.add_argument("case", nargs="?", choices=["cost", "float", "ties"], help="one case alone")
     given = words.parse_args(asked)
     try:
+        if not os.path.isdir(examples()):
+            raise Missing(f"needs the rows of {examples()}, which isn't there")
         version = version_of(given.frr)
         program = os.path.abspath(find(given.program))
         if not os.access(program, os.X_OK):

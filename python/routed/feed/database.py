@@ -1,34 +1,43 @@
 """The database that a program has when the feed comes to it: as `tools/listen` tells it, or from the journal of the program's run."""
 import re
 import secrets
+
+from ..journals import records, refusal
 from .batches import Ended, apply
 
 EARLIER = re.compile(r"(?:version|batch|row|ask) \d+( .*)?")  # lines of rows that an earlier feed sent, which it didn't read
-OCTET = r"(?:\d|[1-9]\d|1\d\d|2[0-4]\d|25[0-5])"
-ADDRESS = rf"{OCTET}(?:\.{OCTET}){{3}}"
-CHANGE = re.compile(rf"put(?:,{ADDRESS}){{4}},\d+,0x[0-9a-f]{{8}}(?:,\d+){{8}}|drop(?:,{ADDRESS}){{2}}|node,{ADDRESS},[01]")
 
 
-def database(lines):
-    """The rows by key after the whole batches of a journal, how many batches these are, and how many lines."""
+def database(rows):
+    """The rows by key after the whole batches of a journal, how many batches these are, and how many rows."""
     given, number, changes, count = {}, 0, [], 0
-    for line in lines:
-        if CHANGE.fullmatch(line):
-            changes.append(line)
+    for fields in rows:
+        if refusal(fields) or fields[0] == "ask":
+            break
+        if fields[0] != "end":
+            changes.append(fields)
             continue
-        if line != f"end,{number + 1},{len(changes)}":
+        if fields[1:] != [str(number + 1), str(len(changes))]:
             break
         for change in changes:
-            apply(change, given)
+            apply(spelled(change), given)
         number, count, changes = number + 1, count + len(changes) + 1, []
     return given, number, count
+
+
+def spelled(change):
+    """The text of a change as the feed and the program write it."""
+    kind, *fields = change
+    if kind == "put":
+        fields[5] = f"0x{int(fields[5], 16):08x}"
+    return ",".join([kind, *fields])
 
 
 def from_journal(path, version):
     """The rows by key of the program that writes this journal, in which there may be the beginning of a batch behind the last."""
     try:
-        with open(path, encoding="ascii", errors="replace", newline="\n") as rows:
-            given, number, _ = database(row.rstrip("\n") for row in rows)
+        with open(path, "rb") as journal:
+            given, number, _ = database(records(journal.read()))
     except OSError as fault:
         raise Ended(f"--journal {path}: {fault.strerror or fault}") from None
     if number != version:
@@ -43,7 +52,7 @@ def from_front(program, version, line):
     lines = []
     while (line := program.line()) != "snapshot end":
         lines.append(line)
-    given, _, count = database(lines)
+    given, _, count = database(line.split(",") for line in lines)
     if count != len(lines):
         raise Ended(f"{program.name}: its snapshot has a line that is part of no batch: {lines[count]}")
     return given
