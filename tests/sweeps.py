@@ -14,6 +14,8 @@ import time
 
 from reference import address_number, address_text, publish, requests_of, whole_batches
 
+from routed.failures import Network
+
 HERE = os.path.dirname(os.path.abspath(__file__))
 TOP = os.path.dirname(HERE)
 SWEEP = os.path.join(TOP, "tools/sweep")
@@ -138,6 +140,12 @@ def ring(program, checks):
     wanted = (0, BEFORE.replace("version=1", "version=3") + OF_CIRCUITS, "")
     found = sweep(program.path, quoted, ASKS, "--fail", "circuits")
     checks.same("the last version, with quotes, carriage returns and no last line feed", found, wanted)
+    loaded = ask(1, A, B) + ask(2, A, B) + ask(3, A, C) + ask(4, D, B, bandwidth=30)
+    taken = {f"{A} 10.0.12.1 {B} 10.0.12.2": (("before", 180), ("scenario 4", 210)), f"{A} 10.0.14.1 {D} 10.0.14.4": (("scenario 1", 180),),
+             f"{C} 10.0.23.3 {B} 10.0.23.2": (("scenario 1", 150),), f"{D} 10.0.34.4 {C} 10.0.34.3": (("scenario 1", 210),)}
+    checks.same("a link that is overbooked has a line where it gets worse, and none where it stays or gets better",
+                sorted(facts(program, RING, loaded, " overbooked ")), sorted(
+                    f"{where} overbooked {name} priority=7 asked={asked} above=0 unreserved=100" for name, found in taken.items() for where, asked in found))
     nothing = "network version=0 routers=0 links=0 circuits=0 requests=0\nbefore routes=0 without=0 overbooked=0\n" \
               "scenarios=0 lost=0 longer=0 overbooked=0\n"
     checks.same("an empty network", sweep(program.path, "", ""), (0, nothing, ""))
@@ -432,7 +440,7 @@ def jobs(program, checks):
 
 
 def asked(program, checks):
-    """A scenario asks the requests that it can change, of one program, and of another one before a stream has too many rows."""
+    """A scenario asks the requests that it can change, of one program."""
     hopped = RING.replace("end,1,8", circuit(1, 2, 90).replace("10.0.12.", "10.0.21.") + "end,1,10")
     asks = (ASKS + ask(5, B, C, hops="10.0.34.3/32l") + ask(6, A, B, hops="10.0.21.0/24l 2.2.2.2/32l") + ask(7, C, D, hops=f"{C}/32s 10.0.34.0/24s")
             + ask(8, A, B, hops=object_of(["10.0.14.0/30l"])))
@@ -446,9 +454,16 @@ def asked(program, checks):
             found[f"circuit {one} {other}"] = "".join(re.findall(r"(?m)^ask,(\d+)", some))
         checks.same("which requests are asked", found, wanted)
         checks.same("in one program", (status, err, [name.split(".")[0] for name in os.listdir(room)].count("solve")), (0, "", 1))
-        rows, asks = drawn(random.Random(1))
-        wanted = sweep(program.path, rows, asks, "--fail", "pairs")
-        checks.true("pairs of a drawn network", wanted[0] == 0 and wanted[1].count(" lost request ") > 50, wanted)
+    given = Network(program.path, 1, RING.encode(), ASKS.encode())
+    text, *_ = given.outcome(1, [(AB, ((B, "10.0.12.2"),))])
+    checks.same("one direction of a circuit out, which no route takes", f"{text}\n", OF_CIRCUITS[:OF_CIRCUITS.index("scenario 2")])
+
+
+def streams(program, checks):
+    """Another program is begun before a stream has too many rows, and no program is written to that waits to be read."""
+    rows, asks = drawn(random.Random(1))
+    wanted = sweep(program.path, rows, asks, "--fail", "pairs")
+    checks.true("pairs of a drawn network", wanted[0] == 0 and wanted[1].count(" lost request ") > 50, wanted)
     for most, least in ((60, 10), (300, 3)):
         with tempfile.TemporaryDirectory() as room:
             path = wrapped(program, room, f"if count > {most}:\n    stop(9)")
@@ -630,5 +645,5 @@ def page(program, checks):
 
 
 def sweeps(program, checks):
-    for part in (ring, parts, loads, compared, asked, jobs, progress, joined, refused, page):
+    for part in (ring, parts, loads, compared, asked, streams, jobs, progress, joined, refused, page):
         part(program, checks)

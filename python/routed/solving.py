@@ -4,10 +4,9 @@ import select
 import subprocess
 import tempfile
 
+from .journals import MOST_CHANGES, MOST_ROWS  # each version takes a row, so a stream has no more versions
 from .networks import Refused, Stopped
 
-MOST_ROWS = 1_000_000  # of a stream; each version takes one, so a stream has no more versions
-MOST_CHANGES = 4096  # of a batch
 MOST_ASKS = 4096  # of a question
 
 
