@@ -416,6 +416,8 @@ def crowded(checks):
                     and set(counts) | listed == wanted and len(counts) + len(listed) == len(wanted), (said, wanted - set(counts) - listed))
         found[f"failures of {sites} crowded sites"] = picture
         found[f"{sites} sites laid out"] = draw(rows)[1]
+    sizes = [math.prod(float(it) for it in re.search('viewBox="0 0 (.*?) (.*?)"', found[f"{sites} sites laid out"]).groups()) for sites in (14, 28, 50, 200)]
+    checks.true("a picture grows with its network", all(1.3 * one < other for one, other in zip(sizes, sizes[1:])), sizes)
     return found
 
 
