@@ -403,6 +403,8 @@ def crowded(checks):
         listed = re.findall(r"(?:^|, |: )(\d+) Rechenzentrum", " ".join(notes(picture)))
         checks.true(f"{sites} crowded sites: each has a name or a number that is listed", status == 0 and len(names(picture)) + len(numbers) == sites
                     and sorted(numbers, key=int) == listed == [str(at) for at in range(1, len(numbers) + 1)], (said, numbers, listed))
+        at = list(places_in(picture).values())
+        checks.true(f"{sites} crowded sites: no router covers another", len(at) == sites and least_distance(at) > 2 * 9, least_distance(at))
         found[f"{sites} crowded sites"] = picture
         circuits = list(dict.fromkeys(re.findall(r"(?m)^put,([^,]*,[^,]*,[^,]*,[^,]*),", rows)))[::2]
         lines = "".join(f"scenario {at} out circuit {' '.join(it.split(','))}\nscenario {at} lost={at % 3} longer={at} most=1 overbooked=0\n"
@@ -416,6 +418,8 @@ def crowded(checks):
                     and set(counts) | listed == wanted and len(counts) + len(listed) == len(wanted), (said, wanted - set(counts) - listed))
         found[f"failures of {sites} crowded sites"] = picture
         found[f"{sites} sites laid out"] = draw(rows)[1]
+    sizes = [math.prod(float(it) for it in re.search('viewBox="0 0 (.*?) (.*?)"', found[f"{sites} sites laid out"]).groups()) for sites in (14, 28, 50, 200)]
+    checks.true("a picture grows with its network", all(1.3 * one < other for one, other in zip(sizes, sizes[1:])), sizes)
     return found
 
 

@@ -1,4 +1,5 @@
 """A picture's size and colors, where routers are in it, and its legend."""
+import collections
 import math
 from xml.sax.saxutils import escape
 
@@ -34,13 +35,17 @@ def fit(places):
 
 def apart(places):
     """The places, moved where routers would cover each other."""
-    routers, at = list(places), list(places.values())
-    for turn in range(200):
+    routers, at, there = list(places), [], collections.Counter()
+    for x, y in places.values():  # several at one place go round it, as the seeds of a sunflower
+        far, angle = 0.6 * LEAST_GAP * math.sqrt(there[x, y]), 2.4 * there[x, y]
+        there[x, y] += 1
+        at.append((x + far * math.cos(angle), y + far * math.sin(angle)))
+    for _ in range(200):
         moved = False
         for one, other in sorted(near_pairs(at, LEAST_GAP)):
             far = math.dist(at[one], at[other])
             if far < LEAST_GAP - 0.5:
-                angle = math.atan2(at[other][1] - at[one][1], at[other][0] - at[one][0]) if far > 1e-6 else 2.4 * (one + other)
+                angle = math.atan2(at[other][1] - at[one][1], at[other][0] - at[one][0])
                 step = (LEAST_GAP - far) / 2
                 over, down = step * math.cos(angle), step * math.sin(angle)
                 at[one], at[other] = (at[one][0] - over, at[one][1] - down), (at[other][0] + over, at[other][1] + down)

@@ -122,7 +122,8 @@ def one_way_sample(x, y):
 def place_names(sheet, places, names, radii, curves):
     """Gives the routers' names their boxes, beside the routers and off the circuits where that can be."""
     for router, (x, y) in places.items():
-        sheet.block(router, (x - radii[router], y - radii[router], x + radii[router], y + radii[router]))
+        half = radii[router] + 0.5
+        sheet.block(router, (x - half, y - half, x + half, y + half))
     for it in curves if len(curves) <= MOST_SAMPLED else ():
         sheet.line(it.points(), INK)
     sheet.place([Wanted(router, spots_round(*places[router], radii[router], names[router])) for router in sorted(places)])
