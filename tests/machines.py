@@ -1,6 +1,7 @@
 """Tests of tools/sweep over more machines: by workers of Dask's distributed and by GNU parallel over ssh, both on this machine."""
 import contextlib
 import getpass
+import io
 import json
 import os
 import re
@@ -10,8 +11,12 @@ import subprocess
 import sys
 import tempfile
 import time
+import types
 
-from sweeps import ASKS, BEFORE, DROPS, HANGS, OF_CIRCUITS, OF_ROUTERS, RING, SWEEP, THIRD, TOP, sweep, wrapped
+from sweeps import A, ASKS, B, BEFORE, DROPS, HANGS, OF_CIRCUITS, OF_ROUTERS, RING, SWEEP, THIRD, TOP, ask, link, sweep, wrapped
+
+from routed.machines import Connections, Lost
+from routed.networks import Stopped, read_requests
 
 WHOLE = (0, BEFORE + OF_CIRCUITS, "")
 STOPS = 'if row == "drop,1.1.1.1,10.0.14.1":\n    stop(3, "routed: stopped\\n")'  # in the second scenario
@@ -19,6 +24,7 @@ GOES = "if words[0] == 'snapshot':\n    os.remove(sys.argv[0])"
 TWO = DROPS + ('touch(f"at.{os.getpid()}"); '
                'wait(lambda: sum(name.startswith("at.") for name in os.listdir(room)) > 1)')  # until two scenarios are worked on at once
 SECOND = OF_CIRCUITS.index("scenario 2")
+CIRCUIT = link(A, "10.0.12.1", B, "10.0.12.2")
 FAR = ["perl", "rm", "sh", "tr"]  # what the far side has beside the program
 
 
@@ -44,6 +50,33 @@ def await_(what, seconds=60):
     while not (found := what()) and time.monotonic() < end:
         time.sleep(0.02)
     return found or None
+
+
+def connections(program, checks):
+    """What connections of ssh wrote is taken for what was sent to them: each names itself, and none is passed over."""
+    def lines(number, status=0, version=2, more=""):
+        return f"connection {number} far\nversion 1\nversion {version}\nask 1 v2 none\nversion 3\n{more}\nstatus {status}\n"
+
+    given = types.SimpleNamespace(rows=[CIRCUIT.strip(), "end,1,1"], requests=read_requests(ask(1, A, B).encode()), program="routed")
+    for name, text, wanted in (
+            ("two connections", lines(1) + lines(2), [["none"], ["none"], None]),
+            ("the second is lost", lines(1) + lines(3), [["none"], "lost"]),
+            ("the last is lost", lines(1), [["none"], "lost"]),
+            ("the first is cut", lines(1)[:27] + lines(2), ["lost"]),
+            ("the first is not at its version", lines(1, version=3) + lines(2), ["far: routed wrote 'version 3' where 'version 2' has to be"]),
+            ("the first fails at its end", lines(1, status=3) + lines(2), [["none"], "far: routed ended with status 3"]),
+            ("the first fails before", lines(1, status=3, version=3) + lines(2), ["far: routed ended with status 3: version 3"]),
+            ("the second has a line more", lines(1) + lines(2, more="more\n"), [["none"], ["none"], "far: routed ended with status 0: more"])):
+        taken, found = Connections(given, 1, io.BytesIO(text.encode())), []
+        try:
+            for _ in range(2):
+                found.append(taken.ask({(A, "10.0.12.1"): CIRCUIT.strip()}, [0]))
+            found.append(taken.end())
+        except Lost:
+            found.append("lost")
+        except Stopped as fault:
+            found.append(str(fault))
+        checks.same(name, found, wanted)
 
 
 def alone(program, checks):
@@ -211,5 +244,5 @@ def ended(program, checks, room, login):
 
 
 def machines(program, checks):
-    for part in (alone, dask, ssh):
+    for part in (connections, alone, dask, ssh):
         part(program, checks)

@@ -15,6 +15,7 @@ import time
 from reference import address_number, address_text, publish, requests_of, whole_batches
 
 from routed.failures import Network
+from routed.solving import MOST_ROWS, Solve
 
 HERE = os.path.dirname(os.path.abspath(__file__))
 TOP = os.path.dirname(HERE)
@@ -461,6 +462,9 @@ def asked(program, checks):
 
 def streams(program, checks):
     """Another program is begun before a stream has too many rows, and no program is written to that waits to be read."""
+    stream = object.__new__(Solve)
+    stream.rows, stream.process = MOST_ROWS - 5, None
+    checks.same("the last rows of a stream", (stream.has_room(5), stream.has_room(6), MOST_ROWS), (True, False, 1_000_000))
     rows, asks = drawn(random.Random(1))
     wanted = sweep(program.path, rows, asks, "--fail", "pairs")
     checks.true("pairs of a drawn network", wanted[0] == 0 and wanted[1].count(" lost request ") > 50, wanted)

@@ -148,6 +148,11 @@ class Network:
         self.idle.append(solve)
         return texts
 
+    def close(self):
+        """Ends the programs that wait for a question."""
+        while self.idle:
+            self.idle.pop().close()
+
     def outcome(self, place, parts, ask=None):
         """The text of a scenario in which these parts are out, the indexes of the requests that are lost and of those that get longer,
         and how many links are overbooked that weren't, or more than they were; else the fault."""

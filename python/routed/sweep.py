@@ -9,6 +9,7 @@ import hashlib
 import itertools
 import math
 import multiprocessing
+import os
 import re
 import signal
 import sys
@@ -25,11 +26,13 @@ def work(given, scenarios, at, jobs, readers, results):
     """One of the jobs: the scenario at this index, and from there every so many-th as there are jobs."""
     for reader in readers:
         reader.close()  # so that a job whose results nobody takes any more ends
-    for place, parts in itertools.islice(scenarios(), at, None, jobs):
-        try:
+    try:
+        for place, parts in itertools.islice(scenarios(), at, None, jobs):
             results.send(given.outcome(place, parts))
-        except BrokenPipeError:
-            return
+    except BrokenPipeError:
+        pass
+    finally:
+        given.close()
 
 
 def over_jobs(jobs, given, scenarios):
@@ -125,6 +128,8 @@ def options(words):
     add_option(asked)
     given = asked.parse_args(words)
     given.program = find(given.program)
+    if os.sep in given.program:
+        given.program = os.path.abspath(given.program)  # it is the same path on each machine
     if given.dask and (given.ssh or given.jobs):
         asked.error("with --dask there is neither --ssh nor --jobs: the scheduler's workers say how many scenarios are worked on at once")
     given.jobs = given.jobs or 1
