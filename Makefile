@@ -9,6 +9,7 @@ PREFIX = /usr/local
 DESTDIR =
 PROGRAM = crates/routed/out/routed
 OUT = out
+COMPRESS = -Zxz
 VERSION := $(shell sed -n 's/^version = "\(.*\)"/\1/p' python/pyproject.toml)
 
 bin = $(DESTDIR)$(PREFIX)/bin
@@ -59,4 +60,4 @@ deb:
 	rm -rf $(OUT)/deb
 	$(MAKE) install DESTDIR=$(OUT)/deb PREFIX=/usr
 	deploy/package $(OUT)/deb $(VERSION)
-	dpkg-deb --root-owner-group --build $(OUT)/deb $(OUT)
+	dpkg-deb --root-owner-group $(COMPRESS) --build $(OUT)/deb $(OUT)

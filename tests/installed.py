@@ -9,6 +9,7 @@ import time
 from importlib.machinery import SourceFileLoader
 
 from feed import PAIR, Router
+from kept import started
 from listened import PATIENCE, Connection
 
 HERE = os.path.dirname(os.path.abspath(__file__))
@@ -39,7 +40,7 @@ def package(program, checks):
     if skipped("dpkg-deb", "make"):
         return
     with tempfile.TemporaryDirectory() as room:
-        made = subprocess.run(["make", "-s", "deb", f"PROGRAM={program.path}", f"OUT={room}"], cwd=TOP, capture_output=True, text=True, timeout=300)
+        made = subprocess.run(["make", "-s", "deb", f"PROGRAM={program.path}", f"OUT={room}", "COMPRESS=-Znone"], cwd=TOP, capture_output=True, text=True, timeout=300)
         found = [name for name in os.listdir(room) if name.endswith(".deb")]
         checks.true("make deb makes a package", made.returncode == 0 and len(found) == 1, made.stderr[-1000:])
         deb, empty = os.path.join(room, found[0]), os.path.join(room, "empty")
@@ -88,15 +89,12 @@ def unpacked(program, checks, room, top):
     checks.true("routed-tools why says what is missing", status == 2 and "--frr DIR" in err, err)
     for words, status in ((("routed-tools", "--help"), 0), (("routed-tools",), 2), (("routed-tools", "nothing"), 2)):
         checks.same(f"the status of {' '.join(words)}", run(*words)[0], status)
-    with open(os.path.join(home, "asked"), "w", encoding="utf-8") as out:
-        listening = subprocess.Popen(["routed-tools", "listen", "--journal", "day.journal", "--ask", "./ask", "--updates", "./updates"], env=env, cwd=home,
-                                     stdout=subprocess.PIPE, stderr=out, text=True)
-    checks.same("routed-tools listen", listening.stdout.readline(), "ready\n")
-    checks.same("routed-tools connect brings updates", run("routed-tools", "connect", "./updates", rows=text_of("examples/nsfnet.journal"))[1].splitlines()[-1:],
-                ["version 10"])
-    listening.terminate()
-    checks.same("its status after a signal", listening.wait(PATIENCE), 143)
-    listening.stdout.close()
+    with started(["routed-tools", "listen", "--journal", "day.journal", "--ask", "./ask", "--updates", "./updates"], env=env, cwd=home) as listening:
+        checks.same("routed-tools listen", listening.stdout.readline(), "ready\n")
+        checks.same("routed-tools connect brings updates", run("routed-tools", "connect", "./updates", rows=text_of("examples/nsfnet.journal"))[1].splitlines()[-1:],
+                    ["version 10"])
+        listening.terminate()
+        checks.same("its status after a signal", listening.wait(PATIENCE), 143)
     units(checks, home, top, env)
 
 
@@ -114,31 +112,24 @@ def command_of(unit, top, env, folder):
 def units(checks, home, top, env):
     os.makedirs(os.path.join(home, "updates"))
     words, given = command_of("routed-serve.service", top, env, home)
-    with open(os.path.join(home, "said"), "w+", encoding="utf-8") as said:
-        server = subprocess.Popen(words, env=given, stdout=subprocess.PIPE, stderr=said, text=True)
+    with open(os.path.join(home, "said"), "w+", encoding="utf-8") as said, started(words, env=given, stderr=said) as server:
         checks.same("the command of routed-serve.service", server.stdout.readline(), "ready\n")
         said.seek(0)
         checks.true("a first start says that its network is empty", "keep: 000001 begins with an empty network\n" in said.read())
-    checks.same("the modes of its sockets", [oct(os.stat(os.path.join(home, name)).st_mode & 0o777) for name in ("ask", "updates/socket")], ["0o660"] * 2)
-    router = Router()
-    words, given = command_of("routed-feed.service", top, env, home)
-    feed = subprocess.Popen([*words, "--port", str(router.port), "--collect", "0"], env=given, stdin=subprocess.DEVNULL, stdout=subprocess.DEVNULL,
-                            stderr=subprocess.DEVNULL)
-    router.accept()
-    router.send(PAIR)
-    asking, line = Connection(os.path.join(home, "ask")), ""
-    for number in range(1000):
-        line = asking.talk(f"ask,{number},1.1.1.1,2.2.2.2,0,1,0x0,0x0,0x0,\n")
-        if "v0" not in line:
-            break
-        feed.poll()
-        time.sleep(0.02)
-    checks.true("the command of routed-feed.service brings the network", re.fullmatch(r"ask \d+ v1 .*\n", line), line)
-    feed.terminate()
-    feed.wait(PATIENCE)
-    server.terminate()
-    checks.same("the server's status after a signal", server.wait(PATIENCE), 143)
-    server.stdout.close()
+        modes = [oct(os.stat(os.path.join(home, name)).st_mode & 0o777) for name in ("ask", "updates/socket")]
+        checks.same("the modes of its sockets", modes, ["0o660"] * 2)
+        router = Router()
+        words, given = command_of("routed-feed.service", top, env, home)
+        with started([*words, "--port", str(router.port), "--collect", "0"], env=given, stdin=subprocess.DEVNULL, stderr=subprocess.DEVNULL):
+            router.accept()
+            router.send(PAIR)
+            asking, line, end = Connection(os.path.join(home, "ask")), " v0 ", time.monotonic() + PATIENCE
+            while " v0 " in line and time.monotonic() < end:
+                line = asking.talk("ask,1,1.1.1.1,2.2.2.2,0,1,0x0,0x0,0x0,\n")
+                time.sleep(0.02)
+            checks.true("the command of routed-feed.service brings the network", re.fullmatch(r"ask 1 v[12] .*\n", line), line)
+        server.terminate()
+        checks.same("the server's status after a signal", server.wait(PATIENCE), 143)
     words, given = command_of("routed-solve@.service", top, env, home)
     ran = subprocess.run(words, env=given, input="end,1,0\nend,3,0\n", capture_output=True, text=True, timeout=PATIENCE)
     checks.same("the command of routed-solve@.service", (ran.returncode, ran.stdout), (2, "version 1\nbatch 3 refused: expected 2\n"))

@@ -37,6 +37,17 @@ def around(program, room):
             "ROUTED_ASK": os.path.join(room, "ask"), "ROUTED_UPDATES": os.path.join(room, "updates")}
 
 
+@contextlib.contextmanager
+def started(words, **how):
+    """A program that runs, whose lines are read. Where it hasn't ended it is killed afterwards, with what it has started."""
+    with subprocess.Popen(words, stdout=subprocess.PIPE, text=True, start_new_session=True, **how) as child:
+        try:
+            yield child
+        finally:
+            if child.poll() is None:
+                os.killpg(child.pid, signal.SIGKILL)
+
+
 def last_of(journal):
     """The snapshot of a journal's whole batches."""
     return snapshot_of(publish(whole_batches(journal, True))[0][-1])
@@ -101,12 +112,9 @@ def beginnings(program, checks):
         checks.same("a journal that is refused", (status, out, err.splitlines()[-1:]), (1, "", ["keep: 000009.journal: batch 2 refused: absent 1"]))
         checks.same("nothing is made of it", os.path.exists(os.path.join(folder, "000010.begin")), False)
         os.unlink(os.path.join(folder, "000009.journal"))
-        held = subprocess.Popen([os.path.join(DEPLOY, "keep"), folder, "sh", "-c", "echo ready; sleep 60"], env=env, stdout=subprocess.PIPE, stderr=subprocess.DEVNULL)
-        held.stdout.readline()
-        checks.same("another server in the folder", keep(), (1, "", f"keep: {folder}: another server runs here\n"))
-        held.kill()
-        held.wait()
-        held.stdout.close()
+        with started([os.path.join(DEPLOY, "keep"), folder, "sh", "-c", "echo ready; sleep 60"], env=env, stderr=subprocess.DEVNULL) as held:
+            held.stdout.readline()
+            checks.same("another server in the folder", keep(), (1, "", f"keep: {folder}: another server runs here\n"))
         checks.true("a folder that isn't there", subprocess.run([os.path.join(DEPLOY, "keep"), "/nowhere", "echo"], capture_output=True).returncode)
 
 
@@ -214,19 +222,17 @@ def kills(program, checks):
         wrong, phases, took = [], {"starting": 0, "serving": 0}, 0.0
         for at in range(KILLS + 1):
             begun = time.monotonic()
-            child = subprocess.Popen([os.path.join(DEPLOY, "serve"), "--clients", "2"], env=env, start_new_session=True,
-                                     stdout=subprocess.PIPE, stderr=subprocess.DEVNULL, text=True)
-            is_served = at % 2 or at in (0, KILLS)
-            timer = threading.Timer(draw.uniform(0, SERVING if is_served else took), kill, [child, at // 2 % 4])
-            if is_served:
-                checks.same(f"start {at} is ready", child.stdout.readline(), "ready\n")
-                took = max(took, time.monotonic() - begun)
-            else:
-                timer.start()
-            good = updater.bring(env["ROUTED_UPDATES"], draw, child, timer.start if is_served else lambda: None)
-            timer.join()
-            child.wait(PATIENCE)
-            child.stdout.close()
+            with started([os.path.join(DEPLOY, "serve"), "--clients", "2"], env=env, stderr=subprocess.DEVNULL) as child:
+                is_served = at % 2 or at in (0, KILLS)
+                timer = threading.Timer(draw.uniform(0, SERVING if is_served else took), kill, [child, at // 2 % 4])
+                if is_served:
+                    checks.same(f"start {at} is ready", child.stdout.readline(), "ready\n")
+                    took = max(took, time.monotonic() - begun)
+                else:
+                    timer.start()
+                good = updater.bring(env["ROUTED_UPDATES"], draw, child, timer.start if is_served else lambda: None)
+                timer.join()
+                child.wait(PATIENCE)
             phases["starting" if good is None else "serving"] += 1
             if good is False:
                 wrong.append(at)
