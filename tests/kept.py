@@ -105,6 +105,11 @@ def beginnings(program, checks):
                     "000008 begins as 000007 was to begin", "000007.journal is empty"))
         checks.same("its beginning", read("000008.begin"), torn)
         write("000008.journal", torn)
+        with open(os.path.join(room, "bin/cmp"), "w", encoding="ascii") as script:
+            script.write("#!/bin/sh\nexit 137\n")
+        os.chmod(script.name, 0o755)
+        checks.same("a comparison that is killed decides nothing", keep(), (1, "", "keep: 000008.journal can't be compared with 000008.begin: status 137\n"))
+        os.unlink(script.name)
         checks.same("a journal that is its beginning", (keep(), read("000009.begin")), (ran("000009"), torn))
         checks.same("beginnings that are in the journal are removed", os.path.exists(os.path.join(folder, "000008.begin")), False)
         write("000009.journal", torn + "drop,9.9.9.9,9.9.9.9\nend,2,1\n")
@@ -192,8 +197,8 @@ def heard(taken, rows=""):
     return line
 
 
-def server_of(child):
-    """The process of `routed serve`, None where there is none."""
+def child_of(child):
+    """The first process that it started: the server, or a command of the script; None where there is none."""
     with contextlib.suppress(OSError, IndexError):
         with open(f"/proc/{child.pid}/task/{child.pid}/children", encoding="ascii") as children:
             return int(children.read().split()[0])
@@ -201,14 +206,16 @@ def server_of(child):
 
 
 def kill(child, kind):
-    """By the kind the script or what it has become, all of it, or the server alone; or a signal to end."""
+    """By the kind the script or what it has become, all of it, or what it has started; or a signal to end."""
     with contextlib.suppress(ProcessLookupError):
         if kind == 0:
             child.kill()
         elif kind == 1:
             os.killpg(child.pid, signal.SIGKILL)
         elif kind == 2:
-            os.kill(server_of(child) or child.pid, signal.SIGKILL)
+            os.kill(child_of(child) or child.pid, signal.SIGKILL)
+            time.sleep(SERVING)
+            child.kill()  # a script may go on without one of its commands
         else:
             child.terminate()
 
