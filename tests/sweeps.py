@@ -377,6 +377,8 @@ def wait(until):
             os._exit(9)
         time.sleep(0.01)
 def stop(status, text=""):
+    running.stdin.close()
+    running.wait()  # so that none of its lines comes behind the text
     sys.stderr.write(text)
     sys.stderr.flush()
     os._exit(status)

@@ -113,9 +113,10 @@ class Solve:
                     if not left:
                         waiting.unregister(into)
         lines = b"".join(found).decode(errors="replace").split("\n")
+        said = checked(self.program, heads, lines)
         if len(lines) > len(heads) + 1 or lines[-1]:
             raise Stopped(f"{self.program} wrote a line that nobody asked for: {lines[len(heads)]}")
-        return checked(self.program, heads, lines)
+        return said
 
     def write(self, data):
         """How many bytes are written without waiting; all where the program reads no more, which its output shows."""
