@@ -1,3 +1,5 @@
+//! What the tests of clients share: a publisher with its batches, a ring, and a writer that takes so much.
+
 mod dialogues;
 mod threads;
 

@@ -1,3 +1,5 @@
+//! What is drawn: in turn, and from several threads.
+
 ghost use Rattle.std.specs.Prelude.{◌≡◌, ◌+◌, ◌<◌, ◌≤◌, length, IfOk, vec_len};
 
 use cspf_draw::{Counter, Drawer, FirstSeat, MOST_DRAWERS};

@@ -1,3 +1,5 @@
+//! The calls of `cspf_graph` on small tables, by cases that are worked by hand.
+
 ghost use Rattle.std.specs.Prelude.{◌≡◌, IfOk, length};
 
 use cspf_addr::{Addr, Hop, Hops, Mask, Prefix};

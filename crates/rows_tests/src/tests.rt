@@ -1,3 +1,5 @@
+//! What the tests of rows share: readers in pieces, that repeat a row, and that fail.
+
 mod batches;
 mod cuts;
 mod ends;

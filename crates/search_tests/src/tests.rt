@@ -1,3 +1,5 @@
+//! Answers of both searches on small networks and on drawn ones: ties, reverses, unknown ends and hops.
+
 mod marks;
 mod strict;
 

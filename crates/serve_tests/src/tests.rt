@@ -1,3 +1,5 @@
+//! What the tests of runs share: scripts, readers in pieces, and writers that take so much.
+
 mod batches;
 mod limits;
 mod live_rows;

@@ -1,3 +1,5 @@
+//! What the tests of streams share: who answers the rows, a reader of rows and a writer of lines.
+
 mod dialogues;
 mod faults;
 mod words;

@@ -1,3 +1,5 @@
+//! Lists of hops that are read, refused, and as long as they may be.
+
 use super::assert_text;
 use cspf_addr::{Addr, Hop, Hops, HopsError, MOST_HOPS, Prefix, parse_hops};
 use std::process::Abort;

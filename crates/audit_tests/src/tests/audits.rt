@@ -1,3 +1,5 @@
+//! What an audit finds of lines, and which journals and requests it refuses.
+
 use cspf_audit::{Audit, AuditError, AuditFault, audit};
 use cspf_model::Refusal;
 use cspf_rows::{RequestsError, RowError};

@@ -1,3 +1,5 @@
+//! What a client is answered: requests, other rows, version 0, and replies that are not taken.
+
 use super::{link_batch, served};
 use cspf_client::ClientError;
 use cspf_model::Batch;

@@ -1,3 +1,5 @@
+//! A client in a thread of its own, beside a publisher.
+
 ghost use Rattle.std.specs.Prelude.{◌≡◌};
 ghost use Rattle.cspf_publish.specs.KnownBatches.{AreFirstOf};
 ghost use Rattle.cspf_client.specs.ServingStates.{IsReady};

@@ -1,3 +1,5 @@
+//! Objects that are read, and those that are refused, cut or changed at each byte.
+
 use cspf_addr::parse_hops;
 use cspf_ero::{EroError, FIRST_BYTES, read_ero, read_ero_front};
 use std::test::Fail;

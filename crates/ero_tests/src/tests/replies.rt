@@ -1,3 +1,5 @@
+//! The object of a route, and reply lines.
+
 ghost use Rattle.std.specs.Prelude.{◌≡◌, [], IfOk};
 
 use cspf_addr::{Addr, Hops, Mask};

@@ -1,3 +1,5 @@
+//! Batches that a reader of a journal gives one after the other, and how it ends.
+
 ghost use Rattle.std.specs.Prelude.{◌≡◌, true, OnOk};
 ghost use Rattle.cspf_rows.specs.GivenBatches.{CanRead};
 

@@ -1,3 +1,5 @@
+//! Where reading ends: at a refused row, and at a row too many.
+
 use cspf_rows::{MOST_ROWS, ReadError, RequestsError, RowError, read_journal, read_requests};
 use std::io;
 use std::io::Read;

@@ -1,3 +1,5 @@
+//! Journals: their texts, read in pieces and cut at each byte, counted, and read where reading fails.
+
 use super::{by_bytes, failing, repeated};
 use cspf_addr::{Addr, Mask};
 use cspf_model::{Batch, Change, Link};

@@ -1,3 +1,5 @@
+//! Whole texts that are written in pieces, and what is written before a fault.
+
 use cspf_rows::put_all;
 use std::alloc::Global;
 use std::io;

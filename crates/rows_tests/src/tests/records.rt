@@ -1,3 +1,5 @@
+//! Records of a stream that comes in pieces, and faults of reading.
+
 use super::Pieces;
 use cspf_rows::{RecordError, next_record, open_records};
 use csv::ByteRecord;

@@ -1,3 +1,5 @@
+//! Requests that are read, refused and counted, and readers that fail.
+
 use super::{by_bytes, failing, repeated};
 use cspf_model::Request;
 use cspf_rows::{MOST_ROWS, RequestsError, RowError, read_requests};

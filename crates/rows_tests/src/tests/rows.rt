@@ -1,3 +1,5 @@
+//! What each kind of row says, and why others are refused.
+
 use cspf_addr::Addr;
 use cspf_model::{Link, Request};
 use cspf_rows::{Row, RowError};

@@ -1,3 +1,5 @@
+//! Runs over a journal and requests: their lines, how inputs and lines fail, and the most rows.
+
 ghost use Rattle.std.specs.Prelude.{◌<◌, ◌≤◌};
 ghost use Rattle.cspf_publish.specs.declared.limits.TheConstants.{MOST_ASKERS};
 

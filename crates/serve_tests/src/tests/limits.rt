@@ -1,3 +1,5 @@
+//! The most links, marks, changes and counts of runs, long rows, and the words of refusals.
+
 use super::scripts::is_answered;
 use cspf_model::Refusal;
 use cspf_serve::{BatchRefusal, NoGate, run_batch, run_live_rows};

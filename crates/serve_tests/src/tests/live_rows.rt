@@ -1,3 +1,5 @@
+//! Live runs: their lines and journals, how these fail, and the most rows.
+
 ghost use Rattle.std.specs.Prelude.{◌<◌, ◌≤◌};
 ghost use Rattle.cspf_publish.specs.declared.limits.TheConstants.{MOST_ASKERS};
 

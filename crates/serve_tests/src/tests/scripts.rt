@@ -1,3 +1,5 @@
+//! Runs over a stream of rows: their lines, faults of the device, and the most rows.
+
 use super::{Narrow, Pieces, bytes_of, copies, in_pieces};
 use cspf_serve::{SolveError, Summary, run_solve};
 use std::alloc::Global;

@@ -1,3 +1,5 @@
+//! That each line is out before the next row is read.
+
 use super::{Lines, Refusals, Rows, no_events};
 use cspf_rows::open_records;
 use cspf_stream::answer_rows;

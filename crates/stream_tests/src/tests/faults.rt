@@ -1,3 +1,5 @@
+//! What stands where a read, a row, a write or a flush fails.
+
 use super::{Lines, Refusals, Rows, no_events};
 use cspf_rows::open_records;
 use cspf_stream::{StreamError, answer_rows};

@@ -1,3 +1,5 @@
+//! What workers tell their gate, and how many of them work at once.
+
 ghost use Rattle.std.specs.Prelude.{◌<◌, ◌≤◌};
 ghost use Rattle.cspf_publish.specs.declared.limits.TheConstants.{MOST_ASKERS};
 

@@ -1,3 +1,5 @@
+//! In which order workers reach a request, ask and answer, and that any number of them answers all.
+
 ghost use Rattle.std.specs.Prelude.{◌<◌, ◌≤◌};
 ghost use Rattle.cspf_publish.specs.declared.limits.TheConstants.{MOST_ASKERS};
 
