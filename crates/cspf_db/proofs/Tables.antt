@@ -23,3 +23,4 @@ pub mod RemainingRouters
 pub mod RemovalsFirst
 pub mod MarkChanges
 pub mod TransitColumn
+pub mod Plans

@@ -1,4 +1,6 @@
 -- What the contracts of the table cite beside the definitions of `cspf_model`.
 pub mod Index
 pub mod Owners
+pub mod Plans
+pub mod Replays
 pub mod Tables

@@ -16,4 +16,4 @@ pub use cspf_model::{
 };
 pub use limits::NO_LINK;
 pub use replay::{UnfitBatch, replay_into};
-pub use table::Table;
+pub use table::{Plan, Table};

@@ -1,7 +1,8 @@
 //! Batches absorbed one after the other, as journals are replayed.
-ghost use Rattle.std.specs.Prelude.{◌≡◌, IfErr, OnOk};
+ghost use Rattle.std.specs.Prelude.{◌≡◌, IfErr, OnOk, OnErr};
 ghost use Rattle.cspf_model.specs.Changes.{AreLawful, database_after, no_links};
 ghost use Rattle.cspf_model.specs.Refusals.{IsFirstUnfit};
+ghost use Rattle.cspf_db.specs.Replays.{IsStoppedReplay};
 
 use crate::Table;
 use cspf_model::{Batch, Refusal, absorbing, lawful_batches};
@@ -23,6 +24,7 @@ pub fn replay_into(table: &mut Table, batches: &[Batch]) -> Result<(), UnfitBatc
     ensures lawful { OnOk result (AreLawful batches.now) }
     ensures database { OnOk result (table.new ≡ database_after batches.now) }
     ensures err { IfErr result (λ unfit. IsFirstUnfit batches.now unfit.number unfit.refusal) }
+    ensures stopped { OnErr result (IsStoppedReplay batches.now table.new) }
 {
     // Laws: one more batch makes its changes, and keeps the batches lawful where it fits.
     absorbing();

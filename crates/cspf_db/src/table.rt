@@ -10,43 +10,39 @@ ghost use Rattle.cspf_db.specs.Index.{links_of, router_list, links_from, links_f
 ghost use Rattle.cspf_model.specs.Changes.{no_links, after_changes, Fits};
 ghost use Rattle.cspf_model.specs.Refusals.{IsRefusal};
 ghost use Rattle.cspf_db.specs.Owners.{AreOwners};
+ghost use Rattle.cspf_db.specs.Plans.{IsPlanOf};
 ghost use Rattle.cspf_model.specs.Targets.{Owns};
 ghost use Rattle.cspf_db.specs.Tables.AddressRanges.{IsRangeOf};
 ghost use Rattle.cspf_model.specs.declared.limits.TheConstants.{MOST_LINKS, MOST_MARKS};
 
 mod address_range;
-mod check;
+mod changes;
+mod columns;
+mod fit;
 mod insertion;
-mod leaving;
 mod marks;
 mod merging;
 mod overwriting;
-mod places;
-mod reverses;
-mod router_list;
-mod router_rows;
-mod routers;
+mod plan;
 mod row_changes;
 mod scratch;
-mod table_rows;
-mod tally;
-mod transits;
 
 use crate::limits::{NO_LINK, ROOM_FOR_LINKS, ROOM_FOR_MARKS, ROOM_FOR_ROUTERS};
 use address_range::{AddressRange, range_of};
+use columns::reverses::{list_reverses, reverse_index};
+use columns::routers::search;
+use columns::rows::{any_within, index_of, rows_from};
+use columns::spans::{Span, list_spans};
+use columns::transits::list_transits;
 use cspf_addr::{Addr, Prefix};
 use cspf_model::{Batch, Link, MOST_ROUTERS, Refusal};
 use marks::{change_marks, is_marked};
 use overwriting::write_over;
-use reverses::{list_reverses, reverse_index};
-use router_list::search;
-use router_rows::{Span, list_spans};
+pub use plan::Plan;
 use row_changes::change_table;
 use scratch::Scratch;
 use std::alloc::{AllocError, Global};
 use std::marker::Model;
-use table_rows::{any_within, index_of, rows_from};
-use transits::list_transits;
 
 /// A traffic engineering database of at most 16,384 links, 1,024 routers and 1,024 marks of routers
 /// without transit. No call but `new` and `owners` can fail for memory.
@@ -278,9 +274,22 @@ impl Table {
         ensures err { IfErr result (λ refusal. IsRefusal self.now batch.now refusal) }
         ensures unfit { OnErr result (¬ Fits self.now batch.now) }
     {
-        match check::fits(&self.rows, &self.routers, &self.ends, &self.marks, batch) {
+        match self.plan(batch) {
             Ok(_) => Ok(()),
             Err(refusal) => Err(refusal),
+        }
+    }
+
+    /// What a batch that fits does to the table, by which `absorb_planned` absorbs it, and else the
+    /// first reason why it doesn't fit. The batch's number isn't looked at.
+    pub fn plan(&self, batch: &Batch) -> Result<Plan, Refusal>
+        ensures ok { IfOk result (IsPlanOf self.now batch.now) }
+        ensures err { IfErr result (λ refusal. IsRefusal self.now batch.now refusal) }
+        ensures unfit { OnErr result (¬ Fits self.now batch.now) }
+    {
+        match fit::fits(&self.rows, &self.routers, &self.ends, &self.marks, batch) {
+            Ok(tally) => Ok(Plan { tally }),
+            Err(why) => Err(why),
         }
     }
 
@@ -302,10 +311,24 @@ impl Table {
         ensures unfit { OnErr result (¬ Fits self.old batch.now) }
         ensures same { OnErr result (self.new ≡ self.old) }
     {
-        let tally = check::fits(&self.rows, &self.routers, &self.ends, &self.marks, batch)?;
-        if tally.alike {
+        match self.plan(batch) {
+            Ok(plan) => {
+                self.absorb_planned(batch, plan);
+                Ok(())
+            }
+            Err(why) => Err(why),
+        }
+    }
+
+    /// Makes all changes of a batch that fits, by the plan that `plan` answered for this batch and this
+    /// database. It doesn't look again whether the batch fits, and takes no memory.
+    pub fn absorb_planned(&mut self, batch: &Batch, plan: Plan)
+        requires { IsPlanOf self.old batch.now plan }
+        ensures { self.new ≡ after_changes self.old batch.now.changes }
+    {
+        if plan.tally.alike {
             write_over(&mut self.rows, &batch.changes);
-            return Ok(());
+            return;
         }
         let follows = change_table(
             &mut self.rows,
@@ -314,7 +337,7 @@ impl Table {
             &mut self.reverses,
             &mut self.scratch,
             &batch.changes,
-            tally,
+            plan.tally,
         );
         change_marks(&mut self.marks, &batch.changes);
         list_spans(&mut self.spans, &self.routers, &self.rows);
@@ -322,6 +345,5 @@ impl Table {
         if !follows {
             list_reverses(&mut self.reverses, &self.rows, &self.ends, &self.spans);
         }
-        Ok(())
     }
 }

@@ -8,7 +8,7 @@ use Rattle.std.proofs.lemmas.List.{length-append, length-map, drop-map, get_or-m
 use Rattle.std.proofs.lemmas.List.Edits.{split_between, length-between, get_or-between}
 use Rattle.std.proofs.lemmas.List.Elements.{All-head, All-tail, Contains-get_or, filter-append, filter_passes}
 use Rattle.cspf_model.specs.declared.link.Link.{Link}
-use Rattle.cspf_db.specs.declared.table.router_rows.Span.{Span}
+use Rattle.cspf_db.specs.declared.table.columns.spans.Span.{Span}
 use Rattle.cspf_model.specs.declared.batch.Change.{Change}
 use Rattle.cspf_model.specs.declared.batch.Change.TheVariants.{Put, Remove, Node}
 use Rattle.cspf_model.specs.Database.{Key, key_of, IsReverse}

@@ -5,7 +5,7 @@ use Rattle.std.proofs.lemmas.Bool.{cases_lt, eqb-true, eqb-false, eq-eqb}
 use Rattle.std.proofs.lemmas.List.{get_or_append_left, get_or_at, get_or_default, get_or-map}
 use Rattle.std.proofs.lemmas.List.Edits.{length-between, get_or-between}
 use Rattle.cspf_model.specs.declared.link.Link.{Link}
-use Rattle.cspf_db.specs.declared.table.router_rows.Span.{Span}
+use Rattle.cspf_db.specs.declared.table.columns.spans.Span.{Span}
 use Rattle.cspf_db.specs.declared.limits.TheConstants.{NO_LINK}
 use Rattle.cspf_model.specs.Database.{Database, Key, key_of, IsLinkOf, IsReverse, HasReverse}
 use Rattle.cspf_db.specs.Index.{links_of, links_from_index, router_list, IsReverseAt}

@@ -15,7 +15,7 @@ use Rattle.std.proofs.lemmas.List.Elements.{Contains-get_or}
 use Rattle.std.proofs.lemmas.Map.Views.{list_any-from_Contains, Contains-from_any}
 use Rattle.std.proofs.lemmas.Bool.Decides.{nat_tests}
 use Rattle.cspf_model.specs.declared.link.Link.{Link}
-use Rattle.cspf_db.specs.declared.table.router_rows.Span.{Span}
+use Rattle.cspf_db.specs.declared.table.columns.spans.Span.{Span}
 use Rattle.cspf_model.specs.Lemmas.CountedEnds.{AnyEndsAt}
 use Rattle.cspf_model.specs.Database.{Database, IsRouterOf, EndsAt, AreAtTheirKeys, ends_of, all_routers, router_count}
 use Rattle.cspf_db.specs.Index.{with_nothing, numbers_in, links_of, router_list, links_from_index}

@@ -3,8 +3,8 @@ use Rattle.std.specs.Prelude.{◌≡◌, ◌≤◌, take, length}
 use Rattle.std.specs.Ordering.{nat_cmp, eq_by_cmp}
 use Rattle.std.specs.List.{IsDistinct}
 use Rattle.std.specs.FinSet.{FinSet, from_list}
-use Rattle.cspf_db.specs.declared.table.routers.TheConstants.{SLOTS}
-use Rattle.cspf_db.specs.declared.table.routers.Routers.TheInside.{Inside}
+use Rattle.cspf_db.specs.declared.table.fit.router_set.TheConstants.{SLOTS}
+use Rattle.cspf_db.specs.declared.table.fit.router_set.Routers.TheInside.{Inside}
 use Rattle.cspf_model.specs.declared.limits.TheConstants.{MOST_ROUTERS}
 
 -- the set of those found so far

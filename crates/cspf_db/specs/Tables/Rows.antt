@@ -7,7 +7,7 @@ use Rattle.std.specs.FinMap.{from_entries, is_sorted}
 use Rattle.std.specs.FinSet as set
 use Rattle.cspf_model.specs.declared.link.Link.{Link}
 use Rattle.cspf_db.specs.declared.table.Table.TheInside.{Inside}
-use Rattle.cspf_db.specs.declared.table.router_rows.Span.{Span}
+use Rattle.cspf_db.specs.declared.table.columns.spans.Span.{Span}
 use Rattle.cspf_model.specs.Database.{Database, Key, key_of, key_cmp, router_count}
 use Rattle.cspf_model.specs.Lemmas.LinkRows.{AreByKey, database_of, marks_in, marked_database}
 use Rattle.cspf_db.specs.Index.{with_nothing, router_list}

@@ -10,8 +10,8 @@ ghost use Rattle.cspf_db.specs.Tables.Rows.{AreRising};
 ghost use Rattle.cspf_model.specs.declared.limits.TheConstants.{MOST_CHANGES, MOST_MARKS};
 ghost use Rattle.cspf_db.specs.declared.limits.TheConstants.{ROOM_FOR_MARKS};
 
+use crate::table::columns::routers::search;
 use crate::table::insertion::insert_within;
-use crate::table::router_list::search;
 use cspf_addr::Addr;
 use cspf_model::{Change, MOST_MARKS};
 

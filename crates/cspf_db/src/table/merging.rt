@@ -18,9 +18,9 @@ ghost use Rattle.cspf_db.specs.Tables.Rows.{AreRising, AreEndsOf};
 ghost use Rattle.cspf_model.specs.declared.limits.TheConstants.{MOST_LINKS};
 ghost use Rattle.cspf_db.specs.declared.limits.TheConstants.{ROOM_FOR_LINKS, ROOM_FOR_ROUTERS};
 
+use crate::table::columns::routers::index_among;
+use crate::table::columns::rows::compare;
 use crate::table::insertion::extend_within;
-use crate::table::router_list::index_among;
-use crate::table::table_rows::compare;
 use cspf_addr::Addr;
 use cspf_model::{Change, Link, MOST_CHANGES};
 use std::cmp::Ordering;

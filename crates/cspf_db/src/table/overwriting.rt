@@ -6,7 +6,7 @@ ghost use Rattle.cspf_db.specs.Tables.AlikeChanges.{IsAlike, RunAlike};
 ghost use Rattle.cspf_model.specs.Lemmas.LinkChanges.{relinked, all_relinked};
 ghost use Rattle.cspf_model.specs.Lemmas.LinkRows.{database_of, AreByKey};
 
-use crate::table::table_rows::index_of;
+use crate::table::columns::rows::index_of;
 use cspf_model::{Change, Link};
 
 /// Writes the link that the change puts over the row that runs between the same interfaces.

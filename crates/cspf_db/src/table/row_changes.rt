@@ -1,7 +1,6 @@
 //! Changes of rows, with the columns of ends and of reverses changed as each row changes.
-ghost use Rattle.std.specs.Prelude.{count_by, ◌≡◌, ℕ, ◌+◌, ◌<◌, ◌≤◌, true, All, filter, length, slice_set, vec_len, IfOk, IfErr, IfSome, IfNone};
+ghost use Rattle.std.specs.Prelude.{count_by, ◌≡◌, ◌+◌, ◌<◌, ◌≤◌, true, All, filter, length};
 ghost use Rattle.std.specs.Vec.{vec_capacity};
-ghost use Rattle.std.specs.List.{insert, remove as without};
 ghost use Rattle.cspf_model.specs.Lemmas.LinkChanges.{relinked, all_relinked};
 ghost use Rattle.cspf_model.specs.Lemmas.CountedEnds.{HasListedEnds};
 ghost use Rattle.cspf_model.specs.Database.{link_count, router_count};
@@ -12,45 +11,17 @@ ghost use Rattle.cspf_db.specs.Tables.Rows.{AreRowParts, AreRowsWithEnds};
 ghost use Rattle.cspf_db.specs.Tables.Reverses.{AreReversesOf};
 ghost use Rattle.cspf_db.specs.Tables.RowChanges.{AreChangesFor};
 ghost use Rattle.cspf_model.specs.declared.limits.TheConstants.{MOST_CHANGES, MOST_LINKS, MOST_ROUTERS};
-ghost use Rattle.cspf_db.specs.declared.limits.TheConstants.{ROOM_FOR_LINKS, ROOM_FOR_ROUTERS};
+ghost use Rattle.cspf_db.specs.declared.limits.TheConstants.{ROOM_FOR_LINKS};
 
-use crate::table::check::{count_removed, is_removal};
-use crate::table::insertion::insert_within;
-use crate::table::reverses::{pair, put_reverse, remove_reverse, unpair};
-use crate::table::router_list::index_among;
+use crate::table::changes::{count_removed, is_removal};
+use crate::table::columns::ends::{put_end, remove_end};
+use crate::table::columns::reverses::{pair, put_reverse, remove_reverse, unpair};
+use crate::table::columns::routers::index_among;
+use crate::table::columns::rows::{index_alike, put, remove};
+use crate::table::fit::tally::Tally;
 use crate::table::scratch::Scratch;
-use crate::table::table_rows::{index_alike, put, remove};
-use crate::table::tally::Tally;
 use cspf_addr::Addr;
 use cspf_model::{Change, Link};
-
-/// Puts the end of the row that was put over another, or between others. There is room, so
-/// this takes no memory and can't fail.
-fn put_end(ends: &mut Vec<u16>, place: Result<usize, usize>, end: u16)
-    requires within { IfOk place (λ at. at < length ends.old.items) }
-    requires upto { IfErr place (λ at. at ≤ length ends.old.items) }
-    requires room { vec_len ends.old < vec_capacity ends.old }
-    ensures over { IfOk place (λ at. ends.new.items ≡ slice_set ends.old.items at end) }
-    ensures between { IfErr place (λ at. ends.new.items ≡ insert ends.old.items at end) }
-    ensures capacity { vec_capacity ends.old ≤ vec_capacity ends.new }
-{
-    match place {
-        Ok(at) => ends[at] = end,
-        Err(at) => insert_within(ends, at, end),
-    }
-}
-
-/// Takes out the end of the row that was taken out, if one was.
-fn remove_end(ends: &mut Vec<u16>, place: Option<usize>)
-    requires { IfSome place (λ at. at < length ends.old.items) }
-    ensures out { IfSome place (λ at. ends.new.items ≡ without ends.old.items at) }
-    ensures same { IfNone place (ends.new.items ≡ ends.old.items) }
-    ensures capacity { vec_capacity ends.old ≤ vec_capacity ends.new }
-{
-    if let Some(at) = place {
-        let _ = ends.remove(at);
-    }
-}
 
 /// Makes one change. The rows are never more than a table may have.
 fn change_one(

@@ -6,9 +6,10 @@ ghost use Rattle.cspf_model.specs.declared.limits.TheConstants.{MOST_CHANGES, MO
 ghost use Rattle.cspf_db.specs.declared.limits.TheConstants.{ROOM_FOR_LINKS, ROOM_FOR_ROUTERS};
 
 use crate::limits::{ROOM_FOR_LINKS, ROOM_FOR_ROUTERS};
+use crate::table::columns::ends::move_ends;
+use crate::table::columns::renumbering::{keep_ends, list_places};
+use crate::table::columns::routers::add_ends;
 use crate::table::merging::{merge, sort_changes};
-use crate::table::places::{keep_ends, list_places, move_ends};
-use crate::table::router_list::add_ends;
 use cspf_addr::Addr;
 use cspf_model::{Change, Link, MOST_CHANGES};
 use std::alloc::{AllocError, Global};

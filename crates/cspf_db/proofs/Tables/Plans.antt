@@ -1,0 +1,50 @@
+-- A plan of rows and marks, from what a look at the rows finds, and what it says of the rows.
+use Rattle.std.proofs.Common.{◌≡◌, ℕ, true, List, All, refl, sym, ap, subst, ◌∙◌}
+use Rattle.std.specs.List.{count_by}
+use Rattle.cspf_model.specs.declared.link.Link.{Link}
+use Rattle.cspf_model.specs.declared.batch.Change.{Change}
+use Rattle.cspf_model.specs.declared.batch.Change.TheVariants.{Put, Remove, Node}
+use Rattle.cspf_model.specs.Numbered.{NumberedChanges}
+use Rattle.cspf_model.specs.Changes.{Fits}
+use Rattle.cspf_model.specs.Lemmas.CountedEnds.{HasListedEnds}
+use Rattle.cspf_model.specs.Lemmas.RowsLeft.{adds_link}
+use Rattle.cspf_model.specs.Lemmas.LinkRows.{database_of, marked_database, AreByKey}
+use Rattle.cspf_db.specs.declared.table.plan.Plan.{Plan}
+use Rattle.cspf_db.specs.Index.{links_of, router_list}
+use Rattle.cspf_db.specs.Plans.{IsPlanOf}
+use Rattle.cspf_db.specs.Tables.AlikeChanges.{IsAlike}
+use Rattle.cspf_db.proofs.Tables.RouterLists.{routers_marked}
+use Rattle.cspf_db.proofs.Tables.RowOrder.{links_of-database_of}
+
+module _ (rows : List Link) (marks : List ℕ) where
+  -- marks are no links
+  adds_marked : (c : Change) → adds_link (database_of rows) c ≡ adds_link (marked_database rows marks) c
+  adds_marked (Put l) = refl
+  adds_marked (Remove from local) = refl
+  adds_marked (Node router transit) = refl
+
+  -- so as many are added
+  added_marked : (cs : List Change) → count_by (adds_link (database_of rows)) cs ≡ count_by (adds_link (marked_database rows marks)) cs
+  added_marked cs = λ i. count_by (λ c. adds_marked c i) cs
+
+  module _ (by_key : AreByKey rows) (routers : List ℕ) (all : routers ≡ router_list (database_of rows)) (b : NumberedChanges) (plan : Plan) where
+    pub plan_of_rows : Fits (marked_database rows marks) b
+        → plan.tally.added ≡ count_by (adds_link (database_of rows)) b.changes
+        → (plan.tally.brought ≡ 0 → All (HasListedEnds routers) b.changes)
+        → (plan.tally.alike ≡ true → All (IsAlike rows) b.changes)
+        → IsPlanOf (marked_database rows marks) b plan
+    plan_of_rows fits added listed alike = record {
+      fits = fits;
+      added = added ∙ added_marked b.changes;
+      listed = λ none. subst (λ rs. All (HasListedEnds rs) b.changes) (all ∙ routers_marked rows marks) (listed none);
+      alike = λ on. subst (λ ls. All (IsAlike ls) b.changes) (sym (links_of-database_of rows by_key)) (alike on);
+    }
+
+    pub rows_added : IsPlanOf (marked_database rows marks) b plan → plan.tally.added ≡ count_by (adds_link (database_of rows)) b.changes
+    rows_added is = is.added ∙ sym (added_marked b.changes)
+
+    pub rows_listed : IsPlanOf (marked_database rows marks) b plan → plan.tally.brought ≡ 0 → All (HasListedEnds routers) b.changes
+    rows_listed is none = subst (λ rs. All (HasListedEnds rs) b.changes) (sym (all ∙ routers_marked rows marks)) (is.listed none)
+
+    pub rows_alike : IsPlanOf (marked_database rows marks) b plan → plan.tally.alike ≡ true → All (IsAlike rows) b.changes
+    rows_alike is on = subst (λ ls. All (IsAlike ls) b.changes) (links_of-database_of rows by_key) (is.alike on)

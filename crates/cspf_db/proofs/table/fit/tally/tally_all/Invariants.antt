@@ -1,0 +1,19 @@
+use Rattle.std.proofs.Common.{◌≡◌, true, ◌≤◌, ◌*◌, take, count_by}
+use Rattle.std.specs.List.{AllWithin}
+use Rattle.cspf_model.specs.Changes.{IsPresent}
+use Rattle.cspf_db.specs.Tables.AlikeChanges.{IsAlike}
+use Rattle.cspf_model.specs.Lemmas.CountedEnds.{HasListedEnds, BringsAtMost}
+use Rattle.cspf_model.specs.Lemmas.LinkRows.{database_of}
+use Rattle.cspf_model.specs.Lemmas.RowsLeft.{adds_link}
+use Rattle.cspf_db.proofs.table.fit.tally.tally_all.Given as goal
+
+abbrev pub invariant-loop-at : goal.invariant-loop-at
+invariant-loop-at l = record {
+  present : AllWithin (IsPresent (database_of l.rows)) l.changes 0 l.at;
+  added : l.added ≡ count_by (adds_link (database_of l.rows)) (take l.at l.changes);
+  few_added : l.added ≤ l.at;
+  few : l.brought ≤ 2 * l.at;
+  most : BringsAtMost l.routers (take l.at l.changes) l.brought;
+  alike : l.alike ≡ true → AllWithin (IsAlike l.rows) l.changes 0 l.at;
+  listed : l.brought ≡ 0 → AllWithin (HasListedEnds l.routers) l.changes 0 l.at;
+}

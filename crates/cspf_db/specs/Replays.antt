@@ -1,0 +1,15 @@
+-- Where a replay stops that doesn't absorb all batches.
+use Rattle.std.specs.Prelude.{◌≡◌, List, ◌∷◌, ◌++◌}
+use Rattle.cspf_model.specs.Numbered.{NumberedChanges}
+use Rattle.cspf_model.specs.Database.{Database}
+use Rattle.cspf_model.specs.Changes.{AreLawful, Fits, database_after}
+
+-- the database of the batches before the first that doesn't fit the database of those before it
+pub record IsStoppedReplay (batches : List NumberedChanges) (d : Database) : Type 0 where
+  pub before : List NumberedChanges
+  pub batch : NumberedChanges
+  pub after : List NumberedChanges
+  pub split : batches ≡ before ++ (batch ∷ after)
+  pub lawful : AreLawful before
+  pub unfit : ¬ Fits (database_after before) batch
+  pub database : d ≡ database_after before

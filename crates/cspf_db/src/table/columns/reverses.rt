@@ -1,0 +1,185 @@
+//! The column of the indices at which the reverses of the rows are, and how it follows the rows.
+ghost use Rattle.std.specs.Prelude.{◌≡◌, ◌<◌, ◌≤◌, length, map, slice_index_or, vec_len, IfOk, IfErr, IfSome, IfNone};
+ghost use Rattle.std.specs.Vec.{vec_capacity};
+ghost use Rattle.std.specs.List.{HoldsAt, insert, remove as without};
+ghost use Rattle.cspf_model.specs.declared.link.Link.{Link as Linked};
+ghost use Rattle.cspf_model.specs.Database.{key_of};
+ghost use Rattle.cspf_model.specs.declared.limits.TheConstants.{MOST_LINKS};
+ghost use Rattle.cspf_db.specs.declared.limits.TheConstants.{NO_LINK, ROOM_FOR_LINKS};
+ghost use Rattle.cspf_model.specs.Lemmas.LinkRows.{AreByKey};
+ghost use Rattle.cspf_db.specs.Tables.Rows.{AreSpansAtEnds, IsSpanOf};
+ghost use Rattle.cspf_db.specs.Tables.Reverses.{AreReversesBut, AreReversesOf, IsIndexOfReverse, index_before, index_behind, no_key, same_key};
+
+use crate::limits::NO_LINK;
+use crate::table::columns::rows::index_of;
+use crate::table::columns::spans::Span;
+use crate::table::insertion::insert_within;
+use cspf_addr::Addr;
+use cspf_model::Link;
+
+/// The index, if the row there is the reverse of the link, which has the key of its reverse.
+fn index_back(rows: &[Link], at: usize, link: &Link) -> u16
+    requires by_key { AreByKey rows.now }
+    requires most { length rows.now ≤ MOST_LINKS }
+    requires within { at < length rows.now }
+    requires key { HoldsAt (λ l. key_of l ≡ (link.now.to, link.now.remote)) rows.now at }
+    ensures { IsIndexOfReverse no_key rows.now link.now result }
+{
+    let other = &rows[at];
+    if other.to != link.from || other.remote != link.local {
+        return NO_LINK;
+    }
+    at as u16
+}
+
+/// The index of the row that is the reverse of the link, if there is one.
+pub(crate) fn reverse_index(rows: &[Link], link: &Link) -> u16
+    requires by_key { AreByKey rows.now }
+    requires most { length rows.now ≤ MOST_LINKS }
+    ensures { IsIndexOfReverse no_key rows.now link.now result }
+{
+    let Some(at) = index_of(rows, link.to, link.remote) else {
+        return NO_LINK;
+    };
+    index_back(rows, at, link)
+}
+
+/// The same, where it is known where the rows begin and end that are from the router that the link
+/// runs to.
+fn reverse_within(rows: &[Link], span: &Span, link: &Link) -> u16
+    requires by_key { AreByKey rows.now }
+    requires most { length rows.now ≤ MOST_LINKS }
+    requires span { IsSpanOf rows.now link.now.to span.now }
+    ensures { IsIndexOfReverse no_key rows.now link.now result }
+{
+    let (first, end) = (usize::from(span.first), usize::from(span.end));
+    let Some(at) = index_of(&rows[first..end], link.to, link.remote) else {
+        return NO_LINK;
+    };
+    index_back(rows, first + at, link)
+}
+
+/// Lists where the reverse of each row is.
+pub(crate) fn list_reverses(reverses: &mut Vec<u16>, rows: &[Link], ends: &[u16], spans: &[Span])
+    requires by_key { AreByKey rows.now }
+    requires most { length rows.now ≤ MOST_LINKS }
+    requires ends { length ends.now ≡ length rows.now }
+    requires spans { AreSpansAtEnds rows.now ends.now spans.now }
+    requires room { ROOM_FOR_LINKS ≤ vec_capacity reverses.old }
+    ensures { AreReversesOf rows.now reverses.new }
+{
+    reverses.clear();
+    for (at, link) in rows.iter().enumerate() {
+        let span = &spans[usize::from(ends[at])];
+        reverses.push_reserved(reverse_within(rows, span, link));
+    }
+}
+
+/// Parts the row with this key, if there is one, from its reverse.
+pub(crate) fn unpair(reverses: &mut [u16], rows: &[Link], from: Addr, local: Addr)
+    requires by_key { AreByKey rows.now }
+    requires most { length rows.now ≤ MOST_LINKS }
+    requires before { AreReversesBut no_key rows.now reverses.old }
+    ensures after { AreReversesBut (same_key (from, local)) rows.now reverses.new }
+{
+    let Some(at) = index_of(rows, from, local) else {
+        return;
+    };
+    let other = reverses[at];
+    if other == NO_LINK {
+        return;
+    }
+    reverses[usize::from(other)] = NO_LINK;
+    reverses[at] = NO_LINK;
+}
+
+/// Pairs the row at an index with its reverse, if there is one.
+pub(crate) fn pair(reverses: &mut [u16], rows: &[Link], at: usize)
+    requires by_key { AreByKey rows.now }
+    requires most { length rows.now ≤ MOST_LINKS }
+    requires within { at < length rows.now }
+    requires before { (d : Linked) → AreReversesBut (same_key (key_of (slice_index_or rows.now at d))) rows.now reverses.old }
+    ensures after { AreReversesBut no_key rows.now reverses.new }
+{
+    let other = reverse_index(rows, &rows[at]);
+    if other == NO_LINK {
+        return;
+    }
+    reverses[usize::from(other)] = at as u16;
+    reverses[at] = other;
+}
+
+/// Where the row at an index is once another was put before the rows from one on.
+fn behind(reverse: u16, at: usize) -> u16
+    ensures { result ≡ index_behind at reverse }
+{
+    if reverse != NO_LINK && at <= usize::from(reverse) {
+        reverse + 1
+    } else {
+        reverse
+    }
+}
+
+/// Where the row at an index is once the one before the rows from one on was taken out.
+fn before(reverse: u16, at: usize) -> u16
+    ensures { result ≡ index_before at reverse }
+{
+    if reverse != NO_LINK && at <= usize::from(reverse) && reverse > 0 {
+        reverse - 1
+    } else {
+        reverse
+    }
+}
+
+/// Moves the indices of the rows from one on, since a row is put before them.
+fn move_behind(reverses: &mut [u16], at: usize)
+    ensures { reverses.new ≡ map (index_behind at) reverses.old }
+{
+    for reverse in reverses.iter_mut() {
+        *reverse = behind(*reverse, at);
+    }
+}
+
+/// Moves the indices of the rows from one on back, since the row before them is taken out.
+fn move_before(reverses: &mut [u16], at: usize)
+    ensures { reverses.new ≡ map (index_before at) reverses.old }
+{
+    for reverse in reverses.iter_mut() {
+        *reverse = before(*reverse, at);
+    }
+}
+
+/// Puts no reverse for the row that was put between others, and says at which index the row that was
+/// put is. There is room, so this takes no memory and can't fail.
+pub(crate) fn put_reverse(reverses: &mut Vec<u16>, place: Result<usize, usize>) -> usize
+    requires few { vec_len reverses.old ≤ MOST_LINKS }
+    requires upto { IfErr place (λ at. at ≤ length reverses.old.items) }
+    requires room { vec_len reverses.old < vec_capacity reverses.old }
+    ensures over { IfOk place (λ at. (result ≡ at) × (reverses.new.items ≡ reverses.old.items)) }
+    ensures between { IfErr place (λ at. (result ≡ at)
+        × (reverses.new.items ≡ insert (map (index_behind at) reverses.old.items) at NO_LINK)) }
+    ensures capacity { vec_capacity reverses.old ≤ vec_capacity reverses.new }
+{
+    match place {
+        Ok(at) => at,
+        Err(at) => {
+            move_behind(reverses, at);
+            insert_within(reverses, at, NO_LINK);
+            at
+        }
+    }
+}
+
+/// Takes out the reverse of the row that was taken out, if one was.
+pub(crate) fn remove_reverse(reverses: &mut Vec<u16>, place: Option<usize>)
+    requires { IfSome place (λ at. at < length reverses.old.items) }
+    ensures out { IfSome place (λ at. reverses.new.items
+        ≡ map (index_before at) (without reverses.old.items at)) }
+    ensures same { IfNone place (reverses.new.items ≡ reverses.old.items) }
+    ensures capacity { vec_capacity reverses.old ≤ vec_capacity reverses.new }
+{
+    if let Some(at) = place {
+        let _ = reverses.remove(at);
+        move_before(reverses, at);
+    }
+}

@@ -1,0 +1,109 @@
+//! Whether a router goes with the changes of a batch, as one does at which no link ends any more.
+ghost use Rattle.std.specs.Prelude.{◌≡◌, ℕ, ◌<◌, ◌&&◌, true, false, filter, length, nat_eq, slice_index, slice_index_or};
+ghost use Rattle.std.specs.List.{list_any};
+ghost use Rattle.cspf_model.specs.declared.link.Link.{Link as Linked};
+ghost use Rattle.cspf_db.specs.Index.{router_list};
+ghost use Rattle.cspf_model.specs.Lemmas.GoneRouters.{HasGone, IsGone};
+ghost use Rattle.cspf_model.specs.Lemmas.LinkRows.{database_of, AreByKey};
+ghost use Rattle.cspf_db.specs.Tables.Rows.{AreEndsOf};
+ghost use Rattle.cspf_model.specs.Lemmas.RowsLeft.{is_untouched};
+
+use crate::table::changes::{any_puts_at, is_untouched};
+use crate::table::columns::routers::search;
+use crate::table::columns::rows::{index_of, span};
+use cspf_addr::Addr;
+use cspf_model::{Change, Link};
+
+/// Whether the changes leave one of the rows alone.
+fn any_untouched(rows: &[Link], changes: &[Change]) -> bool
+    ensures { result ≡ list_any (is_untouched changes.now) rows.now }
+{
+    rows.iter().any(|row| is_untouched(row, changes))
+}
+
+/// Whether the changes leave a row from the router alone.
+fn any_left_from(rows: &[Link], changes: &[Change], router: Addr) -> bool
+    requires { AreByKey rows.now }
+    ensures { result
+        ≡ list_any (is_untouched changes.now) (filter (λ l. nat_eq l.from router) rows.now) }
+{
+    let (first, end) = span(rows, router);
+    any_untouched(&rows[first..end], changes)
+}
+
+/// Whether the changes leave the row alone, and it runs to the router at an index, where it is known
+/// at which the router is that it runs to.
+fn is_left_to(row: &Link, end: u16, changes: &[Change], place: usize) -> bool
+    ensures { result ≡ (nat_eq end place && is_untouched changes.now row.now) }
+{
+    usize::from(end) == place && is_untouched(row, changes)
+}
+
+/// Whether the changes leave a row alone that runs to the router at an index.
+fn any_left_to(rows: &[Link], ends: &[u16], changes: &[Change], place: usize) -> bool
+    requires { length ends.now ≡ length rows.now }
+    ensures { result ≡ false → (at : ℕ) (d : Linked) → at < length rows.now
+        → (nat_eq (slice_index ends.now at) place
+        && is_untouched changes.now (slice_index_or rows.now at d)) ≡ false }
+{
+    for (at, row) in rows.iter().enumerate() {
+        if is_left_to(row, ends[at], changes, place) {
+            return true;
+        }
+    }
+    false
+}
+
+/// Whether no link ends after the changes at the router at an index.
+fn is_gone(rows: &[Link], routers: &[Addr], ends: &[u16], changes: &[Change], place: usize) -> bool
+    requires by_key { AreByKey rows.now }
+    requires all { routers.now ≡ router_list (database_of rows.now) }
+    requires ends { AreEndsOf rows.now routers.now ends.now }
+    requires within { place < length routers.now }
+    ensures { result ≡ true → IsGone rows.now changes.now (slice_index routers.now place) }
+{
+    let router = routers[place];
+    if any_puts_at(changes, router) || any_left_from(rows, changes, router) {
+        return false;
+    }
+    !any_left_to(rows, ends, changes, place)
+}
+
+/// Whether a router goes from which or to which the row ran that the change is on, if there is one.
+fn takes_one(
+    rows: &[Link],
+    routers: &[Addr],
+    ends: &[u16],
+    changes: &[Change],
+    change: &Change,
+) -> bool
+    requires by_key { AreByKey rows.now }
+    requires all { routers.now ≡ router_list (database_of rows.now) }
+    requires ends { AreEndsOf rows.now routers.now ends.now }
+    ensures { result ≡ true → HasGone rows.now routers.now changes.now }
+{
+    let (from, Some(local)) = change.key() else {
+        return false;
+    };
+    let (Some(at), Ok(place)) = (index_of(rows, from, local), search(routers, from)) else {
+        return false;
+    };
+    is_gone(rows, routers, ends, changes, place)
+        || is_gone(rows, routers, ends, changes, usize::from(ends[at]))
+}
+
+/// Whether a router goes with the changes. Looked at are those from which or to which a row ran that
+/// a change is on.
+pub(super) fn any_goes(rows: &[Link], routers: &[Addr], ends: &[u16], changes: &[Change]) -> bool
+    requires by_key { AreByKey rows.now }
+    requires all { routers.now ≡ router_list (database_of rows.now) }
+    requires ends { AreEndsOf rows.now routers.now ends.now }
+    ensures { result ≡ true → HasGone rows.now routers.now changes.now }
+{
+    for change in changes {
+        if takes_one(rows, routers, ends, changes, change) {
+            return true;
+        }
+    }
+    false
+}

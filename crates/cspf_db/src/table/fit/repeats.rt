@@ -1,0 +1,94 @@
+//! The first change of a batch on the key of an earlier one.
+ghost use Rattle.std.specs.Prelude.{◌≡◌, ℕ, ◌<◌, ◌≤◌, true, length, map, IfSome, IfNone};
+ghost use Rattle.std.specs.List.{IsDistinct};
+ghost use Rattle.std.specs.Ordering.{eq_by_cmp, is_lt};
+ghost use Rattle.cspf_model.specs.Changes.{change_key_cmp, key_changed};
+ghost use Rattle.cspf_model.specs.Lemmas.RepeatedKeys.{IsNewAt, IsRepeatedAt};
+ghost use Rattle.cspf_model.specs.Refusals.{AreOnceEach};
+
+use crate::table::changes::any_on;
+use cspf_addr::Addr;
+use cspf_model::{Change, MOST_CHANGES};
+
+/// The index of the first change on the key of an earlier one.
+fn first_repeat(changes: &[Change]) -> Option<usize>
+    ensures bound { IfSome result (λ at. at < length changes.now) }
+    ensures some { IfSome result (IsRepeatedAt changes.now) }
+    ensures before { IfSome result (λ at. (k : ℕ) → k < at → IsNewAt changes.now k) }
+    ensures none { IfNone result ((k : ℕ) → k < length changes.now → IsNewAt changes.now k) }
+{
+    for (at, change) in changes.iter().enumerate() {
+        if any_on(&changes[..at], change.key()) {
+            return Some(at);
+        }
+    }
+    None
+}
+
+/// Lists the keys of the changes.
+fn list_keys(keys: &mut [(Addr, Option<Addr>)], changes: &[Change])
+    requires { length keys.old ≡ length changes.now }
+    ensures { keys.new ≡ map key_changed changes.now }
+{
+    for (at, change) in changes.iter().enumerate() {
+        keys[at] = change.key();
+    }
+}
+
+/// Whether the first key is below the second.
+fn is_below(low: (Addr, Option<Addr>), high: (Addr, Option<Addr>)) -> bool
+    ensures { result ≡ is_lt (change_key_cmp low high) }
+{
+    low.0.cmp(&high.0).then(low.1.cmp(&high.1)).is_lt()
+}
+
+/// Whether each key is above the one before it.
+fn rise(keys: &[(Addr, Option<Addr>)]) -> bool
+    ensures { result ≡ true → IsDistinct (eq_by_cmp change_key_cmp) keys.now }
+{
+    for at in 1..keys.len() {
+        if !is_below(keys[at - 1], keys[at]) {
+            return false;
+        }
+    }
+    true
+}
+
+/// Whether no two changes are on one key, where there is room to put their keys in order.
+fn are_apart_in(keys: &mut [(Addr, Option<Addr>)], changes: &[Change]) -> bool
+    requires { length keys.old ≡ length changes.now }
+    ensures { result ≡ true → AreOnceEach changes.now }
+{
+    list_keys(keys, changes);
+    keys.sort_unstable();
+    rise(keys)
+}
+
+/// Whether no two changes are on one key. Not all pairs are compared.
+fn are_apart(changes: &[Change]) -> bool
+    requires { length changes.now ≤ MOST_CHANGES }
+    ensures { result ≡ true → AreOnceEach changes.now }
+{
+    let mut keys = [(Addr::new(0), None); MOST_CHANGES];
+    are_apart_in(&mut keys[..changes.len()], changes)
+}
+
+/// Of how many changes all pairs are compared, without putting their keys in order first, and of how
+/// many each is asked for a router that goes.
+pub(super) const FEW: usize = 16;
+
+/// The index of the first change on the key of an earlier one. Among many it is searched only where
+/// there is one.
+pub(super) fn repeat(changes: &[Change]) -> Option<usize>
+    requires { length changes.now ≤ MOST_CHANGES }
+    ensures bound { IfSome result (λ at. at < length changes.now) }
+    ensures some { IfSome result (IsRepeatedAt changes.now) }
+    ensures before { IfSome result (λ at. (k : ℕ) → k < at → IsNewAt changes.now k) }
+    ensures none { IfNone result (AreOnceEach changes.now) }
+{
+    if changes.len() > FEW && are_apart(changes) {
+        None
+    } else {
+        first_repeat(changes)
+    }
+}

@@ -1,0 +1,106 @@
+//! Whether there are more than 1,024 routers after the changes of a batch.
+ghost use Rattle.std.specs.Prelude.{◌≡◌, ◌+◌, ◌*◌, ◌<◌, ◌≤◌, ◌↔◌, true, length, IsTrue};
+ghost use Rattle.std.specs.Bool.{OnTrue, OnFalse};
+ghost use Rattle.std.specs.FinSet as set;
+ghost use Rattle.cspf_model.specs.Database.{router_count};
+ghost use Rattle.cspf_db.specs.Index.{router_list};
+ghost use Rattle.cspf_model.specs.Lemmas.LinkChanges.{all_relinked};
+ghost use Rattle.cspf_model.specs.Lemmas.LinkRows.{database_of, AreByKey};
+ghost use Rattle.cspf_db.specs.Tables.Rows.{AreEndsOf};
+ghost use Rattle.cspf_model.specs.Lemmas.RowsLeft.{is_untouched, rows_untouched, links_put};
+ghost use Rattle.cspf_model.specs.Lemmas.CountedEnds.{with_ends, BringsAtMost};
+ghost use Rattle.cspf_model.specs.Refusals.{AreOnceEach};
+ghost use Rattle.cspf_model.specs.declared.limits.TheConstants.{MOST_CHANGES};
+
+use crate::table::changes::is_untouched;
+use crate::table::fit::leaving::any_goes;
+use crate::table::fit::repeats::FEW;
+use crate::table::fit::router_set::Routers;
+use crate::table::fit::tally::count_brought;
+use cspf_addr::Addr;
+use cspf_model::{Change, Link, MOST_ROUTERS};
+
+/// Adds the ends of the rows that the changes leave alone. It is false where there would be more
+/// than 1,024 routers.
+fn add_rows(routers: &mut Routers, rows: &[Link], changes: &[Change]) -> bool
+    requires { set.len routers.old ≤ MOST_ROUTERS }
+    ensures added { OnTrue result
+        (routers.new ≡ with_ends routers.old (rows_untouched rows.now changes.now)) }
+    ensures few { OnTrue result (set.len routers.new ≤ MOST_ROUTERS) }
+    ensures full { OnFalse result
+        (MOST_ROUTERS < set.len (with_ends routers.old (rows_untouched rows.now changes.now))) }
+{
+    for row in rows {
+        if routers.has_ends(row) {
+            continue;
+        }
+        if is_untouched(row, changes) && !routers.add_ends(row) {
+            return false;
+        }
+    }
+    true
+}
+
+/// Adds the ends of the links that the changes put. It is false where there would be more than
+/// 1,024 routers.
+fn add_puts(routers: &mut Routers, changes: &[Change]) -> bool
+    requires { set.len routers.old ≤ MOST_ROUTERS }
+    ensures added { OnTrue result (routers.new ≡ with_ends routers.old (links_put changes.now)) }
+    ensures few { OnTrue result (set.len routers.new ≤ MOST_ROUTERS) }
+    ensures full { OnFalse result (MOST_ROUTERS < set.len (with_ends routers.old (links_put changes.now))) }
+{
+    for change in changes {
+        if let Change::Put(link) = change {
+            if !routers.add_ends(link) {
+                return false;
+            }
+        }
+    }
+    true
+}
+
+/// Whether it is plain that there are no more than 1,024 routers after the changes: they bring no more
+/// than that, each counted once, or one too many while another goes.
+fn fit_by_one(rows: &[Link], routers: &[Addr], ends: &[u16], changes: &[Change]) -> bool
+    requires by_key { AreByKey rows.now }
+    requires all { routers.now ≡ router_list (database_of rows.now) }
+    requires ends { AreEndsOf rows.now routers.now ends.now }
+    requires few { router_count (database_of rows.now) ≤ MOST_ROUTERS }
+    requires short { length changes.now ≤ MOST_CHANGES }
+    requires once { AreOnceEach changes.now }
+    ensures { result ≡ true
+        → router_count (all_relinked (database_of rows.now) changes.now) ≤ MOST_ROUTERS }
+{
+    let many = routers.len() + count_brought(routers, changes);
+    many <= MOST_ROUTERS || many == MOST_ROUTERS + 1 && any_goes(rows, routers, ends, changes)
+}
+
+/// Whether there are more than 1,024 routers after the changes, which bring some. Where they bring
+/// few enough, or few changes bring one while another goes, the ends of the rows need no count.
+pub(super) fn has_too_many_routers(
+    rows: &[Link],
+    routers: &[Addr],
+    ends: &[u16],
+    changes: &[Change],
+    brought: usize,
+) -> bool
+    requires by_key { AreByKey rows.now }
+    requires all { routers.now ≡ router_list (database_of rows.now) }
+    requires ends { AreEndsOf rows.now routers.now ends.now }
+    requires few { router_count (database_of rows.now) ≤ MOST_ROUTERS }
+    requires short { length changes.now ≤ MOST_CHANGES }
+    requires once { AreOnceEach changes.now }
+    requires few_brought { brought ≤ 2 * length changes.now }
+    requires brought { BringsAtMost routers.now changes.now brought }
+    ensures { IsTrue result
+        ↔ MOST_ROUTERS < router_count (all_relinked (database_of rows.now) changes.now) }
+{
+    if routers.len() + brought <= MOST_ROUTERS {
+        return false;
+    }
+    if changes.len() <= FEW && fit_by_one(rows, routers, ends, changes) {
+        return false;
+    }
+    let mut found = Routers::new();
+    !(add_puts(&mut found, changes) && add_rows(&mut found, rows, changes))
+}
