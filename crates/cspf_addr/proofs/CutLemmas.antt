@@ -38,7 +38,7 @@ pub before_some : (mark : ℕ) (text : List ℕ) (at : ℕ)
 unfolding text_before
 before_some mark text at found = ap (λ n. take n text) (sym (position_some mark text at found).0)
 
--- and the part behind it
+-- and the part after it
 pub after_some : (mark : ℕ) (text : List ℕ) (at : ℕ)
     → position (λ byte. eqb byte mark) text ≡ Some at
     → take (length text - (at + 1)) (drop (at + 1) text) ≡ text_after mark text
@@ -46,7 +46,7 @@ unfolding text_after
 after_some mark text at found =
     take_rest text (at + 1) ∙ ap (λ n. drop (n + 1) text) (sym (position_some mark text at found).0)
 
--- the same where no such byte was found
+-- where no such byte was found, the whole text and the empty one
 pub before_none : (mark : ℕ) (text : List ℕ) → position (λ byte. eqb byte mark) text ≡ None
     → text ≡ text_before mark text
 unfolding text_before
@@ -68,7 +68,7 @@ Lacks-digits mark [] low digits = tt
 Lacks-digits mark (byte ∷ rest) low digits =
     (λ same. omega (arith, same, digit_from_value byte digits.0), Lacks-digits mark rest low digits.1)
 
--- the first mark stands behind a text with none
+-- the first mark after a text with none is right after it
 position-front : (mark : ℕ) (front back : List ℕ) → Lacks mark front
     → position_or_len (λ byte. eqb byte mark) (front ++ mark ∷ back) ≡ length front
 position-front mark [] back lacks = rw (eq-eqb mark mark refl) refl
@@ -84,7 +84,7 @@ drop_behind mark front back = rw add-one (behind mark front back)
     behind mark [] back = refl
     behind mark (byte ∷ front) back = behind mark front back
 
--- a text cut at a mark behind a text with none
+-- a text without marks, then a mark and more, is cut after the first text
 pub before-front : (mark : ℕ) (front back : List ℕ) → Lacks mark front
     → text_before mark (front ++ mark ∷ back) ≡ front
 unfolding text_before
@@ -98,7 +98,7 @@ after-front mark front back lacks =
     ap (λ at. drop (at + 1) (front ++ mark ∷ back)) (position-front mark front back lacks)
     ∙ drop_behind mark front back
 
--- a text with something behind its first mark, whole again
+-- a text with bytes after its first mark is its two parts with the mark between them
 pub cut_whole : (mark : ℕ) (text : List ℕ) → 0 < length (text_after mark text)
     → text ≡ text_before mark text ++ mark ∷ text_after mark text
 unfolding text_before text_after
@@ -112,7 +112,7 @@ cut_whole mark text some =
         → position_or_len (λ byte. eqb byte mark) text < length text
     inside mark text some = omega (arith, simp length-drop at some)
 
--- a text with something in front of a byte that is none of its kind
+-- two texts that lack a byte, joined, lack it
 pub Lacks-append : (mark : ℕ) (front back : List ℕ) → Lacks mark front → Lacks mark back
     → Lacks mark (front ++ back)
 Lacks-append mark [] back lacks_front lacks_back = lacks_back

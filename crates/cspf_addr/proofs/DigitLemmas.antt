@@ -9,7 +9,7 @@ use Rattle.std.specs.Char.{digit_value}
 use Rattle.std.specs.Str.Parse.{AllDigits, digits_value}
 use Rattle.cspf_addr.specs.Numbers.{are_digits}
 
--- the parts of a test that passed
+-- both parts of a conjunction that is true
 pub and_parts : (x y : Bool) → (x && y) ≡ true → (x ≡ true) × (y ≡ true)
 and_parts true y h = (refl, h)
 and_parts false y h = absurd (cc)
@@ -28,7 +28,7 @@ unfolding are_digits
 are_digits-AllDigits base [] h = refl
 are_digits-AllDigits base (c ∷ cs) h = both_true (lt-ltb _ _ h.0) (are_digits-AllDigits base cs h.1)
 
--- each byte of digits is one
+-- each byte of a text of digits is a digit
 pub AllDigits-at : (base : ℕ) (ds : List ℕ) (i : ℕ) → AllDigits base ds → i < length ds
     → digit_value (get_or ds i 0) < base
 AllDigits-at base [] i h within = absurd (omega arith)

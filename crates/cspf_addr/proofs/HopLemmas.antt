@@ -40,7 +40,7 @@ hop_of-front front hop read =
     let at : length (front ++ (hop_letter hop.loose ∷ [])) - 1 ≡ length front = omega (arith, length_push front (hop_letter hop.loose)) in
     rw (at, take_at front (hop_letter hop.loose ∷ []) (length front) refl, read, last_byte front (hop_letter hop.loose), loose_of-letter hop.loose) refl
 
--- what the two steps of a reader of hops gave
+-- the two results that a hop was read from
 two_steps : (found : Result PrefixParts PrefixError) (letter : Option Bool) (hop : Hop)
     → option_and_then (λ prefix. option_and_then (λ loose. Some (record { prefix = prefix; loose = loose })) letter) (result_ok found) ≡ Some hop
     → (found ≡ Ok hop.prefix) × (letter ≡ Some hop.loose)

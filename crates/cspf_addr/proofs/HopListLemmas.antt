@@ -27,7 +27,7 @@ kept_after_push places count hop kept room = record {
       ∙ ap (λ n. replicate n free_place) (one_less count))));
 }
 
--- what a reader that has these hops answers, when the rest of the parts answers so
+-- the result of a reader that has these hops, by the result for the rest of the parts
 abbrev pub joined : List Hop → Result (List Hop) HopsError → Result (List Hop) HopsError
 joined hops (Ok more) = Ok (hops ++ more)
 joined hops (Err e) = Err e

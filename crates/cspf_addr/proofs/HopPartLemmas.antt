@@ -100,7 +100,7 @@ hops_from-texts at (text ∷ texts) (hop ∷ hops) each =
 hops_from-texts at [] (hop ∷ hops) each = absurd each
 hops_from-texts at (text ∷ texts) [] each = absurd each
 
--- what is read are texts of hops
+-- the texts that are read as hops are texts of these hops
 texts_of-hops_from : (at : ℕ) (texts : List (List ℕ)) (hops : List Hop)
     → hops_from at texts ≡ Ok hops → AreHopTexts texts hops
 texts_of-hops_from at [] hops read = let none : [] ≡ hops = cc in subst (AreHopTexts []) none tt
@@ -117,7 +117,7 @@ texts_of-hops_from at (text ∷ texts) hops read =
         subst (AreHopTexts (text ∷ texts)) all
         ((hop_texts_read text hop).0 first, behind more later)
 
--- texts of hops, and then a text of no hop at this place, where the first is at a number
+-- texts of hops, and then at this place a text of no hop; the first text is at `at`
 record IsNoHopFrom (at : ℕ) (parts : List (List ℕ)) (place : ℕ) : Type 0 where
   pub front : List (List ℕ)
   pub part : List ℕ
@@ -154,7 +154,7 @@ one_more at part parts place hop first b = record {
   here = b.here;
 }
 
--- the part that is refused is the first of no hop
+-- the part that is refused is the first that is no hop
 no_hop-hops_from : (at : ℕ) (parts : List (List ℕ)) (place : ℕ)
     → hops_from at parts ≡ Err (BadHop place) → IsNoHopFrom at parts place
 no_hop-hops_from at [] place read = absurd (cc)
@@ -173,7 +173,7 @@ no_hop-hops_from at (part ∷ parts) place read =
         let same : k ≡ place = cc (rw (first, later) at read) in
         one_more at part parts place hop first (more (refused_at _ k place later same))
 
--- the first part of no hop is refused
+-- the first part that is no hop is refused
 hops_from-no_hop : (at : ℕ) (front : List (List ℕ)) (part : List ℕ) (behind : List (List ℕ)) (hops : List Hop) → AreHopTexts front hops → ((hop : Hop) → ¬ IsHopText part hop)
     → hops_from at (front ++ part ∷ behind) ≡ Err (BadHop (length front + at))
 hops_from-no_hop at [] part behind hops before here = step (hop_of part) refl
@@ -267,7 +267,7 @@ record IsReadByParts (text : List ℕ) : Type 0 where
   few : length (parts_of text) ≤ 7
   read : hops_of text ≡ hops_from 1 (parts_of text)
 
--- so is each that is not empty and not refused for too many parts
+-- a text that is not empty and not refused for too many parts is read by its parts
 by_parts : (byte : ℕ) (text : List ℕ) → hops_of (byte ∷ text) ≢ Err TooManyHops
     → IsReadByParts (byte ∷ text)
 by_parts byte text not = step (few_or_many _)
@@ -278,7 +278,7 @@ by_parts byte text not = step (few_or_many _)
     step (inl few) =
         record { few = few; read = hops_of-few (byte ∷ text) (not_empty byte text) few }
 
--- what is read is the texts of its hops
+-- a text that is read as hops is the texts of these hops
 read_texts : (text : List ℕ) (hops : List Hop) → hops_of text ≡ Ok hops → IsHopListText text hops
 read_texts [] hops read =
     let none : [] ≡ hops = cc hops_of-empty in
@@ -309,7 +309,7 @@ refused_part (byte ∷ text) place read =
           record { front = b.front; part = b.part; behind = b.behind; whole = b.whole; is_place = b.is_place; hops = b.hops; before = b.before; here = b.here };
     }
 
--- the parts in front of one, it, and those behind it are some
+-- the parts before one, this part and those after it are not none
 some_parts : (parts front : List (List ℕ)) (part : List ℕ) (behind : List (List ℕ))
     → parts ≡ front ++ part ∷ behind → 0 < length parts
 some_parts parts front part behind whole =
@@ -324,7 +324,7 @@ part_refused text place has =
     ∙ hops_from-no_hop 1 bad.front bad.part bad.behind bad.hops bad.before bad.here
     ∙ ap (λ n. Err (BadHop n)) (sym bad.is_place)
 
--- the first part of no hop is named
+-- the first part that is no hop is named
 pub bad_hops_named : AreBadHopsNamed
 bad_hops_named text place = (refused_part text place, part_refused text place)
 

@@ -27,7 +27,7 @@ short_value digits short all =
     let most : 16 ^ length digits ≤ 16 ^ 8 = pow-le-pow_right (lit< tt) short in
     omega (arith, most, digits_value-lt 16 digits (AllDigits-are_digits 16 digits all))
 
--- where the digits are none, or too large, there is none of them
+-- where a byte is no digit, or the value is too large, there is no mask
 pub word_none : (digits : List ℕ) → length digits ≤ 8
     → (are_digits 16 digits ≡ true → 2 ^ 64 ≤ digits_value 16 digits)
     → None ≡ cond (are_digits 16 digits) (Some (digits_value 16 digits)) None

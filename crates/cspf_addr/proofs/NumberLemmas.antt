@@ -14,7 +14,7 @@ use Rattle.cspf_addr.proofs.DigitLemmas.{and_parts, AllDigits-are_digits, are_di
 pub own : IsNumeralModel (AllDigits 10) (digits_value 10)
 own = numerals_by_value (AllDigits 10) tells_digits
 
--- what a choice between a number and nothing tells
+-- a choice between a number and nothing that gave a number passed its test
 pub chosen : (b : Bool) (v n : ℕ) → cond b (Some v) None ≡ Some n → (b ≡ true) × (v ≡ n)
 chosen true v n same = (refl, cc)
 chosen false v n same = absurd (cc)
@@ -110,7 +110,7 @@ refused : (b : Bool) (value : ℕ) → (b ≡ true → 2 ^ 64 ≤ value)
 refused true value large = rw (le-ltb value (2 ^ 64) (large refl)) refl
 refused false value large = refl
 
--- the reader of digits, behind a plain start, reads numbers
+-- after a test for a plain start, the reader of digits reads numbers
 pub number_value : (text : List ℕ) (r : Option ℕ) → has_plain_start text ≡ true
     → IfSome r (λ n. (are_digits 10 text ≡ true) × (n ≡ digits_value 10 text))
     → IfNone r (are_digits 10 text ≡ true → 2 ^ 64 ≤ digits_value 10 text)

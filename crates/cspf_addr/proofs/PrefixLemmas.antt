@@ -19,7 +19,7 @@ none_large : (value : ℕ) (b : Bool) → ltb value (2 ^ 64) ≡ b → cond b (S
 none_large value true test found = absurd (cc)
 none_large value false test found = ltb-false value (2 ^ 64) test
 
--- a decimal that is no number below 2^64 is too long
+-- a decimal of 2^64 or more is refused as a length
 pub length_none : (text : List ℕ) → is_decimal text ≡ true → number_of text ≡ None
     → length_of text ≡ Err error.TooLong
 unfolding length_of number_of
@@ -27,7 +27,7 @@ length_none text passes found =
     let large = none_large _ _ refl (rw passes at found) in
     rw (passes, lt-leb (digits_value 10 text) 32 (omega arith)) refl
 
--- any other is as long as its value
+-- any other decimal is judged by its value
 length_some : (text : List ℕ) (n : ℕ) → is_decimal text ≡ true → number_of text ≡ Some n
     → length_of text ≡ cond (leb n 32) (Ok n) (Err error.TooLong)
 unfolding length_of number_of
@@ -35,12 +35,12 @@ length_some text n passes found =
     let value : digits_value 10 text ≡ n = (chosen _ _ _ found).1 in
     rw (passes, value) refl
 
--- a number above 32 is too long
+-- a number above 32 is refused as a length
 pub length_more : (text : List ℕ) (n : ℕ) → is_decimal text ≡ true → number_of text ≡ Some n
     → 32 < n → length_of text ≡ Err error.TooLong
 length_more text n passes found long = length_some text n passes found ∙ rw (lt-leb n 32 long) refl
 
--- and any other is a length
+-- any other number is a length
 pub length_fits : (text : List ℕ) (n : ℕ) → is_decimal text ≡ true → number_of text ≡ Some n
     → n ≤ 32 → length_of text ≡ Ok n
 length_fits text n passes found short =

@@ -1,14 +1,14 @@
--- What a reader answers, where the text that spells each value is known.
+-- The results of a reader of texts, and which texts spell which values.
 use Rattle.std.proofs.Common.{◌≡◌, Option, Some, None, Result, Ok, Err, IfOk, OnErr, refl, sym, ap, ◌∙◌}
 use Rattle.std.specs.Option.{ok_or}
 use Rattle.std.specs.Result.{result_ok}
 
--- the value that is found, or else the error
+-- `ok_or` keeps the value that is found
 result_ok-ok_or : {A E : Type 0} (o : Option A) (e : E) → result_ok (ok_or o e) ≡ o
 result_ok-ok_or None e = refl
 result_ok-ok_or (Some a) e = refl
 
--- a reader that answers one error where nothing is found reads what is found
+-- a reader that returns one error where nothing is found returns the value that is found
 pub ok_or_read : {A E : Type 0} {r : Result A E} {o found : Option A} (e : E) → r ≡ ok_or o e
     → o ≡ found → result_ok r ≡ found
 ok_or_read e same is = ap result_ok same ∙ (result_ok-ok_or _ _ ∙ is)

@@ -15,7 +15,7 @@ address_text n = join_with_byte 46 (map decimal (to_be_bytes w32 n))
 unfoldable pub text_before : ℕ → List ℕ → List ℕ
 text_before mark text = before_first (λ byte. byte == mark) text
 
--- the text behind the first such byte, or the empty text where there is none
+-- the text after the first such byte, or the empty text where there is none
 unfoldable pub text_after : ℕ → List ℕ → List ℕ
 text_after mark text = after_first (λ byte. byte == mark) text
 

@@ -26,7 +26,7 @@ pub record AreParts (text : List ℕ) (parts : List (List ℕ)) : Type 0 where
   pub whole : text ≡ join_with_byte 32 parts
   pub without_space : AllByRecursion (λ part. AllByRecursion (λ byte. byte ≢ 32) part) parts
 
--- texts of hops, then at this place, counted from 1, a text of no hop, and then any others
+-- texts of hops, then a text of no hop at this place, which counts from 1, and then any texts
 pub record IsFirstNoHop (parts : List (List ℕ)) (place : ℕ) : Type 0 where
   pub front : List (List ℕ)
   pub part : List ℕ
@@ -37,7 +37,7 @@ pub record IsFirstNoHop (parts : List (List ℕ)) (place : ℕ) : Type 0 where
   pub before : AreHopTexts front hops
   pub here : (hop : Hop) → ¬ IsHopText part hop
 
--- a text that is not empty has at most seven parts, and the first of no hop is at this place
+-- a text that is not empty has at most seven parts, and the first that is no hop is at this place
 pub record HasBadHop (text : List ℕ) (place : ℕ) : Type 0 where
   pub some : text ≢ []
   pub parts : List (List ℕ)

@@ -5,11 +5,11 @@ use Rattle.std.proofs.lemmas.List.{length-take-le, take-append-drop}
 use Rattle.cspf_addr.specs.declared.hop.Hop.{Hop}
 use Rattle.cspf_addr.specs.declared.hops.TheConstants.{MOST_HOPS}
 
--- what stands in a place that is free
+-- the hop in a place that is free
 abbrev pub free_place : Hop
 free_place = record { prefix = record { address = 0; length = 0 }; loose = false }
 
--- hops in seven places, those behind them free
+-- hops in seven places, of which those after the hops are free
 abbrev pub in_seven_places : List Hop → List Hop
 in_seven_places hops = hops ++ replicate (MOST_HOPS - length hops) free_place
 

@@ -24,7 +24,8 @@ pub(crate) fn value(text: &[u8], base: u32) -> Option<u64>
     Some(value)
 }
 
-/// The value with one more digit behind it.
+/// The value with one more digit at its end; `None` where the byte is no digit in base `base`, or
+/// the value is 2^64 or more.
 fn one_more(value: u64, byte: u8, base: u32) -> Option<u64>
     requires least { 2 ≤ base }
     requires most { base ≤ 36 }

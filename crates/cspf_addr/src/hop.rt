@@ -7,8 +7,8 @@ ghost use Rattle.cspf_addr.specs.HopText.{hop_of, loose_of, AreHopTextsRead, Are
 use crate::prefix::Prefix;
 use std::alloc::{AllocError, Global};
 
-/// A hop of an explicit route: any router that the prefix covers. A strict hop is next to the one
-/// before, and before a loose one other routers may come (RFC 3209 4.3.3.1).
+/// A hop of an explicit route: any router that the prefix covers. A strict hop is adjacent to the
+/// hop before it. Other routers may come before a loose hop (RFC 3209 4.3.3.1).
 #[derive(Clone, Copy, Debug, PartialEq, Eq)]
 pub struct Hop {
     /// The routers that the hop may be.
@@ -43,7 +43,7 @@ pub(crate) fn read_hop(text: &[u8]) -> Option<Hop>
     Some(Hop { prefix, loose })
 }
 
-/// Whether a letter is that of a loose hop; `None` where it is none of a hop.
+/// Whether a letter is that of a loose hop; `None` where it is neither `s` nor `l`.
 #[tactic(auto, unfolding(crate::specs::HopText::loose_of))]
 fn read_loose(letter: u8) -> Option<bool>
     ensures { result ≡ loose_of letter }

@@ -19,9 +19,9 @@ pub enum HopsError {
     BadHop { at: usize },
 }
 
-/// The hops that a text spells, with a space (0x20) between each two: none by the empty text, and
-/// else one by each part of the text before, between and behind the spaces. More than seven parts
-/// are refused before any is read.
+/// The hops that a text spells, with a space (0x20) between each two. The empty text spells no hop.
+/// Any other text spells one hop by each part before, between and after the spaces. More than seven
+/// parts are refused before any is read.
 #[tactic(auto, unfolding(crate::specs::HopLists::hops_of))]
 pub fn parse_hops(text: &[u8]) -> Result<Hops, HopsError>
     ensures { result ≡ hops_of text.now }
@@ -35,7 +35,7 @@ pub fn parse_hops(text: &[u8]) -> Result<Hops, HopsError>
     read_parts(text)
 }
 
-/// How many parts a text has before, between and behind its spaces.
+/// How many parts a text has before, between and after its spaces.
 #[tactic(auto, unfolding(crate::specs::HopLists::parts_of))]
 fn part_count(text: &[u8]) -> usize
     ensures { result ≡ length (parts_of text.now) }

@@ -80,7 +80,7 @@ impl Hops {
         &self.places[..self.count]
     }
 
-    /// Puts a hop behind the others, which are fewer than `MOST_HOPS`.
+    /// Appends a hop to the others, which are fewer than `MOST_HOPS`.
     pub fn push(&mut self, hop: Hop)
         requires { length self.old < MOST_HOPS }
         ensures { self.new ≡ self.old ++ hop ∷ [] }

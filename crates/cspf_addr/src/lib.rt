@@ -5,8 +5,8 @@
 //! `specs/Numbers.antt` defines how numbers are spelled, `specs/AddressText.antt` addresses,
 //! `specs/MaskText.antt` masks, `specs/PrefixParts.antt` and `specs/Prefixes.antt` prefixes,
 //! `specs/HopText.antt` and `specs/HopLists.antt` hops. `specs/AddressOrder.antt` has the order of
-//! addresses, and `specs/HopListLaws.antt` says which texts are lists of hops. Reading can't fail
-//! for memory.
+//! addresses, and `specs/HopListLaws.antt` says which texts are lists of hops. Reading takes no
+//! memory.
 #![tactic(auto)]
 
 mod addr;

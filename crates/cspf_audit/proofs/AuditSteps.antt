@@ -1,4 +1,4 @@
--- What was read and compared is an audit.
+-- The findings that were read and compared are an audit.
 use Rattle.std.proofs.Common.{◌≡◌, ℕ, suc, IsPermutation, Result, Ok, Err, IfOk, Bool, true, false, List, [], ◌∷◌, Some, inl, inr, refl, arith}
 use Rattle.std.proofs.lemmas.List.Sorted.{Contains-permutation, IsPermutation-sym}
 use Rattle.cspf_model.specs.declared.request.Request.{Request}

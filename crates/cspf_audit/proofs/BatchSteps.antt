@@ -11,7 +11,7 @@ module _ (batches : List NumberedChanges) (i : ℕ) (b : NumberedChanges) (withi
   one_more : take (i + 1) batches ≡ take i batches ++ b ∷ []
   one_more = (take_at_read batches i b within).1 ∙ ap (λ next. take i batches ++ next ∷ []) (sym is_next)
 
-  -- it is in the database of the batches so far
+  -- the database of the batches so far, with its changes, is that of one more batch
   pub database_next : OneMoreBatch → after_changes (database_after (take i batches)) b.changes ≡ database_after (take (i + 1) batches)
   database_next law = sym (ap database_after one_more ∙ law (take i batches) b)
 
@@ -25,7 +25,7 @@ module _ (batches : List NumberedChanges) (i : ℕ) (b : NumberedChanges) (withi
       let front : AreLawful (take (i + 1) batches) = first (take (i + 1) batches) (drop (i + 1) batches) (subst AreLawful (sym (take-append-drop (i + 1) batches)) lawful) in
       ((law (take i batches) b).0 (subst AreLawful one_more front)).1
 
-  -- a table in the database of the batches so far is in the next one's behind it
+  -- a table with the database of the batches so far has the next one's database after it
   pub absorbed : OneMoreBatch → LawfulByOneMore → FirstBatchesAreLawful → AreLawful batches → (before after : Database) → before ≡ database_after (take i batches)
       → (Fits before b → after ≡ after_changes before b.changes) → after ≡ database_after (take (i + 1) batches)
   absorbed law more first lawful before after here absorbs =

@@ -30,14 +30,14 @@ claim_within requests last lines claims i d are within =
 read_at : {A : Type 0} (xs : List A) (i : ℕ) (x : A) → i < length xs → x ≡ get_or xs i x → slice_get xs i ≡ Some x
 read_at xs i x within is = slice_get-get_or xs i x within ∙ ap Some (sym is)
 
--- what claims there are behind the first
+-- the claims after the first one
 claimed_behind : (claim : Claim) (rest : List Claim) (index : ℕ) → IsClaimed (claim ∷ rest) index → (claim.line ≡ index) ⊎ IsClaimed rest index
 claimed_behind claim rest index (c, (zero, within, is), at) = inl (ap (λ (k : Claim). k.line) is ∙ at)
 claimed_behind claim rest index (c, (suc k, within, is), at) = inr (c, (k, omega arith, is), at)
 
 module _ (batches : List NumberedChanges) (requests : List Request) (lines : List (List ℕ)) (claim : Claim) (rest : List Claim) (findings : List Finding)
     (open_ones : AreOpenFindings batches requests lines (claim ∷ rest) findings) (is_claim : IsClaim requests (length batches) lines claim) where
-  -- what is asked of a database, a request and a line is asked of the claim's
+  -- what holds of a database, a request and a line holds of those of the claim
   pub asked_of_claim : (d : Database) (q : Request) (line : List ℕ) (right : Bool) → d ≡ database_after (take claim.version batches)
       → claim.request < length requests → q ≡ get_or requests claim.request q → claim.line < length lines → line ≡ get_or lines claim.line line
       → IsTrue right ↔ IsRightReply d q claim.version line

@@ -25,7 +25,7 @@ lack_id n id (q ∷ requests) found = go (eqb q.id id) refl found (lack_id (n + 
     go true same found behind = absurd (cc)
     go false other found behind = (eqb-false q.id id other, behind found)
 
--- a request behind those with another id is found where none was
+-- a request after those with other ids is found where none was
 pub place_more : (n : ℕ) (requests : List Request) (q : Request) (id : ℕ) → LackId requests q.id
     → place_from n id (requests ++ q ∷ []) ≡ cond (eqb q.id id) (Some (n + length requests)) (place_from n id requests)
 place_more n [] q id lack = ap (λ k. cond (eqb q.id id) (Some k) None) (omega arith)

@@ -74,7 +74,7 @@ is_cut (x ∷ text) = go (eqb x 10) refl (is_cut text)
 pub some_bytes : (bytes : List ℕ) (n : ℕ) → length bytes ≡ 0 + n → n ≢ 0 → bytes ≢ []
 some_bytes bytes n counted read empty = read (omega (arith, counted, ap length empty))
 
--- what is read up to a line feed, which is taken off it, is the first line
+-- the bytes up to a line feed, without the line feed, are the first line
 pub takes_line : (old new : Option (List ℕ)) (bytes line : List ℕ) → IfSome old (λ text. bytes ≡ take_through 10 text) → DropsThrough old new 10 → bytes ≢ []
     → line ≡ strip_last 10 bytes → TakesLine old new (Some line)
 takes_line None new bytes line read drops some cut = tt

@@ -21,6 +21,6 @@ get-set_other (x ∷ xs) zero (suc j) v apart = refl
 get-set_other (x ∷ xs) (suc i) zero v apart = refl
 get-set_other (x ∷ xs) (suc i) (suc j) v apart = get-set_other xs i j v (λ e. apart (ap suc e))
 
--- what is written back through a slice of all elements
+-- a list that is written back through a slice of all its elements
 pub written : {A : Type 0} (old new : List A) (n : ℕ) → length new ≡ length old → n ≡ length old → take n (new ++ drop (length new) old) ≡ new
 written old new n kept whole = take_at new (drop (length new) old) n (kept ∙ sym whole)

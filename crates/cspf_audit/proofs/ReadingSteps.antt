@@ -36,7 +36,7 @@ get_snoc (z ∷ xs) x (suc i) y found = elim (get_snoc xs x i y found) [
 claimed_more : (claims more : List Claim) (index : ℕ) → IsClaimed claims index → IsClaimed (claims ++ more) index
 claimed_more claims more index claimed = (claimed.0, Contains-append_left claims more claimed.0 claimed.1, claimed.2)
 
--- a claim stays one behind another line
+-- a claim is still one after another line
 pub claim_more : (requests : List Request) (last : ℕ) (seen : List (List ℕ)) (line : List ℕ) (claim : Claim) → IsClaim requests last seen claim → IsClaim requests last (seen ++ line ∷ []) claim
 claim_more requests last seen line claim is =
     let within = slice_get_within seen claim.line is.line is.is_line in record {
@@ -72,7 +72,7 @@ found_more batches requests seen line claims more findings found open_ones next 
     go index l f (inr one) (inl other) = absurd (omega (arith, one.0, other.0, open_ones.counted))
     go index l f (inr one) (inr other) = rw (one.0, sym one.1, sym other.1, take_at seen (line ∷ []) (length seen) refl) next
 
--- what is named by one more line
+-- the ids that are named after one more line
 pub named_cases : (seen : List (List ℕ)) (line : List ℕ) (id : ℕ) → IsNamed (seen ++ line ∷ []) id
     → IsNamed seen id ⊎ ((version : ℕ) × BeginsWithHead line (record { id = id; version = version }))
 named_cases seen line id (l, version, there, begins) = elim (Contains-append_cases seen (line ∷ []) l there) [

@@ -1,4 +1,4 @@
--- What one more line of replies says.
+-- The finding of one more line of replies.
 use Rattle.std.proofs.Common.{◌≡◌, ◌≢◌, ℕ, ◌+◌, suc, zero, Bool, true, false, List, [], ◌∷◌, ◌++◌, Contains, Some, None, codes, length, inl, inr, refl, sym, ap, subst, ◌∙◌, append-nil, arith}
 use Rattle.std.proofs.lemmas.Bool.{cases_eq}
 use Rattle.std.proofs.lemmas.List.{take_at, length-set}
@@ -131,7 +131,7 @@ module _ (one : HasOneHead) (batches : List NumberedChanges) (requests : List Re
           },
         )
 
-  -- ---- what is kept then
+  -- ---- the lists after the line
 
   module _ (claims : List Claim) (findings : List Finding) (open_ones : AreOpenFindings batches requests seen claims findings) (are_claims : AreClaims requests (length batches) seen claims) where
     -- the findings, claims and named requests are those of one more line
@@ -202,7 +202,7 @@ module _ (one : HasOneHead) (batches : List NumberedChanges) (requests : List Re
             only (zero, low, same) = same
             only (suc k, low, same) = absurd (omega arith)
 
--- what was read is kept as these lists
+-- these lists are the result of reading one more line
 pub has_read : (batches : List NumberedChanges) (requests : List Request) (seen : List (List ℕ)) (replies : ReplyFindings) (findings : List Finding) (claims : List Claim) (named : List Bool)
     → replies.findings.items ≡ findings → replies.claims.items ≡ claims → replies.named.items ≡ named
     → AreOpenFindings batches requests seen claims findings × AreClaims requests (length batches) seen claims × AreNamed requests seen named → HasReadLines batches requests replies seen

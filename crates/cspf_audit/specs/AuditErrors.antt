@@ -1,4 +1,4 @@
--- What streams are audited as, or the first reason why they aren't.
+-- The audit of streams, or the first reason why they aren't audited.
 use Rattle.std.specs.Prelude.{◌≡◌, ℕ, ◌<◌, ◌≤◌, ◌⊎◌, List, ◌∷◌, ◌++◌, length, Option, IfSome}
 use Rattle.cspf_model.specs.declared.refusal.Refusal.{Refusal}
 use Rattle.cspf_model.specs.declared.request.Request.{Request}
@@ -19,21 +19,21 @@ use Rattle.cspf_audit.specs.Lines.{AreLines, HasTooManyLines}
 use Rattle.cspf_audit.specs.Requests.{HaveOwnIds, RepeatsId}
 use Rattle.cspf_audit.specs.Audits.{IsAudit}
 
--- The records of a journal, of which there are at most `MOST_ROWS`, are these batches and nothing
--- behind them, and each batch fits the database of those before it.
+-- The records of a journal, at most `MOST_ROWS`, are these batches with nothing after them. Each
+-- batch fits the database of those before it.
 pub record IsLawfulJournal (records : Records) (batches : List NumberedChanges) : Type 0 where
   pub few : length records ≤ MOST_ROWS
   pub journal : IsJournal records batches rest.Clean
   pub lawful : AreLawful batches
 
--- rows are left behind this many batches
+-- rows are left after this many batches
 pub record IsTornAfter (records : Records) (count : ℕ) : Type 0 where
   pub few : length records ≤ MOST_ROWS
   pub batches : List NumberedChanges
   pub journal : IsJournal records batches rest.Torn
   pub counted : count ≡ length batches
 
--- the batches of a journal, behind which nothing is left, have this first one that doesn't fit
+-- nothing is left after the batches of a journal, and this is the first batch that doesn't fit
 pub record IsUnlawfulJournal (records : Records) (number : ℕ) (why : Refusal) : Type 0 where
   pub few : length records ≤ MOST_ROWS
   pub batches : List NumberedChanges
@@ -73,7 +73,7 @@ IsRowRefused records requests_error.TooManyRows = ⊥
 IsRowRefused records (requests_error.Bad row why) = IsRequestsFault records (requests_error.Bad row why)
 IsRowRefused records (requests_error.NotAsk row) = IsRequestsFault records (requests_error.NotAsk row)
 
--- one of the streams is too long, and the ones before it are as they have to be
+-- one of the streams is too long, and the ones before it have no fault
 abbrev pub IsOneTooLong : Records → Records → List ℕ → Type 0
 IsOneTooLong journal requests text =
     (MOST_ROWS < length journal)
@@ -81,8 +81,9 @@ IsOneTooLong journal requests text =
     × (IsRequestsFault requests requests_error.TooManyRows
     ⊎ (HasOwnRequests requests × HasTooManyLines text)))
 
--- Why streams aren't audited: the first reason of the journal, its batches, the requests, their ids
--- and the replies, in this order, where the bytes that it is about are known.
+-- Why streams aren't audited: the first reason that applies to the journal, its batches, the
+-- requests, their ids and the replies, in this order. It is given where the bytes that it is about
+-- are known.
 abbrev pub IsAuditError : Option (List ℕ) → Option (List ℕ) → Option (List ℕ) → AuditError → Type 0
 IsAuditError journal requests replies error.Memory = Unit {0}
 IsAuditError journal requests replies error.Device = Unit {0}

@@ -10,7 +10,7 @@ use Rattle.cspf_audit.specs.declared.finding.Finding.{Finding}
 use Rattle.cspf_audit.specs.declared.finding.Finding.TheVariants as finding
 use Rattle.cspf_audit.specs.Findings.{IsNamed, AreFindings}
 
--- the fault of the line at a place, which counts from 1, by what is found of it
+-- the fault of the line at a place, which counts from 1, by its finding
 abbrev pub fault_at : ℕ → Finding → Option AuditFault
 fault_at place finding.PassedOver = None
 fault_at place finding.Good = None
@@ -44,7 +44,7 @@ is_good finding.Altered = false
 abbrev pub good_count : List Finding → ℕ
 good_count findings = count_by is_good findings
 
--- a fault for each request whose id stands in no line, in the requests' order
+-- a fault for each request whose id is in no line, in the requests' order
 abbrev pub AreUnanswered : List (List ℕ) → List Request → List AuditFault → Type 0
 AreUnanswered lines [] faults = faults ≡ []
 AreUnanswered lines (q ∷ requests) faults =

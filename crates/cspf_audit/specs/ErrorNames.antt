@@ -1,4 +1,4 @@
--- Private: under which name a fault of a stream ends an audit, and what a journal is refused for.
+-- Private: the error of an audit for each fault of a stream, and why a journal is refused.
 use Rattle.std.specs.Prelude.{◌≡◌, ◌≢◌, ◌<◌, ◌⊎◌, List, length}
 use Rattle.std.specs.IoError.{error_kind}
 use Rattle.std.specs.declared.io.Error.{Error}
@@ -15,13 +15,13 @@ use Rattle.cspf_audit.specs.declared.audit_error.AuditError.{AuditError}
 use Rattle.cspf_audit.specs.declared.audit_error.AuditError.TheVariants as error
 use Rattle.cspf_audit.specs.AuditErrors.{IsTornAfter, IsUnlawfulJournal}
 
--- of the journal's
+-- the error for a fault of the journal
 abbrev pub audit_error_of : ReadError → AuditError
 audit_error_of read.Memory = error.Memory
 audit_error_of read.Device = error.Device
 audit_error_of read.TooManyRows = error.TooManyRows
 
--- of the requests'
+-- the error for a fault of the requests
 abbrev pub requests_error_of : RequestsError → AuditError
 requests_error_of requests.Memory = error.Memory
 requests_error_of requests.Device = error.Device
@@ -29,7 +29,7 @@ requests_error_of requests.TooManyRows = error.TooManyRows
 requests_error_of (requests.Bad row why) = error.Requests (requests.Bad row why)
 requests_error_of (requests.NotAsk row) = error.Requests (requests.NotAsk row)
 
--- of the replies': refused memory keeps its name
+-- the error for a fault of the replies: refused memory keeps its name
 abbrev pub IsIoFault : Error → AuditError → Type 0
 IsIoFault why e =
     ((error_kind why ≡ kind.OutOfMemory) × (e ≡ error.Memory))

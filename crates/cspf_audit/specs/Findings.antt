@@ -1,4 +1,4 @@
--- What is found of a line, by a journal's batches, the requests and the lines before it.
+-- The finding of a line, by a journal's batches, the requests and the lines before it.
 use Rattle.std.specs.Prelude.{◌≡◌, ℕ, ◌<◌, ◌≤◌, ◌⊎◌, ◌==◌, List, [], ◌∷◌, ◌++◌, Contains, Some, length, take, codes}
 use Rattle.std.specs.List.{before_first, slice_get}
 use Rattle.cspf_model.specs.declared.request.Request.{Request}
@@ -17,7 +17,7 @@ use Rattle.cspf_audit.specs.Requests.{IsAsked}
 abbrev pub first_word : List ℕ → List ℕ
 first_word line = before_first (λ byte. byte == 32) line
 
--- the line tells of a version, of applied batches or of a refused one
+-- the line reports a version, applied batches or a refused batch
 abbrev pub IsPassedOver : List ℕ → Type 0
 IsPassedOver line =
     (first_word line ≡ codes "version")
@@ -29,7 +29,7 @@ IsNamed lines id =
     (line : List ℕ) × (version : ℕ) × Contains lines line
     × BeginsWithHead line (record { id = id; version = version })
 
--- the line, with a line feed behind it, is the reply of a best answer in a database at a version
+-- the line, followed by a line feed, is the reply of a best answer in a database at a version
 abbrev pub IsRightReply : Database → Request → ℕ → List ℕ → Type 0
 IsRightReply d q version line =
     (answer : Answer) × IsBestAnswer d q answer × IsReply q.id version answer (line ++ 10 ∷ [])
@@ -40,7 +40,7 @@ pub record IsFirstReply (requests : List Request) (before : List (List ℕ)) (li
   pub asked : Contains requests q
   pub first : ¬ IsNamed before q.id
 
--- What is found of a line behind those before it: the first that applies.
+-- The finding of a line, after the lines before it: the first that applies.
 abbrev pub IsFinding : List NumberedChanges → List Request → List (List ℕ) → List ℕ → Finding → Type 0
 IsFinding batches requests before line finding.PassedOver = IsPassedOver line
 IsFinding batches requests before line finding.Unread = (¬ IsPassedOver line) × HasNoHead line

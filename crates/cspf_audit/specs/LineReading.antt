@@ -8,11 +8,11 @@ use Rattle.cspf_audit.specs.Lines.{HasNoFeed, AreLines, IsLastLine}
 abbrev pub IsReadingFault : AuditError → Type 0
 IsReadingFault e = (e ≡ error.Memory) ⊎ (e ≡ error.Device)
 
--- the same, or there are too many lines
+-- memory was refused, a read failed, or there are too many lines
 abbrev pub IsLinesFault : AuditError → Type 0
 IsLinesFault e = IsReadingFault e ⊎ (e ≡ error.TooManyRows)
 
--- a line stands before the rest of a text
+-- a line comes before the rest of a text
 abbrev pub IsLineBefore : List ℕ → List ℕ → List ℕ → Type 0
 IsLineBefore text line rest =
     HasNoFeed line × ((IsLastLine text line × (rest ≡ [])) ⊎ (text ≡ line ++ 10 ∷ rest))
@@ -24,7 +24,7 @@ TakesLine (Some text) after None = text ≡ []
 TakesLine (Some text) None (Some line) = ⊥
 TakesLine (Some text) (Some rest) (Some line) = IsLineBefore text line rest
 
--- all lines are those that were seen, and then those that are left
+-- the lines are those that were seen, followed by those that are left
 abbrev pub AreSeen : Option (List ℕ) → Option (List ℕ) → List (List ℕ) → Type 0
 AreSeen None left seen = Unit {0}
 AreSeen (Some all) None seen = ⊥

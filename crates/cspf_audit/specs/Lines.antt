@@ -7,12 +7,12 @@ use Rattle.cspf_rows.specs.declared.limits.TheConstants.{MOST_ROWS}
 abbrev pub HasNoFeed : List ℕ → Type 0
 HasNoFeed line = AllByRecursion (λ byte. byte ≢ 10) line
 
--- a text is one last line with no line feed behind it
+-- a text is one last line with no line feed after it
 abbrev pub IsLastLine : List ℕ → List ℕ → Type 0
 IsLastLine text line = (text ≡ line) × (line ≢ [])
 
--- A text is these lines: each has a line feed behind it, but for the last, which may have none.
--- Nothing behind the last line feed is no line.
+-- A text is these lines. Each is followed by a line feed, except the last, which may have none.
+-- Where nothing follows the last line feed there is no further line.
 abbrev pub AreLines : List ℕ → List (List ℕ) → Type 0
 AreLines text [] = text ≡ []
 AreLines text (line ∷ lines) =

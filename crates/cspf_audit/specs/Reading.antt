@@ -1,4 +1,4 @@
--- Private: what the code keeps of the lines, as far as they were read and compared.
+-- Private: the state of the code after some lines were read and compared.
 use Rattle.std.specs.Prelude.{◌≡◌, ℕ, ◌+◌, ◌<◌, ◌≤◌, ◌⊎◌, ◌↔◌, Bool, true, false, nat_eq, if◌then◌else◌, Option, List, [], ◌∷◌, Contains, Some, None, length, take}
 use Rattle.std.specs.BTreeMap.{BTreeMap, get}
 use Rattle.std.specs.List.{slice_get, slice_set}
@@ -81,13 +81,14 @@ pub record AreNamed (requests : List Request) (lines : List (List ℕ)) (named :
   pub each : (index : ℕ) (q : Request) → slice_get requests index ≡ Some q
       → (slice_get named index ≡ Some true) ↔ IsNamed lines q.id
 
--- what was read of these lines
+-- the state after these lines were read
 pub record HasReadLines (batches : List NumberedChanges) (requests : List Request) (replies : ReplyFindings) (seen : List (List ℕ)) : Type 0 where
   pub found : AreOpenFindings batches requests seen replies.claims.items replies.findings.items
   pub claims : AreClaims requests (length batches) seen replies.claims.items
   pub named : AreNamed requests seen replies.named.items
 
--- what a line says, by the index of each request by its id and the requests that were named before
+-- the reading of a line, by the index of each request by its id and the requests that were named
+-- before
 abbrev pub IsReading : BTreeMap ℕ ℕ → ℕ → List ℕ → List Bool → List Bool → Reading → Type 0
 IsReading ids last line before after (reading.Settled finding.PassedOver) = IsPassedOver line × (after ≡ before)
 IsReading ids last line before after (reading.Settled finding.Good) = ⊥

@@ -1,5 +1,4 @@
-//! Why an audit ends before it judges replies, and how the errors of the readers become this
-//! one.
+//! Why an audit ends before it judges replies, and the conversion of the readers' errors.
 
 ghost use Rattle.std.specs.Prelude.{◌≡◌};
 ghost use Rattle.cspf_rows.specs.declared.read_error.ReadError.{ReadError as IsReadError};
@@ -25,7 +24,7 @@ pub enum AuditError {
     /// There is a row or a line past `MOST_ROWS` of one stream.
     #[error("too many rows")]
     TooManyRows,
-    /// Rows are left behind the batches of the journal.
+    /// Rows are left after the batches of the journal.
     #[error("the journal is torn after batch {after}")]
     Torn {
         /// The number of its batches.

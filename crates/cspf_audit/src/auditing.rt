@@ -23,10 +23,10 @@ use std::alloc::{AllocError, Global};
 use std::collections::BTreeMap;
 use std::io::Read;
 
-/// Audits replies: whether each line that isn't passed over is the reply to a request of a stream at
-/// the version of a journal that it names, as `best_by_rounds` finds it, and which requests have no
-/// line. Lines are passed over whose first word is `version`, `applied` or `batch`. Each stream is
-/// read whole, and refused past `MOST_ROWS` rows or lines.
+/// Audits replies. Each line has to be the reply to a request of the stream, by `best_by_rounds`,
+/// at the version of the journal that it names. Requests with no line are faults, too. Lines whose
+/// first word is `version`, `applied` or `batch` are passed over. Each stream is read whole, and
+/// refused past `MOST_ROWS` rows or lines.
 pub fn audit<R: Read + Drop, Q: Read + Drop, P: Read + Drop>(
     alloc: Global,
     journal: R,

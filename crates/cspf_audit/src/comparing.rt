@@ -1,5 +1,4 @@
-//! Holds each line that claims to be a reply against the reply that the plain search gives at
-//! its version.
+//! Compares each line that claims to be a reply with the reply of the plain search at its version.
 
 ghost use Rattle.std.specs.Prelude.{◌≡◌, ◌↔◌, IsTrue, IfOk, OnOk, ◌∷◌, ◌++◌, [], length};
 ghost use Rattle.cspf_model.specs.Changes.{AreLawful};

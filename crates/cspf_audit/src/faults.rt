@@ -1,4 +1,4 @@
-//! What an audit finds: the faults, their text, and the number of good lines.
+//! The result of an audit: the faults, their text, and the number of good lines.
 
 use std::fmt;
 
@@ -30,7 +30,7 @@ pub enum AuditFault {
         /// Which line it is.
         line: u32,
     },
-    /// A request whose id stands in no line.
+    /// A request whose id is in no line.
     Unanswered {
         /// The id of the request.
         id: u64,

@@ -1,7 +1,7 @@
-/// What is found of a line.
+/// The finding of a line.
 #[derive(Clone, Copy, Debug, PartialEq, Eq)]
 pub(crate) enum Finding {
-    /// It tells of a batch or of a run, and isn't judged.
+    /// It reports a batch or a run, and isn't judged.
     PassedOver,
     /// It is the reply to its request at its version.
     Good,

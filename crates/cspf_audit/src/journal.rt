@@ -12,8 +12,8 @@ use cspf_rows::{Journal, Rest, read_journal};
 use std::alloc::Global;
 use std::io::Read;
 
-/// The batches of a journal, each of which fits the database of those before it, and behind which
-/// no row is left.
+/// Reads the batches of a journal. Each has to fit the database of those before it, and no row may
+/// be left after them.
 pub(crate) fn lawful_journal<R: Read + Drop>(
     alloc: Global,
     journal: R,

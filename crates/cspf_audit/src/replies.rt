@@ -17,10 +17,10 @@ use cspf_model::Request;
 use std::alloc::{AllocError, Global};
 use std::collections::BTreeMap;
 
-/// What the lines of replies say, as far as they were read.
+/// The findings and claims of the lines that were read.
 #[derive(Drop)]
 pub(crate) struct ReplyFindings {
-    /// What is found of each line. Lines that claim to be replies count as good.
+    /// The finding of each line. Lines that claim to be replies count as good.
     pub(crate) findings: Vec<Finding>,
     /// The lines that claim to be replies.
     pub(crate) claims: Vec<Claim>,
@@ -28,7 +28,7 @@ pub(crate) struct ReplyFindings {
     pub(crate) named: Vec<bool>,
 }
 
-/// What a line says before its words are compared.
+/// The reading of a line before its words are compared.
 #[derive(Clone, Copy)]
 enum Reading {
     /// There is nothing to compare.
@@ -98,7 +98,7 @@ impl ReplyFindings {
     }
 }
 
-/// What a line says, and marks the request that it names.
+/// Reads a line, and marks the request that it names.
 fn read_reply(line: &[u8], ids: &BTreeMap<u64, usize>, last: usize, named: &mut [bool]) -> Reading
     requires within { (id index : ℕ) → get nat_cmp ids.now id ≡ Some index
         → index < length named.old }

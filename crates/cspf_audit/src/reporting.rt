@@ -1,4 +1,4 @@
-//! Makes the faults of an audit from what was found of each line and of each request.
+//! Makes the faults of an audit from the findings of the lines and the requests that are named.
 
 ghost use Rattle.std.specs.Prelude.{◌≡◌, ◌++◌, ◌≤◌, List, ℕ, length, IfOk, OnOk};
 ghost use Rattle.cspf_rows.specs.declared.limits.TheConstants.{MOST_ROWS};
@@ -47,7 +47,7 @@ fn report_lines(findings: &[Finding], faults: &mut Vec<AuditFault>) -> Result<u3
     Ok(good)
 }
 
-/// The fault of a line, by what is found of it.
+/// The fault of a line, by its finding.
 fn fault_of(line: u32, finding: Finding) -> Option<AuditFault>
     ensures { result ≡ fault_at line finding }
 {

@@ -1,4 +1,4 @@
--- What a call that gives rows does to the session of a handle.
+-- The effect of a call that gives rows on the session of a handle.
 use Rattle.std.proofs.Common.{◌≡◌, ℕ, List, length, Result, Ok, Err, IfOk, subst}
 use Rattle.std.specs.declared.option.Option.{Option}
 use Rattle.std.specs.declared.option.Option.TheVariants.{None, Some}

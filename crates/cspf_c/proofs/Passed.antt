@@ -1,4 +1,5 @@
--- What a generic function of a box is handed for a session and for the allocator. Assumes `Logic`.
+-- The arguments of a generic function of a box for a session and for the allocator. Assumes
+-- `Logic`.
 use Rattle.std.proofs.Common.{[], ◌∷◌, refl}
 use seplogic.Ra.Ura.{Ura}
 use types.Logic.{Logic}
@@ -51,7 +52,7 @@ pub memory_glue : {M : Type 1} (𝓤 : Ura M) (𝓛 : Logic 𝓤) (𝓜 : Model 
 unfolding none_drop.code
 memory_glue 𝓤 𝓛 𝓜 𝓡 wired = glues "cspf_c::Destruct++none::drop" 𝓡.env wired (passed Memory) memory_laws _ 𝓤 𝓛 𝓜 𝓡
 
--- the drop of a session lets it go, whatever lifetime it is handed
+-- the drop of a session releases it, with any lifetime
 pub opened_glue : {M : Type 1} (𝓤 : Ura M) (𝓛 : Logic 𝓤) (𝓜 : Model 𝓤 𝓛.H) (𝓡 : Running 𝓤 𝓛.H 𝓜) → Wired 𝓡.env code → glue.Met 𝓛 𝓜 𝓡 𝓡.env (passed Opened) opened_drop
 opened_glue 𝓤 𝓛 𝓜 𝓡 wired =
     let k : Callee = method opened_drop 0 no_args in let run = 𝓡.run (𝓡.env k) in let framed = run_framed 𝓤 𝓛.H 𝓜 𝓡 (𝓡.env k) in

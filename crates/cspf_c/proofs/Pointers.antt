@@ -1,4 +1,5 @@
--- The machine values of a handle and of a box, and what a handle holds. Assumes `Logic`.
+-- The machine values of a handle and of a box, and the session that a handle holds. Assumes
+-- `Logic`.
 use Rattle.std.proofs.Common.{◌≡◌, ℕ, List, [], ◌∷◌, refl, sym, ap, ◌∙◌, lit<}
 use Prim.Native.Nat.{zero}
 use seplogic.Ra.Ura.{Ura}
@@ -114,7 +115,7 @@ module _ {M : Type 1} {𝓤 : Ura M} {𝓛 : Logic 𝓤} {K : Type 0} {Γ : List
       fjoin t $ some x b refl at))
 
 module _ {M : Type 1} {𝓤 : Ura M} {𝓛 : Logic 𝓤} {K : Type 0} {Γ : List (Item 𝓤)} {G : Goal 𝓤 𝓛.H} where
-  -- a pointer with what is held at it is a handle
+  -- a pointer with the session that is held at it is a handle
   pub handle_of : K → (p : Ptr) (value : Option Opened.Denot)
       → Step K 𝓛 (‵ (Handle.own_val (record { at = p; value = value }) (handle_word p ∷ [])) ∷ Γ) G (‵ (holds Opened p value) ∷ Γ) G
   handle_of t p value = step (λ s.

@@ -10,7 +10,7 @@ use Rattle.cspf_serve.specs.SolverStates.{KeepsRun, AreFew}
 use Rattle.cspf_c.specs.History.{IsCounted}
 use Rattle.cspf_c.specs.declared.session.TakenRows.{TakenRows}
 
--- what the solver owes before a row
+-- the counts of the solver before a row
 pub few : (taken : TakenRows) → ∥ IsCounted taken ∥₁ → AreFew taken.solver
 few taken truly = record {
   rows = ∥∥₁_elim truly le_prop (λ counted. omega (arith, counted.kept.rows, counted.rows, counted.most));

@@ -48,7 +48,7 @@ none_counted taken kept none = record {
 
 -- ---- a row that is answered
 
--- where as many rows aren't answered none is behind them
+-- where fewer rows than that are answered, no rows come after them
 none_past : (too_many : Bool) (count : ℕ) (rest : Rows) → IsPast too_many count rest → count < 1000000 → (rest ≡ []) × (too_many ≡ false)
 none_past false count rest past room = (past.0, refl)
 none_past true count rest past room = let wrong : ⊥ = omega (arith, past.1, room) in absurd wrong

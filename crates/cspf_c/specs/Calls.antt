@@ -1,4 +1,4 @@
--- What the calls from C answer.
+-- The results of the calls from C.
 use Rattle.std.specs.Prelude.{◌≡◌, ℕ, List, [], ◌++◌, length, take, drop, min, Option, Result, Ok, Err}
 use Rattle.std.specs.declared.alloc.AllocError.{AllocError}
 use Rattle.std.specs.declared.option.Option.TheVariants.{None, Some}
@@ -35,7 +35,7 @@ IsCalled does code None new = (code ≡ CLOSED) × (new ≡ None)
 IsCalled does code (Some old) None = code ≡ MEMORY
 IsCalled does code (Some old) (Some new) = (code ≡ ANSWERED) × does old new
 
--- the lines of the call before are copied to the front of a buffer, as many bytes as it takes
+-- the lines of the call before are copied to the start of a buffer, as many bytes as it takes
 abbrev pub AreCopied : Option Opened → List ℕ → List ℕ → ℕ → Type 0
 AreCopied None old new size = (size ≡ 0) × (new ≡ old)
 AreCopied (Some opened) old new size =

@@ -1,4 +1,4 @@
--- What a session has answered.
+-- The answers of a session.
 use Rattle.std.specs.Prelude.{◌≡◌, ℕ, ◌<◌, ◌≤◌, Bool, true, false, List, [], ◌∷◌, ◌++◌, length, Result}
 use Rattle.cspf_rows.specs.Rows.{row_of}
 use Rattle.cspf_rows.specs.declared.limits.TheConstants.{MOST_ROWS}
@@ -8,13 +8,12 @@ use Rattle.cspf_serve.specs.Script.{RunState, start, AreRowsAnswered}
 use Rattle.cspf_serve.specs.SolverStates.{KeepsRun}
 use Rattle.cspf_c.specs.declared.session.TakenRows.{TakenRows}
 
--- rows behind the first 1,000,000: none, or some where as many are answered
+-- rows after the first 1,000,000: none, or some where 1,000,000 are answered
 abbrev pub IsPast : Bool → ℕ → List (List (List ℕ)) → Type 0
 IsPast false count rest = (rest ≡ []) × (count ≤ MOST_ROWS)
 IsPast true count rest = (0 < length rest) × (count ≡ MOST_ROWS)
 
--- These rows were given, one behind the other, and these lines are their answers: of the rows that
--- are answered, which are the first 1,000,000.
+-- These rows were given, one after the other. These lines answer the first 1,000,000 of them.
 pub record HasAnswered (taken : TakenRows) (rows : List (List (List ℕ))) (lines : List ℕ) : Type 0 where
   pub done : List (List (List ℕ))
   pub rest : List (List (List ℕ))

@@ -20,15 +20,15 @@ fn take_session(alloc: Global, handle: &mut Handle) -> Option<Box<Opened>>
     replace(handle, Handle::none()).into_session(alloc)
 }
 
-/// Lets a handle hold a session. One that it held is closed.
+/// Puts a session into a handle. One that it held is closed.
 fn hold_session(alloc: Global, handle: &mut Handle, session: Box<Opened>)
     ensures { handle.new.value ≡ Some session.value }
 {
     drop(replace(handle, Handle::of(session)).into_session(alloc));
 }
 
-/// Lets a handle hold a session, where there is one and its memory is granted, and answers the code
-/// of the call.
+/// Puts a session into a handle, if it was made and its memory is granted. Returns the code of the
+/// call.
 fn keep_session(alloc: Global, handle: &mut Handle, made: Result<Opened, AllocError>) -> u32
     ensures { IsHeld result made handle.new.value }
 {
@@ -63,7 +63,7 @@ pub extern "C" fn routed_open(alloc: Global, handle: &mut Handle) -> u32
     keep_session(alloc, handle, Opened::new(alloc))
 }
 
-/// Gives rows to the session, and answers how many bytes their lines have.
+/// Gives rows to the session, and returns how many bytes their lines have.
 #[unsafe(no_mangle)]
 pub extern "C" fn routed_rows(
     alloc: Global,
@@ -81,7 +81,7 @@ pub extern "C" fn routed_rows(
     keep_session(alloc, handle, made)
 }
 
-/// Ends the rows that were given, and answers how many bytes the last line has.
+/// Ends the rows that were given, and returns how many bytes the last line has.
 #[unsafe(no_mangle)]
 pub extern "C" fn routed_end(alloc: Global, handle: &mut Handle, size: &mut usize) -> u32
     ensures { IsCalled (IsEnded size.new) result handle.old.value handle.new.value }
@@ -94,8 +94,8 @@ pub extern "C" fn routed_end(alloc: Global, handle: &mut Handle, size: &mut usiz
     keep_session(alloc, handle, made)
 }
 
-/// Copies the lines of the call before to the front of a buffer, as many bytes as it takes, and
-/// answers how many these are.
+/// Copies the lines of the call before to the start of a buffer, as many bytes as it takes. Returns
+/// how many bytes these are.
 #[unsafe(no_mangle)]
 pub extern "C" fn routed_lines(alloc: Global, handle: &mut Handle, buffer: &mut [u8]) -> usize
     ensures same { handle.new.value ≡ handle.old.value }

@@ -1,4 +1,4 @@
-//! What a call from C answers.
+//! The codes that a call from C returns.
 
 /// The call did what it says.
 pub const ANSWERED: u32 = 0;

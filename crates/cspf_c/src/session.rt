@@ -69,8 +69,8 @@ impl SolveSession {
         Ok(SolveSession { taken })
     }
 
-    /// Takes the rows of some bytes, which are read as a stream of their own, and answers their
-    /// lines. Where memory is refused the session is over.
+    /// Reads the rows of some bytes as a separate stream, and returns their lines. Where memory is
+    /// refused the session is over.
     pub(crate) fn answer(
         self,
         alloc: Global,

@@ -1,4 +1,4 @@
--- What a client knows never becomes less.
+-- The batches that a client knows never become fewer.
 use Rattle.std.proofs.Common.{◌≡◌, ℕ, suc, Bool, List, [], ◌∷◌, length, Option, Result, Ok, Err, OnOk, IfErr, inl, inr, sym, ap, subst}
 use Rattle.cspf_publish.specs.KnownBatches.{KnownBatches, AreFirstOf}
 use Rattle.cspf_rows.specs.Rows.{row_of}
@@ -49,7 +49,7 @@ forward place s t (fields ∷ rows) lines a =
 abbrev Rows : Type 0
 Rows = List (List (List ℕ))
 
--- where a row stops
+-- after a row that stops the stream
 forward_row_stopped : (why : StreamError) (place : ℕ) (r : Result Row RowError) (s t : SessionState) (old new : Option (List ℕ))
     → IsRowStopped IsClientAnswered IsClientUnanswered why place r s t old new → AreFirstOf t.known s.known
 forward_row_stopped stream_error.Memory place r s t old new a = forward_unanswered place s t r a.0

@@ -1,4 +1,4 @@
--- A client that takes news, one word after the other.
+-- A client that takes news, one item after the other.
 use Rattle.std.proofs.Common.{◌≡◌, ℕ, ◌+◌, List, [], ◌∷◌, ◌++◌, length, inl, inr, refl, sym, ap, ◌∙◌, append_assoc, append-nil}
 use Rattle.std.proofs.lemmas.List.{length-append}
 use Rattle.cspf_publish.specs.Histories.{BeginsWith}
@@ -7,7 +7,7 @@ use Rattle.cspf_client.specs.NewsStates.{ListenerState, Learns, Hears}
 use Rattle.cspf_client.specs.declared.limits.TheConstants.{KEPT_NEWS}
 use Rattle.cspf_client.proofs.Learning.{Learns-nil, Learns-push}
 
--- this many words were taken, and the asker learnt them
+-- this many items were taken, and the asker learnt them
 pub record IsHearing (old new : ListenerState) (before after : KnownBatches) (count : ℕ) : Type 0 where
   pub news : List KnownBatches
   pub count_of : length news ≡ count
@@ -26,7 +26,7 @@ hears_nothing s k same = record {
   same = same;
 }
 
--- one word more
+-- one more item
 pub hears_more : (s t u : ListenerState) (a b c told : KnownBatches) (count : ℕ) → IsHearing s t a b count
     → u.source ≡ t.source → u.heard ≡ t.heard ++ told ∷ [] → c.source ≡ b.source → BeginsWith c.batches b.batches → BeginsWith c.batches told.batches
     → IsHearing s u a c (count + 1)

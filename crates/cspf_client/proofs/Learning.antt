@@ -1,4 +1,4 @@
--- What an asker knows that learns news, one word after the other.
+-- The batches that an asker knows after news, one item after the other.
 use Rattle.std.proofs.Common.{List, [], ◌∷◌, ◌++◌, refl, sym, ap, ◌∙◌, append_assoc}
 use Rattle.std.proofs.lemmas.List.{append-nil}
 use Rattle.std.proofs.lemmas.List.Elements.{All-nil, All-push, All-weaker}
@@ -36,7 +36,7 @@ Learns-later a b c news learns more = record {
       (λ w begins. BeginsWith-trans w.batches b.batches c.batches begins more.begins) news learns.each;
 }
 
--- one word more
+-- one more item
 pub Learns-push : (a b c told : KnownBatches) (news : List KnownBatches) → Learns a b news → AreFirstOf c b → BeginsWith c.batches told.batches
     → Learns a c (news ++ told ∷ [])
 Learns-push a b c told news learns more begins =

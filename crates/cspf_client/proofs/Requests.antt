@@ -1,4 +1,4 @@
--- What a request does whose asker heard the news before.
+-- The effect of a request, after the asker took the news.
 use Rattle.std.proofs.Common.{◌≡◌, ℕ, Bool, true, List, Result, Ok, Err, OnErr, inl, inr, refl, sym}
 use Rattle.cspf_model.specs.declared.request.Request.{Request}
 use Rattle.cspf_ero.specs.ReplyLine.{IsReply}
@@ -15,7 +15,7 @@ use Rattle.cspf_client.specs.NewsStates.{ListenerState, Hears}
 use Rattle.cspf_client.specs.SessionStates.{SessionState}
 use Rattle.cspf_client.proofs.Learning.{Learns-later}
 
--- what the session is to a clause
+-- the value of the session in clauses
 abbrev pub session : KnownBatches → ListenerState → ℕ → Bool → SessionState
 session asker listener refused no_entry =
     record { known = asker; heard = listener.heard; waiting = listener.waiting; refused = refused; no_entry = no_entry }
@@ -44,13 +44,13 @@ module _ (a b c : KnownBatches) (old new : ListenerState) (refused : ℕ) (hears
   pub memory_refused : (no_entry : Bool) → IsRequestUnanswered (session a old refused no_entry) (session c new refused no_entry)
   memory_refused no_entry = record { hears = heard_more no_entry no_entry; entry = inl refl }
 
-  -- a request isn't answered, as is noted
+  -- a request isn't answered, and the cause is noted
   pub unanswered : (no_entry : Bool) (why : AskError)
       → IsRequestUnanswered (session a old refused no_entry) (session c new refused (entry_noted no_entry why))
   unanswered no_entry ask_error.NoEntry = record { hears = heard_more no_entry true; entry = inr refl }
   unanswered no_entry ask_error.Memory = memory_refused no_entry
 
--- what holds anyway holds at an error
+-- what always holds also holds at an error
 pub at_error : {T E : Type 0} (P : Type 0) (r : Result T E) → P → OnErr r P
 at_error P (Ok x) holds = tt
 at_error P (Err e) holds = holds

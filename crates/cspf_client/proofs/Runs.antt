@@ -1,4 +1,4 @@
--- What a client was answered, by how its stream ended.
+-- The answers to a client, by how its stream ended.
 use Rattle.std.proofs.Common.{◌≡◌, ℕ, Bool, true, false, List, Option, Some, Result, Ok, Err, OnOk, IfErr, MatchResult, refl, sym, subst}
 use Rattle.csv.specs.declared.reader.Reader.{Reader}
 use Rattle.cspf_rows.specs.Records.{rows_left}

@@ -1,4 +1,4 @@
--- What the rows of a client are answered.
+-- The answers to the rows of a client.
 use Rattle.std.specs.Prelude.{◌≡◌, ℕ, ◌+◌, ◌⊎◌, true, List, [], ◌++◌, length, Result, Ok, Err}
 use Rattle.cspf_model.specs.declared.request.Request.{Request}
 use Rattle.cspf_model.specs.Changes.{database_after}
@@ -14,8 +14,8 @@ use Rattle.cspf_client.specs.NewsStates.{Learns}
 use Rattle.cspf_client.specs.SessionStates.{SessionState}
 use Rattle.cspf_client.specs.declared.limits.TheConstants.{KEPT_NEWS}
 
--- The client hears all news that is there, unless it is as much as a client takes at once, and its asker
--- learns it and perhaps more.
+-- The client takes all news in its ring, up to as much as a client takes at once. Its asker learns
+-- it, and perhaps more.
 pub record HearsNews (s t : SessionState) : Type 0 where
   pub news : List KnownBatches
   pub heard : t.heard ≡ s.heard ++ news
@@ -29,9 +29,9 @@ pub record IsRefusedRow (place : ℕ) (why : RowError) (s : SessionState) (line 
   pub after : t ≡ record s { refused = s.refused + 1 }
 
 -- A request is answered by the best answer in the database of the batches that the asker knows
--- afterwards, at their number as the version. They begin with all that it knew before, and with the
--- news that the client hears now. News that is left in the ring, or that the ring had no room for, may
--- be of more batches.
+-- afterwards, at their number as the version. The batches that it knew before and those of the news
+-- that the client takes now are prefixes of them. News that is left in the ring, or that the ring
+-- had no room for, may be of more batches.
 pub record IsRequestAnswered (q : Request) (s : SessionState) (line : List ℕ) (t : SessionState) : Type 0 where
   pub hears : HearsNews s t
   pub entry : t.no_entry ≡ s.no_entry
@@ -39,7 +39,7 @@ pub record IsRequestAnswered (q : Request) (s : SessionState) (line : List ℕ) 
   pub best : IsBestAnswer (database_after t.known.batches) q answer
   pub reply : IsReply q.id (length t.known.batches) answer line
 
--- what the row at this place, from 1, is answered: from a state to a state
+-- the line that answers the row at this place, from 1, and the states before and after
 abbrev pub IsClientAnswered : ℕ → SessionState → Result Row RowError → List ℕ → SessionState → Type 0
 IsClientAnswered place s (Err why) line t = IsRefusedRow place why s line t
 IsClientAnswered place s (Ok (row.Put link)) line t = IsRefusedRow place error.Kind s line t
@@ -53,7 +53,7 @@ pub record IsRequestUnanswered (s t : SessionState) : Type 0 where
   pub hears : HearsNews s t
   pub entry : (t.no_entry ≡ s.no_entry) ⊎ (t.no_entry ≡ true)
 
--- what stands where the row at this place isn't answered: only a request changes anything
+-- the state where the row at this place isn't answered: only a request changes anything
 abbrev pub IsClientUnanswered : ℕ → SessionState → Result Row RowError → SessionState → Type 0
 IsClientUnanswered place s (Err why) t = t ≡ s
 IsClientUnanswered place s (Ok (row.Put link)) t = t ≡ s

@@ -1,4 +1,4 @@
--- What a client was answered whose stream has ended, or stopped before its end.
+-- The answers to a client, and its state, after its stream has ended or stopped before its end.
 use Rattle.std.specs.Prelude.{◌≡◌, ℕ, Bool, true, false, List, Option, MatchResult}
 use Rattle.cspf_stream.specs.RowAnswers.{AreAnswered, AreAllAnswered}
 use Rattle.cspf_stream.specs.StreamStops.{HasStopped}
@@ -11,13 +11,13 @@ use Rattle.cspf_client.specs.ServingStates.{ServingState, reader_rows}
 use Rattle.cspf_client.specs.declared.error.ClientError.{ClientError}
 use Rattle.cspf_client.specs.declared.error.ClientError.TheVariants as error
 
--- A stream of requests stops, whatever is left of it and whether its reader has failed.
+-- A stream of requests stops, whatever rows are left and whether or not its reader has failed.
 abbrev pub IsStreamStopped : StreamError → Option (List (List (List ℕ))) → SessionState → SessionState → Option (List ℕ) → Option (List ℕ) → Type 0
 IsStreamStopped why all s t old new =
     (left : Option (List (List (List ℕ)))) × (failed : Bool) × HasStopped IsClientAnswered IsClientUnanswered why all left failed s t old new
 
--- The client's stream stops: as any stream does, or at a request whose entry was refused. What a client
--- knows is looked at later.
+-- The client's stream stops: as any stream does, or at a request whose entry was refused. The
+-- batches that the client knows are checked later.
 abbrev pub IsClientStopped : {Q V : Type 0} → (Q → Option (List ℕ)) → (V → Option (List ℕ)) → ClientError → ServingState Q V → ServingState Q V → Type 0
 IsClientStopped bytes contents (error.Stream why) old new =
     (why ≡ stream_error.Memory → new.state.no_entry ≡ false)
@@ -35,8 +35,8 @@ IsClientRun bytes contents old new =
     (λ done. AreAllAnswered IsClientAnswered (reader_rows bytes old.requests) old.state new.state (contents old.replies) (contents new.replies))
     (λ why. IsClientStopped bytes contents why old new)
 
--- Whatever rows a client is answered, what it knew before them begins what it knows after: so its
--- versions never fall.
+-- The batches that a client knew before some rows are a prefix of those that it knows after them.
+-- So its versions never fall.
 abbrev pub ClientsGoForward : Type 0
 ClientsGoForward =
     (place : ℕ) (s t : SessionState) (rows : List (List (List ℕ))) (lines : List ℕ) → AreAnswered IsClientAnswered place s rows lines t

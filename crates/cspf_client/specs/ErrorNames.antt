@@ -1,4 +1,4 @@
--- Under which name a client ends whose stream did, or whose request wasn't answered.
+-- The error of a client whose stream stopped, or whose request wasn't answered.
 use Rattle.std.specs.Prelude.{Bool, true, false, Result, Ok, Err}
 use Rattle.cspf_publish.specs.declared.errors.AskError.{AskError}
 use Rattle.cspf_publish.specs.declared.errors.AskError.TheVariants as ask_error
@@ -21,7 +21,7 @@ abbrev pub entry_noted : Bool → AskError → Bool
 entry_noted no_entry ask_error.NoEntry = true
 entry_noted no_entry ask_error.Memory = no_entry
 
--- how a client ends whose stream did
+-- the result of a client, by the result of its stream
 abbrev pub client_end_of : Bool → Result (Unit {0}) StreamError → Result (Unit {0}) ClientError
 client_end_of no_entry (Ok done) = Ok done
 client_end_of no_entry (Err why) = Err (client_error_of no_entry why)

@@ -1,4 +1,4 @@
--- What the two ends of a ring of news are to a clause, and what they do.
+-- The values of the two ends of a ring of news in clauses, and their effects.
 use Rattle.std.specs.Prelude.{◌≡◌, ℕ, ◌⊎◌, List, [], ◌∷◌, ◌++◌, length, All}
 use Rattle.logbook.specs.Pages.{Book}
 use Rattle.cspf_model.specs.Numbered.{NumberedChanges}
@@ -24,7 +24,7 @@ pub record ListenerState : Type 0 where
   pub heard : List KnownBatches
   pub waiting : List KnownBatches
 
--- Word of these batches was left, unless the ring was full.
+-- News of these batches was put into the ring, unless the ring was full.
 pub record IsTold (old new : TellerState) (batches : List NumberedChanges) : Type 0 where
   pub source : new.source ≡ old.source
   pub word : (new.told ≡ old.told ++ record { batches = batches; source = old.source } ∷ []) ⊎ ((new.told ≡ old.told) × (new.room ≡ 0))

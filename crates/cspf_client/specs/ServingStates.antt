@@ -1,4 +1,4 @@
--- What a client is to a clause.
+-- The value of a client in clauses.
 use Rattle.std.specs.Prelude.{◌≡◌, ℕ, ◌<◌, ◌⊎◌, false, List, length, Option, None, Some, Result, Ok, Err}
 use Rattle.csv.specs.declared.reader.Reader.{Reader}
 use Rattle.cspf_rows.specs.Records.{IsPlain, rows_left}
@@ -7,8 +7,8 @@ use Rattle.cspf_client.specs.SessionStates.{SessionState}
 use Rattle.cspf_client.specs.declared.error.ClientError.{ClientError}
 use Rattle.cspf_client.specs.declared.error.ClientError.TheVariants as error
 
--- What stands between two rows, the reader of its requests until its stream has ended, the writer of its
--- replies, and how its stream ended.
+-- The state between two rows, the reader of its requests until its stream has ended, the writer of
+-- its replies, and how its stream ended.
 pub record ServingState (Q V : Type 0) : Type 0 where
   pub state : SessionState
   pub requests : Option (Reader Q)
@@ -29,7 +29,7 @@ abbrev pub reader_rows : {Q : Type 0} → (Q → Option (List ℕ)) → Option (
 reader_rows bytes None = None
 reader_rows bytes (Some reader) = rows_left bytes reader
 
--- A client has learnt all that is published. It knows no more, unless it ends as ahead.
+-- A client has learnt all published batches. It knows no more, unless it ends as `Ahead`.
 abbrev pub HasMet : {Q V : Type 0} → KnownBatches → ServingState Q V → ServingState Q V → Type 0
 HasMet told old new =
     ((new.state.known ≡ told) × (new.end ≡ old.end))

@@ -1,4 +1,4 @@
--- What stands between two rows of a client.
+-- A client's state between two rows.
 use Rattle.std.specs.Prelude.{ℕ, Bool, List}
 use Rattle.cspf_publish.specs.KnownBatches.{KnownBatches}
 

@@ -1,5 +1,4 @@
-//! A client of a server: its streams, how all its rows are answered, and what is left of it at
-//! the end.
+//! A client of a server: its streams, how all its rows are answered, and its result.
 
 ghost use Rattle.std.specs.Prelude.{◌≡◌, ◌<◌, None, OnOk, IfErr};
 ghost use Rattle.std.specs.Option.{option_map};
@@ -35,7 +34,8 @@ pub struct Client<Q, V> {
 #[derive(Drop)]
 pub struct ServingClient<Q, V> {
     session: Session,
-    /// Let go once its stream has ended, so that whoever writes requests doesn't wait for a reader.
+    /// Dropped once its stream has ended, so that the writer of the requests doesn't wait for a
+    /// reader.
     requests: Option<Reader<Q>>,
     replies: V,
     end: Result<(), ClientError>,
@@ -54,7 +54,7 @@ impl<Q, V> Model for ServingClient<Q, V> {
     } };
 }
 
-/// What is left of a client.
+/// The result of a client.
 #[derive(Drop)]
 pub struct ServedClient<V> {
     /// The writer of its replies.
@@ -65,7 +65,7 @@ pub struct ServedClient<V> {
     pub refused: u64,
 }
 
-/// Answers all rows that a reader has left, and lets go of it.
+/// Answers all rows that a reader has left, and drops the reader.
 fn answer_all<Q: Read + Drop, V: Replies>(
     alloc: Global,
     requests: Reader<Q>,
@@ -83,7 +83,7 @@ fn answer_all<Q: Read + Drop, V: Replies>(
     answer_rows(&(), alloc, &mut requests, replies, session)
 }
 
-/// How a client ends whose stream did, by whether an entry was refused.
+/// The result of a client, by the result of its stream and whether an entry was refused.
 fn end_of(ended: Result<(), StreamError>, no_entry: bool) -> Result<(), ClientError>
     ensures { result ≡ client_end_of no_entry ended }
 {
@@ -94,7 +94,7 @@ fn end_of(ended: Result<(), StreamError>, no_entry: bool) -> Result<(), ClientEr
 }
 
 impl<Q: Read + Drop, V: Replies> ServingClient<Q, V> {
-    /// A client whose requests aren't read yet. Its news is of the asker's publisher.
+    /// A client whose requests aren't read yet. Its news has to be of the asker's publisher.
     pub fn new(
         alloc: Global,
         asker: Asker,
@@ -117,10 +117,10 @@ impl<Q: Read + Drop, V: Replies> ServingClient<Q, V> {
         }
     }
 
-    /// Answers all rows of its requests, one by one: an `ask` row at the version that its asker then
-    /// knows, after it took the news that is there, and any other row by its refusal. Each line is
-    /// flushed before the next row is read. It waits for nobody but its own streams. The reader of its
-    /// requests is let go, and then the writer of the replies is told their end.
+    /// Answers all rows of its requests, one by one: an `ask` row at the version that its asker
+    /// then knows, after it took the news in its ring, and any other row by its refusal. Each line
+    /// is flushed before the next row is read. It waits only for its streams. At the end it drops
+    /// the reader of the requests, and then ends the replies.
     pub fn run(&mut self, alloc: Global)
         requires { IsReady self.old }
         ensures run { IsClientRun Q.remaining V.contents self.old self.new }
@@ -136,7 +136,8 @@ impl<Q: Read + Drop, V: Replies> ServingClient<Q, V> {
         self.replies.end();
     }
 
-    /// Learns what was told last, which is all that is published. One that knows more ends as `Ahead`.
+    /// Learns the last token, which has all published batches. A client that knows more ends as
+    /// `Ahead`.
     pub fn meet(&mut self, told: Told)
         requires { told.source ≡ self.old.state.known.source }
         ensures others { self.new ≡ record self.old {
@@ -151,7 +152,7 @@ impl<Q: Read + Drop, V: Replies> ServingClient<Q, V> {
         }
     }
 
-    /// What is left of it.
+    /// Its result.
     pub fn close(self) -> ServedClient<V>
         ensures { result ≡ record {
           replies = self.replies;

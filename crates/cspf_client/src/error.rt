@@ -13,7 +13,7 @@ pub enum ClientError {
     /// Its asker couldn't enter the published replica, which no run shows.
     #[error("no entry")]
     NoEntry,
-    /// It knows more than is published, which no run shows.
+    /// It knows more batches than are published, which no run shows.
     #[error("ahead of what is published")]
     Ahead,
 }

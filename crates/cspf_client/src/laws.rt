@@ -1,7 +1,7 @@
 ghost use Rattle.cspf_client.specs.ClientRuns.{ClientsGoForward};
 
-/// Law: clients go forward. What a client knows after some rows begins with what it knew before them,
-/// so the versions of its replies never fall.
+/// Law: clients go forward. The batches that a client knew before some rows are a prefix of those
+/// that it knows after them, so the versions of its replies never fall.
 pub fn clients_go_forward()
     ensures { ClientsGoForward }
 {}

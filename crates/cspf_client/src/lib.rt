@@ -1,11 +1,11 @@
-//! Clients of a publisher: each is a stream of requests, which an asker in a thread of its own answers
-//! one by one, and waits for nobody.
+//! Clients of a publisher. Each is a stream of requests, which an asker answers one by one in the
+//! client's thread, without waiting for other clients.
 //!
-//! A publisher leaves what it published in a ring for each client, as news: `specs/NewsStates.antt`.
-//! `specs/ClientRows.antt` defines what the row of a client is answered, at which version, and what it
-//! knows then, and `specs/ClientRuns.antt` what a client was answered whose stream has ended, or
-//! stopped before, under the names of `specs/ErrorNames.antt`. How rows are read and lines written is
-//! that of `cspf_stream`.
+//! A publisher puts news of its batches into a ring for each client: `specs/NewsStates.antt`.
+//! `specs/ClientRows.antt` defines how the row of a client is answered, at which version, and which
+//! batches the client knows then. `specs/ClientRuns.antt` defines the answers to a client whose
+//! stream has ended or stopped, and `specs/ErrorNames.antt` its errors. `cspf_stream` reads rows
+//! and writes lines.
 #![tactic(auto)]
 
 mod client;

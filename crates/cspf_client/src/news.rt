@@ -1,4 +1,4 @@
-//! News of what is published, from a publisher to a client in another thread. Neither end waits for
+//! News of published batches, from a publisher to a client in another thread. Neither end waits for
 //! the other.
 ghost use Rattle.std.specs.Prelude.{◌≡◌, ◌++◌, ◌∷◌, [], IfOk, IfSome, IfNone};
 ghost use Rattle.rtrb.specs.Ring.{sent, known_free, received, known_items};
@@ -79,7 +79,7 @@ pub fn open_news<W: Write>(
     let (mut sender, mut receiver) = RingBuffer::<Told>::with_protocol::<Global, OneSource>(
         alloc, KEPT_NEWS,
     )?;
-    // What goes through first is the listener's measure of what may follow.
+    // The first news is the listener's lower bound of what may follow.
     sender.push_reserved(publisher.tell());
     receiver.slots_beside(&mut sender);
     let first = receiver.pop_known();
@@ -95,9 +95,9 @@ pub fn open_news<W: Write>(
 }
 
 impl Teller {
-    /// Leaves word of what is published. Where the ring is full it is dropped: the client then takes
-    /// what is there before its next ask, and the next word finds room. What a client is answered is
-    /// never older than what it took, and may be newer.
+    /// Puts news of the published batches into the ring. Where the ring is full the news is
+    /// dropped: the client takes the news in the ring before its next ask, and later news finds
+    /// room. An answer to a client is never older than the news that it took, and may be newer.
     pub fn tell<W: Write>(&mut self, publisher: &mut Publisher<W>)
         requires { publisher.old.source ≡ self.old.source }
         ensures same { publisher.new ≡ publisher.old }
@@ -108,7 +108,7 @@ impl Teller {
 }
 
 impl Listener {
-    /// The next word in the ring.
+    /// The next item in the ring.
     fn take(&mut self) -> Option<Told>
         ensures source { self.new.source ≡ self.old.source }
         ensures some { IfSome result (λ told. (told.source ≡ self.old.source)
@@ -118,7 +118,7 @@ impl Listener {
         self.ring.pop().ok()
     }
 
-    /// Takes all words in the ring, at most `KEPT_NEWS`, and lets the asker learn them.
+    /// Takes all items in the ring, at most `KEPT_NEWS`, and has the asker learn them.
     pub(crate) fn catch_up(&mut self, asker: &mut Asker)
         requires { asker.old.source ≡ self.old.source }
         ensures { Hears self.old self.new asker.old asker.new }

@@ -2,14 +2,14 @@ ghost use Rattle.std.specs.Prelude.{◌≡◌};
 
 use std::io::Write;
 
-/// A writer of replies, which is told their end.
+/// A writer of replies, with a call for their end.
 pub trait Replies: Write {
-    /// No reply comes any more, so who reads them may be shown their end.
+    /// No more replies come, so the writer may signal their end to the reader.
     fn end(&mut self)
         ensures { Self.contents self.new ≡ Self.contents self.old };
 }
 
-/// What reads a vector sees all that was written once it is given back.
+/// A vector has no reader to signal to. It is read after it is given back.
 impl Replies for Vec<u8> {
     fn end(&mut self) {}
 }

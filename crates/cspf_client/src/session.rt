@@ -16,7 +16,7 @@ use cspf_stream::{Answering, refused_row};
 use std::alloc::{AllocError, Global};
 use std::marker::Model;
 
-/// What stands between two rows of a client.
+/// A client's state between two rows.
 #[derive(Drop)]
 pub struct Session {
     asker: Asker,
@@ -55,7 +55,7 @@ fn line_of(alloc: Global, answer: Answer) -> Result<Vec<u8>, AllocError>
 impl Session {
     ghost use Rattle.std.specs.Prelude.{false};
 
-    /// Before the first row.
+    /// The state before the first row.
     pub(crate) fn new(asker: Asker, listener: Listener) -> Session
         requires { listener.source ≡ asker.source }
         ensures { result ≡ record {
@@ -88,7 +88,7 @@ impl Session {
         self.no_entry
     }
 
-    /// Learns what was told, and answers whether it knows no more.
+    /// Learns the batches of the token, and returns whether it knows no more than these.
     pub(crate) fn meet(&mut self, told: Told) -> bool
         requires { told.source ≡ self.old.known.source }
         ensures others { self.new ≡ record self.old { known = self.new.known } }
@@ -100,7 +100,7 @@ impl Session {
         self.asker.meet(told) == published
     }
 
-    /// Hears the news, asks, and answers the reply line.
+    /// Takes the news, asks, and returns the reply line.
     fn ask(&mut self, alloc: Global, request: &Request) -> Result<Vec<u8>, AllocError>
         ensures answered { IfOk result (λ line.
             IsRequestAnswered request.now self.old line.items self.new) }

@@ -13,7 +13,7 @@ use Rattle.cspf_draw.specs.declared.seat_draws.SeatDraws.{SeatDraws}
 use Rattle.cspf_draw.specs.DrawnNumbers.{DrawnNumbers}
 use Rattle.cspf_draw.specs.EachOnce.{times, once_below}
 
--- what stands at a place
+-- the view at a place
 pub at_place : (views : List SeatDraws) (seat : ℕ) (v : SeatDraws) → get_elem? views seat ≡ some v → (seat < length views) × ((d : SeatDraws) → get_or views seat d ≡ v)
 at_place [] seat v at = absurd (some-ne-none v (sym at))
 at_place (u ∷ us) zero v at = (omega arith, λ d. some-injective u v at)
@@ -33,7 +33,8 @@ total_at f views seat v at =
     let least = get_or-le-sum_by f views seat v place.0 in
     omega arith
 
--- where f is at most g of each seat, what f is of the others is at most what g is of them
+-- where `f` is at most `g` for each seat, the sum of `f` over the other seats is at most that of
+-- `g`
 pub total_others : (f g : SeatDraws → ℕ) → ((u : SeatDraws) → f u ≤ g u) → (views : List SeatDraws) (seat : ℕ) (v : SeatDraws)
     → get_elem? views seat ≡ some v → sum_by f views + g v ≤ sum_by g views + f v
 total_others f g le [] seat v at = absurd (some-ne-none v (sym at))
@@ -54,7 +55,7 @@ times-le x xs = count_by-le-length (λ y. y == x) xs
 pub once_below-more : (x n : ℕ) → once_below (n + 1) x ≡ once_below n x + cond (n == x) 1 0
 once_below-more x n = grind (arith, nat_tests)
 
--- what stands no oftener than the numbers below a bound are those is below it
+-- a list that has each number at most as often as `once_below` has only numbers below the bound
 pub all_below : (n : ℕ) (xs : List ℕ) → ((x : ℕ) → times x xs ≤ once_below n x) → All (λ x. x < n) xs
 all_below n [] few k d less = absurd (omega arith)
 all_below n (y ∷ ys) few zero d less =
@@ -66,7 +67,7 @@ all_below n (y ∷ ys) few (suc k) d less =
     (λ x. (let whole = few x in let step : times x (y ∷ ys) ≡ cond (y == x) 1 0 + times x ys = sum_by-cons (λ z. cond (z == x) 1 0) y ys in omega arith))
     k d (omega arith)
 
--- a number above all in a rising list, behind it
+-- a rising list with a greater number at its end rises
 pub IsStrictlyIncreasing-push : (xs : List ℕ) (y : ℕ) → IsStrictlyIncreasing xs → All (λ x. x < y) xs → IsStrictlyIncreasing (xs ++ y ∷ [])
 IsStrictlyIncreasing-push xs y rising above k less =
     let inside : k < length xs = omega (arith, length-append xs (y ∷ [])) in
@@ -87,6 +88,6 @@ next_of P before x left after all whole next holds =
     let here : All P (before ++ x ∷ after) = subst (All P) same holds in
     subst P (get_or-append_seam before x after x) (here (length before) x (omega (arith, length-append before (x ∷ after))))
 
--- what drawers drew, with one drawer more
+-- the numbers that drawers drew, with one more drawer
 pub drawn-push : (drawers : List DrawnNumbers) (d : DrawnNumbers) → flat_map (λ u. u.drawn) (drawers ++ d ∷ []) ≡ flat_map (λ u. u.drawn) drawers ++ d.drawn
 drawn-push drawers d = flat_map-append (λ (u : DrawnNumbers). u.drawn) drawers (d ∷ []) ∙ ap (λ rest. flat_map (λ (u : DrawnNumbers). u.drawn) drawers ++ rest) (append-nil d.drawn)

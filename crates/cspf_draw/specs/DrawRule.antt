@@ -1,4 +1,4 @@
--- The rule of draws: what holds between any two steps at the word, and what a draw does.
+-- The rule of draws: what holds between any two steps at the word, and the effect of a draw.
 use Rattle.std.specs.Prelude.{◌≡◌, ℕ, ◌+◌, ◌*◌, ◌<◌, ◌≤◌, length, slice_index, sum_by, All}
 use Rattle.atomic_table.specs.Table.{State, Me, Step}
 use Rattle.cspf_draw.specs.declared.limits.TheConstants.{MOST_DRAWERS, MOST_REQUESTS}
@@ -10,8 +10,9 @@ use Rattle.cspf_draw.specs.SeatDraws.{with_number}
 abbrev pub drawn_word : State ℕ SeatDraws → ℕ
 drawn_word s = slice_index s.words 0
 
--- With a number of requests: each number below the word stands in one seat's list, once, and no other number stands in
--- any. The word and all draws that are left add up to the draws of all drawers, so the word never wraps.
+-- With a number of requests: each number below the word is once in one seat's list, and no other
+-- number is in any. The word and all draws that are left add up to the draws of all drawers, so the
+-- word never wraps.
 pub record HoldsBetweenDraws (requests : ℕ) (s : State ℕ SeatDraws) : Type 0 where
   pub one_word : length s.words ≡ 1
   pub few : requests ≤ MOST_REQUESTS

@@ -1,4 +1,4 @@
--- What a counter, its seats and its drawers are to a caller.
+-- The values of a counter, its seats and its drawers in a caller's clauses.
 use Rattle.std.specs.Prelude.{ℕ, List}
 use Rattle.atomic_table.specs.Seated.{TableId}
 

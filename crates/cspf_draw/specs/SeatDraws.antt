@@ -7,7 +7,8 @@ use Rattle.cspf_draw.specs.declared.seat_draws.SeatDraws.{SeatDraws}
 abbrev pub seat_draws : List ℕ → ℕ → ℕ → SeatDraws
 seat_draws drawn left share = record { drawn = drawn; left = left; share = share }
 
--- the first seat for a number of requests: enough for all drawers, each of which may draw once more than there are requests
+-- the first seat for a number of requests: it has the draws of all drawers, each of which may draw
+-- once more than there are requests
 abbrev pub all_draws : ℕ → SeatDraws
 all_draws requests = seat_draws [] (MOST_DRAWERS * (requests + 1)) (requests + 1)
 
@@ -23,15 +24,15 @@ one_share_less v = seat_draws v.drawn (v.left - v.share) v.share
 abbrev pub one_share : SeatDraws → SeatDraws
 one_share v = seat_draws [] v.share v.share
 
--- a seat that takes over the list and the draws of another
+-- a seat after it has merged the list and the draws of another
 abbrev pub both_seats : SeatDraws → SeatDraws → SeatDraws
 both_seats v w = seat_draws (v.drawn ++ w.drawn) (v.left + w.left) v.share
 
--- the other, which has none
+-- the other seat, which then has none
 abbrev pub spent_seat : SeatDraws
 spent_seat = seat_draws [] 0 0
 
--- a drawer's seat, which had one draw more than there are requests
+-- a drawer's seat, which had one more draw than there are requests
 pub record IsDrawer (requests : ℕ) (v : SeatDraws) : Type 0 where
   pub all : length v.drawn + v.left ≡ requests + 1
   pub rising : IsStrictlyIncreasing v.drawn

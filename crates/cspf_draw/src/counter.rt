@@ -12,7 +12,7 @@ use atomic_table::Table;
 use std::alloc::{AllocError, Global};
 use std::marker::Model;
 
-/// Counts what is drawn: a word that is 0 at first, and grows by 1 at each draw.
+/// A counter of draws: a word that is 0 at first, and grows by 1 at each draw.
 #[derive(Drop)]
 pub struct Counter {
     table: Table<u64, SeatDraws, u64, DrawRule, Global>,
@@ -33,7 +33,8 @@ impl Model for Counter {
 }
 
 impl Counter {
-    /// A counter for requests, from which nothing is drawn, and the seat that has all draws.
+    /// A counter for this many requests, from which nothing is drawn yet, and the seat that has all
+    /// draws.
     pub fn open(alloc: Global, requests: u64) -> Result<(Counter, FirstSeat), AllocError>
         requires { requests ≤ MOST_REQUESTS }
         ensures first { IfOk result (λ opened. (opened.1.shares ≡ MOST_DRAWERS) × (opened.1.counter ≡ opened.0)) }
@@ -48,7 +49,7 @@ impl Counter {
         Ok((Counter { table, requests }, first))
     }
 
-    /// A drawer with one draw more than there are requests. It takes no memory.
+    /// A drawer with one more draw than there are requests. It takes no memory.
     pub fn split<'a>(&'a self, first: &mut FirstSeat) -> Drawer<'a>
         requires counter { first.old.counter ≡ self.now }
         requires some { 0 < first.old.shares }
@@ -60,7 +61,7 @@ impl Counter {
         Drawer::new(&self.table.shared, seat, self.requests + 1)
     }
 
-    /// What all drawers drew, put together in their order. It takes no memory.
+    /// Merges the draws of all drawers, in their order, into the last seat. It takes no memory.
     pub fn join(&self, first: FirstSeat, drawers: Vec<Drawer<'_>>) -> LastSeat
         requires counter { (first.counter ≡ self.now) × All (λ d. d.counter ≡ self.now) drawers.items }
         requires all { first.shares + vec_len drawers ≡ MOST_DRAWERS }

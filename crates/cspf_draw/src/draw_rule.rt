@@ -1,4 +1,4 @@
-//! The rule of draws, and what each kind of step does to a seat.
+//! The rule of draws, and the effect of each kind of step on a seat.
 ghost use Rattle.cspf_draw.specs.DrawRule.{HoldsBetweenDraws, Draws};
 ghost use Rattle.cspf_draw.specs.SeatDraws.{all_draws, one_share_less, one_share, both_seats, spent_seat};
 
@@ -21,7 +21,7 @@ impl Play<u64, SeatDraws> for Draw {
     ghost then = { Draws };
 }
 
-/// A new seat takes one drawer's share of the draws, and a seat takes over another's.
+/// A new seat takes one drawer's share of the draws, and a seat merges another's.
 pub struct Share;
 
 impl Split<SeatDraws> for Share {

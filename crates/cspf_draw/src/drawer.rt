@@ -1,13 +1,15 @@
-//! Who draws.
+//! A drawer of numbers.
 ghost use Rattle.std.specs.Prelude.{◌≡◌, ◌+◌, ◌<◌, ◌++◌, [], ◌∷◌, length, All};
 ghost use Rattle.std.specs.List.Sorted.{IsStrictlyIncreasing};
 
 use crate::draw_rule::{Draw, Word, WordSeat};
 use std::marker::Model;
 
-/// A seat at a counter's word, which draws numbers from it: at most one more than there are requests.
+/// A seat at a counter's word, which draws numbers from it: at most one more number than there are
+/// requests.
 ///
-/// Only `Counter::split` makes one. It may stand in a struct and in a `Vec`, and cross threads.
+/// Only `Counter::split` makes one. It may be in a struct and in a `Vec`, and be sent to another
+/// thread.
 #[derive(Drop)]
 pub struct Drawer<'a> {
     word: &'a Word,
@@ -65,7 +67,7 @@ impl<'a> Drawer<'a> {
         self.left
     }
 
-    /// The next number, which no other drawer is answered. It takes no memory and waits for nobody.
+    /// The next number, which no other drawer gets. It takes no memory and never blocks.
     pub fn draw(&mut self) -> u64
         requires { 0 < self.old.left }
         ensures drawn { self.new.drawn ≡ self.old.drawn ++ result ∷ [] }

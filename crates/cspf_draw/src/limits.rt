@@ -1,4 +1,4 @@
-//! How much is drawn at most.
+//! The limits of drawers and requests.
 
 /// How many drawers a counter has at most.
 pub const MOST_DRAWERS: usize = 64;

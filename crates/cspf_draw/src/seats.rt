@@ -33,7 +33,7 @@ impl FirstSeat {
     }
 }
 
-/// The seat that has taken over what all drawers drew, and the draws that they had left.
+/// The seat that has the merged draws of all drawers, and the draws that they had left.
 #[derive(Drop)]
 pub struct LastSeat {
     pub(crate) seat: WordSeat,

@@ -24,7 +24,7 @@ digits_word (byte ∷ rest) digits = (λ same. omega (arith, same, digit_from_va
 decimal_word : (n : ℕ) → n < 2 ^ 64 → IsWord (decimal n)
 decimal_word n small = digits_word (decimal n) (decimal_is_IsNumeral n small).0.1
 
--- two words with a space behind each are one where the texts are
+-- two words, each followed by a space, are equal where the texts are
 one_word : (a b c d : List ℕ) → IsWord a → IsWord b → a ++ 32 ∷ c ≡ b ++ 32 ∷ d → (a ≡ b) × (c ≡ d)
 one_word [] [] c d wa wb same = (refl, cc)
 one_word [] (y ∷ b) c d wa wb same = absurd (wb.0 (cc))
@@ -35,23 +35,23 @@ one_word (x ∷ a) (y ∷ b) c d wa wb same =
     let both = one_word a b c d wa.1 wb.1 tail in
     (rw (head, both.0) refl, both.1)
 
--- a number with a space behind it is one, and so is what comes then
+-- two texts of a number, a space and a rest that are equal have one number and one rest
 pub one_number : (m n : ℕ) (c d : List ℕ) → m < 2 ^ 64 → n < 2 ^ 64 → decimal m ++ 32 ∷ c ≡ decimal n ++ 32 ∷ d → (m ≡ n) × (c ≡ d)
 one_number m n c d small other same =
     let both = one_word (decimal m) (decimal n) c d (decimal_word m small) (decimal_word n other) same in
     (decimal_injective m n small other both.0, both.1)
 
--- where the first space of a text stands
+-- the index of the first space of a text
 place_of_space : (word rest : List ℕ) → IsWord word → position_or_len (λ byte. eqb byte 32) (word ++ 32 ∷ rest) ≡ length word
 place_of_space [] rest w = refl
 place_of_space (byte ∷ word) rest w = rw (ne_eqb byte 32 w.0, place_of_space word rest w.1) (one-add (length word))
 
 module _ (n : ℕ) (text rest : List ℕ) (small : n < 2 ^ 64) (whole : text ≡ decimal n ++ 32 ∷ rest) where
-  -- the first space of a text stands behind the number that it begins with
+  -- the first space of a text is right after the number that it begins with
   pub space_behind : position (λ byte. eqb byte 32) text ≡ Some (length (decimal n))
   space_behind = subst (λ t. position (λ byte. eqb byte 32) t ≡ Some (length (decimal n))) (sym whole) (rw (place_of_space (decimal n) rest (decimal_word n small), length-append (decimal n) (32 ∷ rest), lt-ltb (length (decimal n)) (length (decimal n) + length (32 ∷ rest)) (omega arith)) refl)
 
-  -- and what stands before that space is the number
+  -- and the bytes before that space are the number
   pub number_before : (at : ℕ) → position (λ byte. eqb byte 32) text ≡ Some at → take at text ≡ decimal n
   number_before at found =
       let there = space_behind in
@@ -63,7 +63,7 @@ place_some place whole at true test found =
     let same : place ≡ at = cc in (same, rw same at (ltb-true _ _ test))
 place_some place whole at false test found = absurd (cc)
 
--- a text is what stands before its first space, that space, and what stands behind
+-- a text is the bytes before its first space, that space, and the bytes after it
 pub cut_at_space : (text : List ℕ) (at : ℕ) → position (λ byte. eqb byte 32) text ≡ Some at
     → text ≡ take at text ++ 32 ∷ take (length text - (at + 1)) (drop (at + 1) text)
 cut_at_space text at found =
@@ -73,7 +73,7 @@ cut_at_space text at found =
     let parts : text ≡ take at text ++ 32 ∷ drop (at + 1) text = rw place at (rw space at (split_at_first (λ byte. eqb byte 32) text 0 inside)) in
     parts ∙ ap (λ rest. take at text ++ 32 ∷ rest) (sym (take_rest text (at + 1)))
 
--- a text that begins as another one is that one and what stands behind
+-- a text that begins with another one is that text and the rest
 pub starts_whole : (front text : List ℕ) → pointwise eqb (take (length front) text) front ≡ true → text ≡ front ++ drop (length front) text
 starts_whole front text same =
     let begins : take (length front) text ≡ front = (bytes_eq-Decides (take (length front) text) front).0 same in

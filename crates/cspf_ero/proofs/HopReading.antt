@@ -5,7 +5,7 @@ use Rattle.cspf_ero.specs.declared.ero_error.EroError.{EroError}
 use Rattle.cspf_addr.specs.ResultSteps.{◌>>=◌}
 use Rattle.cspf_ero.specs.Reading.{hop_at, subobject_hops}
 
--- what a reader that has these hops answers, where this is what the rest is read as
+-- the result of a reader that has these hops, by the result for the rest
 abbrev pub behind : List Hop → Result (List Hop) EroError → Result (List Hop) EroError
 behind hops (Ok more) = Ok (hops ++ more)
 behind hops (Err e) = Err e

@@ -18,7 +18,7 @@ pub front_pieces : (id version cost hops again : List ℕ)
 front_pieces id version cost hops again =
     regrouped (codes "ask ") id (codes " v") version (codes " ") (codes "route cost=") cost (codes " hops=") hops (codes " again=") again (codes " ero=")
 
--- behind what stands before its object, a line has the digits and a line feed
+-- after its words, a line has the digits of its object and a line feed
 pub line_pieces : (front words digits feed : List ℕ) → front ++ words ++ digits ++ feed ≡ front ++ (words ++ digits) ++ feed
 line_pieces front words digits feed = simp append_assoc
 

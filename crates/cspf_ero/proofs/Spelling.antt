@@ -15,7 +15,7 @@ use Rattle.cspf_ero.specs.Laws.{AreObjectsRead, SpellsOneHopList}
 use Rattle.cspf_ero.proofs.HopReading.{hops_at-more}
 use Rattle.cspf_ero.proofs.Subobjects.{passed, hop_at-read, read_spells, spelled_read, length-spelled}
 
--- what stands behind some bytes are bytes
+-- the bytes after the first `n` are bytes
 drop_bytes : (n : ℕ) (bytes : List ℕ) → IsBytes bytes → IsBytes (drop n bytes)
 drop_bytes n bytes small i = rw (get_or-drop n bytes i 0) (small (n + i))
 
@@ -62,7 +62,7 @@ four_bytes (a ∷ b ∷ c ∷ d ∷ rest) whole = refl
 with_class : (field written rest : List ℕ) → field ≡ written → field ++ 20 ∷ 1 ∷ rest ≡ (written ++ 20 ∷ 1 ∷ []) ++ rest
 with_class field written rest same = ap (λ (front : List ℕ). front ++ 20 ∷ 1 ∷ rest) same ∙ sym (append_assoc written (20 ∷ 1 ∷ []) rest)
 
--- the other way round: a test that was not passed
+-- the converse: a test that was not passed
 refused_by : {A : Type 0} (b : Bool) (e : EroError) (r : Result A EroError) (x : A) → cond b (Err e) r ≡ Ok x → (b ≡ false) × (r ≡ Ok x)
 refused_by true e r x same = absurd (cc)
 refused_by false e r x same = (refl, same)
@@ -98,7 +98,7 @@ ero_of-spells bytes hops small found =
     two_small ha hb (suc zero) = hb
     two_small ha hb (suc (suc i)) = lit< tt
 
--- behind the header of an object are its hops
+-- an object has its hops after its header
 pub sized_header : (size : ℕ) (body : List ℕ) → size < 2 ^ 16 → size % 4 ≡ 0 → 0 < length body → sized_ero_of size (header size ++ body) ≡ subobject_hops 7 4 body
 unfolding sized_ero_of
 sized_header size body small fourth some =

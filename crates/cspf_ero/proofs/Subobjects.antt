@@ -12,12 +12,12 @@ use Rattle.cspf_ero.specs.declared.ero_error.EroError.{EroError}
 use Rattle.cspf_ero.specs.Objects.{type_byte, subobject, SpellsHop}
 use Rattle.cspf_ero.specs.Reading.{address_in, hop_at}
 
--- what a test tells that was passed
+-- a test that gave a value was passed
 pub passed : {A : Type 0} (b : Bool) (r : Result A EroError) (e : EroError) (x : A) → cond b r (Err e) ≡ Ok x → (b ≡ true) × (r ≡ Ok x)
 passed true r e x same = (refl, same)
 passed false r e x same = absurd (cc)
 
--- what a subobject has that is read
+-- the fields of a subobject that is read as this hop
 pub record IsReadHop (bytes : List ℕ) (hop : Hop) : Type 0 where
   pub kind : get_or bytes 0 0 % 128 ≡ 1
   pub whole : 8 ≤ length bytes
@@ -55,7 +55,7 @@ eight_bytes (a ∷ b ∷ c ∷ d ∷ e ∷ f ∷ []) whole = absurd (omega arith
 eight_bytes (a ∷ b ∷ c ∷ d ∷ e ∷ f ∷ g ∷ []) whole = absurd (omega arith)
 eight_bytes (a ∷ b ∷ c ∷ d ∷ e ∷ f ∷ g ∷ h ∷ rest) whole = refl
 
--- the same, by its parts
+-- the number of an address and the padding, by the parts of a subobject
 by_parts : (first size bits padding kind length : ℕ) (four address rest : List ℕ) → first ≡ kind → size ≡ 8 → bits ≡ length → four ≡ address
     → first ∷ size ∷ (four ++ bits ∷ padding ∷ rest) ≡ (kind ∷ 8 ∷ (address ++ length ∷ padding ∷ [])) ++ rest
 by_parts first size bits padding kind length four address rest first_is size_is bits_is four_is =

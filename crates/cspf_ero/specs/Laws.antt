@@ -1,4 +1,4 @@
--- What the bytes of an object and its hops have to do with each other.
+-- How the bytes of an object and its hops correspond.
 use Rattle.std.specs.Prelude.{◌≡◌, ℕ, ◌^◌, ◌<◌, ◌≤◌, ◌↔◌, false, List, length, map, Ok}
 use Rattle.std.specs.List.{AllByRecursion}
 use Rattle.hex.specs.Hex.{IsBytes}

@@ -30,7 +30,7 @@ pub record SpellsHop (bytes : List ℕ) (hop : Hop) : Type 0 where
   pub prefix : IsPrefix hop.prefix
   pub agrees : Covers hop.prefix address
 
--- subobjects one behind the other spell the hops in their order
+-- subobjects, one after the other, spell the hops in their order
 abbrev pub SpellsEach : List ℕ → List Hop → Type 0
 SpellsEach bytes [] = bytes ≡ []
 SpellsEach bytes (hop ∷ hops) = (front : List ℕ) × (back : List ℕ) × (bytes ≡ front ++ back) × SpellsHop front hop × SpellsEach back hops

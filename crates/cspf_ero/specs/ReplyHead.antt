@@ -3,8 +3,8 @@ use Rattle.std.specs.Prelude.{◌≡◌, ℕ, ◌^◌, ◌<◌, List, ◌++◌, 
 use Rattle.std.specs.Fmt.{decimal}
 use Rattle.cspf_ero.specs.declared.head.Head.{Head}
 
--- The line begins with `ask`, this id below 2^64 and, behind `v`, this version below 2^32, with a
--- space behind each of the three. Both numbers are decimal, with no leading zeros.
+-- The line begins with `ask`, this id below 2^64, and `v` with this version below 2^32. A space
+-- follows each of the three. Both numbers are decimal, with no leading zeros.
 pub record BeginsWithHead (line : List ℕ) (head : Head) : Type 0 where
   pub id : head.id < 2 ^ 64
   pub version : head.version < 2 ^ 32

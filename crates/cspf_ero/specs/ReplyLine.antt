@@ -35,6 +35,6 @@ abbrev pub IsReply : ℕ → ℕ → Answer → List ℕ → Type 0
 IsReply id version answer line =
     (text : List ℕ) × IsAnswerText answer text × (line ≡ codes "ask " ++ decimal id ++ codes " v" ++ decimal version ++ codes " " ++ text ++ codes "\n")
 
--- an answer has one line at most for an id and a version
+-- an answer has at most one line for an id and a version
 abbrev pub HasOneReplyLine : Type 0
 HasOneReplyLine = (id version : ℕ) (answer : Answer) (line other : List ℕ) → IsReply id version answer line → IsReply id version answer other → line ≡ other

@@ -18,9 +18,9 @@ pub fn read_ero(bytes: &[u8]) -> Result<Hops, EroError>
     read_sized(bytes, bytes.len())
 }
 
-/// The hops of an object of `size` bytes by its first `FIRST_BYTES`, or all where it has fewer: the answer of
-/// `read_ero` on the whole object. What comes behind them changes nothing, since more than seven
-/// hops are refused.
+/// The hops of an object of `size` bytes by its first `FIRST_BYTES`, or all where it has fewer: the
+/// answer of `read_ero` on the whole object. Later bytes change nothing, since more than seven hops
+/// are refused.
 pub fn read_ero_front(front: &[u8], size: usize) -> Result<Hops, EroError>
     ensures { (bytes : List ℕ) → length bytes ≡ size → take FIRST_BYTES bytes ≡ front.now
         → result ≡ ero_of bytes }
@@ -50,7 +50,7 @@ fn read_sized(bytes: &[u8], size: usize) -> Result<Hops, EroError>
     read_hops(body)
 }
 
-/// The hops of the subobjects behind the header.
+/// The hops of the subobjects after the header.
 fn read_hops(body: &[u8]) -> Result<Hops, EroError>
     ensures { result ≡ subobject_hops MOST_HOPS 4 body.now }
 {

@@ -35,7 +35,7 @@ pub fn reply_line(
     }
 }
 
-/// The line of an answer that is told in these words.
+/// The line of an answer with these words and no route.
 fn short_line(alloc: Global, id: u64, version: u32, words: &str) -> Result<Vec<u8>, AllocError>
     requires { length words.now ≤ 12 }
     ensures line { IfOk result (λ line. line.items ≡
@@ -72,7 +72,7 @@ fn route_front(alloc: Global, id: u64, version: u32, route: &Route) -> Result<St
     format!(in alloc; "ask {id} v{version} route cost={cost} hops={hops} again={again} ero=")
 }
 
-/// The word for a test.
+/// `yes` or `no`.
 fn yes_or_no(test: bool) -> &'static str
     ensures { result.now ≡ yes_or_no test }
 {

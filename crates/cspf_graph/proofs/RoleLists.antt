@@ -15,7 +15,8 @@ use Rattle.cspf_graph.specs.RoleSteps.{nothing, AreRolesUpTo, AreRoleRows, AreRo
 use Rattle.std.proofs.lemmas.Option.{slice_get_past}
 use Rattle.cspf_graph.proofs.RouterIndexes.{one_place, same_or_not}
 
--- what holds where it did, and besides at the first of some indexes at which more does, holds so with one index more
+-- a fact that holds where it held before, and also at the first of some indexes where another fact
+-- holds: one more index
 pub with_index : (Old More Now Next : ℕ → Type 0) (n : ℕ) (front : List ℕ) (place : ℕ)
     → ((p : ℕ) → p < n → Now p ↔ (Old p ⊎ (Contains front p × More p)))
     → (Next place ↔ (Now place ⊎ More place)) → ((p : ℕ) → p ≢ place → Next p ↔ Now p)
@@ -41,7 +42,7 @@ with_index Old More Now Next n front place before here there p low =
           )
     ]
 
--- the roles that are set in a leg leave what stands elsewhere
+-- the roles that are set in a leg leave those elsewhere
 stays_set : (rows : RoleRows) (old now : List Role) (place : ℕ) (role : Role) → place < rows.count → StayElsewhere rows old now → StayElsewhere rows old (set now (rows.first + place) role)
 stays_set rows old now place role within stays = record {
   many = length-set now (rows.first + place) role ∙ stays.many;
@@ -49,7 +50,7 @@ stays_set rows old now place role within stays = record {
   behind = λ i high. get_or-set_other now (rows.first + place) i role nothing (λ e. omega (arith, e, high, within)) ∙ stays.behind i high;
 }
 
--- one target more
+-- one more target
 pub one_marked : (rows : RoleRows) (front : List ℕ) (place : ℕ) (own : Bool) (from : ℕ) (old now : List Role) (role : Role) → AreRoleRows rows old → place < rows.count
     → AreRolesMarked rows front own from old now
     → (IsTrue role.enter ↔ (IsTrue (role_at now (rows.first + place)).enter ⊎ IsTrue (role_at now (rows.last + place)).enter))
@@ -82,7 +83,7 @@ and_is : (a b : Bool) → IsTrue (a && b) ↔ (IsTrue a × IsTrue b)
 and_is true b = (λ on. (refl, on), λ both. both.1)
 and_is false b = (λ on. absurd (false≢true on), λ both. absurd (false≢true both.0))
 
--- a leg to a hop, where the roles behind the last hop are known
+-- a leg to a hop, where the roles in the leg after the last hop are known
 module _ (d : Database) (q : Request) (listed : AreListed d) (leg from : ℕ) (within : leg < length q.hops) (start : IsIndexOf d q.from from) (rows : RoleRows) (first : rows.first ≡ leg * 1024)
     (last : rows.last ≡ length q.hops * 1024) (count : rows.count ≡ length (router_list d)) (before own : List ℕ) (are_before : AreTargetsOf d q leg before) (are_own : AreTargetsOf d q (leg + 1) own)
     (loose : Bool) (is_loose : IsTrue loose ↔ IsLoose (slice_get q.hops leg)) (old spread some new : List Role) (known : AreRolesUpTo d q leg old) (spreads : IsSpread rows loose old spread)
@@ -103,7 +104,7 @@ module _ (d : Database) (q : Request) (listed : AreListed d) (leg from : ℕ) (w
       let so : IsInside d q (suc leg) r = subst (λ k. IsInside d q k r) (sym next) inside in
       elim so [ inl is ↦ inl is | inr (inl is) ↦ inr (inl is) | inr (inr is) ↦ inr (inr (subst (λ k. IsTarget d q k r) next is)) ]
 
-  -- what may be entered behind the last hop
+  -- whether a router may be entered in the leg after the last hop
   module _ (p : ℕ) (low : p < length (router_list d)) where
     at_last : IsRole d q (length q.hops + 1) (router_at d p) (role_at old (rows.last + p))
     at_last =
@@ -126,7 +127,7 @@ module _ (d : Database) (q : Request) (listed : AreListed d) (leg from : ℕ) (w
     within_rows : p < rows.count
     within_rows = omega (arith, low, count)
 
-    -- the roles behind the last hop stay
+    -- the roles in the leg after the last hop stay
     last_spread : role_at spread (rows.last + p) ≡ role_at old (rows.last + p)
     last_spread = spreads.elsewhere.behind (rows.last + p) (omega (arith, first, last, within, count, listed.few))
 
@@ -225,7 +226,7 @@ one_item x (suc k) d low = absurd (omega (arith, low))
 none_there : (p : ℕ) → Contains [] p → ⊥
 none_there p (k, low, is) = omega (arith, low)
 
--- the head-end is all that the leg before the first hop has
+-- the only target of the leg before the first hop is the head-end
 pub head_alone : (d : Database) (q : Request) (listed : AreListed d) (from : ℕ) → IsIndexOf d q.from from → AreTargetsOf d q 0 (from ∷ [])
 head_alone d q listed from start = record {
   within = λ k x low. rw (one_item from k x low) start.within;

@@ -1,4 +1,4 @@
--- What the hop of a leg says of the routers that are its targets.
+-- The targets of a leg are those of its hop.
 use Rattle.std.proofs.Common.{◌≡◌, ◌≢◌, ℕ, zero, suc, ◌-◌, ◌↔◌, Bool, Option, Some, None, IsTrue, nat_eq, slice_get, refl, sym, ap, subst, ◌∙◌, arith}
 use Rattle.std.proofs.lemmas.Bool.{eqb-true, eq-eqb}
 use Rattle.cspf_addr.specs.declared.hop.Hop.{Hop}

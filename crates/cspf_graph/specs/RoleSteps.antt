@@ -8,7 +8,7 @@ use Rattle.cspf_graph.specs.declared.roles.RoleRows.{RoleRows}
 use Rattle.cspf_graph.specs.Lists.{router_at}
 use Rattle.cspf_graph.specs.Roles.{IsRole, IsStateIndex}
 
--- a stand for the indexes past the end of a list
+-- a default role for the indexes past the end of a list
 abbrev pub nothing : Role
 nothing = record { enter = false; target = false }
 
@@ -22,7 +22,7 @@ AreRolesUpTo d q legs roles =
 abbrev pub role_at : List Role → ℕ → Role
 role_at roles i = slice_index_or roles i nothing
 
--- the roles of a leg stand before those of the last
+-- the roles of a leg come before those of the last leg
 pub record AreRoleRows (rows : RoleRows) (roles : List Role) : Type 0 where
   pub few : rows.count ≤ MOST_ROUTERS
   pub apart : rows.first + MOST_ROUTERS ≤ rows.last
@@ -40,7 +40,7 @@ pub record IsSpread (rows : RoleRows) (loose : Bool) (old new : List Role) : Typ
       ≡ record { enter = loose && (role_at old (rows.last + p)).enter; target = false }
   pub elsewhere : StayElsewhere rows old new
 
--- Besides, a link may lead to each of some routers where it may in the last leg, and where these are the
+-- A link may also lead to each of some routers where it may in the last leg. Where these are the
 -- targets of the leg, a route may turn there if it may enter there in the last leg or begins there.
 pub record AreRolesMarked (rows : RoleRows) (places : List ℕ) (own : Bool) (from : ℕ) (old new : List Role) : Type 0 where
   pub enter : (p : ℕ) → p < rows.count → IsTrue (role_at new (rows.first + p)).enter

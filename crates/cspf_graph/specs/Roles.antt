@@ -20,11 +20,12 @@ pub record MayEnter (d : Database) (q : Request) (leg router : ℕ) : Type 0 whe
   pub inside : IsInside d q leg router
   pub through : HasTransit d router ⊎ (router ≡ q.to)
 
--- A route may stand at the router: it goes on from there, begins there or ends there.
+-- A route may visit the router: it may go on from there, begin there or end there.
 abbrev pub MayStand : Database → Request → ℕ → Type 0
 MayStand d q router = HasTransit d router ⊎ ((router ≡ q.from) ⊎ (router ≡ q.to))
 
--- A route may turn to the next leg at the router: it is a target of the leg, and a route may stand there.
+-- A route may turn to the next leg at the router: it is a target of the leg, and a route may visit
+-- it.
 pub record MayTurn (d : Database) (q : Request) (leg router : ℕ) : Type 0 where
   pub target : IsTarget d q leg router
   pub stands : MayStand d q router
@@ -40,7 +41,7 @@ pub record IsRole (d : Database) (q : Request) (leg router : ℕ) (role : Role) 
   pub enter : IsTrue role.enter ↔ MayEnter d q leg router
   pub target : IsTrue role.target ↔ MayTurn d q leg router
 
--- so it is for each router in each leg
+-- the roles are these for each router in each leg
 pub record AreRoles (d : Database) (q : Request) (roles : List Role) : Type 0 where
   pub many : length roles ≡ (length q.hops + 1) * MOST_ROUTERS
   pub each : (i : ℕ) (e : Role) → IsStateIndex d q i
@@ -52,7 +53,7 @@ pub record AreTargetsOf (d : Database) (q : Request) (leg : ℕ) (places : List 
   pub each : (p : ℕ) → p < length (router_list d)
       → Contains places p ↔ IsTarget d q leg (router_at d p)
 
--- so it is for the leg to each hop
+-- the indexes are these for the leg to each hop
 pub record AreTargets (d : Database) (q : Request) (targets : List (Vec ℕ Global)) : Type 0 where
   pub many : length targets ≡ length q.hops
   pub each : (i : ℕ) (e : Vec ℕ Global) → i < length q.hops

@@ -1,5 +1,6 @@
 //! What a route may do at each router of a table in each leg: whether a link may lead it there, and
-//! whether it may turn to the next leg there. Both are found from the last leg and the targets of legs.
+//! whether it may turn to the next leg there. Both are computed from the last leg and the targets
+//! of legs.
 
 ghost use Rattle.std.specs.Prelude.{◌≡◌, ◌≢◌, true, ◌+◌, ◌*◌, ◌<◌, ◌↔◌, ◌⊎◌, All, IsTrue, IfOk, length, slice_get};
 ghost use Rattle.cspf_db.specs.Index.{router_list};
@@ -18,17 +19,18 @@ use std::alloc::{AllocError, Global};
 pub struct Role {
     /// Whether a link may lead it there.
     pub enter: bool,
-    /// Whether the router is a target of the leg that a route may stand at.
+    /// Whether the router is a target of the leg, and a route may visit it.
     pub target: bool,
 }
 
-/// Where a route may neither come by a link nor turn to the next leg.
+/// The role of a router that no link may lead a route to, and where it may not turn to the next
+/// leg.
 const NOTHING: Role = Role {
     enter: false,
     target: false,
 };
 
-/// What a route may do at the router at an index in the leg behind the last hop. That leg is loose,
+/// What a route may do at the router at an index, in the leg after the last hop. That leg is loose,
 /// and the tail-end is its one target.
 fn last_role(table: &Table, request: &Request, place: usize) -> Role
     requires { place < length (router_list table.now) }
@@ -42,7 +44,7 @@ fn last_role(table: &Table, request: &Request, place: usize) -> Role
     }
 }
 
-/// The same where the router isn't the tail-end.
+/// As `last_role`, for a router that isn't the tail-end.
 fn passed_role(table: &Table, request: &Request, place: usize) -> Role
     requires { place < length (router_list table.now) }
     ensures { router_at table.now place ≢ request.now.to
@@ -55,7 +57,7 @@ fn passed_role(table: &Table, request: &Request, place: usize) -> Role
     }
 }
 
-/// Finds what a route may do at each router in the leg behind the last hop. The tail-end is the
+/// Sets what a route may do at each router in the leg after the last hop. The tail-end is the
 /// router at an index.
 fn set_last_roles(table: &Table, request: &Request, to: usize, roles: &mut [Role])
     requires listed { AreListed table.now }
@@ -70,8 +72,8 @@ fn set_last_roles(table: &Table, request: &Request, to: usize, roles: &mut [Role
     roles[first + to] = last_role(table, request, to);
 }
 
-/// Where in a list of roles those of a leg to a hop begin, and those of the leg behind the last hop,
-/// one for each of the routers, which are counted.
+/// The indexes in a list of roles at which the roles of a leg to a hop begin, and those of the leg
+/// after the last hop. Each leg has one role for each router, and `count` routers.
 #[derive(Clone, Copy)]
 struct RoleRows {
     first: usize,
@@ -79,8 +81,9 @@ struct RoleRows {
     count: usize,
 }
 
-/// Begins a leg to a hop: a link may lead a route to each router that a route may go on from or end at
-/// where the leg is loose, and to none where it is strict. No router is a target.
+/// Begins a leg to a hop. Where the leg is loose, a link may lead a route to each router that a
+/// route may go on from or end at. Where it is strict, a link may lead to none. No router is a
+/// target yet.
 fn spread(roles: &mut [Role], rows: RoleRows, loose: bool)
     requires rows { AreRoleRows rows roles.old }
     ensures { IsSpread rows loose roles.old roles.new }
@@ -94,8 +97,8 @@ fn spread(roles: &mut [Role], rows: RoleRows, loose: bool)
     }
 }
 
-/// What a route may do besides at a target, where it may stand there, or begins there. Only where the
-/// target is the leg's own may it turn to the next leg.
+/// Adds to a router's role what being a target allows, if a route may visit it or begins there. It
+/// may turn to the next leg only if the target is the leg's own.
 fn with_more(old: Role, stands: bool, own: bool, begins: bool) -> Role
     ensures enter { IsTrue result.enter ↔ (IsTrue old.enter ⊎ IsTrue stands) }
     ensures target { IsTrue result.target
@@ -107,9 +110,9 @@ fn with_more(old: Role, stands: bool, own: bool, begins: bool) -> Role
     }
 }
 
-/// What the targets of a leg may do besides, those of the leg before and then its own: a link may lead
-/// a route there, and, where they are its own, a route may turn to the next leg there. The head-end is
-/// the router at an index.
+/// Adds to the roles of some routers what being a target allows: those of the leg before, or the
+/// leg's own. A link may lead a route there, and, where they are its own, a route may turn to the
+/// next leg there. The head-end is the router at an index.
 fn mark(roles: &mut [Role], rows: RoleRows, places: &[u16], own: bool, from: usize)
     requires rows { AreRoleRows rows roles.old }
     requires places { All (λ place. place < rows.count) places.now }
@@ -161,7 +164,8 @@ struct Leg<'a> {
     targets: &'a [u16],
 }
 
-/// Finds what a route may do at each router in the leg to a hop. The head-end is the router at an index.
+/// Sets what a route may do at each router in the leg to a hop. The head-end is the router at an
+/// index.
 fn set_roles(table: &Table, request: &Request, leg: Leg<'_>, from: usize, roles: &mut [Role])
     requires within { leg.index < length request.now.hops }
     requires listed { AreListed table.now }
@@ -185,8 +189,8 @@ fn set_roles(table: &Table, request: &Request, leg: Leg<'_>, from: usize, roles:
 /// What a route may do at each router in each leg, and where the legs to hops end.
 #[derive(Drop)]
 pub struct Roles {
-    /// What a route may do at each router in each leg: 1,024 for each leg, and among them that of a
-    /// router at its index in `Table::routers`.
+    /// What a route may do at each router in each leg: 1,024 roles for each leg. The role of a
+    /// router is at its index in `Table::routers`.
     pub states: Vec<Role>,
     /// For each hop the targets of the leg to it, by their index in `Table::routers`.
     pub targets: Vec<Vec<u16>>,

@@ -7,15 +7,15 @@ use cspf_addr::Addr;
 use cspf_db::Table;
 use cspf_model::Request;
 
-/// Whether a walk with so many links that has come to the router may go on from there: where the router
-/// has transit, or where the walk begins there (RFC 6987).
+/// Whether a walk of `links_so_far` links that has reached the router may go on from it: the router
+/// has transit, or the walk begins there (RFC 6987).
 pub fn may_leave(table: &Table, router: Addr, links_so_far: u32) -> bool
     ensures { IsTrue result ↔ MayLeave table.now router links_so_far }
 {
     links_so_far == 0 || table.transit(router)
 }
 
-/// The same as `may_leave`, of the router at an index of `Table::routers`.
+/// As `may_leave`, for the router at an index of `Table::routers`.
 pub fn may_leave_at(table: &Table, place: usize, links_so_far: u32) -> bool
     requires { place < length (router_list table.now) }
     ensures { IsTrue result

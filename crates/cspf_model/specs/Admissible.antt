@@ -27,7 +27,7 @@ pub record IsAdmissible (d : Database) (q : Request) (l : Link) : Type 0 where
   pub link : IsLinkOf d l
   pub usable : IsUsable d q l
 
--- A walk that has so many links at a router may go on where the router has transit, and where the walk
--- begins there.
+-- A walk of this many links may go on from a router where the router has transit, or where the walk
+-- has no links yet.
 abbrev pub MayLeave : Database → ℕ → ℕ → Type 0
 MayLeave d router links = HasTransit d router ⊎ (links ≡ 0)

@@ -8,8 +8,7 @@ use Rattle.std.specs.FinMap as map
 use Rattle.std.specs.FinSet as set
 use Rattle.cspf_model.specs.declared.link.Link.{Link}
 
--- what tells the links of a database apart: the router that a link runs from, and its interface
--- there
+-- the key of a link in a database: the router that it runs from, and its interface there
 abbrev pub Key : Type 0
 Key = ℕ × ℕ
 

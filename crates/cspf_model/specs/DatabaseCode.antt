@@ -1,4 +1,5 @@
--- How a database is coded by its links and marks, which the `Model` of a type that is seen as one asks for.
+-- How a database is coded by its links and marks. The `Model` of a type that is viewed as a
+-- database needs it.
 use Rattle.std.specs.Prelude.{refl}
 use Rattle.std.specs.Coded.{Coded, code_by, coded×, coded_ℕ}
 use Rattle.std.specs.Ordering.{nat_cmp}

@@ -63,8 +63,8 @@ abbrev pub link_by : (from to metric n x y : ℕ) → eqb from to ≡ false → 
 link_by from to metric n x y apart =
     link from (address 10 0 n x) to (address 10 0 n y) metric 1000 (eqb-false from to apart)
 
--- the link back over the same two interfaces, with no bandwidth: what a link may be used for isn't
--- asked of its reverse
+-- the link back over the same two interfaces, with no bandwidth: no test of admission is made of a
+-- reverse
 abbrev pub back : Link → Link
 back l = link l.to l.remote l.from l.local l.metric 0 (λ same. l.two_ends (sym same))
 
@@ -151,8 +151,8 @@ pub record IsNetwork (d : Database) (links : List Link) : Type 0 where
   pub listed : AreLinksOf d links
   pub unmarked : d.marks ≡ set.empty
 
--- it holds of each database with just these links and no marks, and of each request of 1.1.1.1 with
--- this tail-end and these hops
+-- it holds of each database with exactly these links and no marks, and of each request of 1.1.1.1
+-- with this tail-end and these hops
 abbrev pub Holds : List Link → ℕ → List Hop → (Database → Request → Type 0) → Type 0
 Holds links to hops P =
     (d : Database) (q : Request)
@@ -163,16 +163,16 @@ pub record AreFound (links : List Link) (to : ℕ) : Type 0 where
   pub database : (d : Database) × IsNetwork d links
   pub request : (hops : List Hop) → (q : Request) × HasRequestFields q (asked_fields to hops)
 
--- a strict leg to 10.9.0.0/16 may stand at both of its routers
+-- a strict leg to 10.9.0.0/16 may visit both of its routers
 abbrev pub MayStandAtOwners : Type 0
 MayStandAtOwners = Holds (both_ways six_links) (router 4) (inner_hop ∷ []) (λ d q. IsRoute d q way_inside)
 
--- it may not stand at 3.3.3.3
+-- it may not visit 3.3.3.3
 abbrev pub MayNotStandElsewhere : Type 0
 MayNotStandElsewhere =
     Holds (both_ways six_links) (router 4) (inner_hop ∷ []) (λ d q. ¬ IsRoute d q way_outside)
 
--- a loose leg to 10.9.0.0/16 may stand at 3.3.3.3
+-- a loose leg to 10.9.0.0/16 may visit 3.3.3.3
 abbrev pub MayStandAnywhere : Type 0
 MayStandAnywhere =
     Holds (both_ways six_links) (router 4) (loose_inner_hop ∷ []) (λ d q. IsRoute d q way_outside)

@@ -50,14 +50,14 @@ OneMoreBatch =
     (batches : List NumberedChanges) (b : NumberedChanges)
     → database_after (batches ++ b ∷ []) ≡ after_changes (database_after batches) b.changes
 
--- a list of batches with one more is lawful where it is and the batch fits its database, and only
--- there
+-- a list of batches with one more is lawful exactly where the list is lawful and the batch fits its
+-- database
 abbrev pub LawfulByOneMore : Type 0
 LawfulByOneMore =
     (batches : List NumberedChanges) (b : NumberedChanges)
     → AreLawful (batches ++ b ∷ []) ↔ (AreLawful batches × Fits (database_after batches) b)
 
--- the first batches of a lawful list are lawful
+-- a prefix of a lawful list of batches is lawful
 abbrev pub FirstBatchesAreLawful : Type 0
 FirstBatchesAreLawful =
     (batches more : List NumberedChanges) → AreLawful (batches ++ more) → AreLawful batches
@@ -73,7 +73,7 @@ abbrev pub LinksAreAtTheirKeys : Type 0
 LinksAreAtTheirKeys =
     (batches : List NumberedChanges) → AreAtTheirKeys (database_after batches)
 
--- different routers of a database are at most as many as it has
+-- a list of different routers of a database is at most as long as its count of routers
 abbrev pub NoRouterIsLeftOut : Type 0
 NoRouterIsLeftOut =
     (d : Database) (routers : List ℕ) → IsDistinct nat_eq routers
@@ -106,8 +106,8 @@ CheaperLinksComeFirst =
     (l m n : Link) → l.metric ≡ 1 → m.metric ≡ 1 → n.metric ≡ 3
     → walk_cmp (l ∷ m ∷ []) (n ∷ []) ≡ Less
 
--- of walks of the same cost and number of links the first local addresses that differ decide, whatever
--- the last ones are: 10.0.0.1 and then 10.0.0.9 come before 10.0.0.2 and then 10.0.0.3
+-- for walks of the same cost and number of links, the first local addresses that differ decide,
+-- whatever the last ones are: 10.0.0.1 and then 10.0.0.9 come before 10.0.0.2 and then 10.0.0.3
 abbrev pub FirstAddressDecides : Type 0
 FirstAddressDecides =
     (l m n o : Link) → cost_of (l ∷ m ∷ []) ≡ cost_of (n ∷ o ∷ [])

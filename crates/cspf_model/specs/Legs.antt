@@ -13,14 +13,14 @@ pub record IsLeg (d : Database) (q : Request) (leg router : ℕ) (links : List L
   pub arrives : IsTarget d q leg (end_of router links)
   pub within : AllByRecursion (IsInside d q leg) (routers_of router links)
 
--- legs with numbers from this one on, the first from the router, and each next one from where the
+-- legs with numbers from this one on: the first begins at the router, and each next one where the
 -- last one ended
 abbrev pub AreLegs : Database → Request → ℕ → ℕ → List (List Link) → Type 0
 AreLegs d q leg router [] = Unit {0}
 AreLegs d q leg router (links ∷ rest) =
     IsLeg d q leg router links × AreLegs d q (suc leg) (end_of router links) rest
 
--- the walk is these legs one behind the other: one to each hop, in the hops' order, and one to the
+-- the walk is these legs, one after the other: one to each hop, in the hops' order, and one to the
 -- tail-end
 pub record IsCutInto (d : Database) (q : Request) (walk : List Link) (legs : List (List Link))
     : Type 0 where

@@ -47,7 +47,7 @@ back_from_other_router = link_by (router 3) (router 1) 10 12 2 1 refl
 abbrev pub IsUnusableAmong : List Link → Type 0
 IsUnusableAmong links = (q : Request) → ¬ IsUsable (network links []) q from_1_to_2
 
--- with these links each request may use it that it is admitted for
+-- with these links each request that the link is admitted for may use it
 abbrev pub IsUsableAmong : List Link → Type 0
 IsUsableAmong links =
     (q : Request) → IsAdmitted q from_1_to_2 → IsUsable (network links []) q from_1_to_2
@@ -73,7 +73,7 @@ way_and_back = from_1_to_2 ∷ from_2_to_1 ∷ []
 abbrev pub way_by_1_again : List Link
 way_by_1_again = from_1_to_2 ∷ from_2_to_1 ∷ from_1_to_3 ∷ []
 
--- it holds of the triangle with these marks and of each request of 1.1.1.1 to 3.3.3.3 without hops
+-- it holds of the triangle with these marks, and of each request of 1.1.1.1 to 3.3.3.3 without hops
 abbrev pub HoldsWithMarks : List ℕ → (Database → Request → Type 0) → Type 0
 HoldsWithMarks marks P =
     (q : Request) → HasRequestFields q (asked_fields (router 3) []) → P (network triangle marks) q
@@ -98,8 +98,8 @@ IsMarkedByChange = (d : Database) (r : ℕ) → IsMarked (after_change d (Node r
 abbrev pub IsUnmarkedByChange : Type 0
 IsUnmarkedByChange = (d : Database) (r : ℕ) → HasTransit (after_change d (Node r true)) r
 
--- the link may come behind the walk: it is admissible, and begins where the walk ends, at a router that
--- a walk of so many links may leave
+-- the link may come after the walk: it is admissible, and begins where the walk ends, at a router
+-- that a walk of that many links may leave
 pub record MayComeNext (d : Database) (q : Request) (walk : List Link) (l : Link) : Type 0 where
   pub admissible : IsAdmissible d q l
   pub joined : l.from ≡ end_of q.from walk

@@ -2,7 +2,7 @@
 use Rattle.std.specs.Prelude.{◌≡◌, ℕ, ◌+◌, List, [], ◌∷◌}
 use Rattle.cspf_model.specs.declared.batch.Change.{Change}
 
--- a batch without where it lies in memory: its number and its changes, in order
+-- a batch as plain data, without its address in memory: its number and its changes, in order
 pub record NumberedChanges : Type 0 where
   pub number : ℕ
   pub changes : List Change

@@ -1,4 +1,4 @@
--- What an outcome of `best` answers.
+-- The answer of each outcome of `best`.
 use Rattle.cspf_model.specs.Best.{Answer, unknown_from, unknown_to, no_route, route}
 use Rattle.cspf_model.specs.declared.outcome.Outcome.{Outcome}
 use Rattle.cspf_model.specs.declared.outcome.Outcome.TheVariants.{Route, NoRoute, UnknownFrom, UnknownTo}

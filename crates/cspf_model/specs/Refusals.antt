@@ -55,7 +55,7 @@ AreOnceEach changes = IsDistinct (eq_by_cmp change_key_cmp) (map key_changed cha
 abbrev pub ArePresent : Database → List Change → Type 0
 ArePresent d changes = All (IsPresent d) changes
 
--- at most 4,096 changes, each on a key of its own, each removal's key in the database
+-- at most 4,096 changes on different keys, and each removal's key is in the database
 pub record AreInOrder (d : Database) (changes : List Change) : Type 0 where
   pub short : IsShort changes
   pub once : AreOnceEach changes

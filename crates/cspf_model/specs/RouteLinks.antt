@@ -1,4 +1,4 @@
--- What a route keeps, and when it visits a router again.
+-- What holds of the links of a route, and when it visits a router again.
 use Rattle.std.specs.Prelude.{◌≡◌, ℕ, ◌<◌, ◌≤◌, ◌^◌, List, [], ◌∷◌, length, nat_eq}
 use Rattle.std.specs.List.{IsDistinct}
 use Rattle.cspf_model.specs.declared.limits.TheConstants.{MOST_ROUTE_LINKS}
@@ -15,11 +15,11 @@ abbrev pub routers_on : List Link → List ℕ
 routers_on [] = []
 routers_on (l ∷ ls) = routers_of l.from (l ∷ ls)
 
--- a router stands twice among them
+-- a router is twice among them
 abbrev pub VisitsTwice : List Link → Type 0
 VisitsTwice links = ¬ IsDistinct nat_eq (routers_on links)
 
--- what a route keeps
+-- 1 to `MOST_ROUTE_LINKS` joined links, and their cost, which is below 2^45
 pub record IsKept (links : List Link) (kept : ℕ) : Type 0 where
   pub some : 0 < length links
   pub most : length links ≤ MOST_ROUTE_LINKS

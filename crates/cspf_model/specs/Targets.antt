@@ -23,25 +23,25 @@ pub record Owns (d : Database) (prefix : PrefixParts) (router : ℕ) : Type 0 wh
   pub known : IsRouterOf d router
   pub covered : CoversAddressOf d prefix router
 
--- a leg to a hop ends at a router that owns the hop's prefix, and the leg behind the last hop at
--- the tail-end
+-- a leg to a hop ends at a router that owns the hop's prefix, and the leg after the last hop ends
+-- at the tail-end
 abbrev pub IsTargetOf : Database → ℕ → Option Hop → ℕ → Type 0
 IsTargetOf d to (Some hop) router = Owns d hop.prefix router
 IsTargetOf d to None router = router ≡ to
 
--- The targets of a leg: leg 0, before the first hop, has the head-end alone, leg i the routers that
--- own the prefix of hop i, and the leg behind the last hop the tail-end alone.
+-- The targets of a leg. Leg 0, before the first hop, has the head-end alone. Leg i has the routers
+-- that own the prefix of hop i. The leg after the last hop has the tail-end alone.
 abbrev pub IsTarget : Database → Request → ℕ → ℕ → Type 0
 IsTarget d q zero router = router ≡ q.from
 IsTarget d q (suc i) router = IsTargetOf d q.to (slice_get q.hops i) router
 
--- the leg to a hop is loose where the hop is, and the leg behind the last hop is loose
+-- the leg to a hop is loose where the hop is, and the leg after the last hop is loose
 abbrev pub IsLoose : Option Hop → Type 0
 IsLoose (Some hop) = IsTrue hop.loose
 IsLoose None = Unit {0}
 
--- The routers that a leg may stand at: any if it is loose, and if it is strict the targets of the
--- leg before it and its own.
+-- The routers that a leg may visit: any if it is loose, and if it is strict the targets of the leg
+-- before it and its own targets.
 abbrev pub IsInside : Database → Request → ℕ → ℕ → Type 0
 IsInside d q zero router = ⊥
 IsInside d q (suc i) router =

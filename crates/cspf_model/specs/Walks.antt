@@ -19,8 +19,8 @@ abbrev pub routers_passed : List Link → List ℕ
 routers_passed [] = []
 routers_passed (l ∷ ls) = map (λ m. m.from) ls
 
--- Admissible links that follow each other from the head-end of the request. None of the routers that
--- they pass through is one without transit, which may be where they begin and where they end.
+-- Admissible links that follow each other from the head-end of the request. None of the routers
+-- that they pass through is without transit. The routers where they begin and end may be.
 pub record IsWalk (d : Database) (q : Request) (walk : List Link) : Type 0 where
   pub links : AllByRecursion (IsAdmissible d q) walk
   pub joined : AreJoined q.from walk
@@ -31,7 +31,7 @@ abbrev pub end_of : ℕ → List Link → ℕ
 end_of router [] = router
 end_of router (l ∷ ls) = end_of l.to ls
 
--- the routers that links which begin at a router stand at, both ends among them
+-- the routers that links from a router on visit, both ends included
 abbrev pub routers_of : ℕ → List Link → List ℕ
 routers_of router links = router ∷ map (λ l. l.to) links
 

@@ -19,8 +19,7 @@ pub enum Change {
         /// The address of its interface there.
         local: Addr,
     },
-    /// Says of an address whether a router that has it as its Router ID has transit, whether or not
-    /// there is such a router now.
+    /// Sets whether a router with this Router ID has transit. There need not be such a router now.
     Node {
         /// The Router ID.
         router: Addr,
@@ -32,8 +31,8 @@ pub enum Change {
 impl Change {
     ghost use Rattle.cspf_model.specs.Changes.{key_changed};
 
-    /// What is changed: the router that a link runs from with the address of its interface there, or
-    /// a router alone.
+    /// The key that is changed: the router that a link runs from and the address of its interface
+    /// there, or a router alone.
     pub fn key(&self) -> (Addr, Option<Addr>)
         ensures { result ≡ key_changed self.now }
     {

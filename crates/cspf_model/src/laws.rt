@@ -26,8 +26,8 @@ pub fn one_best_answer()
     ensures { OneBestAnswer }
 {}
 
-/// The database after a list of batches has at each key what the last change on it left, and is the
-/// only one that has.
+/// The database after a list of batches has at each key what the last change on it left. No other
+/// database has.
 pub fn last_change_decides()
     ensures decides { LastChangeDecides }
     ensures one { OneDatabase }
@@ -38,16 +38,16 @@ pub fn absorbing()
     ensures { OneMoreBatch }
 {}
 
-/// One more batch keeps a list of batches lawful where it fits the database of those before it, and
-/// only there. The first batches of a lawful list are lawful.
+/// One more batch keeps a list of batches lawful exactly where it fits the database of those before
+/// it. A prefix of a lawful list is lawful.
 pub fn lawful_batches()
     ensures more { LawfulByOneMore }
     ensures first { FirstBatchesAreLawful }
 {}
 
 /// The routers that are counted are those of the database, where each link is at its own key, as it
-/// is after any list of batches. So different routers of a database are at most as many as are
-/// counted.
+/// is after any list of batches. So a list of different routers of a database is at most as long as
+/// that count.
 pub fn counted_routers()
     ensures counted { RoutersAreCounted }
     ensures distinct { NoRouterIsLeftOut }
@@ -75,7 +75,7 @@ pub fn worked_orders()
     ensures cheaper { CheaperLinksComeFirst }
 {}
 
-/// Three changes of one key: the last one stands.
+/// Three changes of one key: the last one decides.
 pub fn worked_changes()
     ensures put { LastPutStands }
     ensures removed { LastRemovalStands }
@@ -87,8 +87,8 @@ pub fn worked_admission()
     ensures too_little { LessBandwidthIsNot }
 {}
 
-/// Of walks of the same cost and number of links the first local addresses that differ decide, even
-/// where the last ones would decide otherwise.
+/// For walks of the same cost and number of links, the first local addresses that differ decide,
+/// even where the last ones would decide otherwise.
 pub fn worked_ties()
     ensures first { FirstAddressDecides }
     ensures next { NextAddressDecides }

@@ -4,7 +4,7 @@ use cspf_addr::MOST_HOPS;
 /// How many links a database has at most.
 pub const MOST_LINKS: usize = 16384;
 
-/// How many routers are at the ends of a database's links at most.
+/// How many routers a database has at most: the ends of its links.
 pub const MOST_ROUTERS: usize = 1024;
 
 /// How many addresses are marked as those of routers without transit at most.

@@ -1,6 +1,6 @@
 use crate::Route;
 
-/// What a request is answered.
+/// The answer to a request.
 #[derive(Debug, Drop)]
 pub enum Outcome {
     /// The least route.

@@ -10,7 +10,7 @@ pub enum Refusal {
     /// Two changes are on one key.
     #[error("change {at} is on the key of an earlier change")]
     Duplicate {
-        /// The least place of a change whose key an earlier one has.
+        /// The least place of a change whose key an earlier change has.
         at: usize,
     },
     /// A link is removed that isn't there.

@@ -45,8 +45,8 @@ pub enum RequestError {
 impl Request {
     ghost use Rattle.cspf_model.specs.Fields.{request_fields, HasRequestFields, IsRequestFault};
 
-    /// The request that says this. A setup priority above 7 is refused first, then a request from a
-    /// router to itself.
+    /// The request with these fields. A setup priority above 7 is refused first, then a request
+    /// from a router to itself.
     pub fn new(
         id: u64,
         from: Addr,

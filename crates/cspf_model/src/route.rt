@@ -60,7 +60,7 @@ impl Route {
         self.cost
     }
 
-    /// Whether a router stands twice on the route.
+    /// Whether the route visits a router twice.
     pub fn again(&self) -> bool
         ensures { IsTrue result ↔ VisitsTwice self.now }
     {

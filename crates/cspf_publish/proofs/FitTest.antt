@@ -1,4 +1,4 @@
--- The test of `database_with` tells exactly whether the batch fits.
+-- The test of `database_with` is true exactly where the batch fits.
 use Rattle.std.proofs.Common.{◌≡◌, ℕ, ◌≤◌, Bool, true, false, not, cond, nat_le, List, [], ◌∷◌, length, map, refl, ap, Decides}
 use Rattle.std.specs.List.{list_all, IsDistinct, AllByRecursion}
 use Rattle.std.specs.Ordering.{eq_by_cmp}

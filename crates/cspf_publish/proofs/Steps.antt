@@ -68,7 +68,7 @@ HasOnePublisher-snoc views w one not i j x y ex ey px py =
 pub AreFirstOf-self : (known : KnownBatches) → AreFirstOf known known
 AreFirstOf-self known = record { source = refl; begins = BeginsWith-self known.batches }
 
--- what a seat knows that isn't a publisher's is still known where a batch came behind
+-- a seat that isn't a publisher's still knows its batches after one more batch
 Knows-more : (s t : ReplicaState) (b : NumberedChanges) → t.known ≡ known_with s.known.batches s.known.source b → (v : SeatView) → Knows s v → (IsPublisher v → ⊥) → Knows t v
 Knows-more s t b is New knows not = tt
 Knows-more s t b is (Asker known) knows not =
@@ -76,7 +76,7 @@ Knows-more s t b is (Asker known) knows not =
     subst (λ (k : KnownBatches). AreFirstOf k known) (sym is) more
 Knows-more s t b is (Publisher known) knows not = absurd (not tt)
 
--- before a publisher's first step no seat is a publisher's, and what the others know stays
+-- before a publisher's first step no seat is a publisher's, and the others keep what they know
 Knows-opens : (s t : ReplicaState) → t.known ≡ s.known → (v : SeatView) → Knows s v → (IsPublisher v → ⊥) → Knows t v
 Knows-opens s t is New knows not = tt
 Knows-opens s t is (Asker known) knows not = subst (λ (k : KnownBatches). AreFirstOf k known) (sym is) knows
@@ -212,7 +212,7 @@ HasItsDatabase-more law s b has follows =
     database_with-Fits s.database b (subst (λ (d : Database). Fits d b) (sym has) follows.fits)
     ∙ (ap (λ (d : Database). after_changes d b.changes) has ∙ sym (law s.known.batches b))
 
--- two operations that change nothing but that the replica is open
+-- two operations that only open the replica
 pub idle_twice : (s : ReplicaState)
     → state_with (state_with s (idle_batch s.known).batch s.known) (idle_batch s.known).batch s.known ≡ record { database = s.database; known = s.known; is_open = true }
 idle_twice s =

@@ -1,4 +1,4 @@
--- What an asker is answered.
+-- The answer to an asker.
 use Rattle.std.specs.Prelude.{◌≡◌, List, length}
 use Rattle.cspf_model.specs.declared.request.Request.{Request}
 use Rattle.cspf_model.specs.Numbered.{NumberedChanges}

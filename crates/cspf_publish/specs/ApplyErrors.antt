@@ -1,4 +1,4 @@
--- When a batch is refused, by the first reason that applies, and what the publisher is then.
+-- When a batch is refused, by the first reason that applies, and the publisher's state then.
 use Rattle.std.specs.Prelude.{◌≡◌, ◌≢◌, ℕ, ◌+◌, ◌<◌, ◌≤◌, false, List, length, take, Option}
 use Rattle.std.specs.Io.KnownBytes.{Appends}
 use Rattle.cspf_model.specs.Numbered.{NumberedChanges}
@@ -21,9 +21,9 @@ pub record HasRoom {W : Type 0} (p : PublisherState W) : Type 0 where
   pub going : p.stopped ≡ false
   pub room : length p.batches < MOST_VERSIONS
 
--- Why the batch isn't published, by the first of these that applies, and what the publisher is then. Only
--- a fault of the journal changes anything: a strict prefix of the batch's text is written, and the
--- publisher is stopped for good.
+-- Why the batch isn't published, by the first of these that applies, and the publisher's state
+-- then. Only a fault of the journal changes anything: a strict prefix of the batch's text is
+-- written, and the publisher is stopped for good.
 abbrev pub IsApplyError : {W : Type 0} → (W → Option (List ℕ)) → PublisherState W → PublisherState W → NumberedChanges → ApplyError → Type 0
 IsApplyError contents p p' b Stopped = IsStopped p × (p' ≡ p)
 IsApplyError contents p p' b Exhausted = (p.stopped ≡ false) × (MOST_VERSIONS ≤ length p.batches) × (p' ≡ p)

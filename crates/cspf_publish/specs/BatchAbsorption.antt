@@ -1,5 +1,5 @@
--- The database of a table that takes in a batch, whether or not the batch fits: what an operation does
--- to a replica.
+-- The database of a table after a batch, whether or not the batch fits: the effect of an operation
+-- on a replica.
 use Rattle.std.specs.Prelude.{Bool, true, ◌&&◌, not, cond, nat_le, is_some, List, [], ◌∷◌, length, map}
 use Rattle.std.specs.Ordering.{eq_by_cmp}
 use Rattle.std.specs.List.{list_all}
@@ -15,7 +15,7 @@ abbrev pub are_distinct : List ChangeKey → Bool
 are_distinct [] = true
 are_distinct (k ∷ ks) = list_all (λ j. not (eq_by_cmp change_key_cmp k j)) ks && are_distinct ks
 
--- whether the change isn't a removal of a link that isn't there
+-- false where the change removes a link that isn't there, and else true
 abbrev pub is_present : Database → Change → Bool
 is_present d (Put l) = true
 is_present d (Remove from local) = is_some (link_at d (from, local))

@@ -1,4 +1,4 @@
--- The rule of the list of all batches, and what the step that adds one tells.
+-- The rule of the list of all batches, and what is known after the step that adds one.
 use Rattle.std.specs.Prelude.{ℕ, ◌≡◌, ◌==◌, true, List, [], ◌∷◌, ◌++◌, length, MatchBool}
 use Rattle.logbook.specs.Pages.{Cell, Step, View, Book, Named}
 use Rattle.cspf_model.specs.Numbered.{NumberedChanges}

@@ -1,4 +1,4 @@
--- What a publisher, an asker or a told token knows.
+-- The batches that a publisher, an asker or a `Told` token knows.
 use Rattle.std.specs.Prelude.{◌≡◌, List}
 use Rattle.logbook.specs.Pages.{Book}
 use Rattle.cspf_model.specs.Numbered.{NumberedChanges}
@@ -9,7 +9,7 @@ pub record KnownBatches : Type 0 where
   pub batches : List NumberedChanges
   pub source : Book
 
--- the second are a prefix of the first, of the same source, perhaps all of them
+-- the second are a prefix of the first, perhaps all of them, and have the same source
 pub record AreFirstOf (all first : KnownBatches) : Type 0 where
   pub source : first.source ≡ all.source
   pub begins : BeginsWith all.batches first.batches

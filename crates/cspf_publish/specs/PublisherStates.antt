@@ -1,4 +1,4 @@
--- What a publisher and its parts are to a clause.
+-- The values of a publisher and of its parts in clauses.
 use Rattle.std.specs.Prelude.{◌≡◌, Bool, true, List}
 use Rattle.logbook.specs.Pages.{Book}
 use Rattle.cspf_model.specs.Numbered.{NumberedChanges}

@@ -1,5 +1,5 @@
--- The rule between any two steps on the replicas, and what each kind of step does to the view of the seat
--- that takes it. The batches of the replica that askers enter are those that are published.
+-- The rule between any two steps on the replicas, and how each kind of step changes the view of the
+-- seat that takes it. The batches of the replica that askers enter are those that are published.
 use Rattle.std.specs.Prelude.{◌≡◌, ℕ, true, List, [], ◌∷◌, ◌++◌}
 use mathlib.Core.Option.{some}
 use lib.ListN.{get_elem?}
@@ -66,14 +66,14 @@ pub record Enters (v : SeatView) (x y : ReplicaState) (w : SeatView) : Type 0 wh
   pub later : (known : KnownBatches) → v ≡ Asker known → AreFirstOf y.known known
   pub after : w ≡ Asker y.known
 
--- What a new asker's seat is told: what the publisher's knows.
+-- The note to a new asker's seat: the batches that the publisher's seat knows.
 abbrev pub note_of : SeatView → SeatView
 note_of New = New
 note_of (Asker known) = Asker known
 note_of (Publisher known) = Asker known
 
--- The view of a seat that takes in a note: a new one knows what it is told, and one that knows something
--- keeps it.
+-- The view of a seat that takes in a note: a new one knows the batches of the note, and one that
+-- knows something keeps it.
 abbrev pub view_with_note : SeatView → SeatView → SeatView
 view_with_note New told = note_of told
 view_with_note (Asker known) told = Asker known

@@ -1,4 +1,4 @@
--- What a replica of the table is to the rule between steps.
+-- The value of a replica of the table in the rule between steps.
 use Rattle.std.specs.Prelude.{Bool, true}
 use Rattle.cspf_model.specs.Numbered.{NumberedChanges}
 use Rattle.cspf_model.specs.Database.{Database}

@@ -1,6 +1,6 @@
 use cspf_model::Outcome;
 
-/// What a request is answered.
+/// The answer to a request.
 #[derive(Debug, Drop)]
 pub struct Answer {
     /// The request's id.

@@ -23,8 +23,8 @@ use std::marker::Model;
 /// A reader of the published replica.
 pub(crate) type ReplicaReader = Reader<Replica, SeatView, ReplicaRule>;
 
-/// Asks, and knows the batches up to the last version that it saw or learnt of. One thread uses it
-/// at a time, and it may be moved to another thread. Its calls wait for nobody.
+/// An asker answers requests, and knows the batches up to the last version that it saw or learnt.
+/// One thread uses it at a time, and it may be moved to another thread. Its calls never block.
 #[derive(Drop)]
 pub struct Asker {
     reader: ReplicaReader,
@@ -43,8 +43,8 @@ impl Model for Asker {
     ghost invariant = { λ a. KnowsItsEntry (seen_by a.reader.place) a.known };
 }
 
-// One entry: the batches of the replica that was entered, and what is found in its table. Those of
-// the last entry are a prefix of them.
+// One entry: the batches of the replica that was entered, and the result of the search in its
+// table. Those of the last entry are a prefix of them.
 fn enter_and_search(
     reader: ReplicaReader,
     ask: (Global, Request),
@@ -76,9 +76,10 @@ impl Asker {
     }
 
     /// The best answer in the database of the last published version. After it the batches of that
-    /// version are known. On `NoEntry` nothing changed, and on `Memory` nothing but what is known.
-    // No less is entered than was entered before. Less than was told is `NoEntry` too, which no run
-    // shows.
+    /// version are known. On `NoEntry` nothing changed. On `Memory` only the known batches may have
+    /// changed.
+    // The entered version is never below that of an earlier entry. A version below the told one is
+    // `NoEntry`, too, which no run shows.
     pub fn ask(&mut self, alloc: Global, request: &Request) -> Result<Answer, AskError>
         ensures source { self.new.source ≡ self.old.source }
         ensures later { BeginsWith self.new.batches self.old.batches }
@@ -102,7 +103,7 @@ impl Asker {
         }
     }
 
-    /// Takes over the told batches where they are more than those that are known.
+    /// Knows the batches of the token from now on, if they are more than the known ones.
     pub fn learn(&mut self, told: Told)
         requires { told.source ≡ self.old.source }
         ensures source { self.new.source ≡ self.old.source }
@@ -121,7 +122,7 @@ impl Asker {
         self.known.version()
     }
 
-    /// Learns what was told, and answers the version up to which the batches are then known.
+    /// Learns the batches of the token, and returns the version up to which batches are then known.
     pub fn meet(&mut self, told: Told) -> u32
         requires { told.source ≡ self.old.source }
         ensures source { self.new.source ≡ self.old.source }

@@ -1,4 +1,4 @@
-//! The list of all batches of a publisher, and the right to add to it.
+//! The list of all batches of a publisher. Only its owner can add to it.
 ghost use Rattle.std.specs.Prelude.{◌≡◌, [], MatchBool};
 ghost use Rattle.cspf_publish.specs.Histories.{MayFollow};
 ghost use Rattle.cspf_publish.specs.HistoryRule.{length_word};
@@ -14,7 +14,7 @@ use std::sync::Wait;
 /// The word that the publisher moves: the length of the list.
 type LengthWord = Word<Batch, u64, History>;
 
-/// All batches of a list, which can be added to here alone.
+/// All batches of a list. Batches are added only through this value.
 #[derive(Drop)]
 pub(crate) struct BatchList {
     word: LengthWord,
@@ -53,7 +53,7 @@ impl BatchList {
         self.known.copy()
     }
 
-    /// Adds a batch. All batches are added here alone, so the first turn is the last one.
+    /// Adds a batch. Only this value adds batches, so the first turn of the loop is the last one.
     pub(crate) fn extend<R: Wait>(&mut self, rt: &R, batch: &Batch)
         requires { MayFollow self.old.batches batch.now }
         ensures { self.new ≡ known_with self.old.batches self.old.source batch.now }

@@ -23,7 +23,7 @@ impl Rule<Batch, u64> for History {
     ghost moves = { λ ask before after answer. Unit {0} };
 }
 
-/// Callers keep nothing beside the list.
+/// Callers keep only the list.
 pub struct NoGain;
 
 impl Gain<Batch, u64> for NoGain {
@@ -41,7 +41,7 @@ impl Play<Batch, u64> for AddBatch {
     ghost then = { Adds };
 }
 
-/// The step asks for the batch.
+/// The step takes the batch.
 impl Plain<Batch, Batch, u64> for AddBatch {
     ghost use Rattle.std.specs.Prelude.{None};
 

@@ -13,8 +13,8 @@ use std::io::Write;
 use std::marker::Model;
 use std::sync::Wait;
 
-/// A writer, and the list whose batches it has the texts of. What is known of a longer list is made
-/// by `record` alone, so nothing can be shown that isn't recorded.
+/// A writer, and the list of the batches whose texts it has. Only `record` makes knowledge of a
+/// longer list, so no batch can be shown that isn't recorded.
 pub(crate) struct JournalWriter<W> {
     writer: W,
     list: BatchList,
@@ -73,7 +73,7 @@ impl<W> JournalWriter<W> {
 
 impl<W: Write> JournalWriter<W> {
     /// Adds a batch to the list, and writes its text whole. Only then are the batches up to it
-    /// known. On an error that many bytes of the text are written, and the journal is stopped. It
+    /// known. The error is how many bytes of the text were written; the journal is then stopped. It
     /// takes no memory.
     pub(crate) fn record<R: Wait>(
         &mut self,

@@ -1,4 +1,4 @@
-//! What is known of the list of all batches: a prefix of it.
+//! The known prefix of the list of all batches.
 ghost use Rattle.std.specs.Prelude.{◌≡◌, ◌<◌, length, MatchBool};
 ghost use Rattle.cspf_publish.specs.Histories.{BeginsWith, IsHistory};
 
@@ -35,7 +35,7 @@ impl Known {
         Known { version, seen }
     }
 
-    /// What is seen of the list.
+    /// The seen prefix of the list.
     pub(crate) fn seen(&self) -> Seen<Batch, u64, History>
         ensures { (result.log ≡ self.now.batches) × (result.book ≡ self.now.source) }
     {
@@ -50,7 +50,7 @@ impl Known {
         self.version
     }
 
-    /// The same once more.
+    /// A copy.
     pub(crate) fn copy(&self) -> Known
         ensures { result ≡ self.now }
     {
@@ -60,8 +60,8 @@ impl Known {
         }
     }
 
-    /// Takes over what the other knows where that is no less. The shorter list is a prefix of the
-    /// longer.
+    /// Knows the other's batches from now on, if they are no fewer. Returns whether they are. The
+    /// shorter list is a prefix of the longer.
     pub(crate) fn raise(&mut self, other: &Known) -> bool
         requires { other.now.source ≡ self.old.source }
         ensures { MatchBool result

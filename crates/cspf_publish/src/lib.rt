@@ -1,11 +1,11 @@
-//! Published copies of the database: one publisher applies batches, and askers in threads of their
-//! own are answered from the last published version without waiting.
+//! Published copies of the database: one publisher applies batches. Askers, each in its thread, are
+//! answered from the last published version without waiting.
 //!
 //! A batch takes effect at one step, the swap of two replicas of the table, and an ask at one step,
 //! the entering of a replica. `specs/Histories.antt` says which lists of batches may be published,
-//! `specs/KnownBatches.antt` what a publisher, an asker or a told token knows of one, and
-//! `specs/ReplicaRule.antt` the rule that holds between any two steps, and what each kind of step
-//! does.
+//! `specs/KnownBatches.antt` which batches of one a publisher, an asker or a `Told` token knows,
+//! and `specs/ReplicaRule.antt` the rule that holds between any two steps, and the effect of each
+//! kind of step.
 #![tactic(auto)]
 
 mod answer;

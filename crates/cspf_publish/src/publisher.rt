@@ -19,8 +19,8 @@ use std::io::Write;
 use std::marker::Model;
 use std::sync::Wait;
 
-/// Publishes batches, each of which it writes to its journal before. It is not `Drop`: end it by
-/// `close`.
+/// Publishes batches. Each is written to the journal before it is published. A publisher is not
+/// `Drop`: end it by `close`.
 pub struct Publisher<W> {
     replicas: Replicas,
     journal: JournalWriter<W>,
@@ -44,8 +44,8 @@ impl<W> Model for Publisher<W> {
         × (p.journal.stopped ≡ false → p.journal.batches ≡ p.replicas.batches) };
 }
 
-/// A publisher of the empty database, version 0, and 1 to 64 askers. It begins with a writer of its
-/// own for the journal, which each error gives back untouched.
+/// A publisher of the empty database, version 0, and 1 to 64 askers. It owns the writer of the
+/// journal. Each error gives the writer back untouched.
 pub fn open<W: Write, R: Wait>(
     rt: &R,
     alloc: Global,
@@ -95,14 +95,14 @@ impl<W: Write> Publisher<W> {
         self.replicas.version()
     }
 
-    /// Whether a fault of the journal came before. Then no batch is published any more.
+    /// Whether a fault of the journal came before. If so, no more batches are published.
     pub fn is_stopped(&self) -> bool
         ensures { result ≡ self.now.stopped }
     {
         self.journal.is_stopped()
     }
 
-    /// The best answer in the database of the published version. It waits for nobody.
+    /// The best answer in the database of the published version. It never blocks.
     pub fn answer(&self, alloc: Global, request: &Request) -> Result<Answer, AllocError>
         ensures { IfOk result (IsAnswerAfter self.now.batches request.now) }
     {
@@ -114,7 +114,7 @@ impl<W: Write> Publisher<W> {
         })
     }
 
-    /// Tells what is published. It waits for nobody.
+    /// Returns a token of the published batches. It never blocks.
     pub fn tell(&mut self) -> Told
         ensures batches { result.batches ≡ self.old.batches }
         ensures source { result.source ≡ self.old.source }
@@ -123,9 +123,9 @@ impl<W: Write> Publisher<W> {
         self.replicas.tell()
     }
 
-    /// Publishes a batch and answers the new version. The batch's text is written whole before. May
-    /// wait for askers that are inside a call. The errors stand in the order in which they are
-    /// looked for.
+    /// Publishes a batch and returns the new version. The batch's text is first written whole to
+    /// the journal. May wait for askers that are inside a call. The errors are checked in their
+    /// order.
     pub fn apply<R: Wait>(
         &mut self,
         rt: &R,

@@ -23,9 +23,9 @@ pub struct PendingBatch {
 pub struct Replica {
     /// The table.
     pub table: Table,
-    /// The batches that it took in.
+    /// The batches that it has absorbed.
     pub known: Known,
-    /// Whether it took in an operation: then a publisher's seat knows its batches.
+    /// Whether it has absorbed an operation. If so, a publisher's seat knows its batches.
     pub is_open: bool,
 }
 
@@ -41,7 +41,7 @@ impl Model for Replica {
     ghost view = { λ r. record { database = r.table; known = r.known; is_open = r.is_open } };
 }
 
-// Takes in a batch, which changes nothing where it doesn't fit.
+// Absorbs a batch. One that doesn't fit changes nothing.
 fn absorb(table: &mut Table, batch: &Batch)
     ensures { table.new ≡ database_with table.old batch.now }
 {

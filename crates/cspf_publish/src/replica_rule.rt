@@ -1,4 +1,4 @@
-//! The rule of the replicas, and what each kind of step tells.
+//! The rule of the replicas, and what is known after each kind of step.
 ghost use Rattle.cspf_publish.specs.ReplicaRule.{HoldsBetweenSteps, Enters, Opens, Publishes, note_of, view_with_note};
 ghost use Rattle.cspf_publish.specs.declared.seat_view.SeatView.TheVariants.{New as IsNew};
 
@@ -16,7 +16,7 @@ impl Protocol<Replica, SeatView> for ReplicaRule {
     ghost first = { IsNew };
 }
 
-/// The publisher's first step, which tells its seat what is published.
+/// The publisher's first step. After it the publisher's seat knows the published batches.
 pub struct Opening;
 
 impl Outcome<Replica, SeatView> for Opening {
@@ -37,7 +37,7 @@ impl Outcome<Replica, SeatView> for Entry {
     ghost then = { Enters };
 }
 
-/// A new asker's seat is told what the publisher's knows.
+/// The note to a new asker's seat: the batches that the publisher's seat knows.
 pub struct FirstNote;
 
 impl Split<SeatView> for FirstNote {

@@ -50,7 +50,8 @@ impl Model for Replicas {
         × (drop r.writer.behind r.writer.log.items ≡ []) };
 }
 
-// The first step, which changes no table. From now on the writer's seat knows what is published.
+// The first step, which changes no table. From now on the writer's seat knows the published
+// batches.
 fn open_writer<R: Wait>(writer: ReplicaWriter, rt: &R) -> ReplicaWriter
     requires empty { writer.desk.shown.value ≡ record {
       database = no_links;
@@ -124,8 +125,8 @@ fn empty_replica(alloc: Global, known: &Known) -> Result<Replica, AllocError>
     })
 }
 
-// Appends an operation. The log has room for it since the replicas were made, so the first turn is
-// the last one.
+// Appends an operation. The log has had room for it since the replicas were made, so the first turn
+// of the loop is the last one.
 fn append<R: Wait>(writer: &mut ReplicaWriter, rt: &R, operation: PendingBatch)
     ensures desk { writer.new.desk ≡ writer.old.desk }
     ensures pending { drop writer.new.behind writer.new.log.items
@@ -142,7 +143,7 @@ fn append<R: Wait>(writer: &mut ReplicaWriter, rt: &R, operation: PendingBatch)
 }
 
 impl Replicas {
-    /// Two empty replicas. The writer's log grows here alone: later on it never has more than two
+    /// Two empty replicas. The writer's log grows only here. Later it never has more than two
     /// operations.
     pub(crate) fn new<R: Wait>(
         rt: &R,
@@ -170,7 +171,7 @@ impl Replicas {
         })
     }
 
-    /// This number of askers in this room, who know what is published.
+    /// Makes `count` askers, with `room` as their memory. They know the published batches.
     pub(crate) fn askers(&mut self, room: Vec<Asker>, count: usize) -> Result<Vec<Asker>, NoPlace>
         requires { (room.items ≡ []) × (count ≤ vec_capacity room) }
         ensures same { self.new ≡ self.old }
@@ -211,7 +212,7 @@ impl Replicas {
         self.writer.published().known.version()
     }
 
-    /// Whether the batch fits the published database, and else the first reason why it doesn't.
+    /// `Ok` if the batch fits the published database, or else the first reason why it doesn't.
     pub(crate) fn check(&self, batch: &Batch) -> Result<(), Refusal>
         ensures ok { OnOk result (Fits (database_after self.now.batches) batch.now) }
         ensures err { IfErr result (λ refusal.
@@ -227,7 +228,7 @@ impl Replicas {
         best(alloc, &self.writer.published().table, request)
     }
 
-    /// Publishes a batch that is recorded, and answers the new version.
+    /// Publishes a batch that is recorded, and returns the new version.
     pub(crate) fn publish<R: Wait>(&mut self, rt: &R, batch: Batch, recorded: Known) -> u32
         requires next { MayFollow self.old.batches batch }
         requires recorded { recorded ≡ known_with self.old.batches self.old.source batch }
@@ -242,14 +243,14 @@ impl Replicas {
         replace_with(&mut self.writer, rt, swap_replicas::<R>)
     }
 
-    /// A token of what is published.
+    /// A token of the published batches.
     pub(crate) fn tell(&self) -> Told
         ensures { result ≡ self.now }
     {
         Told::new(self.known())
     }
 
-    /// Drops both replicas, and answers the batches of the one that was shown last.
+    /// Drops both replicas, and returns the batches of the one that was published last.
     pub(crate) fn close<R: Wait>(self, rt: &R) -> Known
         ensures { result ≡ self }
     {

@@ -1,7 +1,7 @@
-//! What the rule of the replicas keeps for each seat at them.
+//! The view that the rule of the replicas has of each seat.
 use crate::known::Known;
 
-/// No value of it is made.
+/// The view of a seat. No value of this type is made at run time.
 pub enum SeatView {
     /// A seat that knows nothing yet.
     New,

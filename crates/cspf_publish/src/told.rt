@@ -4,7 +4,7 @@ ghost use Rattle.cspf_publish.specs.Histories.{IsHistory};
 use crate::known::Known;
 use std::marker::Model;
 
-/// What a publisher told: the batches that it had published.
+/// A token of the batches that a publisher had published.
 #[derive(Drop)]
 pub struct Told {
     known: Known,
@@ -31,7 +31,7 @@ impl Told {
         &self.known
     }
 
-    /// The told version: how many batches it has.
+    /// The version of the token: how many batches it has.
     pub fn version(&self) -> u32
         ensures version { result ≡ length self.now.batches }
         ensures history { IsHistory self.now.batches }

@@ -1,4 +1,4 @@
--- A link and a request are the ones that are made of their attributes.
+-- A link and a request are equal to those that are made of their attributes.
 use Rattle.std.proofs.Common.{◌≡◌, suc, ◌<◌, length, Ok, Err, refl, subst}
 use Rattle.std.proofs.Math.Decide.{ℕ_discrete, dec_le}
 use Rattle.std.proofs.Math.Nat.{ℕ_set}
@@ -35,7 +35,7 @@ pub put-self : (fields : LinkFields) (eight : length fields.free ≡ 8) → fiel
 unfolding put
 put-self fields eight one = put_between-self fields eight (ℕ_discrete fields.from fields.to) one
 
--- a request is asked by what it says, whatever shows that it is one
+-- a request is asked by its fields, whatever shows that it is one
 pub ask_between-request : (q : Request) (low : Dec (q.setup < 8)) (ends : Dec (q.from ≡ q.to)) → ask_between (fields_of_request q) low ends ≡ Ok (row.Ask q)
 ask_between-request q (no above) ends = absurd (above q.priority)
 ask_between-request q (yes below) (yes same) = absurd (q.two_ends same)
@@ -46,7 +46,7 @@ pub ask-fields : (q : Request) → ask (fields_of_request q) ≡ Ok (row.Ask q)
 unfolding ask
 ask-fields q = ask_between-request q (dec_le (suc q.setup) 8) (ℕ_discrete q.from q.to)
 
--- a request is asked by what it says
+-- a request is asked by its fields
 pub ask-request : AreFieldsOfRequests → (q : Request) (fields : RequestFields) → HasRequestFields q fields → ask fields ≡ Ok (row.Ask q)
 ask-request requests q fields h = subst (λ (a : RequestFields). ask a ≡ Ok (row.Ask q)) ((requests q fields).0 h) (ask-fields q)
 

@@ -52,7 +52,7 @@ cut_lines n [] few h = none_left n
 cut_lines zero (r ∷ rs) few h = absurd (omega arith)
 cut_lines (suc n) (r ∷ rs) few h = next_line n r (flat_map record_line rs) h.0 ∙ ap (λ more. r ∷ more) (cut_lines n rs (omega arith) h.1)
 
--- a line has a byte at least
+-- a line has at least one byte
 line_text-some : (r : List (List ℕ)) (tail : List ℕ) → suc (length tail) ≤ length (record_line r ++ tail)
 unfolding record_line
 line_text-some r tail = simp length-append (omega arith)

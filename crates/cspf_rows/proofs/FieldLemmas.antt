@@ -1,4 +1,4 @@
--- What the fields of a record spell is what is written in them.
+-- A field is read as a value exactly where it spells that value.
 use Rattle.std.proofs.Common.{◌≡◌, ℕ, zero, suc, ltb, ◌^◌, ◌<◌, Bool, true, false, cond, eqb, inl, inr, List, ◌++◌, codes, drop, ap, Option, Some, None, Result, Ok, Err, refl, arith}
 use Rattle.std.proofs.lemmas.Bool.{ltb-true, lt-ltb, false_from_ne_true}
 use Rattle.std.proofs.lemmas.Bool.Decides.{Decides-eqb}
@@ -27,7 +27,7 @@ pub first_step : {A B : Type 0} (r : Result A RowError) (f : A → Result B RowE
 first_step (Ok x) f y found = (x, refl, found)
 first_step (Err e) f y found = absurd (cc)
 
--- what a value in the place of a refusal came from
+-- the value of `ok_or` is the one that the option had
 found : {A : Type 0} (o : Option A) (e : RowError) (x : A) → ok_or o e ≡ Ok x → o ≡ Some x
 found None e x same = absurd (cc)
 found (Some y) e x same = cc
@@ -123,12 +123,12 @@ module _ (texts : AreTextsRead) (fields : List (List ℕ)) (place : ℕ) where
   unfolding mask_at
   spelled-mask_at n read = (texts.masks (field fields place) n).0 (found _ _ n read)
 
--- what a value behind a change of its error came from
+-- a value is kept where only the error of a result is mapped
 kept : {A B : Type 0} (r : Result (List Hop) A) (f : A → B) (hops : List Hop) → result_map_both (λ (h : List Hop). h) f r ≡ Ok hops → r ≡ Ok hops
 kept (Ok h) f hops same = cc
 kept (Err e) f hops same = absurd (cc)
 
--- whether a text begins with `ero:`, behind which an object stands
+-- whether a text begins with `ero:`, which an object follows
 pub begins : (text : List ℕ) (test : Bool) → test ≡ starts_with eqb text (codes "ero:")
     → (test ≡ true → text ≡ codes "ero:" ++ drop 4 text) × ((rest : List ℕ) → text ≡ codes "ero:" ++ rest → test ≡ true)
 begins text test is = starts_is Decides-eqb text (codes "ero:") test is

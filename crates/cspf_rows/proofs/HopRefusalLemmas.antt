@@ -13,12 +13,12 @@ use Rattle.cspf_rows.specs.FieldValues.{object_hops_of, hex_hops_of, either_hops
 use Rattle.cspf_rows.specs.RowRefusals.{IsHopsFault}
 use Rattle.cspf_rows.proofs.FieldLemmas.{begins}
 
--- what an error behind a change of errors came from
+-- a mapped error comes from an error
 pub mapped_error : {A B : Type 0} (r : Result (List Hop) A) (f : A → B) (e : B) → result_map_both (λ (h : List Hop). h) f r ≡ Err e → (why : A) × (r ≡ Err why) × (f why ≡ e)
 mapped_error (Ok h) f e same = absurd (cc)
 mapped_error (Err why) f e same = (why, refl, cc)
 
--- digits that are refused stand for no bytes
+-- digits that are refused decode to no bytes
 no_bytes : (r : Result (List ℕ) FromHexError) (e : FromHexError) (bytes : List ℕ) → r ≡ Err e → r ≡ Ok bytes → ⊥
 no_bytes (Ok b) e bytes bad good = cc bad
 no_bytes (Err f) e bytes bad good = cc good

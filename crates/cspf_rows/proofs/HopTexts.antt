@@ -17,7 +17,7 @@ record BeginsWithDigit (text : List ℕ) : Type 0 where
   whole : text ≡ first ∷ behind
   digit : digit_value first < 10
 
--- a test of digits that was passed, with those of the first and of the size
+-- a conjunction that was passed: of a plain start, of digits and of the size
 first_passed : (plain first others small : Bool) (v n : ℕ) → cond ((plain && (first && others)) && small) (Some v) None ≡ Some n → first ≡ true
 first_passed true true others small v n read = refl
 first_passed true false others small v n read = absurd (cc)

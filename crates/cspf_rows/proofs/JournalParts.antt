@@ -1,4 +1,4 @@
--- What the records of a journal are, one record after the other.
+-- The parts of a journal, one record after the other.
 use Rattle.std.proofs.Common.{◌≡◌, ◌≢◌, ℕ, ◌+◌, ◌≤◌, Bool, true, false, List, [], ◌∷◌, ◌++◌, map, length, Result, Ok, refl, sym, ap, ◌∙◌, append_assoc, append-nil, arith}
 use Rattle.std.proofs.lemmas.Grind.{flat_map-append}
 use Rattle.std.proofs.lemmas.List.{map-append, length-append, length-map}
@@ -76,7 +76,7 @@ module _ (bs : List NumberedChanges) (cs : List Change) (seen : List (List (List
   some_one : (fields ∷ []) ≢ []
   some_one e = cc
 
-  -- a row comes that no batch has
+  -- a row comes that is in no batch
   pub parts_end : EndsBatches (1 + length bs) (length cs) (row_of fields) → AreJournalParts bs cs true (seen ++ (fields ∷ []))
   parts_end last = record {
     numbers = h.numbers;
@@ -98,7 +98,7 @@ some_more : (more : Records) (fields : List (List ℕ)) → more ++ (fields ∷ 
 some_more [] fields e = cc
 some_more (r ∷ more) fields e = cc
 
--- one more record behind a row that no batch has
+-- one more record after a row that is in no batch
 pub parts_behind : (bs : List NumberedChanges) (cs : List Change) (seen : List (List (List ℕ))) (fields : List (List ℕ)) → AreJournalParts bs cs true seen
     → AreJournalParts bs cs true (seen ++ (fields ∷ []))
 parts_behind bs cs seen fields h = record {
@@ -150,7 +150,7 @@ some_open [] behind [] rows some e = some refl
 some_open [] behind (c ∷ cs) rows some e = cc
 some_open (o ∷ opens) behind cs rows some e = cc
 
--- nothing is left where no change is open and no row came that no batch has
+-- no record is left where no change is open and each row was in a batch
 pub journal_clean : (bs : List NumberedChanges) (seen : List (List (List ℕ))) → AreJournalParts bs [] false seen → IsJournal seen bs rest.Clean
 journal_clean bs seen h = journal_of_parts bs [] false seen h rest.Clean (rw (h.ended, no_records h.open_ones h.open_rows) refl)
 
@@ -158,7 +158,7 @@ journal_clean bs seen h = journal_of_parts bs [] false seen h rest.Clean (rw (h.
 pub journal_open : (bs : List NumberedChanges) (cs : List Change) (seen : List (List (List ℕ))) → AreJournalParts bs cs false seen → cs ≢ [] → IsJournal seen bs rest.Torn
 journal_open bs cs seen h some = journal_of_parts bs cs false seen h rest.Torn (some_open h.open_ones h.behind cs h.open_rows some)
 
--- a row is left that no batch has
+-- a row is left that is in no batch
 pub journal_behind : (bs : List NumberedChanges) (cs : List Change) (seen : List (List (List ℕ))) → AreJournalParts bs cs true seen → IsJournal seen bs rest.Torn
 journal_behind bs cs seen h = journal_of_parts bs cs true seen h rest.Torn (some_behind h.open_ones h.behind h.ended)
 

@@ -1,4 +1,4 @@
--- What a reader has read of a journal, one row after the other.
+-- How far a reader has read a journal, one row after the other.
 use Rattle.std.proofs.Common.{◌≡◌, ◌≢◌, ℕ, ◌+◌, ◌<◌, ◌≤◌, Bool, true, false, List, [], ◌∷◌, ◌++◌, length, length-append, Option, Some, None, IfSome, IfOk, OnOk, Result, Ok, Err, refl, sym, ◌∙◌, arith}
 use Rattle.std.specs.Option.{option_map}
 use Rattle.cspf_model.specs.declared.batch.Change.{Change}
@@ -19,7 +19,7 @@ use Rattle.cspf_rows.specs.GivenBatches.{HasGiven}
 use Rattle.cspf_rows.proofs.ProgressLemmas.{sees_none, sees_next, sees_all, sees_more, if_some_more}
 use Rattle.cspf_rows.proofs.JournalParts.{parts_none, parts_change, parts_batch, parts_end, parts_behind, journal_clean, journal_open, journal_behind, few_batches}
 
--- what was read is whole batches alone
+-- the records that were read are whole batches
 pub given : {R : Type 0} (rem : R → Option (List ℕ)) (all : Option (List (List (List ℕ)))) (reader : JournalReader R) (bs : List NumberedChanges)
     → HasRead rem all reader bs [] false → HasGiven rem all reader bs
 given rem all reader bs h =
@@ -68,7 +68,7 @@ module _ {R : Type 0} (rem : R → Option (List ℕ)) (all : Option (List (List 
       read_next b.changes [] false false (bs ++ (c ∷ [])) one h (omega (arith, length-append bs (c ∷ [])))
       (λ seen parts. parts_batch bs b.changes seen fields parts c number is.2 (rw (is.2, is.1) is.0))
 
-  -- a row comes that no batch has
+  -- a row comes that is in no batch
   pub read_end : (b c : NumberedChanges) → ReadsOne rem old new fields → HasRead rem all old bs b.changes false → new.count ≡ old.count
       → IsTaken (row_of fields) (new.count + 1) b c taken.Behind → HasRead rem all new bs b.changes true
   read_end b c one h same is =
@@ -76,7 +76,7 @@ module _ {R : Type 0} (rem : R → Option (List ℕ)) (all : Option (List (List 
       let next : new.count + 1 ≡ 1 + length bs = omega arith in
       read_next b.changes b.changes false true bs one h (same ∙ h.count) (λ seen parts. parts_end bs b.changes seen fields parts (rw next at is.0))
 
-  -- one more row behind it
+  -- one more row after a row that is in no batch
   pub read_behind : (cs : List Change) → ReadsOne rem old new fields → HasRead rem all old bs cs true → new.count ≡ old.count → HasRead rem all new bs cs true
   read_behind cs one h same = read_next cs cs true true bs one h (same ∙ h.count) (λ seen parts. parts_behind bs cs seen fields parts)
 
@@ -102,13 +102,13 @@ module _ {R : Type 0} (rem : R → Option (List ℕ)) (all : Option (List (List 
       → Takes (rows_left rem old.records) (rows_left rem new.records) false fields → IfSome all (λ rows. IsJournal rows bs rest.Torn × (length rows ≤ 1000000))
   read_open cs some h few takes = read_all cs false rest.Torn h few takes (λ seen parts. journal_open bs cs seen parts some)
 
-  -- no row is left behind open changes
+  -- no row is left after open changes
   pub read_rest : (cs : List Change) (left : Rest) → (left ≡ rest.Clean → cs ≡ []) → (left ≡ rest.Torn → cs ≢ []) → HasRead rem all old bs cs false → old.rows ≤ 1000000
       → Takes (rows_left rem old.records) (rows_left rem new.records) false fields → IfSome all (λ rows. IsJournal rows bs left × (length rows ≤ 1000000))
   read_rest cs rest.Clean clean torn h few takes = read_clean cs (clean refl) h few takes
   read_rest cs rest.Torn clean torn h few takes = read_open cs (torn refl) h few takes
 
-  -- no row is left behind a row that no batch has
+  -- no row is left after a row that is in no batch
   pub read_torn : (cs : List Change) → HasRead rem all old bs cs true → old.rows ≤ 1000000
       → Takes (rows_left rem old.records) (rows_left rem new.records) false fields → IfSome all (λ rows. IsJournal rows bs rest.Torn × (length rows ≤ 1000000))
   read_torn cs h few takes = read_all cs true rest.Torn h few takes (journal_behind bs cs)

@@ -10,7 +10,7 @@ use Rattle.cspf_model.specs.Numbered.{NumberedChanges}
 use Rattle.cspf_rows.specs.Written.{put_fields, end_fields}
 use Rattle.cspf_rows.specs.BatchText.{record_line, batch_text, change_fields, fields_after, attributes}
 
--- the first field, and each next one behind a comma
+-- the first field, and each next one after a comma
 join_with_byte-cons : (x : List ℕ) (xs : List (List ℕ)) → join_with_byte 44 (x ∷ xs) ≡ x ++ fields_after xs
 join_with_byte-cons x [] = sym (append-nil x)
 join_with_byte-cons x (y ∷ ys) = ap (λ rest. x ++ (44 ∷ rest)) (join_with_byte-cons y ys)
@@ -23,7 +23,7 @@ line_text-cons x xs = rw (join_with_byte-cons x xs, append_assoc x (fields_after
 line_text-append : (old x : List ℕ) (xs ys : List (List ℕ)) → ((old ++ (x ++ fields_after xs)) ++ fields_after ys) ++ (10 ∷ []) ≡ old ++ record_line (x ∷ (xs ++ ys))
 line_text-append old x xs ys = simp (line_text-cons, flat_map-append, append_assoc)
 
--- the line of a link, its bandwidths behind its other fields
+-- the line of a link, its bandwidths after its other fields
 pub line_text-put : (old mid new : List ℕ) (link : Link) → mid ≡ old ++ (codes "put" ++ fields_after (attributes link))
     → new ≡ mid ++ fields_after (map decimal link.free) → new ++ (10 ∷ []) ≡ old ++ record_line (put_fields link (mask_text link.group))
 line_text-put old mid new link a b = rw (b, a) (line_text-append old (codes "put") (attributes link) (map decimal link.free))

@@ -1,4 +1,4 @@
--- The digits of an object, and the bytes that they stand for.
+-- The digits of an object, and the bytes that they decode to.
 use Rattle.std.proofs.Common.{◌≡◌, ℕ, zero, suc, ◌+◌, ◌*◌, ◌%◌, ◌≤◌, inl, inr, List, [], ◌∷◌, ◌++◌, false, is_ok, length, take, min, Result, Ok, Err, refl, sym, ap, ◌∙◌, arith}
 use Rattle.std.proofs.lemmas.Bool.{cases_lt}
 use Rattle.std.proofs.lemmas.List.{take_all, length-take-le, take-append-le}
@@ -18,7 +18,7 @@ both_decoded : {A B : Type 0} (r : Result A FromHexError) (more : A → Result B
 both_decoded (Ok a) more b same = (a, refl, same)
 both_decoded (Err e) more b same = absurd (cc)
 
--- one byte more of the front
+-- one more byte of the prefix
 pair_more : (at count high low byte : ℕ) (digits rest : List ℕ) → pair_value high low at ≡ Ok byte → decode_pairs (at + 2) (take (2 * count) digits) ≡ Ok (take count rest)
     → decode_pairs at (take (2 * suc count) (high ∷ low ∷ digits)) ≡ Ok (take (suc count) (byte ∷ rest))
 unfolding decode_pairs
@@ -26,7 +26,7 @@ pair_more at count high low byte digits rest first later =
     let two : 2 * suc count ≡ suc (suc (2 * count)) = omega arith in
     rw (two, first, later) refl
 
--- the first digits stand for the first bytes
+-- the first digits decode to the first bytes
 decode_pairs-take : (at count : ℕ) (digits bytes : List ℕ) → decode_pairs at digits ≡ Ok bytes → decode_pairs at (take (2 * count) digits) ≡ Ok (take count bytes)
 unfolding decode_pairs
 decode_pairs-take at zero digits bytes found = refl
@@ -50,7 +50,7 @@ front_decoded count digits bytes found within =
     ∙ (decode_of-even (take (2 * count) digits) (omega arith)
     ∙ decode_pairs-take 0 count digits bytes (sym (decode_of-even digits parts.0) ∙ found))
 
--- what isn't pairs of digits is refused
+-- a text that isn't pairs of digits is refused
 pub not_pairs : (digits : List ℕ) → ((length digits % 2 ≡ 0) × AllPass is_hex_digit digits → ⊥) → hex_hops_of digits ≡ Err fault.Hex
 unfolding hex_hops_of
 not_pairs digits other = refused (decode_of digits) refl
@@ -59,13 +59,13 @@ not_pairs digits other = refused (decode_of digits) refl
     refused (Ok bytes) found = let parts = decode_of-ok digits bytes found in absurd (other (parts.0, parts.1))
     refused (Err e) found = refl
 
--- pairs of digits stand for half as many bytes
+-- pairs of digits decode to half as many bytes
 pub pairs_decoded : (digits : List ℕ) → (length digits % 2 ≡ 0) × AllPass is_hex_digit digits → (bytes : List ℕ) × (decode_of digits ≡ Ok bytes) × (length digits ≡ 2 * length bytes)
 pairs_decoded digits pairs =
     let (bytes, found) = decode_of-digits digits pairs.0 pairs.1 in
     (bytes, found, (decode_of-ok digits bytes found).2)
 
--- the least of both is enough of the front
+-- the prefix to decode has as many bytes as the object and the room allow
 pub front_taken : (size count : ℕ) (bytes : List ℕ) → length bytes ≡ size → count ≡ min size 64 → take 64 bytes ≡ take count bytes
 front_taken size count bytes same least =
     elim (cases_lt 64 (length bytes)) [
@@ -80,7 +80,7 @@ pub no_error : {A E : Type 0} (r : Result A E) (x : A) → r ≡ Ok x → false 
 no_error (Ok y) x same told = cc
 no_error (Err e) x same told = cc
 
--- what pairs of digits spell is what their bytes spell
+-- pairs of digits spell the hops that their bytes spell
 pub hex_hops_of-pairs : (digits : List ℕ) (read : Result (List Hop) EroError) → (length digits % 2 ≡ 0) × AllPass is_hex_digit digits
     → ((bytes : List ℕ) → decode_of digits ≡ Ok bytes → read ≡ ero_of bytes) → hex_hops_of digits ≡ result_map_both (λ hops. hops) fault.Ero read
 unfolding hex_hops_of
@@ -88,7 +88,7 @@ hex_hops_of-pairs digits read pairs each =
     let (bytes, found, size) = pairs_decoded digits pairs in
     ap object_hops_of found ∙ sym (ap (λ r. result_map_both (λ (hops : List Hop). hops) fault.Ero r) (each bytes found))
 
--- the front that was decoded stands first in its place
+-- the prefix that was decoded is at the start of its buffer
 pub front_placed : (count : ℕ) (bytes front place back : List ℕ) → count ≤ length place → count ≤ length bytes → front ≡ take (length (take count place)) bytes
     → take count (front ++ back) ≡ take count bytes
 front_placed count bytes front place back room within written =

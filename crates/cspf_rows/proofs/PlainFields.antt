@@ -22,7 +22,7 @@ abbrev pub AreUnquoted : List (List ℕ) → Type 0
 AreUnquoted [] = Unit {0}
 AreUnquoted (x ∷ xs) = IsUnquoted x × AreUnquoted xs
 
--- a byte that is no digit is none that a digit is
+-- a byte that is no digit differs from each digit
 other_byte : (b k : ℕ) → 36 ≤ digit_value k → digit_value b < 36 → (b == k) ≡ false
 other_byte b k none some = elim (cases_Bool (b == k)) [
   | inl same ↦ absurd (let h : digit_value k < 36 = rw (eqb-true b k same) at some in omega arith)

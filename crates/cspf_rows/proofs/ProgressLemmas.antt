@@ -42,7 +42,7 @@ module _ (Holds : List (List (List ℕ)) → Type 0) (all left next : Option (Li
           let whole : all ≡ h.seen = split ∙ rw takes (append-nil h.seen) in
           rw whole (h.holds, h.counted)
 
-  -- another record stands there
+  -- there is another record
   pub sees_another : Takes left next true fields
       → IfSome all (λ rows. (before : List (List (List ℕ))) × (after : List (List (List ℕ))) × (rows ≡ before ++ (fields ∷ after)) × Holds before × (length before ≡ count))
   sees_another takes = go all left next h.split takes
@@ -54,7 +54,7 @@ module _ (Holds : List (List (List ℕ)) → Type 0) (all left next : Option (Li
       go (Some all) (Some left) None split takes = absurd takes
       go (Some all) (Some left) (Some rest) split takes = (h.seen, rest, split ∙ rw takes refl, h.holds, h.counted)
 
--- what follows of all records, where they are known
+-- an implication for all records, where they are known
 pub if_some_more : {T : Type 0} {P Q : T → Type 0} (o : Option T) → ((x : T) → P x → Q x) → IfSome o P → IfSome o Q
 if_some_more None more h = tt
 if_some_more (Some x) more h = more x h

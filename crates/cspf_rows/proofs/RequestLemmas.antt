@@ -26,7 +26,7 @@ requests_more seen requests fields request are read =
 
 module _ (requests : List Request) (all left next : Option (List (List (List ℕ)))) (count : ℕ) (fields : List (List ℕ))
     (h : HasSeen (λ rows. AreRequests rows requests) all left count) (takes : Takes left next true fields) where
-  -- the record stands behind the requests that were read
+  -- the record follows the requests that were read
   behind_requests : IfSome all (λ rows. HasRequestsBefore rows count fields)
   behind_requests =
       if_some_more all (λ rows more. record { before = more.0; requests = requests; after = more.1; split = more.2; are_requests = more.3; counted = more.4 })
@@ -47,7 +47,7 @@ module _ (requests : List Request) (all left next : Option (List (List (List ℕ
       let other = refused.1 in
       if_some_more all (λ rows asked. rw refused.0 (other.0, other.1, first_other (Ok other.0) rows few other.2 asked)) behind_requests
 
-  -- one record too many stands there
+  -- there is one record too many
   pub one_too_many : count ≡ MOST_ROWS → IfSome all (λ rows. IsRequestsFault rows fault.TooManyRows)
   one_too_many whole =
       if_some_more all (λ rows asked. record { fields = fields; asked = subst (λ n. HasRequestsBefore rows n fields) whole asked }) behind_requests

@@ -32,7 +32,7 @@ eight_items (a ∷ b ∷ c ∷ d ∷ e ∷ f ∷ g ∷ []) n = absurd (omega (ar
 eight_items (a ∷ b ∷ c ∷ d ∷ e ∷ f ∷ g ∷ h ∷ []) n = refl
 eight_items (a ∷ b ∷ c ∷ d ∷ e ∷ f ∷ g ∷ h ∷ i ∷ rest) n = absurd (omega (arith, n))
 
--- what a field spells is read
+-- a value that a field spells is read
 ruleset fields_said = (number_at-spelled, small_number_at-spelled, priority_at-spelled, address_at-spelled, mask_at-spelled)
 
 -- a record that says a put is read as it
@@ -126,7 +126,7 @@ said-link texts fields l link has count kind from local to remote metric group u
   free_7 = spelled-number_at texts fields 15 (slice_index l.free 7) (u7 ∙ ap (λ free. Ok (slice_index free 7)) (sym has.free));
 }
 
--- what follows from the first step of two that gave a value
+-- a consequence of two steps that gave a value
 stepped : {A B : Type 0} {G : Type 0} (r : Result A RowError) (f : A → Result B RowError) (y : B) → (r >>= f) ≡ Ok y → ((x : A) → r ≡ Ok x → f x ≡ Ok y → G) → G
 stepped r f y found next = let step = first_step r f y found in next step.0 step.1 step.2
 
@@ -151,7 +151,7 @@ said-put_row_of texts fields r count kind read =
     let made = said-put _ _ _ r after_u7 in
     subst (Says fields) made.1 (said-link texts fields made.0 _ made.2 count kind is_from is_local is_to is_remote is_metric is_group is_u0 is_u1 is_u2 is_u3 is_u4 is_u5 is_u6 is_u7)))))))))))))))
 
--- what a row of two fields was made of
+-- the two values that a row of two fields was made of
 two_steps : {A B : Type 0} (first : Result A RowError) (second : Result B RowError) (make : A → B → Row) (r : Row) → (first >>= (λ x. second >>= (λ y. Ok (make x y)))) ≡ Ok r
     → (x : A) × (y : B) × (first ≡ Ok x) × (second ≡ Ok y) × (make x y ≡ r)
 two_steps (Ok x) (Ok y) make r read = (x, y, refl, refl, cc)
@@ -217,7 +217,7 @@ counted fields count x e r read =
     let h = passed_row (eqb (length fields) count) x e r read in
     (eqb-true (length fields) count h.0, h.1)
 
--- what follows from the way that a test on a word took
+-- a consequence of a test on a word, by both outcomes
 by_word : {G : Type 0} (text name : List ℕ) (x y : Result Row RowError) (r : Row) (b : Bool) → b ≡ bytes_eq text name → cond b x y ≡ Ok r
     → (text ≡ name → x ≡ Ok r → G) → (y ≡ Ok r → G) → G
 by_word text name x y r true is read here there = here ((bytes_eq-Decides text name).0 (sym is)) read
@@ -237,7 +237,7 @@ said-row_of texts fields r read =
 pub rows_read : AreTextsRead → AreRowsRead
 rows_read texts fields r = (said-row_of texts fields r, row_of-said texts fields r)
 
--- what says two rows is read as both
+-- a record that says two rows is read as both
 pub one_row : AreTextsRead → SaysOneRow
 one_row texts fields r other first second =
     let read = row_of-said texts fields r first in

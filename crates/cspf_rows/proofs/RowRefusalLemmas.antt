@@ -1,4 +1,4 @@
--- A record is refused by the reader exactly for the reason that it is refused for.
+-- The reader refuses a record exactly for the reason that the specification gives.
 use Rattle.std.proofs.Common.{◌≡◌, ◌≢◌, ℕ, suc, ◌<◌, ◌^◌, ◌⊎◌, inl, inr, Bool, true, false, cond, eqb, ltb, List, codes, length, Option, Some, None, Result, Ok, Err, refl, sym, ap, ◌∙◌}
 use Rattle.std.specs.Prelude.{◌↔◌}
 use Rattle.std.proofs.Math.Decide.{ℕ_discrete, dec_le}
@@ -22,7 +22,7 @@ use Rattle.cspf_rows.proofs.HopRefusalLemmas.{mapped_error, fault_told, told_fau
 use Rattle.cspf_rows.proofs.AttributeLemmas.{put-self, ask-same}
 use Rattle.cspf_rows.proofs.FieldLemmas.{number_at-spelled, spelled-number_at, small_number_at-spelled, spelled-small_number_at, priority_at-spelled, spelled-priority_at, flag_at-spelled, spelled-flag_at, address_at-spelled, spelled-address_at, mask_at-spelled, spelled-mask_at, hops_at-spelled, spelled-hops_at}
 
--- a field is read where it spells a value of its sort, and else refused for that
+-- a field is read where it spells a value of its sort, and refused otherwise
 pub record IsSortRead {A : Type 0} (read : Result A RowError) (Spelled : Type 0) (Refused : RowError → Type 0) : Type 0 where
   pub ok : (x : A) → read ≡ Ok x → Spelled
   pub some : Spelled → (x : A) × (read ≡ Ok x)
@@ -50,7 +50,7 @@ only_error : {A : Type 0} (o : Option A) (why e : RowError) → ok_or o why ≡ 
 only_error (Some x) why e same = absurd (cc)
 only_error None why e same = cc
 
--- an error of two steps is of the first, or of the second
+-- an error of two steps comes from the first, or from the second
 first_error : {A B : Type 0} (r : Result A RowError) (f : A → Result B RowError) (e : RowError) → (r >>= f) ≡ Err e → (r ≡ Err e) ⊎ ((x : A) × (r ≡ Ok x) × (f x ≡ Err e))
 first_error (Ok x) f e same = inr (x, refl, same)
 first_error (Err found) f e same = inl (cc)
@@ -79,7 +79,7 @@ same_refusal : {A : Type 0} (r : Result A RowError) (e f : RowError) → r ≡ E
 same_refusal (Ok v) e f one other = absurd (cc one)
 same_refusal (Err found) e f one other = cc
 
--- what a field of this sort is read as
+-- the result of reading a field of this sort
 module _ (texts : AreTextsRead) (fields : List (List ℕ)) (place : ℕ) where
   number_error : (e : RowError) → number_at fields place ≡ Err e → e ≡ error.Number place
   unfolding number_at
@@ -154,7 +154,7 @@ module _ (texts : AreTextsRead) (fields : List (List ℕ)) (place : ℕ) where
     refused = λ e (why, is, told). rw (told_fault (field fields place) why told, is) refl;
   }
 
--- one more step of a reader of fields, which refuses with the error of its field or of the rest
+-- one more step of a reader of fields: its error is that of its field or that of the rest
 step : {A : Type 0} (read : Result A RowError) (f : A → Result Row RowError) {Spelled : Type 0} {Refused Rest : RowError → Type 0} → IsSortRead read Spelled Refused
     → ((x : A) → read ≡ Ok x → (e : RowError) → (f x ≡ Err e) ↔ Rest e) → (e : RowError) → ((read >>= f) ≡ Err e) ↔ (Refused e ⊎ (Spelled × Rest e))
 step (Ok x) f sort rest e = (
@@ -212,7 +212,7 @@ ask_ends texts fields request from to setup e = (same_ends (dec_le (suc request.
     same_ends (yes below) (yes same) refused = (cc, one.0 same)
     same_ends (yes below) (no apart) refused = absurd (cc)
 
--- what is read is no refusal
+-- a row that is read is no refusal
 read_whole : (r : Row) (e : RowError) → (Ok r ≡ Err e) ↔ ⊥
 read_whole r e = (λ same. cc, λ none. absurd none)
 
@@ -267,7 +267,7 @@ ask_refused texts fields =
     step _ _ (hops_read texts fields 10) (λ list is_list.
     ask_ends texts fields _ is_from is_to is_setup)))))))))
 
--- a record of a kind, whose number of fields is looked at first
+-- a record of a kind: the number of its fields is checked first
 counted : (fields : List (List ℕ)) (count : ℕ) (read : Result Row RowError) (Rest : RowError → Type 0) (e : RowError) → (read ≡ Err e) ↔ Rest e
     → (cond (eqb (length fields) count) read (Err error.Fields) ≡ Err e) ↔ (((e ≡ error.Fields) × (length fields ≢ count)) ⊎ ((length fields ≡ count) × Rest e))
 counted fields count read Rest e rest = (there (eqb (length fields) count) refl, back)
@@ -297,7 +297,7 @@ end_record texts fields e = counted fields 3 (end_row_of fields) (AreFieldsRefus
 ask_record : AreTextsRead → (fields : List (List ℕ)) (e : RowError) → (of_count 10 ask_row_of fields ≡ Err e) ↔ IsRefusedAs ask_kind fields e
 ask_record texts fields e = counted fields 10 (ask_row_of fields) (AreFieldsRefused ask_kind 2 (sorts_of ask_kind) fields) e (ask_refused texts fields e)
 
--- what follows from the way that a test on a word took
+-- a consequence of a test on a word, by both outcomes
 at_word : {G : Type 0} (text name : List ℕ) (x y : Result Row RowError) (e : RowError) (b : Bool) → b ≡ bytes_eq text name → cond b x y ≡ Err e
     → (text ≡ name → x ≡ Err e → G) → (text ≢ name → y ≡ Err e → G) → G
 at_word text name x y e true is read here there = here ((bytes_eq-Decides text name).0 (sym is)) read

@@ -1,4 +1,4 @@
--- What a read of a record takes from the rows that a reader has left.
+-- How a read of a record changes the rows that a reader has left.
 use Rattle.std.proofs.Common.{◌≡◌, ℕ, suc, zero, ◌<◌, ◌⊎◌, inl, inr, Bool, true, false, if◌then◌else◌, List, [], ◌∷◌, length, Option, Some, None, IfSome, refl, ap, add-one, arith}
 use Rattle.std.specs.Option.{option_map}
 use Rattle.csv.specs.Machine.{Read, next_record, step, is_end, fields_after, field_after, ends_at_end}
@@ -75,7 +75,7 @@ takes s s2 None after found fields h = tt
 takes s s2 (Some xs) None found fields h = absurd h
 takes s s2 (Some xs) (Some ys) found fields h = takes_known _ _ found fields s2 ys (rest_next s xs) h
 
--- what a read of a record does to the rows that are left
+-- a read of a record takes the first row that is left, or there was none
 pub takes_read : {R : Type 0} (rem : R → Option (List ℕ)) (old new : Reader R) (found : Bool) (fields : List (List ℕ))
     → old.config ≡ default_config → ReadRecord rem old new found fields → Takes (rows_left rem old) (rows_left rem new) found fields
 takes_read rem old new found fields config h =

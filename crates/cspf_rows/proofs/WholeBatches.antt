@@ -1,4 +1,4 @@
--- Whole batches that rows begin with.
+-- Prefixes of rows that are whole batches.
 use Rattle.std.proofs.Common.{◌≡◌, ◌≢◌, ℕ, ◌+◌, ◌≤◌, List, [], ◌∷◌, ◌++◌, map, length, Result, Ok, refl, sym, ap, ◌∙◌, append_assoc, arith}
 use Rattle.std.proofs.lemmas.List.{map-append, length-append, length-map}
 use Rattle.cspf_model.specs.declared.batch.Change.{Change}
@@ -54,7 +54,7 @@ split_first : (b : NumberedChanges) (bs : List NumberedChanges) (xs : List ReadR
     → read_rows (journal_rows (b ∷ bs)) ++ xs ≡ read_rows (batch_rows b) ++ (read_rows (journal_rows bs) ++ xs)
 split_first b bs xs = rw (map-append {B = ReadRow} Ok (batch_rows b) (journal_rows bs), append_assoc (read_rows (batch_rows b)) (read_rows (journal_rows bs)) xs) refl
 
--- what two lists of batches have behind their first ones, and that these are one
+-- two lists of batches with the same rows have one first batch and the same rows after it
 first_two : (b o : NumberedChanges) (bs os : List NumberedChanges) (xs ys : List ReadRow)
     → read_rows (journal_rows (b ∷ bs)) ++ xs ≡ read_rows (journal_rows (o ∷ os)) ++ ys
     → (b.changes ≡ o.changes) × (b.number ≡ o.number) × (read_rows (journal_rows bs) ++ xs ≡ read_rows (journal_rows os) ++ ys)

@@ -16,7 +16,7 @@ change_fields (change.Put link) = put_fields link (mask_text link.group)
 change_fields (change.Remove from local) = drop_fields from local
 change_fields (change.Node router transit) = node_fields router transit
 
--- fields as a line: a comma between each two, and a line feed behind the last
+-- fields as a line: a comma between each two, and a line feed after the last
 unfoldable pub record_line : List (List ℕ) → List ℕ
 record_line fields = join_with_byte 44 fields ++ (10 ∷ [])
 

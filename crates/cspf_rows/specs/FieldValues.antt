@@ -66,7 +66,7 @@ object_hops_of (Err e) = Err fault.Hex
 unfoldable pub hex_hops_of : List ℕ → Result (List Hop) HopsFault
 hex_hops_of digits = object_hops_of (decode_of digits)
 
--- the hops of a text: those of an object behind `ero:`, and else of a hop list
+-- the hops of a text: of an object after `ero:`, or else of a hop list
 unfoldable pub either_hops_of : List ℕ → Result (List Hop) HopsFault
 either_hops_of text =
     if starts_with nat_eq text (codes "ero:")

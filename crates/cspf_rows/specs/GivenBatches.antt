@@ -1,4 +1,4 @@
--- Which batches a reader has given of a journal, and whether it can give more.
+-- Which batches of a journal a reader has returned, and whether it can return more.
 use Rattle.std.specs.Prelude.{◌≡◌, ◌≤◌, ℕ, true, false, Option, List, [], length}
 use Rattle.csv.specs.Reading.{has_failed}
 use Rattle.cspf_model.specs.Numbered.{NumberedChanges, AreNumberedFrom}
@@ -21,8 +21,8 @@ pub record CanRead {R : Type 0} (reader : JournalReader R) : Type 0 where
 abbrev pub HasFailed : {R : Type 0} → JournalReader R → Type 0
 HasFailed reader = has_failed reader.records ≡ true
 
--- Of a journal with these records, where they are known, a reader has given these batches, which
--- have the numbers 1, 2, 3 and so on, and it stands right behind their rows.
+-- A reader has returned these batches of a journal with these records, where the records are known.
+-- The batches have the numbers 1, 2, 3 and so on. The reader is right after their rows.
 pub record HasGiven {R : Type 0} (rem : R → Option (List ℕ)) (all : Option (List (List (List ℕ))))
     (reader : JournalReader R) (batches : List NumberedChanges) : Type 0 where
   pub numbers : AreNumberedFrom 1 batches

@@ -22,7 +22,7 @@ IsChangeInRange (change.Node router transit) = router < 2 ^ 32
 abbrev pub AreInRange : List NumberedChanges → Type 0
 AreInRange batches = AllByRecursion (λ batch. AllByRecursion IsChangeInRange batch.changes) batches
 
--- the texts of batches, one behind the other
+-- the texts of batches, one after the other
 abbrev pub journal_text : List NumberedChanges → List ℕ
 journal_text batches = flat_map batch_text batches
 
@@ -36,11 +36,11 @@ pub record AreWritable (batches : List NumberedChanges) : Type 0 where
 abbrev pub AreTextsCut : Type 0
 AreTextsCut = (batches : List NumberedChanges) → AreWritable batches → rows_of (journal_text batches) ≡ flat_map batch_records batches
 
--- the text of batches reads as these batches, and nothing is left behind them
+-- the text of batches is read as these batches, with nothing left after them
 abbrev pub AreJournalsReadBack : Type 0
 AreJournalsReadBack = (batches : List NumberedChanges) → AreWritable batches → IsJournal (rows_of (journal_text batches)) batches rest.Clean
 
--- records are one journal at most
+-- records are at most one journal
 abbrev pub IsOneJournal : Type 0
 IsOneJournal =
     (records : List (List (List ℕ))) (batches others : List NumberedChanges) (rest other : Rest)

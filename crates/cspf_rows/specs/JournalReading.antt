@@ -1,4 +1,4 @@
--- Private: what the rows of a journal are, as far as they were read.
+-- Private: the state of a reader of a journal: which rows were read, and as what.
 use Rattle.std.specs.Prelude.{◌≡◌, ◌≢◌, ◌+◌, ◌≤◌, ℕ, Bool, false, Option, IfSome, List, [], ◌∷◌, ◌++◌, map, length, Result, Ok, Err}
 use Rattle.std.specs.Bool.{MatchBool}
 use Rattle.cspf_model.specs.declared.batch.Change.{Change}
@@ -31,7 +31,7 @@ abbrev pub AreBehind : ℕ → ℕ → List (Result Row RowError) → Type 0
 AreBehind number count [] = Unit {0}
 AreBehind number count (row ∷ rows) = EndsBatches number count row
 
--- what a row is behind the open changes of the batch that has the next number
+-- how a row is taken after the open changes of the batch with the next number
 abbrev pub IsTaken : Result Row RowError → ℕ → NumberedChanges → NumberedChanges → Taken → Type 0
 IsTaken read next old new taken.Change =
     (change : Change) × (read ≡ Ok (change_row change)) × (new.changes ≡ old.changes ++ change ∷ [])
@@ -40,8 +40,8 @@ IsTaken read next old new taken.Batch =
 IsTaken read next old new taken.Behind =
     EndsBatches next (length old.changes) read × (new.changes ≡ old.changes)
 
--- Records are those of whole batches, then those of open changes, and then, once a row came that no
--- batch has, the others.
+-- Records are those of whole batches, then those of open changes, and then, after a row that is in
+-- no batch, any others.
 pub record AreJournalParts (batches : List NumberedChanges) (changes : List Change) (has_ended : Bool)
     (seen : List (List (List ℕ))) : Type 0 where
   pub numbers : AreNumberedFrom 1 batches
@@ -54,15 +54,15 @@ pub record AreJournalParts (batches : List NumberedChanges) (changes : List Chan
   pub ends : AreBehind (1 + length batches) (length changes) (map row_of behind)
   pub ended : MatchBool has_ended (behind ≢ []) (behind ≡ [])
 
--- Of all records of a journal a reader has read those of these batches, of these open changes, and
--- others where a row came that no batch has.
+-- A reader has read the records of these batches and of these open changes, and others after a row
+-- that is in no batch.
 pub record HasRead {R : Type 0} (rem : R → Option (List ℕ)) (all : Option (List (List (List ℕ))))
     (reader : JournalReader R) (batches : List NumberedChanges) (changes : List Change)
     (has_ended : Bool) : Type 0 where
   pub count : reader.count ≡ length batches
   pub seen : HasSeen (AreJournalParts batches changes has_ended) all (rows_left rem reader.records) reader.rows
 
--- what a reader comes to behind batches: one more, or the end
+-- what a reader finds after batches: one more batch, or the end
 abbrev pub ComesTo : {R : Type 0} → (R → Option (List ℕ)) → Option (List (List (List ℕ))) → JournalReader R
     → List NumberedChanges → NumberedChanges → JournalStep → Type 0
 ComesTo rem all reader batches batch step.Batch = HasRead rem all reader (batches ++ batch ∷ []) [] false

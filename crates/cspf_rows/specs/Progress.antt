@@ -1,7 +1,7 @@
 -- Private: how far the records of a stream were read.
 use Rattle.std.specs.Prelude.{◌≡◌, ℕ, List, ◌++◌, length, Option, Some, None}
 
--- all records are those that were seen, and then those that are left
+-- the records are those that were seen, followed by those that are left
 abbrev pub AreSplit : Option (List (List (List ℕ))) → Option (List (List (List ℕ))) → List (List (List ℕ)) → Type 0
 AreSplit None left seen = Unit {0}
 AreSplit (Some all) None seen = ⊥

@@ -1,11 +1,11 @@
--- Which fault of a read is which.
+-- The fault of a record for each error of `csv`.
 use Rattle.csv.specs.declared.error.ErrorKind.{ErrorKind}
 use Rattle.csv.specs.declared.error.ErrorKind.TheVariants as kind
 use Rattle.cspf_rows.specs.declared.record_error.RecordError.{RecordError}
 use Rattle.cspf_rows.specs.declared.record_error.RecordError.TheVariants as error
 
--- Memory that was refused keeps its name. Any other fault is the reader's: of bytes that are read
--- with no header and any number of fields nothing else can be wrong.
+-- Refused memory keeps its name. Any other fault is the reader's: with no header and any number of
+-- fields, nothing else can be wrong with the bytes.
 abbrev pub fault_of : ErrorKind → RecordError
 fault_of kind.OutOfMemory = error.Memory
 fault_of (kind.Io why) = error.Device

@@ -1,4 +1,4 @@
--- How a stream of bytes is cut into records, and what a reader of them still has to give.
+-- How a stream of bytes is cut into records, and which records a reader has left.
 use Rattle.std.specs.Prelude.{◌≡◌, ◌+◌, ℕ, Bool, true, false, List, [], ◌∷◌, length, Option, Some, None}
 use Rattle.std.specs.Option.{option_map}
 use Rattle.csv.specs.Reading.{default_config, records, strip_bom, records_from, source_of, reader_state, reader_trim, reader_config, is_flexible, has_failed, Ready}
@@ -12,7 +12,7 @@ Records = List (List (List ℕ))
 
 -- The rows of a stream are the records that `csv` finds in its bytes, with the settings of its
 -- default reader and no header: fields are cut at commas and may stand in double quotes, a row ends
--- with its line, an empty line is no row, and a byte order mark at the very start is left out.
+-- with its line, an empty line is no row, and a byte order mark at the very start is skipped.
 unfoldable pub rows_of : List ℕ → List (List (List ℕ))
 rows_of bytes = records default_config (strip_bom bytes)
 
@@ -20,7 +20,7 @@ rows_of bytes = records default_config (strip_bom bytes)
 unfoldable pub rest_of : State → List ℕ → List (List (List ℕ))
 rest_of s bytes = records_from default_config (length bytes + 1) s bytes
 
--- the rows that a reader has left, where the reader underneath tells its bytes
+-- the rows that a reader has left, where the bytes of the reader underneath are known
 abbrev pub rows_left : {R : Type 0} → (R → Option (List ℕ)) → Reader R → Option (List (List (List ℕ)))
 rows_left rem r = option_map (λ bytes. rest_of (reader_state r) bytes) (source_of rem r)
 

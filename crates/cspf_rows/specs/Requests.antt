@@ -1,4 +1,4 @@
--- What a stream of requests reads as, or the first row that keeps it from that.
+-- The requests of a stream, or the first row that refuses it.
 use Rattle.std.specs.Prelude.{◌≡◌, ◌+◌, ◌≤◌, ℕ, List, ◌∷◌, ◌++◌, map, length, Result, Ok, Err}
 use Rattle.cspf_model.specs.declared.request.Request.{Request}
 use Rattle.cspf_rows.specs.declared.limits.TheConstants.{MOST_ROWS}
@@ -21,7 +21,7 @@ IsNoRequest (row.Node router transit) = Unit {0}
 IsNoRequest (row.End number count) = Unit {0}
 IsNoRequest (row.Ask request) = ⊥
 
--- the first records, this many, ask for requests, and behind them stands this one
+-- the first `count` records ask for requests, and this record follows them
 pub record HasRequestsBefore (records : List (List (List ℕ))) (count : ℕ) (fields : List (List ℕ)) : Type 0 where
   pub before : List (List (List ℕ))
   pub requests : List Request
@@ -30,7 +30,7 @@ pub record HasRequestsBefore (records : List (List (List ℕ))) (count : ℕ) (f
   pub are_requests : AreRequests before requests
   pub counted : length before ≡ count
 
--- The record at this place, which counts from 1, is the first that asks for nothing, and is read as
+-- The record at this place, which counts from 1, is the first that is no request, and is read as
 -- this.
 pub record IsFirstOther (records : List (List (List ℕ))) (place : ℕ) (read : Result Row RowError) : Type 0 where
   pub count : ℕ
@@ -45,7 +45,7 @@ pub record AreTooMany (records : List (List (List ℕ))) : Type 0 where
   pub fields : List (List ℕ)
   pub asked : HasRequestsBefore records MOST_ROWS fields
 
--- what each refusal says of the records
+-- what each refusal means for the records
 abbrev pub IsRequestsFault : List (List (List ℕ)) → RequestsError → Type 0
 IsRequestsFault records fault.Memory = Unit {0}
 IsRequestsFault records fault.Device = Unit {0}

@@ -1,4 +1,4 @@
--- Why a record is refused, read like the formats: the first of these that applies.
+-- Why a record is refused, in the order of the formats: the first of these that applies.
 use Rattle.std.specs.Prelude.{◌≡◌, ◌≢◌, ℕ, Bool, ◌+◌, ◌^◌, ◌↔◌, ◌⊎◌, List, [], ◌∷◌, ◌++◌, length, codes, Ok, Err}
 use Rattle.hex.specs.Hex.{decode_of}
 use Rattle.cspf_addr.specs.MaskText.{SpellsMask}
@@ -57,14 +57,14 @@ SpellsSort flag text = (b : Bool) × SpellsFlag text b
 SpellsSort mask text = (n : ℕ) × SpellsMask text n
 SpellsSort hops text = (list : List Hop) × SpellsHops text list
 
--- why a text spells no hops: as a list of hops, or behind `ero:` by its digits or by their bytes
+-- why a text spells no hops: as a list of hops, or after `ero:` by its digits or by their bytes
 abbrev pub IsHopsFault : List ℕ → HopsFault → Type 0
 IsHopsFault text (fault.Text why) = ((rest : List ℕ) → text ≢ codes "ero:" ++ rest) × (hops_of text ≡ Err why)
 IsHopsFault text fault.Hex = (digits : List ℕ) × (text ≡ codes "ero:" ++ digits) × ((bytes : List ℕ) → decode_of digits ≢ Ok bytes)
 IsHopsFault text (fault.Ero why) =
     (digits : List ℕ) × (bytes : List ℕ) × (text ≡ codes "ero:" ++ digits) × (decode_of digits ≡ Ok bytes) × (ero_of bytes ≡ Err why)
 
--- how a field with this number is refused whose text spells no value of its sort
+-- the refusal of the field with this number, whose text spells no value of its sort
 abbrev pub IsFieldRefused : Sort → ℕ → List ℕ → RowError → Type 0
 IsFieldRefused address place text e = (e ≡ error.Address place) × ¬ SpellsSort address text
 IsFieldRefused number place text e = (e ≡ error.Number place) × ¬ SpellsSort number text
@@ -80,7 +80,7 @@ IsFieldRefused hops place text e = (why : HopsFault) × (e ≡ error.Hops why) �
 abbrev pub SpellOneAddress : List ℕ → List ℕ → Type 0
 SpellOneAddress text other = (n : ℕ) × SpellsAddress text n × SpellsAddress other n
 
--- how a record is refused whose fields all spell values: by its two ends
+-- the refusal of a record whose fields all spell values: by its two ends
 abbrev pub AreEndsRefused : Kind → List (List ℕ) → RowError → Type 0
 AreEndsRefused put_kind fields e = (e ≡ error.SelfLink) × SpellOneAddress (field fields 2) (field fields 4)
 AreEndsRefused drop_kind fields e = ⊥
@@ -88,27 +88,28 @@ AreEndsRefused node_kind fields e = ⊥
 AreEndsRefused end_kind fields e = ⊥
 AreEndsRefused ask_kind fields e = (e ≡ error.SameEnds) × SpellOneAddress (field fields 3) (field fields 4)
 
--- Of the fields from this number on the first that spells no value of its sort is refused, and the ends where
--- there is none.
+-- From the field with this number on, the first field that spells no value of its sort is refused.
+-- Where there is none the ends are refused.
 abbrev pub AreFieldsRefused : Kind → ℕ → List Sort → List (List ℕ) → RowError → Type 0
 AreFieldsRefused kind place [] fields e = AreEndsRefused kind fields e
 AreFieldsRefused kind place (sort ∷ sorts) fields e =
     IsFieldRefused sort place (field fields place) e
     ⊎ (SpellsSort sort (field fields place) × AreFieldsRefused kind (place + 1) sorts fields e)
 
--- how a record of this kind is refused: by the number of its fields, or by these
+-- the refusal of a record of this kind: by the number of its fields, or by its fields
 abbrev pub IsRefusedAs : Kind → List (List ℕ) → RowError → Type 0
 IsRefusedAs kind fields e =
     ((e ≡ error.Fields) × (length fields ≢ 1 + length (sorts_of kind)))
     ⊎ ((length fields ≡ 1 + length (sorts_of kind)) × AreFieldsRefused kind 2 (sorts_of kind) fields e)
 
--- Why a record is refused: its first field is no kind's word, or as its kind has it.
+-- Why a record is refused: its first field is no kind's word, or it is refused as a record of its
+-- kind.
 abbrev pub IsRefused : List (List ℕ) → RowError → Type 0
 IsRefused fields e =
     ((e ≡ error.Kind) × ((kind : Kind) → field fields 1 ≢ word_of kind))
     ⊎ ((kind : Kind) × (field fields 1 ≡ word_of kind) × IsRefusedAs kind fields e)
 
--- a record is refused by a reader for the reason that it is refused for
+-- the reader refuses a record exactly for the reason that is defined here
 abbrev pub AreRowsRefused : Type 0
 AreRowsRefused = (fields : List (List ℕ)) (e : RowError) → (row_of fields ≡ Err e) ↔ IsRefused fields e
 

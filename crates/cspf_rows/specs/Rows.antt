@@ -27,12 +27,12 @@ put_between link eight (no apart) =
 unfoldable pub put : (link : LinkFields) → length link.free ≡ 8 → Result Row RowError
 put link eight = put_between link eight (ℕ_discrete link.from link.to)
 
--- the request that says this, whose setup priority is one and whose ends are two routers
+-- the request with these fields, whose setup priority is below 8 and whose ends are two routers
 abbrev pub request_with : (request : RequestFields) → request.setup < 8 → request.from ≢ request.to → Request
 request_with request below apart =
     record { id = request.id; from = request.from; to = request.to; setup = request.setup; bandwidth = request.bandwidth; exclude_any = request.exclude_any; include_any = request.include_any; include_all = request.include_all; hops = request.hops; priority = below; two_ends = apart }
 
--- a row that asks for this, if the priority is one and the ends are two routers
+-- a row that asks for this, if the priority is below 8 and the ends are two routers
 abbrev pub ask_between : (request : RequestFields) → Dec (request.setup < 8) → Dec (request.from ≡ request.to) → Result Row RowError
 ask_between request (no above) ends = Err error.Priority
 ask_between request (yes below) (yes same) = Err error.SameEnds

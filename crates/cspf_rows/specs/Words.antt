@@ -1,4 +1,4 @@
--- The words that a refused row is answered.
+-- The words of the answer to a refused row.
 use Rattle.std.specs.Prelude.{ℕ, List, ◌++◌, codes}
 use Rattle.std.specs.Fmt.{decimal}
 use Rattle.cspf_addr.specs.declared.hop_reader.HopsError.TheVariants as hops

@@ -1,5 +1,5 @@
-//! Journals: the longest prefix of a stream of rows that is whole batches with the numbers 1, 2, 3 and so
-//! on, and what stands behind it.
+//! Journals: the longest prefix of a stream of rows that is whole batches with the numbers 1, 2, 3
+//! and so on, and whether rows follow it.
 
 mod laws;
 mod reader;
@@ -11,7 +11,7 @@ pub use laws::{journals_are_one, journals_are_read_back};
 pub use reader::JournalReader;
 pub use whole::read_journal;
 
-/// What stands behind the batches of a journal.
+/// What follows the last whole batch of a journal.
 #[derive(Clone, Copy, Debug, PartialEq, Eq)]
 pub enum Rest {
     /// No row.
@@ -20,20 +20,20 @@ pub enum Rest {
     Torn,
 }
 
-/// What a reader of a journal comes to.
+/// The result of reading on in a journal.
 #[derive(Clone, Copy, Debug, PartialEq, Eq)]
 pub enum JournalStep {
     /// One more whole batch.
     Batch,
-    /// The end: there are no more batches, and this stands behind them.
+    /// The end: there are no more batches, and this follows them.
     End(Rest),
 }
 
-/// What a journal says: its batches, numbered 1, 2, 3 and so on, and what stands behind them.
+/// The contents of a journal: its batches, numbered 1, 2, 3 and so on, and what follows them.
 #[derive(Debug, Drop)]
 pub struct Journal {
     /// The batches, in order.
     pub batches: Vec<Batch>,
-    /// What stands behind them.
+    /// What follows them.
     pub rest: Rest,
 }

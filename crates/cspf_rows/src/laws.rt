@@ -10,7 +10,7 @@ use cspf_addr::{
 use cspf_ero::objects_are_read;
 use cspf_model::fields_of_links_and_requests;
 
-/// The laws that rows are read by.
+/// The laws that reading rows rests on (`AreTextsRead`).
 fn texts_are_read()
     ensures { AreTextsRead }
 {

@@ -4,12 +4,12 @@
 //! field spells, and `specs/Words.antt` the words of a refusal. `specs/Says.antt` has the formats of
 //! the rows, and `specs/RowRefusals.antt` why a record is refused. Reading a row takes no memory.
 //!
-//! `specs/Records.antt` defines how a stream of bytes is cut into records. By `put_all` every
-//! text of this repository reaches its writer.
+//! `specs/Records.antt` defines how a stream of bytes is cut into records. `put_all` writes every
+//! text of this repository to its writer.
 //!
-//! `specs/BatchText.antt` defines the text of a batch, `specs/Journal.antt` which batches the records
-//! of a journal are, and `specs/Requests.antt` which requests the records of a stream ask for.
-//! `specs/GivenBatches.antt` defines what a reader of a journal has given of its batches, and
+//! `specs/BatchText.antt` defines the text of a batch, `specs/Journal.antt` which batches the
+//! records of a journal are, and `specs/Requests.antt` which requests the records of a stream ask
+//! for. `specs/GivenBatches.antt` defines which batches of a journal a reader has returned, and
 //! `specs/JournalLaws.antt` has the laws of journals.
 #![tactic(auto)]
 

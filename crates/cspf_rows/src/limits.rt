@@ -1,4 +1,4 @@
-//! How much is read of a stream at most.
+//! The limit of the rows of a stream.
 
 /// How many rows a stream has at most.
 pub const MOST_ROWS: u32 = 1_000_000;

@@ -10,8 +10,8 @@ use crate::row_error::HopsFault;
 use cspf_addr::Hops;
 use cspf_ero::{EroError, FIRST_BYTES, read_ero_front};
 
-/// The hops of an object in hexadecimal digits of either case. A place of its own holds the bytes
-/// that decide.
+/// The hops of an object in hexadecimal digits of either case. A buffer on the stack holds the
+/// bytes that decide.
 pub(crate) fn read_object(digits: &[u8]) -> Result<Hops, HopsFault>
     ensures { result ≡ hex_hops_of digits.now }
 {
@@ -36,7 +36,7 @@ fn read_pairs(digits: &[u8]) -> Result<Hops, EroError>
     read_ero_front(&front[..count], size)
 }
 
-/// Decodes the digits of the first bytes into a place for these.
+/// Decodes the digits of the first bytes into a buffer for these.
 fn decode_first_bytes(digits: &[u8], front: &mut [u8])
     requires pairs { (length digits.now % 2 ≡ 0) × AllPass is_hex_digit digits.now }
     requires within { 2 * length front.old ≤ length digits.now }

@@ -18,7 +18,7 @@ pub enum RecordError {
 }
 
 impl RecordError {
-    /// The fault of a stream that tells refused memory by `memory`, and a failed read by `device`.
+    /// The fault of a stream: `memory` for refused memory, and `device` for a failed read.
     pub(crate) fn of_stream<E: Copy>(self, memory: E, device: E) -> E
         ensures { result ≡ stream_fault_of memory device self }
     {

@@ -20,7 +20,7 @@ pub fn open_records<R: Read>(alloc: Global, reader: R) -> Reader<R>
         .from_reader(alloc, reader)
 }
 
-/// Reads the fields of the next row, and answers whether there was one. A reader that has failed
+/// Reads the fields of the next row, and returns whether there was one. A reader that has failed
 /// gives no more rows.
 pub fn next_record<R: Read>(
     rows: &mut Reader<R>,

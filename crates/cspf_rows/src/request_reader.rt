@@ -18,8 +18,8 @@ use csv::{ByteRecord, Reader};
 use std::alloc::{AllocError, Global};
 use std::io::Read;
 
-/// Reads a stream of requests, one in each row. Reading ends at the first row that is refused or
-/// asks for nothing, and at the row after `MOST_ROWS`.
+/// Reads a stream of requests, one in each row. Reading ends with an error at the first row that is
+/// refused or is no request, and at the row after `MOST_ROWS`.
 pub fn read_requests<R: Read + Drop>(
     alloc: Global,
     reader: R,
@@ -58,7 +58,7 @@ fn read_rest<R: Read>(
     Ok(requests)
 }
 
-/// Reads the requests that a reader has left behind each other.
+/// Reads the requests that a reader has left, one after the other, into `requests`.
 fn read_all<R: Read>(
     records: &mut Reader<R>,
     fields: &mut ByteRecord,

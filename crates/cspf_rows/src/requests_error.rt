@@ -27,7 +27,7 @@ pub enum RequestsError {
         /// Why it is none.
         error: RowError,
     },
-    /// A row asks for nothing.
+    /// A row is no request.
     #[error("row {row} asks for nothing")]
     NotAsk {
         /// Which row it is.

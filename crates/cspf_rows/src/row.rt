@@ -1,4 +1,4 @@
-//! Rows: what a record says, or the first reason why it says nothing.
+//! Rows: what a record says, or the first reason why it is refused.
 
 ghost use Rattle.std.specs.Prelude.{◌≡◌};
 ghost use Rattle.csv.specs.Records.{fields_of};

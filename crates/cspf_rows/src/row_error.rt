@@ -44,9 +44,9 @@ pub enum RowError {
 pub enum HopsFault {
     /// The text spells no list of hops.
     Text(HopsError),
-    /// What comes behind `ero:` isn't an even number of hexadecimal digits.
+    /// The text after `ero:` isn't an even number of hexadecimal digits.
     Hex,
-    /// The bytes behind `ero:` are no object that spells hops.
+    /// The bytes after `ero:` are no object that spells hops.
     Ero(EroError),
 }
 

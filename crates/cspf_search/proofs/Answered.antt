@@ -1,4 +1,4 @@
--- What the node at the tail-end tells of the route.
+-- The best route, from the node at the tail-end.
 use Rattle.std.proofs.Common.{◌≡◌, ℕ, ◌+◌, ◌*◌, ◌<◌, ◌≤◌, Option, Some, None, option_map, List, [], ◌∷◌, length, slice_index_or, refl, sym, ap, ◌∙◌, arith}
 use Rattle.std.proofs.lemmas.List.Quantifiers.{position-Some}
 use Rattle.cspf_model.specs.declared.link.Link.{Link}

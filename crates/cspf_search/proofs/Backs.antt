@@ -1,4 +1,4 @@
--- What a link or a turn leads to from a node, and the way back along parents.
+-- The states that a link or a turn leads to from a node, and the way back along parents.
 use Rattle.std.proofs.Common.{◌≡◌, ℕ, zero, suc, ◌+◌, ◌^◌, ◌<◌, ◌≤◌, ◌↔◌, Some, None, IsSome, List, [], ◌∷◌, ◌++◌, length, slice_get, slice_index_or, refl, sym, ap, subst, ◌∙◌, arith}
 use Rattle.std.specs.Ordering.{nat_cmp, ordering_then, is_gt}
 use Rattle.std.specs.declared.cmp.Ordering.{Ordering}
@@ -19,7 +19,7 @@ use Rattle.cspf_search.specs.Frontier.{node_by}
 use Rattle.cspf_search.specs.Rounds.{CrossesBy, Turns, IsFirstOf}
 use Rattle.cspf_search.proofs.Orders.{states_total, cost_of-push, locals_cmp-last, then_assoc}
 
--- a node tells how many links its walk has, and so whether that may leave a router
+-- a node has the number of links of its walk, which decides whether the walk may leave a router
 pub leaves_told : (d : Database) (router : ℕ) (nodes : List Node) → AreNodes nodes → (at : ℕ) → at < length nodes → (e : Node)
     → MayLeave d router (slice_index_or nodes at e).links ↔ MayLeave d router (length (walk_at (walks nodes) at))
 leaves_told d router nodes are at within e =
@@ -132,7 +132,7 @@ module _ (nodes : List Node) (are : AreNodes nodes) (n m : Node) (within : n.par
         linked = λ h. parent_linked (omega arith);
       }
 
--- the last links of two walks are compared behind what comes before them
+-- the last links of two walks are compared after the links before them
 pub locals_more : (v w v' w' : List Link) (l k : Link) (found goal : Ordering) → v ≡ v' ++ (l ∷ []) → w ≡ w' ++ (k ∷ []) → length v' ≡ length w'
     → ordering_then (locals_cmp v w) found ≡ goal → ordering_then (locals_cmp v' w') (ordering_then (nat_cmp l.local k.local) found) ≡ goal
 locals_more v w v' w' l k found goal ev ew e h =
@@ -140,7 +140,7 @@ locals_more v w v' w' l k found goal ev ew e h =
     sym (locals_cmp-last v' w' l k e) ∙ (λ i. locals_cmp (sym ev i) (sym ew i)) in
     sym (then_assoc (locals_cmp v' w') (nat_cmp l.local k.local) found) ∙ ap (λ o. ordering_then o found) last ∙ h
 
--- where both come from one node, their last links decide with what is behind them
+-- where both come from one node, their last links and those after them decide
 pub locals_of_one : (nodes : List Node) (x y : Node) (l k : Link) (found goal : Ordering) → x.by ≡ Some l → y.by ≡ Some k → x.parent ≡ y.parent
     → ordering_then (locals_cmp (walk_of nodes x) (walk_of nodes y)) found ≡ goal → ordering_then (nat_cmp l.local k.local) found ≡ goal
 locals_of_one nodes x y l k found goal by_x by_y one h =

@@ -1,4 +1,4 @@
--- Where no route comes through a strict leg there is no way from its start, nor from before it.
+-- Where no route can pass a strict leg there is no way from its start, nor from before it.
 use Rattle.std.proofs.Common.{◌≡◌, ◌⊎◌, inl, inr, ℕ, suc, ◌+◌, ◌*◌, ◌/◌, ◌%◌, ◌<◌, ◌≤◌, List, Contains, length, sym, ap, subst, ◌∙◌, arith}
 use Rattle.std.proofs.lemmas.Bool.{cases_lt}
 use Rattle.cspf_model.specs.declared.request.Request.{Request}
@@ -15,7 +15,7 @@ module _ (d : Database) (q : Request) (listed : AreListed d) (leg : ℕ) (broken
     (bounds : List ℕ) (many : length bounds ≡ (length q.hops + 1) * 1024) (before : (i : ℕ) → i < leg * 1024 → bound_at bounds i ≡ NO_WAY)
     (shut : (p : ℕ) → Contains starts p → bound_at bounds (leg * 1024 + p) ≡ NO_WAY)
     (others : (i : ℕ) → leg * 1024 ≤ i → (bound_at bounds i ≡ 0) ⊎ ((p : ℕ) × Contains starts p × (i ≡ leg * 1024 + p))) where
-  -- a bound says that there is no way, or nothing
+  -- a bound is `NO_WAY` or 0
   either : (i : ℕ) → (bound_at bounds i ≡ NO_WAY) ⊎ (bound_at bounds i ≡ 0)
   either i =
       elim (cases_lt i (leg * 1024)) [

@@ -42,25 +42,26 @@ AreJoined-append_parts a [] w joined = (tt, joined)
 AreJoined-append_parts a (l ∷ v) w joined = let parts = AreJoined-append_parts l.to v w joined.1 in ((joined.0, parts.0), parts.1)
 
 module _ (d : Database) where
-  -- one link more that begins at a router with transit
+  -- one more link that begins at a router with transit
   froms_push : (w : List Link) (l : Link) → AllByRecursion (HasTransit d) (map (λ m. m.from) w) → HasTransit d l.from
       → AllByRecursion (HasTransit d) (map (λ m. m.from) (w ++ (l ∷ [])))
   froms_push [] l all here = (here, tt)
   froms_push (m ∷ w) l all here = (all.0, froms_push w l all.1 here)
 
-  -- with a link more that may leave its router, a walk still passes through routers with transit alone
+  -- with one more link that may leave its router, a walk still passes only through routers with
+  -- transit
   passed_push : (w : List Link) (l : Link) → AllByRecursion (HasTransit d) (routers_passed w) → MayLeave d l.from (length w)
       → AllByRecursion (HasTransit d) (routers_passed (w ++ (l ∷ [])))
   passed_push [] l all leaves = tt
   passed_push (m ∷ w) l all (inl transit) = froms_push w l all transit
   passed_push (m ∷ w) l all (inr none) = absurd (omega (arith, none))
 
-  -- the first of some links begin at routers where all of them do
+  -- a prefix of links begins at routers with transit where all of the links do
   froms_before : (v w : List Link) → AllByRecursion (HasTransit d) (map (λ m. m.from) (v ++ w)) → AllByRecursion (HasTransit d) (map (λ m. m.from) v)
   froms_before [] w all = tt
   froms_before (m ∷ v) w all = (all.0, froms_before v w all.1)
 
-  -- the first links of a walk pass through no others than all of it
+  -- a prefix of a walk passes through no routers but those of the walk
   passed_before : (v w : List Link) → AllByRecursion (HasTransit d) (routers_passed (v ++ w)) → AllByRecursion (HasTransit d) (routers_passed v)
   passed_before [] w all = tt
   passed_before (m ∷ v) w all = froms_before v w all
@@ -111,13 +112,13 @@ module _ (d : Database) (q : Request) where
   reached_cut w s (steps r (by_turn within target)) leg rest are count =
       reached_cut _ _ r [] (leg ∷ rest) (record { arrives = target.target; within = (reached_inside _ _ r, tt) }, are) (omega arith)
 
-  -- so does each link of a walk to the tail-end that passes through routers with transit alone
+  -- each link of a walk to the tail-end that passes only through routers with transit runs on
   run_on : (a : ℕ) (w : List Link) → AreJoined a w → AllByRecursion (HasTransit d) (routers_passed w) → end_of a w ≡ q.to → AllByRecursion (RunsOn d q) w
   run_on a [] joined passed end = tt
   run_on a (l ∷ []) joined passed end = (inr end, tt)
   run_on a (l ∷ (m ∷ w)) joined passed end = (inl (subst (HasTransit d) joined.1.0 passed.0), run_on l.to (m ∷ w) joined.1 passed.1 end)
 
-  -- the leg behind the last hop has one target, the tail-end
+  -- the leg after the last hop has one target, the tail-end
   pub last_target : (b : ℕ) → IsTarget d q (suc (length q.hops)) b ≡ (b ≡ q.to)
   last_target b = ap (λ o. IsTargetOf d q.to o b) (slice_get_past q.hops (length q.hops) (omega arith))
 
@@ -139,13 +140,14 @@ module _ (d : Database) (q : Request) where
       rw (← append_assoc v (l ∷ []) ls) (along k l.to ls (v ++ (l ∷ [])) (steps here (by_link l all.0 (record { inside = within.1.0; through = on.0 }) (leaves_at d v l ls passed))) all.1 joined.1 within.1 on.1
       (rw append_assoc passed))
 
-  -- after links that each lead to where a route may go on or end, it may stand
+  -- after links that each lead to a router that a route may go on from or end at, it may visit the
+  -- last one
   stands_on : (a : ℕ) (links : List Link) → MayStand d q a → AllByRecursion (RunsOn d q) links → MayStand d q (end_of a links)
   stands_on a [] stands on = stands
   stands_on a (l ∷ links) stands (inl transit, on) = stands_on l.to links (inl transit) on
   stands_on a (l ∷ links) stands (inr end, on) = stands_on l.to links (inr (inr end)) on
 
-  -- so do all legs that are left, up to a target of the last one
+  -- the links of all legs that are left lead on to a target of the last leg
   through : (k : ℕ) (a : ℕ) (first : List Link) (rest : List (List Link)) (v : List Link) → Reaches d q v (record { leg = k; router = a }) → MayStand d q a
       → k + length rest ≡ suc (length q.hops) → AreLegs d q k a (first ∷ rest)
       → AllByRecursion (IsAdmissible d q) (first ++ flat_map (λ links. links) rest) → AreJoined a (first ++ flat_map (λ links. links) rest)

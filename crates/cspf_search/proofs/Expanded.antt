@@ -1,4 +1,4 @@
--- What the turn and the links from one node offer.
+-- The labels after the turn and the links from one node are offered.
 use Rattle.std.proofs.Common.{◌≡◌, ◌⊎◌, inl, inr, ℕ, ◌+◌, ◌-◌, ◌/◌, ◌%◌, ◌<◌, ◌≤◌, Bool, true, false, not, nat_eq, Some, None, List, [], ◌∷◌, ◌++◌, filter, length, take, slice_get, slice_index, slice_index_or, refl, sym, ap, subst, ◌∙◌, arith}
 use Rattle.std.specs.List.{All, Contains}
 use Rattle.std.proofs.lemmas.Bool.{cases_lt, eqb-true, eq-eqb}
@@ -20,7 +20,7 @@ use Rattle.cspf_search.specs.Frontier.{state_at, nowhere, IsNodeAt, NodeMayLeave
 use Rattle.cspf_graph.specs.Lists.{IsIndexOf}
 use Rattle.cspf_search.proofs.Scans.{kept_link, new_link, either_link}
 
--- what is kept of a list
+-- the items of a list that are kept
 
 pub filter_short : (p : Link → Bool) (ls : List Link) → length (filter p ls) ≤ length ls
 filter_short p ls = omega (arith, length-filter_both p (λ l. not (p l)) (λ l. refl) ls)
@@ -194,7 +194,7 @@ module _ (d : Database) (q : Request) (nodes : List Node) (at state : ℕ) (is :
       let runs : l.from ≡ slice_index (router_list d) (state % 1024) = x.runs ∙ ap (λ (n : Node). n.router) same ∙ router in
       never (rw runs at x.leaves)
 
-  -- what leads on up to the turn does so from the first nodes and this one
+  -- what leads on up to the turn leads on from the first nodes or turns at this one
   pub turn_below : (w : List Link) (t : State) → CrossesUpTo d q nodes at (state % 1024) 0 w t → CrossesBelow d q nodes (links_of d) (at + 1) w t
   turn_below w t (inl x) = (x.0, omega (arith, x.1), x.2)
   turn_below w t (inr (inl turn)) = (at, omega arith, inl turn)

@@ -1,4 +1,4 @@
--- Of two firsts the earlier is the first of both kinds.
+-- The earlier of the first nodes of two kinds is the first node of both kinds.
 use Rattle.std.proofs.Common.{◌≡◌, ◌⊎◌, inl, inr, ℕ, true, false, cond, Option, Some, None, List, refl, ap}
 use Rattle.std.specs.Ordering.{is_gt, ordering_reverse}
 use Rattle.std.specs.declared.cmp.Ordering.TheVariants.{Less, Equal, Greater}

@@ -1,4 +1,4 @@
--- What crosses from nodes, and what is settled by a round.
+-- The walks that cross from nodes, and the node that a round settles.
 use Rattle.std.proofs.Common.{◌≡◌, inl, inr, ℕ, suc, ◌+◌, ◌*◌, ◌<◌, ◌≤◌, false, Some, None, option_map, List, [], ◌∷◌, ◌++◌, zero, length, slice_index_or, refl, sym, ap, subst, ◌∙◌, arith}
 use Rattle.std.specs.Ordering.{is_gt, nat_cmp, ordering_then}
 use Rattle.std.specs.declared.cmp.Ordering.{Ordering}
@@ -38,7 +38,7 @@ first_empty [] = refl
 first_empty (l ∷ ls) = nothing_before (cost_of (l ∷ ls)) (length (l ∷ ls)) (locals_cmp [] (l ∷ ls)) (omega arith)
 
 module _ (d : Database) (q : Request) (links : List Link) (listed : AreLinksOf d links) (nodes : List Node) (apart : AreApart nodes) where
-  -- what a link leads to from a node crosses
+  -- the walk that a link leads to from a node crosses
   by_link_crosses : (at : ℕ) → at < length nodes → (l : Link) → IsLinkOf d l → (w : List Link) (t : State) → CrossesBy d q nodes at l w t → Crosses d q (labels_of nodes) w t
   by_link_crosses at within l of w t by =
       let is = get_or_from_slice_get nodes at by.node nowhere by.there in
@@ -54,7 +54,7 @@ module _ (d : Database) (q : Request) (links : List Link) (listed : AreLinksOf d
         still_open = ap (option_map (λ i. walk_at (walks nodes) i)) by.still_open;
       }
 
-  -- what the turn to the next leg leads to from a node crosses
+  -- the walk that the turn to the next leg leads to from a node crosses
   by_turn_crosses : (at : ℕ) → at < length nodes → (w : List Link) (t : State) → Turns d q nodes at w t → Crosses d q (labels_of nodes) w t
   by_turn_crosses at within w t turn =
       let is = get_or_from_slice_get nodes at turn.node nowhere turn.there in
@@ -161,7 +161,7 @@ module _ (d : Database) (q : Request) (nodes : List Node) (apart : AreApart node
       let leg = nodes_in_legs i e h in
       record { router = reached_router d q from _ _ (node_reached i e h); low = leg.low; high = leg.high })
 
--- to put a first crossing behind the others keeps them settled
+-- the nodes are still settled with a first crossing appended
 pub settled_by : (d : Database) (q : Request) → IsRouterOf d q.from → HasFewRouters d → length q.hops + 1 ≤ 8 → (nodes : List Node) → AreNodes nodes
     → AreSettled d q (labels_of nodes) → (n : Node) → IsNext nodes n → IsFirstCrossing d q (labels_of nodes) (walk_of nodes n) (state_of n)
     → AreNodes (nodes ++ (n ∷ [])) × AreSettled d q (labels_of (nodes ++ (n ∷ []))) × (length nodes + 1 ≤ (length q.hops + 1) * 1024)

@@ -1,4 +1,4 @@
--- What comes out of a heap of keys.
+-- The keys that are popped from a heap.
 use Rattle.std.proofs.Common.{◌≡◌, ◌⊎◌, inl, inr, ℕ, zero, suc, ◌+◌, ◌<◌, ◌≤◌, false, List, [], ◌∷◌, ◌++◌, length, take, slice_index_or, refl, sym, ap, subst, arith}
 use Rattle.std.specs.List.{All, Contains}
 use Rattle.std.specs.List.Sorted.{IsPermutation}
@@ -42,7 +42,7 @@ only : (x y : HeapKey) → Contains (x ∷ []) y → x ≡ y
 only x y (zero, h, e) = e
 only x y (suc k, h, e) = absurd (omega arith)
 
--- each key is the one that came out, or is left
+-- each key is the one that was popped, or is left
 pub others_left : (x : HeapKey) (old new : List HeapKey) → IsPermutation old (x ∷ new) → (y : HeapKey) → Contains old y → (x ≡ y) ⊎ Contains new y
 others_left x old new moved y at =
     elim (Contains-append_cases (x ∷ []) new y (Contains-permutation old (x ∷ new) y moved at)) [
@@ -50,7 +50,7 @@ others_left x old new moved y at =
       | inr there ↦ inr there
     ]
 
--- the one that came out was there
+-- the key that was popped was there
 pub was_there : (x : HeapKey) (old new : List HeapKey) → IsPermutation old (x ∷ new) → Contains old x
 was_there x old new moved = Contains-permutation (x ∷ new) old x (IsPermutation-sym old (x ∷ new) moved) (0, omega arith, refl)
 
@@ -58,7 +58,7 @@ was_there x old new moved = Contains-permutation (x ∷ new) old x (IsPermutatio
 pub rank_read : (labels : List Label) (i : ℕ) (e : Label) → i < length labels → (slice_index_or labels i e).rank ≡ (label_at labels i).rank
 rank_read labels i e h = ap (λ (l : Label). l.rank) (get_or_default labels i e no_label h)
 
--- a key that came out of what is left of the keys, and what the live ones are
+-- a key that was popped from the keys that are left, and which of them are live
 module _ (d : Database) (q : Request) (goal : Goal) (labels : List Label) (old heap new : List HeapKey) (x : HeapKey)
     (live : (key : HeapKey) → Contains old key → IsLive goal labels key → Contains heap key) (keyed : All (IsKey d q goal) heap) (moved : IsPermutation heap (x ∷ new)) where
   pub keyed_left : All (IsKey d q goal) new
@@ -95,11 +95,11 @@ module _ (d : Database) (q : Request) (goal : Goal) (labels : List Label) (old h
             ];
       }
 
--- a key for the indexes past the end of a list
+-- a default key for the indexes past the end of a list
 abbrev pub blank : HeapKey
 blank = record { 0 = (0, 0) }
 
--- One key more was looked at of those of a heap, of which the ones from a floor on are kept.
+-- One more key of a heap was looked at. The keys from a floor on are kept.
 module _ (floor : ℕ) (items left : List HeapKey) (k : ℕ) (within : k < length items)
     (kept : (key : HeapKey) → Contains (take k items) key → floor ≤ key.0.1 → Contains left key) (none_else : (key : HeapKey) → Contains left key → Contains items key) where
   abbrev pub looked : HeapKey

@@ -1,4 +1,4 @@
--- The walks and labels of nodes, and what one node more changes.
+-- The walks and labels of nodes, and how one more node changes them.
 use Rattle.std.proofs.Common.{◌≡◌, inl, inr, ℕ, zero, suc, ◌+◌, ◌<◌, Bool, true, false, not, Option, Some, None, option_map, position, List, [], ◌∷◌, ◌++◌, length, slice_index_or, refl, sym, ap, ◌∙◌, arith}
 use Rattle.std.specs.List.{position_or_len, AllPairs}
 use Rattle.std.proofs.lemmas.Bool.{cases_lt, lt-ltb, not-true, not_from_true, not_from_false, eqb-true, eq-eqb, and_parts, and_from}
@@ -11,7 +11,7 @@ use Rattle.cspf_search.specs.States.{State}
 use Rattle.cspf_search.specs.Arena.{walk_with, walk_at, walks_after, walks, walk_of, state_of, same_state, index_of, labels_of, IsNumbered, IsRoot, HasLast, AreNodes, IsNext}
 use Rattle.cspf_search.proofs.Settles.{Adds}
 
--- the walks of nodes, and one node more
+-- the walks of nodes, and one more node
 
 walks_after-push : (done : List (List Link)) (nodes : List Node) (n : Node)
     → walks_after done (nodes ++ (n ∷ [])) ≡ walks_after done nodes ++ (walk_with (walk_at (walks_after done nodes) n.parent) n.by ∷ [])

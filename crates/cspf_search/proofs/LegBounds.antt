@@ -16,11 +16,11 @@ use Rattle.cspf_search.specs.Settled.{IsWithin}
 use Rattle.cspf_search.specs.Bounds.{ArePassed, AreBounds, Falls, IsLegBound, IsRing, IsDeadEnd, AreLooked, bound_at, is_done}
 use Rattle.cspf_graph.proofs.RouterIndexes.{same_or_not}
 
--- where nothing is done nothing was looked at
+-- where no router is done, nothing has to hold of the links that arrive
 pub none_done : (d : Database) (q : Request) (leg : ℕ) (ring : Ring) → ((w : ℕ) → is_done ring w ≡ false) → IsRing d q leg ring
 none_done d q leg ring none u w on l admissible enters from to = absurd (false≢true (sym (none w) ∙ on))
 
--- what was looked at stays so where bounds fall, and where the ring is the same but for what waits
+-- a ring stays one where bounds fall, and where only its heap changes
 pub fallen_ring : (d : Database) (q : Request) (leg : ℕ) (old new : Ring) → Falls old new → IsRing d q leg old → IsRing d q leg new
 fallen_ring d q leg old new falls ring u w on l admissible enters from end =
     let kept = falls.kept w on in
@@ -40,7 +40,7 @@ one_shut d q leg to ring is shut u w on l admissible enters from end =
       | inr ne ↦ is u w (sym (get_or-set_other ring.done.items to w true false ne) ∙ on) l admissible enters from end
     ]
 
--- the links that arrive at one router more are all looked at
+-- all links that arrive at one more router were looked at
 module _ (d : Database) (q : Request) (leg to base : ℕ) (old new : Ring) (ring : IsRing d q leg old) (falls : Falls old new)
     (passed : ArePassed d q base new to) (same : bound_at new.near.items to ≡ base) where
   pub one_router_more : AreLooked d q leg new.near.items (set new.done.items to true)
@@ -76,7 +76,7 @@ leg_of_ring d q leg ring edge links least ahead targets = record {
   targets = λ p h target. omega (arith, targets p h target);
 }
 
--- the roles tell the targets
+-- the roles say which routers are targets
 pub told_target : (d : Database) (q : Request) (roles : List Role) (leg p : ℕ) → AreListed d → AreRoles d q roles → leg ≤ length q.hops → p < length (router_list d)
     → MayTurn d q (leg + 1) (slice_index (router_list d) p) → IsTrue (slice_index_or roles (leg * 1024 + p) nothing).target
 told_target d q roles leg p listed are within h target =
@@ -104,7 +104,7 @@ zeros_at count i =
       | inr past ↦ get_or_past (replicate count zero) i zero (omega (arith, past, length-replicate count zero))
     ]
 
--- one leg more, from the last back
+-- one more leg, from the last leg back
 module _ (d : Database) (q : Request) (leg count : ℕ) (all : count ≡ length (router_list d)) (few : count ≤ 1024) (old new near : List ℕ) (edge : ℕ) (small : edge < 2 ^ 32) (before : AreBounds d q old)
     (zeros : (i : ℕ) → i < (leg + 1) * 1024 → bound_at old i ≡ 0) (is : IsLegBound d q leg near edge (drop (leg * 1024 + 1024) old)) (long : length new ≡ length old)
     (here : (p : ℕ) → p < count → bound_at new (leg * 1024 + p) ≡ min (bound_at near p) edge)
@@ -183,10 +183,10 @@ module _ (d : Database) (q : Request) (leg count : ℕ) (all : count ≡ length 
   pub zeros_below : (i : ℕ) → i < leg * 1024 → bound_at new i ≡ 0
   zeros_below i low = others i (inl low) ∙ zeros i (omega (arith, low))
 
--- from a leg on whose targets have no way there is none either
+-- where the targets of a leg have no way, there is none from the leg or before it
 module _ (d : Database) (q : Request) (leg : ℕ) (old new : List ℕ) (before : AreBounds d q old) (is : IsDeadEnd d q leg (drop (leg * 1024 + 1024) old)) (long : length new ≡ length old)
     (here : (i : ℕ) → i < leg * 1024 + 1024 → bound_at new i ≡ NO_WAY) (others : (i : ℕ) → leg * 1024 + 1024 ≤ i → bound_at new i ≡ bound_at old i) where
-  -- a state is before the end of the leg or behind it
+  -- a state is before the end of the leg or after it
   side : (i : ℕ) → (bound_at new i ≡ NO_WAY) ⊎ (bound_at new i ≡ bound_at old i)
   side i = elim (cases_lt i (leg * 1024 + 1024)) [ inl low ↦ inl (here i low) | inr high ↦ inr (others i high) ]
 

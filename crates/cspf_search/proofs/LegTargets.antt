@@ -19,7 +19,7 @@ pub role_turns : (d : Database) (q : Request) (roles : List Role) → AreRoles d
     → MayTurn d q (i / 1024 + 1) (router_at d (i % 1024))
 role_turns d q roles are i ix on = (are.each i nothing ix).target.0 on
 
--- what holds at the first of some indexes holds with one more
+-- what holds at the first of some indexes, and at the next one, holds at one more
 pub taken_more : (P : ℕ → Type 0) (places : List ℕ) (k place : ℕ) → k < length places → place ≡ slice_index_or places k 0 → ((p : ℕ) → Contains (take k places) p → P p) → P place
     → (p : ℕ) → Contains (take (k + 1) places) p → P p
 taken_more P places k place within read before here p has =

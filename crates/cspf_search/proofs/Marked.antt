@@ -1,4 +1,4 @@
--- What one node more changes of the stops and the marks.
+-- How one more node changes the forward stars and the marks.
 use Rattle.std.proofs.Common.{◌≡◌, inl, inr, ℕ, ◌+◌, ◌*◌, ◌<◌, ◌≤◌, Bool, true, false, is_some, Some, None, List, [], ◌∷◌, ◌++◌, length, set, replicate, slice_index_or, refl, sym, ap, ◌∙◌, arith, length-set}
 use Rattle.std.proofs.lemmas.Bool.{cases_lt}
 use Rattle.std.proofs.lemmas.List.{get_or_append_left, get_or_push, length_push, get_or-set_same, get_or-set_other, get_or-replicate, length-replicate}
@@ -33,7 +33,7 @@ no_marks d q count many = record {
   each = λ i e index. get_or-replicate count i false e (omega (arith, many, index.low));
 }
 
--- the index of a stop is one of the request
+-- the index of a forward star is one of the request
 pub star_index : (d : Database) (q : Request) (n : Node) (star : ForwardStar) → IsInLeg q n → IsForwardStar d (state_of n) star → IsStateIndex d q star.state
 star_index d q n star leg is =
     let same = ap (λ (s : State). s.leg) is.state in
@@ -81,7 +81,7 @@ module _ (d : Database) (q : Request) (listed : AreListed d) (nodes : List Node)
             ];
       }
 
--- where the first node that leads on stands
+-- the state of the first node that leads on
 module _ (d : Database) (q : Request) (links : AreLinksOf d (links_of d)) (from : IsRouterOf d q.from) (few : HasFewRouters d) (most : length q.hops + 1 ≤ 8)
     (nodes : List Node) (are : AreNodes nodes) (settled : AreSettled d q (labels_of nodes)) (n : Node)
     (first : IsFirstOf nodes (CrossesBelow d q nodes (links_of d) (length nodes)) n) where

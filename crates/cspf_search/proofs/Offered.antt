@@ -1,4 +1,4 @@
--- What is offered to one state keeps the labels of all.
+-- After an offer to one state all labels are still right.
 use Rattle.std.proofs.Common.{◌≡◌, ◌≢◌, ◌⊎◌, inl, inr, ℕ, ◌+◌, ◌^◌, ◌<◌, ◌≤◌, List, [], ◌∷◌, None, length, set, refl, sym, ap, subst, ◌∙◌, arith, length-set}
 use Rattle.std.specs.BinaryHeap.{IsHeap}
 use Rattle.std.specs.List.{All, Contains}
@@ -77,12 +77,13 @@ labels_set d q old nodes P R goal labels old_keys keys are i index label is othe
           ];
     }
 
--- a walk that a label doesn't have to be before: it is behind the cap, or no earlier than the label's
+-- a walk that a label need not be before: it ranks after the cap, or is no earlier than the label's
+-- walk
 abbrev pub IsLost : Database → List Node → (List Link → State → Type 0) → ℕ → ℕ → State → Label → List Link → Type 0
 IsLost d nodes P cap ahead t label x =
     IsBeyond cap ahead x ⊎ ((label.rank ≢ no_rank) × (IsReached d nodes P cap ahead t label → IsNoLater (walk_of nodes (node_of d nodes label)) x))
 
--- a label that stands for a walk of its own, which is no later than the one that the state had
+-- a label for another walk, which is no later than the one that the state had
 pub record IsBetter (d : Database) (nodes : List Node) (P : List Link → State → Type 0) (cap ahead : ℕ) (t : State) (old label : Label) (x : List Link) : Type 0 where
   pub offer : IsOffer d nodes label
   pub rank : label.rank ≡ rank_of (node_of d nodes label)
@@ -140,7 +141,7 @@ module _ (d : Database) (q : Request) (nodes : List Node) (are : AreNodes nodes)
             ]
       ])
 
-  -- what is lost changes no label
+  -- a walk that is lost changes no label
   pub labels_stay : (Q x (state_at d i) → IsLost d nodes P cap (lift goal i) (state_at d i) (label_at labels i) x) → AreLabels d q nodes R goal labels keys
   labels_stay lost = record {
     small = before.small;
@@ -186,7 +187,7 @@ module _ (d : Database) (q : Request) (nodes : List Node) (are : AreNodes nodes)
   gets old label lower h (is_unreached left none first) better passes =
       becomes old label lower better passes left (λ w was. inr (beyond_lower cap lower (lift goal i) w h (first w was)))
 
-  -- what is better becomes the label
+  -- a better label replaces the old one
   pub labels_change : (label : Label) (key : ℕ) (new_keys : List HeapKey) → key ≡ label.rank + lift goal i → IsBetter d nodes P cap (lift goal i) (state_at d i) (label_at labels i) label x → Q x (state_at d i)
       → Gains (key_at key i) keys new_keys → AreLabels d q nodes R goal (set labels i label) new_keys
   labels_change label key new_keys is_key better passes gains =
@@ -215,7 +216,7 @@ module _ (d : Database) (q : Request) (nodes : List Node) (are : AreNodes nodes)
       let k = key_at ((label_at labels j).rank + lift goal j) j in
       Contains-permutation (key_at key i ∷ keys) new_keys k gains.moved (Contains-append_right (key_at key i ∷ []) keys k was))
 
-  -- what an offer leaves
+  -- the labels after an offer
   pub labels_offered : (label : Label) (key : ℕ) (new : List Label) (new_keys : List HeapKey) → key ≡ label.rank + lift goal i → IsOffer d nodes label → label.rank ≡ rank_of (node_of d nodes label)
       → state_of (node_of d nodes label) ≡ state_at d i → walk_of nodes (node_of d nodes label) ≡ x → label.rank ≤ (label_at labels i).rank → Q x (state_at d i)
       → StaysAt d nodes i label labels new keys new_keys ⊎ GoesTo d nodes i label key labels new keys new_keys → AreLabels d q nodes R goal new new_keys
@@ -254,7 +255,7 @@ module _ (d : Database) (q : Request) (nodes : List Node) (are : AreNodes nodes)
             ]);
       }) passes go.keys)
 
--- a walk that ranks behind the label, or behind the cap, is lost
+-- a walk that ranks after the label, or after the cap, is lost
 pub lost_by_rank : (d : Database) (nodes : List Node) → AreNodes nodes → (P : List Link → State → Type 0) (cap ahead : ℕ) (t : State) (label : Label) (n : Node)
     → IsNext nodes n → ahead < 2 ^ 46 → (label.rank < rank_of n) ⊎ (cap < rank_of n + ahead) → IsLost d nodes P cap ahead t label (walk_of nodes n)
 lost_by_rank d nodes are P cap ahead t label n next low (inl late) = inr (

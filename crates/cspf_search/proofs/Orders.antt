@@ -44,7 +44,7 @@ then_assoc Less p q = refl
 then_assoc Equal p q = refl
 then_assoc Greater p q = refl
 
--- what comes second matters only where the first ties
+-- the second order matters only where the first ties
 then_same : (o p q : Ordering) → (o ≡ Equal → p ≡ q) → ordering_then o p ≡ ordering_then o q
 then_same Less p q h = refl
 then_same Equal p q h = h refl
@@ -55,7 +55,7 @@ front_no_later Less p h = refl
 front_no_later Equal p h = refl
 front_no_later Greater p h = h
 
--- where legs tie, what is first by rank is first
+-- where legs tie, the rank decides
 
 less_first : (a b d : Ordering) → ordering_then a (ordering_then b Equal) ≡ Less → is_gt (ordering_then a (ordering_then b d)) ≡ false
 less_first Less b d h = refl
@@ -97,7 +97,7 @@ walk_from_state k w x h =
 pub rank_from_state : (s t : State) (w x : List Link) → is_gt (state_cmp (s.leg, w) (t.leg, x)) ≡ false → RanksNoLater (λ _. 0) s w t x
 rank_from_state s t w x h = rw (nat_cmp-potential 0 (cost_of w) (cost_of x)) (front_no_later (rank_cmp (s.leg, w) (t.leg, x)) (locals_cmp w x) h)
 
--- one more link
+-- walks with one more link
 
 pub cost_of-push : (v : List Link) (l : Link) → cost_of (v ++ (l ∷ [])) ≡ cost_of v + l.metric
 cost_of-push v l = sum_by_push (λ (l : Link). l.metric) v l
@@ -123,7 +123,7 @@ locals_cmp-last v w l m e =
     rw (map_push (λ (l : Link). l.local) v l, map_push (λ (l : Link). l.local) w m)
     (slice_cmp-last (locals_of v) (locals_of w) l.local m.local (length-map v (λ (l : Link). l.local) ∙ e ∙ sym (length-map w (λ (l : Link). l.local))))
 
--- the same link behind both keeps the order of walks
+-- the same link appended to both keeps the order of walks
 pub walk_cmp-push : (v w : List Link) (l : Link) → walk_cmp (v ++ (l ∷ [])) (w ++ (l ∷ [])) ≡ walk_cmp v w
 walk_cmp-push v w l =
     rw (cost_of-push v l, cost_of-push w l, length_push v l, length_push w l, nat_cmp-add (cost_of v) (cost_of w) l.metric, nat_cmp-add (length v) (length w) 1)
@@ -134,7 +134,7 @@ walk_cmp-push v w l =
 grows : (a n b k : ℕ) (o : Ordering) → a ≤ b → n < k → ordering_then (nat_cmp a b) (ordering_then (nat_cmp n k) o) ≡ Less
 grows a n b k o up more = grind (arith, nat_tests)
 
--- a walk ranks before itself with one link more
+-- a walk ranks before itself with one more link
 pub potential_cmp-push : (potential : State → ℕ) (s t : State) (v : List Link) (l : Link) → potential s ≤ potential t + l.metric
     → potential_cmp potential (s, v) (t, v ++ (l ∷ [])) ≡ Less
 potential_cmp-push potential s t v l up =

@@ -83,7 +83,7 @@ module _ (d : Database) (q : Request) (of : AreLinksOf d (links_of d)) (listed :
   goal_waits : cap < no_rank → Contains keys (key_at (cap + lift goal goal.at) goal.at)
   goal_waits known = before.waiting goal.at there floor.low capped known
 
-  -- what crosses behind the closed legs does so at an index behind the floor
+  -- what crosses after the closed legs does so at an index above the floor
   behind_floor : (u : State) → goal.floor / 1024 < u.leg → (j : ℕ) → u ≡ state_at d j → goal.floor ≤ j
   behind_floor u h j is = omega (arith, h, ap (λ (s : State). s.leg) is, before.whole)
 
@@ -97,7 +97,7 @@ module _ (d : Database) (q : Request) (of : AreLinksOf d (links_of d)) (listed :
     rank : (label_at labels i).rank ≡ walk_rank (walk_of nodes n)
     rank = here.rank ∙ rank_is nodes are n here.next
 
-    -- what is behind the cap is behind the least key
+    -- a walk that ranks after the cap ranks after the least key
     behind : (ahead : ℕ) (w : List Link) → IsBeyond cap ahead w → walk_rank (walk_of nodes n) + lift goal i < walk_rank w + ahead
     behind ahead w beyond =
         elim (least.first (key_at (cap + lift goal goal.at) goal.at) (goal_waits beyond.known) (record { behind = floor.low; same = refl })) [
@@ -250,7 +250,7 @@ module _ (d : Database) (q : Request) (listed : AreListed d) (place : ℕ) (at :
             ];
       }
 
--- the goal is the state of the tail-end in the leg behind the last hop
+-- the goal is the state of the tail-end in the leg after the last hop
 pub goal_index : (d : Database) (q : Request) → AreListed d → (to legs : ℕ) → legs ≡ length q.hops + 1 → IsIndexOf d q.to to → IsStateIndex d q ((legs - 1) * 1024 + to)
 goal_index d q listed to legs count end =
     let place : ((legs - 1) * 1024 + to) % 1024 ≡ to = omega (arith, end.within, listed.few) in

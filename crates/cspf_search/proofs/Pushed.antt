@@ -1,4 +1,4 @@
--- What one node more changes of what leads on, and of labels.
+-- How one more node changes what leads on, and the labels.
 use Rattle.std.proofs.Common.{◌≡◌, ◌≢◌, inl, inr, ℕ, ◌+◌, ◌<◌, Some, None, List, [], ◌∷◌, ◌++◌, length, set, slice_get, slice_index_or, refl, sym, ap, subst, ◌∙◌, arith}
 use Rattle.std.proofs.lemmas.Bool.{cases_lt}
 use Rattle.std.proofs.lemmas.List.{get_or_append_left, get_or_push, length_push, get_or-set_other}
@@ -127,7 +127,7 @@ module _ (nodes : List Node) (n : Node) (before : AreApart nodes) (apart : AreAp
     below_new : (w : List Link) (t : State) → t ≢ state_of n → CrossesBelow d q nodes links (length nodes) w t → CrossesBelow d q (nodes ++ (n ∷ [])) links (length nodes) w t
     below_new w t ne x = (x.0, x.1, from_new x.0 x.1 w t ne x.2)
 
-    -- what leads on into a state where a node stands
+    -- what leads on into a state that has a node
     below_settled : (i : ℕ) (w : List Link) (t : State) → index_of (nodes ++ (n ∷ [])) t ≡ Some i → CrossesBelow d q (nodes ++ (n ∷ [])) links (length nodes) w t → ⊥
     below_settled i w t e x = elim x.2 [ inl turn ↦ let left = turn.still_open in cc | inr by ↦ let left = by.2.still_open in cc ]
 

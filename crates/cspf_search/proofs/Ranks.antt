@@ -115,7 +115,7 @@ crossing_short d q nodes are links at within w t (inr by) =
 pub beyond_lower : (cap lower ahead : ℕ) (w : List Link) → lower ≤ cap → IsBeyond cap ahead w → IsBeyond lower ahead w
 beyond_lower cap lower ahead w h beyond = record { known = omega (arith, beyond.known); behind = omega (arith, beyond.behind) }
 
--- what a key is above its rank
+-- the lift of a key above its rank
 
 pub lift_small : (goal : Goal) (i : ℕ) → slice_index_or goal.bounds.now i 0 < 2 ^ 32 → lift goal i < 2 ^ 46
 lift_small goal i small = omega (arith, small)
@@ -123,7 +123,7 @@ lift_small goal i small = omega (arith, small)
 -- indexes of states
 
 module _ (d : Database) (q : Request) (listed : AreListed d) where
-  -- no two indexes are of one state
+  -- two different indexes are of different states
   pub state_apart : (i j : ℕ) → IsStateIndex d q i → IsStateIndex d q j → state_at d i ≡ state_at d j → i ≡ j
   state_apart i j ix jx e =
       let place = same_index (router_list d) listed.rising (i % 1024) (j % 1024) ix.place jx.place (ap (λ (s : State). s.router) e) in

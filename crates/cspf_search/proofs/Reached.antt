@@ -1,4 +1,4 @@
--- What each round of the search from a heap keeps, and what it has at its end.
+-- The invariant of each round of the search from a heap, and its result at the end.
 use Rattle.std.proofs.Common.{◌≡◌, ◌⊎◌, inl, inr, ℕ, zero, suc, ◌+◌, ◌-◌, ◌*◌, ◌/◌, ◌%◌, ◌≤◌, Some, None, option_map, List, [], ◌∷◌, ◌++◌, length, set, slice_get, slice_index, slice_index_or, refl, sym, ap, subst, ◌∙◌, arith}
 use Rattle.std.specs.List.{Contains}
 use Rattle.std.proofs.lemmas.Bool.{cases_lt}
@@ -34,7 +34,7 @@ use Rattle.cspf_search.proofs.Pushed.{index_new, open_old, open_new, labels_sett
 use Rattle.cspf_search.proofs.Settles.{no_route}
 use Rattle.cspf_search.proofs.Popped.{open_rank, shut_start, first_popped, popped, nothing_left, root_only, goal_index, goal_state}
 
--- what the search is asked, with the indexes of both ends in the list of routers, and its goal
+-- the query of the search, with the indexes of both ends in the list of routers, and its goal
 pub record IsAsked (d : Database) (q : Request) (legs from to : ℕ) (goal : Goal) : Type 0 where
   pub links : AreLinksOf d (links_of d)
   pub listed : AreListed d
@@ -115,7 +115,7 @@ module _ (d : Database) (q : Request) (legs from to : ℕ) (goal : Goal) (asked 
       state : state_of node ≡ state_at d i
       state = ap state_of is ∙ reached.state
 
-      -- the node of the least key goes behind the others
+      -- the node of the least key is appended to the others
       pub stepped : AreNodes (nodes ++ (node ∷ [])) × AreSettled d q (labels_of (nodes ++ (node ∷ []))) × (length nodes + 1 ≤ (length q.hops + 1) * 1024)
       stepped =
           rw is

@@ -1,4 +1,4 @@
--- What the reverses of links tell.
+-- The indexes of the reverses of links.
 use Rattle.std.proofs.Common.{◌≡◌, ◌≢◌, inl, inr, ℕ, ◌<◌, Some, List, length, map, slice_get, slice_index, slice_index_or, refl, sym, ap, subst, ◌∙◌}
 use Rattle.std.specs.List.{All}
 use Rattle.std.proofs.lemmas.List.{length-map}
@@ -12,7 +12,7 @@ use Rattle.cspf_search.proofs.Expanded.{kept_from}
 use Rattle.cspf_graph.proofs.RouterIndexes.{same_or_not, one_place}
 use Rattle.cspf_search.proofs.Taken.{end_of_row}
 
--- beside the links from a router there is an end each
+-- there is one end for each link from a router
 pub as_many : (d : Database) (place : ℕ) (ends : List ℕ) → map (λ end. slice_index (router_list d) end) ends ≡ map (λ (l : Link). l.to) (links_from_index d place)
     → length ends ≡ length (links_from_index d place)
 as_many d place ends each =
@@ -55,8 +55,9 @@ module _ (d : Database) (links : AreLinksOf d (links_of d)) where
   module _ (listed : AreListed d) (to : ℕ) (ends reverses : List ℕ) (within : All (λ end. end < length (router_list d)) ends)
       (each : map (λ end. slice_index (router_list d) end) ends ≡ map (λ (l : Link). l.to) (links_from_index d to))
       (beside : (nth : ℕ) (e : Link) → nth < length (links_from_index d to) → IsReverseAt d (slice_index_or (links_from_index d to) nth e) (slice_index_or reverses nth 0)) where
-    -- A link that has a reverse is found from where it ends: beside its reverse, a row from there, stand
-    -- the index of the router that it arrives from, and its own.
+    -- A link that has a reverse is found from where it ends: its reverse is a row from there, and
+    -- beside that row are the index of the router that the link arrives from, and the link's own
+    -- index.
     pub found_back : (l : Link) → IsLinkOf d l → HasReverse d l → (u : ℕ) → IsIndexOf d l.from u → IsIndexOf d l.to to
         → (nth : ℕ) × (nth < length (links_from_index d to)) × (slice_index ends nth ≡ u) × (slice_get (links_of d) (slice_index reverses nth) ≡ Some l)
     found_back l of has u from end =

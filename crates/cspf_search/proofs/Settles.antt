@@ -1,4 +1,4 @@
--- What is settled by first crossings is least.
+-- The walks that are settled by first crossings are least.
 use Rattle.std.proofs.Common.{◌≡◌, ◌⊎◌, inl, inr, ℕ, ◌<◌, true, false, Some, None, List, [], ◌∷◌, ◌++◌, length, refl, sym, ap, subst, ◌∙◌, arith}
 use Rattle.std.specs.Ordering.{nat_cmp, is_gt, ordering_reverse, ordering_then}
 use Rattle.std.specs.declared.cmp.Ordering.{Ordering}
@@ -20,7 +20,7 @@ use Rattle.cspf_search.specs.Settled.{Labels, IsNoLater, potential_cmp, RanksNoL
 use Rattle.cspf_search.proofs.Orders.{walks_total, potentials_total, walk_cmp-push, potential_cmp-push, potential_cmp-turn, walk_from_less, rank_from_walk}
 use Rattle.cspf_search.proofs.Cuts.{reached_walk, reached_leg, route_reaches, reaches_route}
 
--- Labels keep what they have and get one walk more.
+-- Labels keep their walks and get one more.
 pub record Adds (old : Labels) (t : State) (w : List Link) (new : Labels) : Type 0 where
   pub keeps : (s : State) (x : List Link) → old s ≡ Some x → new s ≡ Some x
   pub adds : (s : State) (x : List Link) → new s ≡ Some x → (old s ≡ Some x) ⊎ ((s ≡ t) × (x ≡ w))
@@ -86,7 +86,7 @@ module _ (d : Database) (q : Request) where
   no_way potential up end start w route =
       omega (arith, way_back potential up w (end_state q) (route_reaches d q w route) (omega (arith, end)), start)
 
-  -- what leads on into a state behind the closed legs, from a state that is open, is behind them
+  -- a step from an open state into a state after the closed legs is after them
   step_behind : (labels : Labels) (closed : ℕ) → IsClosed d q labels closed → (v x : List Link) (s t : State) → Reaches d q v s → IsStep d q v s x t
       → labels s ≡ None → closed < t.leg → closed < s.leg
   step_behind labels closed shut v x s t r (by_link {leg = k} l a enters leaves) left h = h
@@ -114,7 +114,7 @@ module _ (d : Database) (q : Request) where
         let same = step_no_later v x s u st f (settled.least s f v here r) in
         (same.0, record { state = s; front = f; settled = here; step = same.1; still_open = left }, same.2)
 
-    -- where nothing crosses behind the closed legs, each state there that is reached is settled
+    -- where nothing crosses after the closed legs, each state there that is reached is settled
     all_settled : (closed : ℕ) → IsClosed d q labels closed → ((y : List Link) (u : State) → Crosses d q labels y u → closed < u.leg → ⊥)
         → (x : List Link) (u : State) → Reaches d q x u → labels u ≡ None → closed < u.leg → ⊥
     all_settled closed shut stuck x u starts left behind = cc (settled.start)
@@ -124,8 +124,8 @@ module _ (d : Database) (q : Request) where
           | None ↦ λ open_there. all_settled closed shut stuck v s r open_there (step_behind labels closed shut v x s u r st open_there behind)
         ] refl
 
-    -- a first crossing ranks before each walk to an open state behind the closed legs, and is no
-    -- later than those to its own
+    -- a first crossing ranks before each walk to an open state after the closed legs, and is no
+    -- later than the walks to its own state
     pub no_earlier : (w : List Link) (t : State) (first : IsFirstCrossing d q labels w t) (x : List Link) (u : State) → Reaches d q x u → labels u ≡ None
         → first.closed < u.leg → RanksNoLater first.potential t w u x × (u ≡ t → IsNoLater w x)
     no_earlier w t first x u starts left behind = cc (settled.start)
@@ -142,7 +142,7 @@ module _ (d : Database) (q : Request) where
               (rw less refl, λ same. walk_from_less first.potential t w x (rw same at less))
         ] refl
 
-    -- to settle a first crossing keeps all that is settled least
+    -- after a first crossing is settled, all settled walks are still least
     pub settled_push : (w : List Link) (t : State) → IsFirstCrossing d q labels w t → (after : Labels) → Adds labels t w after → AreSettled d q after
     settled_push w t first after more = record {
       start = more.keeps _ _ settled.start;
@@ -171,7 +171,7 @@ module _ (d : Database) (q : Request) where
           cc (ap ordering_reverse less);
     }
 
-    -- where nothing crosses behind the closed legs and the end state is open, there is no route
+    -- where nothing crosses after the closed legs and the end state is open, there is no route
     pub no_route : IsStuck d q labels → labels (end_state q) ≡ None → (w : List Link) → IsRoute d q w → ⊥
     no_route stuck left w route =
         all_settled stuck.closed stuck.is_closed stuck.none w (end_state q) (route_reaches d q w route) left (omega (arith, stuck.low))

@@ -26,7 +26,7 @@ use Rattle.cspf_search.proofs.Backs.{turned_next, by_next}
 use Rattle.cspf_search.proofs.Offered.{labels_stay, labels_offered, labels_same, lost_by_rank, tied_label, left_open, IsLost}
 use Rattle.cspf_search.proofs.Expanded.{filter_short, there, leg, turn_index, turn_state, turn_only, turn_passes, turn_within, turn_left, turn_right, turn_cases, link_index, link_state, link_only, link_passes, link_within, link_left, link_right, link_cases}
 
--- the router that the end beside a link tells
+-- the router at the end beside a link
 pub end_of_row : (d : Database) (ends : List ℕ) (links : List Link) → All (λ end. end < length (router_list d)) ends
     → map (λ end. slice_index (router_list d) end) ends ≡ map (λ (l : Link). l.to) links → (i : ℕ) (l : Link) (end : ℕ) → i < length links
     → l ≡ slice_index_or links i l → end ≡ slice_index ends i → IsIndexOf d l.to end
@@ -173,7 +173,7 @@ module _ (source : Source) (of : IsSource source) (labels : List Label) (keys : 
     along : IsNext nodes (node_by at (slice_index_or nodes at nowhere) (Some l))
     along = by_next d q nodes are at is.within (slice_index_or nodes at nowhere) (there d q nodes at state is) l small
 
-    -- whether a route may stand where the link ends, as told for the state there
+    -- whether a route may enter the router where the link ends, by the role of the state there
     pub link_told : (role : Role) → IsRole d q ((state - state % 1024 + end) / 1024 + 1) (router_at d ((state - state % 1024 + end) % 1024)) role → IsTrue role.enter ↔ MayEnter d q (state / 1024 + 1) l.to
     link_told role told =
         let legs = leg d q nodes at state is in
@@ -181,7 +181,7 @@ module _ (source : Source) (of : IsSource source) (labels : List Label) (keys : 
         (λ k. record { leg = sym legs k; router = l.to }) ∙ link_state d q nodes at state is row l here end ends listed.few in
         subst (λ (s : State). IsTrue role.enter ↔ MayEnter d q s.leg s.router) (sym same) told.enter
 
-    -- what may not be used changes nothing
+    -- a link that may not be used changes nothing
     pub link_off : (IsUsable d q l → MayEnter d q (state / 1024 + 1) l.to → ⊥) → AreLabels d q nodes (CrossesUpTo d q nodes at (state % 1024) (row + 1)) goal labels keys
     link_off never =
         labels_same d q nodes (CrossesUpTo d q nodes at (state % 1024) row) (CrossesUpTo d q nodes at (state % 1024) (row + 1))

@@ -1,4 +1,4 @@
--- Private words of the search: the nodes that stand for settled walks.
+-- Private words of the search: the nodes of settled walks.
 use Rattle.std.specs.Prelude.{◌≡◌, ℕ, ◌+◌, ◌*◌, ◌^◌, ◌<◌, ◌≤◌, Bool, false, ◌&&◌, nat_eq, Option, Some, None, IsSome, option_map, position, List, [], ◌∷◌, ◌++◌, length, slice_index_or}
 use Rattle.std.specs.List.{All, AllPairs}
 use Rattle.cspf_model.specs.declared.link.Link.{Link}
@@ -8,7 +8,7 @@ use Rattle.cspf_search.specs.declared.arena.Node.{Node}
 use Rattle.cspf_search.specs.States.{State}
 use Rattle.cspf_search.specs.Settled.{Labels}
 
--- a walk, with one link more where there is one
+-- a walk, with one more link if there is one
 abbrev pub walk_with : List Link → Option Link → List Link
 walk_with walk None = walk
 walk_with walk (Some l) = walk ++ (l ∷ [])
@@ -17,7 +17,7 @@ walk_with walk (Some l) = walk ++ (l ∷ [])
 abbrev pub walk_at : List (List Link) → ℕ → List Link
 walk_at walks i = slice_index_or walks i []
 
--- the walks of nodes, behind those of the nodes before them
+-- the walks of nodes, after those of the nodes before them
 abbrev pub walks_after : List (List Link) → List Node → List (List Link)
 walks_after done [] = done
 walks_after done (n ∷ ns) = walks_after (done ++ (walk_with (walk_at done n.parent) n.by ∷ [])) ns
@@ -30,7 +30,7 @@ walks nodes = walks_after [] nodes
 abbrev pub walk_of : List Node → Node → List Link
 walk_of nodes n = walk_with (walk_at (walks nodes) n.parent) n.by
 
--- where the walk of a node stands
+-- the state that the walk of a node has reached
 abbrev pub state_of : Node → State
 state_of n = record { leg = n.leg; router = n.router }
 
@@ -46,8 +46,8 @@ index_of nodes s = position (λ n. same_state (state_of n) s) nodes
 abbrev pub labels_of : List Node → Labels
 labels_of nodes s = option_map (λ i. walk_at (walks nodes) i) (index_of nodes s)
 
--- What a node says of its walk, at its index. Each link and each turn to a leg took a node of its
--- own, so the links and the legs are no more than the nodes up to this one.
+-- The numbers that a node has of its walk, at its index. Each link and each turn to a leg took one
+-- node, so there are no more links and legs than nodes up to this one.
 pub record IsNumbered (n : Node) (walk : List Link) (index : ℕ) : Type 0 where
   pub cost : n.cost ≡ cost_of walk
   pub links : n.links ≡ length walk
@@ -58,7 +58,7 @@ pub record IsNumbered (n : Node) (walk : List Link) (index : ℕ) : Type 0 where
 abbrev pub HasLast : Node → Type 0
 HasLast n = 0 < n.links → IsSome n.by
 
--- where nodes grow from: it has no link, and is its own parent
+-- the first node: it has no link, and is its own parent
 pub record IsRoot (n : Node) : Type 0 where
   pub parent : n.parent ≡ 0
   pub by : n.by ≡ None
@@ -78,21 +78,21 @@ pub record AreNodes (nodes : List Node) : Type 0 where
       → IsNumbered (slice_index_or nodes i d) (walk_at (walks nodes) i) i
   pub apart : AllPairs (λ m n. same_state (state_of m) (state_of n) ≡ false) nodes
 
--- a node that may be put behind the others
+-- a node that may be appended to the others
 pub record IsNext (nodes : List Node) (n : Node) : Type 0 where
   pub parent : n.parent < length nodes
   pub linked : HasLast n
   pub numbered : IsNumbered n (walk_of nodes n) (length nodes)
 
--- the node stands in a leg of the request
+-- the node is in a leg of the request
 pub record IsInLeg (q : Request) (n : Node) : Type 0 where
   pub low : 1 ≤ n.leg
   pub high : n.leg ≤ length q.hops + 1
 
--- the nodes stand in legs of the request
+-- the nodes are in legs of the request
 abbrev pub AreInLegs : Request → List Node → Type 0
 AreInLegs q nodes = All (IsInLeg q) nodes
 
--- the node that stands for the start
+-- the node of the start
 abbrev pub root_of : Request → Node
 root_of q = record { parent = 0; by = None; leg = 1; router = q.from; cost = 0; links = 0 }

@@ -17,9 +17,9 @@ use Rattle.cspf_search.specs.States.{LeadsOn}
 abbrev pub bound_at : List ℕ → ℕ → ℕ
 bound_at bounds i = slice_index_or bounds i 0
 
--- A bound for each state: no link that leads on lowers it by more than its metric, nor from what says
--- that there is no way to what says that there is one, and no turn to the next leg lowers it; at the
--- tail-end in the last leg it is 0. So it is no more than the cost to go.
+-- A bound for each state. No link that leads on lowers it by more than its metric, or from `NO_WAY`
+-- to a bound that says that there is a way. No turn to the next leg lowers it. At the tail-end in
+-- the last leg it is 0. So it is a lower bound of the cost to go.
 pub record AreBounds (d : Database) (q : Request) (bounds : List ℕ) : Type 0 where
   pub many : length bounds ≡ (length q.hops + 1) * MOST_ROUTERS
   pub small : (i : ℕ) → bound_at bounds i < 2 ^ 32
@@ -32,21 +32,21 @@ pub record AreBounds (d : Database) (q : Request) (bounds : List ℕ) : Type 0 w
   pub last : (i : ℕ) → IsStateIndex d q i → i / MOST_ROUTERS ≡ length q.hops
       → MayTurn d q (i / MOST_ROUTERS + 1) (slice_index (router_list d) (i % MOST_ROUTERS)) → bound_at bounds i ≡ 0
 
--- The bound of each router from a leg on, as far as an edge, where these are the bounds of its targets
--- behind it: so it is for the lower of the two.
+-- The bound of each router from a leg on, up to an edge, by the bounds of its targets in the next
+-- leg: the lower of `near` and the edge is such a bound.
 pub record IsLegBound (d : Database) (q : Request) (leg : ℕ) (near : List ℕ) (edge : ℕ) (ahead : List ℕ) : Type 0 where
   pub links : (u w : ℕ) (l : Link) → LeadsOn d q l → MayEnter d q (leg + 1) l.to → IsIndexOf d l.from u → IsIndexOf d l.to w
       → IsWithin (min (bound_at near u) edge) (min (bound_at near w) edge) l.metric
   pub targets : (p : ℕ) → p < length (router_list d)
       → MayTurn d q (leg + 1) (slice_index (router_list d) p) → min (bound_at near p) edge ≤ bound_at ahead p
 
--- the targets of a leg have no greater bounds than these behind it
+-- the targets of a leg have no greater bounds than these of the next leg
 abbrev pub AreReached : Database → Request → ℕ → Ring → List ℕ → Type 0
 AreReached d q leg ring ahead =
     (p : ℕ) → p < length (router_list d) → MayTurn d q (leg + 1) (slice_index (router_list d) p)
     → bound_at ring.near.items p ≤ bound_at ahead p
 
--- by their bounds behind a leg to a hop there is no way from its targets
+-- by their bounds in the leg after that to a hop, there is no way from its targets
 pub record IsDeadEnd (d : Database) (q : Request) (leg : ℕ) (ahead : List ℕ) : Type 0 where
   pub hop : leg < length q.hops
   pub targets : (p : ℕ) → p < length (router_list d) → MayTurn d q (leg + 1) (slice_index (router_list d) p)
@@ -62,7 +62,7 @@ AreLooked d q leg near marks =
     (u w : ℕ) → slice_index_or marks w false ≡ true → (l : Link) → LeadsOn d q l → MayEnter d q (leg + 1) l.to → IsIndexOf d l.from u → IsIndexOf d l.to w
     → IsWithin (bound_at near u) (bound_at near w) l.metric
 
--- so it is of the routers that are done
+-- the bounds of the routers that are done are within each link that leads on to them
 abbrev pub IsRing : Database → Request → ℕ → Ring → Type 0
 IsRing d q leg ring = AreLooked d q leg ring.near.items ring.done.items
 
@@ -76,14 +76,14 @@ pub record Falls (old new : Ring) : Type 0 where
   pub kept : (i : ℕ) → is_done new i ≡ true
       → (is_done old i ≡ true) × (bound_at new.near.items i ≡ bound_at old.near.items i)
 
--- where the link at an index is admitted, and the router that it arrives from may be left, the bound of
--- that is no more than by that link
+-- where the link at an index is admitted, and the router that it arrives from may be left, the
+-- bound of that router is no more than by that link
 abbrev pub IsPassed : Database → Request → ℕ → Ring → ℕ → ℕ → Type 0
 IsPassed d q base ring from at =
     (l : Link) → slice_get (links_of d) at ≡ Some l → IsAdmitted q l → MayBeLeft d q (slice_index (router_list d) from)
     → IsWithin (bound_at ring.near.items from) base l.metric
 
--- so it is of each link that leads on to a router
+-- each link that leads on to a router was passed
 abbrev pub ArePassed : Database → Request → ℕ → Ring → ℕ → Type 0
 ArePassed d q base ring to =
     (u : ℕ) (l : Link) → LeadsOn d q l → IsIndexOf d l.from u → IsIndexOf d l.to to

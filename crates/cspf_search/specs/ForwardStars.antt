@@ -1,4 +1,5 @@
--- Private words of the search by rounds: where the settled nodes stand, and which states are settled.
+-- Private words of the search by rounds: the states of the settled nodes, and which states are
+-- settled.
 use Rattle.std.specs.Prelude.{◌≡◌, ℕ, ◌+◌, ◌*◌, ◌%◌, ◌<◌, Bool, is_some, List, All, length, map, slice_index, slice_index_or}
 use Rattle.cspf_model.specs.declared.limits.TheConstants.{MOST_ROUTERS}
 use Rattle.cspf_model.specs.declared.link.Link.{Link}
@@ -25,13 +26,13 @@ pub record IsForwardStar (d : Database) (s : State) (star : ForwardStar) : Type 
   pub reverses : (nth : ℕ) (e : Link) → nth < length (links_from_index d (star.state % MOST_ROUTERS))
       → IsReverseAt d (slice_index_or (links_from_index d (star.state % MOST_ROUTERS)) nth e) (slice_index_or star.reverses.now nth 0)
 
--- so it is for each node
+-- each node has its forward star
 pub record AreForwardStars (d : Database) (nodes : List Node) (stars : List ForwardStar) : Type 0 where
   pub many : length stars ≡ length nodes
   pub each : (i : ℕ) (e : ForwardStar) → i < length nodes
       → IsForwardStar d (state_of (slice_index_or nodes i nowhere)) (slice_index_or stars i e)
 
--- the states where a node stands are marked, and no others
+-- exactly the states that have a node are marked
 pub record AreStateMarks (d : Database) (q : Request) (nodes : List Node) (marks : List Bool) : Type 0 where
   pub many : length marks ≡ (length q.hops + 1) * MOST_ROUTERS
   pub each : (i : ℕ) (e : Bool) → IsStateIndex d q i

@@ -29,7 +29,7 @@ use Rattle.cspf_search.specs.Rounds.{CrossesFrom, CrossesBelow}
 abbrev pub state_at : Database → ℕ → State
 state_at d i = record { leg = i / MOST_ROUTERS + 1; router = slice_index (router_list d) (i % MOST_ROUTERS) }
 
--- a node for the indexes past the end of a list
+-- a default node for the indexes past the end of a list
 abbrev pub nowhere : Node
 nowhere = record { parent = 0; by = None; leg = 0; router = 0; cost = 0; links = 0 }
 
@@ -52,7 +52,7 @@ node_by at from None = record {
   links = from.links;
 }
 
--- the node that a label stands for
+-- the node that a label describes
 abbrev pub node_of : Database → List Node → Label → Node
 node_of d nodes label =
     node_by label.parent (slice_index_or nodes label.parent nowhere)
@@ -69,17 +69,17 @@ walk_rank w = cost_of w * COST_WEIGHT + length w + 1
 abbrev pub no_rank : ℕ
 no_rank = 18446744073709551615
 
--- what the key of a state is above its rank: its bound
+-- how much the key of a state is above its rank: its bound
 abbrev pub lift : Goal → ℕ → ℕ
 lift goal i = slice_index_or goal.bounds.now i 0 * COST_WEIGHT
 
--- the walk ranks behind one that the tail-end has, with its lower bound of the cost to go
+-- with its lower bound of the cost to go, the walk ranks after one that the tail-end has
 pub record IsBeyond (cap ahead : ℕ) (w : List Link) : Type 0 where
   pub known : cap < no_rank
   pub behind : cap < walk_rank w + ahead
 
--- The label of an open state stands for a node that leads there, and none that does is before it,
--- but for walks behind the cap.
+-- The label of an open state describes a node that leads there. No node that leads there is before
+-- it, except walks that rank after the cap.
 pub record IsReached (d : Database) (nodes : List Node) (P : List Link → State → Type 0)
     (cap ahead : ℕ) (t : State) (label : Label) : Type 0 where
   pub place : label.place < length (router_list d)
@@ -91,7 +91,7 @@ pub record IsReached (d : Database) (nodes : List Node) (P : List Link → State
   pub first : (w : List Link) → P w t
       → IsNoLater (walk_of nodes (node_of d nodes label)) w ⊎ IsBeyond cap ahead w
 
--- what the label of a state tells
+-- the meaning of the label of a state
 pub data IsLabel (d : Database) (nodes : List Node) (P : List Link → State → Type 0)
     (cap ahead : ℕ) (t : State) (label : Label) : Type 0 where
   is_settled : (i : ℕ) → label.rank ≡ 0 → index_of nodes t ≡ Some i
@@ -111,7 +111,7 @@ heap_key_cmp x y = ordering_then (nat_cmp y.0.0 x.0.0) (nat_cmp y.0.1 x.0.1)
 abbrev pub key_at : ℕ → ℕ → HeapKey
 key_at key i = record { 0 = (key, i) }
 
--- the label for the indexes past the end of a list
+-- the default label for the indexes past the end of a list
 abbrev pub no_label : Label
 no_label = record { rank = 18446744073709551615; parent = 0; place = 0; row = 0 }
 
@@ -124,13 +124,13 @@ AreTargetsSettled d roles labels at =
     (i : ℕ) → i % MOST_ROUTERS < length (router_list d) → i / MOST_ROUTERS ≡ at / MOST_ROUTERS
     → IsTrue (slice_index_or roles i nothing).target → (label_at labels i).rank ≡ 0
 
--- the floor is behind the leg of a state, where each target is settled
+-- the floor is right after the leg of a state, each target of which is settled
 pub record IsRaised (d : Database) (roles : List Role) (labels : List Label) (at floor : ℕ) : Type 0 where
   pub target : IsTrue (slice_index_or roles at nothing).target
   pub next : floor ≡ at - at % MOST_ROUTERS + MOST_ROUTERS
   pub settled : AreTargetsSettled d roles labels at
 
--- what a key of a state asks
+-- what holds of the key of a state
 pub record IsKey (d : Database) (q : Request) (goal : Goal) (key : HeapKey) : Type 0 where
   pub some : lift goal key.0.1 < key.0.0
   pub most : key.0.0 < no_rank
@@ -141,8 +141,8 @@ pub record IsLive (goal : Goal) (labels : List Label) (key : HeapKey) : Type 0 w
   pub behind : goal.floor ≤ key.0.1
   pub same : (label_at labels key.0.1).rank + lift goal key.0.1 ≡ key.0.0
 
--- Labels of the states behind the closed legs for what crosses, and a key for each state of them that
--- is reached.
+-- Labels of the states after the closed legs, for what crosses, and a key for each of these states
+-- that is reached.
 pub record AreLabels (d : Database) (q : Request) (nodes : List Node)
     (P : List Link → State → Type 0) (goal : Goal) (labels : List Label) (keys : List HeapKey)
     : Type 0 where
@@ -197,7 +197,7 @@ pub record Gains (key : HeapKey) (old new : List HeapKey) : Type 0 where
 abbrev pub IsUpTo : ℕ → ℕ → HeapKey → Type 0
 IsUpTo rank i key = (rank < key.0.0) ⊎ ((rank ≡ key.0.0) × (i ≤ key.0.1))
 
--- The least key of a state that is still open: what comes out of a heap up to it has no use.
+-- The least key of a state that is still open. Keys that are popped before it are of no use.
 pub record IsLeast (d : Database) (q : Request) (goal : Goal) (labels : List Label)
     (old : List HeapKey) (i : ℕ) (new : List HeapKey) : Type 0 where
   pub index : IsStateIndex d q i
@@ -217,7 +217,8 @@ pub record IsOpenOf (floor : ℕ) (old new : List HeapKey) : Type 0 where
   pub kept : (key : HeapKey) → Contains old key → floor ≤ key.0.1 → Contains new key
   pub only : (key : HeapKey) → Contains new key → Contains old key
 
--- the label that a state has stays, since that which is offered ties in rank and is not before it
+-- the label of a state stays, since the one that is offered ties with it in rank and is not before
+-- it
 pub record StaysAt (d : Database) (nodes : List Node) (i : ℕ) (label : Label)
     (old new : List Label) (old_keys new_keys : List HeapKey) : Type 0 where
   pub tie : label.rank ≡ (label_at old i).rank
@@ -226,7 +227,7 @@ pub record StaysAt (d : Database) (nodes : List Node) (i : ℕ) (label : Label)
   pub labels : new ≡ old
   pub keys : new_keys ≡ old_keys
 
--- it gets the label that is offered
+-- the state gets the label that is offered
 pub record GoesTo (d : Database) (nodes : List Node) (i : ℕ) (label : Label) (key : ℕ)
     (old new : List Label) (old_keys new_keys : List HeapKey) : Type 0 where
   pub first : label.rank ≡ (label_at old i).rank
@@ -235,7 +236,7 @@ pub record GoesTo (d : Database) (nodes : List Node) (i : ℕ) (label : Label) (
   pub labels : new ≡ set old i label
   pub keys : Gains (key_at key i) old_keys new_keys
 
--- the legs below the floor are closed, and the goal is behind them
+-- the legs below the floor are closed, and the goal is after them
 pub record IsFloor (d : Database) (q : Request) (labels : Labels) (goal : Goal) : Type 0 where
   pub low : goal.floor ≤ goal.at
   pub shut : IsClosed d q labels (goal.floor / MOST_ROUTERS)

@@ -1,4 +1,4 @@
--- Private words of the search: what it is asked, and what leads on in it.
+-- Private words of the search: its query, and what leads on in it.
 use Rattle.std.specs.Prelude.{◌≡◌, ℕ, ◌+◌, ◌%◌, ◌≤◌, List, length, nat_eq}
 use Rattle.std.specs.List.{AllByRecursion, IsDistinct}
 use Rattle.cspf_model.specs.declared.limits.TheConstants.{MOST_LEGS}
@@ -14,8 +14,8 @@ use Rattle.cspf_graph.specs.Lists.{AreListed}
 use Rattle.cspf_graph.specs.Roles.{AreRoles, AreTargets}
 use Rattle.cspf_search.specs.Frontier.{CrossesUpTo}
 
--- The lists of the table are those of its database, for each state it is known what a route may do, and for each leg to
--- a hop where it ends.
+-- The lists of the table are those of its database. For each state the query has what a route may
+-- do there, and for each leg to a hop its targets.
 pub record IsQuery (query : Query) : Type 0 where
   pub listed : AreListed query.table.now
   pub links : AreLinksOf query.table.now (links_of query.table.now)
@@ -30,6 +30,7 @@ pub record IsQuery (query : Query) : Type 0 where
 abbrev pub CrossesBefore : Query → List Node → ℕ → List Link → State → Type 0
 CrossesBefore query nodes at = CrossesBelow query.table.now query.request.now nodes (links_of query.table.now) at
 
--- those, and from the node there, at a state, the turn and the links before a row
+-- those walks, and the ones by the turn and by the links before a row from the node at the index,
+-- at a state
 abbrev pub CrossesToRow : Query → List Node → ℕ → ℕ → ℕ → List Link → State → Type 0
 CrossesToRow query nodes at state row = CrossesUpTo query.table.now query.request.now nodes at (state % MOST_ROUTERS) row

@@ -1,4 +1,5 @@
--- Private words of the search by rounds: what a round begins with, and the node that it looks on from.
+-- Private words of the search by rounds: the state at the start of a round, and the node that it
+-- looks on from.
 use Rattle.std.specs.Prelude.{slice_index_or}
 use Rattle.cspf_search.specs.declared.rounds.Look.{Look}
 use Rattle.cspf_search.specs.declared.rounds.Round.{Round}
@@ -7,7 +8,7 @@ use Rattle.cspf_search.specs.Frontier.{IsNodeAt, nowhere}
 use Rattle.cspf_search.specs.ForwardStars.{AreForwardStars, AreStateMarks, IsForwardStar}
 use Rattle.cspf_search.specs.Query.{IsQuery}
 
--- the settled nodes, the forward star of each, and marks where they stand
+-- the settled nodes, the forward star of each, and the marks of their states
 pub record IsRound (round : Round) : Type 0 where
   pub query : IsQuery round.query
   pub arena : AreNodes round.nodes.now

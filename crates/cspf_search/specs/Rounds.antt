@@ -1,4 +1,4 @@
--- Private words of the search: what one round looks for.
+-- Private words of the search: the node that one round finds.
 use Rattle.std.specs.Prelude.{◌≡◌, ℕ, ◌+◌, ◌<◌, ◌≤◌, ◌⊎◌, false, if◌then◌else◌, Option, Some, None, List, [], ◌∷◌, ◌++◌, Contains, length, slice_get}
 use Rattle.std.specs.Ordering.{is_gt}
 use Rattle.cspf_model.specs.declared.link.Link.{Link}
@@ -11,8 +11,8 @@ use Rattle.cspf_graph.specs.Roles.{MayEnter, MayTurn}
 use Rattle.cspf_search.specs.Settled.{state_cmp}
 use Rattle.cspf_search.specs.Arena.{walk_at, walks, walk_of, state_of, index_of, IsNext}
 
--- A link that is usable leads on from the node at an index, whose walk may leave its router, to a
--- router that a route may enter in the node's leg, where no node stands.
+-- A usable link leads on from the node at an index, whose walk may leave its router. It leads to a
+-- router that a route may enter in the node's leg and that has no node there.
 pub record CrossesBy (d : Database) (q : Request) (nodes : List Node) (at : ℕ) (l : Link) (w : List Link) (t : State) : Type 0 where
   pub node : Node
   pub there : slice_get nodes at ≡ Some node
@@ -24,7 +24,8 @@ pub record CrossesBy (d : Database) (q : Request) (nodes : List Node) (at : ℕ)
   pub state : t ≡ record { leg = node.leg; router = l.to }
   pub still_open : index_of nodes t ≡ None
 
--- A route may turn from its leg at the node at an index, and no node stands there in the next leg.
+-- A route may turn from its leg at the node at an index, and there is no node at its router in the
+-- next leg.
 pub record Turns (d : Database) (q : Request) (nodes : List Node) (at : ℕ) (w : List Link) (t : State) : Type 0 where
   pub node : Node
   pub there : slice_get nodes at ≡ Some node
@@ -39,7 +40,7 @@ abbrev pub CrossesFrom : Database → Request → List Node → List Link → �
 CrossesFrom d q nodes links at w t =
     Turns d q nodes at w t ⊎ ((l : Link) × Contains links l × CrossesBy d q nodes at l w t)
 
--- one of them does, from one of the first nodes
+-- the turn or one of the links leads on from one of the first nodes
 abbrev pub CrossesBelow : Database → Request → List Node → List Link → ℕ → List Link → State → Type 0
 CrossesBelow d q nodes links count w t =
     (at : ℕ) × (at < count) × CrossesFrom d q nodes links at w t
@@ -56,7 +57,7 @@ abbrev pub IsFirst : List Node → (List Link → State → Type 0) → Option N
 IsFirst nodes P None = (w : List Link) (t : State) → ¬ P w t
 IsFirst nodes P (Some n) = IsFirstOf nodes P n
 
--- the one that is first, and the first of two that tie
+-- the earlier of two nodes, and the first one where they tie
 abbrev pub earlier_of : List Node → Option Node → Option Node → Option Node
 earlier_of nodes None b = b
 earlier_of nodes (Some a) None = Some a

@@ -1,4 +1,4 @@
--- Private words of both searches: what each ends with.
+-- Private words of both searches: the result of each.
 use Rattle.std.specs.Prelude.{◌≡◌, ◌+◌, ◌*◌, ◌≤◌, None, List, length}
 use Rattle.cspf_model.specs.declared.limits.TheConstants.{MOST_ROUTERS}
 use Rattle.cspf_model.specs.declared.request.Request.{Request}

@@ -1,4 +1,4 @@
--- Private words of the search: the order in which walks are settled, and what is settled.
+-- Private words of the search: the order in which walks are settled, and which walks are settled.
 use Rattle.std.specs.Prelude.{◌≡◌, ℕ, suc, ◌+◌, ◌<◌, ◌≤◌, Option, Some, None, List, [], false, length}
 use Rattle.std.specs.Ordering.{nat_cmp, ordering_then, is_gt}
 use Rattle.std.specs.declared.cmp.Ordering.{Ordering}
@@ -33,7 +33,8 @@ potential_cmp potential a b =
 abbrev pub RanksNoLater : (State → ℕ) → State → List Link → State → List Link → Type 0
 RanksNoLater potential s v t w = is_gt (potential_cmp potential (s, v) (t, w)) ≡ false
 
--- A potential is no more than one ahead and a metric, and says that there is a way where that does.
+-- A potential is no more than the next one plus a metric. It says that there is a way where the
+-- next one does.
 abbrev pub IsWithin : ℕ → ℕ → ℕ → Type 0
 IsWithin potential ahead metric = (potential ≤ ahead + metric) × (ahead < NO_WAY → potential < NO_WAY)
 
@@ -66,14 +67,14 @@ pub record Crosses (d : Database) (q : Request) (labels : Labels) (w : List Link
   pub step : IsStep d q front state w t
   pub still_open : labels t ≡ None
 
--- Each router at which a route may turn from the leg is settled, so a walk to any leg behind it goes on
+-- Each router at which a route may turn from the leg is settled. So a walk to any later leg goes on
 -- from a settled state.
 abbrev pub IsClosed : Database → Request → Labels → ℕ → Type 0
 IsClosed d q labels leg =
     1 ≤ leg → (router : ℕ) → MayTurn d q leg router → labels (record { leg = leg; router = router }) ≡ None → ⊥
 
--- no other that crosses into its state is before it, and none that crosses behind the closed legs
--- ranks before it under a potential of states
+-- no other walk that crosses into its state is before it, and no walk that crosses after the closed
+-- legs ranks before it under a potential of states
 pub record IsFirstCrossing (d : Database) (q : Request) (labels : Labels) (w : List Link) (t : State) : Type 0 where
   pub crosses : Crosses d q labels w t
   pub first_here : (x : List Link) → Crosses d q labels x t → IsNoLater w x
@@ -85,7 +86,7 @@ pub record IsFirstCrossing (d : Database) (q : Request) (labels : Labels) (w : L
   pub first : (x : List Link) (u : State) → Crosses d q labels x u → closed < u.leg
       → RanksNoLater potential t w u x
 
--- nothing crosses behind the closed legs
+-- nothing crosses after the closed legs
 pub record IsStuck (d : Database) (q : Request) (labels : Labels) : Type 0 where
   pub closed : ℕ
   pub is_closed : IsClosed d q labels closed

@@ -11,7 +11,7 @@ use Rattle.cspf_graph.specs.Lists.{IsIndexOf}
 use Rattle.cspf_graph.specs.Roles.{IsStateIndex}
 use Rattle.cspf_search.specs.Query.{IsQuery, CrossesBefore, CrossesToRow}
 
--- the node at an index, with its state behind the closed legs and its rank
+-- the node at an index, with its state after the closed legs and its rank
 pub record IsSource (source : Source) : Type 0 where
   pub query : IsQuery source.query
   pub goal : IsStateIndex source.query.table.now source.query.request.now source.goal.at
@@ -32,7 +32,8 @@ AreBefore source labels keys =
     AreLabels source.query.table.now source.query.request.now source.nodes.now (CrossesBefore source.query source.nodes.now source.at)
     source.goal labels keys
 
--- labels for that, and for the turn from the source and the links before a row
+-- labels for what leads on from the nodes before a source, for the turn from it, and for its links
+-- before a row
 abbrev pub AreUpToRow : Source → ℕ → List Label → List HeapKey → Type 0
 AreUpToRow source row labels keys =
     AreLabels source.query.table.now source.query.request.now source.nodes.now

@@ -1,4 +1,4 @@
--- Private words of the search: where a walk stands in the legs of a request, and what leads on.
+-- Private words of the search: the state of a walk in the legs of a request, and what leads on.
 use Rattle.std.specs.Prelude.{ℕ, suc, ◌+◌, ◌≤◌, List, [], ◌∷◌, ◌++◌, length}
 use Rattle.cspf_model.specs.declared.link.Link.{Link}
 use Rattle.cspf_model.specs.declared.request.Request.{Request}
@@ -6,7 +6,7 @@ use Rattle.cspf_model.specs.Database.{Database}
 use Rattle.cspf_model.specs.Admissible.{IsAdmissible, MayLeave}
 use Rattle.cspf_graph.specs.Roles.{MayBeLeft, MayEnter, MayTurn}
 
--- where a walk stands: in a leg of the request, at a router
+-- the state of a walk: a leg of the request, and a router
 pub record State : Type 0 where
   pub leg : ℕ
   pub router : ℕ
@@ -16,9 +16,9 @@ pub record LeadsOn (d : Database) (q : Request) (l : Link) : Type 0 where
   pub admissible : IsAdmissible d q l
   pub left : MayBeLeft d q l.from
 
--- What leads on from a walk that stands at a state, to a walk and its state: where the walk may leave
--- its router, an admissible link to a router that it may enter in the leg, and, at a target of the leg
--- to a hop, the turn to the next leg alone.
+-- A step from a walk and its state to another walk and its state. Where the walk may leave its
+-- router, an admissible link to a router that it may enter in the leg is a step. At a target of the
+-- leg to a hop, the turn to the next leg, without a link, is a step.
 pub data IsStep (d : Database) (q : Request) : List Link → State → List Link → State → Type 0 where
   by_link : {walk : List Link} {leg : ℕ} (l : Link) → IsAdmissible d q l → MayEnter d q leg l.to
       → MayLeave d l.from (length walk)
@@ -32,11 +32,11 @@ pub data IsStep (d : Database) (q : Request) : List Link → State → List Link
 abbrev pub start_of : Request → State
 start_of q = record { leg = 1; router = q.from }
 
--- the tail-end, in the leg behind the last hop
+-- the tail-end, in the leg after the last hop
 abbrev pub end_state : Request → State
 end_state q = record { leg = length q.hops + 1; router = q.to }
 
--- a walk that steps lead along from the start, with the state where it stands
+-- a walk that steps lead to from the start, with its state
 pub data Reaches (d : Database) (q : Request) : List Link → State → Type 0 where
   starts : Reaches d q [] (start_of q)
   steps : {v w : List Link} {s t : State} → Reaches d q v s → IsStep d q v s w t → Reaches d q w t

@@ -1,4 +1,4 @@
--- Private words of the search: strict legs that no route comes through.
+-- Private words of the search: strict legs that no route can pass.
 use Rattle.std.specs.Prelude.{◌≡◌, ℕ, ◌+◌, ◌<◌, length, slice_get}
 use Rattle.cspf_model.specs.declared.link.Link.{Link}
 use Rattle.cspf_model.specs.declared.request.Request.{Request}
@@ -9,12 +9,13 @@ use Rattle.cspf_search.specs.States.{LeadsOn}
 use Rattle.cspf_graph.specs.Roles.{MayTurn}
 use Rattle.cspf_graph.specs.Lists.{router_at}
 
--- a route in the leg to a hop, which stands at the router, may turn to the next leg neither there nor behind one link
+-- a route at the router, in the leg to a hop, may turn to the next leg neither there nor after one
+-- link
 pub record IsApart (d : Database) (q : Request) (leg router : ℕ) : Type 0 where
   pub turns : MayTurn d q (leg + 1) router → ⊥
   pub links : (l : Link) → LeadsOn d q l → l.from ≡ router → MayTurn d q (leg + 1) l.to → ⊥
 
--- the leg to a hop is strict, and so it is of each router at which the leg begins
+-- the leg to a hop is strict, and each router at which it begins is such a router
 pub record IsBroken (d : Database) (q : Request) (leg : ℕ) : Type 0 where
   pub hop : leg < length q.hops
   pub strict : IsLoose (slice_get q.hops leg) → ⊥

@@ -10,17 +10,17 @@ use cspf_model::Link;
 use std::alloc::{AllocError, Global};
 use std::cmp::Ordering;
 
-/// A walk that the search has settled where it stands, by its last link and the node of the walk
-/// before that link.
+/// A walk that the search has settled at its state: its last link, and the node of the walk before
+/// that link.
 #[derive(Clone, Copy, Debug)]
 pub(crate) struct Node {
     /// The index of the node whose walk is this one without its last link.
     pub(crate) parent: usize,
     /// The last link. A walk of no links has none.
     pub(crate) by: Option<Link>,
-    /// The leg of the request that the walk stands in, from 1.
+    /// The leg of the request that the walk has reached, from 1.
     pub(crate) leg: usize,
-    /// The router that the walk stands at.
+    /// The router that the walk has reached.
     pub(crate) router: Addr,
     /// The cost of the walk.
     pub(crate) cost: u64,
@@ -53,8 +53,8 @@ pub(crate) fn links_to(alloc: Global, nodes: &[Node], at: usize) -> Result<Vec<L
     Ok(links)
 }
 
-/// How the local addresses of two walks of as many links compare, from the first link on. What they
-/// have in common from there on isn't looked at.
+/// Compares the local addresses of two walks with the same number of links, from the first link on.
+/// A common prefix isn't looked at.
 pub(crate) fn locals(nodes: &[Node], a: &Node, b: &Node) -> Ordering
     requires arena { AreNodes nodes.now }
     requires first { IsNext nodes.now a.now }

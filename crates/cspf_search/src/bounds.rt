@@ -1,4 +1,4 @@
-//! Lower bounds of the cost that is still to come. A search against the links finds them, from
+//! Lower bounds of the cost to go. A search against the direction of the links computes them, from
 //! the last leg back to the first.
 
 ghost use Rattle.std.specs.Prelude.{◌≡◌, ◌≢◌, ◌+◌, ◌*◌, ◌<◌, ◌≤◌, ◌⊎◌, ◌↔◌, ℕ, min, true, false, IsTrue, IfOk, IfSome, OnOk, length, slice_index, slice_index_or, All, Contains};
@@ -22,11 +22,11 @@ use std::cmp::Reverse;
 /// How many routers the backward search settles in the last leg at most.
 const RING: usize = 24;
 
-/// How many it settles in a leg to a hop at most, since more is searched before that ends.
+/// How many routers it settles in a leg to a hop at most. More is searched before such a leg ends.
 const WIDE: usize = 64;
 
-/// Lowers the bound of the router at an index, which the link at another index arrives from, if there
-/// is one, the request admits it, and a walk may leave that router.
+/// Lowers the bound of the router at an index, which the link at another index arrives from. It
+/// does so only if there is such a link, the request admits it, and a walk may leave that router.
 fn pass(
     query: Query<'_>,
     from: u16,
@@ -98,8 +98,8 @@ fn take(query: Query<'_>, leg_index: usize, to: usize, ring: &mut Ring) -> Resul
     Ok(())
 }
 
-/// Settles the routers that wait in a leg, nearest first, up to a count, whose bounds are less than
-/// this.
+/// Settles routers that wait in a leg, nearest first: at most this many, and only those with bounds
+/// less than this.
 fn grow(
     query: Query<'_>,
     leg_index: usize,
@@ -156,19 +156,19 @@ fn is_dead_end(query: Query<'_>, leg_index: usize, ahead: &[u32]) -> bool
     true
 }
 
-/// The farther of two bounds, but for one that says that there is no way.
+/// The greater of two bounds; `top` where the other is `NO_WAY`.
 fn farther(top: u32, bound: u32) -> u32 {
     if bound < NO_WAY { bound.max(top) } else { top }
 }
 
-/// From which bound on it is no use to look further: where more targets wait than routers are taken, from
-/// that of the farthest on.
+/// The bound from which on looking further is of no use. Where more targets wait than routers are
+/// settled, it is the bound of the farthest one.
 fn far_enough(waiting: usize, farthest: u32) -> u32 {
     if waiting > WIDE { farthest } else { NO_WAY }
 }
 
-/// Begins the leg to the hop at an index: nothing is done, and its targets wait from which there is a way,
-/// each with its bound in the next leg. It answers from which bound on it is no use to look further.
+/// Begins the leg to the hop at an index. No router is done. The targets that have a way wait, each
+/// with its bound in the next leg. Returns the bound from which on looking further is of no use.
 fn begin(
     query: Query<'_>,
     leg_index: usize,
@@ -195,8 +195,8 @@ fn begin(
     Ok(far_enough(ring.heap.len(), top))
 }
 
-/// Begins the leg behind the last hop: nothing is done, and the tail-end waits, the router at an
-/// index, with the bound 0.
+/// Begins the leg after the last hop: no router is done, and the tail-end, which is the router at
+/// an index, waits with the bound 0.
 fn begin_last(to: usize, ring: &mut Ring) -> Result<(), AllocError>
     requires { to < MOST_ROUTERS }
     ensures none { OnOk result ((w : ℕ) → is_done ring.new w ≡ false) }
@@ -208,8 +208,8 @@ fn begin_last(to: usize, ring: &mut Ring) -> Result<(), AllocError>
     Ok(())
 }
 
-/// Searches from the targets of a leg, whose bounds behind it are those ahead, which is nothing behind
-/// the last leg. The tail-end is the router at an index.
+/// Searches back from the targets of a leg. `ahead` has their bounds in the next leg, and is empty
+/// in the last leg. The tail-end is the router at an index.
 fn search_back(
     query: Query<'_>,
     to: usize,
@@ -232,8 +232,8 @@ fn search_back(
     grow(query, leg_index, WIDE, top, ring)
 }
 
-/// Finds the bound of each router from a leg on, as far as an edge, where it is known of the next
-/// leg. The tail-end is the router at an index.
+/// Computes the bound of each router from a leg on, up to an edge, by the bounds of the next leg.
+/// The tail-end is the router at an index.
 fn leg_edge(
     query: Query<'_>,
     to: usize,
@@ -251,8 +251,8 @@ fn leg_edge(
     Ok(ring.edge(query.table.routers().len()))
 }
 
-/// Sets the bound of each router in a leg, as far as its edge. The states of the leg begin at an
-/// index, one for each of the routers, which are counted.
+/// Sets the bound of each router in a leg, up to its edge. The states of the leg begin at an index,
+/// one for each of the routers, which are counted.
 fn set_leg(bounds: &mut [u32], first: usize, count: usize, near: &[u32], edge: u32)
     requires within { first + count ≤ length bounds.old }
     requires near { count ≤ length near.now }
@@ -266,7 +266,7 @@ fn set_leg(bounds: &mut [u32], first: usize, count: usize, near: &[u32], edge: u
     }
 }
 
-/// Sets the bounds before an index so that there is no way from there.
+/// Sets the bounds before an index to `NO_WAY`.
 fn shut(bounds: &mut [u32], end: usize)
     requires within { end ≤ length bounds.old }
     ensures before { (i : ℕ) → i < end → bound_at bounds.new i ≡ NO_WAY }
@@ -277,8 +277,8 @@ fn shut(bounds: &mut [u32], end: usize)
     }
 }
 
-/// Sets the bound of each router in each leg, from the last leg back to the first, and ends at a leg
-/// from whose targets there is no way. The tail-end is the router at an index.
+/// Sets the bound of each router in each leg, from the last leg back to the first. It stops at a
+/// leg whose targets have no way. The tail-end is the router at an index.
 fn set_legs(
     query: Query<'_>,
     to: usize,
@@ -306,8 +306,7 @@ fn set_legs(
     Ok(())
 }
 
-/// Sets the bounds of some routers in a leg, whose states begin at an index, so that there is no way from
-/// there.
+/// Sets the bounds of some routers in a leg, whose states begin at an index, to `NO_WAY`.
 fn shut_at(bounds: &mut [u32], first: usize, places: &[u16])
     requires within { All (λ place. first + place < length bounds.old) places.now }
     ensures shut { (p : ℕ) → Contains places.now p → bound_at bounds.new (first + p) ≡ NO_WAY }
@@ -319,8 +318,9 @@ fn shut_at(bounds: &mut [u32], first: usize, places: &[u16])
     }
 }
 
-/// Looks for a strict leg that no route comes through, and sets the bounds so that there is no way to
-/// it. It answers whether there is one. The head-end is the router at an index.
+/// Looks for a strict leg that no route can pass. If there is one, sets the bounds of its start
+/// routers and of all legs before it to `NO_WAY`. Returns whether there is one. The head-end is the
+/// router at an index.
 fn shut_broken(query: Query<'_>, from: usize, bounds: &mut [u32]) -> bool
     requires query { IsQuery query }
     requires from { IsIndexOf query.table.now query.request.now.from from }
@@ -339,8 +339,9 @@ fn shut_broken(query: Query<'_>, from: usize, bounds: &mut [u32]) -> bool
     true
 }
 
-/// For each state a lower bound of the cost from it to the tail-end, which is close to it near the
-/// targets of its leg. The head-end and the tail-end are the routers at these indexes.
+/// For each state a lower bound of the cost from it to the tail-end. The bound is close to the cost
+/// near the targets of the state's leg. The head-end and the tail-end are the routers at these
+/// indexes.
 pub(crate) fn bounds(
     alloc: Global,
     query: Query<'_>,

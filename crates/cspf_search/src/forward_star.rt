@@ -16,9 +16,9 @@ pub(crate) struct ForwardStar<'a> {
     pub(crate) state: usize,
     /// The links from its router.
     pub(crate) links: &'a [Link],
-    /// Beside them where the router that each runs to is in the list of routers.
+    /// For each of them the index of the router that it runs to, in the list of routers.
     pub(crate) ends: &'a [u16],
-    /// Beside them where the reverse of each is among the table's links, or `NO_LINK`.
+    /// For each of them the index of its reverse among the table's links, or `NO_LINK`.
     pub(crate) reverses: &'a [u16],
 }
 

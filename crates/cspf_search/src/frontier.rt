@@ -1,5 +1,4 @@
-//! One step of the search with a heap: what a settled node leads to is offered to the labels
-//! there.
+//! One step of the search with a heap: the states that a settled node leads to are offered labels.
 
 ghost use Rattle.cspf_model.specs.declared.limits.TheConstants.{MOST_LINKS};
 ghost use Rattle.std.specs.Prelude.{◌≡◌, ◌+◌, ◌*◌, ◌%◌, ◌<◌, ◌≤◌, ◌⊎◌, Some, length, slice_get, slice_index_or, OnOk};
@@ -43,8 +42,8 @@ struct Source<'a> {
     rank: u64,
 }
 
-/// Gives the state at an index this label and has it wait with this key, if no label there ties
-/// with it and is before it.
+/// Gives the state at an index this label, and has it wait with this key. Where the label of the
+/// state has the same rank and is not after the new one, nothing changes.
 fn offer(
     table: &Table,
     nodes: &[Node],
@@ -76,7 +75,7 @@ fn offer(
     put(labels, heap, index, label, key)
 }
 
-/// Offers what the turn to the next leg leads to.
+/// Offers a label to the state that the turn to the next leg leads to.
 fn offer_turn(
     source: Source<'_>,
     labels: &mut [Label],
@@ -115,7 +114,7 @@ fn offer_turn(
     offer(query.table, source.nodes, labels, heap, index, label, key)
 }
 
-/// Offers what a link leads to from a node whose walk may leave its router.
+/// Offers a label to the state that a link leads to from a node whose walk may leave its router.
 fn offer_link(
     source: Source<'_>,
     edge: Edge<'_>,

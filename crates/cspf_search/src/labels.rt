@@ -17,16 +17,17 @@ use std::alloc::{AllocError, Global};
 use std::cmp::Reverse;
 use std::collections::BinaryHeap;
 
-/// What leads to a state, of all that the search has seen.
+/// The best way to a state that the search has seen.
 #[derive(Clone, Copy, Debug)]
 pub(crate) struct Label {
     /// The cost and the number of links as one number above 0. A settled state has 0.
     pub(crate) rank: u64,
     /// The index of the node that it leads on from.
     pub(crate) parent: u16,
-    /// Where that node's router is in the list of routers.
+    /// The index of that node's router in the list of routers.
     pub(crate) place: u16,
-    /// Which of the links from there it is. Past them it is the turn to the next leg.
+    /// The index of the link among the links from there. An index past them means the turn to the
+    /// next leg.
     pub(crate) row: u16,
 }
 
@@ -49,7 +50,7 @@ pub(crate) const SETTLED: Label = Label {
 /// The key of a state that waits, which is its rank with its lift, and the index of the state.
 pub(crate) type Waiting = Reverse<(u64, u64)>;
 
-/// The node that a label stands for.
+/// The node that a label describes.
 pub(crate) fn node_of(table: &Table, nodes: &[Node], label: &Label) -> Node
     requires arena { AreNodes nodes.now }
     requires parent { label.now.parent < length nodes.now }
@@ -134,7 +135,7 @@ pub(crate) fn least(
     None
 }
 
-/// Lets go of what waits in a leg that is closed: those are the legs of the states below an index.
+/// Drops the keys of states in closed legs: those are the states below an index.
 pub(crate) fn drop_closed(
     alloc: Global,
     heap: &mut BinaryHeap<Waiting, Global>,

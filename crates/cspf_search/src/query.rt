@@ -2,10 +2,10 @@ use cspf_db::Table;
 use cspf_graph::Role;
 use cspf_model::Request;
 
-/// What a search is asked, in which table, what a route may do at each state, and where the legs end.
+/// A query: the request, the table, what a route may do at each state, and the targets of the legs.
 #[derive(Clone, Copy)]
 pub(crate) struct Query<'a> {
-    /// The table, which stands for its database.
+    /// The table of the database.
     pub(crate) table: &'a Table,
     /// The request.
     pub(crate) request: &'a Request,

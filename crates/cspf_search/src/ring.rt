@@ -1,4 +1,4 @@
-//! The state of the search against the links in one leg, from which the bounds come.
+//! The state of the backward search in one leg. The bounds come from it.
 
 ghost use Rattle.std.specs.Prelude.{◌≡◌, ◌<◌, ◌≤◌, ℕ, false, IfSome, OnOk, length, set};
 ghost use Rattle.cspf_model.specs.declared.limits.TheConstants.{MOST_ROUTERS};
@@ -12,7 +12,7 @@ use std::collections::BinaryHeap;
 /// The bound of a router that waits, and its index in the list of routers.
 type WaitingRouter = Reverse<(u32, u16)>;
 
-/// How far a search against the links is in a leg.
+/// The state of a backward search in a leg.
 #[derive(Drop)]
 pub(crate) struct Ring {
     /// For each router the least bound of it that was found.
@@ -28,7 +28,7 @@ pub(crate) struct Ring {
 impl Ring {
     ghost use Rattle.cspf_search.specs.Bounds.{Falls, bound_at, is_done};
 
-    /// Nothing is done.
+    /// A ring in which no router is done and none waits.
     pub(crate) fn new(alloc: Global) -> Result<Self, AllocError> {
         Ok(Ring {
             near: Vec::from_elem(alloc, 0u32, MOST_ROUTERS)?,
@@ -37,7 +37,7 @@ impl Ring {
         })
     }
 
-    /// Begins anew: nothing is done, and nothing waits.
+    /// Resets the ring: no router is done, and none waits.
     pub(crate) fn clear(&mut self)
         ensures { (w : ℕ) → is_done self.new w ≡ false }
     {
@@ -46,7 +46,7 @@ impl Ring {
         self.heap.clear();
     }
 
-    /// Gives the router at an index this bound, with which it waits where there is a way from it.
+    /// Gives the router at an index this bound. It waits with the bound if there is a way from it.
     pub(crate) fn begin_at(&mut self, at: u16, least: u32) -> Result<(), AllocError>
         requires within { at < MOST_ROUTERS }
         ensures bounds { OnOk result (self.new.near.items ≡ set self.old.near.items at least) }
@@ -90,7 +90,8 @@ impl Ring {
         None
     }
 
-    /// The least bound of a router that isn't done, of the first ones up to a count.
+    /// The least bound of those of the first `count` routers that aren't done; `NO_WAY` where all
+    /// are done.
     pub(crate) fn edge(&self, count: usize) -> u32
         requires { count ≤ MOST_ROUTERS }
         ensures { (w : ℕ) → w < count → is_done self.now w ≡ false

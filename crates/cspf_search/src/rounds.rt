@@ -23,7 +23,7 @@ use cspf_graph::{accepts, may_leave_at};
 use cspf_model::{Link, MOST_ROUTERS, Request};
 use std::cmp::Ordering;
 
-/// How two nodes compare: by the cost of their walks, then by the number of links, then by the leg,
+/// Compares two nodes: by the cost of their walks, then by the number of links, then by the leg,
 /// then by the local addresses from the first link on.
 fn compare(nodes: &[Node], a: &Node, b: &Node) -> Ordering
     requires arena { AreNodes nodes.now }
@@ -42,7 +42,7 @@ fn compare(nodes: &[Node], a: &Node, b: &Node) -> Ordering
     locals(nodes, a, b)
 }
 
-/// Whether the best node comes by its rank before any of this cost and this number of links.
+/// Whether the best node ranks before any node of this cost and this number of links.
 fn is_late(best: &Option<Node>, cost: u64, links: usize) -> bool
     ensures { IsTrue result ↔ IsSomeAnd best.now (λ kept. RanksBefore kept cost links) }
 {
@@ -67,7 +67,7 @@ fn keep(nodes: &[Node], best: &mut Option<Node>, node: Node)
     *best = Some(node);
 }
 
-/// What a round begins with.
+/// The state at the start of a round.
 #[derive(Clone, Copy)]
 pub(crate) struct Round<'a> {
     pub(crate) query: Query<'a>,
@@ -75,7 +75,7 @@ pub(crate) struct Round<'a> {
     pub(crate) nodes: &'a [Node],
     /// The forward star of each.
     pub(crate) stars: &'a [ForwardStar<'a>],
-    /// For each state whether a node stands there.
+    /// For each state whether it has a node.
     pub(crate) marks: &'a [bool],
 }
 
@@ -85,7 +85,7 @@ struct Look<'a> {
     query: Query<'a>,
     /// The settled nodes.
     nodes: &'a [Node],
-    /// For each state whether a node stands there.
+    /// For each state whether it has a node.
     marks: &'a [bool],
     /// The index of this node among them.
     at: usize,
@@ -93,8 +93,9 @@ struct Look<'a> {
     star: ForwardStar<'a>,
 }
 
-/// Keeps what the turn to the next leg leads to from the node, if there is a next leg, nothing is
-/// settled there, the node is at a target of its own leg, and it comes before the best.
+/// Keeps the node that the turn to the next leg leads to from this node, if it comes before the
+/// best. There has to be a next leg, nothing may be settled there, and this node has to be at a
+/// target of its leg.
 fn look_at_turn(look: Look<'_>, best: &mut Option<Node>)
     requires look { IsLook look }
     requires before { IsFirst look.nodes.now (CrossesBefore look.query look.nodes.now look.at) best.old }
@@ -120,9 +121,9 @@ fn look_at_turn(look: Look<'_>, best: &mut Option<Node>)
     keep(nodes, best, node);
 }
 
-/// Keeps what a link leads to from the node, whose walk may leave its router, if the request may use
-/// the link, a route may enter the router where it ends, and it comes before the best. Nothing is
-/// settled there.
+/// Keeps the node that a link leads to from this node, if it comes before the best. The request has
+/// to be able to use the link, and a route to enter the router where it ends. The walk may leave
+/// its router, and nothing is settled where the link ends.
 fn look_at_link(look: Look<'_>, edge: Edge<'_>, best: &mut Option<Node>)
     requires look { IsLook look }
     requires leaves { NodeMayLeave look.query.table.now look.nodes.now look.at look.star.state }
@@ -159,8 +160,9 @@ fn look_at_link(look: Look<'_>, edge: Edge<'_>, best: &mut Option<Node>)
     keep(nodes, best, node);
 }
 
-/// Keeps what the link in a row leads to from the node, whose walk may leave its router, if nothing is
-/// settled there, the request may use the link, a route may enter there, and it comes before the best.
+/// Keeps the node that the link in a row leads to from this node, if it comes before the best.
+/// Nothing may be settled there, the request has to be able to use the link, and a route to enter
+/// there. The walk may leave its router.
 fn look_at_row(look: Look<'_>, row: usize, best: &mut Option<Node>)
     requires look { IsLook look }
     requires leaves { NodeMayLeave look.query.table.now look.nodes.now look.at look.star.state }
@@ -187,8 +189,8 @@ fn look_at_row(look: Look<'_>, row: usize, best: &mut Option<Node>)
     look_at_link(look, edge, best);
 }
 
-/// Keeps the first node that the turn leads to from the node, or a link if its walk may leave its
-/// router, if it comes before the best.
+/// Keeps the first node that the turn leads to from this node, or a link if the walk may leave its
+/// router. It is kept if it comes before the best.
 fn look_from(look: Look<'_>, best: &mut Option<Node>)
     requires look { IsLook look }
     requires before { IsFirst look.nodes.now (CrossesBefore look.query look.nodes.now look.at) best.old }

@@ -1,5 +1,5 @@
-//! Both searches, `best` with a heap and `best_by_rounds` without one, and the outcome of what
-//! they settled.
+//! Both searches, `best` with a heap and `best_by_rounds` without one, and the outcome by the nodes
+//! that they settled.
 
 ghost use Rattle.cspf_search.specs.Bounds.{bound_at};
 ghost use Rattle.cspf_model.specs.declared.limits.TheConstants.{MOST_ROUTE_LINKS};
@@ -115,7 +115,7 @@ fn is_shut(goal: Goal<'_>, at: usize) -> bool
     goal.bounds[at] == NO_WAY
 }
 
-/// The floor once the state at an index is settled, below which nothing waits any more.
+/// The floor once the state at an index is settled. Keys below it are dropped.
 fn close(
     alloc: Global,
     query: Query<'_>,
@@ -140,8 +140,8 @@ fn close(
     Ok(next)
 }
 
-/// The same from a heap. Where the bounds say that there is no way from the head-end, that is all. The
-/// head-end and the tail-end are told by their index in the list of routers.
+/// As `settled`, from a heap. Where the bounds say that there is no way from the head-end, only
+/// that is settled. The head-end and the tail-end are given by their index in the list of routers.
 fn reached(alloc: Global, query: Query<'_>, from: usize, to: usize) -> Result<Vec<Node>, AllocError>
     requires query { IsQuery query }
     requires from { IsIndexOf query.table.now query.request.now.from from }
@@ -190,10 +190,11 @@ fn answer(alloc: Global, query: Query<'_>, nodes: &[Node]) -> Result<Outcome, Al
     Ok(Outcome::Route(route_to(alloc, nodes, at)?))
 }
 
-/// The best answer to a request in the table's database (RFC 2702 7): that its head-end or its
-/// tail-end is unknown, the route that is before all others, or that no walk of admissible links
-/// which passes through no router without transit (RFC 6987) can be cut into legs by the hops of the
-/// request (RFC 3209 4.3.3). The search settles routers in legs from a heap.
+/// The best answer to a request in the table's database (RFC 2702 7): its head-end or its tail-end
+/// is unknown, or the route that is before all others, or there is no route. There is none if no
+/// walk of admissible links that passes through no router without transit (RFC 6987) can be cut
+/// into legs by the hops of the request (RFC 3209 4.3.3). The search settles routers in legs from a
+/// heap.
 pub fn best(alloc: Global, table: &Table, request: &Request) -> Result<Outcome, AllocError>
     ensures { IfOk result (λ outcome.
         IsBestAnswer table.now request.now (answer_of outcome)) }
@@ -217,8 +218,8 @@ pub fn best(alloc: Global, table: &Table, request: &Request) -> Result<Outcome, 
     answer(alloc, query, &nodes)
 }
 
-/// The same answer as `best` gives, by a slower and plainer search: round by round it settles the
-/// first of all routers in legs that a settled one leads to.
+/// The answer of `best`, by a slower and simpler search. Each round settles the first of all
+/// routers in legs that a settled one leads to.
 pub fn best_by_rounds(
     alloc: Global,
     table: &Table,

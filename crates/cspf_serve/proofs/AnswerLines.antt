@@ -59,7 +59,7 @@ pub replies_after : (batches : List NumberedChanges) (requests : List Request) (
     → AreAnswerLines list lines → AreReplies (database_after batches) (length batches) requests lines
 replies_after batches requests list lines is written = lines_after batches requests list lines is.count is.each written
 
--- each at a version of its own
+-- each answer at any version
 pub replies_within : (published : List NumberedChanges) (qs : List Request) (answers : List Answer) (lines : List ℕ) → length answers ≡ length qs
     → AreAnswersWithin published qs answers → AreAnswerLines answers lines → AreRepliesWithin published qs lines
 replies_within published [] [] lines count each is = is

@@ -1,4 +1,4 @@
--- What is written of an audit, or of streams that aren't audited, is its run.
+-- The output for an audit, or for streams that aren't audited, is that of an audit run.
 use Rattle.std.proofs.Common.{◌≡◌, ℕ, Option, List, Result, Ok, Err, IfOk, OnOk, IfSome, inl, inr, refl}
 use Rattle.std.specs.Io.KnownBytes.{Appends}
 use Rattle.cspf_rows.specs.Records.{rows_of}

@@ -71,7 +71,7 @@ numbers_of accept_torn records bs is = elim is.journal [
   | inr torn ↦ torn.0.begins.numbers
 ]
 
--- what is said of a run over a journal and requests
+-- what holds of a run over a journal and requests
 abbrev pub IsWrittenRun : Bool → Option (List ℕ) → Option (List ℕ) → ℕ → Option (List ℕ) → Option (List ℕ) → Type 0
 IsWrittenRun accept_torn kept asked status old new =
     IfSome kept (λ journal. IfSome asked (λ requests. Writes old new (λ lines. IsBatchRun accept_torn (rows_of journal) (rows_of requests) lines status)))
@@ -84,12 +84,12 @@ rows_asked records qs index is within =
     let same = ap length is.asked in
     omega (arith, within, rows, asks, same)
 
--- what is said of a run that is refused, but for the last line
+-- what holds of a run that is refused, except of the last line
 abbrev pub IsRefusedRun : Bool → Option (List ℕ) → Option (List ℕ) → List ℕ → Option (List ℕ) → Option (List ℕ) → Type 0
 IsRefusedRun accept_torn kept asked line old new =
     IfSome kept (λ journal. IfSome asked (λ requests. WritesAllBut line old new (λ lines. IsBatchRun accept_torn (rows_of journal) (rows_of requests) lines 2)))
 
--- what is said of a journal that was read
+-- what holds of a journal that was read
 abbrev pub IsPublished : Bool → Option (List ℕ) → List NumberedChanges → Option Line → Type 0
 IsPublished accept_torn kept published unfit =
     IfSome kept (λ bytes. (batches : List NumberedChanges) × AreBatchesOf accept_torn (rows_of bytes) batches × ArePublishedOrRefused batches published unfit)
@@ -152,7 +152,7 @@ module _ (accept_torn : Bool) (kept asked : Option (List ℕ)) (published : List
   batch_failed (Err (early_end.Refused line)) failed = tt
   batch_failed (Err (early_end.Failed error)) failed = run_ended error failed
 
--- what ends a run is refused by its last line
+-- a run that ends early by a refusal is refused by its last line
 pub run_refused : (accept_torn : Bool) (kept asked : Option (List ℕ)) (s : EarlyEnd) (r : Result ℕ RunError) (old mid new : Option (List ℕ))
     → IfRefused s (λ line. IsRefusedRun accept_torn kept asked line old mid) → IfOk r (λ status. status ≡ 2) → IfOk r (λ status. IsRefusalWritten s mid new)
     → IfOk r (λ status. IsWrittenRun accept_torn kept asked status old new)
@@ -173,7 +173,7 @@ run_failed accept_torn kept asked s (Ok status) failed last = tt
 run_failed accept_torn kept asked (early_end.Refused line) (Err e) failed last = inl last
 run_failed accept_torn kept asked (early_end.Failed error) (Err e) failed last = rw last failed
 
--- what is written is the lines of a script
+-- the output is the lines of a script
 pub script_written : AreLinesOfAScript → (accept_torn : Bool) (kept asked old new : Option (List ℕ)) → IsWrittenRun accept_torn kept asked 0 old new
     → IfSome kept (λ journal. IfSome asked (λ requests. IsCleanJournal (rows_of journal) → length (rows_of journal ++ rows_of requests) ≤ 1000000
     → (lines : List ℕ) × (counts : Summary) × IsSolveRun (rows_of journal ++ rows_of requests) lines counts × Appends old new lines))

@@ -1,4 +1,4 @@
--- What is refused isn't accepted.
+-- A batch that is refused isn't accepted.
 use Rattle.std.proofs.Common.{◌≢◌, ℕ, ◌+◌, ◌≤◌, length, arith}
 use Rattle.cspf_model.specs.Changes.{Fits}
 use Rattle.cspf_serve.specs.Script.{RunState, IsAccepted, current_version, current_database, open_batch}

@@ -13,19 +13,19 @@ take-nil : {A : Type 0} (n : ℕ) → take {A = A} n [] ≡ []
 take-nil zero = refl
 take-nil (suc n) = refl
 
--- a front that is shorter than it may be is the whole
+-- a prefix that is shorter than it may be is the whole list
 take_short : {A : Type 0} (n : ℕ) (xs : List A) → length (take n xs) < n → take n xs ≡ xs
 take_short zero xs short = absurd (omega arith)
 take_short (suc n) [] short = refl
 take_short (suc n) (x ∷ xs) short = ap (λ ys. x ∷ ys) (take_short n xs (omega arith))
 
--- one more behind a front that isn't full
+-- one more change at the end of a prefix that isn't full
 take-append-short : {A : Type 0} (n : ℕ) (xs : List A) (x : A) → length (take n xs) < n → take n xs ++ x ∷ [] ≡ take n (xs ++ x ∷ [])
 take-append-short zero xs x short = absurd (omega arith)
 take-append-short (suc n) [] x short = ap (λ ys. x ∷ ys) (sym (take-nil n))
 take-append-short (suc n) (y ∷ xs) x short = ap (λ ys. y ∷ ys) (take-append-short n xs x (omega arith))
 
--- one more behind a front that is full
+-- one more change after a prefix that is full
 take-append-full : {A : Type 0} (n : ℕ) (xs ys : List A) → n ≤ length (take n xs) → take n xs ≡ take n (xs ++ ys)
 take-append-full zero xs ys full = refl
 take-append-full (suc n) [] ys full = absurd (omega arith)
@@ -43,12 +43,12 @@ kept_full kept all c front full = front ∙ take-append-full 4097 all (c ∷ [])
 abbrev batch_of : ℕ → List Change → NumberedChanges
 batch_of number changes = record { number = number; changes = changes }
 
--- what fits of the changes that are kept fits of all
+-- where the changes that are kept fit, so do all
 pub fits_whole : (d : Database) (number : ℕ) (kept all : List Change) → kept ≡ take 4097 all
     → Fits d (record { number = number; changes = kept }) → Fits d (record { number = number; changes = all })
 fits_whole d number kept all front fits = subst (λ cs. Fits d (batch_of number cs)) (kept_all kept all front fits.short) fits
 
--- a front is no longer than the whole
+-- a prefix is no longer than the whole list
 length-take-most : {A : Type 0} (n : ℕ) (xs : List A) → length (take n xs) ≤ length xs
 length-take-most zero xs = omega arith
 length-take-most (suc n) [] = omega arith

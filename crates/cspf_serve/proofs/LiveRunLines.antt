@@ -1,4 +1,4 @@
--- The lines of a live run, and what its journal holds.
+-- The lines of a live run, and the text of its journal.
 use Rattle.std.proofs.Common.{◌≡◌, ℕ, ◌+◌, ◌<◌, ◌≤◌, false, Option, Some, None, IfSome, Result, Ok, Err, IfOk, IfErr, List, [], ◌++◌, take, get_or, length, slice_get, inl, inr, refl, sym, ap, ◌∙◌, subst, append_assoc, arith, true}
 use Rattle.std.proofs.KnownBytes.{Appends-nil, Appends-trans}
 use Rattle.std.proofs.lemmas.List.{length-map, length-take-le}
@@ -83,7 +83,8 @@ still_going {J} contents before between batches fresh is = elim (cases_lt 0 (len
   | inr none ↦ ap (λ (p : PublisherState J). p.stopped) (is.none (omega arith)) ∙ fresh
 ]
 
--- what is left to be said of a live run: the last line, the status, and what the journal holds behind the published batches
+-- what remains to be shown of a live run: the last line, the status, and the text in the journal
+-- after the published batches
 ended : {J : Type 0} (contents : J → Option (List ℕ)) (batches : List NumberedChanges) (between after : PublisherState J) (applied : ℕ) (fault : Option ApplyError)
     (last : List ℕ) (status : ℕ) → AreNumberedFrom 1 batches → length batches ≤ 1000000 → applied ≤ length batches
     → between.stopped ≡ false → between.batches ≡ take applied batches → IsEndOfApplying contents between after batches applied fault
@@ -103,7 +104,7 @@ ended contents batches between after applied (Some e) last status numbered few i
     let line : IsFaultShown (Some next) (Some e) last status = subst (λ (b : Option NumberedChanges). IsFaultShown b (Some e) last status) at shown in
     (begun_text next e, inr (next, e, at, why.0, line.0, refl, line.1), why.1)
 
--- all that is said of a live run
+-- all that holds of a live run
 pub live_answered : {J : Type 0} (contents : J → Option (List ℕ)) (batches : List NumberedChanges) (requests : List Request) (answers : List Answer)
     (before after : PublisherState J) (applied version : ℕ) (fault : Option ApplyError) (status : ℕ) (old new : Option (List ℕ))
     → AreNumberedFrom 1 batches → length batches ≤ 1000000 → before.batches ≡ [] → before.stopped ≡ false
@@ -141,7 +142,7 @@ live_answered {J} contents batches requests answers before after applied version
 
 -- ---- after an error
 
--- what is left to be said of the journal where nothing is said of lines
+-- what remains to be shown of the journal where the lines are unspecified
 recorded_end : {J : Type 0} (contents : J → Option (List ℕ)) (batches : List NumberedChanges) (between after : PublisherState J) (applied : ℕ) (fault : Option ApplyError)
     → AreNumberedFrom 1 batches → length batches ≤ 1000000 → applied ≤ length batches
     → between.stopped ≡ false → between.batches ≡ take applied batches → IsEndOfApplying contents between after batches applied fault
@@ -156,7 +157,7 @@ recorded_end contents batches between after applied (Some e) numbered few inside
     let is_end = ended contents batches between after applied (Some e) line 2 numbered few inside going is end shown in
     (line, 2, is_end.0, is_end.1, is_end.2)
 
--- what the journal holds more
+-- the text that is added to the journal
 abbrev pub IsHeldAtError : List NumberedChanges → Option (List ℕ) → Option (List ℕ) → Type 0
 IsHeldAtError batches old new = (text : List ℕ) × AreRecordedAtError batches text × Appends old new text
 
@@ -182,12 +183,12 @@ held_in_part contents batches before after numbered few fresh going (inl same) =
 held_in_part contents batches before after numbered few fresh going (inr part) =
     held_applied contents batches before after part.0 part.1 numbered few fresh going part.2
 
--- what holds anyway holds after an error
+-- what always holds also holds after an error
 pub at_error : {X : Type 0} (r : Result ℕ RunError) → X → IfErr r (λ e. X)
 at_error (Ok status) x = tt
 at_error (Err e) x = x
 
--- what the journal of a run over updates holds more after an error
+-- the text that is added to the journal of a run over updates after an error
 abbrev pub IsHeldLive : Option (List ℕ) → Option (List ℕ) → Option (List ℕ) → Type 0
 IsHeldLive updates old new = IfSome updates (λ kept. (text : List ℕ) × IsRecordedAtError (rows_of kept) text × Appends old new text)
 
@@ -212,7 +213,7 @@ live_held (Some kept) bs (Err e) old new batches held =
 
 -- ---- the whole run
 
--- what is said of a live run over two streams
+-- what holds of a live run over two streams
 abbrev pub IsWrittenLive : Option (List ℕ) → Option (List ℕ) → ℕ → Option (List ℕ) → Option (List ℕ) → Option (List ℕ) → Option (List ℕ) → Type 0
 IsWrittenLive updates requests status old new begun held =
     IfSome updates (λ kept. IfSome requests (λ asked. (lines : List ℕ) × (text : List ℕ) × IsLiveRun (rows_of kept) (rows_of asked) lines text status

@@ -1,4 +1,4 @@
--- What is written where a run stops is a prefix of what the whole run writes.
+-- The output of a run that stops is a prefix of the output of the whole run.
 use Rattle.std.proofs.Common.{◌≡◌, ℕ, zero, suc, ◌+◌, ◌-◌, ◌<◌, ◌≤◌, nat_lt, Bool, true, false, List, [], ◌∷◌, ◌++◌, take, drop, length, length-append, inl, inr, refl, sym, ap, ◌∙◌, subst, append_assoc, append-nil, take-append-drop, arith}
 use Rattle.std.proofs.Math.Seq.{take-append-add}
 use Rattle.std.proofs.lemmas.Bool.{lt-ltb, le-ltb}
@@ -18,7 +18,7 @@ Rows = List (List (List ℕ))
 abbrev IsFront : List ℕ → List ℕ → Type 0
 IsFront out lines = (more : List ℕ) × (lines ≡ out ++ more)
 
--- the rows that are read behind some first ones
+-- the rows that are read after a prefix
 abbrev next_rows : Rows → Rows → Rows
 next_rows done rest = take (1000000 - length done) rest
 
@@ -27,7 +27,7 @@ take_done rows done rest split few =
     let count : 1000000 ≡ length done + (1000000 - length done) = omega (arith, few) in
     rw split (ap (λ n. take n (done ++ rest)) count ∙ take-append-add done rest (1000000 - length done))
 
--- the whole run begins with the lines of some first rows
+-- the whole run begins with the lines of a prefix of the rows
 pub record IsContinued (done rest : List (List (List ℕ))) (lines whole : List ℕ) (after : RunState) : Type 0 where
   pub second : List ℕ
   pub last : RunState

@@ -11,7 +11,7 @@ pairs_push R [] (b ∷ ys) x y all one = absurd all
 pairs_push R (a ∷ xs) [] x y all one = absurd all
 pairs_push R (a ∷ xs) (b ∷ ys) x y all one = (all.0, pairs_push R xs ys x y all.1 one)
 
--- one relation behind another
+-- one relation composed with another
 pub pairs_through : {A B C : Type 0} (R : A → B → Type 0) (S : B → C → Type 0) (xs : List A) (ys : List B) (zs : List C) → AllZip R xs ys → AllZip S ys zs
     → AllZip (λ x z. (y : B) × R x y × S y z) xs zs
 pairs_through R S [] [] [] r s = tt
@@ -27,7 +27,7 @@ pairs_weaker R S weaker [] (y ∷ ys) all = absurd all
 pairs_weaker R S weaker (x ∷ xs) [] all = absurd all
 pairs_weaker R S weaker (x ∷ xs) (y ∷ ys) all = (weaker x y all.0, pairs_weaker R S weaker xs ys all.1)
 
--- what holds of each second one by its first one
+-- a fact of each second element, by its first element
 pub pairs_second : {A B : Type 0} (R : A → B → Type 0) (P : B → Type 0) → ((x : A) (y : B) → R x y → P y) → (xs : List A) (ys : List B) → AllZip R xs ys → All P ys
 pairs_second R P holds [] [] all = All-nil P
 pairs_second R P holds [] (y ∷ ys) all = absurd all
@@ -58,7 +58,7 @@ last_of P all front x split each = (All-pop P all front (Some x) split each).1
 pub front_of : {X : Type 0} (P : X → Type 0) (all front : List X) (x : X) → all ≡ front ++ x ∷ [] → All P all → All P front
 front_of P all front x split each = (All-pop P all front (Some x) split each).0
 
--- one more element was taken from the front of what is left
+-- one more element was taken from the start of those that are left
 pub left_step : {X : Type 0} (before : List X) (x : X) (left after all : List X) → before ++ left ≡ all → left ≡ x ∷ after → (before ++ x ∷ []) ++ after ≡ all
 left_step before x left after all whole next = append_assoc before (x ∷ []) after ∙ ap (λ l. before ++ l) (sym next) ∙ whole
 
@@ -78,6 +78,6 @@ pub left_none : {X : Type 0} (before left all : List X) → before ++ left ≡ a
 left_none before [] all whole none = sym (append-nil before) ∙ whole
 left_none before (x ∷ left) all whole none = absurd (omega (arith, none))
 
--- what a slice of a whole list leaves there
+-- the list after a slice of all of it was written back
 pub written_back : {X : Type 0} (new rest : List X) (n : ℕ) → n ≡ length new → take n (new ++ rest) ≡ new
 written_back new rest n long = ap (λ m. take m (new ++ rest)) long ∙ take-append_seam new rest

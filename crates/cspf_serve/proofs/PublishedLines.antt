@@ -77,7 +77,7 @@ unfit_here contents p after given b e line numbered room published same is shown
       is_line = unfit.2;
     }
 
--- one more batch behind the one that doesn't fit
+-- one more batch after the one that doesn't fit
 pub unfit_more : (given published : List NumberedChanges) (b : NumberedChanges) (line : List ℕ) → IsUnfitBehind given published line
     → IsUnfitBehind (given ++ (b ∷ [])) published line
 unfit_more given published b line is = record {
@@ -103,7 +103,7 @@ module _ (accept_torn : Bool) (given published : List NumberedChanges) (unfit : 
   journal_read None left torn journal = tt
   journal_read (Some rows) left torn journal = (given, accepted rows left torn journal.0 journal.1, is)
 
--- rows are left behind the batches
+-- rows are left after the batches
 pub journal_torn : (accept_torn : Bool) (given : List NumberedChanges) (count : ℕ) (all : Option (List (List (List ℕ)))) (left : Rest) (line : List ℕ)
     → length given ≡ count → IfSome all (λ rows. IsJournal rows given left × (length rows ≤ 1000000))
     → (left ≡ rest.Torn) × (accept_torn ≡ false) × (line ≡ torn_line count) → IfSome all (λ rows. IsJournalRefused accept_torn rows line)
@@ -126,7 +126,7 @@ of_bytes None Holds is = tt
 of_bytes (Some text) Holds is = is
 
 module _ {R : Type 0} (accept_torn : Bool) (rem : R → Option (List ℕ)) (reader : JournalReader R) (bytes : Option (List ℕ)) where
-  -- what was read of all records, where the bytes are known
+  -- the records that were read, where the bytes are known
   pub read_of_bytes : (published : List NumberedChanges) (r : Result (Option Line) EarlyEnd) → HasGiven rem (option_map rows_of bytes) reader []
       → IfOk r (λ unfit. (all : Option (List (List (List ℕ)))) → HasGiven rem all reader []
       → IfSome all (λ rows. (batches : List NumberedChanges) × AreBatchesOf accept_torn rows batches × ArePublishedOrRefused batches published unfit))

@@ -53,7 +53,7 @@ within_rows s t (fields ∷ rows) lines a =
       refused = omega (arith, first.refused, rest.refused);
     }
 
--- what is kept after at most 1,000,000 rows
+-- the counts after at most 1,000,000 rows
 pub few_kept : (solver : Solver) (s : RunState) (rows : List (List (List ℕ))) (lines : List ℕ)
     → AreRowsAnswered start rows lines s → length rows ≤ 1000000 → KeepsRun solver s → AreFew solver
 few_kept solver s rows lines answered few kept =

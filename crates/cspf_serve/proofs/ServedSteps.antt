@@ -1,4 +1,4 @@
--- Clients of a run, from their seats to what is left of them.
+-- Clients of a run, from their seats to their results.
 use Rattle.std.proofs.Common.{◌≡◌, ◌<◌, ◌⊎◌, ℕ, false, Option, List, [], ◌∷◌, All, length, Result, Ok, Err, inl, inr, refl, sym, ap, subst, ◌∙◌, arith}
 use Rattle.std.proofs.lemmas.Bool.{cases_lt}
 use Rattle.std.specs.List.{AllZip}
@@ -40,7 +40,7 @@ module _ {Q V : Type 0} (bytes : Q → Option (List ℕ)) (contents : V → Opti
       (λ c s is. sym is.2.known.source ∙ is.1.source_is) clients ran
       (pairs_through (IsSeated bytes source) (IsRunOn bytes contents) clients begun ran seated on)
 
-  -- what is left of all clients
+  -- the results of all clients
   pub served_of : (published : List NumberedChanges) (clients : List (Client Q V)) (begun ran : List (ServingState Q V)) (served : List (ServedClient V))
       → AllZip (IsSeated bytes source) clients begun → AllZip (IsRunOn bytes contents) begun ran → AllZip (IsServedEnd published) ran served
       → AllZip (IsServedClient bytes contents published) clients served
@@ -60,7 +60,7 @@ module _ {Q V : Type 0} (bytes : Q → Option (List ℕ)) (contents : V → Opti
       (pairs_through IsSeatedAndRun (IsServedEnd published) clients ran served
       (pairs_through (IsSeated bytes source) (IsRunOn bytes contents) clients begun ran seated on) closed)
 
--- what the updates are answered once all their rows are, by how their last line is said
+-- the lines of the updates once all their rows are answered, by the result of their last line
 pub updates_run : (said : Result (Unit {0}) StreamError) (all : Option Rows) (t : UpdatesState) (old mid new : Option (List ℕ))
     → AreAllAnswered IsUpdateAnsweredAt all no_updates t old mid → IsLastLineSaid said (end_line t.run.changes) mid new → IsUpdatesRun said all t old new
 updates_run (Ok done) all t old mid new answered last = record { mid = mid; answered = answered; last = last }
@@ -94,7 +94,7 @@ module _ {J V : Type 0} (contents : J → Option (List ℕ)) (first : PublisherS
   pub status_of_clients : ¬ All (λ (c : ServedClient V). c.refused ≡ 0) clients → IsServedStatus t clients 2
   status_of_clients not = inr ((λ all. not all.each), refl)
 
--- a client that has met what was told, and is closed
+-- a client that has learnt the told batches, and is closed
 pub closed_of : {Q V : Type 0} (published : List NumberedChanges) (told : KnownBatches) (old met : ServingState Q V) (served : ServedClient V)
     → told.batches ≡ published
     → met ≡ record old { state = record old.state { known = met.state.known }; end = met.end }
@@ -114,7 +114,7 @@ closed_of {Q} {V} published told old met served batches others known (inr is) le
   end = inr (ap (λ (x : ServedClient V). x.end) left ∙ is.1);
 }
 
--- what is kept before the first row
+-- the state that is kept before the first row
 pub begins : {J : Type 0} (contents : J → Option (List ℕ)) (p : PublisherState J) (k : KeptUpdates J) → k.publisher ≡ p → p.batches ≡ [] → p.stopped ≡ false
     → AreOpen k.changes [] → IsFresh k → KeepsUpdates contents p k no_updates
 begins contents p k same none going open_none fresh = record {

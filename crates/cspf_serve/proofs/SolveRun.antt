@@ -1,4 +1,4 @@
--- A run over rows, as far as it has come.
+-- A run over rows, some of which were answered.
 use Rattle.std.proofs.Common.{◌≡◌, ◌≢◌, ℕ, ◌+◌, ◌<◌, ◌≤◌, Bool, true, false, List, [], ◌∷◌, ◌++◌, take, length, length-append, Option, Some, None, IfSome, option_map, Result, Ok, Err, IfOk, IfErr, inl, inr, refl, sym, ap, subst, ◌∙◌, append_assoc, append-nil, arith}
 use Rattle.std.proofs.KnownBytes.{Appends-nil, Appends-trans, Appends-kept, Keeps-refl}
 use Rattle.std.proofs.lemmas.Bool.{lt-ltb, le-ltb}
@@ -22,7 +22,7 @@ use Rattle.cspf_serve.proofs.RowCounts.{few_kept}
 abbrev Rows : Type 0
 Rows = List (List (List ℕ))
 
--- the rows that were read, and those that are left, are all
+-- all rows are those that were read, followed by those that are left
 abbrev pub IsCutInto : Option (List (List (List ℕ))) → List (List (List ℕ)) → Option (List (List (List ℕ))) → Type 0
 IsCutInto None done left = Unit {0}
 IsCutInto (Some all) done None = ⊥
@@ -169,7 +169,7 @@ ends (Some all) (Some rows) next old mid new solver read written too_many fields
 
 -- ---- where the run stops
 
--- what is written of all rows where the run stops
+-- the output where the run stops
 abbrev pub IsHalted : Option (List (List (List ℕ))) → Option (List ℕ) → Option (List ℕ) → SolveError → Type 0
 IsHalted all old new error = IfSome all (λ rows. (out : List ℕ) × IsOutputAtError error rows out × Appends old new out)
 
@@ -269,7 +269,7 @@ stops_at_end (Some all) (Some rows) next old mid new solver read written too_man
     cut_off all going.done rows old mid new going.state going.out (last_line too_many going.state.changes) c.0 written n going.split
     (omega (arith, going.count, most)) going.answered (end_next going.done rows going.state next too_many fields read going.count full takes) c.1 going.text c.2 going.size c.3
 
--- ---- what the last line comes to
+-- ---- the last line
 
 pub run_ends : (all left next : Option (List (List (List ℕ)))) (old mid new : Option (List ℕ)) (solver : Solver) (read written : ℕ) (too_many : Bool) (fields : List (List ℕ)) (r : Result Summary SolveError)
     → IsGoing all left old mid solver read written → read ≤ 1000000 → (too_many ≡ true → read ≡ 1000000) → Takes left next too_many fields
@@ -311,7 +311,7 @@ halted_at_start (Some text) old = (
   Appends-nil old,
 )
 
--- what is said of the rows that a stream is read as, where its bytes are known
+-- what holds of the rows of a stream, where its bytes are known
 
 pub ok_of_rows : {T E A B : Type 0} (r : Result T E) (o : Option A) (p : Option B) (f : A → B) (Q : T → B → Type 0) → p ≡ option_map f o
     → IfOk r (λ x. IfSome p (Q x)) → IfOk r (λ x. IfSome o (λ a. Q x (f a)))

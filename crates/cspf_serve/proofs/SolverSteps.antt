@@ -1,4 +1,4 @@
--- What stands after the answer to a row.
+-- The state after the answer to a row.
 use Rattle.std.proofs.Common.{◌≡◌, ℕ, ◌+◌, [], ◌∷◌, ◌++◌, length, length-append, sym, ap, ◌∙◌, arith}
 use Rattle.cspf_model.specs.Changes.{after_changes}
 use Rattle.cspf_model.specs.Laws.{OneMoreBatch}
@@ -43,7 +43,7 @@ keeps_replied old s kept =
 pub all_kept : (old : Solver) (s : RunState) (number count : ℕ) → KeepsRun old s → IsAccepted s number count → old.batch.changes ≡ s.changes
 all_kept old s number count kept accepted = kept.changes ∙ take_all 4097 s.changes (omega (arith, accepted.fits.short))
 
--- what is kept after a batch is what its acceptance leads to
+-- the state that is kept after a batch is the one after its acceptance
 pub keeps_batch : OneMoreBatch → (old new : Solver) (s : RunState) (number count : ℕ) → KeepsRun old s → IsAccepted s number count
     → new.table ≡ after_changes old.table old.batch.changes → new.version ≡ number → new.batch.changes ≡ [] → new.count ≡ 0
     → new.rows ≡ old.rows → new.answers ≡ old.answers → new.refused ≡ old.refused → KeepsRun new (after_batch s number)

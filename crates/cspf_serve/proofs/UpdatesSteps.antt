@@ -1,4 +1,4 @@
--- What stands after the rows of a stream of updates.
+-- The state after the rows of a stream of updates.
 use Rattle.std.proofs.Common.{◌≡◌, ◌≢◌, ℕ, ◌+◌, ◌<◌, ◌≤◌, false, true, Option, List, [], ◌∷◌, ◌++◌, take, length, Vec, Result, Ok, Err, IfOk, OnOk, OnErr, inl, inr, refl, sym, ap, subst, ◌∙◌, arith}
 use Rattle.std.specs.Global.{Global}
 use Rattle.std.specs.declared.alloc.AllocError.{AllocError}
@@ -33,7 +33,7 @@ use Rattle.cspf_serve.specs.UpdatesStates.{KeptUpdates, ArePublished, KeepsUpdat
 use Rattle.cspf_serve.proofs.BatchRefusals.{not_exhausted, not_numbered, not_counted, not_fitting}
 use Rattle.cspf_serve.proofs.KeptChanges.{kept_all, fits_whole, refusal_whole}
 
--- one row more changes nothing that is kept
+-- one more row changes nothing that is kept
 pub next_keeps : {J : Type 0} (contents : J → Option (List ℕ)) (first : PublisherState J) (k : KeptUpdates J) (s : UpdatesState)
     → KeepsUpdates contents first k s → KeepsUpdates contents first k (at_next_update s)
 next_keeps contents first k s kept = record {
@@ -47,7 +47,7 @@ module _ {J : Type 0} (contents : J → Option (List ℕ)) (first : PublisherSta
   abbrev kept_batch : NumberedChanges
   kept_batch = record { number = number; changes = k.changes.batch.changes }
 
-  -- what an end row is answered that publishes nothing
+  -- the line of an end row that publishes nothing
   abbrev pub IsEnded : PublisherState J → List ℕ → Type 0
   IsEnded p line =
       (t : UpdatesState) × ArePublished contents first p t × IsEndUpdate s.stopped s number count line t × (t.run ≡ after_refused_batch s.run)
@@ -158,7 +158,7 @@ module _ {J : Type 0} (contents : J → Option (List ℕ)) (first : PublisherSta
         refl,
       )
 
-  -- what is kept once the open changes are dropped: of a batch that is published
+  -- the state that is kept once the open changes are dropped, after a batch that is published
   pub kept_published : (p : PublisherState J) (changes : OpenChanges) (line : List ℕ) → AreOpen changes [] → line ≡ version_line number
       → ArePublished contents first p (after_published s number) × IsAccepted s.run number count × (s.stopped ≡ false)
       → (t : UpdatesState) × KeepsUpdates contents first (record { publisher = p; changes = changes; refused = k.refused }) t × IsEndUpdate s.stopped s number count line t
@@ -173,7 +173,7 @@ module _ {J : Type 0} (contents : J → Option (List ℕ)) (first : PublisherSta
     })),
   )
 
-  -- and of one that isn't
+  -- and after one that isn't
   pub kept_unpublished : (p : PublisherState J) (changes : OpenChanges) (line : List ℕ) → AreOpen changes [] → IsEnded p line
       → (t : UpdatesState) × KeepsUpdates contents first (record { publisher = p; changes = changes; refused = k.refused + 1 }) t × IsEndUpdate s.stopped s number count line t
       × (t.run.accepted ≡ s.run.accepted)
@@ -249,7 +249,7 @@ takes_refusal contents k place why line is = λ first s kept at. (
 pub loses_nothing : {J : Type 0} (contents : J → Option (List ℕ)) (k : KeptUpdates J) (place : ℕ) (row : Result Row RowError) → IsUpdateFailed contents place k row k
 loses_nothing contents k place row = λ first s kept at. (at_next_update s, next_keeps contents first k s kept, inl refl)
 
--- what holds anyway holds at an error
+-- what always holds also holds at an error
 pub at_error : {T E : Type 0} (P : Type 0) (r : Result T E) → P → OnErr r P
 at_error P (Ok x) holds = tt
 at_error P (Err e) holds = holds

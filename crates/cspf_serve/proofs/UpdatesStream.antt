@@ -1,4 +1,4 @@
--- A stream of updates, from what is kept of its state to the state.
+-- A stream of updates: from the state that the code keeps to the state of the specification.
 use Rattle.std.proofs.Common.{◌≡◌, ℕ, suc, ◌+◌, Bool, true, false, List, [], ◌∷◌, length, Option, Result, Ok, Err, inl, inr, refl, ap, arith}
 use Rattle.cspf_rows.specs.Rows.{row_of}
 use Rattle.cspf_rows.specs.declared.row.Row.{Row}

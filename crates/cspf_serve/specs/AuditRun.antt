@@ -1,4 +1,4 @@
--- What a journal, requests and replies are answered that are audited, and the status.
+-- The lines of an audit of a journal, requests and replies, and the status.
 use Rattle.std.specs.Prelude.{◌≡◌, ℕ, ◌⊎◌, ◌++◌, ◌==◌, if◌then◌else◌, List, length, codes, Option, IfSome}
 use Rattle.std.specs.Fmt.{decimal}
 use Rattle.std.specs.List.{flat_map}

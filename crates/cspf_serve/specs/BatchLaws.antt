@@ -9,11 +9,11 @@ use Rattle.cspf_serve.specs.declared.solve.summary.Summary.{Summary}
 use Rattle.cspf_serve.specs.Script.{IsSolveRun}
 use Rattle.cspf_serve.specs.BatchRun.{IsBatchRun}
 
--- nothing is left behind the batches of a journal
+-- nothing is left after the batches of a journal
 abbrev pub IsCleanJournal : Records → Type 0
 IsCleanJournal records = (batches : List NumberedChanges) × IsJournal records batches rest.Clean
 
--- Where nothing is left behind the batches of a journal and nothing is refused, the lines are those
+-- Where nothing is left after the batches of a journal and nothing is refused, the lines are those
 -- of a script: of the journal's rows and then the requests', where these are at most 1,000,000
 -- together.
 abbrev pub AreLinesOfAScript : Type 0

@@ -1,4 +1,4 @@
--- What a journal and a stream of requests are answered.
+-- The lines of a run over a journal and a stream of requests.
 use Rattle.std.specs.Prelude.{◌≡◌, ℕ, ◌<◌, ◌≤◌, ◌⊎◌, Bool, true, false, List, [], ◌∷◌, ◌++◌, length, codes}
 use Rattle.std.specs.Fmt.{decimal}
 use Rattle.std.specs.List.{flat_map}
@@ -23,7 +23,7 @@ use Rattle.cspf_rows.specs.Words.{words}
 use Rattle.cspf_serve.specs.declared.batch_refusal.BatchRefusal.TheVariants as refusal
 use Rattle.cspf_serve.specs.Lines.{version_line, refused_batch_line, too_many_line}
 
--- the line of a journal that has this many batches, and rows behind them
+-- the line of a journal that has this many batches, and rows after them
 abbrev pub torn_line : ℕ → List ℕ
 torn_line count = codes "journal torn after " ++ decimal count ++ codes "\n"
 
@@ -69,16 +69,16 @@ pub record IsOneUnfit (batches : List NumberedChanges) (lines : List ℕ) : Type
   pub refused : IsRefusal (database_after before) batch why
   pub whole : lines ≡ version_lines before ++ refused_batch_line batch.number (refusal.Unfit why)
 
--- The records of a journal, of which there are at most 1,000,000, read as these batches; rows
--- behind them are left out where that is asked for.
+-- The records of a journal, of which there are at most 1,000,000, read as these batches; rows after
+-- them are skipped where that is asked for.
 pub record AreBatchesOf (accept_torn : Bool) (records : Records)
     (batches : List NumberedChanges) : Type 0 where
   pub few : length records ≤ MOST_ROWS
   pub journal : IsJournal records batches rest.Clean
       ⊎ (IsJournal records batches rest.Torn × (accept_torn ≡ true))
 
--- The records of a journal are refused by this line: there are too many, or some are left behind
--- its batches.
+-- The records of a journal are refused by this line: there are too many, or some are left after its
+-- batches.
 abbrev pub IsJournalRefused : Bool → Records → List ℕ → Type 0
 IsJournalRefused accept_torn records line =
     ((MOST_ROWS < length records) × (line ≡ too_many_line))
@@ -91,8 +91,8 @@ pub record AreRequestsOf (records : Records) (requests : List Request) : Type 0 
   pub few : length records ≤ MOST_ROWS
   pub asked : AreRequests records requests
 
--- The line that a stream of requests is refused by. A row that asks for nothing is refused by the
--- word of an unknown kind.
+-- The line that a stream of requests is refused by. A row that is no request is refused with the
+-- words for an unknown kind.
 abbrev pub IsFaultLine : RequestsError → List ℕ → Type 0
 IsFaultLine fault.Memory line = ⊥
 IsFaultLine fault.Device line = ⊥
@@ -105,8 +105,8 @@ abbrev pub AreRequestsRefused : Records → List ℕ → Type 0
 AreRequestsRefused records line =
     (why : RequestsError) × IsRequestsFault records why × IsFaultLine why line
 
--- What batches and the records of a stream of requests are answered, and the status: the requests
--- are read before the first batch is applied.
+-- The lines of batches and of the records of a stream of requests, and the status: the requests are
+-- read before the first batch is applied.
 abbrev pub AreAnsweredTogether : List NumberedChanges → Records → List ℕ → ℕ → Type 0
 AreAnsweredTogether batches records lines status =
     (AreRequestsRefused records lines × (status ≡ 2))
@@ -114,7 +114,7 @@ AreAnsweredTogether batches records lines status =
     × ((AreAccepted batches requests lines × (status ≡ 0))
     ⊎ (IsOneUnfit batches lines × (status ≡ 2))))
 
--- What the records of a journal and those of a stream of requests are answered, and the status.
+-- The lines of the records of a journal and of those of a stream of requests, and the status.
 abbrev pub IsBatchRun : Bool → Records → Records → List ℕ → ℕ → Type 0
 IsBatchRun accept_torn journal requests lines status =
     (IsJournalRefused accept_torn journal lines × (status ≡ 2))

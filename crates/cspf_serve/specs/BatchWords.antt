@@ -1,4 +1,4 @@
--- The words that a refused batch is answered.
+-- The words of the answer to a refused batch.
 use Rattle.std.specs.Prelude.{ℕ, List, ◌++◌, codes}
 use Rattle.std.specs.Fmt.{decimal}
 use Rattle.cspf_model.specs.declared.refusal.Refusal.{Refusal}

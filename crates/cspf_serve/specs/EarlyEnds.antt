@@ -1,4 +1,4 @@
--- Private: what is said where a run over a journal ends early.
+-- Private: what holds where a run over a journal ends early.
 use Rattle.std.specs.Prelude.{◌≡◌, ℕ, ◌+◌, ◌^◌, ◌<◌, ◌⊎◌, Bool, Option, List, [], ◌∷◌, ◌++◌}
 use Rattle.std.specs.Io.KnownBytes.{Appends}
 use Rattle.cspf_rows.specs.Records.{Records}
@@ -51,7 +51,7 @@ Writes old new Holds = (lines : List ℕ) × Holds lines × Appends old new line
 abbrev pub WritesAllBut : List ℕ → Option (List ℕ) → Option (List ℕ) → (List ℕ → Type 0) → Type 0
 WritesAllBut last old new Holds = (lines : List ℕ) × Holds (lines ++ last) × Appends old new lines
 
--- the line of a batch that isn't published for a fault of its own: other faults have none
+-- the line of a batch that isn't published because of its own fault: other faults have none
 abbrev pub IsOwnFaultLine : ApplyError → ℕ → List ℕ → Type 0
 IsOwnFaultLine error.Stopped number line = ⊥
 IsOwnFaultLine error.Exhausted number line = line ≡ refused_batch_line number refusal.Exhausted
@@ -60,7 +60,8 @@ IsOwnFaultLine (error.Refused why) number line = line ≡ refused_batch_line num
 IsOwnFaultLine error.Memory number line = ⊥
 IsOwnFaultLine (error.Journal written) number line = ⊥
 
--- the error by which a batch ends a run that isn't published for no fault of its own: a fault of its own has a line
+-- the error of a run that ends at a batch without fault that isn't published: a fault of the batch
+-- has a line
 abbrev pub IsFaultBeyond : ApplyError → RunError → Type 0
 IsFaultBeyond error.Stopped e = e ≡ Device
 IsFaultBeyond error.Exhausted e = ⊥
@@ -82,13 +83,13 @@ IsJournalLine read_error.Memory line = ⊥
 IsJournalLine read_error.Device line = ⊥
 IsJournalLine read_error.TooManyRows line = line ≡ too_many_line
 
--- the error by which a journal ends a run that can't be read: what has a line has none
+-- the error of a run whose journal can't be read: a fault with a line has no error
 abbrev pub IsJournalError : ReadError → RunError → Type 0
 IsJournalError read_error.Memory e = e ≡ Memory
 IsJournalError read_error.Device e = e ≡ Device
 IsJournalError read_error.TooManyRows e = ⊥
 
--- the error by which requests end a run that can't be read: what has a line has none
+-- the error of a run whose requests can't be read: a fault with a line has no error
 abbrev pub IsRequestsError : RequestsError → RunError → Type 0
 IsRequestsError requests_error.Memory e = e ≡ Memory
 IsRequestsError requests_error.Device e = e ≡ Device
@@ -96,7 +97,7 @@ IsRequestsError requests_error.TooManyRows e = ⊥
 IsRequestsError (requests_error.Bad row why) e = ⊥
 IsRequestsError (requests_error.NotAsk row) e = ⊥
 
--- the error by which streams end a run that aren't audited: what has a line has none
+-- the error of a run whose streams aren't audited: a fault with a line has no error
 abbrev pub IsAuditFailure : AuditError → RunError → Type 0
 IsAuditFailure audit_error.Memory e = e ≡ Memory
 IsAuditFailure audit_error.Device e = e ≡ Device

@@ -1,10 +1,10 @@
--- Under which name a refused opening ends a run.
+-- The error of a run whose publisher can't be opened.
 use Rattle.cspf_publish.specs.declared.errors.OpenError.{OpenError}
 use Rattle.cspf_publish.specs.declared.errors.OpenError.TheVariants as open_error
 use Rattle.cspf_serve.specs.declared.streams.error.RunError.{RunError}
 use Rattle.cspf_serve.specs.declared.streams.error.RunError.TheVariants as run
 
--- what a refused opening is to a run, which has as many workers as may ask
+-- the error of a run for each error of `open`; the run has an allowed number of workers
 abbrev pub run_error_of : OpenError → RunError
 run_error_of open_error.Askers = run.Places
 run_error_of open_error.Memory = run.Memory

@@ -1,4 +1,5 @@
--- The lines that rows are answered, those of replies and of refused rows aside. Each ends with one line feed.
+-- The lines that answer rows, except replies and the lines of refused rows. Each ends with one line
+-- feed.
 use Rattle.std.specs.Prelude.{ℕ, List, ◌++◌, codes}
 use Rattle.std.specs.Fmt.{decimal}
 use Rattle.cspf_serve.specs.BatchWords.{batch_words}

@@ -1,4 +1,4 @@
--- What updates and requests are answered that are applied and answered at once.
+-- The lines of updates and requests in a live run, which applies and answers at once.
 use Rattle.std.specs.Prelude.{◌≡◌, ℕ, ◌<◌, ◌≤◌, ◌⊎◌, false, List, [], ◌∷◌, ◌++◌, length, take, Some, slice_get}
 use Rattle.std.specs.List.{flat_map}
 use Rattle.cspf_rows.specs.Records.{Records}
@@ -13,21 +13,21 @@ use Rattle.cspf_rows.specs.BatchText.{batch_text}
 use Rattle.cspf_serve.specs.BatchRun.{IsReplyTo, AreBatchesOf, IsJournalRefused, AreRequestsOf, AreRequestsRefused}
 use Rattle.cspf_serve.specs.LiveWords.{applied_line, unpublished_line}
 
--- a request is answered by this line, at a version that was published: in the database of its
--- first batches
+-- a request is answered by this line, at a published version: in the database of a prefix of these
+-- batches
 abbrev pub IsReplyWithin : List NumberedChanges → Request → List ℕ → Type 0
 IsReplyWithin published q line =
     (version : ℕ) × (version ≤ length published)
     × IsReplyTo (database_after (take version published)) version q line
 
--- the lines of requests, in their order, each at a version of its own
+-- the lines of requests, in their order, each at any published version
 abbrev pub AreRepliesWithin : List NumberedChanges → List Request → List ℕ → Type 0
 AreRepliesWithin published [] lines = lines ≡ []
 AreRepliesWithin published (q ∷ qs) lines =
     (line : List ℕ) × (more : List ℕ) × IsReplyWithin published q line × (lines ≡ line ++ more)
     × AreRepliesWithin published qs more
 
--- Why the batch behind those that are published isn't published. Numbers that were read from a
+-- Why the batch after those that are published isn't published. Numbers that were read from a
 -- journal are the right ones, and they are few enough.
 abbrev pub IsWhyNot : List NumberedChanges → NumberedChanges → ApplyError → Type 0
 IsWhyNot published b error.Stopped = ⊥
@@ -38,13 +38,14 @@ IsWhyNot published b error.Memory = Fits (database_after published) b
 IsWhyNot published b (error.Journal written) =
     Fits (database_after published) b × (written < length (batch_text b))
 
--- what the journal holds of a batch that isn't published: what was written before its fault
+-- the text that the journal has of a batch that isn't published: the bytes that were written before
+-- its fault
 abbrev pub begun_text : NumberedChanges → ApplyError → List ℕ
 begun_text b (error.Journal written) = take written (batch_text b)
 begun_text b why = []
 
--- The lines behind the replies, what the journal holds behind the published batches, and the
--- status: all batches are published, or else the first of the others is refused.
+-- The lines after the replies, the text in the journal after the published batches, and the status.
+-- All batches are published, or the first of the others is refused.
 abbrev pub IsEndOfLiveRun : List NumberedChanges → ℕ → List ℕ → List ℕ → ℕ → Type 0
 IsEndOfLiveRun batches applied line text status =
     ((applied ≡ length batches) × (line ≡ []) × (text ≡ []) × (status ≡ 0))
@@ -52,10 +53,9 @@ IsEndOfLiveRun batches applied line text status =
     × IsWhyNot (take applied batches) next why × (line ≡ unpublished_line next.number why)
     × (text ≡ begun_text next why) × (status ≡ 2))
 
--- Some first batches are published. The requests are answered at versions of these,
--- then comes how many they are, and then why the next one isn't published, unless there is none.
--- The journal holds the texts of those that are published, and after a fault of its own the
--- beginning of one more.
+-- A prefix of the batches is published. The requests are answered at versions of these. Then come
+-- the lines of their number, and of why the next one isn't published, if there is one. The journal
+-- has the texts of those that are published, and after a fault of the journal a prefix of one more.
 pub record AreAnsweredLive (batches : List NumberedChanges) (requests : List Request)
     (lines text : List ℕ) (status : ℕ) : Type 0 where
   pub applied : ℕ
@@ -69,9 +69,9 @@ pub record AreAnsweredLive (batches : List NumberedChanges) (requests : List Req
   pub written : lines ≡ replies ++ applied_line applied ++ last
   pub recorded : text ≡ flat_map batch_text (take applied batches) ++ begun
 
--- What the journal of a live run that ends by an error holds more, once batches were applied: what it would hold
--- without the error, the texts of those that are published, all of them or up to the first that isn't, and after a
--- fault of its own the beginning of that one.
+-- The text that is added to the journal of a live run that ends by an error after batches were
+-- applied. It is the same as without the error: the texts of the batches up to the first that isn't
+-- published, and after a fault of the journal a prefix of that one.
 pub record AreRecorded (batches : List NumberedChanges) (text : List ℕ) : Type 0 where
   pub applied : ℕ
   pub inside : applied ≤ length batches
@@ -81,11 +81,12 @@ pub record AreRecorded (batches : List NumberedChanges) (text : List ℕ) : Type
   pub end : IsEndOfLiveRun batches applied last begun status
   pub recorded : text ≡ flat_map batch_text (take applied batches) ++ begun
 
--- no batch was applied, or they were as far as they go
+-- no batch was applied, or all were up to the first that was refused
 abbrev pub AreRecordedAtError : List NumberedChanges → List ℕ → Type 0
 AreRecordedAtError batches text = (text ≡ []) ⊎ AreRecorded batches text
 
--- what the journal of a live run over the records of updates holds more that ends by an error
+-- the text that is added to the journal of a live run over the records of updates that ends by an
+-- error
 abbrev pub IsRecordedAtError : Records → List ℕ → Type 0
 IsRecordedAtError updates text =
     (text ≡ []) ⊎ ((batches : List NumberedChanges) × AreBatchesOf false updates batches × AreRecorded batches text)
@@ -97,7 +98,7 @@ AreInputsRefused updates requests line =
     ⊎ ((batches : List NumberedChanges) × AreBatchesOf false updates batches
     × AreRequestsRefused requests line)
 
--- What the records of updates and of requests are answered, what the journal then holds more, and
+-- The lines of the records of updates and of requests, the text that is added to the journal, and
 -- the status.
 abbrev pub IsLiveRun : Records → Records → List ℕ → List ℕ → ℕ → Type 0
 IsLiveRun updates requests lines text status =

@@ -1,4 +1,4 @@
--- The lines behind the replies of a live run.
+-- The lines after the replies of a live run.
 use Rattle.std.specs.Prelude.{ℕ, List, ◌++◌, codes}
 use Rattle.std.specs.Fmt.{decimal}
 use Rattle.cspf_publish.specs.declared.errors.ApplyError.{ApplyError}

@@ -1,4 +1,4 @@
--- Private: what the code keeps of open changes.
+-- Private: the open changes that the code keeps.
 use Rattle.std.specs.Prelude.{◌≡◌, ℕ, false, Option, List, [], ◌∷◌, ◌++◌, take, length}
 use Rattle.std.specs.Io.KnownBytes.{Appends}
 use Rattle.cspf_model.specs.Numbered.{NumberedChanges}
@@ -9,7 +9,8 @@ use Rattle.cspf_rows.specs.BatchText.{batch_text}
 use Rattle.cspf_serve.specs.declared.serving.open_changes.OpenChanges.{OpenChanges}
 use Rattle.cspf_serve.specs.declared.solve.solver.TheConstants.{KEPT_CHANGES}
 
--- Of these changes as many are kept as one more than a batch may have, and their number.
+-- The first of these changes are kept, at most one more than a batch may have, and the number of
+-- all of them.
 pub record AreOpen (kept : OpenChanges) (all : List Change) : Type 0 where
   pub changes : kept.batch.changes ≡ take KEPT_CHANGES all
   pub count : kept.count ≡ length all

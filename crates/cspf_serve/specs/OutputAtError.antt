@@ -1,4 +1,4 @@
--- What a run has written where it stops before its end.
+-- The output of a run that stops before its end.
 use Rattle.std.specs.Prelude.{◌≡◌, ℕ, ◌<◌, ◌≤◌, ◌⊎◌, List, [], ◌∷◌, ◌++◌, take, length}
 use Rattle.cspf_rows.specs.declared.limits.TheConstants.{MOST_ROWS}
 use Rattle.cspf_rows.specs.Rows.{row_of}
@@ -7,13 +7,13 @@ use Rattle.cspf_serve.specs.Script.{RunState, start, at_next_row, IsRowAnswered,
 use Rattle.cspf_serve.specs.declared.solve.error.SolveError.{SolveError}
 use Rattle.cspf_serve.specs.declared.solve.error.SolveError.TheVariants as error
 
--- some first rows of a stream, at most 1,000,000, are answered
+-- a prefix of the rows of a stream, at most 1,000,000, is answered
 pub record AreFirstAnswered (rows done rest : List (List (List ℕ))) (lines : List ℕ) (after : RunState) : Type 0 where
   pub split : rows ≡ done ++ rest
   pub few : length done ≤ MOST_ROWS
   pub answered : AreRowsAnswered start done lines after
 
--- what is written is the lines of some first rows, whole
+-- the output is the whole lines of a prefix of the rows
 pub record IsBegunByRows (rows : List (List (List ℕ))) (out : List ℕ) : Type 0 where
   pub done : List (List (List ℕ))
   pub rest : List (List (List ℕ))
@@ -27,8 +27,8 @@ IsNextText done s (fields ∷ rest) text =
     ((length done < MOST_ROWS) × (after : RunState) × IsRowAnswered (at_next_row s) (row_of fields) text after)
     ⊎ ((length done ≡ MOST_ROWS) × (text ≡ too_many_line))
 
--- what is written is the lines of some first rows, and behind them a part of the text that comes
--- next, not all of it
+-- the output is the lines of a prefix of the rows, and then a part of the next text, but not all of
+-- it
 pub record IsCutOff (rows : List (List (List ℕ))) (out : List ℕ) : Type 0 where
   pub done : List (List (List ℕ))
   pub rest : List (List (List ℕ))
@@ -41,8 +41,8 @@ pub record IsCutOff (rows : List (List (List ℕ))) (out : List ℕ) : Type 0 wh
   pub part : size < length text
   pub whole : out ≡ lines ++ take size text
 
--- Memory that was refused and a failed read leave whole lines. A failed write leaves what was
--- written, by its number of bytes.
+-- Memory that was refused and a failed read leave whole lines. A failed write leaves the output,
+-- with its number of bytes.
 abbrev pub IsOutputAtError : SolveError → List (List (List ℕ)) → List ℕ → Type 0
 IsOutputAtError error.Memory rows out = IsBegunByRows rows out
 IsOutputAtError error.Read rows out = IsBegunByRows rows out

@@ -9,7 +9,7 @@ use Rattle.cspf_serve.specs.declared.line.Line.{Line}
 use Rattle.cspf_serve.specs.Lines.{refused_batch_line}
 use Rattle.cspf_serve.specs.LineTexts.{line_text}
 
--- the batch behind those that are published doesn't fit, as the line says
+-- the batch after those that are published doesn't fit, as the line says
 pub record IsUnfitBehind (batches published : List NumberedChanges) (line : List ℕ) : Type 0 where
   pub batch : NumberedChanges
   pub after : List NumberedChanges

@@ -38,7 +38,8 @@ IsStrayInBatchRun accept_torn journal requests index version =
 abbrev pub IsBatchFault : Bool → Option (List ℕ) → Option (List ℕ) → RunError → Type 0
 IsBatchFault accept_torn journal requests e = IsRunFault (IsStrayInBatchRun accept_torn journal requests) e
 
--- a request of the stream is answered at a version above those of some first updates, and so above 0
+-- a request of the stream is answered at a version above those of a prefix of the updates, and so
+-- above 0
 abbrev pub IsStrayInLiveRun : Option (List ℕ) → ℕ → ℕ → Type 0
 IsStrayInLiveRun requests index version = IfSome requests (λ asked. index < length (rows_of asked)) × (0 < version)
 

@@ -1,4 +1,4 @@
--- What a stream of rows is answered, from its bytes to bytes, and the summary of its run.
+-- The lines of a stream of rows, from its bytes to bytes, and the summary of its run.
 use Rattle.std.specs.Prelude.{◌≡◌, ◌≢◌, ℕ, ◌+◌, ◌<◌, ◌≤◌, ◌⊎◌, nat_lt, if◌then◌else◌, Bool, true, false, List, [], ◌∷◌, ◌++◌, take, length, Result, Ok, Err}
 use Rattle.cspf_model.specs.declared.batch.Change.{Change}
 use Rattle.cspf_model.specs.declared.batch.Change.TheVariants as change
@@ -21,7 +21,7 @@ use Rattle.cspf_serve.specs.declared.solve.summary.Summary.{Summary}
 use Rattle.cspf_stream.specs.RefusedRows.{refused_row_line}
 use Rattle.cspf_serve.specs.Lines.{version_line, refused_batch_line, unended_line, too_many_line}
 
--- what stands between two rows
+-- the state between two rows
 pub record RunState : Type 0 where
   -- how many rows were read
   pub rows : ℕ

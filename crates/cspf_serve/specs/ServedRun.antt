@@ -1,5 +1,5 @@
--- What a run over updates and clients leaves: one list of published batches, which the updates make, the
--- journal has, and every client is answered from.
+-- The result of a run over updates and clients: one list of published batches. The updates make it,
+-- the journal has it, and every client is answered from it.
 use Rattle.std.specs.Prelude.{◌≡◌, ℕ, ◌+◌, ◌⊎◌, Bool, Option, List, [], All, Result, Err, MatchResult}
 use Rattle.std.specs.List.{AllZip}
 use Rattle.std.specs.Option.{option_map}
@@ -46,8 +46,8 @@ abbrev pub IsLastLineSaid : Result (Unit {0}) StreamError → List ℕ → Optio
 IsLastLineSaid said line old new =
     MatchResult said (λ done. Appends old new line) (λ error. IsLastLineStopped error line old new)
 
--- All rows of the updates are answered, and behind their lines this holds of the line of the changes
--- that are still open, where there are any.
+-- All rows of the updates are answered. After their lines this holds of the line of the changes
+-- that are still open, if there are any.
 pub record AreUpdatesAnswered (Last : List ℕ → Option (List ℕ) → Type 0) (all : Option Rows) (t : UpdatesState) (old : Option (List ℕ)) : Type 0 where
   pub mid : Option (List ℕ)
   pub answered : AreAllAnswered IsUpdateAnsweredAt all no_updates t old mid
@@ -59,16 +59,17 @@ AreUpdatesStopped error all t old new =
     ((left : Option Rows) × (failed : Bool) × HasStopped IsUpdateAnsweredAt IsUpdateLostAt error all left failed no_updates t old new)
     ⊎ AreUpdatesAnswered (λ line mid. IsLastLineStopped error line mid new) all t old
 
--- what the updates are answered, from the first row on
+-- the lines of the updates, from the first row on
 abbrev pub IsUpdatesRun : Result (Unit {0}) StreamError → Option Rows → UpdatesState → Option (List ℕ) → Option (List ℕ) → Type 0
 IsUpdatesRun ended all t old new =
     MatchResult ended
     (λ done. AreUpdatesAnswered (λ line mid. Appends mid new line) all t old)
     (λ error. AreUpdatesStopped error all t old new)
 
--- A client was run, from when nothing was read of its requests until it met what was published in the
--- end: what it knew after its last row are first batches of these, so each of its replies is the best
--- answer at a version that was published. One that knew more, which no run shows, ends as ahead.
+-- A client was run, from before the first row of its requests until it learnt all batches that were
+-- published in the end. The batches that it knew after its last row are a prefix of these, so each
+-- of its replies is the best answer at a published version. A client that knew more, which no run
+-- shows, ends as `Ahead`.
 pub record IsServedClient {Q V : Type 0} (bytes : Q → Option (List ℕ)) (contents : V → Option (List ℕ)) (published : List NumberedChanges) (client : Client Q V) (served : ServedClient V) : Type 0 where
   pub before : ServingState Q V
   pub after : ServingState Q V
@@ -91,8 +92,8 @@ abbrev pub IsServedStatus : {V : Type 0} → UpdatesState → List (ServedClient
 IsServedStatus t clients status =
     (IsAllAccepted t clients × (status ≡ 0)) ⊎ ((¬ IsAllAccepted t clients) × (status ≡ 2))
 
--- The updates make the published batches: they are those that their run accepted. The journal has grown
--- by what that run wrote, and each client was answered from first ones of them.
+-- The updates make the published batches: they are those that their run accepted. The journal has
+-- grown by the text that that run wrote, and each client was answered from prefixes of them.
 pub record IsServedRun {W J Q V : Type 0} (updates : Option (List ℕ)) (said : W → Option (List ℕ)) (recorded : J → Option (List ℕ)) (bytes : Q → Option (List ℕ)) (contents : V → Option (List ℕ)) (writer : W) (journal : J) (clients : List (Client Q V)) (served : Served W J V) : Type 0 where
   pub state : UpdatesState
   pub updates_run : IsUpdatesRun served.updates (option_map rows_of updates) state (said writer) (said served.said)

@@ -1,4 +1,4 @@
--- Private: what the steps of a run over updates and clients leave to each other.
+-- Private: the states between the steps of a run over updates and clients.
 use Rattle.std.specs.Prelude.{◌≡◌, ℕ, ◌<◌, ◌≤◌, ◌⊎◌, Option, List, [], All, Err, length, vec_len}
 use Rattle.std.specs.Vec.{vec_capacity}
 use Rattle.std.specs.Option.{option_map}
@@ -20,8 +20,7 @@ pub record IsSeat (source : Book) (ends : KnownBatches × ListenerState) : Type 
   pub asker : ends.0.source ≡ source
   pub listener : ends.1.source ≡ source
 
--- As many seats as this, of one publisher, with room for what serves the clients and for what is left of
--- them.
+-- This many seats of one publisher, with room for the clients' states and for their results.
 pub record AreSeats {Q V : Type 0} (source : Book) (count : ℕ) (seats : Seats Q V) : Type 0 where
   pub tellers : All (λ t. t.source ≡ source) seats.tellers.items
   pub ends : All (IsSeat source) seats.ends.items
@@ -48,7 +47,7 @@ pub record IsRunOn {Q V : Type 0} (bytes : Q → Option (List ℕ)) (contents : 
   pub run : IsClientRun bytes contents old new
   pub known : AreFirstOf new.state.known old.state.known
 
--- what is left of a client that has met what was published
+-- the result of a client that has learnt all published batches
 pub record IsServedEnd {Q V : Type 0} (published : List NumberedChanges) (c : ServingState Q V) (served : ServedClient V) : Type 0 where
   pub replies : served.replies ≡ c.replies
   pub refused : served.refused ≡ c.state.refused

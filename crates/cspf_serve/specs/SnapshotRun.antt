@@ -1,4 +1,4 @@
--- What a journal is answered whose last database is to be made from nothing.
+-- The output of a run that makes a journal's last database from nothing.
 use Rattle.std.specs.Prelude.{◌≡◌, ℕ, ◌⊎◌, Bool, List}
 use Rattle.cspf_rows.specs.Records.{Records}
 use Rattle.cspf_model.specs.Refusals.{IsFirstUnfit}

@@ -12,17 +12,17 @@ use Rattle.cspf_serve.specs.OutputAtError.{IsOutputAtError}
 abbrev pub HaveOneReply : Type 0
 HaveOneReply = (rows : List (List (List ℕ))) (first second : List ℕ) (a b : Summary) → IsSolveRun rows first a → IsSolveRun rows second b → (first ≡ second) × (a ≡ b)
 
--- what a run has written where it stops is a prefix of what the whole run writes
+-- the output of a run that stops is a prefix of the output of the whole run
 abbrev pub StopsAtAPrefix : Type 0
 StopsAtAPrefix = (error : SolveError) (rows : List (List (List ℕ))) (out lines : List ℕ) (summary : Summary)
     → IsOutputAtError error rows out → IsSolveRun rows lines summary → (more : List ℕ) × (lines ≡ out ++ more)
 
--- rows with one more behind them are answered where they are, and then that one is
+-- rows with one more at their end are answered exactly where they are, and then that one is
 abbrev pub GoesOnByOneRow : Type 0
 GoesOnByOneRow = (s t u : RunState) (rows : List (List (List ℕ))) (fields : List (List ℕ)) (lines line : List ℕ) → AreRowsAnswered s rows lines t
     → IsRowAnswered (at_next_row t) (row_of fields) line u → AreRowsAnswered s (rows ++ (fields ∷ [])) (lines ++ line) u
 
--- The counts after some rows: there are so many rows more, and no other count grew by more than that.
+-- The counts after `n` more rows: no count other than that of the rows grew by more than `n`.
 pub record AreWithin (s t : RunState) (n : ℕ) : Type 0 where
   pub rows : t.rows ≡ s.rows + n
   pub changes : length t.changes ≤ length s.changes + n

@@ -1,4 +1,4 @@
--- What the code keeps of the state of a run, and what the answer to one row does.
+-- The state of a run that the code keeps, and the effect of the answer to one row.
 use Rattle.std.specs.Prelude.{◌≡◌, ℕ, ◌+◌, ◌<◌, ◌≤◌, Option, List, take, length, Result}
 use Rattle.std.specs.Io.KnownBytes.{Appends}
 use Rattle.std.specs.Io.KnownBytes as known

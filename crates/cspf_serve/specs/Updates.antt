@@ -1,5 +1,5 @@
--- What a stream of updates is answered while clients ask: the script of its rows, but for what only a
--- run with a journal has, and with no limit of its rows.
+-- The lines of a stream of updates while clients ask: the script of its rows, except for faults of
+-- the journal and memory, and with any number of rows.
 use Rattle.std.specs.Prelude.{◌≡◌, ℕ, ◌<◌, ◌⊎◌, Bool, true, false, List, [], ◌++◌, take, length, Result, Ok, Err}
 use Rattle.cspf_publish.specs.declared.errors.ApplyError.{ApplyError}
 use Rattle.cspf_publish.specs.declared.errors.ApplyError.TheVariants as error
@@ -10,9 +10,9 @@ use Rattle.cspf_rows.specs.declared.row_error.RowError.{RowError}
 use Rattle.cspf_serve.specs.LiveWords.{unpublished_line}
 use Rattle.cspf_serve.specs.Script.{RunState, start, at_next_row, after_refused_batch, open_batch, IsAccepted, IsEndAnswered, IsRowAnswered}
 
--- what stands between two rows
+-- the state between two rows
 pub record UpdatesState : Type 0 where
-  -- what stands in a run of the same rows: its accepted batches are those that are published
+  -- the state in a run of the same rows: its accepted batches are those that are published
   pub run : RunState
   -- a fault of the journal came before, and nothing is published any more
   pub stopped : Bool
@@ -23,8 +23,8 @@ pub record UpdatesState : Type 0 where
 abbrev pub no_updates : UpdatesState
 no_updates = record { run = start; stopped = false; text = [] }
 
--- What a fault leaves of the journal: refused memory what it was, and a fault of its own a beginning of
--- the batch's text more, with which it ends for good.
+-- The journal after a fault. Refused memory leaves it as it was. A fault of the journal adds a
+-- prefix of the batch's text, and the journal ends for good.
 abbrev pub IsLeftByFault : UpdatesState → ℕ → ApplyError → UpdatesState → Type 0
 IsLeftByFault s number error.Stopped t = ⊥
 IsLeftByFault s number error.Exhausted t = ⊥
@@ -55,7 +55,7 @@ pub record IsAsInScript (s : UpdatesState) (number count : ℕ) (line : List ℕ
   pub published : IsAccepted s.run number count → t.text ≡ s.text ++ batch_text (open_batch s.run number)
   pub refused : (IsAccepted s.run number count → ⊥) → t.text ≡ s.text
 
--- Behind a fault of the journal each batch is refused.
+-- After a fault of the journal each batch is refused.
 abbrev pub IsRefusedBehindFault : UpdatesState → ℕ → List ℕ → UpdatesState → Type 0
 IsRefusedBehindFault s number line t =
     (line ≡ unpublished_line number error.Stopped)
@@ -84,7 +84,7 @@ IsUpdateAnswered s (Ok (row.Node router transit)) line t = IsOtherUpdate s (Ok (
 IsUpdateAnswered s (Ok (row.End number count)) line t = IsEndUpdate s.stopped s number count line t
 IsUpdateAnswered s (Ok (row.Ask q)) line t = IsOtherUpdate s (Ok (row.Ask q)) line t
 
--- Memory is refused at a row: nothing is published without its line. Else nothing is changed, or what a
--- line would have told that isn't written: that changes are dropped, or a fault of the journal.
+-- Memory is refused at a row: nothing is published without its line. Else nothing changes, or only
+-- what the missing line would have said: changes are dropped, or the journal has a fault.
 abbrev pub IsUpdateLost : UpdatesState → Result Row RowError → UpdatesState → Type 0
 IsUpdateLost s row t = (t ≡ s) ⊎ ((line : List ℕ) × IsUpdateAnswered s row line t × (t.run.accepted ≡ s.run.accepted))

@@ -1,4 +1,4 @@
--- Private: what the code keeps of the state of a stream of updates.
+-- Private: the state of a stream of updates that the code keeps.
 use Rattle.std.specs.Prelude.{◌≡◌, ◌≢◌, ℕ, ◌+◌, ◌<◌, false, Option, List, ◌++◌, length, Result}
 use Rattle.std.specs.Io.KnownBytes.{Appends}
 use Rattle.cspf_publish.specs.PublisherStates.{PublisherState}
@@ -30,13 +30,13 @@ pub record ArePublished {J : Type 0} (contents : J → Option (List ℕ)) (first
   pub stopped : p.stopped ≡ s.stopped
   pub journal : Appends (contents first.journal) (contents p.journal) s.text
 
--- so it is, and open changes and refusals are those of the state
+-- the publisher is that of the state, and so are the open changes and the refusals
 pub record KeepsUpdates {J : Type 0} (contents : J → Option (List ℕ)) (first : PublisherState J) (k : KeptUpdates J) (s : UpdatesState) : Type 0 where
   pub published : ArePublished contents first k.publisher s
   pub changes : AreOpen k.changes s.run.changes
   pub refused : k.refused ≡ s.run.refused
 
--- what is kept of any state before leads to what is kept of one after, which this relates to it
+-- if the code keeps a state before, it keeps a state after that this relation relates to it
 abbrev pub Leads : {J : Type 0} → (J → Option (List ℕ)) → KeptUpdates J → KeptUpdates J → (UpdatesState → UpdatesState → Type 0) → Type 0
 Leads {J} contents k k' Step =
     (first : PublisherState J) (s : UpdatesState) → KeepsUpdates contents first k s → (t : UpdatesState) × KeepsUpdates contents first k' t × Step s t

@@ -1,19 +1,20 @@
 //! From bytes to bytes: a stream of rows is read, and the line of each is written; or a journal and
 //! a stream of requests are read, and the lines of both are written.
 //!
-//! `solve` answers one stream of rows: `specs/Script.antt` defines what it is answered, from its bytes
-//! to bytes, and the summary of its run; `specs/OutputAtError.antt` what has been written where a run
-//! ends by an error; `specs/BatchWords.antt` the words of a refused batch.
+//! `solve` answers one stream of rows. `specs/Script.antt` defines its lines, from bytes to bytes,
+//! and the summary of its run. `specs/OutputAtError.antt` defines the output where a run ends by an
+//! error, and `specs/BatchWords.antt` the words of a refused batch.
 //!
-//! `batch` publishes the batches of a journal and answers requests: `specs/BatchRun.antt` says what
-//! both are answered, and `specs/BatchLaws.antt` when that is what one script of both is. `live`
+//! `batch` publishes the batches of a journal and answers requests. `specs/BatchRun.antt` defines
+//! the lines of both, and `specs/BatchLaws.antt` when they are those of one script of both. `live`
 //! publishes batches, each written to the journal first, while workers answer requests:
-//! `specs/LiveRun.antt` defines the lines and the journal of a live run. `serving` publishes updates as
-//! they come in while clients ask: `specs/Updates.antt` defines what updates are answered, and
-//! `specs/ServedRun.antt` what is left of a whole run. `audits` judges replies by a journal and
-//! requests: `specs/AuditRun.antt` says what is written of them. `snapshots` writes the batches that
-//! make a journal's last database from nothing: `specs/SnapshotRun.antt` says what is written of a
-//! journal. `streams` has what these share, and `specs/RunFaults.antt` says which errors end them.
+//! `specs/LiveRun.antt` defines the lines and the journal of a live run. `serving` publishes
+//! updates as they come in while clients ask. `specs/Updates.antt` defines the answers to updates,
+//! and `specs/ServedRun.antt` the result of a whole run. `audits` judges replies by a journal and
+//! requests: `specs/AuditRun.antt` says what is written of them. `snapshots` writes the batches
+//! that make a journal's last database from nothing: `specs/SnapshotRun.antt` says what is written
+//! of a journal. `streams` has what these share, and `specs/RunFaults.antt` says which errors end
+//! them.
 //!
 //! The workers are those of `cspf_work` and the audit that of `cspf_audit`; their names stand here
 //! too.

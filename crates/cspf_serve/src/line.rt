@@ -21,7 +21,7 @@ pub(crate) enum Line {
     Unended { count: u64 },
     /// In place of rows that aren't read.
     TooManyRows,
-    /// A journal has this many batches, and rows behind them.
+    /// A journal has this many batches, and rows after them.
     Torn { count: usize },
     /// The request row with this number is refused.
     RefusedRequest { row: u32, error: RowError },

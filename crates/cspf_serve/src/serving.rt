@@ -1,4 +1,4 @@
-//! Updates are published as they come in, while clients ask, each on a stream of its own.
+//! Updates are published as they come in, while clients ask, each on its stream.
 
 mod open_changes;
 mod served_run;

@@ -1,4 +1,4 @@
--- Batches that are full but for the last, and how many they are.
+-- Batches that are full except the last, and how many there are.
 use Rattle.std.proofs.Common.{◌≡◌, ◌≢◌, ℕ, ◌+◌, ◌*◌, ◌<◌, ◌≤◌, ◌==◌, false, min, List, [], ◌∷◌, ◌++◌, length, take, drop, sym, ap, ◌∙◌, arith, length-append, length-take, length-drop, append_assoc}
 use Rattle.std.specs.List.{AllByRecursion}
 use Rattle.std.proofs.lemmas.List.{append-nil, take-append-drop}
@@ -16,7 +16,7 @@ AreFull batches = AllByRecursion (λ b. length b.changes ≡ MOST_CHANGES) batch
 abbrev pub AreShort : List NumberedChanges → Type 0
 AreShort batches = AllByRecursion (λ b. length b.changes ≤ MOST_CHANGES) batches
 
--- the changes of one batch more
+-- the changes of a list with one more batch
 pub changes_of-push : (batches : List NumberedChanges) (b : NumberedChanges)
     → changes_of (batches ++ b ∷ []) ≡ changes_of batches ++ b.changes
 changes_of-push [] b = append-nil b.changes
@@ -24,7 +24,7 @@ changes_of-push (a ∷ batches) b =
     ap (λ cs. a.changes ++ cs) (changes_of-push batches b)
     ∙ sym (append_assoc a.changes (changes_of batches) b.changes)
 
--- one batch more has the next number
+-- one more batch has the next number
 pub numbered_push : (first : ℕ) (batches : List NumberedChanges) (b : NumberedChanges)
     → AreNumberedFrom first batches → b.number ≡ first + length batches
     → AreNumberedFrom first (batches ++ b ∷ [])
@@ -32,13 +32,13 @@ numbered_push first [] b numbers next = (omega (arith, next), tt)
 numbered_push first (a ∷ batches) b numbers next =
     (numbers.0, numbered_push (first + 1) batches b numbers.1 (omega (arith, next)))
 
--- one full batch more
+-- one more full batch
 pub full_push : (batches : List NumberedChanges) (b : NumberedChanges) → AreFull batches
     → length b.changes ≡ MOST_CHANGES → AreFull (batches ++ b ∷ [])
 full_push [] b full more = (more, tt)
 full_push (a ∷ batches) b full more = (full.0, full_push batches b full.1 more)
 
--- behind full batches one that may be shorter is the last
+-- after full batches, one that may be shorter is the last
 pub full_but_last_push : (batches : List NumberedChanges) (b : NumberedChanges) → AreFull batches
     → 0 < length b.changes → length b.changes ≤ MOST_CHANGES → AreFullButLast (batches ++ b ∷ [])
 full_but_last_push [] b full some short = (some, short)
@@ -68,9 +68,9 @@ length-changes_of-lt (b ∷ []) full =
 length-changes_of-lt (b ∷ c ∷ batches) full =
     omega (arith, length-append b.changes (changes_of (c ∷ batches)), full.0, length-changes_of-lt (c ∷ batches) full.1)
 
--- changes that aren't none
+-- a list of changes that isn't empty
 module _ (rest : List Change) (is_some : false ≡ (length rest == 0)) where
-  -- there is one at least
+  -- it has at least one
   some_left : 0 < length rest
   some_left = some rest is_some
     where
@@ -83,7 +83,7 @@ module _ (rest : List Change) (is_some : false ≡ (length rest == 0)) where
   not_empty none =
       let zero_left : length rest ≡ 0 = ap length none in omega (arith, zero_left, some_left)
 
--- One more batch is cut off changes: the first of those that are left.
+-- One more batch is cut off the changes: a prefix of those that are left.
 module _ (changes : List Change) (batches : List NumberedChanges) (rest : List Change) (all : changes_of batches ++ rest ≡ changes) (whole : rest ≢ [] → AreFull batches) (is_some : false ≡ (length rest == 0)) where
   -- the batches so far are full, and few
   pub few_so_far : length batches * 4096 < length changes
@@ -104,7 +104,7 @@ module _ (changes : List Change) (batches : List NumberedChanges) (rest : List C
         ∙ ap (λ cs. changes_of batches ++ cs) (take-append-drop (min (length rest) 4096) rest)
         ∙ all
 
-    -- the batch has a change at least, and no more than 4,096
+    -- the batch has 1 to 4,096 changes
     pub full_next : AreFullButLast (batches ++ b ∷ [])
     full_next =
         full_but_last_push batches b (whole (not_empty rest is_some))

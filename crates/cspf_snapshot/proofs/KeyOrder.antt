@@ -32,18 +32,18 @@ key_itself k = (eq_by_cmp_equiv keys_total).refl k
 pub keys_same : (j k : Key) → eq_by_cmp key_cmp j k ≡ true → j ≡ k
 keys_same j k e = keys_antisymmetric j k ((Equal-is (key_cmp j k)).0 e)
 
--- what is not tied second is not tied
+-- where the second order does not tie, neither do both
 untied_behind : (o p : Ordering) → is_eq p ≡ false → is_eq (ordering_then o p) ≡ false
 untied_behind Less p e = refl
 untied_behind Equal p e = e
 untied_behind Greater p e = refl
 
--- a link is apart from a router alone
+-- the key of a link does not tie with that of a router alone
 pub link_apart : (k : Key) (router : ℕ)
     → eq_by_cmp change_key_cmp (link_key k) (mark_key router) ≡ false
 link_apart k router = untied_behind (nat_cmp k.0 router) Greater refl
 
--- a router below another is apart from it
+-- the key of a router below another does not tie with its key
 pub mark_below_apart : (router other : ℕ) → nat_cmp router other ≡ Less
     → eq_by_cmp change_key_cmp (mark_key router) (mark_key other) ≡ false
 mark_below_apart router other below = rw below refl

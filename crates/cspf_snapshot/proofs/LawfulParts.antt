@@ -16,36 +16,36 @@ use Rattle.cspf_snapshot.proofs.FullBatches.{AreShort}
 use Rattle.cspf_snapshot.proofs.Parts.{IsPartOf, IsOwnChange, AreOwnChanges, part_after, after_changes-append, link_count-le, mark_count-le}
 use Rattle.cspf_snapshot.proofs.RouterCounts.{router_count-le}
 
--- of a list and another behind it, all of the first
+-- what holds of all of two joined lists holds of all of the first
 all_front : {X : Type 0} (P : X → Type 0) (xs ys : List X) → AllByRecursion P (xs ++ ys)
     → AllByRecursion P xs
 all_front P [] ys all = tt
 all_front P (x ∷ xs) ys all = (all.0, all_front P xs ys all.1)
 
--- and all of the second
+-- and of all of the second
 all_back : {X : Type 0} (P : X → Type 0) (xs ys : List X) → AllByRecursion P (xs ++ ys)
     → AllByRecursion P ys
 all_back P [] ys all = all
 all_back P (x ∷ xs) ys all = all_back P xs ys all.1
 
--- changes on keys of their own
+-- changes on different keys
 abbrev HaveOwnChangeKeys : List Change → Type 0
 HaveOwnChangeKeys cs = IsDistinct (eq_by_cmp change_key_cmp) (map key_changed cs)
 
--- what holds of the keys of all changes holds of the first ones'
+-- what holds of the keys of all changes holds of those of a prefix
 keys_front : (P : ChangeKey → Type 0) (bs cs : List Change)
     → AllByRecursion P (map key_changed (bs ++ cs)) → AllByRecursion P (map key_changed bs)
 keys_front P [] cs all = tt
 keys_front P (b ∷ bs) cs all = (all.0, keys_front P bs cs all.1)
 
--- the first changes are on keys of their own
+-- a prefix of changes on different keys is on different keys
 own_front : (bs cs : List Change) → HaveOwnChangeKeys (bs ++ cs) → HaveOwnChangeKeys bs
 unfolding IsDistinct
 own_front [] cs own = tt
 own_front (b ∷ bs) cs own =
     (keys_front (λ k. eq_by_cmp change_key_cmp (key_changed b) k ≡ false) bs cs own.0, own_front bs cs own.1)
 
--- and the others
+-- and so are the others
 own_back : (bs cs : List Change) → HaveOwnChangeKeys (bs ++ cs) → HaveOwnChangeKeys cs
 unfolding IsDistinct
 own_back [] cs own = own
@@ -77,9 +77,10 @@ pub record IsSmall (d : Database) : Type 0 where
   pub routers : router_count d ≤ MOST_ROUTERS
   pub marks : mark_count d ≤ MOST_MARKS
 
--- Behind the first of own changes a part of the database is still a part, and not larger.
+-- After the first own changes a part of the database is still a part, and no larger than the
+-- database.
 module _ (counted : RoutersAreCounted) (d : Database) (small : IsSmall d) (e : Database) (b : NumberedChanges) (cs : List Change) (part : IsPartOf e d) (own : AreOwnChanges d (b.changes ++ cs)) (made : after_changes e (b.changes ++ cs) ≡ d) where
-  -- what the first changes make
+  -- the database after the first changes
   abbrev next : Database
   next = after_changes e b.changes
 
@@ -91,11 +92,11 @@ module _ (counted : RoutersAreCounted) (d : Database) (small : IsSmall d) (e : D
   own_first : AreOwnChanges d b.changes
   own_first = all_front (IsOwnChange d) b.changes cs own
 
-  -- the others are
+  -- the others are own changes
   own_others : AreOwnChanges d cs
   own_others = all_back (IsOwnChange d) b.changes cs own
 
-  -- what they make is a part
+  -- the database after the first changes is a part
   part_then : IsPartOf next d
   part_then = part_after e d b.changes part own_first
 

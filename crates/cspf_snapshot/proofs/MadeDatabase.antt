@@ -14,7 +14,7 @@ use Rattle.cspf_snapshot.specs.Snapshots.{marking, changes_making, AreMarksOf}
 use Rattle.cspf_snapshot.proofs.KeyOrder.{keys_total, keys_antisymmetric}
 use Rattle.cspf_snapshot.proofs.Parts.{AreOwnChanges, none_is_part, part_after, has_link_after, has_link_put}
 
--- each link that is put is there behind all changes
+-- each link that is put is there after all changes
 has_links : (e d : Database) (links : List Link) (marks : List ℕ)
     → AreOwnChanges d (changes_making links marks)
     → AllByRecursion (λ l. is_some (link_at (after_changes e (changes_making links marks)) (key_of l)) ≡ true) links
@@ -24,7 +24,8 @@ has_links e d (l ∷ links) marks own = (
   has_links (after_change e (Put l)) d links marks own.1,
 )
 
--- an option is another where it is nothing else, and is nothing only where the other is
+-- two options are equal where a value of the first is that of the second, and both have one or
+-- neither
 same_option : (o p : Option Link) → ((l : Link) → o ≡ Some l → p ≡ Some l)
     → ((l : Link) → p ≡ Some l → is_some o ≡ true) → o ≡ p
 same_option None None part has = refl
@@ -55,7 +56,7 @@ contains-marking e (router ∷ marks) q =
     ∙ ap (λ b. b || list_any (eq_by_cmp nat_cmp q) marks) (set.contains-insert nat_cmp_total e.marks router q)
     ∙ or_moved (eq_by_cmp nat_cmp q router) (set.contains e.marks q) (list_any (eq_by_cmp nat_cmp q) marks)
 
--- also behind puts
+-- also after puts
 contains-making : (e : Database) (links : List Link) (marks : List ℕ) (q : ℕ)
     → set.contains (after_changes e (changes_making links marks)).marks q
     ≡ (set.contains e.marks q || list_any (eq_by_cmp nat_cmp q) marks)
@@ -64,7 +65,7 @@ contains-making e (l ∷ links) marks q = contains-making (after_change e (Put l
 
 -- a database's own changes, for all of its links and marks
 module _ (d : Database) (links : List Link) (marks : List ℕ) (own : AreOwnChanges d (changes_making links marks)) (listed : AreLinksOf d links) (keyed : AreAtTheirKeys d) (are_marks : AreMarksOf d marks) where
-  -- what they make of nothing
+  -- the database that they make from nothing
   abbrev made : Database
   made = after_changes no_links (changes_making links marks)
 

@@ -23,14 +23,14 @@ same_marks d ms ns are also =
     ∙ ap (λ s. set.contains s q) (sym are.all ∙ also.all)
     ∙ set.contains-from_list nat_cmp_total ns q)
 
--- fronts of one length are one
+-- prefixes of one length of equal lists are equal
 same_fronts : (front back other rest : List Change) → length front ≡ length other
     → front ++ back ≡ other ++ rest → front ≡ other
 same_fronts front back other rest long e =
     sym (take-append_seam front back) ∙ ap (take (length front)) e
     ∙ ap (λ n. take n (other ++ rest)) long ∙ take-append_seam other rest
 
--- and so is what is behind them
+-- and so are the rests after them
 same_backs : (front back other rest : List Change) → length front ≡ length other
     → front ++ back ≡ other ++ rest → back ≡ rest
 same_backs front back other rest long e =
@@ -41,12 +41,12 @@ same_backs front back other rest long e =
 one_batch : (b c : NumberedChanges) → b.number ≡ c.number → b.changes ≡ c.changes → b ≡ c
 one_batch b c number changes = λ i. record { number = number i; changes = changes i }
 
--- there are changes in batches that are full but for the last
+-- batches that are full except the last have changes
 some_changes : (b : NumberedChanges) (bs : List NumberedChanges) → AreFullButLast (b ∷ bs)
     → 0 < length (changes_of (b ∷ bs))
 some_changes b bs full = omega (arith, length-changes_of-lt (b ∷ bs) full)
 
--- batches that are full but for the last are told by their changes and the first number
+-- batches that are full except the last are determined by their changes and the first number
 same_batches : (first : ℕ) (bs cs : List NumberedChanges) → AreFullButLast bs → AreFullButLast cs
     → AreNumberedFrom first bs → AreNumberedFrom first cs → changes_of bs ≡ changes_of cs → bs ≡ cs
 same_batches first [] [] full also numbers others e = refl

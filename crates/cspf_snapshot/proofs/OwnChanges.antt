@@ -1,4 +1,4 @@
--- The changes of a snapshot are a database's own, each on a key of its own.
+-- The changes of a snapshot are a database's own, each on a different key.
 use Rattle.std.proofs.Common.{◌≡◌, ℕ, false, List, [], ◌∷◌, map, refl}
 use Rattle.std.specs.Ordering.{nat_cmp, eq_by_cmp}
 use Rattle.std.specs.declared.cmp.Ordering.TheVariants.{Less}
@@ -22,7 +22,7 @@ pub own_changes : (d : Database) (links : List Link) (marks : List ℕ)
 own_changes d [] marks each = own_marks d marks
 own_changes d (l ∷ links) marks each = (each.0, own_changes d links marks each.1)
 
--- a router below others is apart from them
+-- the key of a router below others does not tie with theirs
 apart_above : (router : ℕ) (marks : List ℕ)
     → AllByRecursion (λ other. nat_cmp router other ≡ Less) marks
     → AllByRecursion (λ k. eq_by_cmp change_key_cmp (mark_key router) k ≡ false) (map key_changed (map marking marks))
@@ -30,7 +30,7 @@ apart_above router [] above = tt
 apart_above router (other ∷ marks) above =
     (mark_below_apart router other above.0, apart_above router marks above.1)
 
--- changes that mark rising routers are each on a key of its own
+-- changes that mark rising routers are on different keys
 distinct_marks : (marks : List ℕ) → IsStrictlySortedBy nat_cmp marks
     → IsDistinct (eq_by_cmp change_key_cmp) (map key_changed (map marking marks))
 unfolding IsDistinct IsStrictlySortedBy
@@ -38,20 +38,20 @@ distinct_marks [] rising = tt
 distinct_marks (router ∷ marks) rising =
     (apart_above router marks rising.0, distinct_marks marks rising.1)
 
--- a link is apart from routers alone
+-- the key of a link does not tie with those of routers alone
 apart_from_marks : (k : Key) (marks : List ℕ)
     → AllByRecursion (λ j. eq_by_cmp change_key_cmp (link_key k) j ≡ false) (map key_changed (map marking marks))
 apart_from_marks k [] = tt
 apart_from_marks k (router ∷ marks) = (link_apart k router, apart_from_marks k marks)
 
--- and from links with other keys
+-- nor with those of other links
 apart_from_all : (k : Key) (links : List Link) (marks : List ℕ)
     → AllByRecursion (λ j. eq_by_cmp key_cmp k j ≡ false) (map key_of links)
     → AllByRecursion (λ j. eq_by_cmp change_key_cmp (link_key k) j ≡ false) (map key_changed (changes_making links marks))
 apart_from_all k [] marks apart = apart_from_marks k marks
 apart_from_all k (l ∷ links) marks apart = (apart.0, apart_from_all k links marks apart.1)
 
--- the changes of a snapshot are each on a key of its own
+-- the changes of a snapshot are on different keys
 pub distinct_making : (links : List Link) (marks : List ℕ) → HaveOwnKeys links
     → IsStrictlySortedBy nat_cmp marks
     → IsDistinct (eq_by_cmp change_key_cmp) (map key_changed (changes_making links marks))

@@ -1,4 +1,4 @@
--- What changes that are part of a database's own make of a part of it.
+-- A part of a database after some of the database's own changes.
 use Rattle.std.proofs.Common.{◌≡◌, ℕ, ◌+◌, ◌≤◌, Bool, true, false, cond, Option, Some, None, is_some, List, [], ◌∷◌, ◌++◌, sym, ap, refl, ◌∙◌, arith}
 use Rattle.std.specs.Ordering.{eq_by_cmp}
 use Rattle.std.specs.Cmp.{nat_cmp_total}
@@ -43,7 +43,7 @@ none_is_part d k l is = absurd (none_some (sym (map.get-empty key_cmp k) ∙ is)
 pub part_at_keys : (e d : Database) → IsPartOf e d → AreAtTheirKeys d → AreAtTheirKeys e
 part_at_keys e d part keyed k l is = keyed k l (part k l is)
 
--- a part is still one behind one of the database's own changes
+-- a part is still a part after one of the database's own changes
 part_next : (e d : Database) (c : Change) → IsPartOf e d → IsOwnChange d c
     → IsPartOf (after_change e c) d
 part_next e d (Put l) part own k m is =
@@ -54,7 +54,7 @@ part_next e d (Put l) part own k m is =
 part_next e d (Remove from local) part own k m is = absurd own
 part_next e d (Node router transit) part own k m is = part k m is
 
--- and behind all of them
+-- and after all of them
 pub part_after : (e d : Database) (cs : List Change) → IsPartOf e d → AreOwnChanges d cs
     → IsPartOf (after_changes e cs) d
 part_after e d [] part own = part
@@ -103,7 +103,7 @@ mark_count-le e d [] own = omega arith
 mark_count-le e d (c ∷ cs) own =
     omega (arith, mark_count_next e d c own.0, mark_count-le (after_change e c) d cs own.1)
 
--- a key with a link has one behind an own change
+-- a key with a link has one after an own change
 has_link_next : (e d : Database) (c : Change) (k : Key) → IsOwnChange d c
     → is_some (link_at e k) ≡ true → is_some (link_at (after_change e c) k) ≡ true
 has_link_next e d (Put l) k own there =
@@ -116,7 +116,7 @@ has_link_next e d (Put l) k own there =
 has_link_next e d (Remove from local) k own there = absurd own
 has_link_next e d (Node router transit) k own there = there
 
--- and behind all of them
+-- and after all of them
 pub has_link_after : (e d : Database) (cs : List Change) (k : Key) → AreOwnChanges d cs
     → is_some (link_at e k) ≡ true → is_some (link_at (after_changes e cs) k) ≡ true
 has_link_after e d [] k own there = there

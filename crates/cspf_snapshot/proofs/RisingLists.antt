@@ -8,18 +8,18 @@ use Rattle.std.specs.List.Sorted.{IsStrictlySortedBy}
 use Rattle.std.specs.FinMap.{nat_cmp-IsAntisymmetric}
 use Rattle.std.specs.FinMap.Entries.{find, is_sorted, below_all, same_entries}
 
--- the numbers, with nothing beside them
+-- entries with the numbers as keys, and no values
 abbrev entries : List ℕ → List (ℕ × Unit {0})
 entries ns = map (λ n. (n, tt)) ns
 
--- they are found where they stand
+-- a number is found among the entries exactly where it is in the list
 find-entries : (q : ℕ) (ns : List ℕ)
     → find nat_cmp q (entries ns) ≡ cond (list_any (eq_by_cmp nat_cmp q) ns) (Some tt) None
 find-entries q [] = refl
 find-entries q (n ∷ ns) =
     elim (eq_by_cmp nat_cmp q n) as (λ b. cond b (Some tt) (find nat_cmp q (entries ns)) ≡ cond (b || list_any (eq_by_cmp nat_cmp q) ns) (Some tt) None) [ true ↦ refl | false ↦ find-entries q ns ]
 
--- two tests that pass both
+-- the conjunction of two tests that pass
 both : (a b : Bool) → a ≡ true → T b → T (a && b)
 both true b is h = h
 both false b is h = absurd (cc)

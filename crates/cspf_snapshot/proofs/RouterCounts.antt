@@ -43,7 +43,7 @@ some_there s q there none =
     off : true ≡ false → ⊥
     off e = cc
 
--- a number that is taken out is one less
+-- a set without one of its numbers has one fewer
 len-taken : (s : Numbers) (q : ℕ) → set.contains s q ≡ true → set.len (set.remove s q) ≡ set.len s - 1
 len-taken s q there =
     set.len-remove nat_cmp_total s q ∙ ap (λ b. cond b (set.len s - 1) (set.len s)) there
@@ -53,7 +53,7 @@ both_still : (a b c : Bool) → (b ≡ true → c ≡ true) → (a && b) ≡ tru
 both_still true b c still both = still both
 both_still false b c still both = both
 
--- sets that lose a number still are one within the other
+-- a set within another is still within it after both lose a number
 within_taken : (s t : Numbers) (q : ℕ) → IsWithin s t → IsWithin (set.remove s q) (set.remove t q)
 within_taken s t q within x there =
     set.contains-remove nat_cmp_total t q x

@@ -22,7 +22,7 @@ use Rattle.cspf_snapshot.proofs.OwnChanges.{own_changes, distinct_making}
 use Rattle.cspf_snapshot.proofs.MadeDatabase.{is_database}
 use Rattle.cspf_snapshot.proofs.LawfulParts.{IsSmall, lawful_after, len-from_list-le}
 
--- what a table says of the lists of its links and its marks
+-- the lists of the links and marks of a table
 pub record AreListsOf (d : Database) (links : List Link) (marks : List ℕ) : Type 0 where
   pub listed : AreLinksOf d links
   pub most : length links ≤ MOST_LINKS
@@ -52,7 +52,7 @@ module _ (d : Database) (links : List Link) (marks : List ℕ) (lists : AreLists
   making : after_changes no_links (changes_making links marks) ≡ d
   making = is_database d links marks are_own lists.listed lists.keyed lists.are_marks
 
-  -- each is on a key of its own
+  -- they are on different keys
   on_own_keys : IsDistinct (eq_by_cmp change_key_cmp) (map key_changed (changes_making links marks))
   on_own_keys =
       distinct_making links marks lists.once (sorted_from_strictly_increasing marks lists.are_marks.rising)
@@ -84,7 +84,7 @@ module _ (d : Database) (links : List Link) (marks : List ℕ) (lists : AreLists
     database = ap (after_changes no_links) changes ∙ making;
   }
 
--- what three facts of a value that may be there say of it
+-- a fact of the value of a result, by three other facts of it
 pub if_ok_by : {A E : Type 0} (P Q S R : A → Type 0) → ((a : A) → P a → Q a → S a → R a)
     → (r : Result A E) → IfOk r P → IfOk r Q → IfOk r S → IfOk r R
 if_ok_by P Q S R gives (Ok a) p q s = gives a p q s

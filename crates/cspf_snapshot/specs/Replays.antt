@@ -5,7 +5,7 @@ use Rattle.cspf_model.specs.Refusals.{IsFirstUnfit}
 use Rattle.cspf_snapshot.specs.declared.replay_error.ReplayError.{ReplayError}
 use Rattle.cspf_snapshot.specs.declared.replay_error.ReplayError.TheVariants as error
 
--- Why batches aren't replayed. Of refused memory nothing more is said.
+-- Why batches aren't replayed. Refused memory may occur with any batches.
 abbrev pub IsReplayError : List NumberedChanges → ReplayError → Type 0
 IsReplayError batches error.Memory = Unit {0}
 IsReplayError batches (error.Refused number why) = IsFirstUnfit batches number why

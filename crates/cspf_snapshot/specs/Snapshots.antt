@@ -25,14 +25,14 @@ marking router = Node router false
 abbrev pub changes_making : List Link → List ℕ → List Change
 changes_making links marks = map Put links ++ map marking marks
 
--- Each batch but the last has 4,096 changes, and the last has one at least and 4,096 at most.
+-- Each batch but the last has 4,096 changes, and the last has 1 to 4,096.
 abbrev pub AreFullButLast : List NumberedChanges → Type 0
 AreFullButLast [] = Unit {0}
 AreFullButLast (b ∷ []) = (0 < length b.changes) × (length b.changes ≤ MOST_CHANGES)
 AreFullButLast (b ∷ c ∷ bs) = (length b.changes ≡ MOST_CHANGES) × AreFullButLast (c ∷ bs)
 
 -- The batches put the links of the database, in order of their keys, and then mark its marked
--- routers, rising. They are numbered from 1 on, full but for the last, and at most 5. Each fits the
+-- routers, rising. They are numbered from 1 on, full except the last, and at most 5. Each fits the
 -- database of those before it, and the last leaves the database.
 pub record IsSnapshot (d : Database) (batches : List NumberedChanges) : Type 0 where
   pub marks : List ℕ

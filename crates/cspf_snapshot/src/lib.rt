@@ -1,5 +1,5 @@
-//! Between a table and batches: the few batches that make a table's database from nothing, and the
-//! table after the batches of a journal.
+//! From a table to batches and back: the few batches that make a table's database from nothing, and
+//! the table after the batches of a journal.
 //!
 //! `specs/Snapshots.antt` defines the batches that make a database, `specs/SnapshotLaws.antt` says
 //! that there is one list of them, and `specs/Replays.antt` why batches aren't replayed.

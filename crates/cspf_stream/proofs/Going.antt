@@ -1,4 +1,4 @@
--- A stream of rows, as far as it has come.
+-- A stream of rows, the first of which were read and answered.
 use Rattle.std.proofs.Common.{◌≡◌, ℕ, suc, ◌+◌, Bool, true, false, List, [], ◌∷◌, ◌++◌, length, length-append, Option, Some, None, IfSome, inl, inr, refl, sym, ap, ◌∙◌, append_assoc, append-nil, arith}
 use Rattle.std.proofs.KnownBytes.{Appends-nil, Appends-trans}
 use Rattle.std.specs.Io.KnownBytes.{Appends}
@@ -16,7 +16,7 @@ use Rattle.cspf_stream.specs.declared.error.StreamError.TheVariants as stream_er
 abbrev Rows : Type 0
 Rows = List (List (List ℕ))
 
--- all rows are those that were read, and then those that are left
+-- the rows are those that were read, followed by those that are left
 abbrev pub IsReadUpTo : Option (List (List (List ℕ))) → List (List (List ℕ)) → Option (List (List (List ℕ))) → Type 0
 IsReadUpTo all done left = IfSome all (λ rows. (rest : List (List (List ℕ))) × (left ≡ Some rest) × (rows ≡ done ++ rest))
 

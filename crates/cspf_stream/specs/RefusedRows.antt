@@ -1,4 +1,4 @@
--- The line that a refused row is answered. It ends with one line feed.
+-- The line of the answer to a refused row. It ends with one line feed.
 use Rattle.std.specs.Prelude.{ℕ, List, ◌++◌, codes}
 use Rattle.std.specs.Fmt.{decimal}
 use Rattle.cspf_rows.specs.Words.{words}

@@ -1,11 +1,11 @@
--- What a stream of rows is answered, one row after the other.
+-- The answers to a stream of rows, one row after the other.
 use Rattle.std.specs.Prelude.{◌≡◌, ℕ, suc, List, [], ◌∷◌, ◌++◌, Option, Result, IfSome}
 use Rattle.std.specs.Io.KnownBytes.{Appends}
 use Rattle.cspf_rows.specs.Rows.{row_of}
 use Rattle.cspf_rows.specs.declared.row.Row.{Row}
 use Rattle.cspf_rows.specs.declared.row_error.RowError.{RowError}
 
--- what the row at a place, from 1, is answered: from a state to a state
+-- the lines that the row at a place, from 1, is answered, and the states before and after
 abbrev pub AnswersOf : Type 0 → Type 1
 AnswersOf S = ℕ → S → Result Row RowError → List ℕ → S → Type 0
 

@@ -10,7 +10,7 @@ use Rattle.cspf_stream.specs.declared.limits.TheConstants.{MOST_STREAM_ROWS}
 use Rattle.cspf_stream.specs.declared.error.StreamError.{StreamError}
 use Rattle.cspf_stream.specs.declared.error.StreamError.TheVariants as error
 
--- what refused memory leaves at the row at a place: from a state to a state
+-- the states before and after refused memory at the row at a place
 abbrev pub FailsOf : Type 0 → Type 1
 FailsOf S = ℕ → S → Result Row RowError → S → Type 0
 
@@ -22,8 +22,9 @@ IsLineStopped error.Write line old new = (size : ℕ) × (size < length line) ×
 IsLineStopped error.Flush line old new = Appends old new line
 IsLineStopped error.TooManyRows line old new = ⊥
 
--- Where the answer to the row at a place stops. Where memory was refused nothing is written. Where a
--- write failed a part of the line is written, not all of it, and where a flush failed the whole line.
+-- Where the answer to the row at a place stops. Where memory was refused nothing is written. Where
+-- a write failed a part of the line is written, but not all of it. Where a flush failed the whole
+-- line is written.
 abbrev pub IsRowStopped : {S : Type 0} → AnswersOf S → FailsOf S → StreamError → ℕ → Result Row RowError → S → S → Option (List ℕ) → Option (List ℕ) → Type 0
 IsRowStopped answers fails error.Memory place row s t old new = fails place s row t × known.Keeps old new
 IsRowStopped answers fails error.Read place row s t old new = ⊥
@@ -33,7 +34,7 @@ IsRowStopped answers fails error.Flush place row s t old new =
     (line : List ℕ) × answers place s row line t × IsLineStopped error.Flush line old new
 IsRowStopped answers fails error.TooManyRows place row s t old new = ⊥
 
--- The stream stops between two rows: some first rows are answered, and their lines are written.
+-- The stream stops between two rows: a prefix of the rows is answered, and their lines are written.
 pub record StopsBetween {S : Type 0} (answers : AnswersOf S) (all : Option (List (List (List ℕ)))) (s t : S) (old new : Option (List ℕ)) : Type 0 where
   pub done : List (List (List ℕ))
   pub rest : List (List (List ℕ))
@@ -42,8 +43,8 @@ pub record StopsBetween {S : Type 0} (answers : AnswersOf S) (all : Option (List
   pub answered : AreAnswered answers 1 s done lines t
   pub written : Appends old new lines
 
--- The stream stops in a row: some first rows are answered, and their lines are written. The row that
--- comes next stops, and no row behind it was read.
+-- The stream stops in a row: a prefix of the rows is answered, and their lines are written. The
+-- next row stops the stream, and no row after it was read.
 pub record StopsInRow {S : Type 0} (answers : AnswersOf S) (fails : FailsOf S) (error : StreamError) (all left : Option (List (List (List ℕ)))) (s t : S) (old new : Option (List ℕ)) : Type 0 where
   pub done : List (List (List ℕ))
   pub fields : List (List ℕ)
@@ -56,7 +57,7 @@ pub record StopsInRow {S : Type 0} (answers : AnswersOf S) (fails : FailsOf S) (
   pub written : Appends old mid lines
   pub stops : IsRowStopped answers fails error (suc (length done)) (row_of fields) before t mid new
 
--- All rows that can be counted are answered, and their lines are written. One more stands there.
+-- All rows that can be counted are answered, and their lines are written. There is one more row.
 pub record HasTooMany {S : Type 0} (answers : AnswersOf S) (all : Option (List (List (List ℕ)))) (s t : S) (old new : Option (List ℕ)) : Type 0 where
   pub done : List (List (List ℕ))
   pub fields : List (List ℕ)
@@ -67,7 +68,7 @@ pub record HasTooMany {S : Type 0} (answers : AnswersOf S) (all : Option (List (
   pub answered : AreAnswered answers 1 s done lines t
   pub written : Appends old new lines
 
--- What stands where a stream stops. A read that failed is the reader's fault, and so is memory that
+-- The state where a stream stops. A read that failed is the reader's fault, and so is memory that
 -- was refused before a row was whole.
 abbrev pub HasStopped : {S : Type 0} → AnswersOf S → FailsOf S → StreamError → Option (List (List (List ℕ))) → Option (List (List (List ℕ))) → Bool → S → S → Option (List ℕ) → Option (List ℕ) → Type 0
 HasStopped answers fails error.Memory all left failed s t old new =

@@ -5,19 +5,20 @@ ghost use Rattle.cspf_rows.specs.declared.row_error.RowError.{RowError as Refusa
 use cspf_rows::{Row, RowError};
 use std::alloc::{AllocError, Global};
 
-/// Answers the rows of a stream, one after the other. What a row needs besides, and what no answer
-/// depends on, is its context, as the handle of a runtime.
+/// Answers the rows of a stream, one after the other. The context is what a row needs besides but
+/// no answer depends on, such as the handle of a runtime.
 pub trait Answering<C> {
-    /// The row at this place, from 1, is answered this line: from a state to a state.
+    /// The row at this place, from 1, is answered this line; the states before and after.
     ghost answers: { ℕ → Self → Result ReadRow Refusal → List ℕ → Self → Type 0 };
 
-    /// Memory is refused at the row at this place: from a state to a state.
+    /// Memory is refused at the row at this place; the states before and after.
     ghost fails: { ℕ → Self → Result ReadRow Refusal → Self → Type 0 };
 
-    /// What is known of the state before the row at this place, as that a count is below the place.
+    /// An invariant of the state before the row at this place, such as that a count is below the
+    /// place.
     ghost may_stand: { ℕ → Self → Type 0 };
 
-    /// Answers the row at this place its line, which may be empty.
+    /// Returns the line that answers the row at this place. It may be empty.
     fn answer(
         &mut self,
         context: &C,

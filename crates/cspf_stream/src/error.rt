@@ -18,7 +18,7 @@ pub enum StreamError {
     /// A write failed, or took no bytes.
     #[error("a write failed")]
     Write,
-    /// A line is written, but the flush behind it failed.
+    /// A line is written, but the flush after it failed.
     #[error("a flush failed")]
     Flush,
     /// There is a row past `MOST_STREAM_ROWS` rows. No run can read as many.

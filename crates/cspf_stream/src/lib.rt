@@ -1,10 +1,10 @@
-//! A stream of rows that are answered one by one: each row's line is out before the next row is read.
-//! A stream has no limit but that its rows are counted in 64 bits.
+//! A stream of rows that are answered one by one: each row's line is written before the next row is
+//! read. A stream is limited only by the 64-bit count of its rows.
 //!
-//! What a row is answered is said by the `Answering` of the stream. `specs/RowAnswers.antt` defines
-//! what a stream of rows is answered by one, `specs/StreamStops.antt` what was read, answered and
-//! written where a stream stops before its end, and by which error, and `specs/RefusedRows.antt` the
-//! line of a refused row.
+//! The `Answering` of the stream answers each row. `specs/RowAnswers.antt` defines the answers to a
+//! stream of rows, and `specs/RefusedRows.antt` the line of a refused row. `specs/StreamStops.antt`
+//! defines what was read, answered and written where a stream stops before its end, and by which
+//! error.
 #![tactic(auto)]
 
 mod answering;

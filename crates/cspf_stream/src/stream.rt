@@ -16,12 +16,12 @@ use csv::{ByteRecord, Reader};
 use std::alloc::Global;
 use std::io::{Read, Write};
 
-/// Answers all rows that a reader has left, in order. The line of a row is written, in one write
-/// where the writer takes it whole, and flushed before the next row is read; an empty line isn't
-/// written. Memory is taken for the longest row alone, and for what a row's answer needs.
+/// Answers all rows that a reader has left, in order. The line of a row is written and flushed
+/// before the next row is read. It takes one write where the writer takes it whole. An empty line
+/// isn't written. Memory is taken only for the longest row, and for what a row's answer needs.
 ///
-/// After an error no row behind the one that stopped the stream was read, and the writer has the
-/// lines of the rows before it: `HasStopped` says what else.
+/// After an error no row after the one that stopped the stream was read, and the writer has the
+/// lines of the rows before it. `HasStopped` gives the rest of the state.
 pub fn answer_rows<R: Read, W: Write, C, A: Answering<C>>(
     context: &C,
     alloc: Global,
@@ -70,7 +70,7 @@ fn answer_each<R: Read, W: Write, C, A: Answering<C>>(
     Ok(())
 }
 
-/// Answers the row at this place, and lets its line out.
+/// Answers the row at this place, and writes and flushes its line.
 fn answer_row<W: Write, C, A: Answering<C>>(
     context: &C,
     alloc: Global,

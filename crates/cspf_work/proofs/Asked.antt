@@ -1,4 +1,4 @@
--- What a worker has done stays right while its asker learns more.
+-- A worker's replies stay right while its asker learns more.
 use Rattle.std.proofs.Common.{◌≡◌, ℕ, ◌-◌, ◌<◌, ◌≤◌, List, [], ◌∷◌, ◌++◌, length, take, Some, get_or, All, sym, ap, ◌∙◌, subst, arith, length-append, append_assoc, slice_get}
 use Rattle.std.proofs.lemmas.List.{take-append-le}
 use Rattle.std.proofs.lemmas.List.Elements.{All-push}
@@ -15,7 +15,7 @@ use Rattle.cspf_work.specs.declared.worker.Worker.{Worker}
 use Rattle.cspf_work.specs.Served.{IsAnswerWithin, KnowsNoLess}
 use Rattle.cspf_work.specs.Working.{HasDone, IsDone}
 
--- a beginning of a beginning
+-- a prefix of a prefix
 pub begins_through : (xs ys zs : List NumberedChanges) → BeginsWith ys xs → BeginsWith zs ys → BeginsWith zs xs
 begins_through xs ys zs p q = (p.0 ++ q.0, q.1 ∙ (ap (λ w. w ++ q.0) p.1 ∙ append_assoc xs p.0 q.0))
 
@@ -28,7 +28,7 @@ knows_through a b c p q = record {
 pub length_begins : (all first : List NumberedChanges) → BeginsWith all first → length first ≤ length all
 length_begins all first p = omega (arith, ap length p.1, length-append first p.0)
 
--- the first ones stay the first ones
+-- the first `n` of a prefix are the first `n` of the list
 pub take_begins : (n : ℕ) (all first : List NumberedChanges) → BeginsWith all first → n ≤ length first → take n all ≡ take n first
 take_begins n all first p le = ap (take n) p.1 ∙ take-append-le n first p.0 le
 

@@ -20,7 +20,7 @@ use Rattle.cspf_work.specs.Collected.{IsCollectError, times_in}
 use Rattle.cspf_work.proofs.Filling.{times-append, times-push}
 use Rattle.cspf_work.proofs.Running.{run_drawn, run_inside}
 
--- a rising list has no number below its place
+-- in a rising list the number at an index is no less than the index
 at_least : (xs : List ℕ) → IsStrictlyIncreasing xs → (k : ℕ) → k < length xs → k ≤ get_or xs k 0
 at_least xs rising zero less = omega arith
 at_least xs rising (suc k) less =
@@ -36,11 +36,11 @@ too_many xs bound rising below long =
     let less = below bound 0 (omega arith) in
     omega arith
 
--- the indexes of replies are below what bounds those of each
+-- the indexes of replies are below a bound of each
 pub below_indexes : (bound : ℕ) (done : List Reply) → All (λ r. r.index < bound) done → All (λ x. x < bound) (indexes done)
 below_indexes bound done inside = All-map (λ x. x < bound) (λ (r : Reply). r.index) done inside
 
--- the first of a rising list rise
+-- a prefix of a rising list rises
 rising_front : (xs ys : List ℕ) → IsStrictlyIncreasing (xs ++ ys) → IsStrictlyIncreasing xs
 rising_front xs ys rising k less =
     let step = rising k (let long = length-append xs ys in omega arith) in
@@ -48,7 +48,7 @@ rising_front xs ys rising k less =
     let next = get_or_append_left xs ys 0 (k + 1) less in
     omega arith
 
--- what is above a bound that all are below doesn't stand in a list
+-- a number at or above a bound of all items isn't in the list
 times-above : (xs : List ℕ) (bound x : ℕ) → All (λ y. y < bound) xs → bound ≤ x → times x xs ≡ 0
 times-above [] bound x below above = refl
 times-above (y ∷ ys) bound x below above =
@@ -62,7 +62,7 @@ pub record IsDrawnOut (bound : ℕ) (w : Worker) : Type 0 where
   pub inside : All (λ r. r.index < bound) w.done.items
   pub drawn : HasDrawnAll bound w
 
--- as all workers are whose askers gave no fault
+-- so are all workers whose askers gave no fault
 pub drawn_out : (id : CounterId) (requests : List Request) (before : List KnownBatches) (workers : List Worker) → AreRun id requests before workers
     → All (λ (w : Worker). IsNone w.fault) workers → All (IsDrawnOut (length requests)) workers
 drawn_out id requests before workers run none i d less = record {

@@ -1,4 +1,4 @@
--- Answers in the places of their requests.
+-- The answers at the places of their requests.
 use Rattle.std.proofs.Common.{◌≡◌, ◌≢◌, ℕ, zero, suc, ◌+◌, ◌<◌, ◌⊎◌, true, false, cond, eqb, List, [], ◌∷◌, ◌++◌, length, map, Option, Some, None, get_or, All, Vec, inl, inr, refl, sym, ap, ◌∙◌, subst, arith, rules, IsSome, is_some, append-nil, append_assoc, slice_get, slice_set, sum_by, flat_map}
 use Rattle.std.specs.Global.{Global}
 use Rattle.std.specs.Option.{option_map}
@@ -137,7 +137,7 @@ from_some : (o : Option Answer) (a : Answer) → option_map (λ (b : Answer). So
 from_some (Some b) a e = cc e
 from_some None a e = absurd (cc e)
 
--- where each place is filled, each reply stands in the list
+-- where each place is filled, each reply is in the list
 pub filled_placed : (slots : List (Option Answer)) (list : List Answer) (done : List Reply)
     → map (λ a. Some a) list ≡ slots → AreFilled slots done → All (IsPlaced list) done
 filled_placed slots list done same is k d inside =
@@ -154,7 +154,7 @@ slice_get-inside [] x less = absurd (omega arith)
 slice_get-inside (a ∷ rest) zero less = refl
 slice_get-inside (a ∷ rest) (suc x) less = slice_get-inside rest x (omega arith)
 
--- and each index stands once
+-- and each index is there once
 pub filled_once : (slots : List (Option Answer)) (list : List Answer) (done : List Reply)
     → map (λ a. Some a) list ≡ slots → AreFilled slots done → (x : ℕ) → times x (indexes done) ≡ once_below (length list) x
 filled_once slots list done same is x =
@@ -190,7 +190,7 @@ all_lists P [] all = All-nil (λ (l : Vec Reply Global). All P l.items)
 all_lists P (l ∷ ls) all =
     All-cons (λ (v : Vec Reply Global). All P v.items) l ls (all_front P l.items (replies ls) all) (all_lists P ls (all_back P l.items (replies ls) all))
 
--- an index stands in all lists together as often as in each of them
+-- an index is in all lists together as often as in each of them in sum
 pub times-replies : (x : ℕ) (lists : List (Vec Reply Global)) → times x (indexes (replies lists)) ≡ times_in x lists
 times-replies x [] = refl
 times-replies x (l ∷ ls) =
@@ -216,7 +216,7 @@ times_in-indexes x (v ∷ vs) (l ∷ ls) same =
 pub replies-push : (lists : List (Vec Reply Global)) (l : Vec Reply Global) → replies (lists ++ l ∷ []) ≡ replies lists ++ l.items
 replies-push lists l = flat_map-append (λ (v : Vec Reply Global). v.items) lists (l ∷ []) ∙ ap (λ rest. replies lists ++ rest) (append-nil l.items)
 
--- an index that stands twice in some lists stands twice in all
+-- an index that is twice in some lists is twice in all
 pub twice_collected : (count : ℕ) (first rest lists : List (Vec Reply Global)) (l : Vec Reply Global) (e : ServeError)
     → (first ++ l ∷ []) ++ rest ≡ lists → (e ≡ Memory) ⊎ IsTwice (replies first ++ l.items) e → IsCollectError count lists e
 twice_collected count first rest lists l e whole (inl memory) = inl memory
@@ -229,7 +229,7 @@ twice_collected count first rest lists l e whole (inr twice) =
     ap (times_in index) (sym whole) ∙ sum_by-append (λ (v : Vec Reply Global). times index (indexes v.items)) (first ++ l ∷ []) rest in
     inr (inr (index, twice.1, omega arith))
 
--- an index whose place is free stands in no list
+-- an index whose place is free is in no list
 pub missing_collected : (count : ℕ) (slots : List (Option Answer)) (lists : List (Vec Reply Global)) (e : ServeError)
     → length slots ≡ count → AreFilled slots (replies lists) → (e ≡ Memory) ⊎ ((index : ℕ) × (e ≡ Missing index) × (slice_get slots index ≡ Some None)) → IsCollectError count lists e
 missing_collected count slots lists e long is (inl memory) = inl memory
@@ -257,7 +257,7 @@ left_next P before x left after all whole next holds =
 pub map_push : {X Y : Type 0} (f : X → Y) (xs ys : List X) (x : X) → ys ≡ xs ++ x ∷ [] → map f ys ≡ map f xs ++ f x ∷ []
 map_push f xs ys x pushed = ap (map f) pushed ∙ map-append f xs (x ∷ [])
 
--- what stands twice in a beginning stands twice in the whole
+-- an index that is twice in a prefix is twice in the whole
 pub twice_whole : (done before : List Reply) (r : Reply) (after all : List Reply) (e : ServeError)
     → (before ++ r ∷ []) ++ after ≡ all → IsTwice ((done ++ before) ++ r ∷ []) e → IsTwice (done ++ all) e
 twice_whole done before r after all e whole twice =

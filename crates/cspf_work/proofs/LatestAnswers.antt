@@ -34,7 +34,7 @@ no_later : (published : List NumberedChanges) (list : List Answer) (version : �
     → All (λ (a : Answer). a.version ≡ version) list → All (λ (a : Answer). a.version ≤ length published) list
 no_later published list version is same i d less = let one = same i d less in omega arith
 
--- what askers were told stays known
+-- the batches that askers learnt stay known
 pub told_later : (published : List NumberedChanges) (before after : List KnownBatches) → AreSameAskers before after
     → All (λ (k : KnownBatches). BeginsWith k.batches published) before → All (λ (k : KnownBatches). BeginsWith k.batches published) after
 told_later published before after same told i d less =
@@ -45,7 +45,7 @@ told_later published before after same told i d less =
     subst (λ (k : KnownBatches). BeginsWith k.batches published) (get_or_from_slice_get before i old.0 old.0 old.1) (told i old.0 (omega arith)) in
     begins_through published (old.0).batches (get_or after i d).batches was knows.later
 
--- what askers answer that were told all of these batches
+-- the answers of askers that had learnt all of these batches
 pub latest_answers : (published : List NumberedChanges) (requests : List Request) (told after : List KnownBatches) (list : List Answer) (drawn : List (Vec ℕ Global)) (version : ℕ)
     → version ≡ length published → All (λ (k : KnownBatches). BeginsWith k.batches published) told → AreSameAskers told after
     → AreAnsweredByWorkers requests told after list drawn → All (λ (a : Answer). (version ≤ a.version) × (a.version ≤ version)) list → AreAnswersAfter published requests list

@@ -78,7 +78,7 @@ run_askers counter requests before workers after askers run = record {
     asker_at i old new (Some w) here at there = subst (λ (k : KnownBatches). KnowsNoLess old k) (cc there) ((run.each i old w at here).done.asker)
     asker_at i old new None here at there = absurd (cc there)
 
--- what a slice of a whole list leaves there
+-- the list after a slice of all of it was written back
 written_back : {X : Type 0} (new rest : List X) (n : ℕ) → n ≡ length new → take n (new ++ rest) ≡ new
 written_back new rest n long = ap (λ m. take m (new ++ rest)) long ∙ take-append_seam new rest
 
@@ -91,7 +91,7 @@ run_written_back counter requests before workers lent new rest n same long ready
     let count : n ≡ length new = (let each = of_all.count in let all = ap length ready.askers in let map_long = length-map workers (λ (w : Worker). w.asker) in omega arith) in
     subst (λ (all : List Worker). AreRun counter requests before all) (sym (written_back new rest n count)) of_all
 
--- what is left of workers whose counter is this one
+-- the results of workers whose counter is this one
 pub results_of : (own id : CounterId) (requests : List Request) (before : List KnownBatches) (idle : List Worker) (numbers : List ℕ) (results : Results)
     → own ≡ id → AreReady id requests before idle → AreLeft own requests idle numbers results
     → (workers : List Worker) × AreResults id requests before numbers results workers
@@ -107,7 +107,7 @@ left_of own id requests before idle numbers results same ready run =
     let is = results_of own id requests before idle numbers results same ready run in
     (before, is.0, is.1)
 
--- what holds of all that may be left holds of what their askers knew
+-- what holds of all possible results holds of what their askers knew
 pub of_results : (P : List KnownBatches → Type 0) (own id : CounterId) (requests : List Request) (before : List KnownBatches) (idle : List Worker) (numbers : List ℕ) (results : Results)
     → own ≡ id → AreReady id requests before idle → AreLeft own requests idle numbers results
     → ((known : List KnownBatches) (workers : List Worker) → AreResults id requests known numbers results workers → P known)

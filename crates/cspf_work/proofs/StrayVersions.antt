@@ -1,4 +1,4 @@
--- What is said of the first answer of a version that it may not have.
+-- The error for the first answer with a version that it may not have.
 use Rattle.std.proofs.Common.{◌≡◌, ℕ, ◌≤◌, List, length, inl, inr, arith}
 use Rattle.std.proofs.lemmas.Bool.{cases_lt}
 use Rattle.std.proofs.lemmas.Option.{slice_get_within}

@@ -1,4 +1,4 @@
--- What workers answered beside a publisher, once each asker has learnt what is published.
+-- The workers' answers beside a publisher, once each asker has learnt the published batches.
 use Rattle.std.proofs.Common.{◌≡◌, ℕ, zero, suc, ◌+◌, ◌<◌, ◌≤◌, cond, eqb, List, [], ◌∷◌, length, length-append, Option, Some, get_or, All, Vec, inl, inr, refl, sym, ap, ◌∙◌, subst, arith, slice_get, slice_set, sum_by, unwrap_or, option_map}
 use Rattle.std.specs.Global.{Global}
 use Rattle.std.proofs.lemmas.Bool.{cases_Bool, cases_lt, eqb-true, eqb-false}
@@ -33,7 +33,7 @@ served_later requests list before mid after indexes more is = record {
   versions = is.versions;
 }
 
--- the same where the askers know more
+-- the answers stay right where the askers know more afterwards
 pub answered_later : (requests : List Request) (before mid after : List KnownBatches) (list : List Answer) (drawn : List (Vec ℕ Global))
     → length mid ≡ length before → AreSameAskers mid after → AreAnsweredByWorkers requests before mid list drawn → AreAnsweredByWorkers requests before after list drawn
 answered_later requests before mid after list drawn count same is = record {
@@ -63,7 +63,7 @@ served_before requests list before mid after indexes more is = record {
   versions = is.versions;
 }
 
--- the same where the askers knew less before
+-- the answers stay right where the askers knew less before
 pub answered_before : (requests : List Request) (before mid after : List KnownBatches) (list : List Answer) (drawn : List (Vec ℕ Global))
     → AreSameAskers before mid → AreAnsweredByWorkers requests mid after list drawn → AreAnsweredByWorkers requests before after list drawn
 answered_before requests before mid after list drawn same is = record {
@@ -115,7 +115,7 @@ place_of x (y ∷ ys) some = elim (cases_Bool (eqb y x)) [
       (suc rest.0, omega arith, rest.2)
 ]
 
--- what the worker did that answered a request
+-- the work of the worker that answered a request
 served_there : (requests : List Request) (before after : List KnownBatches) (list : List Answer) (drawn : List (Vec ℕ Global))
     → length after ≡ length before → AreAnsweredByWorkers requests before after list drawn → (i : ℕ) → i < length requests
     → (worker : ℕ) × (old : KnownBatches) × (new : KnownBatches) × (slice_get before worker ≡ Some old) × (slice_get after worker ≡ Some new)
@@ -154,14 +154,14 @@ no_earlier requests before after list drawn published count told is i a there =
     let version : version_at list i ≡ a.version = ap (λ (o : Option Answer). unwrap_or (option_map (λ (b : Answer). b.version) o) 0) there in
     omega (arith, later, version, long)
 
--- an answer of no later version stays right in the first batches
+-- an answer of no later version stays right in a prefix of the batches
 within_front : (all first : List NumberedChanges) (q : Request) (a : Answer) → BeginsWith all first → a.version ≤ length first → IsAnswerWithin all q a → IsAnswerWithin first q a
 within_front all first q a more within is = record {
   version = within;
   answer = subst (λ (bs : List NumberedChanges). IsAnswerAfter bs q a) (take_begins a.version all first more within) is.answer;
 }
 
--- each answer is that of some first published batches
+-- each answer is that of a prefix of the published batches
 within_published_at : (requests : List Request) (before after : List KnownBatches) (list : List Answer) (drawn : List (Vec ℕ Global)) (published : List NumberedChanges)
     → length after ≡ length before → All (λ (k : KnownBatches). BeginsWith k.batches published) after → All (λ (a : Answer). a.version ≤ length published) list
     → AreAnsweredByWorkers requests before after list drawn → (i : ℕ) (q : Request) (a : Answer) → slice_get requests i ≡ Some q → slice_get list i ≡ Some a → IsAnswerWithin published q a
@@ -181,7 +181,7 @@ pub within_published : (requests : List Request) (before after : List KnownBatch
 within_published requests before after list drawn published count told accounted is =
     record { each = within_published_at requests before after list drawn published count told accounted is }
 
--- what each asker knows after one more was told
+-- what each asker knows after one more has learnt the published batches
 pub record AreTold (published : List NumberedChanges) (before after : List KnownBatches) (n : ℕ) : Type 0 where
   pub each : (i : ℕ) (d : KnownBatches) → i < length before → KnowsNoLess (get_or before i d) (get_or after i d)
   pub told : (i : ℕ) (d : KnownBatches) → i < n → BeginsWith (get_or after i d).batches published

@@ -1,4 +1,4 @@
--- What batches leave that are applied in order, up to the first that is refused.
+-- The state after batches are applied in order, up to the first that is refused.
 use Rattle.std.specs.Prelude.{◌≡◌, ℕ, ◌<◌, ◌≤◌, ◌⊎◌, List, ◌++◌, length, take, Option, Some, None, slice_get, flat_map, All, false}
 use Rattle.std.specs.Io.KnownBytes.{Appends}
 use Rattle.cspf_model.specs.Numbered.{NumberedChanges}
@@ -24,25 +24,27 @@ IsEndOfApplying contents before after batches applied None = (applied ≡ length
 IsEndOfApplying contents before after batches applied (Some e) =
     (next : NumberedChanges) × (slice_get batches applied ≡ Some next) × IsApplyError contents before after next e
 
--- Some first ones of these batches were published, and then the next one was refused, unless there was none.
+-- A prefix of these batches was published, and then the next one was refused, unless there was
+-- none.
 pub record IsAppliedUpTo {W : Type 0} (contents : W → Option (List ℕ)) (before after : PublisherState W) (batches : List NumberedChanges) (applied : ℕ) (fault : Option ApplyError) : Type 0 where
   pub inside : applied ≤ length batches
   pub source : after.source ≡ before.source
   pub published : after.batches ≡ before.batches ++ take applied batches
-  -- what stood before the refusal
+  -- the state before the refusal
   pub between : PublisherState W
   pub first : AreApplied contents before between (take applied batches)
   pub stop : IsEndOfApplying contents between after batches applied fault
 
--- Nothing happened, or the first of these batches were applied as far as they go, however many they are: the journal
--- grew by the texts of those that were published, and after a fault of it a beginning of one more is there and the
--- publisher is stopped.
+-- Nothing happened, or these batches were applied up to the first that was refused. The journal
+-- grew by the texts of those that were published. After a fault of the journal it also has a prefix
+-- of one more text, and the publisher is stopped.
 abbrev pub IsAppliedInPart : {W : Type 0} → (W → Option (List ℕ)) → PublisherState W → PublisherState W → List NumberedChanges → Type 0
 IsAppliedInPart contents before after batches =
     (after ≡ before)
     ⊎ ((applied : ℕ) × (fault : Option ApplyError) × IsAppliedUpTo contents before after batches applied fault)
 
--- Nothing happened, neither to the publisher nor to an asker, or each asker knows what is published.
+-- Nothing happened, neither to the publisher nor to an asker, or each asker knows the published
+-- batches.
 abbrev pub AreUntouchedOrTold : {W : Type 0} → PublisherState W → PublisherState W → List KnownBatches → List KnownBatches → Type 0
 AreUntouchedOrTold before after askers back =
     ((after ≡ before) × (back ≡ askers)) ⊎ All (λ (a : KnownBatches). BeginsWith a.batches after.batches) back

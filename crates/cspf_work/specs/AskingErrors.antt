@@ -1,10 +1,10 @@
--- Which error of an ask is answered under which name.
+-- The error of the workers for each error of an ask.
 use Rattle.cspf_publish.specs.declared.errors.AskError.{AskError}
 use Rattle.cspf_publish.specs.declared.errors.AskError.TheVariants as ask
 use Rattle.cspf_work.specs.declared.serve_error.ServeError.{ServeError}
 use Rattle.cspf_work.specs.declared.serve_error.ServeError.TheVariants as serve
 
--- what a worker meets where it asks keeps its name
+-- each error of an ask keeps its name
 abbrev pub serve_error_of : AskError → ServeError
 serve_error_of ask.NoEntry = serve.NoEntry
 serve_error_of ask.Memory = serve.Memory

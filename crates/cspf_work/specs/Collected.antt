@@ -15,7 +15,7 @@ pub record AreFilled (slots : List (Option Answer)) (done : List Reply) : Type 0
   pub none : (x : ℕ) → slice_get slots x ≡ Some None → times x (indexes done) ≡ 0
   pub past : (x : ℕ) → slice_get slots x ≡ None → times x (indexes done) ≡ 0
 
--- the answer stands in the list at the index
+-- the answer is in the list at the index
 abbrev pub IsPlaced : List Answer → Reply → Type 0
 IsPlaced list r = slice_get list r.index ≡ Some r.answer
 
@@ -23,7 +23,7 @@ IsPlaced list r = slice_get list r.index ≡ Some r.answer
 abbrev pub IsTwice : List Reply → ServeError → Type 0
 IsTwice done e = (index : ℕ) × (e ≡ Twice index) × (1 < times index (indexes done))
 
--- how often an index stands in lists of replies
+-- how often an index is in lists of replies
 abbrev pub times_in : ℕ → List (Vec Reply Global) → ℕ
 times_in x lists = sum_by (λ (list : Vec Reply Global). times x (indexes list.items)) lists
 

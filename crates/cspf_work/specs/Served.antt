@@ -1,4 +1,4 @@
--- What workers answer: which answers are right, and who answered what.
+-- The workers' answers: which are right, and which worker answered which request.
 use Rattle.std.specs.Prelude.{◌≡◌, ℕ, ◌<◌, ◌≤◌, ◌⊎◌, List, length, take, Some, slice_get, unwrap_or, option_map, All, sum_by, Vec}
 use Rattle.std.specs.Global.{Global}
 use Rattle.std.specs.List.Sorted.{IsNonDecreasingBy}
@@ -12,7 +12,7 @@ use Rattle.cspf_publish.specs.KnownBatches.{KnownBatches}
 use Rattle.cspf_work.specs.declared.serve_error.ServeError.{ServeError}
 use Rattle.cspf_work.specs.declared.serve_error.ServeError.TheVariants.{Memory, NoEntry, Unaccounted}
 
--- The answer is that of some first batches of these: as many as its version.
+-- The answer is that of a prefix of these batches, with as many batches as its version.
 pub record IsAnswerWithin (batches : List NumberedChanges) (q : Request) (a : Answer) : Type 0 where
   pub version : a.version ≤ length batches
   pub answer : IsAnswerAfter (take a.version batches) q a
@@ -21,8 +21,8 @@ pub record IsAnswerWithin (batches : List NumberedChanges) (q : Request) (a : An
 abbrev pub version_at : List Answer → ℕ → ℕ
 version_at list index = unwrap_or (option_map (λ a. a.version) (slice_get list index)) 0
 
--- The request at this index has an answer that is that of some first batches of those known after it, and no fewer
--- than were known before.
+-- The answer to the request at this index is that of a prefix of the batches that are known after
+-- it. The prefix has no fewer batches than were known before.
 pub record IsServedAt (requests : List Request) (list : List Answer) (before after : List NumberedChanges) (index : ℕ) : Type 0 where
   pub later : length before ≤ version_at list index
   pub answer : (q : Request) (a : Answer) → slice_get requests index ≡ Some q → slice_get list index ≡ Some a → IsAnswerWithin after q a
@@ -40,7 +40,7 @@ AreServed requests list before after drawn =
     → slice_get before worker ≡ Some old → slice_get after worker ≡ Some new → slice_get drawn worker ≡ Some indexes
     → IsServed requests list old.batches new.batches indexes.items
 
--- the same publisher's batches, and all that was known before
+-- batches of the same publisher, and all that were known before
 pub record KnowsNoLess (old new : KnownBatches) : Type 0 where
   pub source : new.source ≡ old.source
   pub later : BeginsWith new.batches old.batches
@@ -58,14 +58,14 @@ HoldEachOnce bound lists = (x : ℕ) → sum_by (λ (list : Vec ℕ Global). tim
 abbrev pub IsFaultOfWorker : ServeError → Type 0
 IsFaultOfWorker e = (e ≡ Memory) ⊎ (e ≡ NoEntry)
 
--- Workers answered all requests: each request's index stands once in the lists of those that drew it.
+-- Workers answered all requests: each request's index is once in the lists of the workers' draws.
 pub record AreAnsweredByWorkers (requests : List Request) (before after : List KnownBatches) (list : List Answer) (drawn : List (Vec ℕ Global)) : Type 0 where
   pub count : length list ≡ length requests
   pub lists : length drawn ≡ length before
   pub once : HoldEachOnce (length requests) drawn
   pub served : AreServed requests list before after drawn
 
--- Each request's answer is that of some first batches of these.
+-- Each request's answer is that of a prefix of these batches.
 pub record AreAnswersWithin (batches : List NumberedChanges) (requests : List Request) (list : List Answer) : Type 0 where
   pub each : (index : ℕ) (q : Request) (a : Answer) → slice_get requests index ≡ Some q → slice_get list index ≡ Some a → IsAnswerWithin batches q a
 

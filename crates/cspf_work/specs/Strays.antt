@@ -1,4 +1,4 @@
--- Private: the first answer of a version that it may not have.
+-- Private: the first answer with a version that it may not have.
 use Rattle.std.specs.Prelude.{◌≡◌, ℕ, List, take, Some, slice_get, All}
 use Rattle.cspf_publish.specs.declared.answer.Answer.{Answer}
 use Rattle.cspf_work.specs.declared.serve_error.ServeError.{ServeError}

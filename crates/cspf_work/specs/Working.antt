@@ -70,7 +70,7 @@ abbrev pub first_fault : List Worker → Option ServeError
 first_fault [] = None
 first_fault (w ∷ ws) = option_or w.fault (first_fault ws)
 
--- what is left when these workers are done, whose askers knew these batches before and who drew these numbers
+-- the results of these workers, whose askers knew these batches before and which drew these numbers
 pub record AreResults (id : CounterId) (requests : List Request) (before : List KnownBatches) (numbers : List ℕ) (results : Results) (workers : List Worker) : Type 0 where
   pub run : AreRun id requests before workers
   pub askers : results.askers.items ≡ map (λ w. w.asker) workers
@@ -85,13 +85,13 @@ pub record AreResults (id : CounterId) (requests : List Request) (before : List 
 abbrev pub CanBegin : CounterId → List Request → List Worker → Type 0
 CanBegin id requests workers = (before : List KnownBatches) × AreReady id requests before workers
 
--- what is left of workers that were ready, once they are done
+-- the results of workers that were ready, once they are done
 abbrev pub AreLeft : CounterId → List Request → List Worker → List ℕ → Results → Type 0
 AreLeft id requests idle numbers results =
     (before : List KnownBatches) → AreReady id requests before idle
     → (workers : List Worker) × AreResults id requests before numbers results workers
 
--- there is room for what is left when this many workers are done, and nothing is there yet
+-- there is room for the results of this many workers, and it is empty
 pub record IsRoomFor (count : ℕ) (room : Room) : Type 0 where
   pub no_askers : room.askers.items ≡ []
   pub no_drawers : room.drawers.items ≡ []

@@ -13,12 +13,12 @@ use std::alloc::Global;
 use std::thread::Threads;
 
 /// Answers requests by one worker for each asker. A worker draws the index of a request, answers it
-/// and draws the next, as long as there is one: each index is drawn once, and those of a worker rise.
-/// All workers run at once, each in a thread of its own; where no thread can be made they run one
+/// and draws the next, as long as there is one: each index is drawn once, and those of a worker
+/// rise. All workers run at once, each in its thread. Where no thread can be made they run one
 /// after the other.
 ///
-/// All askers are handed back in order, after an error too. They then know no less than before. Of
-/// several workers' faults the first worker's is answered.
+/// All askers are handed back in order, after an error too. They then know no less than before.
+/// Where several workers have faults, the fault of the first of them is returned.
 pub fn answer_all<G: Gate + Sync, R: Threads + Sync>(
     rt: &R,
     alloc: Global,

@@ -12,11 +12,11 @@ use std::alloc::Global;
 use std::io::Write;
 use std::thread::Threads;
 
-/// Answers requests as `answer_all` does, at the last published version: each asker learns before
-/// what is published. An answer of a later version is `Unaccounted`.
+/// Answers requests as `answer_all` does, at the last published version: each asker first learns
+/// the published batches. An answer of a later version is `Unaccounted`.
 ///
-/// The askers are of the publisher's own `open`. All of them are handed back in order, after an
-/// error too, and know then what is published.
+/// The askers are those of the publisher's `open`. All of them are handed back in order, after an
+/// error too. They then know the published batches.
 pub fn answer_latest<W: Write, G: Gate + Sync, R: Threads + Sync>(
     rt: &R,
     alloc: Global,

@@ -26,8 +26,8 @@ use std::sync::Wait;
 use std::thread;
 use std::thread::Threads;
 
-/// Applies batches in order, up to the first that is refused. Answers how many were applied, and why
-/// the next one wasn't.
+/// Applies batches in order, up to the first that is refused. Returns how many were applied, and
+/// why the next one wasn't.
 fn apply_all<W: Write, R: Wait>(
     rt: &R,
     alloc: Global,
@@ -76,7 +76,7 @@ fn apply_and_run<W: Write, G: Gate + Sync, R: Threads + Wait + Sync>(
     thread::join_mut(rt, &mut answer, &mut apply).1
 }
 
-/// What is left of workers after they have answered all requests while this thread applied batches.
+/// The workers' results after they answered all requests while this thread applied batches.
 fn run_beside<W: Write, G: Gate + Sync, R: Threads + Wait + Sync>(
     rt: &R,
     alloc: Global,
@@ -100,7 +100,7 @@ fn run_beside<W: Write, G: Gate + Sync, R: Threads + Wait + Sync>(
     (results, last, applied, fault)
 }
 
-/// What `run_live` does while the publisher is lent to it.
+/// The part of `run_live` that borrows the publisher.
 fn run_lent<W: Write, G: Gate + Sync, R: Threads + Wait + Sync>(
     rt: &R,
     alloc: Global,
@@ -156,14 +156,14 @@ fn run_lent<W: Write, G: Gate + Sync, R: Threads + Wait + Sync>(
     }
 }
 
-/// Answers requests as `answer_all` does, while this thread applies batches in order up to the first
-/// that is refused. When all are done each asker learns what is published, and an answer of a later
-/// version is `Unaccounted`.
+/// Answers requests as `answer_all` does, while this thread applies batches in order up to the
+/// first that is refused. When all are done each asker learns the published batches. An answer of a
+/// later version is `Unaccounted`.
 ///
-/// The askers are of the publisher's own `open`. All of them are handed back in order, and so is
-/// the publisher, after an error too. Either nothing has happened then, or the batches were applied
-/// as far as they go, a fault of the journal may have stopped the publisher, and each asker has learnt
-/// what is published.
+/// The askers are those of the publisher's `open`. All of them are handed back in order, and so is
+/// the publisher, after an error too. After an error either nothing has happened, or the batches
+/// were applied up to the first that was refused. Then a fault of the journal may have stopped the
+/// publisher, and each asker has learnt the published batches.
 pub fn run_live<W: Write, G: Gate + Sync, R: Threads + Wait + Sync>(
     rt: &R,
     alloc: Global,

@@ -1,6 +1,6 @@
 use cspf_publish::{Answer, Asker};
 
-/// What workers answered.
+/// The workers' answers.
 #[derive(Drop)]
 pub struct Answers {
     /// The answers, in the order of the requests.

@@ -1,5 +1,5 @@
-//! Puts the answers of all workers into the requests' order, and refuses a missing and a
-//! doubled one.
+//! Puts the answers of all workers into the requests' order. A missing or a second answer is an
+//! error.
 
 ghost use Rattle.std.specs.Prelude.{◌≡◌, ℕ, ◌+◌, ◌<◌, ◌⊎◌, ◌++◌, List, [], ◌∷◌, Some, None, map, All, IfOk, OnOk, IfErr, slice_get, vec_len};
 ghost use Rattle.cspf_work.specs.declared.worker.Reply.{Reply as Done};
@@ -69,7 +69,7 @@ fn indexes_of(alloc: Global, list: &[Reply]) -> Result<Vec<usize>, AllocError>
     Ok(all)
 }
 
-/// Takes over what a worker answered.
+/// Moves a worker's answers into the places of their requests, and adds their indexes to `drawn`.
 fn take_over(
     alloc: Global,
     list: Vec<Reply>,

@@ -1,4 +1,4 @@
-//! Workers, from the counter's seats and the memory that they take to what is left of them.
+//! Workers: their seats at the counter, the memory that they take, and their results.
 ghost use Rattle.std.specs.Prelude.{◌≡◌, ◌+◌, ◌<◌, ◌≤◌, [], List, length, map, All, IfOk, IfErr, IfSome, IsNone, vec_len, vec_capacity};
 ghost use Rattle.cspf_model.specs.declared.request.Request.{Request as OneRequest};
 ghost use Rattle.cspf_draw.specs.declared.limits.TheConstants.{MOST_DRAWERS};
@@ -11,8 +11,8 @@ use cspf_draw::{Counter, Drawer, FirstSeat, LastSeat};
 use cspf_publish::Asker;
 use std::alloc::{AllocError, Global};
 
-/// Room for what is left when workers are done. It is taken before any work, so that all askers can
-/// be handed back after every error.
+/// Room for the results of workers. It is taken before any work, so that all askers can be handed
+/// back after every error.
 #[derive(Drop)]
 pub(crate) struct Room<'a> {
     pub(crate) askers: Vec<Asker>,
@@ -20,8 +20,7 @@ pub(crate) struct Room<'a> {
     pub(crate) lists: Vec<Vec<Reply>>,
 }
 
-/// Workers, the counter that they draw from with the seat that it has left, and room for what is left
-/// of them.
+/// Workers, the counter that they draw from with its last seat, and room for their results.
 #[derive(Drop)]
 pub(crate) struct Crew<'a> {
     pub(crate) counter: &'a Counter,
@@ -33,7 +32,7 @@ pub(crate) struct Crew<'a> {
     ghost enough: { IsRoomFor (vec_len workers) room },
 }
 
-/// Room for `count` workers, and for what is left when they are done.
+/// Room for `count` workers, and for their results.
 fn room_for<'a>(alloc: Global, count: usize) -> Result<(Vec<Worker<'a>>, Room<'a>), AllocError>
     ensures workers { IfOk result (λ all. (all.0.items ≡ []) × (count ≤ vec_capacity all.0)) }
     ensures room { IfOk result (λ all. IsRoomFor count all.1) }
@@ -83,8 +82,8 @@ fn workers_of<'a>(
     workers
 }
 
-/// An idle worker for each asker, with all memory that they take before they ask. Where that is refused
-/// the askers are handed back.
+/// An idle worker for each asker, with all memory that they take before they ask. Where memory is
+/// refused the askers are handed back.
 pub(crate) fn employ<'a>(
     alloc: Global,
     counter: &'a Counter,
@@ -149,7 +148,7 @@ fn part<'a>(workers: Vec<Worker<'a>>, room: Room<'a>) -> (Results, Vec<Drawer<'a
     (results, drawers)
 }
 
-/// What is left of workers that are done, and the seat that has taken over what they drew.
+/// The results of workers that are done, and the seat that has merged their draws.
 pub(crate) fn dismiss(crew: Crew<'_>) -> (Results, LastSeat)
     requires { (requests : List OneRequest) × (before : List KnownBatches)
         × AreRun crew.counter.now requests before crew.workers.items }

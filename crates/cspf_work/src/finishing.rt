@@ -22,7 +22,7 @@ pub(crate) struct Collected {
     pub(crate) drawn: Vec<Vec<usize>>,
 }
 
-/// The askers of workers that are done, and what the workers answered. The counter is closed.
+/// The askers of workers that are done, and the workers' answers. The counter is closed.
 pub(crate) fn finish(
     alloc: Global,
     counter: Counter,

@@ -1,4 +1,4 @@
-/// What is done at each request of a worker. All workers share it.
+/// A callback at each request of a worker. All workers share it.
 pub trait Gate {
     /// The worker comes to the request with this index, from 0, and hasn't asked it yet.
     fn reached(&self, worker: usize, index: usize);

@@ -1,11 +1,11 @@
-//! Workers, each with an asker in a thread of its own, answer many requests at once, beside a
-//! publisher that applies batches or without one.
+//! Workers answer many requests at once, beside a publisher that applies batches or without one.
+//! Each worker has an asker and a thread.
 //!
 //! Each worker draws the indexes of its requests from one word, by `cspf_draw`.
 //!
-//! `specs/Served.antt` says which answers are right and who answered what, `specs/Applied.antt` what
-//! batches leave that are applied up to the first that is refused, and `specs/AskingErrors.antt`
-//! which error of a worker's ask is answered under which name.
+//! `specs/Served.antt` says which answers are right and which worker answered which request.
+//! `specs/Applied.antt` has the state after batches are applied up to the first that is refused.
+//! `specs/AskingErrors.antt` has the error of the workers for each error of an ask.
 #![tactic(auto)]
 
 mod answering;

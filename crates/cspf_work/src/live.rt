@@ -1,6 +1,6 @@
 use cspf_publish::{Answer, ApplyError, Asker, Publisher};
 
-/// What workers answered while batches were applied. It is not `Drop`: the publisher is to be
+/// The workers' answers while batches were applied. It is not `Drop`: the publisher is to be
 /// closed.
 pub struct Live<W> {
     /// The publisher.

@@ -44,7 +44,7 @@ pub(crate) fn run_all<G: Gate + Sync, R: Threads + Sync>(
     );
 }
 
-/// What is left of workers after they have answered all requests.
+/// The workers' results after they have answered all requests.
 pub(crate) fn run_workers<G: Gate + Sync, R: Threads + Sync>(
     rt: &R,
     alloc: Global,

@@ -9,8 +9,8 @@ pub(crate) struct Reply {
     pub(crate) answer: Answer,
 }
 
-/// An asker at work: who draws the indexes of its requests, what it answered, in the order of its
-/// asks, and what stopped it.
+/// An asker at work: the drawer of its requests' indexes, its answers in the order of its asks, and
+/// the fault that stopped it.
 #[derive(Drop)]
 pub(crate) struct Worker<'a> {
     pub(crate) asker: Asker,
@@ -19,7 +19,7 @@ pub(crate) struct Worker<'a> {
     pub(crate) fault: Option<ServeError>,
 }
 
-/// What is left when workers are done: the askers, what each worker answered, and the first fault.
+/// The results of workers: the askers, each worker's answers, and the first fault.
 #[derive(Drop)]
 pub(crate) struct Results {
     pub(crate) askers: Vec<Asker>,

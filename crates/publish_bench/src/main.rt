@@ -4,8 +4,8 @@
 //! `apply CHANGES MICROSECONDS`. Then the requests are answered from a plain table on one thread,
 //! `plain ANSWERS MICROSECONDS`, and by 1, 2 and 4 askers at once, each of which asks all of them
 //! while the further batches are published: `askers COUNT ANSWERS PUBLISHED MICROSECONDS`. Last the
-//! requests are divided among 1, 2 and 4 workers: in fixed shares, where of n each asks every nth,
-//! `shares COUNT ANSWERS MICROSECONDS`, and by draws, as `answer_all` does, `draws COUNT ANSWERS
+//! requests are divided among 1, 2 and 4 workers. In fixed shares each of n workers asks every nth
+//! request: `shares COUNT ANSWERS MICROSECONDS`. By draws, as in `answer_all`: `draws COUNT ANSWERS
 //! MICROSECONDS`. The journal of the publisher keeps nothing. `bench/run` makes the files and reads
 //! the lines.
 #![tactic(auto)]
@@ -30,12 +30,12 @@ use workers::time_workers;
 /// The numbers of askers that are timed.
 const ASKERS: [usize; 3] = [1, 2, 4];
 
-/// An error of this program's own.
+/// The error of a wrong argument or input.
 fn refused() -> io::Error {
     io::Error::from(ErrorKind::InvalidInput)
 }
 
-/// Answers each request from a plain table, and tells how long it took.
+/// Answers each request from a plain table, and prints how long it took.
 fn time_plain<R: AllocGlobal + Clock + Print>(
     rt: &R,
     load: &[Batch],

@@ -10,7 +10,7 @@ use std::thread::Threads;
 use std::time::Instant;
 use std::{io, thread};
 
-/// The most seats, each of which asks in a thread of its own.
+/// The most seats. Each asks in its thread.
 const THREADS: usize = 4;
 
 /// A journal that keeps nothing.
@@ -50,7 +50,7 @@ pub(crate) fn apply_all<R: Wait>(
     published
 }
 
-/// Applies the first batches, and then each further one by itself, and tells how long it took.
+/// Applies the first batches, and then each further one by itself, and prints how long each took.
 fn time_each<R: AllocGlobal + Clock + Print + Wait>(
     rt: &R,
     load: &[Batch],
@@ -70,7 +70,7 @@ fn time_each<R: AllocGlobal + Clock + Print + Wait>(
     Ok(())
 }
 
-/// Times each batch behind the first ones.
+/// Times each batch after the first ones.
 pub(crate) fn time_batches<R: AllocGlobal + Clock + Print + Wait>(
     rt: &R,
     load: &[Batch],

@@ -21,7 +21,7 @@ struct Sharer {
     answers: usize,
 }
 
-/// Asks the requests of a share: those whose index leaves this number, divided by the count.
+/// Asks the requests of a share: those whose index modulo the count is this number.
 fn ask_share(alloc: Global, number: usize, count: usize, requests: &[Request], sharer: &mut Sharer)
     requires { 0 < count }
 {

@@ -1,4 +1,4 @@
-//! `routed audit` judges a file of replies by a journal and requests.
+//! `routed audit` checks a file of replies against a journal and a file of requests.
 
 use crate::devices::{flush, opened, output};
 use crate::ends::end;
@@ -14,38 +14,42 @@ use std::alloc::{AllocError, Global};
 pub const NAME: &str = "audit";
 
 /// What help says of it.
-const ABOUT: &str = "Judges the lines of a file of replies by a journal and requests";
+const ABOUT: &str = "Checks a file of replies against a journal and a file of requests";
 
 /// What help says below its options.
 const HELP: &str = "\
-The journal and the requests are files as in batch, and no two requests have one id. The replies are
-lines as batch and live write them. Each line that begins with another word than version, applied or
-batch is judged: it has to be the reply to its request at the version that it names, byte for byte.
+The journal and the requests are files as in batch, and each request has an id of its own. The replies
+are lines as batch and live write them. Lines that begin with version, applied or batch are
+skipped. Every other line has to be the reply to its request at the version that it names, byte for
+byte.
 
 Lines of standard output:
   line L unread              line L doesn't begin as a reply does, with ask, an id and a version
   line L foreign             no request has its id
   line L doubled             an earlier line has its id
   line L no-version          the journal has fewer batches than its version
-  line L altered             it isn't the reply to its request at its version
+  line L altered             it differs from the reply to its request at its version
   request ID unanswered      no line has the id of this request
-  good=G faults=N            the last one: G judged lines have no fault
+  good=G faults=N            the last line: G lines have no fault
 or one of these alone:
-  journal torn after N       rows are left behind N batches of the journal
+  journal torn after N       rows follow the N whole batches of the journal
   batch N refused: ..        a batch of the journal doesn't fit
-  request row N refused: ..  a row of the requests can't be read, asks for nothing, or has the id of
-                             an earlier one: same-id
+  request row N refused: ..  a row of the requests can't be read, is no ask row, or has the id of an
+                             earlier one: same-id
   too many rows              a file has more than 1,000,000 rows or lines
 
-Every route is sought again, by a search that is plainer than that of the other commands.
+Each route is computed again, by a plainer search than that of the other commands.
 
-Names of files are UTF-8. A row or a line has no limit of length but memory. Standard output has to
-be blocking. A file as standard output that reaches a limit of a file's size (ulimit -f) ends the
-program by the signal XFSZ, and with status 3 after trap '' XFSZ in the shell.
+Names of files are UTF-8. Rows and lines may be of any length that fits in memory. Standard output must
+be in blocking mode. If it is a file that reaches the limit of its size (ulimit -f), the program ends by
+the signal XFSZ, or with status 3 after trap '' XFSZ in the shell.
 
-Status: 0 where there is no fault, 1 where the command line was refused, 2 where there is a fault or a
-file was refused, 3 where memory was refused or a file or another device failed: then the last line
-of standard error is routed: stopped, and with --explain the line before it says why.";
+Status:
+  0  there is no fault
+  1  the command line was refused
+  2  there is a fault, or a file was refused
+  3  out of memory, or a file or another device failed; the last line of standard error is
+     routed: stopped, and with --explain the line before it says why";
 
 /// The option that names the file of replies.
 const REPLIES: &str = "replies";
@@ -87,8 +91,8 @@ impl<'a> AuditWords<'a> {
         }
     }
 
-    /// Judges the replies, and writes what it finds on standard output. The files are opened before a
-    /// row is read.
+    /// Checks the replies, and writes each fault on standard output. All files are opened before a row
+    /// is read.
     fn judge(self, rt: &HostRuntime) -> Result<u8, Stopped<'a>> {
         let mut out = output(rt)?;
         let mut journal = opened(rt, JOURNAL, self.journal)?;
@@ -106,7 +110,7 @@ impl<'a> AuditWords<'a> {
         ended(ran, read.or(out.fault()))
     }
 
-    /// Runs the command, and answers the status.
+    /// Runs the command, and returns the status.
     pub(crate) fn run(self, rt: &HostRuntime, explain: bool) -> u8 {
         let ran = self.judge(rt);
         end(rt, ran, self.row_files(), explain)

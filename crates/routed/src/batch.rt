@@ -23,24 +23,27 @@ const ABOUT: &str = "Applies the batches of a journal, and answers requests on s
 /// What help says below its options.
 const HELP: &str = "\
 The journal is a file of put, drop, node and end rows: batches with the numbers 1, 2, 3 and so on.
-The requests are a file of ask rows, which are answered at the last version. Both are read before
-the first batch is applied.
+The requests are a file of ask rows, which are answered at the last version. Both files are read
+before the first batch is applied.
 
 Lines of standard output:
   version V                  a batch is accepted
   ask ID vV route ..         a request is answered at version V; also none, unknown-from, unknown-to
-  journal torn after N       rows are left behind N batches, and --accept-torn wasn't given
-  request row N refused: ..  a row of the requests can't be read, or asks for nothing
+  journal torn after N       rows follow the N whole batches, and --accept-torn wasn't given
+  request row N refused: ..  a row of the requests can't be read, or is no ask row
   batch N refused: ..        a batch doesn't fit, and nothing is answered
   too many rows              a file has more than 1,000,000 rows
 
-Names of files are UTF-8. A row has no limit of length but memory. Standard output has to be
-blocking. A file as standard output that reaches a limit of a file's size (ulimit -f) ends the
-program by the signal XFSZ, and with status 3 after trap '' XFSZ in the shell.
+Names of files are UTF-8. Rows may be of any length that fits in memory. Standard output must be in
+blocking mode. If it is a file that reaches the limit of its size (ulimit -f), the program ends by the
+signal XFSZ, or with status 3 after trap '' XFSZ in the shell.
 
-Status: 0 where all was accepted, 1 where the command line was refused, 2 where the journal, a row
-or a batch was refused, 3 where memory was refused or a file or another device failed: then the last
-line of standard error is routed: stopped, and with --explain the line before it says why.";
+Status:
+  0  everything was accepted
+  1  the command line was refused
+  2  the journal, a row or a batch was refused
+  3  out of memory, or a file or another device failed; the last line of standard error is
+     routed: stopped, and with --explain the line before it says why";
 
 /// The command with its options.
 pub(crate) fn command<'a>(alloc: Global) -> Result<Command<'a>, AllocError> {
@@ -108,7 +111,7 @@ impl<'a> BatchWords<'a> {
         ended(ran, noted)
     }
 
-    /// Runs the command, and answers the status.
+    /// Runs the command, and returns the status.
     pub(crate) fn run<T: Threads + Wait + Sync>(
         self,
         rt: &HostRuntime,

@@ -1,4 +1,4 @@
-//! The command line: which command it names, and what the words behind it say.
+//! The command line: which command it names, and what the words after it say.
 
 use crate::audit::AuditWords;
 use crate::batch::BatchWords;
@@ -11,11 +11,11 @@ use std::alloc::Global;
 use std::sync::Wait;
 use std::thread::Threads;
 
-/// What `routed --version` says behind the name.
-const VERSION: &str = "0.1.0";
+/// What `routed --version` says after the name.
+const VERSION: &str = "0.9.0";
 
 /// What help says of the program.
-const ABOUT: &str = "A route server over a traffic engineering database";
+const ABOUT: &str = "A path computation server over a traffic engineering database";
 
 /// The command that the words of the command line name.
 pub(crate) fn parse<'a>(alloc: Global, words: &'a [String]) -> Result<ArgMatches<'a>, Error> {
@@ -45,8 +45,8 @@ pub enum Asked<'m, 'a> {
 }
 
 impl<'m, 'a> Asked<'m, 'a> {
-    /// The command that has this name, with the words that `clap` found. None where one lacks that
-    /// `clap` wants, which it refuses itself.
+    /// The command of this name, with the words that `clap` found. None where a required word is
+    /// missing, which `clap` refuses itself.
     pub(crate) fn read(name: &str, words: &'m ArgMatches<'a>) -> Option<Asked<'m, 'a>> {
         Some(match name {
             batch::NAME => Asked::Batch(BatchWords::read(words)?),
@@ -58,8 +58,8 @@ impl<'m, 'a> Asked<'m, 'a> {
         })
     }
 
-    /// Runs the command, and answers the status. With `explain` a run says why it stops, and which row
-    /// its files are refused for.
+    /// Runs the command, and returns the status. With `explain` it says why a run stops, or which row
+    /// a file is refused for.
     pub(crate) fn run<T: Threads + Wait + Sync>(
         self,
         rt: &HostRuntime,

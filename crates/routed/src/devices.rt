@@ -17,10 +17,10 @@ pub const OUTPUT: &str = "standard output";
 /// What reads as nothing.
 const NOTHING: &str = "/dev/null";
 
-/// Standard output, behind a buffer.
+/// Standard output with a buffer.
 pub type Output<'a, 'r> = Noted<'a, BufWriter<Printer<'r, HostRuntime>>>;
 
-/// Standard output, behind a buffer.
+/// Standard output with a buffer.
 pub(crate) fn output<'a, 'r>(rt: &'r HostRuntime) -> Result<Output<'a, 'r>, Stopped<'a>> {
     match BufWriter::new(rt.alloc(), io::writer(rt)) {
         Ok(writer) => Ok(Noted::new(Name::of_stream(OUTPUT), writer)),
@@ -28,14 +28,30 @@ pub(crate) fn output<'a, 'r>(rt: &'r HostRuntime) -> Result<Output<'a, 'r>, Stop
     }
 }
 
-/// Files that take the places of standard streams which are closed, so that no file that is opened
+/// A file that reads as nothing, if it can be had.
+fn held_place(rt: &HostRuntime) -> Option<File> {
+    File::open(rt, NOTHING).ok()
+}
+
+/// Three files that take the places of standard streams which are closed. So no file that is opened
 /// later is taken for one of these.
-pub(crate) fn held_places(rt: &HostRuntime) -> [Option<File>; 3] {
-    [
-        File::open(rt, NOTHING).ok(),
-        File::open(rt, NOTHING).ok(),
-        File::open(rt, NOTHING).ok(),
-    ]
+#[derive(Drop)]
+pub(crate) struct HeldPlaces {
+    _input: Option<File>,
+    _output: Option<File>,
+    _error: Option<File>,
+}
+
+/// Opens the three files.
+pub(crate) fn held_places(rt: &HostRuntime) -> HeldPlaces {
+    let input = held_place(rt);
+    let output = held_place(rt);
+    let error = held_place(rt);
+    HeldPlaces {
+        _input: input,
+        _output: output,
+        _error: error,
+    }
 }
 
 /// A file to read, which the option of this name gives.

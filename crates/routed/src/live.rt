@@ -23,30 +23,32 @@ const ABOUT: &str =
 const HELP: &str = "\
 The updates are a file of put, drop, node and end rows, and the requests a file of ask rows, both
 as in batch. Both are read before the first batch is applied. Each batch is written whole to the new
-journal before it is published. Meanwhile the workers answer the requests, each at the version that
-is the last one then.
+journal before it is published. Meanwhile the workers answer the requests, each at the newest version
+at that moment.
 
 Lines of standard output:
   ask ID vV route ..         a request is answered at version V; also none, unknown-from, unknown-to
-  applied K                  behind the replies: how many batches were applied
+  applied K                  after the replies: how many batches were applied
   batch N refused: ..        the first batch that wasn't applied, if any; also memory, and journal W
-                             where the journal failed behind W bytes of the batch
-  journal torn after N       rows are left behind N batches of the updates
-  request row N refused: ..  a row of the requests can't be read, or asks for nothing
+                             if the journal failed after W bytes of the batch
+  journal torn after N       rows follow the N whole batches of the updates
+  request row N refused: ..  a row of the requests can't be read, or is no ask row
   too many rows              a file has more than 1,000,000 rows
 
-Requests that are answered before the first batch is published are answered at version 0, at which
-there is no router. Updates or requests that are refused leave an empty journal. A journal that
-reaches a limit of a file's size (ulimit -f) is refused as on a full device: journal W.
+Before the first batch is published, requests are answered at version 0, which has no routers. If the
+updates or the requests are refused, the journal stays empty. A journal that reaches the limit of a
+file's size (ulimit -f) is refused as on a full device: journal W.
 
-Names of files are UTF-8. A row has no limit of length but memory. Standard output has to be
-blocking. A file as standard output that reaches a limit of a file's size ends the program by the
-signal XFSZ, and with status 3 after trap '' XFSZ in the shell.
+Names of files are UTF-8. Rows may be of any length that fits in memory. Standard output must be in
+blocking mode. If it is a file that reaches the limit of its size, the program ends by the
+signal XFSZ, or with status 3 after trap '' XFSZ in the shell.
 
-Status: 0 where all was accepted, 1 where the command line was refused, 2 where the updates, a row
-or a batch was refused, 3 where memory was refused, a file or another device failed, or the journal
-is there already: then the last line of standard error is routed: stopped, and with --explain the
-line before it says why.";
+Status:
+  0  everything was accepted
+  1  the command line was refused
+  2  the updates, a row or a batch was refused
+  3  out of memory, a file or another device failed, or the journal exists already; the last line of
+     standard error is routed: stopped, and with --explain the line before it says why";
 
 /// The option that names the file of batches to apply.
 const UPDATES: &str = "updates";
@@ -121,7 +123,7 @@ impl<'a> LiveWords<'a> {
         ended(ran, noted)
     }
 
-    /// Runs the command, and answers the status.
+    /// Runs the command, and returns the status.
     pub(crate) fn run<T: Threads + Wait + Sync>(
         self,
         rt: &HostRuntime,

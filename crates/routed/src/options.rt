@@ -12,10 +12,10 @@ pub const JOURNAL: &str = "journal";
 /// The option that names the file of requests.
 pub const REQUESTS: &str = "requests";
 
-/// The flag by which rows behind the batches are left out.
+/// The flag that leaves out the rows after the last whole batch.
 pub const ACCEPT_TORN: &str = "accept-torn";
 
-/// The flag by which a run that stops says why.
+/// The flag that has a run that stops say why.
 pub const EXPLAIN: &str = "explain";
 
 /// The option that says how many workers answer.
@@ -31,20 +31,20 @@ pub(crate) fn file<'a>(alloc: Global, name: &'a str, help: &'a str) -> Arg<'a> {
         .help(help)
 }
 
-/// The flag by which the rows behind the batches of a journal are left out.
+/// The flag that leaves out the rows after the last whole batch of a journal.
 pub(crate) fn accept_torn<'a>(alloc: Global) -> Arg<'a> {
     Arg::new(alloc, ACCEPT_TORN)
         .long(ACCEPT_TORN)
         .action(ArgAction::SetTrue)
-        .help("Leave out the rows behind the batches")
+        .help("Leave out the rows after the last whole batch")
 }
 
-/// The flag by which a run that stops says why.
+/// The flag that has a run that stops say why.
 pub(crate) fn explain<'a>(alloc: Global) -> Arg<'a> {
     Arg::new(alloc, EXPLAIN)
         .long(EXPLAIN)
         .action(ArgAction::SetTrue)
-        .help("Say on standard error why a run stops, and which row a file is refused for")
+        .help("Say on standard error why a run stops, or which row a file is refused for")
 }
 
 /// The option that says how many workers answer.
@@ -66,7 +66,7 @@ pub struct WorkerCount {
 }
 
 impl WorkerCount {
-    /// The number that the words give; none where it is outside these bounds, which `clap` refuses.
+    /// The number that the words give. None outside these bounds, which `clap` refuses itself.
     pub(crate) fn read(words: &ArgMatches<'_>) -> Option<WorkerCount> {
         let count = words.get_one::<u8>(WORKERS)? as usize;
         if count == 0 || count > MOST_ASKERS {

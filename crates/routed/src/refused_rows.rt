@@ -19,7 +19,7 @@ enum Why {
     Count { counted: u32 },
     /// It is the last row, and no `end` row takes this many changes.
     Unended { changes: u32 },
-    /// It is behind the last row that a file may have.
+    /// It follows the last row that a file may have.
     TooMany,
 }
 
@@ -94,7 +94,7 @@ impl Progress {
     }
 }
 
-/// The row behind the last one that a file may have, where there is one.
+/// The row after the last one that a file may have, if there is one.
 fn one_too_many<R: Read>(rows: &mut Reader<R>, fields: &mut ByteRecord) -> Option<RefusedRow> {
     let is_there = rows.read_byte_record(fields).ok()?;
     is_there.then_some(RefusedRow {

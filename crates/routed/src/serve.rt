@@ -1,5 +1,5 @@
-//! `routed serve` publishes updates as they come in on standard input, while each client asks on files
-//! of its own.
+//! `routed serve` publishes updates as they come in on standard input, and answers clients meanwhile.
+//! Each client has two files: one for its requests and one for its replies.
 ghost use Rattle.std.specs.Prelude.{◌<◌, ◌≤◌, length};
 
 use crate::client_files::{ClientNames, Closing, NamesError, client_names, open_clients};
@@ -26,33 +26,37 @@ const ABOUT: &str =
 
 /// What help says below its options.
 const HELP: &str = "\
-Standard input has put, drop, node, end and ask rows as in solve, without a limit of their number.
-Each batch is written whole to the new journal, then it is in effect, and then its line is written.
-1 to 64 clients each ask on files of their own: --client IN=OUT reads ask rows from IN, and writes
-the line of each to OUT before the next row is read. No client waits for another, nor for a batch.
-Who has read version V on standard output is answered at V or later by every client.
+Standard input has put, drop, node, end and ask rows as in solve, and any number of them. Each batch is
+written whole to the new journal, then it takes effect, and then its line is written. There are 1 to
+64 clients. --client IN=OUT reads the ask rows of one from IN, and writes the line of each to OUT
+before the next row is read. No client waits for another, nor for a batch. Once a program has read
+version V on standard output, every request that it sends after that is answered at V or later, by
+any client.
 
 Lines of standard output, as in solve, and of a client's OUT:
   version V                  a batch is in effect
   ask ID vV route ..         a request is answered at version V; also none, unknown-from, unknown-to
-  batch N refused: ..        as in solve; also memory, journal W where the journal failed behind W
-                             bytes of the batch, and stopped for every batch behind that
-  row N refused: ..          also for a row of a client that isn't an ask row, which does nothing else
-  unended K                  at the end of the updates, changes that no end row took
+  batch N refused: ..        as in solve; also memory, journal W if the journal failed after W bytes
+                             of the batch, and stopped for every batch after that
+  row N refused: ..          also for a row of a client that isn't an ask row
+  unended K                  at the end of the updates: K changes that no end row followed
 
-IN and OUT are files, pipes with a name (mkfifo) or /dev/fd/N, no name twice; an = in IN can't be
-told from the one between them. No OUT is written over: one that is a file with bytes, or the same
-file as another name, is refused before anything is opened. They are opened in the order given, IN
-before OUT, and the journal last. The opening of a pipe waits for its other end: a client has to open
-IN for writing first, then OUT for reading. A client ends with its rows, or alone where they can't be
-read or its lines can't be written, and its IN and OUT are closed then (of /dev/fd/N the other end
-sees it when the run ends). The run ends when standard input and all clients have ended.
+IN and OUT are files, named pipes (mkfifo) or /dev/fd/N, no name twice. IN can't have an = in its name.
+No OUT is overwritten: a file that has bytes already, or that two names lead to, is refused before
+anything is opened. Files are opened in the order given, IN before OUT, and the journal last. Opening a
+pipe waits for its other end, so a client opens IN for writing first, then OUT for reading. A client
+ends when its rows end. It also ends if its rows can't be read or its lines can't be written, which
+disturbs nobody else. Its IN and OUT are closed then, but the other end of a /dev/fd/N sees that only
+when the run ends. The run ends when standard input and all clients have ended.
 
-Status: 0 where all was accepted, 1 where the command line was refused, 2 where a row or a batch was
-refused or changes were left open, 3 where memory was refused for the updates, standard input or
-output failed, a file can't be opened, or the journal is there already: then the last line of standard
-error is routed: stopped, and with --explain the line before it says why. With --explain a line says of
-each client that ended before its rows did why it ended.";
+Status:
+  0  everything was accepted
+  1  the command line was refused
+  2  a row or a batch was refused, or changes were left open
+  3  out of memory for the updates, standard input or output failed, a file can't be opened, or the
+     journal exists already; the last line of standard error is routed: stopped, and with --explain
+     the line before it says why
+With --explain a line says of each client that ended before its rows did why it ended.";
 
 /// The option that names the two files of a client.
 const CLIENT: &str = "client";
@@ -89,7 +93,7 @@ impl<'m, 'a> ServeWords<'m, 'a> {
         })
     }
 
-    /// Runs the command where the files may be had, and answers the status.
+    /// Runs the command if its files can be used, and returns the status.
     pub(crate) fn run<T: Threads + Wait + Sync>(
         self,
         rt: &HostRuntime,
@@ -161,16 +165,25 @@ fn explain_ends(rt: &HostRuntime, names: &[ClientNames<'_>], clients: &[ServedCl
     let mut number: usize = 1;
     for (client, names) in clients.iter().zip(names) {
         if let Err(error) = client.end {
-            let _ = match error {
-                ClientError::Stream(StreamError::Read) => {
-                    eprintln!(rt; "routed: client {number}: {}: {error}", names.requests)
-                }
-                ClientError::Stream(StreamError::Write | StreamError::Flush) => {
-                    eprintln!(rt; "routed: client {number}: {}: {error}", names.replies)
-                }
-                _ => eprintln!(rt; "routed: client {number}: {error}"),
-            };
+            explain_end(rt, number, names, error);
         }
         number = number.saturating_add(1);
+    }
+}
+
+/// Says why a client ended before its rows did, and which of its files failed, if one did.
+fn explain_end(rt: &HostRuntime, number: usize, names: &ClientNames<'_>, error: ClientError) {
+    let _ = match failed_file(names, error) {
+        Some(file) => eprintln!(rt; "routed: client {number}: {file}: {error}"),
+        None => eprintln!(rt; "routed: client {number}: {error}"),
+    };
+}
+
+/// The file of the client that this error is of.
+fn failed_file<'a>(names: &ClientNames<'a>, error: ClientError) -> Option<&'a str> {
+    match error {
+        ClientError::Stream(StreamError::Read) => Some(names.requests),
+        ClientError::Stream(StreamError::Write | StreamError::Flush) => Some(names.replies),
+        _ => None,
     }
 }

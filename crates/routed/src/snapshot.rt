@@ -1,4 +1,4 @@
-//! `routed snapshot` writes the few batches that make the last database of a journal from nothing.
+//! `routed snapshot` writes a few batches that make the last database of a journal from an empty one.
 
 use crate::devices::{flush, opened, output};
 use crate::ends::end;
@@ -14,26 +14,30 @@ use std::alloc::{AllocError, Global};
 pub const NAME: &str = "snapshot";
 
 /// What help says of it.
-const ABOUT: &str = "Writes the few batches that make the last database of a journal from nothing";
+const ABOUT: &str =
+    "Writes a few batches that make the last database of a journal from an empty one";
 
 /// What help says below its options.
 const HELP: &str = "\
 The journal is a file of put, drop, node and end rows: batches with the numbers 1, 2, 3 and so on.
 Standard output gets the rows of at most 5 batches, numbered from 1 on, which make the database of the
-last version from nothing: first the links in order of their routers and addresses, then the routers
-without transit. A database of nothing has no batch. A new run begins with them:
+last version from an empty one: first the links in order of their routers and addresses, then the
+routers without transit. An empty database needs no batch. A new run begins with them:
   routed snapshot --journal old.journal > begin
   cat begin - | routed serve --journal new.journal ..
 Versions count from 0 again there, so a version means something only beside the journal of its run.
 
-Where the journal is refused standard output has one line instead:
-  journal torn after N       rows behind batch N are no batch; with --accept-torn they are left out
+If the journal is refused, standard output has one line instead:
+  journal torn after N       rows after batch N are no whole batch; --accept-torn leaves them out
   batch N refused: ..        batch N doesn't fit
   too many rows              the journal has more than 1,000,000 rows
 
-Status: 0 where the batches were written, 1 where the command line was refused, 2 where the journal was
-refused, 3 where memory was refused, a file or another device failed: then the last line of standard
-error is routed: stopped, and with --explain the line before it says why.";
+Status:
+  0  the batches were written
+  1  the command line was refused
+  2  the journal was refused
+  3  out of memory, or a file or another device failed; the last line of standard error is
+     routed: stopped, and with --explain the line before it says why";
 
 /// The command with its options.
 pub(crate) fn command<'a>(alloc: Global) -> Result<Command<'a>, AllocError> {
@@ -79,7 +83,7 @@ impl<'a> SnapshotWords<'a> {
         ended(ran, journal.fault().or(out.fault()))
     }
 
-    /// Runs the command, and answers the status.
+    /// Runs the command, and returns the status.
     pub(crate) fn run(self, rt: &HostRuntime, explain: bool) -> u8 {
         let ran = self.write(rt);
         end(rt, ran, self.row_files(), explain)

@@ -21,28 +21,33 @@ const ABOUT: &str = "Answers the rows of standard input on standard output";
 pub const HELP: &str = "\
 Rows of standard input, fields separated by commas:
   put,router,local,neighbor,remote,metric,group,u0,u1,u2,u3,u4,u5,u6,u7
-      puts a link; u0 to u7 are its unreserved bandwidth at the priorities 0 to 7
+      adds or replaces a link; u0 to u7 are its unreserved bandwidth at the priorities 0 to 7,
+      in bytes per second
   drop,router,local
-      takes a link out
+      removes a link
   node,router,transit
-      with transit 0 no route passes through the router any more, with 1 routes do again
+      with transit 0 no route passes through the router any more, with 1 routes may again
   end,number,count
-      makes the changes since the last end row, as many as count, in one: version number
+      applies the changes since the last end row as one batch, which makes version number;
+      count is how many they are
   ask,id,from,to,setup,bandwidth,exclude_any,include_any,include_all,hops
-      asks for the least admissible route; hops may be empty
+      asks for the least admissible route; bandwidth is in bytes per second, hops may be empty
 
-Lines of standard output, each when it is known:
+Lines of standard output, each as soon as it is known:
   version V                  a batch is accepted
   ask ID vV route ..         a request is answered at version V; also none, unknown-from, unknown-to
   row N refused: ..          and batch N refused: .., unended K, too many rows
 
-A row has no limit of length but memory. Standard output has to be blocking. Where its reader goes,
-as in routed solve | head -1, the status is 3. A file that reaches a limit of its size (ulimit -f)
-ends the program by the signal XFSZ, and with status 3 after trap '' XFSZ in the shell.
+Rows may be of any length that fits in memory. Standard output must be in blocking mode. If its reader
+exits early (routed solve | head -1), the status is 3. A file that reaches the limit of its size
+(ulimit -f) ends the program by the signal XFSZ, or with status 3 after trap '' XFSZ in the shell.
 
-Status: 0 where all was accepted, 1 where the command line was refused, 2 where a row or a batch was
-refused or there were more than 1,000,000 rows, 3 where memory was refused or a device failed: then
-the last line of standard error is routed: stopped, and with --explain the line before it says why.
+Status:
+  0  everything was accepted
+  1  the command line was refused
+  2  a row or a batch was refused, or there were more than 1,000,000 rows
+  3  out of memory, or a device failed; the last line of standard error is routed: stopped, and
+     with --explain the line before it says why
 
 Example: the rows
   put,1.1.1.1,10.0.12.1,2.2.2.2,10.0.12.2,10,0x1,5,5,5,5,5,5,5,5
@@ -61,7 +66,7 @@ pub(crate) fn command<'a>(alloc: Global) -> Result<Command<'a>, AllocError> {
         .arg(explain(alloc))
 }
 
-/// Answers the rows of standard input on standard output. What was written before a fault stays
+/// Answers the rows of standard input on standard output. Lines that were written before a fault stay
 /// written.
 fn answer<'a>(rt: &HostRuntime) -> Result<u8, Stopped<'a>> {
     let mut reader = Noted::new(Name::of_stream(INPUT), rt.reader());
@@ -75,7 +80,7 @@ fn answer<'a>(rt: &HostRuntime) -> Result<u8, Stopped<'a>> {
     }
 }
 
-/// Runs the command, and answers the status.
+/// Runs the command, and returns the status.
 pub(crate) fn run(rt: &HostRuntime, explain: bool) -> u8 {
     end(rt, answer(rt), RowFiles::none(), explain)
 }

@@ -61,7 +61,8 @@ impl<'a> Stopped<'a> {
         }
     }
 
-    /// The error of `batch`, `live`, `serve`, `snapshot` or `audit`, where this is the call on a device that failed, if any.
+    /// The error of `batch`, `live`, `serve`, `snapshot` or `audit`, where this is the call on a device
+    /// that failed, if any.
     pub(crate) fn running(error: RunError, noted: Option<Fault<'a>>) -> Stopped<'a> {
         match (error, noted) {
             (RunError::Memory, _) => Stopped::Memory,

@@ -1,11 +1,11 @@
 //! Times the table and both searches: `search_bench JOURNAL REQUESTS LOAD ROUNDS`.
 //!
-//! The first LOAD batches of the journal make the network. Each further one is checked and absorbed,
-//! and timed by itself: `absorb CHANGES MICROSECONDS`. Between them the requests are answered from
-//! the network as it was loaded, by `best` over all of them, several times: `best ANSWERS COST
-//! MICROSECONDS`, with the sum of the routes' costs; and by both calls over the first ROUNDS of them:
-//! `rounds ANSWERS COST MICROSECONDS`, and `agreed ANSWERS`, on how many the two say the same.
-//! `bench/run` makes the files and reads the lines.
+//! The first LOAD batches of the journal make the network. Each further one is checked and
+//! absorbed, and timed by itself: `absorb CHANGES MICROSECONDS`. Between them the requests are
+//! answered from the network as it was loaded, by `best` over all of them, several times: `best
+//! ANSWERS COST MICROSECONDS`, with the sum of the routes' costs; and by both calls over the first
+//! ROUNDS of them: `rounds ANSWERS COST MICROSECONDS`, and `agreed ANSWERS`, the number of requests
+//! on which the two agree. `bench/run` makes the files and reads the lines.
 #![tactic(auto)]
 
 use cspf_db::Table;
@@ -22,7 +22,7 @@ use std::{env, io};
 /// How often the requests are answered.
 const TIMES: usize = 5;
 
-/// An error of this program's own.
+/// The error of a wrong argument or input.
 fn refused() -> io::Error {
     io::Error::from(ErrorKind::InvalidInput)
 }
@@ -35,7 +35,7 @@ fn cost(outcome: &Outcome) -> u64 {
     }
 }
 
-/// Whether both say the same: the same links, or the same reason why there are none.
+/// Whether both outcomes agree: the same links, or the same reason why there are none.
 fn agree(one: &Outcome, other: &Outcome) -> bool {
     match (one, other) {
         (Outcome::Route(a), Outcome::Route(b)) => a.links() == b.links(),
@@ -70,7 +70,7 @@ fn answer_by_rounds(alloc: Global, table: &Table, requests: &[Request]) -> (usiz
     (answers, sum)
 }
 
-/// On how many of the requests both searches say the same.
+/// The number of requests on which both searches agree.
 fn agreed(alloc: Global, table: &Table, requests: &[Request]) -> usize {
     let mut answers = 0usize;
     for request in requests {
@@ -110,7 +110,7 @@ fn time_searches<R: AllocGlobal + Clock + Print>(
     println!(rt; "agreed {answers}")
 }
 
-/// Times each batch: the look whether it fits, and its changes.
+/// Times each batch: the check whether it fits, and its changes.
 fn time_batches<R: AllocGlobal + Clock + Print>(
     rt: &R,
     table: &mut Table,

@@ -7,7 +7,7 @@ use Rattle.cspf_model.specs.Changes.{AreLawful, database_after}
 use Rattle.cspf_model.specs.declared.refusal.Refusal.{Refusal}
 use Rattle.cspf_model.specs.Refusals.{IsRefusal, IsFirstUnfit}
 
--- a batch that doesn't fit behind lawful ones is the first that doesn't
+-- a batch that doesn't fit after lawful ones is the first that doesn't fit
 pub first_unfit : (batches : List NumberedChanges) (i : ℕ) (b : NumberedChanges) → i < length batches
     → b ≡ get_or batches i b → (number : ℕ) (why : Refusal) → number ≡ b.number
     → AreLawful (take i batches) → IsRefusal (database_after (take i batches)) b why

@@ -6,7 +6,7 @@ use Rattle.cspf_model.specs.Changes.{changes_of, no_links, after_changes, AreLaw
 use Rattle.cspf_model.specs.Laws.{LawfulByOneMore, FirstBatchesAreLawful}
 use Rattle.cspf_model.proofs.Databases.LastChanges.{after_changes-append}
 
--- batches are lawful where their first ones are, and the others are from those on
+-- batches are lawful where a prefix is, and the others are lawful after that prefix
 AreLawfulAfter-append : (d : Database) (bs cs : List NumberedChanges)
     → AreLawfulAfter d (bs ++ cs) ↔ (AreLawfulAfter d bs × AreLawfulAfter (after_changes d (changes_of bs)) cs)
 AreLawfulAfter-append d [] cs = ((λ more. (tt, more)), λ both. both.1)
@@ -23,6 +23,6 @@ one_more bs b =
     let parts = AreLawfulAfter-append no_links bs (b ∷ []) in
     ((λ all. let both = parts.0 all in (both.0, both.1.0)), λ both. parts.1 (both.0, (both.1, tt)))
 
--- the first of lawful batches are lawful
+-- a prefix of lawful batches is lawful
 pub first_batches : FirstBatchesAreLawful
 first_batches bs more all = ((AreLawfulAfter-append no_links bs more).0 all).0

@@ -86,7 +86,7 @@ any-keys : (k : ChangeKey) (cs : List Change)
 any-keys k [] = refl
 any-keys k (c ∷ cs) = ap (λ b. eq_by_cmp change_key_cmp k (key_changed c) || b) (any-keys k cs)
 
--- changes of which none repeats a key are on keys of their own, as far as an index
+-- changes up to an index, none of which repeats a key, are on different keys
 once_below : (cs : List Change) (d : Change) → ((k : ℕ) → k < length cs → IsNewAt cs k) → (n : ℕ)
     → n ≤ length cs → AreOnceEach (take n cs)
 unfolding IsDistinct
@@ -106,13 +106,13 @@ once_from_new (c ∷ cs) new =
     subst AreOnceEach (take_all (length (c ∷ cs)) (c ∷ cs) (omega arith))
     (once_below (c ∷ cs) c new (length (c ∷ cs)) (omega arith))
 
--- the same of what a search for a repeat finds
+-- where a search finds no repeat, each key is changed once
 pub once_if_none : (cs : List Change) (r : Option ℕ)
     → IfNone r ((k : ℕ) → k < length cs → IsNewAt cs k) → IfNone r (AreOnceEach cs)
 once_if_none cs None new = once_from_new cs new
 once_if_none cs (Some at) new = tt
 
--- a removal of what isn't there has no key there
+-- the key of a removal that removes nothing isn't in the database
 absent_not_present : (d : Database) (c : Change) → RemovesNothing d c → ¬ IsPresent d c
 absent_not_present d (Put l) absent present = absent
 absent_not_present d (Node router transit) absent present = absent
@@ -187,7 +187,7 @@ refused_unfit d b Full why fits = absurd (omega (arith, why.1, fits.links))
 refused_unfit d b TooManyRouters why fits = absurd (omega (arith, why.2, fits.routers))
 refused_unfit d b TooManyMarks why fits = absurd (omega (arith, why.3, fits.marks))
 
--- what isn't above a limit is within it
+-- a number that isn't above a limit is within it
 not_above : (limit : ℕ) {n : ℕ} → (limit < n → IsTrue false) → n ≤ limit
 not_above limit {n} above = within n (λ h. false_not_true (above h))
   where
@@ -205,7 +205,7 @@ not_full above = not_above 16384 above
 pub not_many : {n : ℕ} → (1024 < n → IsTrue false) → n ≤ 1024
 not_many above = not_above 1024 above
 
--- there is one least place at most
+-- there is at most one least place
 one_least : (P : ℕ → Type 0) (m n : ℕ) → IsLeastPlace P m → IsLeastPlace P n → m ≡ n
 one_least P m n is also =
     not_apart m n (λ before. also.none_before m before is.here)

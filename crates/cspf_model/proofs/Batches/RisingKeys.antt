@@ -10,7 +10,7 @@ use Rattle.cspf_model.proofs.Databases.Keys.{change_keys_total}
 abbrev pub IsBelow : ChangeKey → ChangeKey → Type 0
 IsBelow j k = change_key_cmp j k ≡ Less
 
--- behind the first key each is still above the one before it
+-- without the first key, each key is still above the one before it
 behind : (q : ChangeKey) (ks : List ChangeKey) → AllAdjacentBelow IsBelow (q ∷ ks) (length (q ∷ ks)) → AllAdjacentBelow IsBelow ks (length ks)
 behind q ks up j d h =
     let next : suc j + 1 ≡ suc (j + 1) = omega arith in

@@ -32,12 +32,12 @@ len-from_distinct (x ∷ xs) apart =
     none_of x (y ∷ ys) all =
         ap (λ b. b || list_any (eq_by_cmp nat_cmp x) ys) all.0 ∙ none_of x ys all.1
 
--- a tie adds nothing to what is there
+-- a number that ties with a member adds nothing
 same_or : (tie there : Bool) → (tie ≡ true → there ≡ true) → there ≡ (tie || there)
 same_or true there tied = tied refl
 same_or false there tied = refl
 
--- to add what is there changes nothing
+-- to insert a member changes nothing
 pub insert-there : (s : set.FinSet nat_cmp) (k : ℕ) → set.contains s k ≡ true → s ≡ set.insert s k
 insert-there s k there =
     set.same_set nat_cmp_total set.nat_cmp-IsAntisymmetric _ _ (λ q.
@@ -76,12 +76,12 @@ module _ (xs : List ℕ) (x : ℕ) (new : list_any (λ y. eqb y x) xs ≡ false)
       (λ b. cond b (set.len (set.from_list {R = nat_cmp} xs)) (set.len (set.from_list {R = nat_cmp} xs) + 1)) absent
       ∙ ap (λ n. n + 1) (len-from_distinct xs apart)
 
--- where the first end is one too many, so are both
+-- where the first end makes the set too large, so do both
 pub full-first : (s : set.FinSet nat_cmp) (l : Link) → 1024 < set.len (set.insert s l.from)
     → 1024 < set.len (set.insert (set.insert s l.from) l.to)
 full-first s l full = omega (arith, full, len-insert-le (set.insert s l.from) l.to)
 
--- where the ends of the next row are too many, so are those of all rows that are left
+-- where the ends of the next row make the set too large, so do those of all rows that are left
 pub full-row : (s old : set.FinSet nat_cmp) (l : Link) (rows : List Link) (cs : List Change) (i : ℕ)
     → i < length rows → l ≡ slice_index_or rows i l → true ≡ is_untouched cs l
     → with_ends s (rows_untouched (drop i rows) cs) ≡ with_ends old (rows_untouched rows cs)
@@ -94,7 +94,8 @@ full-row s old l rows cs i within read left same full =
     omega
     (arith, full, len-with_ends-le (with_ends s (l ∷ [])) (rows_untouched (drop (i + 1) rows) cs), ap set.len next)
 
--- where the ends of the next link that is put are too many, so are those of all that are left
+-- where the ends of the next link that is put make the set too large, so do those of all puts that
+-- are left
 pub full-put : (s old : set.FinSet nat_cmp) (c : Change) (l : Link) (cs : List Change) (i : ℕ)
     → i < length cs → c ≡ slice_index_or cs i c → c ≡ Put l
     → with_ends s (links_put (drop i cs)) ≡ with_ends old (links_put cs)
@@ -106,7 +107,7 @@ full-put s old c l cs i within read is same full =
     omega
     (arith, full, len-with_ends-le (with_ends s (l ∷ [])) (links_put (drop (i + 1) cs)), ap set.len next)
 
--- a number that stands before an index is found up to there
+-- a number before an index is found in the items before that index
 pub found_at : (xs : List ℕ) (n at x : ℕ) → at < n → n ≤ length xs → slice_index xs at ≡ x → list_any (λ y. eqb y x) (take n xs) ≡ true
 found_at xs n at x h le is =
     let within : at < length xs = omega (arith, h, le) in

@@ -34,7 +34,7 @@ changed_alike : (cs : List Change) (j k : Key) → eq_by_cmp key_cmp j k ≡ tru
     → is_changed cs (link_key j) ≡ is_changed cs (link_key k)
 changed_alike cs j k tie = ap (λ q. is_changed cs (link_key q)) (keys_same j k tie)
 
--- nothing is found at a row with another key, nor behind it
+-- nothing is found at a row with another key, nor after it
 none_found : (b : Bool) (x : Link) (o : Option Link) → b ≡ false → o ≡ None
     → cond b (Some x) o ≡ None
 none_found true x o off none = absurd (cc)
@@ -153,7 +153,7 @@ marks-all_relinked d (Put l ∷ cs) = marks-all_relinked (relinked d (Put l)) cs
 marks-all_relinked d (Remove from local ∷ cs) = marks-all_relinked (relinked d (Remove from local)) cs
 marks-all_relinked d (Node router transit ∷ cs) = marks-all_relinked d cs
 
--- what is at a key after changes on keys of their own
+-- what is at a key after changes on different keys
 at_changed_by : (d : Database) (cs : List Change) (k : Key) → AreOnceEach cs
     → link_at (all_relinked d cs) k ≡ cond (is_changed cs (link_key k)) (at_key (links_put cs) k) (link_at d k)
 unfolding IsDistinct at_key
@@ -216,7 +216,7 @@ apart_put k (Put l ∷ cs) off = (or_first _ _ off, apart_put k cs (or_second _ 
 apart_put k (Remove from local ∷ cs) off = apart_put k cs (or_second _ _ off)
 apart_put k (Node router transit ∷ cs) off = apart_put k cs (or_second _ _ off)
 
--- links that are put have keys of their own
+-- links that are put have different keys
 puts_apart : (cs : List Change) → AreOnceEach cs → HaveOwnKeys (links_put cs)
 unfolding IsDistinct
 puts_apart [] once = tt
@@ -231,7 +231,7 @@ all_both : (P : Key → Type 0) (xs ys : List Link) → AllByRecursion P (map ke
 all_both P [] ys all also = also
 all_both P (x ∷ xs) ys all also = (all.0, all_both P xs ys all.1 also)
 
--- the rows after changes have keys of their own
+-- the rows after changes have different keys
 pub apart-rows_after : (rows : List Link) (cs : List Change) → HaveOwnKeys rows → AreOnceEach cs
     → HaveOwnKeys (rows_after rows cs)
 unfolding IsDistinct
@@ -242,7 +242,7 @@ apart-rows_after (l ∷ rows) cs apart once =
       | false ↦ λ off. (all_both (λ y. eq_by_cmp key_cmp (key_of l) y ≡ false) (rows_untouched rows cs) (links_put cs) (apart_left (key_of l) rows cs apart.0) (apart_put (key_of l) cs off), apart-rows_after rows cs apart.1 once)
     ] refl
 
--- what stands in a list stands in one that is longer by one
+-- an item of a list is an item of the list with one more in front
 behind : {X : Type 0} (x : X) (xs : List X) (y : X) → Contains xs y → Contains (x ∷ xs) y
 behind x xs y has = (suc has.0, omega (arith, has.1), has.2)
 
@@ -270,7 +270,7 @@ put_among (Remove from local ∷ cs) l (suc k, h, is) = put_among cs l (k, omega
 put_among (Node router transit ∷ cs) l (zero, h, is) = absurd (cc)
 put_among (Node router transit ∷ cs) l (suc k, h, is) = put_among cs l (k, omega (arith, h), is)
 
--- changes on keys of their own make the same in any order
+-- changes on different keys have one result in any order
 module _ (cs ys : List Change) (moved : IsPermutation cs ys) (once : AreOnceEach cs) where
   -- in the other order too
   still_once : AreOnceEach ys

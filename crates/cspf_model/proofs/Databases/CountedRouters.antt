@@ -39,7 +39,7 @@ below_apart k j Less is h = ap is_eq (keys_total.antisymm j k ∙ ap ordering_re
 below_apart k j Equal is h = absurd h
 below_apart k j Greater is h = absurd h
 
--- a key that is found behind an entry with a lower key isn't that key
+-- a key that is found after an entry with a lower key isn't that lower key
 not_first : (k : Key) (es : List (Key × Link)) → T (below_all key_cmp k es) → (j : Key) (l : Link)
     → map.find key_cmp j es ≡ Some l → eq_by_cmp key_cmp j k ≡ false
 not_first k [] below j l found = absurd (none_some found)

@@ -1,4 +1,4 @@
--- Distinct routers of a database are at most as many as it has.
+-- A list of distinct routers of a database is at most as long as its count of routers.
 use Rattle.std.proofs.Common.{◌≡◌, ℕ, ◌-◌, ◌≤◌, ◌⊎◌, inl, inr, Bool, true, false, cond, Some, List, [], ◌∷◌, length, map, sym, ap, subst, ◌∙◌, arith, nat_eq}
 use Rattle.std.specs.Ordering.{nat_cmp, eq_by_cmp}
 use Rattle.std.specs.Cmp.{nat_cmp_total}
@@ -14,7 +14,7 @@ use Rattle.cspf_model.specs.Database.{Database, Key, key_of, key_cmp, IsRouterOf
 true_not_false : {A : Type 0} (b : Bool) → b ≡ true → b ≡ false → A
 true_not_false b on off = cc
 
--- what is in a set and isn't taken out is still there
+-- a member that isn't removed is still in the set
 kept : (r : ℕ) (rs : List ℕ) (s : set.FinSet nat_cmp) → AllByRecursion (λ q. nat_eq r q ≡ false) rs
     → AllByRecursion (λ q. set.contains s q ≡ true) rs
     → AllByRecursion (λ q. set.contains (set.remove s r) q ≡ true) rs
@@ -22,7 +22,7 @@ kept r [] s apart all = tt
 kept r (q ∷ rs) s apart all =
     (set.contains-remove nat_cmp_total s r q ∙ grind (arith, apart.0, all.0), kept r rs s apart.1 all.1)
 
--- distinct members of a set are at most as many as it has
+-- a list of distinct members of a set is at most as long as the set
 length-le-len : (rs : List ℕ) (s : set.FinSet nat_cmp) → IsDistinct nat_eq rs
     → AllByRecursion (λ q. set.contains s q ≡ true) rs → length rs ≤ set.len s
 unfolding IsDistinct
@@ -71,7 +71,7 @@ in_ends : (d : Database) (routers : List ℕ) → AllByRecursion (IsRouterOf d) 
 in_ends d [] all = tt
 in_ends d (r ∷ rs) all = (router_in_ends d r all.0, in_ends d rs all.1)
 
--- distinct routers of a database are at most as many as it has
+-- a list of distinct routers of a database is at most as long as its count of routers
 pub length-le-router_count : (d : Database) (routers : List ℕ) → IsDistinct nat_eq routers
     → AllByRecursion (IsRouterOf d) routers → length routers ≤ router_count d
 length-le-router_count d routers apart all = length-le-len routers _ apart (in_ends d routers all)

@@ -28,7 +28,7 @@ use Rattle.cspf_model.proofs.Databases.LinksOfRows.{link_at-database_of}
 use Rattle.cspf_model.proofs.Databases.OneChange.{find-behind}
 use Rattle.cspf_model.proofs.Databases.ChangedRows.{rows_after, database-rows_after, apart-rows_after}
 
--- rows with keys of their own are as many as the links of their database
+-- there are as many rows with different keys as links in their database
 pub link_count-database_of : (rows : List Link) → HaveOwnKeys rows
     → link_count (database_of rows) ≡ length rows
 unfolding IsDistinct
@@ -57,7 +57,7 @@ any-ends_of p [] = refl
 any-ends_of p (l ∷ links) =
     ap (λ b. p l.from || (p l.to || b)) (any-ends_of p links) ∙ or_assoc (p l.from) (p l.to) _
 
--- an entry whose key is new is one more
+-- an entry with a new key is added
 any-put : (p : Link → Bool) (k : Key) (v : Link) (es : List (Key × Link))
     → map.find key_cmp k es ≡ None
     → list_any p (map (λ e. e.1) (put key_cmp k v es)) ≡ (p v || list_any p (map (λ e. e.1) es))
@@ -160,7 +160,7 @@ pub or_right : (a b : Bool) → b ≡ true → (a || b) ≡ true
 or_right true b e = refl
 or_right false b e = e
 
--- what is in a set and does not tie with what is taken out stays in it
+-- a member that does not tie with the one that is removed stays in the set
 stays_inside : (tie found there : Bool) → (tie ≡ true → found ≡ false) → found ≡ true → there ≡ true
     → (not tie && there) ≡ true
 stays_inside true found there apart is inside = absurd (cc (apart refl))
@@ -256,7 +256,8 @@ module _ (rows : List Link) (cs : List Change) (apart : HaveOwnKeys rows) (once 
       (λ left. ap (λ b. b || list_any (eq_by_cmp nat_cmp q) (ends_of (links_put cs))) (set.contains-from_list nat_cmp_total (ends_of rows) q ∙ any-ends_of (eq_by_cmp nat_cmp q) rows ∙ any_left _ rows cs left))
       (λ put. or_right (set.contains all q) _ (any-ends_of (eq_by_cmp nat_cmp q) (links_put cs) ∙ put))
 
-  -- where the changes bring few routers to those of the rows, there are no more than those more
+  -- where the changes bring at most `most` new routers, there are at most that many more than
+  -- before
   pub router_count-brought : (routers : List ℕ) (most : ℕ) → All (λ r. set.contains (set.from_list {R = nat_cmp} (ends_of rows)) r ≡ true) routers → BringsAtMost routers cs most
       → router_count (all_relinked (database_of rows) cs) ≤ router_count (database_of rows) + most
   router_count-brought routers most inside brings =
@@ -264,7 +265,7 @@ module _ (rows : List Link) (cs : List Change) (apart : HaveOwnKeys rows) (once 
       omega
       (arith, len-within (ends_of (rows_after rows cs)) (with_ends all (links_put cs)) in_grown, brings all inside, ap router_count (database-rows_after rows cs once), router_count-database_of (rows_after rows cs) (apart-rows_after rows cs apart once), router_count-database_of rows apart)
 
-  -- and one less where a router goes
+  -- and one fewer where a router goes
   pub router_count-gone : (routers : List ℕ) (most : ℕ) → All (λ r. set.contains (set.from_list {R = nat_cmp} (ends_of rows)) r ≡ true) routers → BringsAtMost routers cs most
       → HasGone rows routers cs → router_count (all_relinked (database_of rows) cs) + 1 ≤ router_count (database_of rows) + most
   router_count-gone routers most inside brings (g, known, gone) =
@@ -322,7 +323,7 @@ with_ends-turned s xs ys =
     ∙ turn_last (set.contains s q) _ _
     ∙ sym (contains-with_ends (with_ends s ys) xs q ∙ ap (λ b. b || list_any (eq_by_cmp nat_cmp q) (ends_of xs)) (contains-with_ends s ys q)))
 
--- what adding all ends tells of the number of routers
+-- the number of routers, by a set that all ends were added to
 module _ (rows : List Link) (cs : List Change) (apart : HaveOwnKeys rows) (once : AreOnceEach cs) where
   -- they are the ends of the links that are put and of the rows that are left
   counted : router_count (all_relinked (database_of rows) cs) ≡ set.len (with_ends (with_ends set.empty (links_put cs)) (rows_untouched rows cs))

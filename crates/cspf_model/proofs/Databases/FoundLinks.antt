@@ -1,4 +1,4 @@
--- What a search of the rows by a key tells of the database.
+-- What the result of a search of the rows by a key says of the database.
 use Rattle.std.proofs.Common.{◌≡◌, ◌≢◌, ℕ, suc, ◌<◌, ◌↔◌, Bool, true, false, cond, Some, None, IsTrue, IsSome, IfSome, IfNone, is_some, not, List, [], ◌∷◌, All, length, map, slice_index_or, refl, sym, ap, subst, ◌∙◌, arith, zero, Option}
 use Rattle.std.specs.Ordering.{eq_by_cmp}
 use Rattle.std.specs.List.{IsDistinct, HoldsAt}
@@ -31,7 +31,7 @@ pub link_at-no_row : (rows : List Link) (k : Key) → All (λ l. key_of l ≢ k)
     → link_at (database_of rows) k ≡ None
 link_at-no_row rows k none = link_at-database_of rows k ∙ find-no_row rows k none
 
--- what tells of the rows tells of the routers
+-- a test of the rows for a router is a test of the database for it
 pub tells : (d : Database) (rows : List Link) (router : ℕ) (b : Bool) → AreLinksOf d rows
     → (b ≡ true → (at : ℕ) × (at < length rows) × HoldsAt (EndsAt router) rows at)
     → (b ≡ false → All (λ l. ¬ EndsAt router l) rows) → IsTrue b ↔ IsRouterOf d router
@@ -52,7 +52,7 @@ some_there (l ∷ rows) k zero h has =
 some_there (l ∷ rows) k (suc at) h has =
     elim (eq_by_cmp key_cmp k (key_of l)) as (λ b. IsSome (cond b (Some l) (find key_cmp k (map entry_of rows)))) [ true ↦ refl | false ↦ some_there rows k at (omega arith) has ]
 
--- what tells whether a row has the key of a removal
+-- whether a removal removes nothing, by a search of the rows for its key
 pub tells_removal : (rows : List Link) (k : Key) (place : Option ℕ) (b : Bool)
     → is_some place ≡ not b → IfSome place (λ at. at < length rows)
     → IfSome place (HoldsAt (λ l. key_of l ≡ k) rows) → IfNone place (All (λ l. key_of l ≢ k) rows)
@@ -62,7 +62,7 @@ tells_removal rows k None b e bound some none =
 tells_removal rows k (Some at) b e bound some none =
     ((λ on. absurd (cc)), λ _. subst IsSome (sym (link_at-database_of rows k)) (some_there rows k at bound some))
 
--- what tells whether a row has the key of a put
+-- whether a put adds a link, by a search of the rows for its key
 pub tells_addition : (rows : List Link) (k : Key) (place : Option ℕ) (b : Bool)
     → is_some place ≡ not b → IfSome place (λ at. at < length rows)
     → IfSome place (HoldsAt (λ l. key_of l ≡ k) rows) → IfNone place (All (λ l. key_of l ≢ k) rows)

@@ -80,13 +80,13 @@ pub change_keys_same : (j k : ChangeKey) → eq_by_cmp change_key_cmp j k ≡ tr
 change_keys_same j k e =
     change_keys_antisymmetric j k ((Equal-is (change_key_cmp j k)).0 e)
 
--- what is not tied second is not tied
+-- where the second order does not tie, neither do both
 untied_behind : (o p : Ordering) → is_eq p ≡ false → is_eq (ordering_then o p) ≡ false
 untied_behind Less p e = refl
 untied_behind Equal p e = e
 untied_behind Greater p e = refl
 
--- a link is apart from a router alone
+-- the key of a link does not tie with that of a router alone
 pub link_apart : (k : Key) (router : ℕ)
     → eq_by_cmp change_key_cmp (link_key k) (mark_key router) ≡ false
 link_apart k router = untied_behind (nat_cmp k.0 router) Greater refl
@@ -103,7 +103,7 @@ link_keys_same j k e =
     let local : j.1 ≡ k.1 = cc in
     λ i. (from i, local i)
 
--- a link is no router alone
+-- the key of a link is not that of a router alone
 pub link_not_mark : (k : Key) (router : ℕ) → link_key k ≡ mark_key router → ⊥
 link_not_mark k router e = some_none (ap (λ (q : ChangeKey). q.1) e)
   where

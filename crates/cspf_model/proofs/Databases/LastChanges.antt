@@ -24,7 +24,7 @@ link_at-after_change d (Remove from local) k = get-remove keys_total d.links (fr
 link_at-after_change d (Node router transit) k =
     ap (λ b. cond b None (link_at d k)) (sym (link_apart k router))
 
--- what ties twice ties
+-- an order, followed by a tie, ties exactly where it ties itself
 pub tied_alone : (o : Ordering) → is_eq o ≡ is_eq (ordering_then o Equal)
 tied_alone Less = refl
 tied_alone Equal = refl
@@ -89,7 +89,7 @@ link_after-later_or None true c before = refl
 link_after-later_or None false c before = refl
 link_after-later_or (Some b) t c before = refl
 
--- the same of a mark
+-- a change in front leaves what the later ones find of a mark
 mark_after-later_or : (o : Option Change) (t : Bool) (c : Change) (before : Bool)
     → mark_after (later_or o (cond t (Some c) None)) before ≡ mark_after o (cond t (mark_left c) before)
 unfolding later_or
@@ -147,7 +147,7 @@ pub after_changes-append : (d : Database) (bs cs : List Change)
 after_changes-append d [] cs = refl
 after_changes-append d (b ∷ bs) cs = after_changes-append (after_change d b) bs cs
 
--- the changes of one batch more
+-- the changes of a list with one more batch
 changes_of-push : (batches : List NumberedChanges) (b : NumberedChanges)
     → changes_of (batches ++ b ∷ []) ≡ changes_of batches ++ b.changes
 changes_of-push [] b = append-nil b.changes

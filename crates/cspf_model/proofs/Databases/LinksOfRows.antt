@@ -1,4 +1,4 @@
--- Rows with keys of their own, and the links of the database that they make.
+-- Rows with different keys, and the links of the database that they make.
 use Rattle.std.proofs.Common.{◌≡◌, ℕ, zero, suc, ◌+◌, ◌<◌, true, false, cond, Some, List, [], ◌∷◌, length, map, slice_index_or, refl, sym, ap, ◌∙◌, add-one, arith}
 use Rattle.std.specs.Ordering.{eq_by_cmp}
 use Rattle.std.specs.List.{IsDistinct, AllByRecursion, Contains}
@@ -43,7 +43,7 @@ row-find (m ∷ rows) q l e =
       | false ↦ λ there. let r = row-find rows q l there in (r.0 + 1, omega arith, rw add-one r.2)
     ] e
 
--- rows with keys apart are the links of the database that they make
+-- rows with different keys are the links of the database that they make
 pub rows_listed : (rows : List Link) → IsDistinct (eq_by_cmp key_cmp) (map key_of rows)
     → AreLinksOf (database_of rows) rows
 rows_listed rows apart = record {

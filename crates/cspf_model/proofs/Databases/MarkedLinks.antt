@@ -50,7 +50,7 @@ module _ (rows : List Link) (marks : List ℕ) (cs : List Change) where
   pub marks_counted : set.len (all_marked (marks_in marks) cs) ≡ mark_count (after_changes (marked_database rows marks) cs)
   marks_counted = ap set.len (sym (marks-after_changes (marked_database rows marks) cs))
 
--- rows and marks that are what changes make of others make the database after the changes
+-- the rows and marks after changes make the database after the changes
 pub marked_after : (rows new : List Link) (marks more : List ℕ) (cs : List Change) → database_of new ≡ all_relinked (database_of rows) cs → marks_in more ≡ all_marked (marks_in marks) cs
     → marked_database new more ≡ after_changes (marked_database rows marks) cs
 marked_after rows new marks more cs made set_to =

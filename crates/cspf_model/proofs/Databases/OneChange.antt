@@ -16,7 +16,7 @@ use Rattle.cspf_model.specs.Lemmas.LinkRows.{entry_of, database_of}
 use Rattle.cspf_model.proofs.Databases.Keys.{keys_total, keys_antisymmetric, keys_same}
 use Rattle.cspf_model.proofs.Databases.LinksOfRows.{link_at-database_of, find-row, row-find}
 
--- databases that answer alike, and have the same marks, are one
+-- databases with the same link at each key and the same marks are equal
 pub same_database : (d e : Database) → d.marks ≡ e.marks → ((k : Key) → link_at d k ≡ link_at e k) → d ≡ e
 same_database d e marks same =
     let links : d.links ≡ e.links = same_map keys_total keys_antisymmetric d.links e.links same in
@@ -51,7 +51,7 @@ database-permuted rows others moved apart also =
     ∙ same_options _ _ (found_too rows others k also (λ l. Contains-permutation rows others l moved)) (found_too others rows k apart (λ l. Contains-permutation others rows l (IsPermutation-sym rows others moved)))
     ∙ sym (link_at-database_of others k))
 
--- rows in another order keep keys of their own
+-- rows in another order still have different keys
 pub apart-permuted : (rows others : List Link) → IsPermutation rows others → HaveOwnKeys rows → HaveOwnKeys others
 apart-permuted rows others moved apart =
     IsDistinct-IsPermutation (eq_by_cmp key_cmp) (eq_by_cmp_equiv keys_total).symm (map key_of rows) (map key_of others) (IsPermutation-map key_of rows others moved) apart
@@ -61,7 +61,7 @@ find-apart : (rows : List Link) (k : Key) → AllByRecursion (λ y. eq_by_cmp ke
 find-apart [] k apart = refl
 find-apart (l ∷ rows) k apart = ap (λ b. cond b (Some l) (find key_cmp k (map entry_of rows))) apart.0 ∙ find-apart rows k apart.1
 
--- behind the first row its key is not found
+-- the key of the first row is not found after it
 pub find-behind : (l : Link) (rows : List Link) → HaveOwnKeys (l ∷ rows) → find key_cmp (key_of l) (map entry_of rows) ≡ None
 unfolding IsDistinct
 find-behind l rows apart = find-apart rows (key_of l) apart.0
@@ -85,11 +85,11 @@ module _ (rows : List Link) (at : ℕ) (x : Link) (k : Key) (apart : HaveOwnKeys
   moved : IsPermutation rows (x ∷ without rows at)
   moved = IsPermutation-remove rows at x within read
 
-  -- the row that goes and those that stay have keys of their own
+  -- the row that goes and those that stay have different keys
   still_apart : HaveOwnKeys (x ∷ without rows at)
   still_apart = apart-permuted rows (x ∷ without rows at) moved apart
 
-  -- the rows that stay have keys of their own
+  -- the rows that stay have different keys
   pub apart-without : HaveOwnKeys (without rows at)
   unfolding IsDistinct
   apart-without = still_apart.1
@@ -101,7 +101,7 @@ module _ (rows : List Link) (at : ℕ) (x : Link) (k : Key) (apart : HaveOwnKeys
       (ap (link_at (database_of (without rows at))) (sym has_key) ∙ link_at-database_of (without rows at) (key_of x) ∙ find-behind x (without rows at) still_apart))
       ∙ ap (λ d. relinked d (Remove k.0 k.1)) (sym (database-permuted rows (x ∷ without rows at) moved apart still_apart))
 
--- to take out nothing leaves nothing there
+-- where nothing was there, nothing is there after a removal
 missing : (b : Bool) (y : Option Link) → (b ≡ true → y ≡ None) → y ≡ cond b None y
 missing true y none = none refl
 missing false y none = refl

@@ -26,7 +26,7 @@ last_joined : (router : ℕ) (links : List Link) (l : Link) → AreJoined router
 last_joined router [] l joined = joined.0
 last_joined router (m ∷ links) l joined = last_joined m.to links l joined.1
 
--- the routers that the links behind the first begin at
+-- the routers that the links after the first begin at
 module _ (P : ℕ → Type 0) where
   starts_more : (links : List Link) (l : Link) → AllByRecursion P (map (λ m. m.from) links) → P l.from → AllByRecursion P (map (λ m. m.from) (links ++ l ∷ []))
   starts_more [] l all holds = (holds, tt)

@@ -49,12 +49,12 @@ unknown_9 =
       ((λ ends. elim ends [ inl e ↦ eqb-false (router 2) (router 9) refl e | inr e ↦ eqb-false (router 1) (router 9) refl e ]), tt),
     )
 
--- what is a best answer is the one that there is
+-- where there is a best answer, each best answer is that one
 alone : (q : Request) (answer other : Answer) → IsBestAnswer d q answer → IsBestAnswer d q other ↔ (other ≡ answer)
 alone q answer other is =
     ((λ also. one_answer d q other answer also is), λ same. subst (IsBestAnswer d q) (sym same) is)
 
--- an unknown head-end is told, whatever the tail-end is
+-- an unknown head-end is the answer, whatever the tail-end is
 head_end_first : (to : ℕ) → IsAnswerBetween (router 8) to unknown_from
 head_end_first to q from _ other =
     alone q unknown_from other (subst (λ r. ¬ IsRouterOf d r) (sym from) unknown_8)
@@ -65,7 +65,7 @@ both_unknown = head_end_first (router 9)
 pub head_end_unknown : IsAnswerBetween (router 8) (router 1) unknown_from
 head_end_unknown = head_end_first (router 1)
 
--- an unknown tail-end is told where the head-end is known
+-- an unknown tail-end is the answer where the head-end is known
 pub tail_end_unknown : IsAnswerBetween (router 1) (router 9) unknown_to
 tail_end_unknown q from to other =
     alone q unknown_to other

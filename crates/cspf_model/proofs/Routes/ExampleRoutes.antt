@@ -47,7 +47,7 @@ for_each f P holds q says =
     let Q : RequestFields → Type 0 = λ g. (priority : g.setup < 8) (two_ends : g.from ≢ g.to) → P (made g priority two_ends) in
     subst Q (sym ((requests_said q f).0 says)) holds q.priority q.two_ends
 
--- rows with keys of their own are the links of a database, and requests between two routers can be
+-- rows with different keys are the links of a database, and requests between two routers can be
 -- made
 found : (rows : List Link) (to : ℕ) → HaveOwnKeys rows → router 1 ≢ to → AreFound rows to
 found rows to apart two_ends = record {
@@ -146,7 +146,7 @@ module _ (d : Database) (network : IsNetwork d (both_ways six_links)) where
       transit = (has_transit d network.unmarked _, (has_transit d network.unmarked _, tt));
     }
 
--- the strict leg of the way by 10.9.0.2 stands at owners alone
+-- the strict leg of the way by 10.9.0.2 visits owners alone
 pub may_stand_at_owners : MayStandAtOwners
 may_stand_at_owners d q network says =
     let owns_1 = owned_inner_1 d network in
@@ -167,7 +167,7 @@ may_stand_at_owners d q network says =
       );
     }) q says
 
--- the loose leg of the way by 3.3.3.3 may stand there
+-- the loose leg of the way by 3.3.3.3 may visit it
 pub may_stand_anywhere : MayStandAnywhere
 may_stand_anywhere d q network says =
     for_each (asked_fields (router 4) (loose_inner_hop ∷ [])) (λ q. IsRoute d q way_outside)
@@ -244,13 +244,13 @@ module _ (d : Database) (listed : AreLinksOf d (both_ways six_links)) where
     abbrev asking : Request
     asking = made (asked_fields (router 4) (inner_hop ∷ [])) priority two_ends
 
-    -- a strict leg has no place at 3.3.3.3
+    -- a strict leg may not visit 3.3.3.3
     not_inside : ¬ IsInside d asking 1 (router 3)
     not_inside (inl loose) = cc
     not_inside (inr (inl first)) = eqb-false (router 3) (router 1) refl first
     not_inside (inr (inr owns)) = not_owned_router_3 owns
 
-    -- however the way by 3.3.3.3 is cut, its first leg does not do
+    -- however the way by 3.3.3.3 is cut, its first leg is no leg to the strict hop
     not_cut : (legs : List (List Link)) → ¬ IsCutInto d asking way_outside legs
     not_cut [] cut = absurd (omega (arith, cut.number))
     not_cut ([] ∷ rest) cut = not_owned_router_1 cut.each.0.arrives

@@ -24,7 +24,7 @@ only_leg_arrives d q walk none (leg ∷ []) cut =
 only_leg_arrives d q walk none (leg ∷ next ∷ legs) cut =
     absurd (omega (arith, cut.number, ap length none))
 
--- the leg to the tail-end may stand at any router
+-- the leg to the tail-end may visit any router
 stays_inside : (d : Database) (q : Request) → q.hops ≡ [] → (routers : List ℕ)
     → AllByRecursion (IsInside d q 1) routers
 stays_inside d q none [] = tt

@@ -1,4 +1,4 @@
--- The order of walks is total, and tells the routes of a request apart.
+-- The order of walks is total, and no two different routes of a request tie.
 use Rattle.std.proofs.Common.{◌≡◌, ◌≢◌, ℕ, Some, List, [], ◌∷◌, length, refl, sym, ap, subst, ◌∙◌}
 use Rattle.std.specs.Ordering.{ordering_then, ordering_reverse}
 use Rattle.std.specs.declared.cmp.Ordering.{Ordering}
@@ -40,7 +40,7 @@ one_walk d q router (l ∷ ls) (m ∷ ms) all also joined too same =
     same_Some : (x y : Link) → Some x ≡ Some y → x ≡ y
     same_Some x y e = cc
 
--- walks of one request with the same local addresses are one
+-- walks of one request with the same local addresses are equal
 pub walks_told : WalksAreTold
 walks_told d q v w is also same =
     one_walk d q q.from v w is.links also.links is.joined also.joined same
@@ -57,7 +57,7 @@ routes_ranked d q v w is also tie =
     walks_told d q v w is.is_walk also.is_walk
     (slice_cmp-IsAntisymmetric nat_cmp-IsAntisymmetric (locals_of v) (locals_of w) (last_tie _ _ (last_tie _ _ tie)))
 
--- what is before the other in neither order ties
+-- two walks, neither of which is before the other, tie
 neither_first : (a b : Ordering) → a ≡ ordering_reverse b → a ≢ Less → b ≢ Less → a ≡ Equal
 neither_first Less b e first second = absurd (first refl)
 neither_first Equal b e first second = refl
@@ -72,7 +72,7 @@ one_best d q v w is also =
     routes_ranked d q v w is.is_route also.is_route
     (neither_first (walk_cmp v w) (walk_cmp w v) (walks_total.antisymm v w) (also.least v is.is_route) (is.least w also.is_route))
 
--- a request has one best answer at most
+-- a request has at most one best answer
 pub one_answer : OneBestAnswer
 one_answer d q unknown_from unknown_from is also = refl
 one_answer d q unknown_from unknown_to is also = absurd (is also.0)

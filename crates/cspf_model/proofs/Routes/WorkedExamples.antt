@@ -32,13 +32,13 @@ cheaper_first l m n one also three =
     ∙ ap (λ a. ordering_then (nat_cmp (1 + a) (0 + n.metric)) Greater) also
     ∙ ap (λ a. ordering_then (nat_cmp 2 (0 + a)) Greater) three
 
--- the last put stands
+-- the last put decides
 pub put_stands : LastPutStands
 put_stands l m same =
     let tie : eq_by_cmp key_cmp (key_of l) (key_of m) ≡ true = ap (eq_by_cmp key_cmp (key_of l)) (sym same) ∙ key_itself (key_of l) in
     ap (λ b. link_after (cond b (Some (Put m)) (last_on (link_key (key_of l)) (Put l ∷ Remove l.from l.local ∷ []))) None) tie
 
--- the last removal stands
+-- the last removal decides
 pub removal_stands : LastRemovalStands
 removal_stands l m same =
     ap (λ b. link_after (cond b (Some (Remove l.from l.local)) (last_on (link_key (key_of l)) (Put l ∷ Put m ∷ []))) None) (key_itself (key_of l))

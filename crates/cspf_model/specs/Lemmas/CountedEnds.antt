@@ -37,14 +37,15 @@ HasListedEnds routers (Put l) = Contains routers l.from × Contains routers l.to
 HasListedEnds routers (Remove from local) = Unit {0}
 HasListedEnds routers (Node router transit) = Unit {0}
 
--- the changes bring at most this many routers that are not among these: the ends of what they put add
--- no more to a set that has these
+-- the changes bring at most this many routers that are not among these: the ends of the links that
+-- they put add no more to a set that contains these
 abbrev pub BringsAtMost : List ℕ → List Change → ℕ → Type 0
 BringsAtMost routers changes most =
     (s : FinSet nat_cmp) → All (λ r. contains s r ≡ true) routers
     → len (with_ends s (links_put changes)) ≤ len s + most
 
--- the same of one change, to a set that also has the ends of what others put
+-- one change brings at most this many routers to a set that also contains the ends of the links
+-- that other changes put
 abbrev pub BringsBeside : List ℕ → List Change → Change → ℕ → Type 0
 BringsBeside routers others c most =
     (s : FinSet nat_cmp) → All (λ r. contains s r ≡ true) routers

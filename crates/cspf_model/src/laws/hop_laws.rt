@@ -7,9 +7,9 @@ pub fn route_without_hops()
     ensures { AreRoutesWithoutHops }
 {}
 
-/// Routes of two small networks: a strict leg stands at routers of its hop's prefix alone, which
-/// may be several, and a loose one at any; a leg may be empty; a router has the addresses of its
-/// interfaces on links that aren't admissible, too.
+/// Routes of two small networks. A strict leg visits only routers of its hop's prefix, which may be
+/// several, and a loose leg visits any. A leg may be empty. A router also has the addresses of its
+/// interfaces on links that aren't admissible.
 pub fn worked_routes()
     ensures six_links { AreFound (both_ways six_links) (router 4) }
     ensures three_links { AreFound (both_ways three_links) (router 3) }

@@ -33,16 +33,16 @@ pub fn worked_marks()
     ensures mark_taken { IsUnmarkedByChange }
 {}
 
-/// Where the head-end is unknown the answer says so, whether or not the tail-end is known. Where the
-/// tail-end alone is unknown the answer says that.
+/// Where the head-end is unknown the answer is that, whether or not the tail-end is known. Where
+/// only the tail-end is unknown the answer is that.
 pub fn worked_unknown_ends()
     ensures both { IsAnswerBetween (router 8) (router 9) unknown_from }
     ensures head_end { IsAnswerBetween (router 8) (router 1) unknown_from }
     ensures tail_end { IsAnswerBetween (router 1) (router 9) unknown_to }
 {}
 
-/// Both ends of a link are routers of the database, also one that no link runs from. A mark makes no
-/// router.
+/// Both ends of a link are routers of the database, even one that no link runs from. A mark makes
+/// no router.
 pub fn worked_ends()
     ensures from { IsRouterOf (network (from_1_to_2 ∷ []) []) (router 1) }
     ensures to { IsRouterOf (network (from_1_to_2 ∷ []) []) (router 2) }

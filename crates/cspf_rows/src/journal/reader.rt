@@ -1,4 +1,4 @@
-//! Reads a journal batch by batch, in the room of one batch.
+//! Reads a journal batch by batch, with memory for one batch.
 
 ghost use Rattle.std.specs.Prelude.{◌≡◌, ◌≢◌, ◌⊎◌, ◌+◌, ◌<◌, ◌≤◌, ◌∷◌, ◌++◌, ℕ, List, Option, Some, [], true, false, length, IfOk, IfSome, IfNone, OnOk};
 ghost use Rattle.std.specs.Option.{option_map};
@@ -36,7 +36,7 @@ impl<R: Read> JournalReader<R> {
     ghost use Rattle.cspf_rows.specs.GivenBatches.{CanRead, HasGiven, HasFailed, rows_read};
     ghost use Rattle.cspf_rows.specs.JournalReading.{HasRead, ComesTo};
 
-    /// No row was read.
+    /// A reader that has read no row.
     pub fn new(alloc: Global, reader: R) -> Self
         ensures can { CanRead result }
         ensures none { HasGiven R.remaining (option_map rows_of (R.remaining reader)) result [] }
@@ -49,9 +49,9 @@ impl<R: Read> JournalReader<R> {
         }
     }
 
-    /// Reads the next whole batch in place of this one, whose room is used again, or comes to the
-    /// end of the batches. The stream is then read to its end, or to its row after `MOST_ROWS`,
-    /// which is refused as `TooManyRows`; rows behind the batches take no memory. After the end or
+    /// Reads the next whole batch into `batch`, whose memory is used again, or comes to the end of
+    /// the batches. At the end the stream is read to its end, or to its row after `MOST_ROWS`,
+    /// which is refused as `TooManyRows`. Rows after the batches take no memory. After the end or
     /// an error nothing more is read.
     pub fn read_batch(&mut self, batch: &mut Batch) -> Result<JournalStep, ReadError>
         requires { CanRead self.old }
@@ -80,7 +80,7 @@ impl<R: Read> JournalReader<R> {
         }
     }
 
-    /// Takes the next row behind the open changes of a batch, or comes to the end of the rows.
+    /// Takes the next row after the open changes of a batch, or comes to the end of the rows.
     fn take_row(&mut self, batch: &mut Batch) -> Result<Option<JournalStep>, ReadError>
         requires { CanRead self.old }
         ensures can { (result ≡ Ok None) ⊎ (result ≡ Ok (Some JournalStep.Batch))
@@ -115,7 +115,7 @@ impl<R: Read> JournalReader<R> {
         }
     }
 
-    /// Reads the rows behind a row that no batch has.
+    /// Reads the rows after a row that is in no batch.
     fn skip_rest(&mut self) -> Result<(), ReadError>
         requires { CanRead self.old }
         ensures end { OnOk result ((all : Option (List (List (List ℕ))))
@@ -132,7 +132,7 @@ impl<R: Read> JournalReader<R> {
         Ok(())
     }
 
-    /// Reads the fields of the next row, and answers whether there was one.
+    /// Reads the fields of the next row, and returns whether there was one.
     fn next_row(&mut self) -> Result<bool, ReadError>
         requires { CanRead self.old }
         ensures row { IfOk result (λ found. Takes (rows_left R.remaining self.old.records)
@@ -156,7 +156,7 @@ impl<R: Read> JournalReader<R> {
     }
 }
 
-/// What stands behind the batches where there are no more rows.
+/// What follows the batches where there are no more rows.
 fn rest_of(changes: &[Change]) -> Rest
     ensures clean { result ≡ Rest.Clean → changes.now ≡ [] }
     ensures torn { result ≡ Rest.Torn → changes.now ≢ [] }

@@ -1,4 +1,4 @@
-//! What the next row of a journal means to the batch that is being read.
+//! How the next row of a journal is taken by the batch that is being read.
 
 ghost use Rattle.std.specs.Prelude.{◌≡◌, ◌↔◌, ℕ, IsTrue, IfOk, length};
 ghost use Rattle.csv.specs.Records.{fields_of};
@@ -11,19 +11,19 @@ use cspf_model::{Batch, Change};
 use csv::ByteRecord;
 use std::alloc::AllocError;
 
-/// What a row is behind the open changes of a batch.
+/// What a row after the open changes of a batch is.
 #[derive(Clone, Copy)]
 pub(super) enum Taken {
     /// One more open change.
     Change,
     /// The end of the batch.
     Batch,
-    /// A row that the batch doesn't have.
+    /// A row that isn't in the batch.
     Behind,
 }
 
-/// Takes a row behind the open changes of the batch that has the next number. It takes no memory
-/// where the row is no change.
+/// Takes a row after the open changes of the batch with the next number. It takes no memory where
+/// the row is no change.
 pub(super) fn take(fields: &ByteRecord, next: u32, batch: &mut Batch) -> Result<Taken, AllocError>
     ensures { IfOk result (IsTaken (row_of (fields_of fields.now)) next batch.old batch.new) }
 {
@@ -70,7 +70,7 @@ fn add(change: Change, batch: &mut Batch) -> Result<Taken, AllocError>
     Ok(Taken::Change)
 }
 
-/// Whether the open changes are whole as the batch with this number and this many changes.
+/// Whether the open changes are the whole batch with this number and this many changes.
 fn is_whole(batch: &Batch, next: u32, number: u32, count: u32) -> bool
     ensures { IsTrue result ↔ ((number ≡ next) × (count ≡ length batch.now.changes)) }
 {

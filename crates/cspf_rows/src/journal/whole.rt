@@ -14,9 +14,9 @@ use std::alloc::{AllocError, Global};
 use std::io::Read;
 
 /// Reads a journal: the longest prefix of its rows that is whole batches with the numbers 1, 2, 3
-/// and so on, and whether rows are left behind it. The stream is read to its end, or to its
-/// row after `MOST_ROWS`, which is refused as `TooManyRows`. The changes of a batch are kept in the room
-/// that they need, and nothing is kept of the rows behind the batches.
+/// and so on, and whether rows are left after it. The stream is read to its end, or to its row
+/// after `MOST_ROWS`, which is refused as `TooManyRows`. The changes of a batch take the memory
+/// that they need, and no row after the batches is kept.
 pub fn read_journal<R: Read + Drop>(alloc: Global, reader: R) -> Result<Journal, ReadError>
     ensures whole { IfOk result (λ journal. IfSome (R.remaining reader) (λ bytes.
         IsJournal (rows_of bytes) journal.batches.items journal.rest)) }
@@ -34,7 +34,7 @@ pub fn read_journal<R: Read + Drop>(alloc: Global, reader: R) -> Result<Journal,
     read_whole(alloc, &mut journal, &mut batch)
 }
 
-/// Reads the batches that a reader has left, by the room of one batch.
+/// Reads the batches that a reader has left, through memory for one batch.
 fn read_whole<R: Read>(
     alloc: Global,
     journal: &mut JournalReader<R>,
@@ -55,7 +55,7 @@ fn read_whole<R: Read>(
     Ok(Journal { batches, rest })
 }
 
-/// Reads the batches that a reader has left behind each other.
+/// Reads the batches that a reader has left, one after the other, into `batches`.
 fn read_batches<R: Read>(
     alloc: Global,
     journal: &mut JournalReader<R>,
@@ -80,7 +80,7 @@ fn read_batches<R: Read>(
     }
 }
 
-/// One more batch, in the room that it needs.
+/// Adds a batch, with as much memory as it needs.
 fn add(alloc: Global, batch: &Batch, batches: &mut Vec<Batch>) -> Result<(), AllocError>
     ensures { OnOk result (batches.new.items ≡ batches.old.items ++ batch.now ∷ []) }
 {

@@ -18,7 +18,7 @@ use std::io::{Read, Write};
 /// Audits replies to the requests of a stream by a journal, and writes a line for each fault and
 /// then how many lines are good: `IsAuditRun`. Streams that aren't audited are refused by one line.
 /// The status is 0 where no line was written for a fault or a refusal, and else 2. After an error
-/// nothing is said of what the writer holds. The writer isn't flushed.
+/// the contents of the writer are unspecified. The writer isn't flushed.
 pub fn run_audit<R: Read + Drop, Q: Read + Drop, P: Read + Drop, W: Write>(
     alloc: Global,
     journal: R,
@@ -37,7 +37,7 @@ pub fn run_audit<R: Read + Drop, Q: Read + Drop, P: Read + Drop, W: Write>(
     }
 }
 
-/// How a run ends whose streams aren't audited.
+/// How a run ends if its streams aren't audited.
 fn audit_end_of(error: AuditError) -> EarlyEnd
     ensures refused { IfRefused result (IsAuditErrorLine error) }
     ensures failed { IfFailed result (IsAuditFailure error) }
@@ -59,7 +59,7 @@ fn audit_end_of(error: AuditError) -> EarlyEnd
     EarlyEnd::Refused(line)
 }
 
-/// Writes the lines of an audit, and answers the status.
+/// Writes the lines of an audit, and returns the status.
 fn write_audit<W: Write>(alloc: Global, found: &Audit, writer: &mut W) -> Result<u8, RunError>
     ensures status { IfOk result (λ status. status ≡ audit_status found.now) }
     ensures lines { OnOk result (Appends (W.contents writer.old) (W.contents writer.new)

@@ -1,5 +1,4 @@
-//! Answers the requests of a run in parts, so that the answers of one part alone are kept in
-//! memory.
+//! Answers the requests of a run in parts, so that only the answers of one part are kept in memory.
 
 ghost use Rattle.std.specs.Prelude.{◌≡◌, ◌+◌, ◌<◌, ◌≤◌, ◌⊎◌, length, drop, All, IfOk, IfErr, OnOk, vec_len};
 ghost use Rattle.cspf_model.specs.Changes.{database_after};

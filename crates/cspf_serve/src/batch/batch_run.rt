@@ -33,19 +33,19 @@ use std::io::{Read, Write};
 use std::sync::Wait;
 use std::thread::Threads;
 
-/// What a run reads.
+/// The inputs of a run.
 #[derive(Drop)]
 struct Streams<R, Q> {
     journal: R,
     requests: Q,
-    /// Whether rows behind the batches of the journal are left out, and not refused.
+    /// Whether rows after the batches of the journal are skipped, and not refused.
     accept_torn: bool,
 }
 
 /// Publishes the batches of a journal, one after the other, and then answers the requests of a
 /// stream at the last version by this many workers: `IsBatchRun`. One batch is kept at a time. Both
 /// streams are read before the first line is written. The status is 2 where anything was refused,
-/// and else 0. After an error nothing is said of what the writer holds. The writer isn't flushed.
+/// and else 0. After an error the contents of the writer are unspecified. The writer isn't flushed.
 pub fn run_batch<
     R: Read + Drop,
     Q: Read + Drop,
@@ -87,7 +87,7 @@ pub fn run_batch<
 }
 
 /// Publishes the batches of a journal over a journal that keeps nothing, and then answers requests
-/// at the last version. Answers the status.
+/// at the last version. Returns the status.
 fn answer<R: Read + Drop, Q: Read + Drop, W: Write, G: Gate + Sync, T: Threads + Wait + Sync>(
     rt: &T,
     alloc: Global,
@@ -119,7 +119,7 @@ fn answer<R: Read + Drop, Q: Read + Drop, W: Write, G: Gate + Sync, T: Threads +
     }
 }
 
-/// Publishes the batches of a journal and answers requests while a publisher is lent.
+/// Publishes the batches of a journal and answers requests, with a borrowed publisher.
 fn answer_lent<
     J: Write,
     R: Read + Drop,

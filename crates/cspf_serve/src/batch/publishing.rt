@@ -22,9 +22,9 @@ use std::io::{Read, Write};
 use std::sync::Wait;
 
 /// Publishes the batches of a journal as they are read, one after the other, and keeps one at a
-/// time. From the first one on that doesn't fit none is published, and its line is answered. The
-/// journal is read to its end. Rows behind the batches are left out where that is asked for, and
-/// else refused.
+/// time. From the first one on that doesn't fit none is published, and its line is returned. The
+/// journal is read to its end. Rows after the batches are skipped where that is asked for, and else
+/// refused.
 pub(super) fn publish_journal<R: Read + Drop, J: Write, T: Wait>(
     rt: &T,
     alloc: Global,
@@ -49,7 +49,7 @@ pub(super) fn publish_journal<R: Read + Drop, J: Write, T: Wait>(
     publish_all(rt, alloc, &mut journal, &mut batch, accept_torn, publisher)
 }
 
-/// Publishes the batches that a reader of a journal gives, by the room of one batch.
+/// Publishes the batches that a reader of a journal returns, with memory for one batch.
 fn publish_all<R: Read, J: Write, T: Wait>(
     rt: &T,
     alloc: Global,
@@ -87,7 +87,7 @@ fn publish_all<R: Read, J: Write, T: Wait>(
     }
 }
 
-/// Publishes the next batch, or answers its line where it doesn't fit. It does nothing where an
+/// Publishes the next batch, or returns its line where it doesn't fit. It does nothing where an
 /// earlier one didn't fit.
 fn publish<J: Write, T: Wait>(
     rt: &T,

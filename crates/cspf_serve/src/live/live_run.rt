@@ -28,10 +28,10 @@ use std::sync::Wait;
 use std::thread::Threads;
 
 /// Publishes the batches of updates over a journal while this many workers answer the requests of a
-/// stream: `IsLiveRun`. Both streams are read before. The status is 2 where anything was refused,
-/// and else 0. The journal's writer is handed back, after an error too: it then has the text of each
-/// published batch, and after a fault of its own the beginning of one more. After an error nothing is
-/// said of what the other writer holds. Neither is flushed.
+/// stream: `IsLiveRun`. Both streams are first read whole. The status is 2 where anything was
+/// refused, and else 0. The journal's writer is handed back, after an error too. It then has the
+/// text of each published batch, and after a fault of the journal a prefix of one more. After an
+/// error the contents of the other writer are unspecified. Neither is flushed.
 pub fn run_live_rows<
     R: Read + Drop,
     Q: Read + Drop,
@@ -105,7 +105,7 @@ fn answer_opened<J: Write, W: Write, G: Gate + Sync, T: Threads + Wait + Sync>(
     }
 }
 
-/// Writes the lines of what was answered and applied, and ends the publisher.
+/// Writes the lines of the answers and of the applied batches, and closes the publisher.
 fn end_live<J: Write, W: Write, T: Wait>(
     rt: &T,
     alloc: Global,
@@ -133,7 +133,7 @@ fn end_live<J: Write, W: Write, T: Wait>(
     (written, publisher.close(rt))
 }
 
-/// Writes the lines of a live run, and answers its status.
+/// Writes the lines of a live run, and returns its status.
 fn write_live<W: Write>(
     alloc: Global,
     answers: &[Answer],
@@ -166,7 +166,7 @@ fn fault_line(batches: &[Batch], applied: u32, fault: Option<ApplyError>) -> Opt
         return None;
     };
     let Some(batch) = batches.get(applied as usize) else {
-        // Never: the batch behind those that were applied is the one that wasn't.
+        // Never: the batch after those that were applied is the one that wasn't.
         return None;
     };
     let number = batch.number;

@@ -35,7 +35,7 @@ impl OpenChanges {
         }
     }
 
-    /// One more behind them.
+    /// Adds an open change.
     pub(super) fn add(&mut self, change: Change) -> Result<(), AllocError>
         requires { self.old.count + 1 < 2 ^ 64 }
         ensures open { OnOk result ((all : List Changed) → AreOpen self.old all

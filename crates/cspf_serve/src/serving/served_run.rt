@@ -30,7 +30,7 @@ use std::sync::Wait;
 use std::thread;
 use std::thread::Threads;
 
-/// What a run over updates and clients leaves.
+/// The result of a run over updates and clients.
 pub struct Served<W, J, V> {
     /// 0 where all rows and batches of all streams were accepted and no change was left open, and
     /// else 2.
@@ -41,12 +41,12 @@ pub struct Served<W, J, V> {
     pub said: W,
     /// The journal's writer.
     pub journal: J,
-    /// What is left of the clients, in order.
+    /// The results of the clients, in order.
     pub clients: Vec<ServedClient<V>>,
 }
 
-/// What is had for each client before the first one is touched: who tells it what is published, who
-/// asks for it, and room for what serves it and for what is left of it.
+/// What is allocated for each client before any is started: both ends of its news ring, its asker,
+/// and a slot for its state and for its result.
 #[derive(Drop)]
 struct Seats<Q, V> {
     tellers: Vec<Teller>,
@@ -106,7 +106,7 @@ fn begin_all<Q: Read + Drop, V: Replies + Drop>(
     serving
 }
 
-/// What is left of each client once it knows what is published.
+/// The result of each client once it has learnt all published batches.
 fn close_all<J: Write, Q: Read + Drop, V: Replies + Drop>(
     updates: &mut Updates<J>,
     serving: Vec<ServingClient<Q, V>>,
@@ -202,7 +202,7 @@ fn ask_all<Q: Read + Drop + Send, V: Replies + Send, T: Threads + Sync>(
     );
 }
 
-/// Answers all clients while this thread takes the updates.
+/// Answers all clients while this thread answers the updates.
 fn serve_all<
     R: Read,
     W: Write,
@@ -227,7 +227,7 @@ fn serve_all<
         × IsUpdatesRun result (rows_left R.remaining rows.old) t
         (W.contents said.old) (W.contents said.new) }
 {
-    // Each closure has one of its own: memory that both name is one loan too many.
+    // Each closure has its copy of the handle: sharing one would be a borrow too many.
     let room = alloc;
     let mut ask = ||
         requires ready { AreClientsReady serving.now }
@@ -244,11 +244,11 @@ fn serve_all<
     thread::join_mut(rt, &mut ask, &mut publish).1
 }
 
-/// Publishes updates as they come in, each batch in the journal first, while each client is answered
-/// by an asker of its own. No client waits for another, nor for the publisher. It ends when the
-/// updates and all clients have ended: `IsServedRun`.
+/// Publishes updates as they come in, each batch in the journal first, while one asker answers each
+/// client. No client waits for another, nor for the publisher. It ends when the updates and all
+/// clients have ended: `IsServedRun`.
 ///
-/// An error comes before anything is read, and gives all back but the updates.
+/// An error comes before anything is read, and gives back all inputs except the updates.
 pub fn run_serve<
     R: Read + Drop,
     W: Write,
@@ -280,7 +280,8 @@ pub fn run_serve<
     Ok(serve_seated(rt, alloc, updates, said, publisher, seats, clients))
 }
 
-/// What is left once the updates are published and the clients answered, all of which have seats.
+/// The result of a run whose clients all have seats, once the updates are published and the clients
+/// answered.
 fn serve_seated<
     R: Read + Drop,
     W: Write,

@@ -1,4 +1,5 @@
-//! How one row of the updates is answered, and how the clients hear of each published batch.
+//! How one row of the updates is answered, and how the clients are notified of each published
+//! batch.
 
 ghost use Rattle.std.specs.Prelude.{◌≡◌, ◌+◌, ◌<◌, ◌≤◌, ◌⊎◌, ◌^◌, ◌++◌, ◌∷◌, [], List, Ok, All, IsTrue, ◌↔◌, length, IfOk, IfErr, OnOk, OnErr};
 ghost use Rattle.cspf_ero.specs.ReplyLine.{IsReply};
@@ -26,7 +27,7 @@ use std::io::Write;
 use std::marker::Model;
 use std::sync::Wait;
 
-/// The updates' side of a run: the publisher, who lets clients know what is published, the open
+/// The updates' side of a run: the publisher, the publisher's ends of the clients' rings, the open
 /// changes, and how many rows and batches were refused.
 pub(super) struct Updates<J> {
     publisher: Publisher<J>,
@@ -95,7 +96,7 @@ impl<J: Write> Updates<J> {
         }
     }
 
-    /// Takes a row that is read, and answers its line.
+    /// Takes a row that is read, and returns its line.
     fn answer_read<R: Wait>(
         &mut self,
         rt: &R,
@@ -146,8 +147,9 @@ impl<J: Write> Updates<J> {
         Ok(Vec::new(alloc))
     }
 
-    /// Publishes the open changes as the batch with this number and this count, or refuses them, and
-    /// answers the line. None are open afterwards. The line of a published batch is had before.
+    /// Publishes the open changes as the batch with this number and this count, or refuses them,
+    /// and returns the line. None are open afterwards. The line of a published batch is made before
+    /// it is published.
     fn end<R: Wait>(
         &mut self,
         rt: &R,
@@ -175,8 +177,8 @@ impl<J: Write> Updates<J> {
         }
     }
 
-    /// Publishes the open changes as the batch with this number and this count, and lets the clients
-    /// know; or answers the line that says why not.
+    /// Publishes the open changes as the batch with this number and this count, and notifies the
+    /// clients; or returns the line that says why not.
     fn publish<R: Wait>(
         &mut self,
         rt: &R,
@@ -248,7 +250,7 @@ impl<J: Write> Updates<J> {
         self.refused > 0 || self.changes.count > 0
     }
 
-    /// Tells what is published.
+    /// A token of the published batches.
     pub(super) fn tell(&mut self) -> Told
         ensures batches { result.batches ≡ self.old.publisher.batches }
         ensures source { result.source ≡ self.old.publisher.source }
@@ -271,7 +273,7 @@ impl<J: Write> Updates<J> {
     }
 }
 
-/// Leaves the news for each client that it is published.
+/// Puts news of the published batches into the ring of each client.
 fn tell_each<J: Write>(publisher: &mut Publisher<J>, tellers: &mut Vec<Teller>)
     requires { All (λ t. t.source ≡ publisher.old.source) tellers.old.items }
     ensures same { publisher.new ≡ publisher.old }

@@ -20,8 +20,8 @@ use std::alloc::Global;
 use std::io::{Read, Write};
 
 /// Writes the batches that make the last database of a journal from nothing: `IsSnapshotRun`. A
-/// journal of which no database comes is refused by one line. The status is 2 where it was refused,
-/// and else 0. After an error nothing is said of what the writer holds. The writer isn't flushed.
+/// journal that gives no database is refused by one line. The status is 2 where it was refused, and
+/// else 0. After an error the contents of the writer are unspecified. The writer isn't flushed.
 pub fn run_snapshot<R: Read + Drop, W: Write>(
     alloc: Global,
     journal: R,

@@ -14,8 +14,7 @@ pub fn rows_have_one_reply()
     one_refusal();
 }
 
-/// Law: what a run has written where it stops before its end is a prefix of what the whole run
-/// writes.
+/// Law: the output of a run that stops before its end is a prefix of the output of the whole run.
 pub fn stops_at_a_prefix()
     ensures { StopsAtAPrefix }
 {
@@ -25,8 +24,8 @@ pub fn stops_at_a_prefix()
     one_refusal();
 }
 
-/// Law: a run goes on row by row. Rows are answered with one more behind them where they are answered
-/// and then that one is, and no count of a run grows by more than one with a row.
+/// Law: a run goes on row by row. Rows with one more at their end are answered exactly where they
+/// are, and then that one is. No count of a run grows by more than one with a row.
 pub fn runs_go_on_row_by_row()
     ensures more { GoesOnByOneRow }
     ensures counts { CountsByOne }

@@ -19,12 +19,12 @@ use std::alloc::Global;
 use std::io::{Read, Write};
 
 /// Reads a stream of rows and writes the line of each when it is known, in one write where the
-/// writer takes it whole. What is answered, and when a row or a batch is refused, is `IsScript`. Of
-/// the rows at most 1,000,000 are read, and memory is taken for the longest one alone.
+/// writer takes it whole. `IsScript` defines the lines, and when a row or a batch is refused. At
+/// most 1,000,000 rows are read, and memory is taken only for the longest one.
 ///
-/// After an error the writer has the lines of some first rows, and after a failed write a part of
-/// the next text, not all of it. `Read` comes from a read that failed and `Write` from a write that
-/// failed or took no bytes. The writer isn't flushed.
+/// After an error the writer has the lines of a prefix of the rows, and after a failed write also a
+/// part of the next text, but not all of it. `Read` comes from a read that failed and `Write` from
+/// a write that failed or took no bytes. The writer isn't flushed.
 pub fn run_solve<R: Read + Drop, W: Write>(
     alloc: Global,
     reader: R,
@@ -73,7 +73,7 @@ fn solve_rows<R: Read, W: Write>(
     finish(alloc, solver, writer, written, too_many)
 }
 
-/// Answers a row, behind `written` bytes, and answers how many bytes its line has.
+/// Answers a row, after `written` bytes, and returns how many bytes its line has.
 fn answer_row<W: Write>(
     alloc: Global,
     fields: &ByteRecord,
@@ -97,7 +97,7 @@ fn answer_row<W: Write>(
     put_line(line.as_slice(), writer, written)
 }
 
-/// Writes the last line, and answers the summary.
+/// Writes the last line, and returns the summary.
 fn finish<W: Write>(
     alloc: Global,
     solver: &Solver,
@@ -119,7 +119,7 @@ fn finish<W: Write>(
     Ok(solver.summary(too_many))
 }
 
-/// Writes a line, behind `written` bytes, and answers how many it has.
+/// Writes a line, after `written` bytes, and returns how many bytes it has.
 fn put_line<W: Write>(line: &[u8], writer: &mut W, written: u128) -> Result<u128, SolveError>
     requires { written ≤ MOST_ROWS * 2 ^ 64 }
     ensures whole { IfOk result (λ size.

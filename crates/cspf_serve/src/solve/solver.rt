@@ -1,4 +1,5 @@
-//! What answers one row after the other: the table, the open changes, and the counts of a run.
+//! The solver answers one row after the other: it has the table, the open changes, and the counts
+//! of a run.
 
 ghost use Rattle.std.specs.Prelude.{◌≡◌, ℕ, ◌+◌, ◌<◌, ◌≤◌, List, [], ◌∷◌, ◌++◌, take, IfOk, OnOk, OnErr, MatchResult};
 ghost use Rattle.cspf_model.specs.declared.batch.Change.{Change as Changed};
@@ -17,7 +18,7 @@ use std::alloc::{AllocError, Global};
 /// How many open changes are kept at most: one more than a batch may have, which is refused.
 pub(crate) const KEPT_CHANGES: usize = MOST_CHANGES + 1;
 
-/// What stands between two rows. A stream of any length takes no more memory than this.
+/// The state between two rows. A stream of any length takes no more memory than this.
 #[derive(Drop)]
 pub struct Solver {
     /// The database of the batches that were accepted.
@@ -59,7 +60,7 @@ impl Solver {
         })
     }
 
-    /// Takes one more row, and answers its line: none, an empty one, for a change.
+    /// Takes one more row, and returns its line, which is empty for a change.
     pub fn answer(
         &mut self,
         alloc: Global,
@@ -83,7 +84,7 @@ impl Solver {
         }
     }
 
-    /// Takes a row that is read, and answers its line.
+    /// Takes a row that is read, and returns its line.
     fn answer_read(&mut self, alloc: Global, row: &Row) -> Result<Vec<u8>, AllocError>
         requires count { self.old.count ≤ MOST_ROWS }
         requires answers { self.old.answers ≤ MOST_ROWS }
@@ -148,7 +149,7 @@ impl Solver {
         found
     }
 
-    /// Ends a batch as `end` does, and answers its line.
+    /// Ends a batch as `end` does, and returns its line.
     fn end_line(&mut self, number: u32, count: u32) -> Line
         requires { self.old.refused ≤ MOST_ROWS }
         ensures { (s : RunState) → KeepsRun self.old s → (after : RunState) × KeepsRun self.new after

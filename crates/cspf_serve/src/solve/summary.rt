@@ -1,4 +1,4 @@
-/// What a run over rows came to.
+/// The summary of a run over rows.
 #[derive(Clone, Copy, Debug, PartialEq, Eq)]
 pub struct Summary {
     /// The rows that were read, at most 1,000,000.

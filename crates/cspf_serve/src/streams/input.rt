@@ -17,8 +17,7 @@ use cspf_rows::{Journal, ReadError, RequestsError, Rest, RowError, read_journal,
 use std::alloc::Global;
 use std::io::Read;
 
-/// The batches of a journal. Rows behind them are left out where that is asked for, and else
-/// refused.
+/// The batches of a journal. Rows after them are skipped where that is asked for, and else refused.
 pub(crate) fn batches_of<R: Read + Drop>(
     alloc: Global,
     journal: R,
@@ -38,7 +37,7 @@ pub(crate) fn batches_of<R: Read + Drop>(
     }
 }
 
-/// How a run ends whose journal can't be read.
+/// How a run ends if its journal can't be read.
 pub(crate) fn journal_end_of(error: ReadError) -> EarlyEnd
     ensures refused { IfRefused result (IsJournalLine error) }
     ensures failed { IfFailed result (IsJournalError error) }
@@ -50,7 +49,7 @@ pub(crate) fn journal_end_of(error: ReadError) -> EarlyEnd
     }
 }
 
-/// The batches of a journal that was read, unless rows behind them are refused.
+/// The batches of a journal that was read, unless rows after them are refused.
 fn whole_batches(journal: Journal, accept_torn: bool) -> Result<Vec<Batch>, EarlyEnd>
     ensures ok { IfOk result (λ batches. (batches.items ≡ journal.batches.items)
         × (journal.rest ≡ IsTorn → accept_torn ≡ true)) }
@@ -62,7 +61,7 @@ fn whole_batches(journal: Journal, accept_torn: bool) -> Result<Vec<Batch>, Earl
     Ok(journal.batches)
 }
 
-/// Refuses rows behind this many batches of a journal, unless they are to be left out.
+/// Refuses rows after this many batches of a journal, unless they are to be skipped.
 pub(crate) fn accept_rest(rest: Rest, count: usize, accept_torn: bool) -> Result<(), EarlyEnd>
     ensures ok { OnOk result (rest ≡ IsTorn → accept_torn ≡ true) }
     ensures err { IfErr result (λ end. IfRefused end (λ line. (rest ≡ IsTorn)
@@ -93,7 +92,7 @@ pub(crate) fn requests_of<R: Read + Drop>(
     }
 }
 
-/// How a run ends whose requests can't be read.
+/// How a run ends if its requests can't be read.
 pub(crate) fn requests_end_of(error: RequestsError) -> EarlyEnd
     ensures refused { IfRefused result (IsFaultLine error) }
     ensures failed { IfFailed result (IsRequestsError error) }
@@ -108,15 +107,15 @@ pub(crate) fn requests_end_of(error: RequestsError) -> EarlyEnd
     EarlyEnd::Refused(Line::RefusedRequest { row, error })
 }
 
-/// What the two streams of a run say.
+/// The contents of the two streams of a run.
 #[derive(Drop)]
 pub(crate) struct Inputs {
     pub(crate) batches: Vec<Batch>,
     pub(crate) requests: Vec<Request>,
 }
 
-/// The batches of a journal, or of updates, and the requests of a stream. Rows behind the batches are
-/// left out where that is asked for, and else refused.
+/// The batches of a journal, or of updates, and the requests of a stream. Rows after the batches
+/// are skipped where that is asked for, and else refused.
 pub(crate) fn inputs_of<R: Read + Drop, Q: Read + Drop>(
     alloc: Global,
     journal: R,

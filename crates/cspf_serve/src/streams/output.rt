@@ -36,7 +36,7 @@ pub(crate) fn put_line<W: Write>(alloc: Global, line: Line, writer: &mut W) -> R
     put(&bytes, writer)
 }
 
-/// Writes the line by which a run is refused, and answers its status.
+/// Writes the line by which a run is refused, and returns its status.
 pub(crate) fn refuse<W: Write>(alloc: Global, end: EarlyEnd, writer: &mut W) -> Result<u8, RunError>
     ensures status { IfOk result (λ status. status ≡ 2) }
     ensures line { IfOk result (λ status.

@@ -19,7 +19,7 @@ module _ (d : Database) (q : Request) (hops place at : ℕ) (roles : List Role) 
       subst (λ k. IsRole d q (i / 1024 + 1) (router_at d (i % 1024)) (slice_index_or (set roles at role) k e)) (sym same)
       (subst (IsRole d q (i / 1024 + 1) (router_at d (i % 1024))) (sym (get_or-set_same roles at role e within)) (rw (last, here) made))
 
-  -- and what was known elsewhere stays
+  -- and the roles elsewhere stay
   kept_elsewhere : (i : ℕ) (e : Role) → i % 1024 ≢ place → IsRole d q (i / 1024 + 1) (router_at d (i % 1024)) (slice_index_or roles i e) → IsRole d q (i / 1024 + 1) (router_at d (i % 1024)) (slice_index_or (set roles at role) i e)
   kept_elsewhere i e there known =
       let ne : i ≢ at = λ same. there (omega (arith, same, is, low)) in

@@ -1,4 +1,4 @@
--- `of` holds what was in the box, at the box's pointer.
+-- `of` holds the session of the box, at the box's pointer.
 use Rattle.std.proofs.Common.{[], ◌∷◌, refl, ap}
 use Rattle.std.proofs.raw_atomic.Walks.{proved}
 use Rattle.std.specs.declared.option.Option.TheVariants.{Some}
