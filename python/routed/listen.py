@@ -4,7 +4,7 @@ PLACE is the path of a UNIX socket, a port of 127.0.0.1, ADDRESS:PORT, or [ADDRE
 needs a slash. There is no sign-on: at a path its mode and its folder say who may connect, at a port everybody may who
 reaches it. With port 0 the system chooses one, and a line before `ready` has it, as `updates 127.0.0.1:43211`.
 
-A connection sends rows and reads their lines (docs/FORMATS.md). Where no place is free for it, it reads the line `busy`
+A connection sends rows and reads their lines (docs/run/FORMATS.md). Where no place is free for it, it reads the line `busy`
 and its end. It may shut its sending side and read on, until it is answered to its last whole line; what no line feed
 ends is dropped, and so is a byte order mark at its beginning. A line of more than 65,536 bytes or with a quotation mark
 (no row needs one, and left open it would swallow the rows of others) ends it by the line `refused`, behind the lines of
@@ -30,79 +30,34 @@ Example: tools/listen --journal day.journal --ask ./ask --updates ./updates
 and in other shells: nc -N -U ./updates < examples/abilene.rows, or nc -U ./ask
 """
 import argparse
-import contextlib
-import errno
 import os
-import pathlib
-import re
 import signal
-import socket
 import subprocess
 import sys
 
 from . import program
+from .accounts import Account
 from .channels import Channel, Listener, Updates
 from .journals import Refused, texts
 from .live_snapshots import Snapshots
+from .log import LEVELS, Log
 from .loop import Loop, READ
+from .metrics import Page
+from .places import BACKLOG, Place, Stopped, tried
+from .watch import Watch
 
-BACKLOG = 64  # connections that wait to be accepted
 IDLE = 300  # seconds, at a port
-
-
-class Stopped(Exception):
-    """Its text is what was tried, and why it failed."""
-
-
-@contextlib.contextmanager
-def tried(what, hint=""):
-    """Names what was tried where it fails."""
-    try:
-        yield
-    except (OSError, UnicodeError) as error:  # the latter of a name that no host can have
-        number = getattr(error, "errno", 0) or 0
-        words = os.strerror(number) if number > 0 else getattr(error, "strerror", "") or error
-        raise Stopped(f"{what}: {words}{hint}") from None
-
-
-class Place:
-    """Where a socket is listened on: the path of one, or an address and a port."""
-
-    def __init__(self, text):
-        port = re.fullmatch(r"(?:(?:([^/:\[\]]+)|\[([^/\[\]]+)\]):)?([0-9]+)", text)
-        if not text or port and int(port[3]) >= 1 << 16 or not port and ":" in text and "/" not in text:
-            raise argparse.ArgumentTypeError(f"{text!r} is no place: that is the path of a UNIX socket (with a slash where it has a colon), "
-                                             "a port from 0 to 65535, ADDRESS:PORT or [ADDRESS]:PORT")
-        self.text, self.path = text, None if port else text
-        if port:
-            self.family = socket.AF_INET6 if port[2] else socket.AF_INET
-            self.address = port[1] or port[2] or "127.0.0.1", int(port[3])
-
-    def bind(self, mode):
-        """A socket that listens. At a path it replaces one on which nobody listens any more."""
-        with tried(f"{self.text}: bind"):
-            if not self.path:
-                return socket.create_server(self.address, family=self.family, backlog=BACKLOG)
-            if pathlib.Path(self.path).is_socket():
-                with socket.socket(socket.AF_UNIX) as probe:
-                    probe.setblocking(False)
-                    if probe.connect_ex(self.path) == errno.ECONNREFUSED:
-                        os.unlink(self.path)
-            listener, before = socket.socket(socket.AF_UNIX), os.umask(0o777 & ~mode)
-            try:
-                listener.bind(self.path)
-            finally:
-                os.umask(before)
-            listener.listen(BACKLOG)
-            return listener
 
 
 class Front:
     """The server, and the loop that serves its connections."""
 
     def __init__(self, options):
-        self.loop, self.options, self.listeners = Loop(), options, []
+        self.loop, self.options, self.listeners = Loop(), options, {}
+        self.log = Log("listen", options.log_level)
+        self.account = Account(self.log, options.journal)
         self.snapshots, self.server, self.status = Snapshots(options.program, options.journal), None, None
+        self.is_stopped = False
         self.channels, self.theirs = [], []  # ours, that of the updates first, and the server's ends of their pipes
         self.signals, write = os.pipe()  # a signal is a byte here, which waits for the loop
         os.set_blocking(write, False)
@@ -116,7 +71,7 @@ class Front:
         words = [self.options.program, "serve", "--explain", "--journal", self.options.journal]
         for number in range(self.options.clients + 1):
             (rows_out, rows_in), (lines_out, lines_in) = os.pipe(), os.pipe()
-            ours = self.loop, rows_in, lines_out
+            ours = self.loop, rows_in, lines_out, self.account
             self.channels.append(Channel(*ours) if number else Updates(*ours, self.snapshots))
             self.theirs += [rows_out, lines_in]
             if number:  # inherited, an end of a pipe would stay open in the server whatever it closes: it opens its own
@@ -137,18 +92,33 @@ class Front:
         self.close_theirs()
         if version != wanted:
             raise Stopped(f"{self.options.begin}: batch {version + 1} wasn't published")
-        for kind, listener, channels in zip(("updates", "ask"), self.listeners, (self.channels[:1], self.channels[1:])):
+        self.account.version = version
+        for kind, listener in self.listeners.items():
+            self.serve(kind, listener)
             place = getattr(self.options, kind)
-            Listener(self.loop, listener, channels, idle_of(self.options) if kind == "ask" else 0)
             if not place.path and not place.address[1]:
                 host, port = listener.getsockname()[:2]
                 say(f"{kind} {f'[{host}]' if ':' in host else host}:{port}")
         say("ready")
 
+    def serve(self, kind, listener):
+        """Takes the connections of a place."""
+        if kind == "metrics":
+            Page(self.loop, listener, self.account.figures.text, lambda change: self.account.change("metrics", change))
+        elif kind == "watch":
+            Watch(self.loop, listener, self.account)
+        elif kind == "updates":
+            Listener(self.loop, listener, self.channels[:1], 0)
+        else:
+            Listener(self.loop, listener, self.channels[1:], idle_of(self.options), self.options.each)
+
     def signalled(self, _):
         numbers = os.read(self.signals, BACKLOG)
-        if signal.SIGTERM in numbers or signal.SIGINT in numbers:
-            self.server.terminate()
+        for number in (signal.SIGTERM, signal.SIGINT):
+            if number in numbers:
+                self.log.say("info", f"stopped by {number.name}")
+                self.server.terminate()
+                self.is_stopped = True
         self.snapshots.look()
         self.status = self.server.poll()
 
@@ -160,6 +130,9 @@ class Front:
         self.close_theirs()
         for channel in self.channels:
             channel.read_rest()
+        if self.status and not self.is_stopped:
+            what = f"ended with status {self.status}" if self.status > 0 else f"was ended by signal {-self.status}"
+            self.log.say("error", f"{self.options.program} {what}")
         return self.status if self.status >= 0 else 128 - self.status
 
 
@@ -214,6 +187,11 @@ def main(given=None):
     words.add_argument("--mode", type=mode, default=0o600, help="permissions of UNIX sockets, octal (600)")
     words.add_argument("--ask-mode", type=mode, metavar="MODE", help="those of the socket where clients ask (that of --mode)")
     words.add_argument("--updates-mode", type=mode, metavar="MODE", help="those of the socket where updates come in (that of --mode)")
+    words.add_argument("--each", type=int, choices=range(0, 65), default=0, metavar="N",
+                       help="how many asking connections one user has at once at a path, or one address at a port, 0 for any number (0)")
+    words.add_argument("--watch", type=Place, metavar="PLACE", help="where the line of each version is read")
+    words.add_argument("--metrics", type=Place, metavar="PLACE", help="where figures are read, by HTTP at /metrics")
+    words.add_argument("--log-level", choices=LEVELS, default="warning", help="which lines of the log are written (warning)")
     words.add_argument("--idle", type=seconds, metavar="SECONDS", help=f"after which an idle asking connection is ended, 0 for never "
                                                                       f"({IDLE} at a port, never at a path)")
     program.add_option(words)
@@ -221,16 +199,15 @@ def main(given=None):
     options.program = program.find(options.program)
     front = Front(options)
     try:
-        for place, given in ((options.updates, options.updates_mode), (options.ask, options.ask_mode)):
-            front.listeners.append(place.bind(options.mode if given is None else given))
+        modes = {"updates": options.updates_mode, "ask": options.ask_mode, "watch": options.ask_mode, "metrics": None}
+        for kind, given in modes.items():
+            if place := getattr(options, kind):
+                front.listeners[kind] = place.bind(options.mode if given is None else given)
         return front.run()
     except (Stopped, OSError, MemoryError) as fault:
-        print(f"listen: {str(fault) or 'out of memory'}", file=sys.stderr)
+        front.log.say("error", str(fault) or "out of memory")
         return 3
     finally:
         front.snapshots.stop()
-        for place, _ in zip((options.updates, options.ask), front.listeners):
-            if place.path:
-                with contextlib.suppress(FileNotFoundError):
-                    os.unlink(place.path)
-
+        for kind in front.listeners:
+            getattr(options, kind).leave()

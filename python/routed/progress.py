@@ -1,4 +1,4 @@
-"""How far a sweep is, and how long the rest will take: one line on standard error, where that is a terminal."""
+"""How far a long run is, and how long the rest will take: one line on standard error, where that is a terminal."""
 import sys
 import time
 
@@ -7,9 +7,10 @@ ERASE = "\r\033[K"
 
 
 class Progress:
-    """`with` it, each step is one more of so many scenarios. What is printed meanwhile comes between `make_room` and `step`."""
+    """`with` it, each step is one more of `total`. What is printed meanwhile comes between `make_room` and `step`."""
 
-    def __init__(self, total):
+    def __init__(self, total, name="sweep", unit="scenarios"):
+        self.name, self.unit = name, unit
         self.total, self.done, self.begun, self.next = total, 0, time.monotonic(), 0
         self.is_shown, self.is_beside_lines = sys.stderr.isatty(), sys.stdout.isatty()
 
@@ -24,8 +25,8 @@ class Progress:
         if self.is_beside_lines:
             self.write(ERASE)
 
-    def step(self):
-        self.done += 1
+    def step(self, count=1):
+        self.done += count
         if self.is_beside_lines or time.monotonic() >= self.next:
             self.show()
 
@@ -33,7 +34,7 @@ class Progress:
         self.next = time.monotonic() + OFTEN
         seconds = (time.monotonic() - self.begun) / max(self.done, 1) * (self.total - self.done)
         left = f"{seconds:.0f} s" if seconds < 120 else f"{seconds / 60:.0f} min"
-        self.write(f"{ERASE}sweep: {self.done} of {self.total} scenarios" + (f", {left} left" if self.done else ""))
+        self.write(f"{ERASE}{self.name}: {self.done} of {self.total} {self.unit}" + (f", {left} left" if self.done else ""))
 
     def write(self, text):
         if self.is_shown:
