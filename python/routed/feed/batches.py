@@ -43,8 +43,8 @@ def named(change):
 class Batches:
     """One batch at a time: the next is written once the line of the last has come."""
 
-    def __init__(self, say, given, version):
-        self.say = say
+    def __init__(self, say, given, version, count=lambda word: None):
+        self.say, self.count = say, count  # the latter is called with the first word of each refusal of a batch
         self.given, self.version = given, version  # rows by key: the links and marks that the program has at its version
         self.barred = {}  # rows by key: those that it refused
         self.sent = []  # the changes of the batch whose line hasn't come
@@ -113,6 +113,7 @@ class Batches:
     def refused(self, line, why):
         """Goes on with what can be put: in smaller batches, until the change that is at fault is the only one of its batch."""
         changes, self.sent, self.is_cut = self.sent, [], True
+        self.count(why[0])
         if why[0] in ("exhausted", "journal", "stopped"):  # no batch is taken any more
             raise Ended(line)
         if why[0] in ("expected", "absent"):

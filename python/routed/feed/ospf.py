@@ -3,7 +3,7 @@
 With a command, such as `routed solve`, the rows go to it: each line of standard input that is an ask row is passed on
 to it too, and its lines come out on standard output. Without one, rows go to standard output, and the
 lines that come back are read from standard input. A program that has a database already tells it where it is behind
-tools/listen; else --journal names its journal. docs/FEED.md has what is taken from where.
+tools/listen; else --journal names its journal. docs/run/FEED.md has what is taken from where.
 """
 import argparse
 import collections
@@ -17,10 +17,13 @@ import subprocess
 import sys
 import time
 
+from ..places import Place, Stopped
 from .api import Api, ApiError, LSA_DELETE, LSA_UPDATE
 from .batches import Batches, Ended, journal
 from .database import begun
-from .lsas import Lsdb, WRAPPED
+from .figures import FeedFigures
+from .lsas import Lsdb, WRAPPED, outside
+from .sids import SidFile
 
 TOGETHER = 0.02  # seconds: what comes so close together isn't cut, as a removal and its new instance
 LONGEST = 1.0  # seconds that such a run of events may put a batch off
@@ -100,22 +103,30 @@ class Program:
         return self.lines.popleft().decode(errors="replace")
 
 
+def database_of(asked):
+    return Lsdb(bool(asked.sids), asked.sid_group)
+
+
 class Feed:
     def __init__(self, asked):
         self.asked = asked
+        self.sids = SidFile(asked.sids) if asked.sids else None
         self.program = Program(asked.command)
         self.batches = None  # once it is known what the program has
-        self.api, self.lsdb, self.try_at, self.was_lost = None, Lsdb(), 0.0, False
+        self.api, self.lsdb, self.try_at, self.was_lost = None, database_of(asked), 0.0, False
         self.asks = 0 if asked.command else None
         self.unread_asks = b""
         self.look_at = None  # when the network is looked at next
         self.event_at = 0.0
-        self.hold_until, self.awaited = None, set()  # links that the program has, and the router didn't tell of yet
+        self.hold_until, self.awaited, self.awaited_sids = None, set(), {}  # links that the program has, and the router didn't tell of yet
         self.left, self.told = None, set()  # what was said
+        self.figures = FeedFigures(self)
 
     def run(self):
+        if self.asked.metrics:
+            self.figures.serve(self.asked.metrics)
         given, version = begun(self.program, self.asked.journal)
-        self.batches = Batches(say, given, version)
+        self.batches = Batches(say, given, version, self.refused)
         if version:
             marks = sum(len(key) == 1 for key in given)
             say(f"going on from version {version}, of {len(given) - marks} links and {marks} marks; "
@@ -163,9 +174,10 @@ class Feed:
             self.api = Api(self.asked.router, self.asked.port)
         except ApiError as fault:
             return self.lose(fault)
-        now = time.monotonic()
-        self.lsdb = Lsdb()
+        self.figures.heard_at = now = time.monotonic()
+        self.lsdb = database_of(self.asked)
         self.awaited = self.batches.links()
+        self.awaited_sids = dict(self.sids.labels) if self.sids else {}
         self.hold_until = now + self.asked.hold if self.awaited else None
         self.soon(now, self.asked.collect)
         if self.was_lost:
@@ -189,6 +201,7 @@ class Feed:
             self.lose(fault)
             return
         now = time.monotonic()
+        self.figures.heard_at = now
         for kind, body in messages:
             if kind in (LSA_UPDATE, LSA_DELETE):
                 self.event_at = now
@@ -199,10 +212,17 @@ class Feed:
         while self.program.lines:
             line = self.program.lines.popleft()
             if self.batches.read(line.decode(errors="replace")):
+                if self.sids and not self.batches.sent:
+                    self.sids.accepted()
                 if self.batches.is_cut:
                     self.soon(time.monotonic(), 0.0)
             elif self.asked.command:
                 put_out(line + b"\n")
+
+    def refused(self, word):
+        self.figures.refused(word)
+        if self.sids:
+            self.sids.refused()
 
     def take_asks(self):
         with naming("standard input"):
@@ -220,6 +240,8 @@ class Feed:
 
     def close(self):
         """Ends the program, and takes the lines that it still writes."""
+        if self.sids:
+            self.sids.close()
         child = self.program.child
         if not child:
             return
@@ -238,10 +260,19 @@ class Feed:
         rows, left, wrapped = self.lsdb.network()
         self.look_at = None
         self.awaited -= rows.keys()
+        self.awaited_sids = {key: label for key, label in self.awaited_sids.items() if key not in self.lsdb.sids}
         if self.hold_until is not None and now >= self.hold_until:
-            self.hold_until, self.awaited = None, set()
-        text = self.batches.next(rows, self.awaited)
+            self.hold_until, self.awaited, self.awaited_sids = None, set(), {}
+        sids = self.lsdb.sids | self.awaited_sids
+        wanted = dict(rows)
+        if self.lsdb.bit:  # what is held without a SID stays, and leaves the group
+            held = self.awaited & self.batches.given.keys() - sids.keys()
+            wanted |= {key: outside(self.lsdb.bit, self.batches.given[key]) for key in held if len(key) == 2}
+        text = self.batches.next(wanted, self.awaited)
+        if self.sids:
+            self.sids.write(self.batches, sids, wanted)
         self.program.waiting += text.encode()
+        self.figures.looked(rows, left)
         self.tell(rows, left, wrapped)
 
     def tell(self, rows, left, wrapped):
@@ -277,7 +308,7 @@ def tell_left(rows, left, before):
 def once(asked):
     """Writes the network as one journal, when nothing has come for a while."""
     try:
-        api, lsdb = Api(asked.router, asked.port), Lsdb()
+        api, lsdb = Api(asked.router, asked.port), database_of(asked)
         while ready := select.select(api.sockets, [], [], max(asked.collect, 1.0))[0]:
             for source in ready:
                 for kind, body in api.messages(source):
@@ -316,6 +347,13 @@ def port(text):
     return value
 
 
+def group(text):
+    value = int(text)
+    if not 0 <= value < 32:
+        raise ValueError
+    return value
+
+
 def options(words):
     asked = argparse.ArgumentParser(prog="ospf", description=__doc__.split("\n\n")[0])
     asked.add_argument("--router", type=host, default="127.0.0.1", metavar="ADDRESS", help="where the router's OSPF API is")
@@ -324,10 +362,15 @@ def options(words):
     asked.add_argument("--hold", type=seconds, default=20.0, metavar="S",
                        help="seconds after a connection is there that links of before are held, of which the router doesn't tell")
     asked.add_argument("--journal", metavar="FILE", help="of the program's run, where it has batches already and isn't behind tools/listen")
+    asked.add_argument("--metrics", type=Place, metavar="PLACE", help="where figures are read, by HTTP at /metrics")
+    asked.add_argument("--sids", metavar="FILE", help="where adjacency SIDs are told, as lines sid,VERSION,ROUTER,LOCAL,LABEL; it is made anew")
+    asked.add_argument("--sid-group", type=group, metavar="N", help="the administrative group, 0 to 31, of exactly the links that have an adjacency SID")
     asked.add_argument("--once", action="store_true", help="write the present network as one journal, and end")
     asked.add_argument("--verbose", action="store_true", help="say which links are left out, and why")
     asked.add_argument("command", nargs=argparse.REMAINDER, help="what takes the rows, as: routed solve")
     given = asked.parse_args(words)
+    if given.once and given.sids:
+        asked.error("argument --sids: it tells of changes, and --once ends before any")
     if given.command[:1] == ["--"]:
         given.command = given.command[1:]
     return given
@@ -349,7 +392,7 @@ def main(words=None):
         else:
             feed = Feed(asked)
             feed.run()
-    except (OSError, Ended) as fault:
+    except (OSError, Ended, Stopped) as fault:
         say(fault)
         return 1
     except KeyboardInterrupt:
@@ -357,4 +400,5 @@ def main(words=None):
     finally:
         if feed:
             feed.close()
+            feed.figures.stop()
     return 0

@@ -1,0 +1,94 @@
+"""The file of adjacency SIDs (`feed --sids FILE`): lines `sid,VERSION,ROUTER,LOCAL,LABEL`, without a label where the SID is gone.
+
+A reply at version V goes by the last line of each link whose version isn't above V. Each line is written before the batch
+of its number is sent.
+"""
+import contextlib
+import os
+
+from .batches import Ended
+from .lsas import rank
+
+
+@contextlib.contextmanager
+def naming(path):
+    try:
+        yield
+    except OSError as fault:
+        raise Ended(f"--sids {path}: {fault.strerror or fault}") from None
+
+
+class SidFile:
+    """It is made anew beside FILE, and takes its place by a rename once the first SIDs are in it. So a reader has the file of
+    before until then, never one that lacks SIDs, and sees by the inode that it is another one."""
+
+    def __init__(self, path):
+        self.path, self.beside, self.length = path, f"{path}.new", 0
+        self.labels = {}  # by link: what the last lines say
+        self.settled = {}  # the same at the program's version
+        self.open, self.again = set(), set()  # the links of lines whose batch is on its way, and of those whose batch was refused
+        with naming(path):
+            if os.path.exists(path) and not os.path.isfile(path):
+                raise Ended(f"--sids {path}: it is no regular file")
+            self.file = os.open(self.beside, os.O_WRONLY | os.O_CREAT | os.O_TRUNC, 0o644)
+
+    def write(self, batches, known, rows):
+        """Writes what changes, before the batch that `batches` has made or, where there is none, for the present version."""
+        wanted = {**known, **self.put_off(batches, known, rows)}
+        number = batches.version + bool(batches.sent)
+        keys = {key for key in self.labels.keys() | wanted.keys() if self.labels.get(key) != wanted.get(key)}
+        if batches.sent:
+            keys, self.again = keys | self.again, set()
+        lines = []
+        for key in sorted(keys, key=rank):
+            # a link that the program had before the feed came has the label at the program's version, too
+            since = batches.version if self.beside and key in batches.given else number
+            lines.append(f"sid,{since},{','.join(key)},{wanted.get(key, '')}\n")
+        self.append("".join(lines))
+        self.labels = wanted
+        if batches.sent:
+            self.open = keys
+        else:
+            self.settled = dict(wanted)
+
+    def put_off(self, batches, known, rows):
+        """The labels of SIDs that are gone whose links are changed by a later batch."""
+        sent = {tuple(change.split(",")[1:3]) for change in batches.sent}
+        return {key: label for key, label in self.settled.items()
+                if key not in known and key in batches.given and key not in sent and batches.given[key] != rows.get(key)}
+
+    def append(self, text):
+        """Writes whole lines by one write; what is cut is taken back."""
+        data = text.encode()
+        with naming(self.path):
+            try:
+                if data and os.write(self.file, data) != len(data):
+                    os.write(self.file, data[-1:])  # it says why
+                    raise Ended(f"--sids {self.path}: a write was cut")
+            except (OSError, Ended):
+                os.ftruncate(self.file, self.length)
+                raise
+            self.length += len(data)
+            if self.beside:
+                os.rename(self.beside, self.path)
+                self.beside = None
+
+    def accepted(self):
+        """The batch that was on its way is the program's version."""
+        for key in self.open:
+            if key in self.labels:
+                self.settled[key] = self.labels[key]
+            else:
+                self.settled.pop(key, None)
+        self.open = set()
+
+    def refused(self):
+        """Another batch takes the number of the one that was on its way: its lines are written again."""
+        self.again |= self.open
+        self.open = set()
+
+    def close(self):
+        os.close(self.file)
+        if self.beside:
+            with contextlib.suppress(OSError):
+                os.unlink(self.beside)

@@ -1,0 +1,181 @@
+"""What a PCC asks for as one `ask` row, and the reply line as what a PCC is told.
+
+What a row can't say is refused by its own error where the object must be processed (the P flag), and is ignored and
+returned with the I flag where it needn't be. It is never answered as if there were no path."""
+import math
+import re
+import struct
+from collections import namedtuple
+
+from . import wire
+from .wire import BadObject, Object, Refused, TE_METRIC, fields, pack
+
+MOST_HOPS = 7  # of a row
+MINIMUM_COST = 1  # the objective function that a row has (RFC 5541 3.1)
+NEXT_TO = 1  # IPv4 END-POINTS, and bandwidth that is asked for
+CLASS, TYPE, PARAMETER = (4, 1), (4, 2), (4, 4)  # what isn't supported
+UNKNOWN_CLASS, UNKNOWN_TYPE = (3, 1), (3, 2)
+UNAVAILABLE, UNKNOWN_TO, UNKNOWN_FROM = 1, 2, 4  # bits of the NO-PATH-VECTOR
+REVERSE = 1 << 4  # RP: both directions
+REOPTIMIZE = 1 << 3  # RP
+VECTORS = {"none": 0, "unknown-to": UNKNOWN_TO, "unknown-from": UNKNOWN_FROM}
+REPLY = re.compile(r"ask \d+ v(\d+) (?:route cost=(\d+) hops=\d+ again=(?:yes|no) ero=([0-9a-f]+)|(none|unknown-from|unknown-to))")
+
+Answer = namedtuple("Answer", "version why cost fars")  # why there is no route: a word of a reply line; else its cost and far addresses
+
+
+class Request:
+    """One request: the fields of a row, bounds of the cost, and what is returned of its objects."""
+
+    def __init__(self):
+        self.ends, self.bandwidth, self.setup, self.masks, self.hops, self.bounds = None, 0, 7, (0, 0, 0), "", []
+        self.attributes, self.ignored = b"", b""  # objects as a PCUpd returns them, and with the I flag
+
+    def take(self, given):
+        """Reads an object."""
+        try:
+            read = READERS.get(given.kind)
+            if read is None:
+                raise Refused(*UNKNOWN_CLASS)
+            if given.type not in TYPES.get(given.kind, (1,)):
+                raise Refused(*(TYPE if (given.kind, given.type) in KNOWN else UNKNOWN_TYPE))
+            read(self, given.body)
+            if given.kind != wire.O_ENDS:
+                self.attributes += pack(given.kind, given.body, given.type)
+        except BadObject:
+            raise
+        except Refused:
+            if given.must:
+                raise
+            self.ignored += pack(given.kind, given.body, given.type, ignored=True)
+
+    def take_ends(self, body):
+        here, there = fields("!4s4s", body)
+        self.ends = wire.address(here), wire.address(there)
+
+    def take_bandwidth(self, body):
+        value = wire.number(body)
+        if value >= 2.0 ** 64:
+            raise Refused(*PARAMETER)
+        self.bandwidth = math.ceil(value)
+
+    def take_lspa(self, body):
+        *masks, setup, holding, _ = fields("!IIIBBBx", body)
+        if setup > 7 or holding > 7:
+            raise BadObject
+        self.masks, self.setup = tuple(masks), setup
+
+    def take_metric(self, body):
+        flags, kind = fields("!2xBB", body)
+        value = wire.number(body[4:])
+        if kind != TE_METRIC:
+            raise Refused(*PARAMETER)
+        if flags & 1:
+            self.bounds.append(value)
+
+    def take_iro(self, body):
+        hops, at = [], 0
+        while at < len(body):
+            kind, size = fields("!BB", body[at:])
+            if size < 4 or at + size > len(body):
+                raise BadObject
+            if kind & 0x7f != 1:
+                raise Refused(*PARAMETER)
+            raw, length = fields("!2x4sB", body[at:])
+            if size != 8 or length > 32:
+                raise BadObject
+            hops.append(f"{wire.address(raw)}/{length}l")
+            at += size
+        if len(hops) > MOST_HOPS:
+            raise Refused(*PARAMETER)
+        self.hops = " ".join(hops)
+
+    def take_objective(self, body):
+        if fields("!H", body)[0] != MINIMUM_COST:
+            raise Refused(*PARAMETER)
+
+    def take_unsupported(self, body):
+        raise Refused(*CLASS)
+
+    def row(self, group=0):
+        """An `ask` row without its word and id. The links that it may use are in the group, too."""
+        exclude, any_, all_ = self.masks
+        return (f"{self.ends[0]},{self.ends[1]},{self.setup},{self.bandwidth},0x{exclude:08x},0x{any_:08x},0x{all_ | group:08x},{self.hops}")
+
+    def broken(self, cost):
+        """The bounds that the cost is above. The least cost is above it, and so is each other one."""
+        return [bound for bound in self.bounds if cost > bound]
+
+
+READERS = {wire.O_ENDS: Request.take_ends, wire.O_BANDWIDTH: Request.take_bandwidth, wire.O_LSPA: Request.take_lspa,
+           wire.O_METRIC: Request.take_metric, wire.O_IRO: Request.take_iro, wire.O_OF: Request.take_objective,
+           wire.O_RRO: Request.take_unsupported}
+TYPES = {}
+KNOWN = {(wire.O_ENDS, kind) for kind in (2, 3, 4)} | {(wire.O_BANDWIDTH, 2)}  # IPv6 and P2MP ends; bandwidth that is held
+
+
+class Asked:
+    """A request of a PCReq: its RP, and what its objects ask for."""
+
+    def __init__(self, rp):
+        self.flags, self.id = fields("!II", rp.body)
+        self.must, self.setup_type, self.request = rp.must, 0, Request()
+        self.tlvs = rp.body[8:]
+
+    def rp(self):
+        """The RP of an answer, with the flags that PCEP has from the beginning."""
+        return pack(wire.O_RP, struct.pack("!II", self.flags & 0x3f, self.id) + wire.setup_type_tlv(self.setup_type), must=True)
+
+    def read(self, objects, setup_types):
+        """Reads the objects behind the RP."""
+        if not self.must:
+            raise Refused(10, 1)
+        self.setup_type = wire.setup_type_of(wire.tlvs_of(self.tlvs))
+        if self.setup_type not in setup_types:
+            raise Refused(21, 1)
+        if self.flags & (REVERSE | REOPTIMIZE):
+            raise Refused(*PARAMETER)
+        ends = next((given for given in objects if given.kind == wire.O_ENDS), None)
+        if ends is None:
+            raise Refused(6, 3)
+        if not ends.must:
+            raise Refused(10, 1)
+        for given in objects:
+            self.request.take(given)
+        if self.request.ends[0] == self.request.ends[1]:
+            raise Refused(*PARAMETER)
+
+
+def requests_of(objects):
+    """The requests of a PCReq, each its RP and the objects behind it, and the SVECs before them."""
+    starts = [at for at, given in enumerate(objects) if given.kind == wire.O_RP]
+    if not starts:
+        raise Refused(6, 1)
+    before = objects[:starts[0]]
+    for given in before:
+        if given.kind != wire.O_SVEC and given.must:
+            raise Refused(*(UNKNOWN_CLASS if given.kind not in READERS else (6, 1)))
+    return before, [(objects[at], objects[at + 1:end]) for at, end in zip(starts, [*starts[1:], len(objects)])]
+
+
+def answer_of(line):
+    """A reply line; None for another line."""
+    found = REPLY.fullmatch(line)
+    if not found:
+        return None
+    version, cost, ero, why = found.groups()
+    if why:
+        return Answer(int(version), why, None, None)
+    data = bytes.fromhex(ero)
+    return Answer(int(version), None, int(cost), [wire.address(data[at + 2:at + 6]) for at in range(4, len(data), 8)])
+
+
+def no_path(front, vector=0, unmet=b""):
+    """A PCRep of a request that has no path: the reason's bits, and the constraints that aren't met."""
+    more = wire.tlv(wire.T_NO_PATH_VECTOR, struct.pack("!I", vector)) if vector else b""
+    return wire.message(wire.REPLY, front, pack(wire.O_NO_PATH, bytes([0, 0x80 if unmet else 0, 0, 0]) + more), unmet)
+
+
+def path(front, ero, cost, ignored):
+    """A PCRep with a path and its cost."""
+    return wire.message(wire.REPLY, front, ero, wire.metric(TE_METRIC, cost, is_computed=True), ignored)

@@ -1,0 +1,51 @@
+"""The LSPs that a file wants: lines `NAME,FROM,TO,SETUP,BANDWIDTH,EXCLUDE_ANY,INCLUDE_ANY,INCLUDE_ALL`."""
+import re
+import struct
+
+from .. import journals
+from ..places import Stopped, tried
+from . import wire
+from .requests import Request
+
+TESTS = [journals.is_address] * 2 + [re.compile("[0-7]").fullmatch, journals.is_rate] + [journals.MASK.fullmatch] * 3
+
+
+def wanted(path):
+    """Requests by PCC and name."""
+    found = {}
+    if path is None:
+        return found
+    with tried(f"{path}: read"):
+        with open(path, encoding="utf-8") as file:
+            lines = file.read().splitlines()
+    for number, line in enumerate(lines, 1):
+        if not line.strip() or line.startswith("#"):
+            continue
+        name, *rest = line.split(",")
+        why = refusal(rest)
+        if why or not re.fullmatch(r"[!-~]{1,255}", name):
+            raise Stopped(f"{path}: line {number}: {why or 'its name is no 1 to 255 visible characters'}")
+        if (rest[0], name) in found:
+            raise Stopped(f"{path}: line {number}: {name} is there already")
+        found[rest[0], name] = request_of(rest)
+    return found
+
+
+def refusal(fields):
+    """Why the fields behind a name are no LSP, None where they are one."""
+    if len(fields) != len(TESTS):
+        return "it has no eight fields"
+    for at, (field, test) in enumerate(zip(fields, TESTS), 2):
+        if not test(field):
+            return f"field {at} can't be read"
+    return "it ends where it begins" if fields[0] == fields[1] else None
+
+
+def request_of(fields):
+    request = Request()
+    request.ends, request.setup, request.bandwidth = (fields[0], fields[1]), int(fields[2]), int(fields[3])
+    request.masks = tuple(int(mask, 16) for mask in fields[4:7])
+    request.attributes = wire.pack(wire.O_LSPA, struct.pack("!IIIBBBx", *request.masks, request.setup, request.setup, 0))
+    if request.bandwidth:
+        request.attributes += wire.pack(wire.O_BANDWIDTH, struct.pack("!f", request.bandwidth))
+    return request

@@ -1,0 +1,169 @@
+"""The bytes of PCEP: messages, their objects and the TLVs of objects (RFC 5440 6 and 7)."""
+import math
+import socket
+import struct
+from collections import namedtuple
+
+OPEN, KEEPALIVE, REQUEST, REPLY, NOTIFICATION, ERROR, CLOSE, REPORT, UPDATE, INITIATE = 1, 2, 3, 4, 5, 6, 7, 10, 11, 12
+# Classes of objects; the RFC's names of some: O_RRO the reported route, O_BANDWIDTH of type 1 a request's.
+(O_OPEN, O_RP, O_NO_PATH, O_ENDS, O_BANDWIDTH, O_METRIC, O_ERO, O_RRO, O_LSPA, O_IRO, O_SVEC, O_NOTIFICATION, O_ERROR, O_CLOSE, O_OF, O_LSP,
+ O_SRP) = 1, 2, 3, 4, 5, 6, 7, 8, 9, 10, 11, 12, 13, 15, 21, 32, 33
+T_NO_PATH_VECTOR, T_STATEFUL, T_NAME, T_LSP_IDS, T_SR, T_SETUP_TYPE, T_SETUP_TYPES = 1, 16, 17, 18, 26, 28, 34
+TE_METRIC = 2
+MOST = 65535  # bytes of a message
+MALFORMED = 3  # the reason of a Close
+NAI_ADJACENCY = 3  # an SR-ERO's NAI type: the addresses of both interfaces
+IS_MPLS, NO_NAI, NO_SID = 1, 8, 4  # flags of an SR-ERO subobject: M, F, S
+
+Object = namedtuple("Object", "kind type must body")  # class, type, the P flag, and what follows the header
+Hop = namedtuple("Hop", "far label")  # of an ERO: the address of the far interface, and the SID; None where there is none
+
+
+class Malformed(Exception):
+    """A message that can't be cut into objects."""
+
+
+class Refused(Exception):
+    """An Error-Type and an Error-value (RFC 5440 7.15)."""
+
+
+class BadObject(Refused):
+    """An object that is too short or has a value that it can't have (RFC 8408 8.6)."""
+
+    def __init__(self):
+        super().__init__(10, 11)
+
+
+def tlv(kind, body):
+    return struct.pack("!HH", kind, len(body)) + body + bytes(-len(body) % 4)
+
+
+def pack(kind, body, type_=1, must=False, ignored=False):
+    """The bytes of an object."""
+    return struct.pack("!BBH", kind, type_ << 4 | must << 1 | ignored, len(body) + 4) + body
+
+
+def message(kind, *objects):
+    body = b"".join(objects)
+    return struct.pack("!BBH", 0x20, kind, len(body) + 4) + body
+
+
+def cut(data):
+    """The whole messages at the front of bytes, as kinds and bodies, and what remains."""
+    found, at = [], 0
+    while len(data) - at >= 4:
+        first, kind, size = struct.unpack_from("!BBH", data, at)
+        if first >> 5 != 1 or size < 4:
+            raise Malformed(found)
+        if len(data) - at < size:
+            break
+        found.append((kind, data[at + 4:at + size]))
+        at += size
+    return found, data[at:]
+
+
+def objects_of(body):
+    found, at = [], 0
+    while at < len(body):
+        if len(body) - at < 4:
+            raise Malformed
+        kind, flags, size = struct.unpack_from("!BBH", body, at)
+        if size < 4 or size % 4 or at + size > len(body):
+            raise Malformed
+        found.append(Object(kind, flags >> 4, bool(flags & 2), body[at + 4:at + size]))
+        at += size
+    return found
+
+
+def tlvs_of(data):
+    """The first value of each type."""
+    found, at = {}, 0
+    while at < len(data):
+        if len(data) - at < 4:
+            raise BadObject
+        kind, size = struct.unpack_from("!HH", data, at)
+        if at + 4 + size > len(data):
+            raise BadObject
+        found.setdefault(kind, data[at + 4:at + 4 + size])
+        at += 4 + size + -size % 4
+    return found
+
+
+def fields(form, data):
+    """The values at the front of an object."""
+    if len(data) < struct.calcsize(form):
+        raise BadObject
+    return struct.unpack_from(form, data)
+
+
+def number(data):
+    """A float that is a number of at least 0."""
+    value, = fields("!f", data)
+    if math.isnan(value) or value < 0:
+        raise BadObject
+    return value
+
+
+def address(data):
+    return socket.inet_ntoa(data)
+
+
+def error(kind, value, *front):
+    """A PCErr. The objects that it is about come first."""
+    return message(ERROR, *front, pack(O_ERROR, bytes([0, 0, kind, value])))
+
+
+def close(reason):
+    return message(CLOSE, pack(O_CLOSE, bytes([0, 0, 0, reason])))
+
+
+def setup_type_tlv(setup_type):
+    return tlv(T_SETUP_TYPE, bytes([0, 0, 0, setup_type])) if setup_type else b""
+
+
+def setup_type_of(tlvs):
+    """The path setup type; 0 where none is given (RFC 8408 4)."""
+    return fields("!3xB", tlvs[T_SETUP_TYPE])[0] if T_SETUP_TYPE in tlvs else 0
+
+
+def metric(kind, value, is_bound=False, is_computed=False):
+    return pack(O_METRIC, struct.pack("!xxBBf", is_bound | is_computed << 1, kind, value))
+
+
+def addresses_ero(fars):
+    """An ERO of strict IPv4 prefixes, one for each link (RFC 3209 4.3.3.2)."""
+    return pack(O_ERO, b"".join(bytes([1, 8, *socket.inet_aton(far), 32, 0]) for far in fars))
+
+
+def segments_ero(links):
+    """An ERO of adjacency SIDs, of near and far address and label each (RFC 8664 4.3.1)."""
+    parts = (struct.pack("!BBHI4s4s", 36, 16, NAI_ADJACENCY << 12 | IS_MPLS, label << 12, socket.inet_aton(near), socket.inet_aton(far))
+             for near, far, label in links)
+    return pack(O_ERO, b"".join(parts))
+
+
+def hops_of(ero):
+    """The hops of an ERO; None for a hop of another kind."""
+    found, at = [], 0
+    while at < len(ero):
+        kind, size = fields("!BB", ero[at:])
+        part = ero[at:at + size]
+        if size < 4 or len(part) < size:
+            raise BadObject
+        found.append(hop_of(kind, part))
+        at += size
+    return found
+
+
+def hop_of(kind, part):
+    if kind == 1:  # strict
+        far, length = fields("!2x4sB", part)
+        return Hop(address(far), None) if length == 32 else None
+    if kind != 36:
+        return None
+    flags, = fields("!2xH", part)
+    sid, nai = (b"", part[4:]) if flags & NO_SID else (part[4:8], part[8:])
+    label = fields("!I", sid)[0] >> (12 if flags & IS_MPLS else 0) if sid else None
+    if flags & NO_NAI or flags >> 12 != NAI_ADJACENCY:
+        return Hop(None, label)
+    return Hop(address(fields("!4x4s", nai)[0]), label)
