@@ -1,6 +1,6 @@
 """`audit` judges reply lines by a journal and requests.
 
-Its lines are the formats' own (docs/FORMATS.md), or computed by tests/reference.py.
+Its lines are the formats' own (docs/run/FORMATS.md), or computed by tests/reference.py.
 """
 import glob
 import os

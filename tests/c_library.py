@@ -1,4 +1,9 @@
-"""Tests of the library for C (crates/cspf_c): its examples answer what `routed solve` must."""
+"""Tests of the library for C (crates/cspf_c): its examples answer what `routed solve` must.
+
+`examples/c` and a program of wrong calls are built with the C compiler, over the library that `rt lib` leaves in crates/cspf_c/out. Their
+lines are those of `solve`, byte for byte, on all of tests/scripts and on drawn streams. Some runs are under valgrind, and each
+allocation of one is refused. Without the library, a C compiler or `rt` a line says that it is skipped.
+"""
 import os
 import random
 import re

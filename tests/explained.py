@@ -1,4 +1,7 @@
-"""`--explain` says why a run stops, in one line before the last; all else stays as it is."""
+"""`--explain` says why a run stops, in one line before the last; all else stays as it is.
+
+Runs with standard error closed, and with a limit of a file's size, are among them.
+"""
 import os
 import resource
 import signal

@@ -1,5 +1,7 @@
-"""Tests of deploy/keep and deploy/serve: what a run begins with, whatever the run before left, and that no batch is lost that was told
-where they are killed at any moment."""
+"""Tests of deploy/keep and deploy/serve: what a run begins with, whatever the run before left.
+
+100 runs of deploy/serve are killed, half of them while they start: each batch whose version was printed is there after the next start.
+"""
 import contextlib
 import os
 import random
@@ -213,7 +215,8 @@ def kill(child, kind):
         elif kind == 1:
             os.killpg(child.pid, signal.SIGKILL)
         elif kind == 2:
-            os.kill(child_of(child) or child.pid, signal.SIGKILL)
+            with contextlib.suppress(ProcessLookupError):  # a command of the script may have ended since
+                os.kill(child_of(child) or child.pid, signal.SIGKILL)
             time.sleep(SERVING)
             child.kill()  # a script may go on without one of its commands
         else:

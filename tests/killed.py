@@ -1,4 +1,8 @@
-"""A live run that is killed at any moment leaves a journal that is a front of its batches, and answers are right over it."""
+"""A live run that is killed at any moment leaves a journal that is a prefix of its batches, and answers over it are right.
+
+A run of 200 batches is killed at 100 moments, half of them while its journal is written byte by byte. `batch --accept-torn` answers
+over what is left as the reference does at that version.
+"""
 import os
 import random
 import subprocess

@@ -1,4 +1,7 @@
-"""`tools/listen` by real sockets: who may connect, what connections are told, snapshots of the running journal, signals and causes."""
+"""`tools/listen` by real sockets: who may connect, what connections are told, snapshots of the running journal, signals and causes.
+
+There are 64 connections at once, and some that don't read, flood, are idle or send no rows; journals that grow or have failed.
+"""
 import argparse
 import contextlib
 import ctypes
@@ -94,8 +97,9 @@ class Front:
         self.journal = os.path.join(room, "journal")
         self.ask, self.updates = (os.path.join(room, name) for name in ("ask", "updates"))
         words = ["--journal", journal or self.journal, "--ask", ask or self.ask, "--updates", updates or self.updates, *more]
-        self.child = subprocess.Popen([LISTEN, "--program", program.path, *words], stdout=subprocess.PIPE, stderr=subprocess.PIPE, **how)
-        self.errors, self.said = Lines(self.child.stderr.fileno()), Lines(self.child.stdout.fileno())
+        self.child = subprocess.Popen([LISTEN, "--program", program.path, *words], stdout=subprocess.PIPE, **{"stderr": subprocess.PIPE, **how})
+        self.said = Lines(self.child.stdout.fileno())
+        self.errors = Lines(self.child.stderr.fileno()) if self.child.stderr else None
 
     def __enter__(self):
         self.first = self.said.next()
@@ -105,11 +109,12 @@ class Front:
         self.child.kill()
         self.ended()
         self.child.stdout.close()
-        self.child.stderr.close()
+        if self.child.stderr:
+            self.child.stderr.close()
 
     def ended(self):
         """The status and standard error, once the server has ended too: it has the latter as well."""
-        return self.child.wait(PATIENCE), "".join(self.errors.rest())
+        return self.child.wait(PATIENCE), "".join(self.errors.rest()) if self.errors else ""
 
     def kept(self):
         """What the journal holds."""
@@ -251,7 +256,8 @@ def stopping(program, checks, room, versions):
             checks.same("the journal after SIGTERM", kept.read(), batch)
     with Front(program, room) as front:
         found = (front.first, *front.ended())
-        checks.same("a journal that is there", found, ("", 3, f"routed: journal {front.journal}: open: File exists (os error 17)\nrouted: stopped\n"))
+        checks.same("a journal that is there", found, ("", 3, f"routed: journal {front.journal}: open: File exists (os error 17)\nrouted: stopped\n"
+                                                           f"listen: {program.path} ended with status 3\n"))
         checks.same("no socket stays", os.listdir(room), ["journal"])
     os.remove(front.journal)
     with socket.socket(socket.AF_UNIX) as stale:
@@ -703,7 +709,8 @@ def server_ends(program, checks, room, versions):
         checks.same("before the server ends", (updating.talk(versions.texts[1]), taken.talk(f"{versions.asks[0]}\n")),
                     ("version 1\n", f"{versions.replies[1][0]}\n"))
         os.kill(front.server(), signal.SIGKILL)
-        checks.same("the server is killed", (front.ended(), updating.rest(), taken.rest()), ((128 + signal.SIGKILL, ""), "", ""))
+        checks.same("the server is killed", (front.ended(), updating.rest(), taken.rest()),
+                    ((128 + signal.SIGKILL, f"listen: {program.path} was ended by signal 9\n"), "", ""))
         checks.same("its sockets are gone", os.listdir(room), ["journal"])
 
 

@@ -1,4 +1,4 @@
-"""What `routed` writes, from the formats' own words (docs/FORMATS.md): all that the proved program is compared with.
+"""What `routed` writes, from the formats' own words (docs/run/FORMATS.md): all that the proved program is compared with.
 
 Small and slow on purpose; nothing in it is taken from the program. Streams are text whose characters are
 bytes (latin-1). What isn't accepted is raised as Refused, whose text is the words of the refusal.

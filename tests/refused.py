@@ -1,4 +1,9 @@
-"""The built program while the C library refuses its calls, each in turn: it ends whole, with a refusal that is named, or stopped."""
+"""The built program while the C library refuses its calls, each in turn (tests/refuse.c): it ends whole, with a named refusal, or stopped.
+
+All commands are run so. A whole run has a batch that is refused by name and the journal that this line says. A stopped one has the
+cause that `--explain` names: what `solve` wrote is a prefix of the right text, and the journal of `live` a prefix of the updates. A
+read or a write that moves one byte changes nothing; one that a signal breaks off is a device that failed.
+"""
 import os
 import re
 import time

@@ -1,4 +1,9 @@
-"""`routed serve`: 64 clients at once beside updates, clients that stop, and kills at any moment."""
+"""`routed serve`: 64 clients at once beside updates, clients that stop, and kills at any moment.
+
+100 runs are killed, every other one while its journal is written byte by byte, every tenth by SIGTERM. The journal that is left is a
+prefix of the updates, with all batches whose version was printed. Each reply that was read is the reference's at its version, which is
+no older than the last one that was printed before its row.
+"""
 import contextlib
 import fcntl
 import itertools
@@ -395,7 +400,7 @@ def refusals(program, checks, room):
     checks.same("serve without a journal", (status, out, errors.decode()[:len(missing)]), (1, b"", missing))
     _, _, text = program.run(["serve", "--help"])
     for word in [b"--journal", b"--client", b"in=out", b"mkfifo", b"/dev/fd/n", b"stopped", b"status", b"--explain", b"1 to 64"]:
-        checks.true(f"help of serve names {word.decode()}", word in text.lower(), text)
+        checks.true(f"help of serve names {word.decode()}", word in b" ".join(text.lower().split()), text)
     absent = "open: No such file or directory (os error 2)\n"
     for name, journal, client, why in [
         ("requests that aren't there", "@new", "@none=@out", f"a client's requests {room}/none: {absent}"),

@@ -365,6 +365,7 @@ def object_of(hops):
 WRAPPED = """#!{python}
 import os, signal, subprocess, sys, time
 room, words = {room!r}, sys.argv[1:]
+sys.stdout.reconfigure(write_through=False)  # a line is one write, also under PYTHONUNBUFFERED
 if words[0] != "solve":
 {first}
     os.execv({program!r}, ["routed", *words])
@@ -640,14 +641,14 @@ def refused(program, checks):
 
 
 def page(program, checks):
-    """docs/SWEEP.md quotes what is printed."""
-    text = open(os.path.join(TOP, "docs/SWEEP.md"), encoding="utf-8").read()
+    """docs/run/SWEEP.md quotes what is printed."""
+    text = open(os.path.join(TOP, "docs/run/SWEEP.md"), encoding="utf-8").read()
     found = re.findall(r"<!-- printed by (.*?) -->\n\n((?:    .*\n)+)", text)
-    checks.true("docs/SWEEP.md quotes the tool", len(found) > 1, found)
+    checks.true("docs/run/SWEEP.md quotes the tool", len(found) > 1, found)
     for command, quoted in found:
         words = command.replace("tools/sweep", f'tools/sweep --program "{program.path}"')
         ran = subprocess.run(words, shell=True, cwd=TOP, capture_output=True, text=True)
-        checks.same(f"docs/SWEEP.md: {command}", (ran.stdout, ran.stderr), (re.sub("(?m)^    ", "", quoted), ""))
+        checks.same(f"docs/run/SWEEP.md: {command}", (ran.stdout, ran.stderr), (re.sub("(?m)^    ", "", quoted), ""))
 
 
 def sweeps(program, checks):

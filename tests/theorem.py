@@ -6,7 +6,7 @@
 It prints each definition of specs/ with the line where it stands, then the types and limits of src/, and last how many they are.
 It begins with the words that the contracts cite, and goes from each word to those that its definition cites, until nothing new comes.
 Of a type it takes the public fields or variants, the facts that they keep, and what clauses see it as (`Value` of its `Model`); what is
-private isn't needed to read a clause. It stops at the words of the kit. tests/texts compares THEOREM.md and docs/MODEL.md with it. The
+private isn't needed to read a clause. It stops at the words of the kit. tests/texts compares THEOREM.md and docs/believe/MODEL.md with it. The
 status is 1 where a word leads nowhere.
 """
 import os
@@ -218,8 +218,8 @@ def told(found):
 
 
 def theorem(checks):
-    """THEOREM.md says README's sentence and lists exactly what the calls rest on, each where it stands; docs/MODEL.md marks the definitions."""
-    text, readme, model = (open(os.path.join(TOP, name), encoding="utf-8").read() for name in ("THEOREM.md", "README.md", "docs/MODEL.md"))
+    """THEOREM.md says README's sentence and lists exactly what the calls rest on, each where it stands; docs/believe/MODEL.md marks the definitions."""
+    text, readme, model = (open(os.path.join(TOP, name), encoding="utf-8").read() for name in ("THEOREM.md", "README.md", "docs/believe/MODEL.md"))
     small = Closure(Tree(SMALL), ["cspf_low::take", "cspf_low::put"])
     parts = (small.calls, small.words, small.types, small.limits)
     checks.same("what the call of a small tree rests on", sorted(it.name for some in parts for it in some.values()), SMALL_RESTS)
@@ -246,11 +246,11 @@ def theorem(checks):
     marked = [(crate, span.split()[0]) for crate, cell in names_of(model) for span in MARKED.findall(cell)]
     for name, crate in sorted({(it.name, it.home.split()[0]) for it in found.words.values()} | {(name, crate) for crate, name in marked}):
         wanted = any((it.name, it.home.split()[0]) == (name, crate) for it in found.words.values())
-        checks.same(f"docs/MODEL.md marks {name} of {crate} by †", marked.count((crate, name)), 1 if wanted else 0)
+        checks.same(f"docs/believe/MODEL.md marks {name} of {crate} by †", marked.count((crate, name)), 1 if wanted else 0)
 
 
 def names_of(model):
-    """The Name columns of docs/MODEL.md, each cell with the crate that its heading names."""
+    """The Name columns of docs/believe/MODEL.md, each cell with the crate that its heading names."""
     crate = ""
     for line in model.splitlines():
         heading = re.match(r"## .*\(`(\w+)`\)", line)
