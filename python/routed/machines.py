@@ -85,17 +85,21 @@ def over_dask(address, given, scenarios, count):
 
 def results(client, workers, place, future, late):
     """The outcomes of a task, which begins with the scenario at this place, as soon as they are there."""
-    found = None
+    found = fault = None
     while found is None:
         try:
             found = future.result(timeout=1)
         except late:
             pass
-        except Exception as fault:
-            raise fault if client.status == "running" else Stopped(f"scenario {place}: the scheduler is gone") from None
+        except Exception as raised:  # a worker that goes may take with it what was sent to all, and then the task is cancelled
+            fault = raised
+            if client.status != "running":
+                raise Stopped(f"scenario {place}: the scheduler is gone") from None
         gone = sorted(set(workers) - set(client.scheduler_info()["workers"]))
         if gone:
             raise Stopped(f"scenario {place}: the worker {gone[0]} is gone")
+        if fault:
+            raise fault
     worker, outcomes = found
     for outcome in outcomes:
         if outcome[0] == "Refused":
