@@ -7,13 +7,13 @@ import contextlib
 import os
 import re
 import secrets
-import socket
 import time
 
+from .accounts import Use
 from .loop import READ, WRITE
+from .places import Door, hang_up, peer_of
 
 LONGEST = 1 << 16  # bytes of a line and of a turn; the longest row that is accepted is far shorter
-LINGER, PAUSE = 1, 0.1  # seconds: for what a closing connection still sends, and until accepting is tried again
 MARK = b"\xef\xbb\xbf"  # the byte order mark, which the server's reader skips at the beginning of a stream alone
 SNAPSHOT = (b"snapshot\n", b"snapshot\r\n")
 # Rows of the updates. A carriage return ends one, too.
@@ -21,36 +21,25 @@ UPDATES = re.compile(rb'(?:(?:(?:put|drop|node|end|ask)(?:,[^"\r\n]*)?)?[\r\n])*
 
 
 class Listener:
-    """A socket that is listened on, and the channels that its connections use."""
+    """A socket that is listened on, and the channels that its connections use: at most `each` of one peer, where it isn't 0."""
 
-    def __init__(self, loop, listener, channels, idle):
-        self.loop, self.listener, self.channels, self.idle = loop, listener, channels, idle
+    def __init__(self, loop, listener, channels, idle, each=0):
+        self.loop, self.channels, self.idle, self.each = loop, channels, idle, each
         self.free = collections.deque(channels)
         for channel in channels:
             channel.free = self.free
-        listener.setblocking(False)
-        self.listen()
+        Door(loop, listener, self.take)
         if idle:
             loop.after(idle, self.end_idle)
 
-    def listen(self):
-        self.loop.want(self.listener.fileno(), READ, self.accept)
-
-    def accept(self, _):
+    def take(self, connection):
         """Gives a connection a free channel for as long as it lasts."""
-        try:
-            connection, _ = self.listener.accept()
-            connection.setblocking(False)
-            if connection.family != socket.AF_UNIX:
-                connection.setsockopt(socket.IPPROTO_TCP, socket.TCP_NODELAY, 1)
-                connection.setsockopt(socket.SOL_SOCKET, socket.SO_KEEPALIVE, 1)
-        except OSError:  # it has gone already, or too many files are open
-            self.loop.want(self.listener.fileno(), 0)
-            self.loop.after(PAUSE, self.listen)
-            return
-        if self.free:
-            self.free.popleft().begin(connection)
+        peer, named = peer_of(connection)
+        others = sum(channel.peer == peer for channel in self.channels if channel.connection) if self.each else 0
+        if self.free and (not self.each or others < self.each):
+            self.free.popleft().begin(connection, peer, named)
         else:
+            self.channels[0].account.busy(self.channels[0].place, named)
             hang_up(self.loop, connection, b"busy\n")
 
     def end_idle(self):
@@ -61,32 +50,6 @@ class Listener:
                 channel.end_idle(now)
         first = min((channel.moved for channel in self.channels if channel.connection), default=now)
         self.loop.after(first + self.idle - now, self.end_idle)
-
-
-def hang_up(loop, connection, last=b"", is_read=False):
-    """Ends a connection by its last line. What it still sends is read for a moment: closed before that, it could lose lines."""
-    def close():
-        if connection.fileno() >= 0:
-            loop.want(connection.fileno(), 0)
-            connection.close()
-
-    def drop(_):
-        try:
-            if not connection.recv(LONGEST):
-                close()
-        except BlockingIOError:
-            pass
-        except OSError:
-            close()
-
-    with contextlib.suppress(OSError):
-        connection.sendall(last)
-        connection.shutdown(socket.SHUT_WR)
-    if is_read:
-        connection.close()
-    else:
-        loop.want(connection.fileno(), READ, drop)
-        loop.after(LINGER, close)
 
 
 def rest_of(file, data):
@@ -106,16 +69,20 @@ class Channel:
     connection's, also where it has gone. A connection is read while the server takes its rows, and the server while the connection
     takes its lines. So one that doesn't read holds itself up."""
 
-    def __init__(self, loop, rows, lines):
-        self.loop, self.rows, self.lines, self.free = loop, rows, lines, collections.deque()
+    place = "ask"
+
+    def __init__(self, loop, rows, lines, account):
+        self.loop, self.rows, self.lines, self.account, self.free = loop, rows, lines, account, collections.deque()
+        self.use, self.peer = Use(account, self.place, ""), None  # nobody's
         self.to_server, self.to_client, self.unsaid = b"", b"", b""  # what waits to be written, and the beginning of a line
         self.awaited, self.answered = b"", None  # how the reply to our own request begins, and what is called with its version
         self.connection, self.is_taking, self.is_heard, self.is_over, self.is_ended = None, False, False, False, False
-        self.state = None
+        self.is_counted, self.state = True, None
         for file in (rows, lines):
             os.set_blocking(file, False)
 
-    def begin(self, connection):
+    def begin(self, connection, peer=None, named="unknown"):
+        self.use, self.peer = Use(self.account, self.place, named), peer
         self.connection, self.unread, self.last, self.moved = connection, b"", b"", time.monotonic()
         self.is_new, self.is_taking, self.is_heard, self.is_over, self.is_read = True, True, True, False, False
         self.settle()
@@ -165,12 +132,14 @@ class Channel:
             self.unread, self.is_new = self.unread.removeprefix(MARK), False
             end = self.unread.rfind(b"\n") + 1
         passed = self.passed(end)
+        if passed:
+            self.account.rows(self.use, self.unread[:passed])
         self.to_server += self.unread[:passed]
         self.unread = self.unread[passed:]
         if passed < end:
             self.meet(self.unread[:self.unread.index(b"\n") + 1])
         elif len(self.unread) == LONGEST:
-            self.end_rows(b"refused\n")
+            self.refuse()
 
     def passed(self, end):
         """How far whole lines are passed on. No row needs a quotation mark, and left open it would swallow the rows of others."""
@@ -179,6 +148,10 @@ class Channel:
 
     def meet(self, _):
         """Takes a line that isn't passed on."""
+        self.refuse()
+
+    def refuse(self):
+        self.account.cut_off(self.place, self.use.number, "line")
         self.end_rows(b"refused\n")
 
     def ask(self, answered):
@@ -201,6 +174,8 @@ class Channel:
         said, self.unsaid = data[:end], data[end:]
         if self.awaited and (at := said.find(self.awaited)) >= 0:
             version, said = int(said[at + len(self.awaited):].split(b" ", 1)[0]), said[:at]
+        if self.is_counted:
+            self.account.lines(self.use, said)
         if self.is_heard:
             self.to_client += said
         if version is not None:
@@ -220,7 +195,7 @@ class Channel:
 
     def finish(self, _=0):
         """All lines of the connection have been read."""
-        self.is_heard, self.is_over = False, True
+        self.is_heard, self.is_over, self.is_counted = False, True, True
         if self.connection:
             self.to_client += self.last
 
@@ -233,11 +208,14 @@ class Channel:
         else:
             self.free.append(self)
         if connection:
+            self.use.end()
+            self.use, self.peer = Use(self.account, self.place, ""), None
             self.loop.want(connection.fileno(), 0)
             hang_up(self.loop, connection, is_read=self.is_read)
 
     def end_idle(self, now):
         """Ends a connection that neither sends nor takes anything. The lines that it doesn't take are dropped."""
+        self.account.cut_off(self.place, self.use.number, "idle")
         if self.to_client:
             self.to_client, self.is_heard, self.last = b"", False, b""
         self.moved = now
@@ -249,8 +227,10 @@ class Channel:
 class Updates(Channel):
     """The stream of the updates: changes that a connection leaves open are dropped, and its row `snapshot` is answered."""
 
-    def __init__(self, loop, rows, lines, snapshots):
-        super().__init__(loop, rows, lines)
+    place = "updates"
+
+    def __init__(self, loop, rows, lines, account, snapshots):
+        super().__init__(loop, rows, lines, account)
         self.snapshots = snapshots
 
     def passed(self, end):
@@ -262,7 +242,7 @@ class Updates(Channel):
 
     def drop_changes(self, _):
         """A batch that is refused takes the open changes away. Its line is nobody's."""
-        self.is_heard = False
+        self.is_heard = self.is_counted = False
         self.to_server += b"end,0,0\n"
         self.ask(self.finish)
 

@@ -1,8 +1,8 @@
 """Connects standard input and output to a socket of `routed-tools listen`, as `nc -N` does.
 
-Rows go from standard input to the socket, and lines from the socket to standard output. Where standard input ends, the
-lines are read to their end, and so does it. Where the socket ends first, it ends too. The status is 0, or 1 where the
-socket can't be had, with a line that says why.
+Rows go from standard input to the socket, and lines from the socket to standard output. When standard input ends, it
+reads the remaining lines and ends. It also ends when the socket does. The status is 0, or 1 if it can't connect, with a
+line that says why.
 """
 import argparse
 import os
@@ -10,7 +10,7 @@ import socket
 import sys
 import threading
 
-from .listen import Place
+from .places import Place
 
 MOST = 1 << 16
 
@@ -36,8 +36,7 @@ def main(words=None):
     asked.add_argument("place", type=Place, metavar="PLACE", help="a path, a port, ADDRESS:PORT or [ADDRESS]:PORT, as of listen")
     place = asked.parse_args(words).place
     try:
-        made = socket.socket(socket.AF_UNIX if place.path else place.family)
-        made.connect(place.path or place.address)
+        made = place.connect()
         threading.Thread(target=send, args=[made], daemon=True).start()
         while data := made.recv(MOST):
             write(1, data)

@@ -1,7 +1,7 @@
 """Draws a network as SVG: routers, circuits, and the routes of replies.
 
-The rows are those of a journal or of a stream of `routed solve`; asks are passed over, and so are
-changes behind the last end row. A row or a batch that `routed` refuses is refused. The picture goes to standard output.
+The rows are those of a journal or of a stream of `routed solve`; asks are skipped, and so are
+changes after the last end row. A row or a batch that `routed` refuses is refused. The picture goes to standard output.
 """
 import argparse
 import collections
@@ -70,12 +70,12 @@ def version(text):
 def options(words):
     asked = argparse.ArgumentParser(prog="draw", description=__doc__.split("\n\n")[0])
     asked.add_argument("rows", help="the file of rows or the journal")
-    asked.add_argument("--version", type=version, metavar="N", help="the network behind batch N, by default the last")
+    asked.add_argument("--version", type=version, metavar="N", help="the network after batch N, by default the last")
     asked.add_argument("--replies", metavar="FILE", help="reply lines of routed")
     asked.add_argument("--ask", action="append", default=[], metavar="ID", help=f"draw the route of this reply; at most {len(ROUTE_STYLES)} times")
     asked.add_argument("--overbooked", metavar="FILE", help="lines of a sweep: mark the links that it says are overbooked while nothing fails")
     positions.add_options(asked)
-    asked.add_argument("--priority", type=int, choices=range(8), default=0, help="whose unreserved bandwidth is the width")
+    asked.add_argument("--priority", type=int, choices=range(8), default=0, help="the priority whose unreserved bandwidth is the width of circuits")
     asked.add_argument("--title", default="Network")
     given = asked.parse_args(words)
     if given.ask and not given.replies:

@@ -1,7 +1,7 @@
 """Draws as SVG what each circuit's failure does, from the lines that `sweep` prints of single circuits.
 
-A circuit has the color of the worst that its failure does. A text on it says how many requests lose their route, how many get a longer
-one, and how many links are overbooked then. The lines come on standard input, and the picture goes to standard output.
+The color of a circuit is the worst effect of its failure. Its text says how many requests lose their route, how many get a longer
+one, and how many links are then overbooked. The lines come on standard input, and the picture goes to standard output.
 """
 import argparse
 import sys

@@ -1,6 +1,20 @@
 """What a failure does to requests: which of them it can change, and what is said of it.
 
-Dropped links only take walks away. So a request is asked again only where its route may be none any more: docs/SWEEP.md has the argument.
+docs/run/SWEEP.md says which requests are asked again. All others keep their answer, since dropped links only take routes away:
+
+- Links. The tests of a link look at the link alone, and a drop gives no link a reverse. So each admissible link was admissible before. A
+  link of a route needs its reverse, so both directions count as on the route.
+- Marks. A sweep changes no mark, so a walk passes through the same routers or through fewer.
+- Hops. A router meets a hop, loose or strict, by its own address or by the local address of a link from it. A drop only takes such
+  addresses away, so each hop is met by the same routers or by fewer. A strict hop keeps a route at routers that meet it or the one before
+  it, so fewer routers mean fewer routes.
+- The route that was. Its routers stay while its links do, with their own addresses. It can be cut at the same routers as before, unless
+  one of them meets a hop by a dropped local address. Other routers don't matter.
+- Ties. Routes of one request are in a total order (cost, number of links, local addresses) that doesn't depend on other links. So the
+  least of all routes is the least of fewer, if it is one of them.
+- `none`. A request without a route gets none by a failure, so it has no line in a scenario.
+- `unknown-from`, `unknown-to`. An end disappears with its last link, which is then the first or the last link of the route, so the
+  request is asked again. Without a route before, the word makes no difference.
 """
 import collections
 import os

@@ -137,7 +137,7 @@ def listed(found, asked, kind):
 def options(words):
     asked = argparse.ArgumentParser(prog="import", description=__doc__, formatter_class=argparse.RawDescriptionHelpFormatter)
     asked.add_argument("network", metavar="FILE", help="the network")
-    asked.add_argument("--places", metavar="OUT", help="write where the sites are, for draw and draw-failures")
+    asked.add_argument("--places", metavar="OUT", help="write the positions of the sites, for draw and draw-failures")
     asked.add_argument("--requests", metavar="OUT", help="write the demands as requests")
     asked.add_argument("--metric", choices=("cost", "km", "one"), help="what a link's metric is: its routing cost, its kilometers, or 1")
     asked.add_argument("--unit", type=float, default=MBIT, metavar="BYTES",

@@ -1,4 +1,4 @@
-"""Reads journals and other streams of rows as `routed` does (docs/FORMATS.md): the one reader of all tools."""
+"""Reads journals and other streams of rows as `routed` does (docs/run/FORMATS.md): the one reader of all tools."""
 import csv
 import io
 import re

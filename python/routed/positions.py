@@ -29,7 +29,7 @@ def read_places(lines):
 
 def add_options(parser):
     parser.add_argument("--places", metavar="FILE", help="lines of a router's address, x, y and a name; routers without one are laid out")
-    parser.add_argument("--keep", metavar="FILE", help="take the positions that are kept here, and keep those of routers that are new")
+    parser.add_argument("--keep", metavar="FILE", help="read positions from this file, and add those of new routers to it")
 
 
 def positions(asked, routers, pairs, program):

@@ -1,7 +1,7 @@
 """Takes circuits or routers out of a network in turn, and says what that does to a file of requests.
 
-Said are the requests that lose their route or get a costlier one, and the links that are overbooked then and weren't, or more than
-they were. `routed batch` answers all requests once. In a scenario `routed solve` answers those that the failure can change.
+It lists the requests that lose their route or get a costlier one, and the links that become overbooked, or more overbooked than
+before. `routed batch` answers all requests once. In a scenario `routed solve` answers those that the failure can change.
 """
 import argparse
 import contextlib
@@ -117,13 +117,13 @@ def part(text):
 def options(words):
     asked = argparse.ArgumentParser(prog="sweep", description=__doc__.split("\n\n")[0])
     asked.add_argument("journal", help="a clean journal; its last version is the network")
-    asked.add_argument("requests", help="ask rows, each with an id of its own")
+    asked.add_argument("requests", help="ask rows with different ids")
     asked.add_argument("--fail", choices=["circuits", "routers", "pairs"], default="circuits",
                        help="what is out in a scenario: a circuit, a router or two circuits; by default a circuit")
     asked.add_argument("--workers", type=count, default=1, metavar="N", help="threads that answer while nothing is out, by default 1")
     asked.add_argument("--jobs", type=count, metavar="N", help="scenarios at once, each in a process, by default 1")
     asked.add_argument("--dask", type=address, metavar="ADDRESS", help="scenarios on the workers of this scheduler of Dask's distributed")
-    asked.add_argument("--ssh", metavar="LOGINS", help="scenarios on these machines by GNU parallel, --jobs at once on each; as its -S takes them")
+    asked.add_argument("--ssh", metavar="LOGINS", help="scenarios on these machines by GNU parallel, given as for its -S; --jobs at once on each")
     asked.add_argument("--part", type=part, metavar="I/N", help="only the I-th of N parts of the scenarios, for tools/join")
     add_option(asked)
     given = asked.parse_args(words)

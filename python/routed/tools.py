@@ -1,6 +1,6 @@
 """Runs one of the tools round `routed`.
 
-    routed-tools listen|connect|feed|sweep|join|draw|draw-failures|import|why ...
+    routed-tools listen|connect|status|audit|feed|pcep|sweep|join|draw|draw-failures|import|why ...
 
 `routed-tools TOOL --help` says what a tool takes. Those that run `routed` find it by --program, else by the environment
 variable ROUTED_PROGRAM, else on PATH, else where the source tree builds it.
@@ -11,7 +11,10 @@ import sys
 TOOLS = {
     "listen": (".listen", "sockets in front of `routed serve`, for programs that come and go"),
     "connect": (".connect", "standard input and output at a socket of listen"),
+    "status": (".status", "one screen of the figures of listen or of a feed"),
+    "audit": (".audit", "`routed audit`, and how far it is"),
     "feed": (".feed.ospf", "rows of a live network, from the OSPF API of one of its routers"),
+    "pcep": (".pcep.front", "routers ask by PCEP"),
     "sweep": (".sweep", "what the failure of each circuit, router or pair of circuits does to requests"),
     "join": (".join", "one sweep of its parts"),
     "draw": (".draw", "a picture of a network, with the routes of replies"),

@@ -4,7 +4,7 @@
 
 DIR is the unpacked source of FRR 8.4.4. Four files of it are compiled as they are, in a temporary folder and with
 the harness below, which puts the links of the rows into FRR's database and asks as FRR's own command does. Nothing
-is fetched, and nothing is written elsewhere. docs/WHY.md has what was printed, and why.
+is fetched, and nothing is written elsewhere. docs/believe/WHY.md has what was printed, and why.
 
 The status is 0 where all was run, 1 where a part didn't compile, run or end, and 2 where something is missing.
 """
