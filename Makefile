@@ -10,7 +10,7 @@ DESTDIR =
 PROGRAM = crates/routed/out/routed
 OUT = out
 COMPRESS = -Zxz
-VERSION := $(shell sed -n 's/^version = "\(.*\)"/\1/p' python/pyproject.toml)
+VERSION := $(shell cat VERSION)
 
 bin = $(DESTDIR)$(PREFIX)/bin
 lib = $(DESTDIR)$(PREFIX)/lib
@@ -37,24 +37,26 @@ $(PROGRAM):
 	@echo "there is no $(PROGRAM): make build makes it" >&2; exit 1
 
 install: $(PROGRAM)
-	install -d $(bin) $(lib)/routed $(modules)/feed $(lib)/systemd/system $(lib)/sysusers.d $(lib)/tmpfiles.d
+	install -d $(bin) $(lib)/routed $(modules)/feed $(modules)/pcep $(lib)/systemd/system $(lib)/sysusers.d $(lib)/tmpfiles.d
 	install -d $(share)/man/man1 $(share)/man/man5 $(share)/doc/routed/docs $(share)/doc/routed/examples/etc
 	install $(PROGRAM) $(bin)/routed
 	install tools/routed-tools $(bin)/routed-tools
 	sed -i '1s|.*|#!/usr/bin/python3|' $(bin)/routed-tools
 	install -m 644 python/routed/*.py $(modules)
 	install -m 644 python/routed/feed/*.py $(modules)/feed
+	install -m 644 python/routed/pcep/*.py $(modules)/pcep
 	install deploy/keep deploy/serve deploy/fed $(lib)/routed
 	for unit in $(units); do $(placed) $$unit >$(lib)/systemd/system/$${unit##*/} || exit 1; done
 	install -m 644 deploy/sysusers.conf $(lib)/sysusers.d/routed.conf
 	install -m 644 deploy/tmpfiles.conf $(lib)/tmpfiles.d/routed.conf
 	for page in man/*.1; do gzip -9n <$$page >$(share)/man/man1/$${page##*/}.gz || exit 1; done
 	for page in man/*.5; do gzip -9n <$$page >$(share)/man/man5/$${page##*/}.gz || exit 1; done
-	install -m 644 README.md $(share)/doc/routed
-	install -m 644 docs/*.md $(share)/doc/routed/docs
+	install -m 644 README.md THEOREM.md $(share)/doc/routed
+	for folder in run believe change; do install -D -m 644 -t $(share)/doc/routed/docs/$$folder docs/$$folder/*.md || exit 1; done
 	gzip -9n <CHANGELOG.md >$(share)/doc/routed/changelog.gz
 	cp -R examples/. $(share)/doc/routed/examples
 	cp -R deploy/etc/routed $(share)/doc/routed/examples/etc
+	install -m 644 deploy/alarms.yml $(share)/doc/routed/examples/etc
 
 deb:
 	rm -rf $(OUT)/deb

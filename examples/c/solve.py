@@ -3,7 +3,7 @@
 
     examples/c/solve.py LIBRARY < FILE
 
-LIBRARY is a shared object of the library (docs/C.md says how to make it). Each line is given by itself.
+LIBRARY is a shared object of the library (docs/run/C.md says how to make it). Each line is given by itself.
 """
 import ctypes
 import sys
