@@ -1,5 +1,5 @@
-//! Tests of clients: what each row is answered, replies that are not taken, and a client that asks in
-//! a thread of its own beside a publisher.
+//! Tests of clients: what each row is answered, replies that are not taken, and a client that asks
+//! in another thread than its publisher.
 #![tactic(auto)]
 
 #[cfg(test)]

@@ -51,7 +51,7 @@ fn opened<R: Wait + Abort>(rt: &R, alloc: Global) -> (Publisher<Vec<u8>>, Asker,
 struct Narrow {
     held: Vec<u8>,
     most: usize,
-    /// How often it was told the end of the replies.
+    /// How often it heard that the replies had ended.
     ends: usize,
 }
 
@@ -88,7 +88,7 @@ fn tell_often(teller: &mut Teller, publisher: &mut Publisher<Vec<u8>>, words: us
     }
 }
 
-/// What is left of a client with these requests, once batch 1 is published and word of it left this
+/// The state of a client with these requests, once batch 1 is published and word of it left this
 /// many times.
 fn served<R: Wait + Abort>(
     rt: &R,

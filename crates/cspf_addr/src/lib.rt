@@ -1,6 +1,6 @@
 //! Addresses of routers and of their interfaces, prefixes of addresses, hops of explicit routes,
-//! administrative group masks, and the decimal numbers of every text format: their values, what a
-//! prefix covers, and how each is spelled and read.
+//! administrative group masks, and the decimal numbers of every text format. Here are their values,
+//! what a prefix covers, and how each is spelled and read.
 //!
 //! `specs/Numbers.antt` defines how numbers are spelled, `specs/AddressText.antt` addresses,
 //! `specs/MaskText.antt` masks, `specs/PrefixParts.antt` and `specs/Prefixes.antt` prefixes,

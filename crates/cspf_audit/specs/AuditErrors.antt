@@ -61,7 +61,7 @@ pub record IsAuditOf (journal requests : Records) (text : List ℕ) (audit : Aud
 abbrev pub HasLawfulJournal : Records → Type 0
 HasLawfulJournal journal = (batches : List NumberedChanges) × IsLawfulJournal journal batches
 
--- the requests can be told apart by their ids
+-- the requests have distinct ids
 abbrev pub HasOwnRequests : Records → Type 0
 HasOwnRequests requests = (asked : List Request) × AreAsked requests asked × HaveOwnIds asked
 

@@ -53,7 +53,7 @@ AreUnanswered lines (q ∷ requests) faults =
     × ((more : List AuditFault) × (faults ≡ fault.Unanswered q.id ∷ more) × AreUnanswered lines requests more))
 
 -- The audit of lines, by a journal's batches and requests: the faults of the lines, in their order,
--- then the requests that no line names, and how many lines are good.
+-- the requests that no line names, and the number of good lines.
 pub record IsAudit (batches : List NumberedChanges) (requests : List Request) (lines : List (List ℕ)) (audit : Audit) : Type 0 where
   pub findings : List Finding
   pub unanswered : List AuditFault

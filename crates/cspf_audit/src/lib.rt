@@ -1,8 +1,8 @@
 //! The audit: whether each reply to a request was the right one at the version that it names.
 //!
-//! `specs/Lines.antt` defines how replies are cut into lines, `specs/Findings.antt` the finding of
-//! a line by a journal's batches, the requests and the lines before it, `specs/Audits.antt` the
-//! audit of whole streams, and `specs/AuditErrors.antt` why streams aren't audited.
+//! `specs/Lines.antt` defines how replies are cut into lines. `specs/Findings.antt` has the finding
+//! of a line by a journal's batches, the requests and the lines before it. `specs/Audits.antt` has
+//! the audit of whole streams, and `specs/AuditErrors.antt` why streams aren't audited.
 #![tactic(auto)]
 
 mod audit_error;

@@ -117,10 +117,10 @@ impl<Q: Read + Drop, V: Replies> ServingClient<Q, V> {
         }
     }
 
-    /// Answers all rows of its requests, one by one: an `ask` row at the version that its asker
-    /// then knows, after it took the news in its ring, and any other row by its refusal. Each line
-    /// is flushed before the next row is read. It waits only for its streams. At the end it drops
-    /// the reader of the requests, and then ends the replies.
+    /// Answers all rows of its requests, one by one. Before an `ask` row it takes the news in its
+    /// ring, and then answers at the version that its asker knows. Any other row is answered by its
+    /// refusal. Each line is flushed before the next row is read. It waits only for its streams. At
+    /// the end it drops the reader of the requests, and then ends the replies.
     pub fn run(&mut self, alloc: Global)
         requires { IsReady self.old }
         ensures run { IsClientRun Q.remaining V.contents self.old self.new }

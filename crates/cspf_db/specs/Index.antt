@@ -10,7 +10,7 @@ use Rattle.cspf_model.specs.Database.{Database, HasReverse, IsReverse, ends_of}
 abbrev pub links_of : Database → List Link
 links_of d = finite.values d.links
 
--- a number, and nothing beside it
+-- a number alone
 abbrev pub with_nothing : ℕ → ℕ × Unit {0}
 with_nothing n = (n, tt)
 

@@ -180,10 +180,9 @@ impl Table {
         Some(self.rows[at])
     }
 
-    /// Whether the table has the reverse of the link, which runs from where the link ends, by its
-    /// remote address there, to where it begins, with its local address as the remote one,
-    /// whatever the reverse's attributes (RFC 2328 16.1, step 2b, which asks for a link back to the
-    /// router; that it is the same pair of interfaces is asked here).
+    /// Whether the table has the reverse of the link, whatever the reverse's attributes. The
+    /// reverse runs back over the same two interfaces. RFC 2328 16.1, step 2b, asks for a link back
+    /// to the router alone.
     pub fn has_reverse(&self, link: &Link) -> bool
         ensures { IsTrue result ↔ HasReverse self.now link.now }
     {
@@ -215,7 +214,7 @@ impl Table {
         !is_marked(&self.marks, router)
     }
 
-    /// The same as `transit`, of the router at an index of `routers`.
+    /// `transit` of the router at an index of `routers`.
     pub fn transit_at(&self, at: usize) -> bool
         requires { at < length (router_list self.now) }
         ensures { IsTrue result ↔ HasTransit self.now (slice_index (router_list self.now) at) }
@@ -223,8 +222,8 @@ impl Table {
         self.transits[at]
     }
 
-    /// Whether a link begins or ends at the router and the prefix covers the router or the address
-    /// of its interface on a link from it, whatever that link's attributes (RFC 3209 4.3.3.2).
+    /// Whether a link begins or ends at the router and the prefix covers the router or its
+    /// interface on a link from it. The link's attributes don't matter (RFC 3209 4.3.3.2).
     pub fn owns(&self, router: Addr, prefix: Prefix) -> bool
         ensures { IsTrue result ↔ Owns self.now prefix router }
     {
@@ -234,8 +233,8 @@ impl Table {
         }
     }
 
-    /// The same as `owns`, of the router at an index of `routers`, with the range of the addresses that
-    /// the prefix covers.
+    /// `owns` of the router at an index of `routers`, with the range of the addresses that the
+    /// prefix covers.
     fn owns_within(&self, at: usize, prefix: Prefix, range: &AddressRange) -> bool
         requires bound { at < length (router_list self.now) }
         requires range { IsRangeOf prefix range.now }

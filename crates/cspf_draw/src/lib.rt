@@ -2,7 +2,7 @@
 //! left out.
 //!
 //! A draw is one step on the word, a `fetch_add` of 1. `specs/DrawRule.antt` says what holds
-//! between any two steps, and the effect of each kind of step: a draw, the split of a seat, the
+//! between any two steps. It has the effect of each kind of step: a draw, the split of a seat, the
 //! join of two, and the close of the word. `specs/DrawnNumbers.antt` has the values of a counter,
 //! its seats and its drawers in a caller's clauses, and `specs/EachOnce.antt` what is known of the
 //! numbers in the end.

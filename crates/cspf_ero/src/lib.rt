@@ -1,9 +1,8 @@
 //! EXPLICIT_ROUTE objects as bytes, and the lines that answer requests.
 //!
 //! `specs/Objects.antt` defines which bytes spell which hops and what is written for a route,
-//! `specs/Reading.antt` what is read or the first refusal, `specs/ReplyLine.antt` the lines, and
-//! `specs/ReplyHead.antt` what a line begins with.
-//! Reading takes no memory.
+//! `specs/Reading.antt` what is read or the first refusal. `specs/ReplyLine.antt` has the lines,
+//! and `specs/ReplyHead.antt` what a line begins with. Reading takes no memory.
 #![tactic(auto)]
 
 mod ero_error;

@@ -11,7 +11,7 @@ use cspf_addr::{Addr, Hop, Hops, MOST_HOPS, Prefix};
 pub const FIRST_BYTES: usize = 64;
 
 /// The hops that the bytes of an EXPLICIT_ROUTE object spell (RFC 2205 3.1.2, RFC 3209 4.3), or the
-/// first refusal: of the header, then of the subobjects from the first to the last.
+/// first refusal. The header is looked at before the subobjects, and these in their order.
 pub fn read_ero(bytes: &[u8]) -> Result<Hops, EroError>
     ensures { result ≡ ero_of bytes.now }
 {

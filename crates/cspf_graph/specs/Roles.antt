@@ -30,8 +30,8 @@ pub record MayTurn (d : Database) (q : Request) (leg router : ℕ) : Type 0 wher
   pub target : IsTarget d q leg router
   pub stands : MayStand d q router
 
--- The index is that of a router in a leg of the request: each leg has 1,024 indexes, and among them a
--- router has its index in the list of routers.
+-- The index is that of a router in a leg of the request. Each leg has 1,024 indexes, and among them
+-- a router has its index in the list of routers.
 pub record IsStateIndex (d : Database) (q : Request) (i : ℕ) : Type 0 where
   pub low : i < (length q.hops + 1) * MOST_ROUTERS
   pub place : i % MOST_ROUTERS < length (router_list d)

@@ -4,8 +4,8 @@ ghost use Rattle.cspf_model.specs.Admissible.{IsAdmitted, IsUsable};
 use cspf_db::Table;
 use cspf_model::{Link, Request};
 
-/// Whether the link passes the three affinity tests of the request (RFC 3209 4.7.4) and has the
-/// request's bandwidth, in bytes per second, unreserved at its setup priority (RFC 3630 2.5.8).
+/// Whether the link passes the request's three affinity tests (RFC 3209 4.7.4) and has its
+/// bandwidth, in bytes per second, unreserved at the setup priority (RFC 3630 2.5.8).
 pub fn accepts(link: &Link, request: &Request) -> bool
     ensures { IsTrue result ↔ IsAdmitted request.now link.now }
 {

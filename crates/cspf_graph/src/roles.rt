@@ -1,6 +1,5 @@
-//! What a route may do at each router of a table in each leg: whether a link may lead it there, and
-//! whether it may turn to the next leg there. Both are computed from the last leg and the targets
-//! of legs.
+//! What a route may do at each router in each leg: whether a link may lead it there, and whether it
+//! may turn to the next leg there. Both are computed from the last leg and the targets of legs.
 
 ghost use Rattle.std.specs.Prelude.{◌≡◌, ◌≢◌, true, ◌+◌, ◌*◌, ◌<◌, ◌↔◌, ◌⊎◌, All, IsTrue, IfOk, length, slice_get};
 ghost use Rattle.cspf_db.specs.Index.{router_list};

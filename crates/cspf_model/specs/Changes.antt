@@ -66,9 +66,9 @@ mark_after (Some c) before = mark_left c
 abbrev pub changes_of : List NumberedChanges → List Change
 changes_of batches = flat_map (λ b. b.changes) batches
 
--- A key is in the database of a list of batches exactly where the last change on it is a put, with
--- the link that it puts, and a router is marked exactly where the last change on it alone takes its
--- transit away.
+-- A key is in the database of a list of batches, with a link, exactly where the last change on it
+-- puts this link. A router is marked exactly where the last change on it alone takes its transit
+-- away.
 pub record IsDatabaseOf (d : Database) (batches : List NumberedChanges) : Type 0 where
   pub at : (k : Key) → link_at d k ≡ link_after (last_on (link_key k) (changes_of batches)) None
   pub marked : (router : ℕ)
@@ -105,7 +105,7 @@ IsPresent d (Remove from local) = IsSome (link_at d (from, local))
 IsPresent d (Node router transit) = Unit {0}
 
 -- A batch fits a database where it has at most 4,096 changes, no two of them on one key, and each
--- removal's key is there, and where at most 16,384 links, 1,024 routers and 1,024 marks are left.
+-- removal's key is there. At most 16,384 links, 1,024 routers and 1,024 marks may be left.
 pub record Fits (d : Database) (batch : NumberedChanges) : Type 0 where
   pub short : length batch.changes ≤ MOST_CHANGES
   pub once : IsDistinct (eq_by_cmp change_key_cmp) (map key_changed batch.changes)

@@ -47,8 +47,8 @@ mark_count d = set.len d.marks
 abbrev pub IsLinkOf : Database → Link → Type 0
 IsLinkOf d l = link_at d (key_of l) ≡ Some l
 
--- One link runs back over the same two interfaces as the other: it begins where that one ends, by the
--- address that is remote there, and ends where that one begins.
+-- One link runs back over the same two interfaces as the other. It begins where that one ends, by
+-- the address that is remote there, and ends where that one begins.
 pub record IsReverse (l r : Link) : Type 0 where
   pub from : r.from ≡ l.to
   pub local : r.local ≡ l.remote

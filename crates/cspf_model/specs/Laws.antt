@@ -106,8 +106,8 @@ CheaperLinksComeFirst =
     (l m n : Link) → l.metric ≡ 1 → m.metric ≡ 1 → n.metric ≡ 3
     → walk_cmp (l ∷ m ∷ []) (n ∷ []) ≡ Less
 
--- for walks of the same cost and number of links, the first local addresses that differ decide,
--- whatever the last ones are: 10.0.0.1 and then 10.0.0.9 come before 10.0.0.2 and then 10.0.0.3
+-- Of walks of the same cost and number of links the first local addresses that differ decide,
+-- whatever the last ones are. 10.0.0.1 and then 10.0.0.9 come before 10.0.0.2 and then 10.0.0.3.
 abbrev pub FirstAddressDecides : Type 0
 FirstAddressDecides =
     (l m n o : Link) → cost_of (l ∷ m ∷ []) ≡ cost_of (n ∷ o ∷ [])

@@ -34,8 +34,9 @@ HasOnePublisher views =
     (i j : ℕ) (v w : SeatView) → get_elem? views i ≡ some v → get_elem? views j ≡ some w
     → IsPublisher v → IsPublisher w → i ≡ j
 
--- The rule: the published batches are a history, the replica that askers enter has their database, each
--- seat knows a prefix of them, the publisher's all, and there is one publisher at most.
+-- The rule: the published batches are a history, and the replica that askers enter has their
+-- database. Each seat knows a prefix of them, the publisher's all, and there is one publisher at
+-- most.
 pub record HoldsBetweenSteps (s : ReplicaState) (views : List SeatView) : Type 0 where
   pub history : IsHistory s.known.batches
   pub database : HasItsDatabase s
@@ -58,7 +59,7 @@ pub record Publishes (v : SeatView) (x y : ReplicaState) (w : SeatView) : Type 0
   pub before : v ≡ Publisher x.known
   pub after : w ≡ Publisher y.known
 
--- An asker enters a replica, which has the database of its batches: from now on it knows these, and
+-- An asker enters a replica, which has the database of its batches. From now on it knows these, and
 -- those that it knew from its last entry are a prefix of them.
 pub record Enters (v : SeatView) (x y : ReplicaState) (w : SeatView) : Type 0 where
   pub same : y ≡ x

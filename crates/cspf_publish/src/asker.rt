@@ -78,8 +78,8 @@ impl Asker {
     /// The best answer in the database of the last published version. After it the batches of that
     /// version are known. On `NoEntry` nothing changed. On `Memory` only the known batches may have
     /// changed.
-    // The entered version is never below that of an earlier entry. A version below the told one is
-    // `NoEntry`, too, which no run shows.
+    // The entered version is never below that of an earlier entry. A version below what was learnt
+    // is `NoEntry`, too, which no run shows.
     pub fn ask(&mut self, alloc: Global, request: &Request) -> Result<Answer, AskError>
         ensures source { self.new.source ≡ self.old.source }
         ensures later { BeginsWith self.new.batches self.old.batches }

@@ -3,8 +3,8 @@
 //!
 //! A batch takes effect at one step, the swap of two replicas of the table, and an ask at one step,
 //! the entering of a replica. `specs/Histories.antt` says which lists of batches may be published,
-//! `specs/KnownBatches.antt` which batches of one a publisher, an asker or a `Told` token knows,
-//! and `specs/ReplicaRule.antt` the rule that holds between any two steps, and the effect of each
+//! `specs/KnownBatches.antt` which batches of one a publisher, an asker or a `Told` token knows.
+//! `specs/ReplicaRule.antt` has the rule that holds between any two steps, and the effect of each
 //! kind of step.
 #![tactic(auto)]
 

@@ -38,7 +38,7 @@ IsRest left rest.Clean = left ≡ []
 IsRest left rest.Torn = left ≢ []
 
 -- The batches of a journal are the longest prefix of its records that is whole batches with the
--- numbers 1, 2, 3 and so on: no other such prefix leaves fewer records. A batch need not fit a
+-- numbers 1, 2, 3 and on. No other such prefix leaves fewer records. A batch need not fit a
 -- database.
 pub record IsJournal (records : List (List (List ℕ))) (batches : List NumberedChanges) (rest : Rest) : Type 0 where
   pub left : List (List (List ℕ))

@@ -11,7 +11,7 @@ abbrev pub Records : Type 0
 Records = List (List (List ℕ))
 
 -- The rows of a stream are the records that `csv` finds in its bytes, with the settings of its
--- default reader and no header: fields are cut at commas and may stand in double quotes, a row ends
+-- default reader and no header. Fields are cut at commas and may be in double quotes. A row ends
 -- with its line, an empty line is no row, and a byte order mark at the very start is skipped.
 unfoldable pub rows_of : List ℕ → List (List (List ℕ))
 rows_of bytes = records default_config (strip_bom bytes)

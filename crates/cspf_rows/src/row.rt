@@ -42,8 +42,8 @@ pub enum Row {
 impl Row {
     ghost use Rattle.cspf_rows.specs.Rows.{row_of, put_row_of, drop_row_of, node_row_of, end_row_of, ask_row_of};
 
-    /// The row that the fields of a record say, or the first refusal: its kind, the number of its
-    /// fields, then the fields from the first to the last, and then two ends that are one router.
+    /// The row that the fields of a record say, or the first refusal. The kind is looked at first,
+    /// then the number of fields, the fields in their order, and whether both ends are one router.
     #[tactic(auto, unfolding(crate::specs::Rows::row_of))]
     pub fn read(fields: &ByteRecord) -> Result<Row, RowError>
         ensures { result ≡ row_of (fields_of fields.now) }

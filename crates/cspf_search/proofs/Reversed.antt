@@ -55,8 +55,8 @@ module _ (d : Database) (links : AreLinksOf d (links_of d)) where
   module _ (listed : AreListed d) (to : ℕ) (ends reverses : List ℕ) (within : All (λ end. end < length (router_list d)) ends)
       (each : map (λ end. slice_index (router_list d) end) ends ≡ map (λ (l : Link). l.to) (links_from_index d to))
       (beside : (nth : ℕ) (e : Link) → nth < length (links_from_index d to) → IsReverseAt d (slice_index_or (links_from_index d to) nth e) (slice_index_or reverses nth 0)) where
-    -- A link that has a reverse is found from where it ends: its reverse is a row from there, and
-    -- beside that row are the index of the router that the link arrives from, and the link's own
+    -- A link that has a reverse is found from where it ends, since its reverse is a row from there.
+    -- Beside that row are the index of the router that the link arrives from, and the link's own
     -- index.
     pub found_back : (l : Link) → IsLinkOf d l → HasReverse d l → (u : ℕ) → IsIndexOf d l.from u → IsIndexOf d l.to to
         → (nth : ℕ) × (nth < length (links_from_index d to)) × (slice_index ends nth ≡ u) × (slice_get (links_of d) (slice_index reverses nth) ≡ Some l)

@@ -63,7 +63,7 @@ pub record IsRoot (n : Node) : Type 0 where
   pub parent : n.parent ≡ 0
   pub by : n.by ≡ None
 
--- Nodes that grow from a root: the parent of each but the root is before it, no two are at one
+-- Nodes that grow from a root. The parent of each but the root is before it, no two are at one
 -- state, and there are no more than the states of 1,024 routers in eight legs.
 pub record AreNodes (nodes : List Node) : Type 0 where
   pub some : 0 < length nodes

@@ -33,7 +33,7 @@ pub record AreBounds (d : Database) (q : Request) (bounds : List ℕ) : Type 0 w
       → MayTurn d q (i / MOST_ROUTERS + 1) (slice_index (router_list d) (i % MOST_ROUTERS)) → bound_at bounds i ≡ 0
 
 -- The bound of each router from a leg on, up to an edge, by the bounds of its targets in the next
--- leg: the lower of `near` and the edge is such a bound.
+-- leg. The lower of `near` and the edge is such a bound.
 pub record IsLegBound (d : Database) (q : Request) (leg : ℕ) (near : List ℕ) (edge : ℕ) (ahead : List ℕ) : Type 0 where
   pub links : (u w : ℕ) (l : Link) → LeadsOn d q l → MayEnter d q (leg + 1) l.to → IsIndexOf d l.from u → IsIndexOf d l.to w
       → IsWithin (min (bound_at near u) edge) (min (bound_at near w) edge) l.metric

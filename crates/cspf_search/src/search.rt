@@ -191,10 +191,9 @@ fn answer(alloc: Global, query: Query<'_>, nodes: &[Node]) -> Result<Outcome, Al
 }
 
 /// The best answer to a request in the table's database (RFC 2702 7): its head-end or its tail-end
-/// is unknown, or the route that is before all others, or there is no route. There is none if no
-/// walk of admissible links that passes through no router without transit (RFC 6987) can be cut
-/// into legs by the hops of the request (RFC 3209 4.3.3). The search settles routers in legs from a
-/// heap.
+/// is unknown, or the route before all others, or there is none. A route is a walk of admissible
+/// links that passes through no router without transit (RFC 6987). The hops of the request cut it
+/// into legs (RFC 3209 4.3.3). The search settles routers in legs from a heap.
 pub fn best(alloc: Global, table: &Table, request: &Request) -> Result<Outcome, AllocError>
     ensures { IfOk result (λ outcome.
         IsBestAnswer table.now request.now (answer_of outcome)) }

@@ -94,7 +94,7 @@ module _ {J V : Type 0} (contents : J → Option (List ℕ)) (first : PublisherS
   pub status_of_clients : ¬ All (λ (c : ServedClient V). c.refused ≡ 0) clients → IsServedStatus t clients 2
   status_of_clients not = inr ((λ all. not all.each), refl)
 
--- a client that has learnt the told batches, and is closed
+-- a client that has learnt the published batches, and is closed
 pub closed_of : {Q V : Type 0} (published : List NumberedChanges) (told : KnownBatches) (old met : ServingState Q V) (served : ServedClient V)
     → told.batches ≡ published
     → met ≡ record old { state = record old.state { known = met.state.known }; end = met.end }

@@ -13,9 +13,9 @@ use Rattle.cspf_serve.specs.BatchRun.{IsBatchRun}
 abbrev pub IsCleanJournal : Records → Type 0
 IsCleanJournal records = (batches : List NumberedChanges) × IsJournal records batches rest.Clean
 
--- Where nothing is left after the batches of a journal and nothing is refused, the lines are those
--- of a script: of the journal's rows and then the requests', where these are at most 1,000,000
--- together.
+-- Take a journal with nothing after its batches, and requests of which none is refused, at most
+-- 1,000,000 rows together. The lines are those of a script: of the journal's rows and then the
+-- requests'.
 abbrev pub AreLinesOfAScript : Type 0
 AreLinesOfAScript =
     (accept_torn : Bool) (journal requests : Records) (lines : List ℕ)

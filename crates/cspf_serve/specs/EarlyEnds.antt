@@ -51,7 +51,7 @@ Writes old new Holds = (lines : List ℕ) × Holds lines × Appends old new line
 abbrev pub WritesAllBut : List ℕ → Option (List ℕ) → Option (List ℕ) → (List ℕ → Type 0) → Type 0
 WritesAllBut last old new Holds = (lines : List ℕ) × Holds (lines ++ last) × Appends old new lines
 
--- the line of a batch that isn't published because of its own fault: other faults have none
+-- the line of a batch that isn't published because it is at fault: other faults have none
 abbrev pub IsOwnFaultLine : ApplyError → ℕ → List ℕ → Type 0
 IsOwnFaultLine error.Stopped number line = ⊥
 IsOwnFaultLine error.Exhausted number line = line ≡ refused_batch_line number refusal.Exhausted

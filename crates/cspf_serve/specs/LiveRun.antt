@@ -70,8 +70,8 @@ pub record AreAnsweredLive (batches : List NumberedChanges) (requests : List Req
   pub recorded : text ≡ flat_map batch_text (take applied batches) ++ begun
 
 -- The text that is added to the journal of a live run that ends by an error after batches were
--- applied. It is the same as without the error: the texts of the batches up to the first that isn't
--- published, and after a fault of the journal a prefix of that one.
+-- applied. As without the error: the texts of the batches up to the first that isn't published, and
+-- after a fault of the journal a prefix of that one.
 pub record AreRecorded (batches : List NumberedChanges) (text : List ℕ) : Type 0 where
   pub applied : ℕ
   pub inside : applied ≤ length batches

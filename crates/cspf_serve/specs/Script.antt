@@ -74,9 +74,9 @@ after_refused_batch s = record s { changes = []; refused = s.refused + 1 }
 abbrev pub after_reply : RunState → RunState
 after_reply s = record s { answers = s.answers + 1 }
 
--- The open changes are accepted as the batch with this number and this count where the version is
--- below 1,000,000, the number is the next version, the count is right, and the batch fits the
--- database.
+-- The open changes are accepted as the batch with this number and this count where all is right.
+-- The version is below 1,000,000, the number is the next version, the count is right, and the batch
+-- fits the database.
 pub record IsAccepted (s : RunState) (number count : ℕ) : Type 0 where
   pub room : current_version s < MOST_VERSIONS
   pub next : number ≡ current_version s + 1

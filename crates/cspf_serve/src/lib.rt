@@ -1,4 +1,4 @@
-//! From bytes to bytes: a stream of rows is read, and the line of each is written; or a journal and
+//! From bytes to bytes. A stream of rows is read, and the line of each is written. Or a journal and
 //! a stream of requests are read, and the lines of both are written.
 //!
 //! `solve` answers one stream of rows. `specs/Script.antt` defines its lines, from bytes to bytes,

@@ -2,7 +2,7 @@
 
 use cspf_model::{MOST_CHANGES, MOST_LINKS, MOST_MARKS};
 
-/// How many batches a snapshot has at most: there is room in them for a put of each link of a full
+/// How many batches a snapshot has at most. They have room for a put of each link of a full
 /// database and a change for each of its marks.
 pub const MOST_SNAPSHOT_BATCHES: usize = 5;
 

@@ -7,10 +7,10 @@ use cspf_db::Table;
 use cspf_model::{Batch, Change, Link, counted_routers};
 use std::alloc::{AllocError, Global};
 
-/// The batches that make the database of the table from nothing, numbered from 1 on: a put of each
-/// link, in order of the router that it runs from and then of its address there, and then, rising,
-/// a change for each Router ID that is marked as without transit. Each batch but the last has
-/// `MOST_CHANGES` changes, and an empty table has no batch.
+/// The batches that make the database of the table from nothing, numbered from 1 on. First comes a
+/// put of each link, in order of the router that it runs from and then of its address there. Then
+/// comes a change for each Router ID that is marked as without transit, rising. Each batch but the
+/// last has `MOST_CHANGES` changes, and an empty table has no batch.
 pub fn snapshot(alloc: Global, table: &Table) -> Result<Vec<Batch>, AllocError>
     ensures { IfOk result (λ batches. IsSnapshot table.now batches.items) }
 {

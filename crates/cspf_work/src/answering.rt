@@ -13,7 +13,7 @@ use std::alloc::Global;
 use std::thread::Threads;
 
 /// Answers requests by one worker for each asker. A worker draws the index of a request, answers it
-/// and draws the next, as long as there is one: each index is drawn once, and those of a worker
+/// and draws the next, as long as there is one. Each index is drawn once, and those of a worker
 /// rise. All workers run at once, each in its thread. Where no thread can be made they run one
 /// after the other.
 ///

@@ -67,7 +67,7 @@ fn count_drawn(counts: &[AtomicU64], drawer: &mut Drawer<'_>) {
     }
 }
 
-/// Drawers, each in a thread of its own, draw each request once.
+/// Drawers, each in another thread, draw each request once.
 fn each_is_drawn_once<R: Threads + Abort + Sync>(
     rt: &R,
     alloc: Global,

@@ -1,11 +1,11 @@
 //! Times a publisher and its askers: `publish_bench JOURNAL REQUESTS LOAD`.
 //!
 //! The first LOAD batches of the journal make the network. Each further one is timed by itself:
-//! `apply CHANGES MICROSECONDS`. Then the requests are answered from a plain table on one thread,
-//! `plain ANSWERS MICROSECONDS`, and by 1, 2 and 4 askers at once, each of which asks all of them
-//! while the further batches are published: `askers COUNT ANSWERS PUBLISHED MICROSECONDS`. Last the
-//! requests are divided among 1, 2 and 4 workers. In fixed shares each of n workers asks every nth
-//! request: `shares COUNT ANSWERS MICROSECONDS`. By draws, as in `answer_all`: `draws COUNT ANSWERS
+//! `apply CHANGES MICROSECONDS`. Then the requests are answered from a plain table on one thread:
+//! `plain ANSWERS MICROSECONDS`. Then 1, 2 and 4 askers at once each ask all of them while the
+//! further batches are published: `askers COUNT ANSWERS PUBLISHED MICROSECONDS`. Last the requests
+//! are divided among 1, 2 and 4 workers. In fixed shares each of n workers asks every nth request:
+//! `shares COUNT ANSWERS MICROSECONDS`. By draws, as in `answer_all`: `draws COUNT ANSWERS
 //! MICROSECONDS`. The journal of the publisher keeps nothing. `bench/run` makes the files and reads
 //! the lines.
 #![tactic(auto)]

@@ -1,5 +1,5 @@
 //! Tests of a publisher and its askers: what is published and refused, the journal and its faults,
-//! what askers are told and answered on threads of their own, and what stands where memory is refused.
+//! what askers learn and are answered on other threads, and refused memory.
 #![tactic(auto)]
 
 #[cfg(test)]

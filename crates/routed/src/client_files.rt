@@ -116,7 +116,7 @@ struct Place<'a> {
     new: Option<&'a str>,
 }
 
-/// Where the file of this name is, where the system tells.
+/// Where the file of this name is, if the system says.
 fn place_of<'a>(rt: &HostRuntime, path: &'a str) -> Option<Place<'a>> {
     if let Ok(found) = fs::metadata(rt, path) {
         return Some(Place {
@@ -199,7 +199,7 @@ fn has_bytes(rt: &HostRuntime, path: &str) -> bool {
     }
 }
 
-/// A file of replies, which is closed once they have ended, so that who reads a pipe sees its end.
+/// A file of replies. It is closed once they have ended, so that a pipe's reader sees its end.
 #[derive(Drop)]
 pub struct Closing {
     file: Option<File>,

@@ -4,13 +4,13 @@ ghost use Rattle.std.specs.Prelude.{◌≡◌};
 use std::io::{ErrorKind, Write};
 use std::{fs, io};
 
-/// Where the system tells a process its limits, as proc(5) has it.
+/// Where the system has the limits of a process (proc(5)).
 const LIMITS: &str = "/proc/self/limits";
 
 /// What begins the line of a file's size. The limit in force follows, in bytes or `unlimited`.
 const FILE_SIZE: &str = "Max file size";
 
-/// The most bytes that a file of this process may have, where the system tells it.
+/// The most bytes that a file of this process may have, if the system says.
 fn most_bytes(rt: &HostRuntime) -> Option<u64> {
     let limits = fs::read_to_string(rt, LIMITS).ok()?;
     let line = limits

@@ -1,9 +1,9 @@
-//! `routed` answers route requests over a traffic engineering database. `command_line.rt` reads which of
-//! the six commands is meant: `solve`, `batch`, `live`, `serve`, `snapshot` or `audit`. Each has a file
-//! of its own.
+//! `routed` answers route requests over a traffic engineering database. `command_line.rt` reads
+//! which of the six commands is meant: `solve`, `batch`, `live`, `serve`, `snapshot` or `audit`.
+//! Each has its file.
 //!
-//! The status is 0, or 2 where anything was refused or a fault was found; 1 where the command line was
-//! refused; 3 where memory was refused or a device failed.
+//! The status is 0, or 2 where anything was refused or a fault was found. It is 1 where the command
+//! line was refused, and 3 where memory was refused or a device failed.
 #![tactic(auto)]
 
 mod audit;
@@ -45,8 +45,8 @@ fn obey<T: Threads + Wait + Sync>(rt: &HostRuntime, handle: &T, found: &ArgMatch
     }
 }
 
-/// Does what the words of the command line ask for. Where standard error is closed, nobody is told
-/// why they are refused.
+/// Does what the words of the command line ask for. Where standard error is closed, nobody sees why
+/// they are refused.
 fn run<T: Threads + Wait + Sync>(rt: &HostRuntime, handle: &T, words: &[String]) -> u8 {
     match parse(rt.alloc(), words) {
         Ok(found) => obey(rt, handle, &found),

@@ -120,7 +120,7 @@ fn of_journal<R: Read + Drop>(alloc: Global, journal: R) -> Option<RefusedRow> {
             torn = progress.take(&fields).map(|why| RefusedRow { row, why });
         }
     }
-    // More rows are refused whatever stands before them.
+    // More rows are refused, whatever came before them.
     one_too_many(&mut rows, &mut fields)
         .or(torn)
         .or(progress.last(MOST_ROWS))

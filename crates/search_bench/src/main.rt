@@ -2,8 +2,8 @@
 //!
 //! The first LOAD batches of the journal make the network. Each further one is checked and
 //! absorbed, and timed by itself: `absorb CHANGES MICROSECONDS`. Between them the requests are
-//! answered from the network as it was loaded, by `best` over all of them, several times: `best
-//! ANSWERS COST MICROSECONDS`, with the sum of the routes' costs; and by both calls over the first
+//! answered from the network as it was loaded. `best` answers all of them, several times: `best
+//! ANSWERS COST MICROSECONDS`, with the sum of the routes' costs. Both calls answer the first
 //! ROUNDS of them: `rounds ANSWERS COST MICROSECONDS`, and `agreed ANSWERS`, the number of requests
 //! on which the two agree. `bench/run` makes the files and reads the lines.
 #![tactic(auto)]

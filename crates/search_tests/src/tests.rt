@@ -329,7 +329,7 @@ fn strict_and_loose_hops(rt: HostRuntime) -> Result<(), Fail> {
     Ok(())
 }
 
-// The route stands at the tail-end before the hop, and again behind it.
+// The route is at the tail-end before the hop, and again after it.
 #[test]
 fn a_tail_end_before_a_hop(rt: HostRuntime) -> Result<(), Fail> {
     let alloc = rt.alloc();

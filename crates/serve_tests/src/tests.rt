@@ -35,7 +35,7 @@ fn bytes_of(alloc: Global, script: &[u8]) -> Result<Vec<u8>, AllocError> {
     Ok(bytes)
 }
 
-/// Gives its text a number of times, a few bytes a read, and fails behind a number of bytes.
+/// Gives its text a number of times, a few bytes a read, and fails after a number of bytes.
 #[derive(Drop)]
 struct Pieces<'a> {
     text: &'a [u8],
@@ -45,7 +45,7 @@ struct Pieces<'a> {
     last: usize,
 }
 
-/// The text once, a few bytes a read, with a fault behind some bytes.
+/// The text once, a few bytes a read, with a fault after some bytes.
 fn in_pieces(text: &[u8], width: usize, last: usize) -> Pieces<'_> {
     Pieces {
         text,

@@ -81,7 +81,7 @@ struct Rows<'a> {
     rows: &'a [&'a [u8]],
     /// The rows that were begun.
     at: usize,
-    /// What is left of the last of them.
+    /// The state of the last of them.
     rest: &'a [u8],
     fails: bool,
     events: &'a Events,

@@ -1,4 +1,4 @@
-//! A client in a thread of its own, beside a publisher.
+//! A client in one thread and its publisher in another.
 
 ghost use Rattle.std.specs.Prelude.{◌≡◌};
 ghost use Rattle.cspf_publish.specs.KnownBatches.{AreFirstOf};
@@ -15,7 +15,7 @@ use std::test::Fail;
 use std::thread;
 use std::thread::Threads;
 
-/// A client asks in a thread of its own while this one publishes a batch and leaves word of it.
+/// A client asks in another thread while this one publishes a batch and leaves word of it.
 fn run_beside<R: Threads + Wait + Sync>(
     rt: &R,
     alloc: Global,
@@ -43,7 +43,7 @@ fn run_beside<R: Threads + Wait + Sync>(
     thread::join_mut(rt, &mut answer, &mut publish);
 }
 
-/// What is left of a client that asked beside a publisher.
+/// The state of a client that asked while a publisher ran.
 fn served_beside<R: Threads + Wait + Abort + Sync>(
     rt: &R,
     alloc: Global,

@@ -95,7 +95,7 @@ pub some_within_ends : (rows : List Link) (routers ends : List ℕ) → AreEndsO
 some_within_ends rows routers ends are (Some at) h = subst (λ n. at < n) (sym (length-ends rows routers ends are)) h
 some_within_ends rows routers ends are None h = tt
 
--- the ends of rows that stand one behind the other
+-- the ends of rows that follow each other
 pub ends_joined : (rows more : List Link) (routers ends more_ends : List ℕ) → AreEndsOf rows routers ends → AreEndsOf more routers more_ends → AreEndsOf (rows ++ more) routers (ends ++ more_ends)
 ends_joined rows more routers ends more_ends are also = record {
   within = All-append (λ e. e < length routers) ends more_ends are.within also.within;

@@ -73,7 +73,7 @@ one_count d (Remove from local) present =
 joined : (after between before less more also one two : ℕ) → after + less ≡ between + also → also ≡ more → between + one ≡ before + two → after + (one + less) ≡ before + (two + more)
 joined after between before less more also one two e same step = omega arith
 
--- how many links there are after changes on keys of their own
+-- how many links there are after changes on distinct keys
 count_after : (d : Database) (cs : List Change) → AreOnceEach cs → AllByRecursion (IsPresent d) cs
     → link_count (all_relinked d cs) + count_by removes_link cs ≡ link_count d + count_by (adds_link d) cs
 unfolding IsDistinct

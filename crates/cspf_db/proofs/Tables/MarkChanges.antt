@@ -29,7 +29,7 @@ use Rattle.cspf_model.proofs.Databases.MarkedLinks.{marks_counted}
 use Rattle.cspf_db.proofs.Tables.RouterLists.{apart_from_gap}
 use Rattle.cspf_db.proofs.Tables.SortedEntries.{test_from_true, true_from_test, distinct, sorted_without}
 
--- the numbers of entries with nothing beside them
+-- the numbers of entries alone
 numbers_of : (ns : List ℕ) → map (λ n. (with_nothing n).0) ns ≡ ns
 numbers_of [] = refl
 numbers_of (n ∷ ns) = ap (λ ms. n ∷ ms) (numbers_of ns)
@@ -64,7 +64,7 @@ marks-insert marks at router h =
     ∙ ap (λ b. eq_by_cmp nat_cmp q router || b) (sym (set.contains-from_list nat_cmp_total marks q))
     ∙ sym (set.contains-insert nat_cmp_total (marks_in marks) router q))
 
--- what is at an index is neither before nor behind it, where numbers differ
+-- what is at an index is neither before nor after it, where numbers differ
 not_among : (n : ℕ) (ns : List ℕ) → AllByRecursion (λ y. eq_by_cmp nat_cmp n y ≡ false) ns → (q : ℕ) → eq_by_cmp nat_cmp q n ≡ true → list_any (eq_by_cmp nat_cmp q) ns ≡ false
 not_among n [] apart q tie = refl
 not_among n (m ∷ ns) apart q tie =
@@ -88,7 +88,7 @@ any-without (m ∷ ns) (suc at) n d apart h is q =
       | false ↦ λ off kept. ap (λ b. eq_by_cmp nat_cmp q m || b) kept
     ] refl rest
   where
-    -- a number behind the first is not the first
+    -- a number after the first is not the first
     first_apart : (m n : ℕ) (ns : List ℕ) (at d : ℕ) → AllByRecursion (λ y. eq_by_cmp nat_cmp m y ≡ false) ns → at < length ns → get_or ns at d ≡ n → (q : ℕ) → eq_by_cmp nat_cmp q n ≡ true → eq_by_cmp nat_cmp q m ≡ false
     first_apart m n [] at d apart h is q tie = absurd (omega arith)
     first_apart m n (y ∷ ns) zero d apart h is q tie =
@@ -145,7 +145,7 @@ unmarked_gap marks router at gap =
       | false ↦ λ _. refl
     ] refl
 
--- whether a search finds a router tells whether it is marked
+-- a search finds a router exactly where it is marked
 pub tells_mark : (marks : List ℕ) (router : ℕ) (r : Result ℕ ℕ) (b : Bool) → b ≡ is_ok r → IfOk r (λ at. at < length marks) → IfOk r (HoldsAt (λ y. y ≡ router) marks)
     → IfErr r (IsPartitionPoint (λ y. nat_cmp y router ≡ Less) (λ y. nat_cmp y router ≡ Greater) marks) → b ≡ set.contains (marks_in marks) router
 tells_mark marks router (Ok at) b e within found gap = e ∙ sym (marked_at marks at router within (found router))
@@ -203,7 +203,7 @@ one_mark marks (Node router true) =
 joined : (after between before less more also one two gone : ℕ) → after + less ≡ between + also → also ≡ more → less ≡ gone → between + one ≡ before + two → after + (one + gone) ≡ before + (two + more)
 joined after between before less more also one two gone e same alike step = omega arith
 
--- how many marks there are after changes on keys of their own
+-- how many marks there are after changes on distinct keys
 pub marks_count : (marks : set.FinSet nat_cmp) (cs : List Change) → AreOnceEach cs → set.len (all_marked marks cs) + count_by (removes_mark marks) cs ≡ set.len marks + count_by (adds_mark marks) cs
 unfolding IsDistinct
 marks_count marks [] once = refl
@@ -216,7 +216,7 @@ marks_count marks (c ∷ cs) once =
     (one_mark marks c)
     ∙ ap (λ n. set.len marks + n) (sym (sum_by-cons (λ x. cond (adds_mark marks x) 1 0) c cs))
 
--- so many more than those that were there
+-- the difference from those that were there
 pub marks_difference : (marks : List ℕ) (cs : List Change) → AreRising marks → AreOnceEach cs
     → set.len (all_marked (marks_in marks) cs) ≡ length marks + count_by (adds_mark (marks_in marks)) cs - count_by (removes_mark (marks_in marks)) cs
 marks_difference marks cs rising once = less _ _ _ _ _ (marks_count (marks_in marks) cs once) (len-marks_in marks rising)

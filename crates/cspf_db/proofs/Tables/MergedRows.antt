@@ -32,7 +32,7 @@ copied old rows at next le =
     ∙ ap (λ xs. old ++ (between at next rows ++ xs)) (ap (λ n. drop n rows) e ∙ sym (drop-drop (next - at) at rows))
     ∙ ap (λ xs. old ++ xs) (take-append-drop (next - at) (drop at rows))
 
--- a row that is left is behind those that were merged
+-- a row that is left comes after those that were merged
 at_next : (out rows : List Link) (next : ℕ) (d : Link) → next < length rows → get_or (out ++ drop next rows) (length out) d ≡ get_or rows next d
 at_next out rows next d h = ap (λ xs. get_or (out ++ xs) (length out) d) (drop_more rows next d h) ∙ get_or_at out (get_or rows next d) (drop (next + 1) rows) d (length out) refl
 
@@ -126,7 +126,7 @@ merged_removal old rows at next k by_key le h has =
       subst AreByKey left (by_key-without (out ++ drop next rows) (length out) sorted),
     )
 
--- where the next row's key is neither lower than a key nor the same, it is higher, and so are those behind it
+-- where the next row's key is neither lower than a key nor the same, it is higher, and so are those after it
 higher : (o : Ordering) → is_lt o ≡ false → is_eq o ≡ false → o ≡ Greater
 higher Less no_less no_tie = absurd (cc)
 higher Equal no_less no_tie = absurd (cc)
@@ -201,7 +201,7 @@ merged_before old rows at next (Node router transit) by_key le gap last =
     let same : old ++ drop at rows ≡ ((old ++ between at next rows) ++ []) ++ drop next rows = sym (ap (λ out. out ++ drop next rows) (append-nil (old ++ between at next rows)) ∙ copied old rows at next le) in
     (ap database_of (sym same), subst AreByKey same by_key)
 
--- rows below a key that are copied behind others below it end below it
+-- rows below a key that are copied after others below it end below it
 pub copied_below : (old rows : List Link) (at next : ℕ) (k : ChangeKey) → at ≤ next → next ≤ length rows → EndsBelow old k → AllWithin (λ m. change_key_cmp (link_key (key_of m)) k ≡ Less) rows at next
     → EndsBelow (old ++ between at next rows) k
 copied_below old rows at next k le within last below d h =
@@ -221,7 +221,7 @@ copied_below old rows at next k le within last below d h =
           (ap (λ (m : Link). change_key_cmp (link_key (key_of m)) k) (get_or_append_left old part d (length old - 1) end) ∙ last d (omega (arith, same, h)))
     ] refl
 
--- what a change puts behind rows below its key is below each higher key, and so are they
+-- what a change puts after rows below its key is below each higher key, and so are they
 pub put_below : (out : List Link) (c : Change) (k : ChangeKey) → EndsBelow out (key_changed c) → change_key_cmp (key_changed c) k ≡ Less → EndsBelow (out ++ links_put (c ∷ [])) k
 put_below out (Put l) k last less =
     let behind : length out ≡ length (out ++ l ∷ []) - 1 = omega (arith, length_push out l) in

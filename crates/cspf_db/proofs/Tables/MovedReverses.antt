@@ -34,7 +34,7 @@ moved out rows new d i n j m is same to open_to from = elim (cases_eq n NO_LINK)
   }
 ]
 
--- the index behind a gap, and before one
+-- the index after a gap, and before one
 behind_none : (at n : ℕ) → n ≡ NO_LINK → index_behind at n ≡ NO_LINK
 behind_none at n z = ap (λ b. cond b n (cond (leb at n) (n + 1) n)) (eq-eqb n NO_LINK z) ∙ z
 

@@ -1,4 +1,4 @@
--- What tells whether a router owns a prefix.
+-- Whether a router owns a prefix, by its rows.
 use Rattle.std.proofs.Common.{◌≡◌, ℕ, zero, suc, ◌<◌, ◌↔◌, Bool, true, false, cond, IsTrue, List, [], ◌∷◌, All, Contains, length, nat_eq, slice_index_or, refl, sym, ap, subst, ◌∙◌, inl, inr, arith}
 use Rattle.std.specs.List.{HoldsAt, filter}
 use Rattle.std.proofs.lemmas.Bool.Decides.{nat_tests}
@@ -23,7 +23,7 @@ same_number m n tie = grind (arith, nat_tests)
 ties : (m n : ℕ) → m ≡ n → nat_eq m n ≡ true
 ties m n is = grind (arith, nat_tests)
 
--- what tells whether one of the links from a router is within a prefix tells it of the database
+-- one of the rows from a router is within a prefix exactly where one of the database's links is
 pub tells_link : (prefix : PrefixParts) (router : ℕ) (d : Database) (rows : List Link) (b : Bool)
     → AreLinksOf d rows
     → (b ≡ true → (at : ℕ) × (at < length (filter (λ l. nat_eq l.from router) rows)) × HoldsAt (λ l. Covers prefix l.local) (filter (λ l. nat_eq l.from router) rows) at)

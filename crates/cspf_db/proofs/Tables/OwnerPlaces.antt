@@ -16,7 +16,7 @@ pub record AreOwnersBelow (d : Database) (prefix : PrefixParts) (n : ℕ) (place
   pub each : (at : ℕ) → at < n → Contains places at ↔ Owns d prefix (slice_index (router_list d) at)
   pub rising : IsStrictlyIncreasing places
 
--- an index is one of its own list alone
+-- an index is one of its list alone
 only_itself : (n k : ℕ) → Contains (n ∷ []) k → n ≡ k
 only_itself n k (i, h, is) = let first : 0 ≡ i = omega (arith, h) in ap (λ j. slice_index_or (n ∷ []) j k) first ∙ is
 

@@ -47,7 +47,7 @@ put_fits d cs i c h is on fits =
     ap (filter puts_link) (drop_more cs i c h ∙ ap (λ b. b ∷ drop (i + 1) cs) (sym is)) ∙ ap (λ b. cond b (c ∷ filter puts_link (drop (i + 1) cs)) (filter puts_link (drop (i + 1) cs))) on in
     omega (arith, fits, ap (λ bs. link_count (all_relinked d bs)) first, puts_count (relinked d c) (drop (i + 1) cs))
 
--- changes on keys of their own make the same where the removals are made first
+-- changes on distinct keys make the same where the removals are made first
 pub removals_first : (d : Database) (cs : List Change) → AreOnceEach cs → all_relinked (all_relinked d (filter removes_link cs)) (filter puts_link cs) ≡ all_relinked d cs
 removals_first d cs once =
     sym (all_relinked-append d (filter removes_link cs) (filter puts_link cs)) ∙ all_relinked-permuted cs _ (IsPermutation-filter_both removes_link puts_link (λ c. refl) cs) once d

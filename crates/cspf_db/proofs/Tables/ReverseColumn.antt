@@ -1,4 +1,4 @@
--- The column of reverses, and what it tells of the database.
+-- The column of reverses, and what it says of the database.
 use Rattle.std.proofs.Common.{◌≡◌, ◌≢◌, ℕ, zero, suc, Bool, cond, All, filter, slice_index, ◌+◌, ◌<◌, ◌≤◌, ◌⊎◌, ◌↔◌, true, false, not, eqb, IsTrue, List, [], ◌∷◌, ◌++◌, length, slice_index_or, refl, sym, ap, subst, ◌∙◌, inl, inr, arith}
 use Rattle.std.specs.List.{HoldsAt, between}
 use Rattle.std.proofs.lemmas.Bool.{cases_lt, eqb-true, eqb-false, eq-eqb}
@@ -44,7 +44,7 @@ tells_reverse d rows marks makes by_key l n is = (
   (index_told d rows marks makes by_key l n is).none,
 )
 
--- which a test of the index tells
+-- which a test of the index shows
 pub reverse_test : (d : Database) (l : Link) (n : ℕ) → (n ≢ NO_LINK → HasReverse d l) × (n ≡ NO_LINK → ¬ HasReverse d l) → IsTrue (not (eqb n NO_LINK)) ↔ HasReverse d l
 reverse_test d l n told =
     elim (eqb n NO_LINK) as (λ b. eqb n NO_LINK ≡ b → IsTrue (not b) ↔ HasReverse d l) [

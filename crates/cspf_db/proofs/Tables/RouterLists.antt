@@ -41,12 +41,12 @@ put-new routers router at h gap = sym (put-gap nat_cmp_total with_nothing router
 pub rising-put : (routers more : List ℕ) (router : ℕ) → AreRising routers → map with_nothing more ≡ put nat_cmp router tt (map with_nothing routers) → AreRising more
 rising-put routers more router rising e = true_from_test _ (subst (λ es. T (is_sorted nat_cmp es)) (sym e) (is_sorted-put nat_cmp nat_cmp_total router tt (map with_nothing routers) (test_from_true _ rising)))
 
--- the numbers of entries with nothing beside them
+-- the numbers of entries alone
 numbers_alone : (ns : List ℕ) → map (λ (e : ℕ × Unit {0}). e.0) (map with_nothing ns) ≡ ns
 numbers_alone [] = refl
 numbers_alone (n ∷ ns) = ap (λ ms. n ∷ ms) (numbers_alone ns)
 
--- the entries of numbers with nothing beside them
+-- the entries of numbers alone
 entries_alone : (es : List (ℕ × Unit {0})) → map with_nothing (map (λ e. e.0) es) ≡ es
 entries_alone [] = refl
 entries_alone (e ∷ es) = ap (λ fs. e ∷ fs) (entries_alone es)
@@ -148,7 +148,7 @@ span_read d rows marks routers spans at span e all are h read =
     let within : at < length routers = subst (λ rs. at < length rs) (sym (all ∙ routers_marked rows marks ∙ ap router_list e)) h in
     subst (IsSpanOf rows (slice_index routers at)) (sym read) (are.each at span within)
 
--- the rows from a router of the list stand where its span tells
+-- the rows from a router of the list are where its span says
 pub span_at : (d : Database) (rows : List Link) (marks : List ℕ) (routers : List ℕ) (spans : List Span) (at : ℕ) (span : Span) → marked_database rows marks ≡ d → AreByKey rows → routers ≡ router_list (database_of rows)
     → AreSpansOf rows routers spans → at < length (router_list d) → span ≡ get_or spans at span → between span.first span.end rows ≡ links_from_index d at
 span_at d rows marks routers spans at span e by_key all are h read =
@@ -168,7 +168,7 @@ pub ends_at_part : (d : Database) (rows : List Link) (marks : List ℕ) (routers
 ends_at_part d rows marks routers ends first end at e all so is =
     subst (λ rs. map (λ n. slice_index rs n) (between first end ends) ≡ map (λ (l : Link). l.to) (links_from_index d at)) (all ∙ routers_marked rows marks ∙ ap router_list e) (ends_between rows routers ends first end (links_from_index d at) so is)
 
--- whether a search for a router finds it tells whether it is one of the database
+-- a search for a router finds it exactly where it is one of the database
 pub tells_router : (d : Database) (router : ℕ) (r : Result ℕ ℕ) (b : Bool) → AreAtTheirKeys d → b ≡ is_ok r → IfOk r (λ at. at < length (router_list d)) → IfOk r (HoldsAt (λ y. y ≡ router) (router_list d))
     → IfErr r (IsPartitionPoint (λ y. nat_cmp y router ≡ Less) (λ y. nat_cmp y router ≡ Greater) (router_list d)) → IsTrue b ↔ IsRouterOf d router
 tells_router d router (Err at) b keyed e within found gap = (λ on. absurd (cc), λ is. absurd (apart_from_gap (router_list d) router at gap ((Contains-router_list d keyed router).1 is)))

@@ -20,7 +20,7 @@ use Rattle.cspf_model.specs.Lemmas.LinkRows.{entry_of, database_of, AreByKey}
 use Rattle.cspf_model.proofs.Databases.Keys.{key_itself, keys_total, keys_antisymmetric}
 use Rattle.cspf_db.proofs.Tables.SortedEntries.{test_from_true, true_from_test, put-gap, put-hit, sorted_without, sorted_filter, rises, searchable, distinct, gap_from, entries-from_entries, from_entries-entries}
 
--- rows in order have keys of their own
+-- rows in order have distinct keys
 pub own_keys : (rows : List Link) → AreByKey rows → HaveOwnKeys rows
 own_keys rows by_key = distinct keys_total entry_of rows (test_from_true _ by_key)
 

@@ -77,7 +77,7 @@ upto m r h = grind (arith, nat_tests)
 not_upto : (m r : ℕ) → r < m → leb m r ≡ false
 not_upto m r h = grind (arith, nat_tests)
 
--- a run of rows from a router, behind a lower one and before a higher one, has all the rows from it
+-- a run of rows from a router, after a lower one and before a higher one, has all the rows from it
 module _ (rows : List Link) (router first end : ℕ) (rises : IsNonDecreasingBy (λ l. l.from) rows) (order : first ≤ end) (bound : end ≤ length rows)
     (run : (k : ℕ) (d : Link) → first ≤ k → k < end → (get_or rows k d).from ≡ router) (low : 0 < first → (d : Link) → (get_or rows (first - 1) d).from < router)
     (high : end < length rows → (d : Link) → router < (get_or rows end d).from) where

@@ -69,7 +69,7 @@ only_less o Less turned above apart = absurd (cc)
 only_less o Equal turned above apart = let tie = ap is_eq (sym turned) ∙ apart in absurd (cc)
 only_less o Greater turned above apart = turned
 
--- changes on keys of their own are in order where their keys are sorted
+-- changes on distinct keys are in order where their keys are sorted
 pub in_order : (changes : List Change) (sorted : List (ChangeKey × ℕ)) (out : List Change) → All (IsPlaceOfChange changes) sorted → ((d : Change) → out ≡ map (change_of changes d) sorted)
     → IsSorted place_cmp sorted → AreOnceEach out → AreSortedChanges out
 in_order changes sorted out places copied rising once k d h =

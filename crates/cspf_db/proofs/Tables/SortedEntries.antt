@@ -111,7 +111,7 @@ module _ {A K X : Type 0} {R : K → K → Ordering} (o : IsTotalOrder R) (entry
     | false ↦ sorted_filter p xs (both_second _ _ sorted)
   ]
 
-  -- each key is below those behind it
+  -- each key is below those after it
   pub rises : (xs : List A) → T (is_sorted R (map entry xs)) → (i j : ℕ) (d : A) → i < j → j < length xs → R (entry (get_or xs i d)).0 (entry (get_or xs j d)).0 ≡ Less
   rises [] sorted i j d le h = absurd (omega arith)
   rises (x ∷ xs) sorted i zero d le h = absurd (omega arith)

@@ -36,7 +36,7 @@ module _ (marks : List ℕ) (router at : ℕ) (rising : AreRising marks) (below 
         | false ↦ λ _. refl
       ] refl
 
-  -- whether the first mark that isn't below the router is another one tells whether the router isn't marked
+  -- the first mark that isn't below the router is another one exactly where the router isn't marked
   pub other_mark : (n : ℕ) → at < length marks → router ≤ slice_index marks at → n ≡ get_or marks at n → not (nat_eq n router) ≡ not (set.contains (marks_in marks) router)
   other_mark n h behind read =
       let is : n ≡ slice_index marks at = get_or_read marks at n h read 0 in
@@ -45,7 +45,7 @@ module _ (marks : List ℕ) (router at : ℕ) (rising : AreRising marks) (below 
         | false ↦ λ e. let off : router < n = grind (arith, nat_tests) in sym (unmarked_between (λ _. omega (arith, is, off)))
       ] refl)
 
--- marks below the routers from an index on, and more below the router there, are below the routers behind it
+-- marks below the routers from an index on, and more below the router there, are below the routers after it
 pub still_below : (marks routers : List ℕ) (first end index router : ℕ) → AreRising routers → index < length routers → router ≡ get_or routers index router
     → ((k j : ℕ) → k < first → index ≤ j → j < length routers → slice_index marks k < slice_index routers j) → ((k : ℕ) → first ≤ k → k < end → slice_index marks k < router)
     → (k j : ℕ) → k < end → index + 1 ≤ j → j < length routers → slice_index marks k < slice_index routers j
@@ -55,7 +55,7 @@ still_below marks routers first end index router rising within read low more k j
       | inr past ↦ omega (arith, more k past h, get_or_read routers index router within read 0, lower routers rising index j (omega (arith, from)) bound)
     ]
 
--- what stands at a router's index tells whether it has transit
+-- a router's index shows whether it has transit
 pub transit_at : (d : Database) (rows : List Link) (marks routers : List ℕ) (transits : List Bool) (at : ℕ) (b : Bool) → marked_database rows marks ≡ d → routers ≡ router_list (marked_database rows marks)
     → AreTransitsOf routers marks transits → at < length (router_list d) → b ≡ get_or transits at b → IsTrue b ↔ HasTransit d (slice_index (router_list d) at)
 transit_at d rows marks routers transits at b e listed are h read =

@@ -10,8 +10,8 @@ use Rattle.cspf_model.specs.Changes.{ChangeKey, change_key_cmp, link_key, key_ch
 use Rattle.cspf_model.specs.Lemmas.LinkChanges.{relinked}
 use Rattle.cspf_model.specs.Lemmas.LinkRows.{database_of, AreByKey}
 
--- The rows below an index are merged: with those from it on they are in order of the key, and there is
--- capacity for all of those, their ends and one more.
+-- The rows below an index are merged. With those from it on they are in order of the key, and there
+-- is capacity for all of those, their ends and one more.
 pub record AreMergedBelow (rows : List Link) (at : ℕ) (merged : Vec Link Global) (merged_ends : Vec ℕ Global) : Type 0 where
   pub by_key : AreByKey rows
   pub joined : AreByKey (merged.items ++ drop at rows)
@@ -19,8 +19,9 @@ pub record AreMergedBelow (rows : List Link) (at : ℕ) (merged : Vec Link Globa
   pub capacity : vec_len merged + (length rows - at) < vec_capacity merged
   pub capacity_of_ends : vec_len merged + (length rows - at) < vec_capacity merged_ends
 
--- A change is merged, and now the rows below another index are: with those from it on they are what the
--- change makes of the rows that were merged with those from the first index on, and at most one more.
+-- A change is merged, and now the rows below another index are merged. With those from it on they
+-- are what the change makes of the rows merged before, with those from the first index on. They are
+-- at most one more.
 pub record IsMergedUpTo (change : Change) (rows : List Link) (at : ℕ) (old new : Vec Link Global) (next : ℕ) : Type 0 where
   pub bound : next ≤ length rows
   pub changed : database_of (new.items ++ drop next rows) ≡ relinked (database_of (old.items ++ drop at rows)) change

@@ -6,7 +6,7 @@ use Rattle.cspf_model.specs.declared.link.Link.{Link}
 use Rattle.cspf_db.specs.declared.limits.TheConstants.{NO_LINK, ROOM_FOR_LINKS}
 use Rattle.cspf_model.specs.Database.{Key, key_of, IsReverse}
 
--- A number is the index at which the reverse of a link is among rows, or none is, where links with
+-- A number is the index at which the reverse of a link is among rows, or there is none. Links with
 -- keys that are left out have no reverse and are none.
 pub record IsIndexOfReverse (left_out : Key → Type 0) (rows : List Link) (l : Link) (n : ℕ) : Type 0 where
   pub within : n ≢ NO_LINK → n < length rows

@@ -26,8 +26,8 @@ pub record HasSameEnds (l m : Link) : Type 0 where
 abbrev pub AreRising : List ℕ → Type 0
 AreRising routers = IsTrue (is_sorted nat_cmp (map with_nothing routers))
 
--- The rows are in order of the key, there are no more links and routers than a table may have, and
--- there is room for as many links, and a batch more.
+-- The rows are in order of the key, with no more links and routers than a table may have. There is
+-- room for as many links, and a batch more.
 pub record AreRows (rows : Vec Link Global) : Type 0 where
   pub by_key : AreByKey rows.items
   pub most : length rows.items ≤ MOST_LINKS
@@ -61,8 +61,8 @@ pub record IsEndColumn (links : List Link) (routers : List ℕ) (indices : List 
   pub froms : All (λ l. Contains routers l.from) links
   pub ends : AreEndsOf links routers indices
 
--- Rows that changes are made to, with the column of ends: they are in order of the key, there are no
--- more than a table may have, there is room for a batch more, and their ends are in a list of routers
+-- Rows that changes are made to, with the column of ends. They are in order of the key, no more
+-- than a table may have, and there is room for a batch more. Their ends are in a list of routers
 -- that also has room for those of a batch.
 pub record AreRowsWithEnds (links : Vec Link Global) (routers : List ℕ) (indices : Vec ℕ Global) : Type 0 where
   pub by_key : AreByKey links.items
@@ -114,8 +114,8 @@ pub record AreMarks (marks : Vec ℕ Global) : Type 0 where
   pub most : length marks.items ≤ MOST_MARKS
   pub room : ROOM_FOR_MARKS ≤ vec_capacity marks
 
--- the parts of a table, where the rows from each router begin and end, and where the reverse of each
--- row is, beside the marks, which make no router, and whether each router has transit
+-- The parts of a table: where the rows from each router begin and end, where the reverse of each
+-- row is, and whether each router has transit. The marks make no router.
 pub record IsTable (a : Inside) : Type 0 where
   pub parts : AreRowParts a.rows a.routers a.ends
   pub spans : AreSpansOf a.rows.items a.routers.items a.spans.items

@@ -58,7 +58,7 @@ fn is_at(rows: &[Link], next: usize, from: Addr, local: Addr) -> bool
     false
 }
 
-/// Puts the link of a put behind the others, and the index of the router that it runs to.
+/// Adds the link of a put after the others, and the index of the router that it runs to.
 fn put_behind(merged: &mut Vec<Link>, merged_ends: &mut Vec<u16>, routers: &[Addr], change: &Change)
     requires room { vec_len merged.old < vec_capacity merged.old }
     requires room_for_ends { vec_len merged_ends.old < vec_capacity merged_ends.old }
@@ -78,8 +78,8 @@ fn put_behind(merged: &mut Vec<Link>, merged_ends: &mut Vec<u16>, routers: &[Add
     }
 }
 
-/// Merges one change: the rows below its key are copied, then the link that it puts, if it does, is
-/// put behind them, and the same is done of the ends.
+/// Merges one change: the rows below its key are copied, and then the link that it puts, if it puts
+/// one, and their ends too.
 fn merge_one(
     merged: &mut Vec<Link>,
     merged_ends: &mut Vec<u16>,
@@ -184,8 +184,8 @@ fn copy_changes(sorted: &mut Vec<Change>, order: &[((Addr, Option<Addr>), u16)],
     }
 }
 
-/// Copies changes on keys of their own in order of the key, with room to put their keys in order. The
-/// changes themselves are copied once. It takes no memory.
+/// Copies changes on distinct keys in order of the key, with room to sort their keys. The changes
+/// themselves are copied once. It takes no memory.
 pub(super) fn sort_changes(
     order: &mut Vec<((Addr, Option<Addr>), u16)>,
     sorted: &mut Vec<Change>,

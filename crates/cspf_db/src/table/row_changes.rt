@@ -111,7 +111,7 @@ fn put_rows(
     }
 }
 
-/// Makes changes on keys of their own one by one, the removals first, so that the rows are never more
+/// Makes changes on distinct keys one by one, the removals first, so that the rows are never more
 /// than a table may have. They put links between known routers alone.
 fn change_rows(
     rows: &mut Vec<Link>,
@@ -132,7 +132,7 @@ fn change_rows(
     put_rows(rows, ends, reverses, routers, changes);
 }
 
-/// How many rows may be put between others or taken out one by one, as each moves those behind it.
+/// How many rows may be put between others or taken out one by one, as each moves those after it.
 const FEW: usize = 48;
 
 /// Whether changes, `added` of which add a link, put few rows between others and take few out.
@@ -144,7 +144,7 @@ fn move_few(added: usize, changes: &[Change]) -> bool
     added + count_removed(changes) <= FEW
 }
 
-/// Makes changes on keys of their own, with the column of ends, and says whether that of reverses
+/// Makes changes on distinct keys, with the column of ends, and says whether that of reverses
 /// follows. They put links between listed routers alone.
 fn change_with_ends(
     rows: &mut Vec<Link>,

@@ -64,8 +64,8 @@ impl Scratch {
         })
     }
 
-    /// Makes changes on keys of their own, however many rows they move, with the
-    /// column of ends. They put links between listed routers alone. It takes no memory.
+    /// Makes changes on distinct keys, however many rows they move, with the column of ends. They
+    /// put links between listed routers alone. It takes no memory.
     pub(super) fn change(
         &mut self,
         rows: &mut Vec<Link>,

@@ -3,8 +3,9 @@ ghost use Rattle.cspf_rows.specs.JournalLaws.{AreTextsCut, AreJournalsReadBack, 
 use crate::laws::rows_are_read_back;
 use cspf_addr::masks_are_spelled;
 
-/// Law: the texts of batches that are numbered from 1 on, of at most `MOST_ROWS` rows in all, are
-/// cut into the records of these batches, and read as these batches with nothing left after them.
+/// Law: take the texts of batches that are numbered from 1 on, of at most `MOST_ROWS` rows in all.
+/// They are cut into the records of these batches, and read as these batches with nothing left
+/// after them.
 pub fn journals_are_read_back()
     ensures cut { AreTextsCut }
     ensures back { AreJournalsReadBack }

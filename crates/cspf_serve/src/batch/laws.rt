@@ -3,9 +3,8 @@ ghost use Rattle.cspf_serve.specs.BatchLaws.{AreLinesOfAScript};
 use cspf_model::absorbing;
 use cspf_rows::journals_are_one;
 
-/// Law: where nothing is left after the batches of a journal and nothing is refused, a run over the
-/// journal and a stream of requests writes the lines of one script: of the journal's rows and then
-/// the requests'.
+/// Law: take a journal with nothing after its batches, and requests of which none is refused. A run
+/// over both writes the lines of one script: of the journal's rows and then the requests'.
 pub fn lines_of_a_script()
     ensures { AreLinesOfAScript }
 {

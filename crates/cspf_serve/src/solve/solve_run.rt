@@ -22,9 +22,9 @@ use std::io::{Read, Write};
 /// writer takes it whole. `IsScript` defines the lines, and when a row or a batch is refused. At
 /// most 1,000,000 rows are read, and memory is taken only for the longest one.
 ///
-/// After an error the writer has the lines of a prefix of the rows, and after a failed write also a
-/// part of the next text, but not all of it. `Read` comes from a read that failed and `Write` from
-/// a write that failed or took no bytes. The writer isn't flushed.
+/// After an error the writer has the lines of a prefix of the rows. After a failed write it may
+/// also have a part of the next text, but not all of it. `Read` comes from a read that failed and
+/// `Write` from a write that failed or took no bytes. The writer isn't flushed.
 pub fn run_solve<R: Read + Drop, W: Write>(
     alloc: Global,
     reader: R,

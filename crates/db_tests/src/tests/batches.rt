@@ -120,7 +120,7 @@ fn two_links(alloc: Global) -> Result<Table, Fail> {
     Ok(table)
 }
 
-// The link from 1.1.1.1 by the interface 5 to 3.3.3.3, with attributes of its own.
+// The link from 1.1.1.1 by the interface 5 to 3.3.3.3, with other attributes.
 fn other_link() -> Result<Link, LinkError> {
     Link::new(
         Addr::new(ONE),
@@ -264,8 +264,8 @@ fn assert_routers(rt: &impl Abort, table: &Table, routers: &[(u32, bool)]) {
     }
 }
 
-// A table with one link from the router 0 to each of the routers 1 to 1,023 answers so to the changes,
-// by one call and by two, and then has these routers, or not.
+// A table has one link from the router 0 to each of the routers 1 to 1,023. It answers so to the
+// changes, by one call and by two, and then has these routers, or not.
 fn change_star(
     rt: &impl Abort,
     alloc: Global,
@@ -295,7 +295,7 @@ fn routers_that_come_as_others_go(rt: HostRuntime) -> Result<(), Fail> {
             Ok(()),
             &[(1024, true), (1023, false)],
         ),
-        // a link turns to another router, which may have one of its own
+        // a link turns to another router, which may have one too
         (&[Put(0, 5, 2000, 4)], Ok(()), &[(2000, true), (5, false)]),
         (
             &[Put(0, 6, 3000, 7), Put(3000, 3001, 0, 3000)],

@@ -149,7 +149,7 @@ const ROUTERS_AND_MARKS: &[Step] = &[
         2,
     ),
     (&[Node(6, false), Node(9, false)], Ok(()), &[1, 4, 6, 9], 2),
-    // routers come before, between and behind these, marked and unmarked ones
+    // routers come before, between and after these, marked and unmarked ones
     (
         &[Put(1, 1, 4, 1), Put(9, 1, 2, 1)],
         Ok(()),
@@ -444,7 +444,7 @@ fn marks_after_drawn_batches(rt: HostRuntime) -> Result<(), Fail> {
 }
 
 // Changes that mark each second of the routers 0 to 1,023, from one on, and take the others' marks
-// away, behind this many links of a star.
+// away, after this many links of a star.
 fn each_second(alloc: Global, links: u32, first: u32) -> Result<Batch, Fail> {
     let mut changes = star(alloc, links)?;
     for router in 0..1024 {

@@ -79,9 +79,9 @@ const LINKS: &[Edit] = &[
     Put(SECOND, TWO_1, THIRD, REMOTE),
 ];
 
-// Owners by the router; by an interface at either end of a router's rows, in their middle, of another
-// router's between them, and of several; and none between a router's interfaces, below and above them,
-// and by the remote address.
+// Owners by the router. Owners by an interface at either end of a router's rows, in their middle,
+// of another router's between them, and of several. None between a router's interfaces, below and
+// above them, and by the remote address.
 const OWNERS: &[Case] = &[
     (FIRST, 32, &[0]),
     (SECOND, 32, &[1]),

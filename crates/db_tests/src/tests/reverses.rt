@@ -126,7 +126,7 @@ const REPLACED: &[Step] = &[
 
 const MOVED: &[Step] = &[
     (&[THERE, BACK], &[1, 0], true),
-    // rows before both, between them, and behind them
+    // rows before both, between them, and after them
     (
         &[Put(10, 1, 20, 7), Put(10, 2, 30, 7)],
         &[NO_LINK, NO_LINK, 3, 2],
@@ -218,8 +218,8 @@ impl Draw {
         link(from, self.below(interfaces), to, self.below(interfaces))
     }
 
-    // A change to the table: a new link, the reverse of one that it has, a link back over other
-    // interfaces, one that is dropped, or one that runs elsewhere from then on.
+    // A change to the table: a new link, a reverse, a link back over other interfaces, one that is
+    // dropped, or one that runs elsewhere from then on.
     fn change(&mut self, table: &Table, interfaces: u32) -> Result<Change, LinkError> {
         let kind = self.below(8);
         let Some(old) = self.link_of(table) else {
@@ -296,7 +296,7 @@ fn reverses_after_drawn_batches(rt: HostRuntime) -> Result<(), Fail> {
     Ok(())
 }
 
-// A batch of so many changes rewrites the rows at once.
+// A batch of this many changes rewrites the rows at once.
 #[test]
 fn reverses_after_a_long_batch(rt: HostRuntime) -> Result<(), Fail> {
     let alloc = rt.alloc();

@@ -140,7 +140,7 @@ fn each_value_of_each_byte(rt: HostRuntime) -> Result<(), Fail> {
     Ok(())
 }
 
-/// What comes behind the first `FIRST_BYTES` of an object changes nothing of what is answered.
+/// What comes after the first `FIRST_BYTES` of an object changes nothing of what is answered.
 #[test]
 fn first_bytes_of_long_objects(rt: HostRuntime) -> Result<(), Fail> {
     let mut bytes = [0; FIRST_BYTES];

@@ -25,8 +25,8 @@ fn both_ways(link: Link) -> Result<[Change; 2], Fail> {
     Ok([Change::Put(link), Change::Put(back)])
 }
 
-/// What a request from router 1.1.1.1 is answered where it has a link to 2.2.2.2 and that one a link
-/// to 3.3.3.3, and both their reverses, or where there is no link.
+/// The answer to a request from router 1.1.1.1. There are links to 2.2.2.2 and from there to
+/// 3.3.3.3, and their reverses, or there is no link.
 fn answered(alloc: Global, with_links: bool, to: u32, bandwidth: u64) -> Result<Outcome, Fail> {
     let mut changes = Vec::new(alloc);
     if with_links {

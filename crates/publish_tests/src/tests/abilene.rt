@@ -1,6 +1,6 @@
-//! A publisher and eight askers, each in a thread of its own, over the Abilene network, whose
-//! circuits and metrics are those of `examples/abilene.rows`. Circuits fail and come back while the
-//! askers ask. Read `publish_and_ask` first, which starts the threads; `publish_all` is what the
+//! A publisher and eight askers, each in another thread, over the Abilene network, whose circuits
+//! and metrics are those of `examples/abilene.rows`. Circuits fail and come back while the askers
+//! ask. Read `publish_and_ask` first, which starts the threads; `publish_all` is what the
 //! publisher's does, and `ask_all` what an asker's does.
 //!
 //! The threads wait for each other, so that each version is asked while the next one is made. They

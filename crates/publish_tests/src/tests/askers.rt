@@ -1,4 +1,4 @@
-//! Askers that are told of versions, that are not, and that go to another thread.
+//! Askers that hear of versions, that do not, and that go to another thread.
 ghost use Rattle.std.specs.Prelude.{◌≡◌};
 
 use super::fixtures::{
@@ -38,8 +38,8 @@ fn opened_for_two<R: Wait + Abort>(rt: &R, alloc: Global) -> (Publisher<Vec<u8>>
     }
 }
 
-/// Publishes a batch and an empty one behind it. An asker is told of the first, of the second, and
-/// of the first once more: the versions that are told, and the one that it knows after each.
+/// Publishes a batch and then an empty one. An asker hears of the first, of the second, and of the
+/// first once more: the versions that it hears of, and the one that it knows after each.
 fn told_out_of_order<W: Write, R: Wait>(
     rt: &R,
     alloc: Global,
@@ -60,8 +60,8 @@ fn told_out_of_order<W: Write, R: Wait>(
     (told, (asker.seen(), asker.meet(t3), asker.meet(t2)))
 }
 
-/// An asker that nobody tells asks at version 2: whether it is answered at that version, and what it
-/// knows before and after.
+/// An asker that hears nothing asks at version 2: whether it is answered at that version, and what
+/// it knows before and after.
 fn asked_untold(alloc: Global, asker: &mut Asker, request: &Request) -> (u32, bool, u32)
     ensures { asker.new.source ≡ asker.old.source }
 {
@@ -70,7 +70,7 @@ fn asked_untold(alloc: Global, asker: &mut Asker, request: &Request) -> (u32, bo
     (before, has_no_route(&answer), asker.seen())
 }
 
-/// One asker is told of versions in and out of order, the other asks untold.
+/// One asker hears of versions in and out of order, the other hears of none and asks.
 fn tells_and_asks<R: Wait + Abort>(rt: &R, alloc: Global, first: &Batch, request: &Request) {
     let (mut publisher, mut asker, mut untold) = opened_for_two(rt, alloc);
     let versions = told_out_of_order(rt, alloc, &mut publisher, &mut asker, first);
@@ -90,7 +90,7 @@ fn told_and_untold(rt: HostRuntime) -> Result<(), Fail> {
     Ok(())
 }
 
-/// An asker asks before the reverse of the link goes and behind it.
+/// An asker asks before the reverse of the link goes and after.
 fn asks_around_a_drop<R: Wait + Abort>(
     rt: &R,
     alloc: Global,
@@ -121,7 +121,7 @@ fn asked_once_the_reverse_is_dropped(rt: HostRuntime) -> Result<(), Fail> {
     Ok(())
 }
 
-/// Learns what was told, and asks, on another thread.
+/// Learns what it heard, and asks, on another thread.
 fn asked_elsewhere<R: Threads>(
     rt: &R,
     alloc: Global,

@@ -72,7 +72,8 @@ fn faults_of_the_journal(rt: HostRuntime) -> Result<(), Fail> {
     Ok(())
 }
 
-/// The published version, the told one, and the one that an asker knows once it is told.
+/// The published version, that of the token, and the one that an asker knows once it has learnt
+/// from it.
 fn versions<W: Write>(publisher: &mut Publisher<W>, asker: &mut Asker) -> (u32, u32, u32)
     requires { asker.old.source ≡ publisher.old.source }
 {

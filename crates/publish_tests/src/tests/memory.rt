@@ -132,7 +132,7 @@ fn is_answered(
     }
 }
 
-/// Publishes, tells and asks.
+/// Publishes, lets the asker learn, and asks.
 fn publishes_and_answers<R: Wait + Abort>(
     rt: &R,
     alloc: Global,

@@ -31,7 +31,7 @@ const THREE: [&[u8]; 3] = [
     b"node,2.2.2.2,1\nend,3,1\n",
 ];
 
-/// Texts behind the three batches, and what stands there.
+/// Texts after the three batches, and what is read there.
 const BEHIND: [(&[u8], Rest); 8] = [
     (b"", Rest::Clean),
     (b"\r\n\n", Rest::Clean),
@@ -46,7 +46,7 @@ const BEHIND: [(&[u8], Rest); 8] = [
     ),
 ];
 
-/// The texts of the three batches, and this text behind them.
+/// The texts of the three batches, and this text after them.
 fn text_of_three(alloc: Global, behind: &[u8]) -> Result<Vec<u8>, AllocError> {
     let mut text = Vec::new(alloc);
     for one in THREE {
@@ -91,7 +91,7 @@ fn assert_three(
     Ok(())
 }
 
-/// A reader gives the three batches of a text, and says what is behind them.
+/// A reader gives the three batches of a text, and says what comes after them.
 fn assert_given(rt: &impl Abort, alloc: Global, behind: &[u8], rest: Rest) -> Result<(), Fail> {
     let text = text_of_three(alloc, behind)?;
     let mut journal = JournalReader::new(alloc, by_bytes(text.as_slice()));

@@ -70,7 +70,7 @@ fn rows_cut_at_each_byte(rt: HostRuntime) -> Result<(), Fail> {
     Ok(())
 }
 
-/// A request whose hops are an object of 20 bytes, behind 41 bytes.
+/// A request whose hops are an object of 20 bytes, after 41 bytes.
 const OBJECT: &[u8] = b"ask,7,1.1.1.1,2.2.2.2,0,1000,0x1,0x2,0x4,\
 ero:0014140181080a00000008010108040404042000";
 

@@ -4,15 +4,15 @@ use cspf_rows::{MOST_ROWS, ReadError, RequestsError, RowError, read_journal, rea
 use std::io;
 use std::io::Read;
 
-/// How many rows are there behind the last that may be read.
+/// How many rows come after the last that may be read.
 const MORE: u32 = 10;
 
 /// Gives one row `times` times and then another, a row a read, and counts the rows that it began to
 /// give.
 ///
 /// `csv` reads the first byte alone, to look for a byte order mark, and then reads again only where
-/// its buffer is empty and no record has ended. A record ends at its line feed, so there is one read
-/// for each further row, and none behind the last row that was asked for.
+/// its buffer is empty and no record has ended. A record ends at its line feed, so there is one
+/// read for each further row, and none after the last row that was asked for.
 #[derive(Drop)]
 struct RowByRow<'a> {
     row: &'a [u8],

@@ -9,7 +9,7 @@ use std::io::Read;
 use std::process::Abort;
 use std::test::Fail;
 
-/// The texts of the batches, one behind the other.
+/// The texts of the batches, one after the other.
 fn text_of(alloc: Global, journal: &Journal) -> Result<Vec<u8>, AllocError> {
     let mut text = Vec::new(alloc);
     for batch in &journal.batches {
@@ -18,7 +18,7 @@ fn text_of(alloc: Global, journal: &Journal) -> Result<Vec<u8>, AllocError> {
     Ok(text)
 }
 
-/// The texts of the batches of a journal, and whether nothing is left behind these.
+/// The texts of the batches of a journal, and whether nothing is left after these.
 fn read_texts<R: Read + Drop>(alloc: Global, reader: R) -> Result<(Vec<u8>, bool), Fail> {
     let journal = read_journal(alloc, reader)?;
     let texts = text_of(alloc, &journal)?;
@@ -66,8 +66,8 @@ drop,1.1.1.1,0.0.0.3\ndrop,1.1.1.1,0.0.0.4\ndrop,1.1.1.1,0.0.0.5\ndrop,1.1.1.1,0
 drop,1.1.1.1,0.0.0.7\ndrop,1.1.1.1,0.0.0.8\ndrop,1.1.1.1,0.0.0.9\ndrop,1.1.1.1,0.0.0.10\n\
 drop,1.1.1.1,0.0.0.11\nend,3,12\n";
 
-/// From which cut on how many bytes of the three batches stand in whole batches, and whether nothing is
-/// left behind these.
+/// From which cut on how many bytes of the three batches are in whole batches, and whether nothing
+/// is left after these.
 const THREE_BATCHES: [(usize, usize, bool); 7] = [
     (0, 0, true),
     (1, 0, false),
@@ -179,7 +179,7 @@ const NODES: &[u8] = b"node,1.1.1.1,0\nend,1,1\n\
 node,2.2.2.2,0\ndrop,1.1.1.1,10.0.12.1\nnode,1.1.1.1,1\nend,2,3\n\
 node,255.255.255.255,1\nend,3,1\n";
 
-/// Journals, the texts of their batches, and whether nothing is left behind these.
+/// Journals, the texts of their batches, and whether nothing is left after these.
 const JOURNALS: [(&[u8], &[u8], bool); 20] = [
     (b"", b"", true),
     (b"end,1,0", b"end,1,0\n", true),

@@ -17,7 +17,7 @@ fn has_memory(alloc: Global) -> bool {
     }
 }
 
-/// A journal of one batch, and behind it a row that breaks off.
+/// A journal of one batch, and after it a row that breaks off.
 const TORN: &[u8] = b"put,1.1.1.1,10.0.12.1,2.2.2.2,10.0.12.2,10,0x1,\
 1000,1000,1000,1000,1000,1000,1000,1000\nend,1,1\nput,2.2.2.2,10.0.1";
 

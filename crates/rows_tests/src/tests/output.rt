@@ -81,7 +81,7 @@ fn whole_texts(rt: HostRuntime) {
     assert!(rt; put_all(&mut held, b"") == Ok(()) && held.is_empty());
 }
 
-/// Nothing is written behind a write that goes wrong, though it would be taken, and nothing is
+/// Nothing is written after a write that goes wrong, though it would be taken, and nothing is
 /// flushed.
 #[test]
 fn no_write_behind_a_fault(rt: HostRuntime) {

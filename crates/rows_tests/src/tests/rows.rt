@@ -8,8 +8,8 @@ use std::alloc::{AllocError, Global};
 use std::process::Abort;
 use std::test::Fail;
 
-/// The words of refusals, `read` where there is none, and the rows behind them. `F` stands for eight bandwidths
-/// of 1000, `S` for seven, `Z` for three masks of no group, and `H` for seven hops.
+/// The words of refusals, `read` where there is none, and the rows after them. `F` stands for eight
+/// bandwidths of 1000, `S` for seven, `Z` for three masks of no group, and `H` for seven hops.
 const ROWS: &str = "kind: foo
 kind: foo,1.1.1.1,10.0.0.1
 kind: PUT

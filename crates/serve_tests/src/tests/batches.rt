@@ -11,7 +11,7 @@ use std::sync::Wait;
 use std::test::Fail;
 use std::thread::Threads;
 
-/// A journal, a stream of requests, whether rows behind the batches are left out, the lines and the
+/// A journal, a stream of requests, whether rows after the batches are left out, the lines and the
 /// status. The letters are those of the scripts.
 type Run = (&'static [u8], &'static [u8], bool, &'static [u8], u8);
 
@@ -42,7 +42,7 @@ const RUNS: [Run; 27] = [
         b"request row 1 refused: kind\n",
         2,
     ),
-    // A row is cut off behind the batches.
+    // A row is cut off after the batches.
     (
         b"P\nend,1,1\nput,2.2.2.2,10.0.1",
         b"",
@@ -104,7 +104,7 @@ const RUNS: [Run; 27] = [
         0,
     ),
     (b"x\nend,1,0\n", b"", false, b"journal torn after 0\n", 2),
-    // A batch is refused behind others, and nothing is answered.
+    // A batch is refused after others, and nothing is answered.
     (
         b"P\nend,1,1\ndrop,1.1.1.1,10.0.12.9\nend,2,1\nend,3,0\n",
         b"ask,7,1.1.1.1,2.2.2.2,0,1000,Z,\n",
@@ -145,7 +145,7 @@ const RUNS: [Run; 27] = [
         b"version 1\nversion 2\nask 7 v2 unknown-from\n",
         0,
     ),
-    // A byte order mark at the front of both, and fields in quotes.
+    // A byte order mark at the start of both, and fields in quotes.
     (
         b"BP\r\nQ\r\n\"end\",1,2",
         b"B\r\n\"ask\",7,1.1.1.1,2.2.2.2,0,1000,Z,",
@@ -254,8 +254,8 @@ fn runs(rt: HostRuntime) -> Result<(), Fail> {
     Ok(())
 }
 
-/// Three batches: six links, two more, each with its reverse, and one that is put anew and one that is
-/// taken out.
+/// Three batches: six links, two more, each with its reverse, and one that is put again and one
+/// that is taken out.
 const JOURNAL: &[u8] =
     b"put,1.1.1.1,10.0.1.1,3.3.3.3,10.0.1.3,1,0x1,F\nput,1.1.1.1,10.0.2.1,10.9.0.1,10.0.2.2,10,0x1,F\nput,1.1.1.1,10.0.3.1,10.9.0.2,10.0.3.2,2,0x1,F\nput,3.3.3.3,10.0.4.3,10.9.0.1,10.0.4.1,1,0x1,F\nput,10.9.0.1,10.0.5.1,4.4.4.4,10.0.5.4,1,0x1,F\nput,10.9.0.2,10.0.6.2,10.9.0.1,10.0.6.1,3,0x1,F\nput,3.3.3.3,10.0.1.3,1.1.1.1,10.0.1.1,1,0x1,O\nput,10.9.0.1,10.0.2.2,1.1.1.1,10.0.2.1,10,0x1,O\nput,10.9.0.2,10.0.3.2,1.1.1.1,10.0.3.1,2,0x1,O\nput,10.9.0.1,10.0.4.1,3.3.3.3,10.0.4.3,1,0x1,O\nput,4.4.4.4,10.0.5.4,10.9.0.1,10.0.5.1,1,0x1,O\nput,10.9.0.1,10.0.6.1,10.9.0.2,10.0.6.2,3,0x1,O\nend,1,12\nput,2.2.2.2,10.0.7.2,1.1.1.1,10.0.7.1,5,0x2,F\nput,4.4.4.4,10.0.8.4,2.2.2.2,10.0.8.2,5,0x1,F\nput,1.1.1.1,10.0.7.1,2.2.2.2,10.0.7.2,5,0x2,O\nput,2.2.2.2,10.0.8.2,4.4.4.4,10.0.8.4,5,0x1,O\nend,2,4\ndrop,3.3.3.3,10.0.4.3\nput,1.1.1.1,10.0.2.1,10.9.0.1,10.0.2.2,3,0x1,F\nend,3,2\n";
 
@@ -362,7 +362,7 @@ fn faults_of_the_inputs(rt: HostRuntime) -> Result<(), Fail> {
     Ok(())
 }
 
-/// Whether a run whose writer takes few bytes fails, with the front of the lines written.
+/// Whether a run whose writer takes few bytes fails, with a prefix of the lines written.
 fn stops_at_a_write<T: Threads + Wait + Sync>(
     rt: &T,
     alloc: Global,

@@ -23,7 +23,7 @@ fn write_put(text: &mut String, [a, b, c, d]: [u8; 4]) -> Result<(), AllocError>
 }
 
 /// A script of parts: the links that are put, by the numbers of their local addresses, and the rows
-/// behind them.
+/// after them.
 fn script_of(alloc: Global, parts: &[(u32, u32, &str)]) -> Result<String, AllocError> {
     let mut text = String::new(alloc);
     for part in parts {

@@ -41,7 +41,7 @@ const RUNS: [Run; 15] = [
         b"",
         2,
     ),
-    // A batch is refused between others, and those behind it aren't looked at.
+    // A batch is refused between others, and those after it aren't looked at.
     (
         b"P\nend,1,1\ndrop,1.1.1.1,10.0.12.9\nend,2,1\nend,3,0\n",
         b"",
@@ -82,7 +82,7 @@ const RUNS: [Run; 15] = [
         b"end,1,0\n",
         2,
     ),
-    // Rows are left behind the batches.
+    // Rows are left after the batches.
     (
         b"P\nend,1,1\nput,2.2.2.2,10.0.1",
         b"ask,7,1.1.1.1,2.2.2.2,0,0,Z,\n",
@@ -199,7 +199,7 @@ fn answers_at_a_version(rt: HostRuntime) -> Result<(), Fail> {
 }
 
 /// Whether a run of two batches over a journal that takes `most` bytes writes these lines, fills
-/// the journal with the front of the text, and answers this status.
+/// the journal with a prefix of the text, and answers this status.
 fn fills_up<T: Threads + Wait + Sync>(
     rt: &T,
     alloc: Global,
@@ -248,7 +248,7 @@ fn faults_of_the_journal(rt: HostRuntime) -> Result<(), Fail> {
     Ok(())
 }
 
-/// Whether a run of one batch whose writer of lines takes `most` bytes fails, with the front of the
+/// Whether a run of one batch whose writer of lines takes `most` bytes fails, with a prefix of the
 /// line written and the batch in the journal.
 fn keeps_the_journal<T: Threads + Wait + Sync>(
     rt: &T,

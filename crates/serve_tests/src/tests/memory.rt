@@ -1,6 +1,7 @@
 //! Memory is refused: each test passes with ample memory, and where any of its allocations is
-//! refused, alone or with all behind it. It then ends with the whole output and its status, or with
-//! the named refusal. Nothing but the writer is allocated for a test, so a refused one ends it.
+//! refused, alone or with all later ones. It then ends with the whole output and its status, or
+//! with the named refusal. Nothing but the writer is allocated for a test, so a refused one ends
+//! it.
 
 use cspf_serve::{
     Client, ClientError, NoGate, RunError, ServeError, Served, ServedClient, SolveError,
@@ -13,7 +14,7 @@ use std::thread::Threads;
 /// More bytes than any run here writes, so that a writer takes no memory.
 const ROOM: usize = 200;
 
-/// The link and its reverse, with a row behind their batch that is cut off.
+/// The link and its reverse, with a row after their batch that is cut off.
 const TORN: &[u8] =
     b"put,1.1.1.1,10.0.12.1,2.2.2.2,10.0.12.2,10,0x1,1000,1000,1000,1000,1000,1000,1000,1000\nput,2.2.2.2,10.0.12.2,1.1.1.1,10.0.12.1,10,0x1,0,0,0,0,0,0,0,0\nend,1,2\nput,2.2.2.2,10.0.1";
 
@@ -34,8 +35,8 @@ const LOOSE_HOP: &[u8] =
 const LINES_OF_LOOSE_HOP: &[u8] =
     b"version 1\nask 5 v1 route cost=30 hops=3 again=yes ero=001c140101080a000c02200001080a001703200001080a0017022000\n";
 
-/// Whether a run over a script of some rows, one batch and one request, answers and writes all, or
-/// says that memory is refused, with a beginning of the lines written.
+/// Whether a run over some rows, one batch and one request writes all, or says that memory is
+/// refused, with a prefix of the lines written.
 fn ends_whole_or_refused(alloc: Global, script: &[u8], rows: u32, lines: &[u8]) -> bool {
     let Ok(mut held) = Vec::with_capacity(alloc, ROOM) else {
         return true;
@@ -109,13 +110,13 @@ const PUBLISHED: &[u8] = b"version 1\n";
 
 const UNPUBLISHED: &[u8] = b"batch 1 refused: memory\n";
 
-/// The reply to the request before the batch is in effect, and behind it.
+/// The reply to the request before the batch is in effect, and after.
 const REPLY_BEFORE: &[u8] = b"ask 7 v0 unknown-from\n";
 
 const REPLY_BEHIND: &[u8] =
     b"ask 7 v1 route cost=10 hops=1 again=no ero=000c140101080a000c022000\n";
 
-/// Whether the batch is published and told, or memory was refused for it or for its line.
+/// Whether the batch is published and has its line, or memory was refused for either.
 fn is_published_or_refused(said: &[u8], journal: &[u8], ended: Result<(), StreamError>) -> bool {
     match ended {
         Ok(()) => {
@@ -135,7 +136,7 @@ fn is_answered_or_refused(client: &ServedClient<Vec<u8>>) -> bool {
     }
 }
 
-/// What is left of a run over the updates and one client, or the error and whether the writers and the
+/// The end of a run over the updates and one client, or the error and whether the writers and the
 /// client are given back untouched. No answer where a writer is refused.
 fn serve_one<T: Threads + Wait + Sync>(
     rt: &T,

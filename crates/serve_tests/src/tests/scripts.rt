@@ -6,9 +6,9 @@ use std::alloc::Global;
 use std::test::Fail;
 
 /// Scripts, the lines that they are answered, and the counts of rows, versions, answers and
-/// refusals. `P` stands for the row that puts the link from 1.1.1.1 to 2.2.2.2, `Q` for the one that
-/// puts its reverse with no bandwidth, `F` for eight bandwidths of 1000, `O` for eight of 0, `Z` for
-/// three masks of no group, `H` for seven hops, and `B` for a byte order mark.
+/// refusals. `P` is the row that puts the link from 1.1.1.1 to 2.2.2.2, and `Q` the one that puts
+/// its reverse with no bandwidth. `F` is eight bandwidths of 1000, and `O` eight of 0. `Z` is three
+/// masks of no group, `H` seven hops, and `B` a byte order mark.
 const RUNS: [(&[u8], &[u8], [u32; 4]); 33] = [
     // Nothing.
     (b"", b"", [0, 0, 0, 0]),
@@ -273,7 +273,7 @@ const FRONT: &[u8] =
 /// What is written up to there.
 const FIRST_LINES: &[u8] = b"version 1\nask 8 v1 none\n";
 
-/// Reads fail behind the front, writes before its lines are whole.
+/// Reads fail after some rows, writes before their lines are whole.
 #[test]
 fn device_faults(rt: HostRuntime) -> Result<(), Fail> {
     let bytes = bytes_of(rt.alloc(), FRONT)?;

@@ -1,4 +1,4 @@
-//! What stands where a read, a row, a write or a flush fails.
+//! The state where a read, a row, a write or a flush fails.
 
 use super::{Lines, Refusals, Rows, no_events};
 use cspf_rows::open_records;
@@ -9,7 +9,7 @@ const ROWS: [&[u8]; 3] = [b"a\n", b"end,1,0\n", b"b\n"];
 
 const ANSWERS: &[u8] = b"row 1 refused: kind\nrow 3 refused: kind\n";
 
-/// Where a stream goes wrong, and what stands then.
+/// Where a stream goes wrong, and the state then.
 struct Fault {
     /// The bytes that the writer takes.
     most: usize,
@@ -17,7 +17,7 @@ struct Fault {
     most_flushes: u32,
     /// At this place memory is refused.
     no_memory_at: u64,
-    /// The error, where the read behind the rows fails too.
+    /// The error, where the read after the rows fails too.
     error: StreamError,
     /// The bytes that are written.
     written: usize,
@@ -93,7 +93,7 @@ const FAULTS: [Fault; 7] = [
     },
 ];
 
-/// What stands where a stream goes wrong: the error, how much is written, and how many rows were read
+/// The state where a stream goes wrong: the error, how much is written, and how many rows were read
 /// and refused.
 fn stopped(alloc: Global, fault: &Fault) -> (Result<(), StreamError>, Vec<u8>, usize, u64) {
     let events = no_events();

@@ -11,8 +11,8 @@ use std::sync::Wait;
 use std::test::Fail;
 use std::thread::Threads;
 
-/// What three askers answer once their publisher is closed, of whom the first alone was told of its
-/// batch.
+/// What three askers answer once their publisher is closed, of whom the first alone has learnt of
+/// its batch.
 fn ask_closed<R: Threads + Wait + Abort + Sync>(
     rt: &R,
     alloc: Global,
@@ -37,7 +37,7 @@ fn are_as_told(askers: &[Asker]) -> bool {
     }
 }
 
-/// Behind a closed publisher there is no entry, and the askers come back as they were.
+/// After a close there is no entry, and the askers come back as they were.
 #[test]
 fn no_entry(rt: HostRuntime) -> Result<(), Fail> {
     let batch = link_batch(rt.alloc(), 1)?;

@@ -86,12 +86,12 @@ fn at_once_in_a_live_run(rt: HostRuntime) -> Result<(), Fail> {
     Ok(())
 }
 
-/// Counts how often each index is told, and waits for nobody.
+/// Counts how often each index comes, and waits for nobody.
 #[derive(Drop)]
 struct Tally {
     reached: Vec<AtomicU64>,
     answered: Vec<AtomicU64>,
-    /// How often an index is told that no request has.
+    /// How often an index comes that no request has.
     others: AtomicU64,
 }
 
@@ -104,7 +104,7 @@ impl Tally {
         })
     }
 
-    /// Whether each index is told once before its ask and once after it.
+    /// Whether each index comes once before its ask and once after it.
     fn is_whole(&self) -> bool {
         are_ones(&self.reached)
             && are_ones(&self.answered)
@@ -124,7 +124,7 @@ impl Gate for Tally {
     }
 }
 
-/// More requests than are answered before lines are written: the gate is told each by its index
+/// More requests than are answered before lines are written: the gate hears of each by its index
 /// among all of them.
 #[test]
 fn what_workers_tell_of_many_rows(rt: HostRuntime) -> Result<(), Fail> {
@@ -134,13 +134,13 @@ fn what_workers_tell_of_many_rows(rt: HostRuntime) -> Result<(), Fail> {
     Ok(())
 }
 
-/// Notes what each worker tells, in its order, as hexadecimal digits: 1, 3, 5 and 7 for reaching the
-/// requests 0 to 3, and 2, 4, 6 and 8 for having their answers. Holds request 0 until the others are
+/// Notes what each worker says, in its order, as hexadecimal digits. 1, 3, 5 and 7 are reaching the
+/// requests 0 to 3, and 2, 4, 6 and 8 having their answers. Holds request 0 until the others are
 /// answered.
 #[derive(Drop)]
 struct Notes {
     words: Vec<AtomicU64>,
-    /// What is told of a worker that isn't there.
+    /// What is said of a worker that isn't there.
     others: AtomicU64,
     /// How many of the requests 1 to 3 are answered.
     answered: AtomicU64,

@@ -132,7 +132,8 @@ fn is_one_answer(list: &[Answer], version: u32) -> bool {
 }
 
 /// A request is answered while an empty batch with this number is applied to the database of one
-/// link: how many batches are applied, the version at the end, and why the batch is refused.
+/// link. The result is how many batches are applied, the version at the end, and why the batch is
+/// refused.
 fn applies_beside<R: Threads + Wait + Abort + Sync>(
     rt: &R,
     alloc: Global,

@@ -178,9 +178,9 @@ fn hundred_requests(rt: HostRuntime) {
     let _before = answers(&rt, rt.alloc(), 100);
 }
 
-/// The publisher and the askers of a live run over some requests and batches, and whether it left
-/// what is right: all batches applied, or those before one that memory was refused for, and askers
-/// that know them.
+/// The publisher and the askers of a live run over some requests and batches, and whether they are
+/// right. All batches are applied, or those before one that memory was refused for, and the askers
+/// know them.
 fn parts_of(
     live: Live<Vec<u8>>,
     count: usize,

@@ -121,7 +121,7 @@ fn answers_held<R: Threads + Wait + Abort + Sync>(
 }
 
 /// The first request is asked before the first batch is published, since that waits until the gate
-/// is told of the answer.
+/// hears of the answer.
 #[test]
 fn answered_comes_after_the_ask(rt: HostRuntime) -> Result<(), Fail> {
     assert!(rt; answers_held(&rt, rt.alloc(), false, (0, 1))?);

@@ -1,5 +1,5 @@
-//! The column of the indices at which the routers are that the rows run to: how it follows a row that is
-//! put or taken out, and a list of routers that changes.
+//! The column of ends: for each row the index of the router that it runs to. It follows rows that
+//! are put or taken out, and a list of routers that changes.
 ghost use Rattle.std.specs.Prelude.{◌≡◌, ◌<◌, ◌≤◌, All, length, slice_set, vec_len, IfOk, IfErr, IfSome, IfNone, map, slice_index};
 ghost use Rattle.std.specs.Vec.{vec_capacity};
 ghost use Rattle.std.specs.List.{insert, remove as without};

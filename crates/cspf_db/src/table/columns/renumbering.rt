@@ -52,7 +52,7 @@ fn is_end(rows: &[Link], router: Addr, arrives: bool) -> bool
     arrives || begins(rows, router)
 }
 
-/// Notes the place that the router would have behind those that stay, and keeps it where it stays.
+/// Notes the place that the router would have after those that stay, and keeps it if it stays.
 fn keep_one(kept: &mut Vec<Addr>, places: &mut Vec<u16>, router: Addr, stays: bool)
     requires few { vec_len kept.old < ROOM_FOR_ROUTERS }
     requires room { vec_len kept.old < vec_capacity kept.old }

@@ -44,8 +44,7 @@ pub(crate) fn reverse_index(rows: &[Link], link: &Link) -> u16
     index_back(rows, at, link)
 }
 
-/// The same, where it is known where the rows begin and end that are from the router that the link
-/// runs to.
+/// The index of the reverse, where the span of the router that the link runs to is known.
 fn reverse_within(rows: &[Link], span: &Span, link: &Link) -> u16
     requires by_key { AreByKey rows.now }
     requires most { length rows.now ≤ MOST_LINKS }

@@ -94,7 +94,7 @@ pub(crate) fn index_among(routers: &[Addr], router: Addr) -> u16
     }
 }
 
-/// The same, where the index is looked at first at which the router may be.
+/// The router's index, where the one at which it may be is looked at first.
 pub(crate) fn index_near(routers: &[Addr], near: usize, router: Addr) -> u16
     requires rising { AreRising routers.now }
     requires few { length routers.now ≤ ROOM_FOR_ROUTERS }

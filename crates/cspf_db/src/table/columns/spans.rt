@@ -31,7 +31,7 @@ fn no_span() -> Span {
     }
 }
 
-/// The index behind the rows from the router that stand one behind the other from an index on.
+/// The index after the rows from the router that follow each other from an index on.
 fn skip(rows: &[Link], first: usize, router: Addr) -> usize
     requires { first ≤ length rows.now }
     ensures order { first ≤ result }
@@ -106,7 +106,8 @@ fn span_from(rows: &[Link], at: usize, router: Addr) -> (usize, usize)
     }
 }
 
-/// The same, where there may be so many rows from the router: a few of them are read if there are.
+/// The router's span, where a guess says how many rows there are from it: a few of them are read if
+/// it is right.
 fn span_near(rows: &[Link], at: usize, count: u16, router: Addr) -> (usize, usize)
     requires by_key { AreByKey rows.now }
     requires most { length rows.now ≤ MOST_LINKS }
@@ -145,7 +146,8 @@ fn rising_between(rows: &[Link], first: usize, end: usize) -> Span
     span
 }
 
-/// Where the rows from the router are. The index is where to look first, and so many there may be.
+/// Where the rows from the router are. The index is where to look first, and the number a guess of
+/// how many there are.
 fn locate(rows: &[Link], at: usize, count: u16, router: Addr) -> Span
     requires by_key { AreByKey rows.now }
     requires most { length rows.now ≤ MOST_LINKS }

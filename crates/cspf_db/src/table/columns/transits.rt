@@ -8,7 +8,7 @@ ghost use Rattle.cspf_model.specs.declared.limits.TheConstants.{MOST_ROUTERS};
 
 use cspf_addr::Addr;
 
-/// The index behind the marks below the router that stand one behind the other from an index on.
+/// The index after the marks below the router that follow each other from an index on.
 fn skip_below(marks: &[Addr], first: usize, router: Addr) -> usize
     requires { first ≤ length marks.now }
     ensures bound { result ≤ length marks.now }

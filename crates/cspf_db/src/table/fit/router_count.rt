@@ -59,7 +59,7 @@ fn add_puts(routers: &mut Routers, changes: &[Change]) -> bool
     true
 }
 
-/// Whether it is plain that there are no more than 1,024 routers after the changes: they bring no more
+/// Whether it is plain that there are at most 1,024 routers after the changes. They bring no more
 /// than that, each counted once, or one too many while another goes.
 fn fit_by_one(rows: &[Link], routers: &[Addr], ends: &[u16], changes: &[Change]) -> bool
     requires by_key { AreByKey rows.now }

@@ -18,8 +18,8 @@ use crate::table::columns::rows::{index_of, is_alike};
 use cspf_addr::Addr;
 use cspf_model::{Change, Link};
 
-/// How many links changes put where there is none, how many ends of the links that they put are not
-/// among the routers, where an end of several links is counted for each, and whether no row moves.
+/// How many links changes put where there is none, how many of their ends are not among the
+/// routers, and whether no row moves. An end of several links is counted for each.
 #[derive(Clone, Copy, Debug)]
 pub struct Tally {
     /// How many links are put where there is none.
