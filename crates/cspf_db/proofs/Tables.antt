@@ -20,7 +20,6 @@ pub mod RouterColumn
 pub mod MergedRows
 pub mod RouterPlaces
 pub mod RemainingRouters
-pub mod RemovalsFirst
 pub mod MarkChanges
 pub mod TransitColumn
 pub mod Plans

@@ -2,7 +2,6 @@
 pub mod Rows
 pub mod Reverses
 pub mod RouterSets
-pub mod RowChanges
 pub mod MergeSteps
 pub mod AlikeChanges
 pub mod AddressRanges

@@ -29,17 +29,17 @@ mod scratch;
 
 use crate::limits::{NO_LINK, ROOM_FOR_LINKS, ROOM_FOR_MARKS, ROOM_FOR_ROUTERS};
 use address_range::{AddressRange, range_of};
-use columns::reverses::{list_reverses, reverse_index};
+use columns::Columns;
+use columns::reverses::reverse_index;
 use columns::routers::search;
 use columns::rows::{any_within, index_of, rows_from};
-use columns::spans::{Span, list_spans};
 use columns::transits::list_transits;
 use cspf_addr::{Addr, Prefix};
 use cspf_model::{Batch, Link, MOST_ROUTERS, Refusal};
 use marks::{change_marks, is_marked};
 use overwriting::write_over;
 pub use plan::Plan;
-use row_changes::change_table;
+use row_changes::{change_table, list_beside};
 use scratch::Scratch;
 use std::alloc::{AllocError, Global};
 use std::marker::Model;
@@ -48,11 +48,7 @@ use std::marker::Model;
 /// without transit. No call but `new` and `owners` can fail for memory.
 #[derive(Debug, Drop)]
 pub struct Table {
-    rows: Vec<Link>,
-    routers: Vec<Addr>,
-    ends: Vec<u16>,
-    reverses: Vec<u16>,
-    spans: Vec<Span>,
+    columns: Columns,
     marks: Vec<Addr>,
     transits: Vec<bool>,
     scratch: Scratch,
@@ -69,7 +65,7 @@ impl Model for Table {
     ghost use Rattle.cspf_model.specs.Lemmas.LinkRows.{marked_database};
     ghost use Rattle.cspf_db.specs.Tables.Rows.{IsTable};
 
-    ghost view = { λ a. marked_database a.rows.items a.marks.items };
+    ghost view = { λ a. marked_database a.columns.rows.items a.marks.items };
 
     ghost invariant = { IsTable };
 }
@@ -80,11 +76,13 @@ impl Table {
         ensures { IfOk result (λ table. table ≡ no_links) }
     {
         Ok(Table {
-            rows: Vec::with_capacity(alloc, ROOM_FOR_LINKS)?,
-            routers: Vec::with_capacity(alloc, ROOM_FOR_ROUTERS)?,
-            ends: Vec::with_capacity(alloc, ROOM_FOR_LINKS)?,
-            reverses: Vec::with_capacity(alloc, ROOM_FOR_LINKS)?,
-            spans: Vec::with_capacity(alloc, MOST_ROUTERS)?,
+            columns: Columns {
+                rows: Vec::with_capacity(alloc, ROOM_FOR_LINKS)?,
+                routers: Vec::with_capacity(alloc, ROOM_FOR_ROUTERS)?,
+                ends: Vec::with_capacity(alloc, ROOM_FOR_LINKS)?,
+                reverses: Vec::with_capacity(alloc, ROOM_FOR_LINKS)?,
+                spans: Vec::with_capacity(alloc, MOST_ROUTERS)?,
+            },
             marks: Vec::with_capacity(alloc, ROOM_FOR_MARKS)?,
             transits: Vec::with_capacity(alloc, MOST_ROUTERS)?,
             scratch: Scratch::new(alloc)?,
@@ -101,7 +99,7 @@ impl Table {
         ensures few { router_count self.now ≤ MOST_ROUTERS }
         ensures sorted { result.now ≡ links_of self.now }
     {
-        self.rows.as_slice()
+        self.columns.rows.as_slice()
     }
 
     /// The routers, each once, rising.
@@ -111,7 +109,7 @@ impl Table {
         ensures rising { IsStrictlyIncreasing result.now }
         ensures few { length result.now ≤ MOST_ROUTERS }
     {
-        self.routers.as_slice()
+        self.columns.routers.as_slice()
     }
 
     /// Beside the links, the index in `routers` of the router that each runs to.
@@ -120,7 +118,7 @@ impl Table {
         ensures each { map (λ end. slice_index (router_list self.now) end) result.now
             ≡ map (λ l. l.to) (links_of self.now) }
     {
-        self.ends.as_slice()
+        self.columns.ends.as_slice()
     }
 
     /// The index of the router in `routers`, if it is one of them.
@@ -129,14 +127,14 @@ impl Table {
         ensures some { IfSome result (λ at. slice_index (router_list self.now) at ≡ router) }
         ensures none { IfNone result (¬ IsRouterOf self.now router) }
     {
-        search(&self.routers, router).ok()
+        search(&self.columns.routers, router).ok()
     }
 
     /// The links from the router, in order of their address there.
     pub fn out(&self, router: Addr) -> &[Link]
         ensures { result.now ≡ links_from self.now router }
     {
-        rows_from(&self.rows, router)
+        rows_from(&self.columns.rows, router)
     }
 
     /// The links from the router at an index of `routers`.
@@ -144,8 +142,8 @@ impl Table {
         requires { at < length (router_list self.now) }
         ensures { result.now ≡ links_from_index self.now at }
     {
-        let span = &self.spans[at];
-        &self.rows[usize::from(span.first)..usize::from(span.end)]
+        let span = &self.columns.spans[at];
+        &self.columns.rows[usize::from(span.first)..usize::from(span.end)]
     }
 
     /// Beside the links of `out_at`, the index in `routers` of the router that each runs to.
@@ -155,8 +153,8 @@ impl Table {
         ensures each { map (λ end. slice_index (router_list self.now) end) result.now
             ≡ map (λ l. l.to) (links_from_index self.now at) }
     {
-        let span = &self.spans[at];
-        &self.ends[usize::from(span.first)..usize::from(span.end)]
+        let span = &self.columns.spans[at];
+        &self.columns.ends[usize::from(span.first)..usize::from(span.end)]
     }
 
     /// Beside the links of `out_at`, the index in `links` of the reverse of each, as `has_reverse`
@@ -168,16 +166,16 @@ impl Table {
             → IsReverseAt self.now (slice_index_or (links_from_index self.now at) nth d)
             (slice_index_or result.now nth 0) }
     {
-        let span = &self.spans[at];
-        &self.reverses[usize::from(span.first)..usize::from(span.end)]
+        let span = &self.columns.spans[at];
+        &self.columns.reverses[usize::from(span.first)..usize::from(span.end)]
     }
 
     /// The link with this key, if there is one.
     pub fn find(&self, from: Addr, local: Addr) -> Option<Link>
         ensures { result ≡ link_at self.now (from, local) }
     {
-        let at = index_of(&self.rows, from, local)?;
-        Some(self.rows[at])
+        let at = index_of(&self.columns.rows, from, local)?;
+        Some(self.columns.rows[at])
     }
 
     /// Whether the table has the reverse of the link, whatever the reverse's attributes. The
@@ -186,14 +184,14 @@ impl Table {
     pub fn has_reverse(&self, link: &Link) -> bool
         ensures { IsTrue result ↔ HasReverse self.now link.now }
     {
-        reverse_index(&self.rows, link) != NO_LINK
+        reverse_index(&self.columns.rows, link) != NO_LINK
     }
 
     /// Whether a link begins or ends at the router.
     pub fn has_router(&self, router: Addr) -> bool
         ensures { IsTrue result ↔ IsRouterOf self.now router }
     {
-        search(&self.routers, router).is_ok()
+        search(&self.columns.routers, router).is_ok()
     }
 
     /// The Router IDs that are marked as without transit (RFC 6987), each once, rising. A router with
@@ -241,10 +239,10 @@ impl Table {
         ensures { IsTrue result
             ↔ Owns self.now prefix (slice_index (router_list self.now) at) }
     {
-        if range.contains(self.routers[at]) {
+        if range.contains(self.columns.routers[at]) {
             return true;
         }
-        let span = &self.spans[at];
+        let span = &self.columns.spans[at];
         if range.misses(span.lowest, span.highest) {
             return false;
         }
@@ -258,7 +256,7 @@ impl Table {
     {
         let range = range_of(prefix);
         let mut owners = Vec::new(alloc);
-        for at in 0..self.routers.len() {
+        for at in 0..self.columns.routers.len() {
             if self.owns_within(at, prefix, &range) {
                 owners.push(at as u16)?;
             }
@@ -286,7 +284,7 @@ impl Table {
         ensures err { IfErr result (λ refusal. IsRefusal self.now batch.now refusal) }
         ensures unfit { OnErr result (¬ Fits self.now batch.now) }
     {
-        match fit::fits(&self.rows, &self.routers, &self.ends, &self.marks, batch) {
+        match fit::fits(&self.columns, &self.marks, batch) {
             Ok(tally) => Ok(Plan { tally }),
             Err(why) => Err(why),
         }
@@ -326,23 +324,17 @@ impl Table {
         ensures { self.new ≡ after_changes self.old batch.now.changes }
     {
         if plan.tally.alike {
-            write_over(&mut self.rows, &batch.changes);
+            write_over(&mut self.columns.rows, &batch.changes);
             return;
         }
         let follows = change_table(
-            &mut self.rows,
-            &mut self.routers,
-            &mut self.ends,
-            &mut self.reverses,
+            &mut self.columns,
             &mut self.scratch,
             &batch.changes,
             plan.tally,
         );
+        list_beside(&mut self.columns, follows);
         change_marks(&mut self.marks, &batch.changes);
-        list_spans(&mut self.spans, &self.routers, &self.rows);
-        list_transits(&mut self.transits, &self.routers, &self.marks);
-        if !follows {
-            list_reverses(&mut self.reverses, &self.rows, &self.ends, &self.spans);
-        }
+        list_transits(&mut self.transits, &self.columns.routers, &self.marks);
     }
 }

@@ -6,8 +6,7 @@ use Rattle.std.proofs.lemmas.Bool.{cases_eq, cases_lt, eq-eqb, ne_eqb, le-leb, l
 use Rattle.std.proofs.lemmas.List.{length-set, length-map, get_or-set_same, get_or-set_other, get_or-map, take_at}
 use Rattle.std.proofs.lemmas.List.Edits.{length-insert, length-remove, get_or-insert_below, get_or-insert_at, get_or-insert_above, get_or-remove_below, get_or-remove_above}
 use Rattle.cspf_model.specs.declared.link.Link.{Link}
-use Rattle.cspf_model.specs.declared.limits.TheConstants.{MOST_LINKS}
-use Rattle.cspf_db.specs.declared.limits.TheConstants.{NO_LINK}
+use Rattle.cspf_db.specs.declared.limits.TheConstants.{NO_LINK, ROOM_FOR_LINKS}
 use Rattle.cspf_model.specs.Database.{Key, key_of}
 use Rattle.cspf_model.specs.Lemmas.LinkRows.{AreByKey}
 use Rattle.cspf_db.specs.Tables.Reverses.{AreReversesBut, no_key, same_key, index_behind, index_before}
@@ -54,7 +53,7 @@ before_below : (at n : ℕ) → n ≢ NO_LINK → n < at → index_before at n �
 before_below at n some h = ap (λ b. cond b n (cond (leb at n) (n - 1) n)) (ne_eqb n NO_LINK some) ∙ ap (λ b. cond b (n - 1) n) (lt-leb at n h)
 
 -- rows with a column that leaves a key out
-module _ (rows : List Link) (column : List ℕ) (k : Key) (few : length rows ≤ MOST_LINKS) (are : AreReversesBut (same_key k) rows column) where
+module _ (rows : List Link) (column : List ℕ) (k : Key) (few : length rows ≤ ROOM_FOR_LINKS) (are : AreReversesBut (same_key k) rows column) where
   -- a link with that key
   module _ (l : Link) (has_key : key_of l ≡ k) (at : ℕ) where
     -- is put over the row with it
@@ -216,12 +215,12 @@ module _ (rows : List Link) (column : List ℕ) (k : Key) (few : length rows ≤
         (λ j d inside same. let from = fewer_from d j inside in from.2 (here rows by_key at within k has from.0 d from.1 (sym (ap key_of from.3) ∙ same))) taken_out_but
 
 -- a column that is written back to where it was
-pub written : (rows : List Link) (old : Vec ℕ Global) (new : List ℕ) (k : Key) → length old.items ≡ length rows → AreReversesBut (same_key k) rows new
-    → AreReversesBut (same_key k) rows (take old.len (new ++ drop (length new) old.items))
-written rows old new k many are = subst (λ column. AreReversesBut (same_key k) rows column) (sym (take_at new (drop (length new) old.items) old.len (omega (arith, many, are.many, old.ok.0)))) are
+pub written : (left_out : Key → Type 0) (rows : List Link) (old : Vec ℕ Global) (new : List ℕ) → length old.items ≡ length rows → AreReversesBut left_out rows new
+    → AreReversesBut left_out rows (take old.len (new ++ drop (length new) old.items))
+written left_out rows old new many are = subst (λ column. AreReversesBut left_out rows column) (sym (take_at new (drop (length new) old.items) old.len (omega (arith, many, are.many, old.ok.0)))) are
 
 -- at the place where a search put a row
-pub column_of_put : (rows : List Link) (column : List ℕ) (l : Link) → length rows ≤ MOST_LINKS → AreReversesBut (same_key (key_of l)) rows column
+pub column_of_put : (rows : List Link) (column : List ℕ) (l : Link) → length rows ≤ ROOM_FOR_LINKS → AreReversesBut (same_key (key_of l)) rows column
     → (place : Result ℕ ℕ) (new : List Link) (new_column : List ℕ) (at : ℕ)
     → IfOk place (λ n. n < length rows) → IfOk place (HoldsAt (λ m. key_of m ≡ key_of l) rows) → IfOk place (λ n. new ≡ slice_set rows n l)
     → IfErr place (λ n. n ≤ length rows) → IfErr place (λ n. new ≡ insert rows n l)
@@ -239,7 +238,7 @@ column_of_put rows column l few are (Err n) new new_column at within has over up
 )
 
 -- at the place where a search took one out
-pub column_of_removal : (rows : List Link) (column : List ℕ) (k : Key) → length rows ≤ MOST_LINKS → AreByKey rows → AreReversesBut (same_key k) rows column
+pub column_of_removal : (rows : List Link) (column : List ℕ) (k : Key) → length rows ≤ ROOM_FOR_LINKS → AreByKey rows → AreReversesBut (same_key k) rows column
     → (place : Option ℕ) (new : List Link) (new_column : List ℕ)
     → IfSome place (λ n. n < length rows) → IfSome place (HoldsAt (λ m. key_of m ≡ k) rows) → IfSome place (λ n. new ≡ without rows n)
     → IfNone place (All (λ m. key_of m ≢ k) rows) → IfNone place (new ≡ rows)

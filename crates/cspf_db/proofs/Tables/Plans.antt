@@ -1,5 +1,5 @@
 -- A plan of rows and marks, from what a look at the rows finds, and what it says of the rows.
-use Rattle.std.proofs.Common.{◌≡◌, ℕ, true, List, All, refl, sym, ap, subst, ◌∙◌}
+use Rattle.std.proofs.Common.{◌≡◌, ℕ, true, List, All, refl, sym, subst, ◌∙◌}
 use Rattle.std.specs.List.{count_by}
 use Rattle.cspf_model.specs.declared.link.Link.{Link}
 use Rattle.cspf_model.specs.declared.batch.Change.{Change}
@@ -10,7 +10,7 @@ use Rattle.cspf_model.specs.Lemmas.CountedEnds.{HasListedEnds}
 use Rattle.cspf_model.specs.Lemmas.RowsLeft.{adds_link}
 use Rattle.cspf_model.specs.Lemmas.LinkRows.{database_of, marked_database, AreByKey}
 use Rattle.cspf_db.specs.declared.table.plan.Plan.{Plan}
-use Rattle.cspf_db.specs.Index.{links_of, router_list}
+use Rattle.cspf_db.specs.Index.{router_list}
 use Rattle.cspf_db.specs.Plans.{IsPlanOf}
 use Rattle.cspf_db.specs.Tables.AlikeChanges.{IsAlike}
 use Rattle.cspf_db.proofs.Tables.RouterLists.{routers_marked}

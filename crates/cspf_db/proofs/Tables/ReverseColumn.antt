@@ -71,16 +71,16 @@ as_many_beside d rows column first end at are order bound part =
     length-between column first end (omega (arith, are.many, bound)) ∙ sym (length-between rows first end bound) ∙ ap length part
 
 -- at the span of a router of a table
-pub reverses_at_span : (d : Database) (a : Inside) → IsTable a → marked_database a.rows.items a.marks.items ≡ d → (at : ℕ) (span : Span) → at < length (router_list d) → span ≡ slice_index_or a.spans.items at span
-    → (length (between span.first span.end a.reverses.items) ≡ length (links_from_index d at))
-    × ((nth : ℕ) (l : Link) → nth < length (links_from_index d at) → IsReverseAt d (slice_index_or (links_from_index d at) nth l) (slice_index_or (between span.first span.end a.reverses.items) nth 0))
+pub reverses_at_span : (d : Database) (a : Inside) → IsTable a → marked_database a.columns.rows.items a.marks.items ≡ d → (at : ℕ) (span : Span) → at < length (router_list d) → span ≡ slice_index_or a.columns.spans.items at span
+    → (length (between span.first span.end a.columns.reverses.items) ≡ length (links_from_index d at))
+    × ((nth : ℕ) (l : Link) → nth < length (links_from_index d at) → IsReverseAt d (slice_index_or (links_from_index d at) nth l) (slice_index_or (between span.first span.end a.columns.reverses.items) nth 0))
 reverses_at_span d a is makes at span h read =
-    let by_key = is.parts.rows.by_key in
-    let all = is.parts.routers.all in
-    let column = is.reverses.column in
-    let part = span_at d a.rows.items a.marks.items a.routers.items a.spans.items at span makes by_key all is.spans h read in
-    let order = span_within d a.rows.items a.marks.items a.routers.items a.spans.items at span makes all is.spans h read in
-    (as_many_beside d a.rows.items a.reverses.items span.first span.end at column order.0 order.1 part, reverses_beside d a.rows.items a.marks.items a.reverses.items span.first span.end at makes by_key column order.0 order.1 part)
+    let by_key = is.columns.parts.by_key in
+    let all = is.columns.parts.all in
+    let column = is.columns.reverses in
+    let part = span_at d a.columns.rows.items a.marks.items a.columns.routers.items a.columns.spans.items at span makes by_key all is.columns.spans h read in
+    let order = span_within d a.columns.rows.items a.marks.items a.columns.routers.items a.columns.spans.items at span makes all is.columns.spans h read in
+    (as_many_beside d a.columns.rows.items a.columns.reverses.items span.first span.end at column order.0 order.1 part, reverses_beside d a.columns.rows.items a.marks.items a.columns.reverses.items span.first span.end at makes by_key column order.0 order.1 part)
 
 -- where the row with the key of the reverse runs elsewhere, there is no reverse
 pub not_back : (rows : List Link) → AreByKey rows → (l : Link) (at : ℕ) (d : Link) → at < length rows → key_of (slice_index_or rows at d) ≡ (l.to, l.remote)

@@ -1,9 +1,7 @@
 -- Private: the column of reverses, beside the rows.
-use Rattle.std.specs.Prelude.{◌≡◌, ◌≢◌, ◌<◌, ◌≤◌, ◌+◌, ◌-◌, ◌⊎◌, ℕ, cond, nat_eq, nat_le, List, length, slice_index_or, Vec}
-use Rattle.std.specs.Vec.{vec_capacity}
-use Rattle.std.specs.declared.alloc.Global.{Global}
+use Rattle.std.specs.Prelude.{◌≡◌, ◌≢◌, ◌<◌, ◌+◌, ◌-◌, ◌⊎◌, ℕ, cond, nat_eq, nat_le, List, length, slice_index_or}
 use Rattle.cspf_model.specs.declared.link.Link.{Link}
-use Rattle.cspf_db.specs.declared.limits.TheConstants.{NO_LINK, ROOM_FOR_LINKS}
+use Rattle.cspf_db.specs.declared.limits.TheConstants.{NO_LINK}
 use Rattle.cspf_model.specs.Database.{Key, key_of, IsReverse}
 
 -- A number is the index at which the reverse of a link is among rows, or there is none. Links with
@@ -28,11 +26,6 @@ no_key k = ⊥
 -- this key is left out
 abbrev pub same_key : Key → Key → Type 0
 same_key key k = k ≡ key
-
--- the column of reverses, with room for those of as many links as a table has room for
-pub record AreReversesOf (rows : List Link) (reverses : Vec ℕ Global) : Type 0 where
-  pub column : AreReversesBut no_key rows reverses.items
-  pub room : ROOM_FOR_LINKS ≤ vec_capacity reverses
 
 -- where an index is once a row was put between others
 abbrev pub index_behind : ℕ → ℕ → ℕ

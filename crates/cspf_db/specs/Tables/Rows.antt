@@ -3,17 +3,18 @@ use Rattle.std.specs.Prelude.{◌≡◌, ◌<◌, ◌≤◌, ℕ, Bool, false, n
 use Rattle.std.specs.Vec.{vec_capacity}
 use Rattle.std.specs.declared.alloc.Global.{Global}
 use Rattle.std.specs.Ordering.{nat_cmp}
-use Rattle.std.specs.FinMap.{from_entries, is_sorted}
+use Rattle.std.specs.FinMap.{is_sorted}
 use Rattle.std.specs.FinSet as set
 use Rattle.cspf_model.specs.declared.link.Link.{Link}
 use Rattle.cspf_db.specs.declared.table.Table.TheInside.{Inside}
+use Rattle.cspf_db.specs.declared.table.columns.Columns.{Columns}
 use Rattle.cspf_db.specs.declared.table.columns.spans.Span.{Span}
-use Rattle.cspf_model.specs.Database.{Database, Key, key_of, key_cmp, router_count}
+use Rattle.cspf_model.specs.Database.{router_count}
 use Rattle.cspf_model.specs.Lemmas.LinkRows.{AreByKey, database_of, marks_in, marked_database}
 use Rattle.cspf_db.specs.Index.{with_nothing, router_list}
 use Rattle.cspf_model.specs.declared.limits.TheConstants.{MOST_LINKS, MOST_MARKS, MOST_ROUTERS}
 use Rattle.cspf_db.specs.declared.limits.TheConstants.{ROOM_FOR_LINKS, ROOM_FOR_MARKS, ROOM_FOR_ROUTERS}
-use Rattle.cspf_db.specs.Tables.Reverses.{AreReversesOf}
+use Rattle.cspf_db.specs.Tables.Reverses.{AreReversesBut, no_key}
 
 -- both links run between the same interfaces
 pub record HasSameEnds (l m : Link) : Type 0 where
@@ -25,20 +26,6 @@ pub record HasSameEnds (l m : Link) : Type 0 where
 -- each router is above those before it
 abbrev pub AreRising : List ℕ → Type 0
 AreRising routers = IsTrue (is_sorted nat_cmp (map with_nothing routers))
-
--- The rows are in order of the key, with no more links and routers than a table may have. There is
--- room for as many links, and a batch more.
-pub record AreRows (rows : Vec Link Global) : Type 0 where
-  pub by_key : AreByKey rows.items
-  pub most : length rows.items ≤ MOST_LINKS
-  pub routers : router_count (database_of rows.items) ≤ MOST_ROUTERS
-  pub room : ROOM_FOR_LINKS ≤ vec_capacity rows
-
--- the routers are those of the rows' database, and there is room for both ends of each link that a
--- batch puts
-pub record AreRoutersOf (rows : List Link) (routers : Vec ℕ Global) : Type 0 where
-  pub all : routers.items ≡ router_list (database_of rows)
-  pub room : ROOM_FOR_ROUTERS ≤ vec_capacity routers
 
 -- the indices at which the routers are that the rows run to
 pub record AreEndsOf (rows : List Link) (routers : List ℕ) (ends : List ℕ) : Type 0 where
@@ -60,25 +47,6 @@ ArePlacesIn others routers places =
 pub record IsEndColumn (links : List Link) (routers : List ℕ) (indices : List ℕ) : Type 0 where
   pub froms : All (λ l. Contains routers l.from) links
   pub ends : AreEndsOf links routers indices
-
--- Rows that changes are made to, with the column of ends. They are in order of the key, no more
--- than a table may have, and there is room for a batch more. Their ends are in a list of routers
--- that also has room for those of a batch.
-pub record AreRowsWithEnds (links : Vec Link Global) (routers : List ℕ) (indices : Vec ℕ Global) : Type 0 where
-  pub by_key : AreByKey links.items
-  pub most : length links.items ≤ MOST_LINKS
-  pub room : ROOM_FOR_LINKS ≤ vec_capacity links
-  pub room_for_ends : ROOM_FOR_LINKS ≤ vec_capacity indices
-  pub rising : AreRising routers
-  pub few : length routers ≤ ROOM_FOR_ROUTERS
-  pub column : IsEndColumn links.items routers indices.items
-
--- rows, with their routers and their ends
-pub record AreRowParts (links : Vec Link Global) (names : Vec ℕ Global) (indices : Vec ℕ Global) : Type 0 where
-  pub rows : AreRows links
-  pub routers : AreRoutersOf links.items names
-  pub ends : AreEndsOf links.items names.items indices.items
-  pub room : ROOM_FOR_LINKS ≤ vec_capacity indices
 
 -- where the rows from a router begin and end, and between which addresses their interfaces are
 pub record IsSpanOf (rows : List Link) (router : ℕ) (span : Span) : Type 0 where
@@ -114,14 +82,47 @@ pub record AreMarks (marks : Vec ℕ Global) : Type 0 where
   pub most : length marks.items ≤ MOST_MARKS
   pub room : ROOM_FOR_MARKS ≤ vec_capacity marks
 
--- The parts of a table: where the rows from each router begin and end, where the reverse of each
--- row is, and whether each router has transit. The marks make no router.
+-- there is room for as many links and routers as a table may have, and a batch more
+pub record HaveRoom (c : Columns) : Type 0 where
+  pub rows : ROOM_FOR_LINKS ≤ vec_capacity c.rows
+  pub routers : ROOM_FOR_ROUTERS ≤ vec_capacity c.routers
+  pub ends : ROOM_FOR_LINKS ≤ vec_capacity c.ends
+  pub reverses : ROOM_FOR_LINKS ≤ vec_capacity c.reverses
+  pub spans : MOST_ROUTERS ≤ vec_capacity c.spans
+
+-- Columns that changes are made to: the rows are in order of the key, and their ends are in a list of
+-- routers that may have others.
+pub record AreTiedColumns (c : Columns) : Type 0 where
+  pub room : HaveRoom c
+  pub by_key : AreByKey c.rows.items
+  pub rising : AreRising c.routers.items
+  pub few : length c.routers.items ≤ ROOM_FOR_ROUTERS
+  pub column : IsEndColumn c.rows.items c.routers.items c.ends.items
+
+-- and the column of reverses is of the rows
+pub record ArePaired (c : Columns) : Type 0 where
+  pub tied : AreTiedColumns c
+  pub reverses : AreReversesBut no_key c.rows.items c.reverses.items
+
+-- The rows with their routers and their ends, no more of them than a table may have.
+pub record AreRowParts (c : Columns) : Type 0 where
+  pub room : HaveRoom c
+  pub by_key : AreByKey c.rows.items
+  pub most : length c.rows.items ≤ MOST_LINKS
+  pub few : router_count (database_of c.rows.items) ≤ MOST_ROUTERS
+  pub all : c.routers.items ≡ router_list (database_of c.rows.items)
+  pub ends : AreEndsOf c.rows.items c.routers.items c.ends.items
+
+-- and where the rows from each router begin and end, and where the reverse of each row is
+pub record AreColumns (c : Columns) : Type 0 where
+  pub parts : AreRowParts c
+  pub reverses : AreReversesBut no_key c.rows.items c.reverses.items
+  pub spans : AreSpansOf c.rows.items c.routers.items c.spans.items
+
+-- The columns of a table, the marks, and whether each router has transit. The marks make no router.
 pub record IsTable (a : Inside) : Type 0 where
-  pub parts : AreRowParts a.rows a.routers a.ends
-  pub spans : AreSpansOf a.rows.items a.routers.items a.spans.items
-  pub room : MOST_ROUTERS ≤ vec_capacity a.spans
-  pub reverses : AreReversesOf a.rows.items a.reverses
+  pub columns : AreColumns a.columns
   pub marks : AreMarks a.marks
-  pub listed : a.routers.items ≡ router_list (marked_database a.rows.items a.marks.items)
-  pub transits : AreTransitsOf a.routers.items a.marks.items a.transits.items
+  pub listed : a.columns.routers.items ≡ router_list (marked_database a.columns.rows.items a.marks.items)
+  pub transits : AreTransitsOf a.columns.routers.items a.marks.items a.transits.items
   pub room_for_transits : MOST_ROUTERS ≤ vec_capacity a.transits

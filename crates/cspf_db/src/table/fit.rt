@@ -1,17 +1,16 @@
 //! Whether a batch fits the table, and the first reason why it doesn't.
 
 ghost use Rattle.std.specs.Prelude.{count_by, ◌≡◌, ◌+◌, ◌<◌, ◌≤◌, ◌↔◌, true, All, length, IfOk, IfErr, IsTrue};
-ghost use Rattle.cspf_model.specs.Database.{link_count, router_count};
-ghost use Rattle.cspf_db.specs.Index.{router_list};
+ghost use Rattle.cspf_model.specs.Database.{link_count};
 ghost use Rattle.cspf_model.specs.Changes.{Fits};
 ghost use Rattle.cspf_db.specs.Tables.AlikeChanges.{IsAlike};
 ghost use Rattle.cspf_model.specs.Lemmas.LinkChanges.{all_relinked};
-ghost use Rattle.cspf_model.specs.Lemmas.LinkRows.{database_of, marked_database, AreByKey};
-ghost use Rattle.cspf_db.specs.Tables.Rows.{AreEndsOf, AreRising};
+ghost use Rattle.cspf_model.specs.Lemmas.LinkRows.{database_of, marked_database};
+ghost use Rattle.cspf_db.specs.Tables.Rows.{AreColumns, AreRising};
 ghost use Rattle.cspf_model.specs.Lemmas.RowsLeft.{adds_link};
 ghost use Rattle.cspf_model.specs.Lemmas.CountedEnds.{HasListedEnds};
 ghost use Rattle.cspf_model.specs.Refusals.{AreOnceEach, ArePresent, IsRefusal};
-ghost use Rattle.cspf_model.specs.declared.limits.TheConstants.{MOST_MARKS, MOST_ROUTERS};
+ghost use Rattle.cspf_model.specs.declared.limits.TheConstants.{MOST_MARKS};
 
 mod leaving;
 mod repeats;
@@ -20,53 +19,43 @@ mod router_set;
 pub(super) mod tally;
 
 use crate::table::changes::count_removed;
+use crate::table::columns::Columns;
 use crate::table::marks::has_too_many_marks;
 use cspf_addr::Addr;
-use cspf_model::{Batch, Change, Link, MOST_CHANGES, MOST_LINKS, Refusal};
+use cspf_model::{Batch, Change, MOST_CHANGES, MOST_LINKS, Refusal};
 use repeats::repeat;
 use router_count::has_too_many_routers;
 use tally::{Tally, tally_all};
 
 /// Whether there are more than 16,384 links after the changes, `added` of which add one.
-fn has_too_many_links(rows: &[Link], changes: &[Change], added: usize) -> bool
-    requires by_key { AreByKey rows.now }
-    requires most { length rows.now ≤ MOST_LINKS }
+fn has_too_many_links(columns: &Columns, changes: &[Change], added: usize) -> bool
+    requires columns { AreColumns columns.now }
     requires short { length changes.now ≤ MOST_CHANGES }
     requires once { AreOnceEach changes.now }
-    requires present { ArePresent (database_of rows.now) changes.now }
-    requires added { added ≡ count_by (adds_link (database_of rows.now)) changes.now }
+    requires present { ArePresent (database_of columns.now.rows.items) changes.now }
+    requires added { added ≡ count_by (adds_link (database_of columns.now.rows.items)) changes.now }
     ensures { IsTrue result
-        ↔ MOST_LINKS < link_count (all_relinked (database_of rows.now) changes.now) }
+        ↔ MOST_LINKS < link_count (all_relinked (database_of columns.now.rows.items) changes.now) }
 {
-    let after = rows.len() + added - count_removed(changes);
+    let after = columns.rows.len() + added - count_removed(changes);
     after > MOST_LINKS
 }
 
 /// Whether the batch fits the rows and the marks, with what it does to the rows, and else the first
 /// reason why it doesn't.
-pub(super) fn fits(
-    rows: &[Link],
-    routers: &[Addr],
-    ends: &[u16],
-    marks: &[Addr],
-    batch: &Batch,
-) -> Result<Tally, Refusal>
-    requires by_key { AreByKey rows.now }
-    requires all { routers.now ≡ router_list (database_of rows.now) }
-    requires ends { AreEndsOf rows.now routers.now ends.now }
-    requires most { length rows.now ≤ MOST_LINKS }
-    requires few { router_count (database_of rows.now) ≤ MOST_ROUTERS }
+pub(super) fn fits(columns: &Columns, marks: &[Addr], batch: &Batch) -> Result<Tally, Refusal>
+    requires columns { AreColumns columns.now }
     requires rising { AreRising marks.now }
     requires few_marks { length marks.now ≤ MOST_MARKS }
-    ensures ok { IfOk result (λ _. Fits (marked_database rows.now marks.now) batch.now) }
+    ensures ok { IfOk result (λ _. Fits (marked_database columns.now.rows.items marks.now) batch.now) }
     ensures err { IfErr result
-        (λ refusal. IsRefusal (marked_database rows.now marks.now) batch.now refusal) }
+        (λ refusal. IsRefusal (marked_database columns.now.rows.items marks.now) batch.now refusal) }
     ensures added { IfOk result (λ tally. tally.added
-        ≡ count_by (adds_link (database_of rows.now)) batch.now.changes) }
+        ≡ count_by (adds_link (database_of columns.now.rows.items)) batch.now.changes) }
     ensures listed { IfOk result
-        (λ tally. tally.brought ≡ 0 → All (HasListedEnds routers.now) batch.now.changes) }
+        (λ tally. tally.brought ≡ 0 → All (HasListedEnds columns.now.routers.items) batch.now.changes) }
     ensures alike { IfOk result
-        (λ tally. tally.alike ≡ true → All (IsAlike rows.now) batch.now.changes) }
+        (λ tally. tally.alike ≡ true → All (IsAlike columns.now.rows.items) batch.now.changes) }
 {
     let changes = batch.changes.as_slice();
     if changes.len() > MOST_CHANGES {
@@ -75,13 +64,13 @@ pub(super) fn fits(
     if let Some(at) = repeat(changes) {
         return Err(Refusal::Duplicate { at: at + 1 });
     }
-    match tally_all(rows, routers, changes) {
+    match tally_all(columns, changes) {
         Err(at) => Err(Refusal::Absent { at: at + 1 }),
         Ok(tally) => {
-            if has_too_many_links(rows, changes, tally.added) {
+            if has_too_many_links(columns, changes, tally.added) {
                 return Err(Refusal::Full);
             }
-            if has_too_many_routers(rows, routers, ends, changes, tally.brought) {
+            if has_too_many_routers(columns, changes, tally.brought) {
                 return Err(Refusal::TooManyRouters);
             }
             if has_too_many_marks(marks, changes) {

@@ -1,135 +1,73 @@
 //! Changes of rows, with the columns of ends and of reverses changed as each row changes.
-ghost use Rattle.std.specs.Prelude.{count_by, ◌≡◌, ◌+◌, ◌<◌, ◌≤◌, true, All, filter, length};
-ghost use Rattle.std.specs.Vec.{vec_capacity};
+ghost use Rattle.std.specs.Prelude.{count_by, ◌≡◌, ◌+◌, ◌<◌, ◌≤◌, true, All, length};
 ghost use Rattle.cspf_model.specs.Lemmas.LinkChanges.{relinked, all_relinked};
 ghost use Rattle.cspf_model.specs.Lemmas.CountedEnds.{HasListedEnds};
 ghost use Rattle.cspf_model.specs.Database.{link_count, router_count};
 ghost use Rattle.cspf_model.specs.Refusals.{AreOnceEach};
-ghost use Rattle.cspf_model.specs.Lemmas.RowsLeft.{adds_link, removes_link, puts_link};
+ghost use Rattle.cspf_model.specs.Lemmas.RowsLeft.{adds_link, removes_link};
 ghost use Rattle.cspf_model.specs.Lemmas.LinkRows.{database_of};
-ghost use Rattle.cspf_db.specs.Tables.Rows.{AreRowParts, AreRowsWithEnds};
-ghost use Rattle.cspf_db.specs.Tables.Reverses.{AreReversesOf};
-ghost use Rattle.cspf_db.specs.Tables.RowChanges.{AreChangesFor};
+ghost use Rattle.cspf_db.specs.Tables.Rows.{AreColumns, ArePaired, AreRowParts, AreTiedColumns};
+ghost use Rattle.cspf_db.specs.Tables.Reverses.{AreReversesBut, no_key};
 ghost use Rattle.cspf_model.specs.declared.limits.TheConstants.{MOST_CHANGES, MOST_LINKS, MOST_ROUTERS};
 ghost use Rattle.cspf_db.specs.declared.limits.TheConstants.{ROOM_FOR_LINKS};
 
-use crate::table::changes::{count_removed, is_removal};
+use crate::table::changes::count_removed;
+use crate::table::columns::Columns;
 use crate::table::columns::ends::{put_end, remove_end};
-use crate::table::columns::reverses::{pair, put_reverse, remove_reverse, unpair};
+use crate::table::columns::reverses::{list_reverses, pair, put_reverse, remove_reverse, unpair};
 use crate::table::columns::routers::index_among;
 use crate::table::columns::rows::{index_alike, put, remove};
+use crate::table::columns::spans::list_spans;
 use crate::table::fit::tally::Tally;
 use crate::table::scratch::Scratch;
-use cspf_addr::Addr;
-use cspf_model::{Change, Link};
+use cspf_model::Change;
 
-/// Makes one change. The rows are never more than a table may have.
-fn change_one(
-    rows: &mut Vec<Link>,
-    ends: &mut Vec<u16>,
-    reverses: &mut Vec<u16>,
-    routers: &[Addr],
-    change: &Change,
-)
-    requires rows { AreRowsWithEnds rows.old routers.now ends.old }
-    requires reverses { AreReversesOf rows.old.items reverses.old }
-    requires fits { link_count (relinked (database_of rows.old.items) change.now) ≤ MOST_LINKS }
-    requires known { HasListedEnds routers.now change.now }
-    ensures changed { database_of rows.new.items
-        ≡ relinked (database_of rows.old.items) change.now }
-    ensures rows { AreRowsWithEnds rows.new routers.now ends.new }
-    ensures reverses { AreReversesOf rows.new.items reverses.new }
+/// Makes one change.
+fn change_one(columns: &mut Columns, change: &Change)
+    requires paired { ArePaired columns.old }
+    requires room { length columns.old.rows.items < ROOM_FOR_LINKS }
+    requires known { HasListedEnds columns.old.routers.items change.now }
+    ensures changed { database_of columns.new.rows.items
+        ≡ relinked (database_of columns.old.rows.items) change.now }
+    ensures paired { ArePaired columns.new }
+    ensures longer { length columns.new.rows.items ≤ length columns.old.rows.items + 1 }
+    ensures routers { columns.new.routers.items ≡ columns.old.routers.items }
 {
     match change {
         Change::Put(link) => {
-            if let Some(at) = index_alike(rows, link) {
-                rows[at] = *link;
+            if let Some(at) = index_alike(&columns.rows, link) {
+                columns.rows[at] = *link;
                 return;
             }
-            let end = index_among(routers, link.to);
-            unpair(reverses, rows, link.from, link.local);
-            let place = put(rows, *link);
-            put_end(ends, place, end);
-            let at = put_reverse(reverses, place);
-            pair(reverses, rows, at);
+            let end = index_among(&columns.routers, link.to);
+            unpair(&mut columns.reverses, &columns.rows, link.from, link.local);
+            let place = put(&mut columns.rows, *link);
+            put_end(&mut columns.ends, place, end);
+            let at = put_reverse(&mut columns.reverses, place);
+            pair(&mut columns.reverses, &columns.rows, at);
         }
         Change::Remove { from, local } => {
-            unpair(reverses, rows, *from, *local);
-            let place = remove(rows, *from, *local);
-            remove_end(ends, place);
-            remove_reverse(reverses, place);
+            unpair(&mut columns.reverses, &columns.rows, *from, *local);
+            let place = remove(&mut columns.rows, *from, *local);
+            remove_end(&mut columns.ends, place);
+            remove_reverse(&mut columns.reverses, place);
         }
         Change::Node { .. } => {}
     }
 }
 
-/// Makes the removals among the changes.
-fn remove_rows(
-    rows: &mut Vec<Link>,
-    ends: &mut Vec<u16>,
-    reverses: &mut Vec<u16>,
-    routers: &[Addr],
-    changes: &[Change],
-)
-    requires rows { AreRowsWithEnds rows.old routers.now ends.old }
-    requires reverses { AreReversesOf rows.old.items reverses.old }
-    requires known { All (HasListedEnds routers.now) changes.now }
-    ensures changed { database_of rows.new.items
-        ≡ all_relinked (database_of rows.old.items) (filter removes_link changes.now) }
-    ensures rows { AreRowsWithEnds rows.new routers.now ends.new }
-    ensures reverses { AreReversesOf rows.new.items reverses.new }
+/// Makes changes one by one. They put links between listed routers alone.
+fn change_rows(columns: &mut Columns, changes: &[Change])
+    requires paired { ArePaired columns.old }
+    requires room { length columns.old.rows.items + length changes.now ≤ ROOM_FOR_LINKS }
+    requires known { All (HasListedEnds columns.old.routers.items) changes.now }
+    ensures changed { database_of columns.new.rows.items
+        ≡ all_relinked (database_of columns.old.rows.items) changes.now }
+    ensures paired { ArePaired columns.new }
 {
     for change in changes {
-        if is_removal(change) {
-            change_one(rows, ends, reverses, routers, change);
-        }
+        change_one(columns, change);
     }
-}
-
-/// Makes the puts among the changes, where there is room for all of them.
-fn put_rows(
-    rows: &mut Vec<Link>,
-    ends: &mut Vec<u16>,
-    reverses: &mut Vec<u16>,
-    routers: &[Addr],
-    changes: &[Change],
-)
-    requires rows { AreRowsWithEnds rows.old routers.now ends.old }
-    requires reverses { AreReversesOf rows.old.items reverses.old }
-    requires fits { link_count
-        (all_relinked (database_of rows.old.items) (filter puts_link changes.now)) ≤ MOST_LINKS }
-    requires known { All (HasListedEnds routers.now) changes.now }
-    ensures changed { database_of rows.new.items
-        ≡ all_relinked (database_of rows.old.items) (filter puts_link changes.now) }
-    ensures rows { AreRowsWithEnds rows.new routers.now ends.new }
-    ensures reverses { AreReversesOf rows.new.items reverses.new }
-{
-    for change in changes {
-        if !is_removal(change) {
-            change_one(rows, ends, reverses, routers, change);
-        }
-    }
-}
-
-/// Makes changes on distinct keys one by one, the removals first, so that the rows are never more
-/// than a table may have. They put links between known routers alone.
-fn change_rows(
-    rows: &mut Vec<Link>,
-    ends: &mut Vec<u16>,
-    reverses: &mut Vec<u16>,
-    routers: &[Addr],
-    changes: &[Change],
-)
-    requires rows { AreRowsWithEnds rows.old routers.now ends.old }
-    requires reverses { AreReversesOf rows.old.items reverses.old }
-    requires changes { AreChangesFor (database_of rows.old.items) routers.now changes.now }
-    ensures changed { database_of rows.new.items
-        ≡ all_relinked (database_of rows.old.items) changes.now }
-    ensures rows { AreRowsWithEnds rows.new routers.now ends.new }
-    ensures reverses { AreReversesOf rows.new.items reverses.new }
-{
-    remove_rows(rows, ends, reverses, routers, changes);
-    put_rows(rows, ends, reverses, routers, changes);
 }
 
 /// How many rows may be put between others or taken out one by one, as each moves those after it.
@@ -147,60 +85,77 @@ fn move_few(added: usize, changes: &[Change]) -> bool
 /// Makes changes on distinct keys, with the column of ends, and says whether that of reverses
 /// follows. They put links between listed routers alone.
 fn change_with_ends(
-    rows: &mut Vec<Link>,
-    ends: &mut Vec<u16>,
-    reverses: &mut Vec<u16>,
+    columns: &mut Columns,
     scratch: &mut Scratch,
-    routers: &[Addr],
     changes: &[Change],
     added: usize,
 ) -> bool
-    requires rows { AreRowsWithEnds rows.old routers.now ends.old }
-    requires reverses { AreReversesOf rows.old.items reverses.old }
+    requires paired { ArePaired columns.old }
+    requires most { length columns.old.rows.items ≤ MOST_LINKS }
     requires short { length changes.now ≤ MOST_CHANGES }
-    requires added { added ≡ count_by (adds_link (database_of rows.old.items)) changes.now }
-    requires changes { AreChangesFor (database_of rows.old.items) routers.now changes.now }
-    ensures changed { database_of rows.new.items
-        ≡ all_relinked (database_of rows.old.items) changes.now }
-    ensures rows { AreRowsWithEnds rows.new routers.now ends.new }
-    ensures reverses { result ≡ true → AreReversesOf rows.new.items reverses.new }
-    ensures room { ROOM_FOR_LINKS ≤ vec_capacity reverses.new }
+    requires added { added ≡ count_by (adds_link (database_of columns.old.rows.items)) changes.now }
+    requires once { AreOnceEach changes.now }
+    requires known { All (HasListedEnds columns.old.routers.items) changes.now }
+    ensures changed { database_of columns.new.rows.items
+        ≡ all_relinked (database_of columns.old.rows.items) changes.now }
+    ensures tied { AreTiedColumns columns.new }
+    ensures reverses { result ≡ true
+        → AreReversesBut no_key columns.new.rows.items columns.new.reverses.items }
 {
     if move_few(added, changes) {
-        change_rows(rows, ends, reverses, routers, changes);
+        change_rows(columns, changes);
         return true;
     }
-    scratch.change(rows, ends, routers, changes);
+    scratch.change(columns, changes);
     false
 }
 
 /// Makes the changes of a batch that fits, with what they do to the rows, and says whether the column
 /// of reverses follows.
 pub(super) fn change_table(
-    rows: &mut Vec<Link>,
-    routers: &mut Vec<Addr>,
-    ends: &mut Vec<u16>,
-    reverses: &mut Vec<u16>,
+    columns: &mut Columns,
     scratch: &mut Scratch,
     changes: &[Change],
     tally: Tally,
 ) -> bool
-    requires parts { AreRowParts rows.old routers.old ends.old }
-    requires reverses { AreReversesOf rows.old.items reverses.old }
-    requires added { tally.added ≡ count_by (adds_link (database_of rows.old.items)) changes.now }
-    requires listed { tally.brought ≡ 0 → All (HasListedEnds routers.old.items) changes.now }
+    requires columns { AreColumns columns.old }
+    requires added { tally.added
+        ≡ count_by (adds_link (database_of columns.old.rows.items)) changes.now }
+    requires listed { tally.brought ≡ 0
+        → All (HasListedEnds columns.old.routers.items) changes.now }
     requires short { length changes.now ≤ MOST_CHANGES }
     requires once { AreOnceEach changes.now }
-    requires links { link_count (all_relinked (database_of rows.old.items) changes.now) ≤ MOST_LINKS }
-    requires few { router_count (all_relinked (database_of rows.old.items) changes.now) ≤ MOST_ROUTERS }
-    ensures changed { database_of rows.new.items
-        ≡ all_relinked (database_of rows.old.items) changes.now }
-    ensures parts { AreRowParts rows.new routers.new ends.new }
-    ensures reverses { result ≡ true → AreReversesOf rows.new.items reverses.new }
-    ensures room { ROOM_FOR_LINKS ≤ vec_capacity reverses.new }
+    requires links { link_count (all_relinked (database_of columns.old.rows.items) changes.now)
+        ≤ MOST_LINKS }
+    requires few { router_count (all_relinked (database_of columns.old.rows.items) changes.now)
+        ≤ MOST_ROUTERS }
+    ensures changed { database_of columns.new.rows.items
+        ≡ all_relinked (database_of columns.old.rows.items) changes.now }
+    ensures parts { AreRowParts columns.new }
+    ensures reverses { result ≡ true
+        → AreReversesBut no_key columns.new.rows.items columns.new.reverses.items }
 {
-    scratch.add_routers(routers, ends, changes, tally.brought);
-    let follows = change_with_ends(rows, ends, reverses, scratch, routers, changes, tally.added);
-    scratch.drop_routers(routers, ends, rows);
+    scratch.add_routers(columns, changes, tally.brought);
+    let follows = change_with_ends(columns, scratch, changes, tally.added);
+    scratch.drop_routers(columns);
     follows
+}
+
+/// Lists where the rows from each router are, and the reverses if their column doesn't follow.
+pub(super) fn list_beside(columns: &mut Columns, follows: bool)
+    requires parts { AreRowParts columns.old }
+    requires reverses { follows ≡ true
+        → AreReversesBut no_key columns.old.rows.items columns.old.reverses.items }
+    ensures columns { AreColumns columns.new }
+    ensures rows { columns.new.rows.items ≡ columns.old.rows.items }
+{
+    list_spans(&mut columns.spans, &columns.routers, &columns.rows);
+    if !follows {
+        list_reverses(
+            &mut columns.reverses,
+            &columns.rows,
+            &columns.ends,
+            &columns.spans,
+        );
+    }
 }

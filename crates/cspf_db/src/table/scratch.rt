@@ -1,11 +1,12 @@
 //! The room in which a batch's changes are made, which the table takes once, when it is made.
 
-ghost use Rattle.std.specs.Prelude.{◌≡◌, ◌<◌, ◌≤◌, All, Contains, length, map, slice_index, vec_len};
+ghost use Rattle.std.specs.Prelude.{◌≡◌, ◌≤◌, All, length};
 ghost use Rattle.std.specs.Vec.{vec_capacity};
 ghost use Rattle.cspf_model.specs.declared.limits.TheConstants.{MOST_CHANGES, MOST_LINKS, MOST_ROUTERS};
 ghost use Rattle.cspf_db.specs.declared.limits.TheConstants.{ROOM_FOR_LINKS, ROOM_FOR_ROUTERS};
 
 use crate::limits::{ROOM_FOR_LINKS, ROOM_FOR_ROUTERS};
+use crate::table::columns::Columns;
 use crate::table::columns::ends::move_ends;
 use crate::table::columns::renumbering::{keep_ends, list_places};
 use crate::table::columns::routers::add_ends;
@@ -44,12 +45,11 @@ fn copy_routers(listed: &mut Vec<Addr>, routers: &[Addr])
 }
 
 impl Scratch {
-    ghost use Rattle.cspf_model.specs.Database.{link_count};
     ghost use Rattle.cspf_model.specs.Lemmas.LinkChanges.{all_relinked};
     ghost use Rattle.cspf_model.specs.Lemmas.CountedEnds.{HasListedEnds};
-    ghost use Rattle.cspf_model.specs.Lemmas.LinkRows.{database_of, AreByKey};
-    ghost use Rattle.cspf_db.specs.Tables.Rows.{AreRising, IsEndColumn, AreEndsOf, AreRoutersOf, AreRowsWithEnds};
-    ghost use Rattle.cspf_db.specs.Tables.RowChanges.{AreChangesFor};
+    ghost use Rattle.cspf_model.specs.Lemmas.LinkRows.{database_of};
+    ghost use Rattle.cspf_db.specs.Tables.Rows.{AreEndsOf, AreTiedColumns, HaveRoom};
+    ghost use Rattle.cspf_db.specs.Index.{router_list};
     ghost use Rattle.cspf_model.specs.Refusals.{AreOnceEach};
 
     /// Room for the rows of a full table and a batch.
@@ -66,19 +66,15 @@ impl Scratch {
 
     /// Makes changes on distinct keys, however many rows they move, with the column of ends. They
     /// put links between listed routers alone. It takes no memory.
-    pub(super) fn change(
-        &mut self,
-        rows: &mut Vec<Link>,
-        ends: &mut Vec<u16>,
-        routers: &[Addr],
-        changes: &[Change],
-    )
-        requires rows { AreRowsWithEnds rows.old routers.now ends.old }
+    pub(super) fn change(&mut self, columns: &mut Columns, changes: &[Change])
+        requires tied { AreTiedColumns columns.old }
+        requires most { length columns.old.rows.items ≤ MOST_LINKS }
         requires short { length changes.now ≤ MOST_CHANGES }
-        requires changes { AreChangesFor (database_of rows.old.items) routers.now changes.now }
-        ensures changed { database_of rows.new.items
-            ≡ all_relinked (database_of rows.old.items) changes.now }
-        ensures rows { AreRowsWithEnds rows.new routers.now ends.new }
+        requires once { AreOnceEach changes.now }
+        requires known { All (HasListedEnds columns.old.routers.items) changes.now }
+        ensures changed { database_of columns.new.rows.items
+            ≡ all_relinked (database_of columns.old.rows.items) changes.now }
+        ensures tied { AreTiedColumns columns.new }
     {
         sort_changes(&mut self.order, &mut self.sorted, changes);
         self.merged.clear();
@@ -86,71 +82,58 @@ impl Scratch {
         merge(
             &mut self.merged,
             &mut self.ends,
-            rows,
-            ends,
-            routers,
+            &columns.rows,
+            &columns.ends,
+            &columns.routers,
             &self.sorted,
         );
-        swap(rows, &mut self.merged);
-        swap(ends, &mut self.ends);
+        swap(&mut columns.rows, &mut self.merged);
+        swap(&mut columns.ends, &mut self.ends);
     }
 
     /// Lists the ends of the links that the changes put, those that aren't listed, where there are
     /// any. The column of ends says of the rows what it said.
-    pub(super) fn add_routers(
-        &mut self,
-        routers: &mut Vec<Addr>,
-        ends: &mut Vec<u16>,
-        changes: &[Change],
-        brought: usize,
-    )
-        requires listed { brought ≡ 0 → All (HasListedEnds routers.old.items) changes.now }
-        requires rising { AreRising routers.old.items }
-        requires few { vec_len routers.old ≤ MOST_ROUTERS }
+    pub(super) fn add_routers(&mut self, columns: &mut Columns, changes: &[Change], brought: usize)
+        requires listed { brought ≡ 0
+            → All (HasListedEnds columns.old.routers.items) changes.now }
+        requires tied { AreTiedColumns columns.old }
+        requires few { length columns.old.routers.items ≤ MOST_ROUTERS }
         requires short { length changes.now ≤ MOST_CHANGES }
-        requires room { ROOM_FOR_ROUTERS ≤ vec_capacity routers.old }
-        requires within { All (λ end. end < length routers.old.items) ends.old.items }
-        ensures listed { All (HasListedEnds routers.new.items) changes.now }
-        ensures kept { All (Contains routers.new.items) routers.old.items }
-        ensures rising { AreRising routers.new.items }
-        ensures few { vec_len routers.new ≤ ROOM_FOR_ROUTERS }
-        ensures room { ROOM_FOR_ROUTERS ≤ vec_capacity routers.new }
-        ensures within { All (λ end. end < length routers.new.items) ends.new.items }
-        ensures same { map (λ end. slice_index routers.new.items end) ends.new.items
-            ≡ map (λ end. slice_index routers.old.items end) ends.old.items }
-        ensures capacity_of_ends { vec_capacity ends.old ≤ vec_capacity ends.new }
+        ensures listed { All (HasListedEnds columns.new.routers.items) changes.now }
+        ensures tied { AreTiedColumns columns.new }
+        ensures rows { columns.new.rows.items ≡ columns.old.rows.items }
+        ensures reverses { columns.new.reverses.items ≡ columns.old.reverses.items }
     {
         if brought == 0 {
             return;
         }
-        copy_routers(&mut self.listed, routers);
+        copy_routers(&mut self.listed, &columns.routers);
         add_ends(&mut self.listed, changes);
-        list_places(&mut self.places, routers, &self.listed);
-        move_ends(ends, &self.places);
-        swap(routers, &mut self.listed);
+        list_places(&mut self.places, &columns.routers, &self.listed);
+        move_ends(&mut columns.ends, &self.places);
+        swap(&mut columns.routers, &mut self.listed);
     }
 
     /// Drops the routers that are no end of a row. The column of ends follows.
-    pub(super) fn drop_routers(
-        &mut self,
-        routers: &mut Vec<Addr>,
-        ends: &mut Vec<u16>,
-        rows: &[Link],
-    )
-        requires by_key { AreByKey rows.now }
-        requires rising { AreRising routers.old.items }
-        requires few { vec_len routers.old ≤ ROOM_FOR_ROUTERS }
-        requires room { ROOM_FOR_ROUTERS ≤ vec_capacity routers.old }
-        requires column { IsEndColumn rows.now routers.old.items ends.old.items }
-        ensures routers { AreRoutersOf rows.now routers.new }
-        ensures ends { AreEndsOf rows.now routers.new.items ends.new.items }
-        ensures capacity_of_ends { vec_capacity ends.old ≤ vec_capacity ends.new }
+    pub(super) fn drop_routers(&mut self, columns: &mut Columns)
+        requires tied { AreTiedColumns columns.old }
+        ensures room { HaveRoom columns.new }
+        ensures all { columns.new.routers.items ≡ router_list (database_of columns.old.rows.items) }
+        ensures ends { AreEndsOf columns.old.rows.items columns.new.routers.items columns.new.ends.items }
+        ensures rows { columns.new.rows.items ≡ columns.old.rows.items }
+        ensures reverses { columns.new.reverses.items ≡ columns.old.reverses.items }
     {
-        keep_ends(&mut self.listed, &mut self.places, routers, ends, rows);
-        if self.listed.len() == routers.len() {
+        keep_ends(
+            &mut self.listed,
+            &mut self.places,
+            &columns.routers,
+            &columns.ends,
+            &columns.rows,
+        );
+        if self.listed.len() == columns.routers.len() {
             return;
         }
-        move_ends(ends, &self.places);
-        swap(routers, &mut self.listed);
+        move_ends(&mut columns.ends, &self.places);
+        swap(&mut columns.routers, &mut self.listed);
     }
 }

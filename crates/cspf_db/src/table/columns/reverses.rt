@@ -4,11 +4,10 @@ ghost use Rattle.std.specs.Vec.{vec_capacity};
 ghost use Rattle.std.specs.List.{HoldsAt, insert, remove as without};
 ghost use Rattle.cspf_model.specs.declared.link.Link.{Link as Linked};
 ghost use Rattle.cspf_model.specs.Database.{key_of};
-ghost use Rattle.cspf_model.specs.declared.limits.TheConstants.{MOST_LINKS};
 ghost use Rattle.cspf_db.specs.declared.limits.TheConstants.{NO_LINK, ROOM_FOR_LINKS};
 ghost use Rattle.cspf_model.specs.Lemmas.LinkRows.{AreByKey};
 ghost use Rattle.cspf_db.specs.Tables.Rows.{AreSpansAtEnds, IsSpanOf};
-ghost use Rattle.cspf_db.specs.Tables.Reverses.{AreReversesBut, AreReversesOf, IsIndexOfReverse, index_before, index_behind, no_key, same_key};
+ghost use Rattle.cspf_db.specs.Tables.Reverses.{AreReversesBut, IsIndexOfReverse, index_before, index_behind, no_key, same_key};
 
 use crate::limits::NO_LINK;
 use crate::table::columns::rows::index_of;
@@ -20,7 +19,7 @@ use cspf_model::Link;
 /// The index, if the row there is the reverse of the link, which has the key of its reverse.
 fn index_back(rows: &[Link], at: usize, link: &Link) -> u16
     requires by_key { AreByKey rows.now }
-    requires most { length rows.now ≤ MOST_LINKS }
+    requires most { length rows.now ≤ ROOM_FOR_LINKS }
     requires within { at < length rows.now }
     requires key { HoldsAt (λ l. key_of l ≡ (link.now.to, link.now.remote)) rows.now at }
     ensures { IsIndexOfReverse no_key rows.now link.now result }
@@ -35,7 +34,7 @@ fn index_back(rows: &[Link], at: usize, link: &Link) -> u16
 /// The index of the row that is the reverse of the link, if there is one.
 pub(crate) fn reverse_index(rows: &[Link], link: &Link) -> u16
     requires by_key { AreByKey rows.now }
-    requires most { length rows.now ≤ MOST_LINKS }
+    requires most { length rows.now ≤ ROOM_FOR_LINKS }
     ensures { IsIndexOfReverse no_key rows.now link.now result }
 {
     let Some(at) = index_of(rows, link.to, link.remote) else {
@@ -47,7 +46,7 @@ pub(crate) fn reverse_index(rows: &[Link], link: &Link) -> u16
 /// The index of the reverse, where the span of the router that the link runs to is known.
 fn reverse_within(rows: &[Link], span: &Span, link: &Link) -> u16
     requires by_key { AreByKey rows.now }
-    requires most { length rows.now ≤ MOST_LINKS }
+    requires most { length rows.now ≤ ROOM_FOR_LINKS }
     requires span { IsSpanOf rows.now link.now.to span.now }
     ensures { IsIndexOfReverse no_key rows.now link.now result }
 {
@@ -61,11 +60,12 @@ fn reverse_within(rows: &[Link], span: &Span, link: &Link) -> u16
 /// Lists where the reverse of each row is.
 pub(crate) fn list_reverses(reverses: &mut Vec<u16>, rows: &[Link], ends: &[u16], spans: &[Span])
     requires by_key { AreByKey rows.now }
-    requires most { length rows.now ≤ MOST_LINKS }
+    requires most { length rows.now ≤ ROOM_FOR_LINKS }
     requires ends { length ends.now ≡ length rows.now }
     requires spans { AreSpansAtEnds rows.now ends.now spans.now }
     requires room { ROOM_FOR_LINKS ≤ vec_capacity reverses.old }
-    ensures { AreReversesOf rows.now reverses.new }
+    ensures column { AreReversesBut no_key rows.now reverses.new.items }
+    ensures room { ROOM_FOR_LINKS ≤ vec_capacity reverses.new }
 {
     reverses.clear();
     for (at, link) in rows.iter().enumerate() {
@@ -77,7 +77,7 @@ pub(crate) fn list_reverses(reverses: &mut Vec<u16>, rows: &[Link], ends: &[u16]
 /// Parts the row with this key, if there is one, from its reverse.
 pub(crate) fn unpair(reverses: &mut [u16], rows: &[Link], from: Addr, local: Addr)
     requires by_key { AreByKey rows.now }
-    requires most { length rows.now ≤ MOST_LINKS }
+    requires most { length rows.now ≤ ROOM_FOR_LINKS }
     requires before { AreReversesBut no_key rows.now reverses.old }
     ensures after { AreReversesBut (same_key (from, local)) rows.now reverses.new }
 {
@@ -95,7 +95,7 @@ pub(crate) fn unpair(reverses: &mut [u16], rows: &[Link], from: Addr, local: Add
 /// Pairs the row at an index with its reverse, if there is one.
 pub(crate) fn pair(reverses: &mut [u16], rows: &[Link], at: usize)
     requires by_key { AreByKey rows.now }
-    requires most { length rows.now ≤ MOST_LINKS }
+    requires most { length rows.now ≤ ROOM_FOR_LINKS }
     requires within { at < length rows.now }
     requires before { (d : Linked) → AreReversesBut (same_key (key_of (slice_index_or rows.now at d))) rows.now reverses.old }
     ensures after { AreReversesBut no_key rows.now reverses.new }
@@ -151,7 +151,7 @@ fn move_before(reverses: &mut [u16], at: usize)
 /// Puts no reverse for the row that was put between others, and says at which index the row that was
 /// put is. There is room, so this takes no memory and can't fail.
 pub(crate) fn put_reverse(reverses: &mut Vec<u16>, place: Result<usize, usize>) -> usize
-    requires few { vec_len reverses.old ≤ MOST_LINKS }
+    requires few { vec_len reverses.old ≤ ROOM_FOR_LINKS }
     requires upto { IfErr place (λ at. at ≤ length reverses.old.items) }
     requires room { vec_len reverses.old < vec_capacity reverses.old }
     ensures over { IfOk place (λ at. (result ≡ at) × (reverses.new.items ≡ reverses.old.items)) }

@@ -2,13 +2,13 @@
 ghost use Rattle.std.specs.Prelude.{◌≡◌, ℕ, ◌<◌, ◌&&◌, true, false, filter, length, nat_eq, slice_index, slice_index_or};
 ghost use Rattle.std.specs.List.{list_any};
 ghost use Rattle.cspf_model.specs.declared.link.Link.{Link as Linked};
-ghost use Rattle.cspf_db.specs.Index.{router_list};
 ghost use Rattle.cspf_model.specs.Lemmas.GoneRouters.{HasGone, IsGone};
-ghost use Rattle.cspf_model.specs.Lemmas.LinkRows.{database_of, AreByKey};
-ghost use Rattle.cspf_db.specs.Tables.Rows.{AreEndsOf};
+ghost use Rattle.cspf_model.specs.Lemmas.LinkRows.{AreByKey};
+ghost use Rattle.cspf_db.specs.Tables.Rows.{AreColumns};
 ghost use Rattle.cspf_model.specs.Lemmas.RowsLeft.{is_untouched};
 
 use crate::table::changes::{any_puts_at, is_untouched};
+use crate::table::columns::Columns;
 use crate::table::columns::routers::search;
 use crate::table::columns::rows::{index_of, span};
 use cspf_addr::Addr;
@@ -55,53 +55,43 @@ fn any_left_to(rows: &[Link], ends: &[u16], changes: &[Change], place: usize) ->
 }
 
 /// Whether no link ends after the changes at the router at an index.
-fn is_gone(rows: &[Link], routers: &[Addr], ends: &[u16], changes: &[Change], place: usize) -> bool
-    requires by_key { AreByKey rows.now }
-    requires all { routers.now ≡ router_list (database_of rows.now) }
-    requires ends { AreEndsOf rows.now routers.now ends.now }
-    requires within { place < length routers.now }
-    ensures { result ≡ true → IsGone rows.now changes.now (slice_index routers.now place) }
+fn is_gone(columns: &Columns, changes: &[Change], place: usize) -> bool
+    requires columns { AreColumns columns.now }
+    requires within { place < length columns.now.routers.items }
+    ensures { result ≡ true → IsGone columns.now.rows.items changes.now (slice_index columns.now.routers.items place) }
 {
-    let router = routers[place];
-    if any_puts_at(changes, router) || any_left_from(rows, changes, router) {
+    let router = columns.routers[place];
+    if any_puts_at(changes, router) || any_left_from(&columns.rows, changes, router) {
         return false;
     }
-    !any_left_to(rows, ends, changes, place)
+    !any_left_to(&columns.rows, &columns.ends, changes, place)
 }
 
 /// Whether a router goes from which or to which the row ran that the change is on, if there is one.
-fn takes_one(
-    rows: &[Link],
-    routers: &[Addr],
-    ends: &[u16],
-    changes: &[Change],
-    change: &Change,
-) -> bool
-    requires by_key { AreByKey rows.now }
-    requires all { routers.now ≡ router_list (database_of rows.now) }
-    requires ends { AreEndsOf rows.now routers.now ends.now }
-    ensures { result ≡ true → HasGone rows.now routers.now changes.now }
+fn takes_one(columns: &Columns, changes: &[Change], change: &Change) -> bool
+    requires columns { AreColumns columns.now }
+    ensures { result ≡ true → HasGone columns.now.rows.items columns.now.routers.items changes.now }
 {
     let (from, Some(local)) = change.key() else {
         return false;
     };
-    let (Some(at), Ok(place)) = (index_of(rows, from, local), search(routers, from)) else {
+    let (Some(at), Ok(place)) = (
+        index_of(&columns.rows, from, local),
+        search(&columns.routers, from),
+    ) else {
         return false;
     };
-    is_gone(rows, routers, ends, changes, place)
-        || is_gone(rows, routers, ends, changes, usize::from(ends[at]))
+    is_gone(columns, changes, place) || is_gone(columns, changes, usize::from(columns.ends[at]))
 }
 
 /// Whether a router goes with the changes. Looked at are those from which or to which a row ran that
 /// a change is on.
-pub(super) fn any_goes(rows: &[Link], routers: &[Addr], ends: &[u16], changes: &[Change]) -> bool
-    requires by_key { AreByKey rows.now }
-    requires all { routers.now ≡ router_list (database_of rows.now) }
-    requires ends { AreEndsOf rows.now routers.now ends.now }
-    ensures { result ≡ true → HasGone rows.now routers.now changes.now }
+pub(super) fn any_goes(columns: &Columns, changes: &[Change]) -> bool
+    requires columns { AreColumns columns.now }
+    ensures { result ≡ true → HasGone columns.now.rows.items columns.now.routers.items changes.now }
 {
     for change in changes {
-        if takes_one(rows, routers, ends, changes, change) {
+        if takes_one(columns, changes, change) {
             return true;
         }
     }

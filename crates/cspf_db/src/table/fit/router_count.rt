@@ -3,21 +3,20 @@ ghost use Rattle.std.specs.Prelude.{◌≡◌, ◌+◌, ◌*◌, ◌<◌, ◌≤
 ghost use Rattle.std.specs.Bool.{OnTrue, OnFalse};
 ghost use Rattle.std.specs.FinSet as set;
 ghost use Rattle.cspf_model.specs.Database.{router_count};
-ghost use Rattle.cspf_db.specs.Index.{router_list};
 ghost use Rattle.cspf_model.specs.Lemmas.LinkChanges.{all_relinked};
-ghost use Rattle.cspf_model.specs.Lemmas.LinkRows.{database_of, AreByKey};
-ghost use Rattle.cspf_db.specs.Tables.Rows.{AreEndsOf};
+ghost use Rattle.cspf_model.specs.Lemmas.LinkRows.{database_of};
+ghost use Rattle.cspf_db.specs.Tables.Rows.{AreColumns};
 ghost use Rattle.cspf_model.specs.Lemmas.RowsLeft.{is_untouched, rows_untouched, links_put};
 ghost use Rattle.cspf_model.specs.Lemmas.CountedEnds.{with_ends, BringsAtMost};
 ghost use Rattle.cspf_model.specs.Refusals.{AreOnceEach};
 ghost use Rattle.cspf_model.specs.declared.limits.TheConstants.{MOST_CHANGES};
 
 use crate::table::changes::is_untouched;
+use crate::table::columns::Columns;
 use crate::table::fit::leaving::any_goes;
 use crate::table::fit::repeats::FEW;
 use crate::table::fit::router_set::Routers;
 use crate::table::fit::tally::count_brought;
-use cspf_addr::Addr;
 use cspf_model::{Change, Link, MOST_ROUTERS};
 
 /// Adds the ends of the rows that the changes leave alone. It is false where there would be more
@@ -61,46 +60,34 @@ fn add_puts(routers: &mut Routers, changes: &[Change]) -> bool
 
 /// Whether it is plain that there are at most 1,024 routers after the changes. They bring no more
 /// than that, each counted once, or one too many while another goes.
-fn fit_by_one(rows: &[Link], routers: &[Addr], ends: &[u16], changes: &[Change]) -> bool
-    requires by_key { AreByKey rows.now }
-    requires all { routers.now ≡ router_list (database_of rows.now) }
-    requires ends { AreEndsOf rows.now routers.now ends.now }
-    requires few { router_count (database_of rows.now) ≤ MOST_ROUTERS }
+fn fit_by_one(columns: &Columns, changes: &[Change]) -> bool
+    requires columns { AreColumns columns.now }
     requires short { length changes.now ≤ MOST_CHANGES }
     requires once { AreOnceEach changes.now }
     ensures { result ≡ true
-        → router_count (all_relinked (database_of rows.now) changes.now) ≤ MOST_ROUTERS }
+        → router_count (all_relinked (database_of columns.now.rows.items) changes.now) ≤ MOST_ROUTERS }
 {
-    let many = routers.len() + count_brought(routers, changes);
-    many <= MOST_ROUTERS || many == MOST_ROUTERS + 1 && any_goes(rows, routers, ends, changes)
+    let many = columns.routers.len() + count_brought(&columns.routers, changes);
+    many <= MOST_ROUTERS || many == MOST_ROUTERS + 1 && any_goes(columns, changes)
 }
 
 /// Whether there are more than 1,024 routers after the changes, which bring some. Where they bring
 /// few enough, or few changes bring one while another goes, the ends of the rows need no count.
-pub(super) fn has_too_many_routers(
-    rows: &[Link],
-    routers: &[Addr],
-    ends: &[u16],
-    changes: &[Change],
-    brought: usize,
-) -> bool
-    requires by_key { AreByKey rows.now }
-    requires all { routers.now ≡ router_list (database_of rows.now) }
-    requires ends { AreEndsOf rows.now routers.now ends.now }
-    requires few { router_count (database_of rows.now) ≤ MOST_ROUTERS }
+pub(super) fn has_too_many_routers(columns: &Columns, changes: &[Change], brought: usize) -> bool
+    requires columns { AreColumns columns.now }
     requires short { length changes.now ≤ MOST_CHANGES }
     requires once { AreOnceEach changes.now }
     requires few_brought { brought ≤ 2 * length changes.now }
-    requires brought { BringsAtMost routers.now changes.now brought }
+    requires brought { BringsAtMost columns.now.routers.items changes.now brought }
     ensures { IsTrue result
-        ↔ MOST_ROUTERS < router_count (all_relinked (database_of rows.now) changes.now) }
+        ↔ MOST_ROUTERS < router_count (all_relinked (database_of columns.now.rows.items) changes.now) }
 {
-    if routers.len() + brought <= MOST_ROUTERS {
+    if columns.routers.len() + brought <= MOST_ROUTERS {
         return false;
     }
-    if changes.len() <= FEW && fit_by_one(rows, routers, ends, changes) {
+    if changes.len() <= FEW && fit_by_one(columns, changes) {
         return false;
     }
     let mut found = Routers::new();
-    !(add_puts(&mut found, changes) && add_rows(&mut found, rows, changes))
+    !(add_puts(&mut found, changes) && add_rows(&mut found, &columns.rows, changes))
 }

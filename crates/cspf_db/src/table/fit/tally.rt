@@ -1,18 +1,18 @@
 //! What the changes of a batch do to the rows and to the number of routers, by one search for each.
 ghost use Rattle.std.specs.Prelude.{count_by, ◌≡◌, ◌*◌, ◌<◌, ◌≤◌, ◌⊎◌, cond, true, [], ◌∷◌, All, Contains, length, IfOk, IfErr, IfSome, IfNone};
 ghost use Rattle.std.specs.List.{HoldsAt, AllWithin, list_any};
-ghost use Rattle.cspf_db.specs.Index.{router_list};
 ghost use Rattle.cspf_model.specs.Changes.{IsPresent};
 ghost use Rattle.cspf_db.specs.Tables.AlikeChanges.{IsAlike};
 ghost use Rattle.cspf_model.specs.Lemmas.CountedEnds.{HasListedEnds, BringsAtMost, BringsBeside};
 ghost use Rattle.cspf_model.specs.Lemmas.GoneRouters.{puts_at};
 ghost use Rattle.cspf_model.specs.Refusals.{RemovesNothing};
-ghost use Rattle.cspf_model.specs.Lemmas.LinkRows.{database_of, AreByKey};
-ghost use Rattle.cspf_db.specs.Tables.Rows.{AreRising};
+ghost use Rattle.cspf_model.specs.Lemmas.LinkRows.{database_of};
+ghost use Rattle.cspf_db.specs.Tables.Rows.{AreColumns, AreRising};
 ghost use Rattle.cspf_model.specs.Lemmas.RowsLeft.{adds_link};
 ghost use Rattle.cspf_model.specs.declared.limits.TheConstants.{MOST_CHANGES};
 
 use crate::table::changes::any_puts_at;
+use crate::table::columns::Columns;
 use crate::table::columns::routers::is_among;
 use crate::table::columns::rows::{index_of, is_alike};
 use cspf_addr::Addr;
@@ -41,66 +41,63 @@ fn count_new(routers: &[Addr], router: Addr) -> usize
 
 /// 0 where the router that the link runs to is among the routers, as it is where the row at the index
 /// runs to it too, and else 1.
-fn count_new_end(rows: &[Link], routers: &[Addr], at: usize, link: &Link) -> usize
-    requires by_key { AreByKey rows.now }
-    requires all { routers.now ≡ router_list (database_of rows.now) }
-    requires bound { at < length rows.now }
+fn count_new_end(columns: &Columns, at: usize, link: &Link) -> usize
+    requires columns { AreColumns columns.now }
+    requires bound { at < length columns.now.rows.items }
     ensures few { result ≤ 1 }
-    ensures none { result ≡ 0 → Contains routers.now link.now.to }
+    ensures none { result ≡ 0 → Contains columns.now.routers.items link.now.to }
 {
-    if rows[at].to == link.to {
+    if columns.rows[at].to == link.to {
         0
     } else {
-        count_new(routers, link.to)
+        count_new(&columns.routers, link.to)
     }
 }
 
 /// What a put does.
-fn tally_put(rows: &[Link], routers: &[Addr], link: &Link) -> Tally
-    requires by_key { AreByKey rows.now }
-    requires all { routers.now ≡ router_list (database_of rows.now) }
+fn tally_put(columns: &Columns, link: &Link) -> Tally
+    requires columns { AreColumns columns.now }
     ensures added { result.added
-        ≡ cond (adds_link (database_of rows.now) (Change.Put link.now)) 1 0 }
+        ≡ cond (adds_link (database_of columns.now.rows.items) (Change.Put link.now)) 1 0 }
     ensures one { result.added ≤ 1 }
     ensures few { result.brought ≤ 2 }
-    ensures most { BringsAtMost routers.now (Change.Put link.now ∷ []) result.brought }
-    ensures listed { result.brought ≡ 0 → HasListedEnds routers.now (Change.Put link.now) }
-    ensures alike { result.alike ≡ true → IsAlike rows.now (Change.Put link.now) }
+    ensures most { BringsAtMost columns.now.routers.items (Change.Put link.now ∷ []) result.brought }
+    ensures listed { result.brought ≡ 0 → HasListedEnds columns.now.routers.items (Change.Put link.now) }
+    ensures alike { result.alike ≡ true → IsAlike columns.now.rows.items (Change.Put link.now) }
 {
-    match index_of(rows, link.from, link.local) {
+    match index_of(&columns.rows, link.from, link.local) {
         Some(at) => Tally {
             added: 0,
-            brought: count_new_end(rows, routers, at, link),
-            alike: is_alike(rows, at, link),
+            brought: count_new_end(columns, at, link),
+            alike: is_alike(&columns.rows, at, link),
         },
         None => Tally {
             added: 1,
-            brought: count_new(routers, link.from) + count_new(routers, link.to),
+            brought: count_new(&columns.routers, link.from) + count_new(&columns.routers, link.to),
             alike: false,
         },
     }
 }
 
 /// What a change does. It is none where a link is removed that isn't there.
-fn tally_one(rows: &[Link], routers: &[Addr], change: &Change) -> Option<Tally>
-    requires by_key { AreByKey rows.now }
-    requires all { routers.now ≡ router_list (database_of rows.now) }
-    ensures absent { IfNone result (RemovesNothing (database_of rows.now) change.now) }
-    ensures present { IfSome result (λ _. IsPresent (database_of rows.now) change.now) }
+fn tally_one(columns: &Columns, change: &Change) -> Option<Tally>
+    requires columns { AreColumns columns.now }
+    ensures absent { IfNone result (RemovesNothing (database_of columns.now.rows.items) change.now) }
+    ensures present { IfSome result (λ _. IsPresent (database_of columns.now.rows.items) change.now) }
     ensures added { IfSome result (λ tally. tally.added
-        ≡ cond (adds_link (database_of rows.now) change.now) 1 0) }
+        ≡ cond (adds_link (database_of columns.now.rows.items) change.now) 1 0) }
     ensures one { IfSome result (λ tally. tally.added ≤ 1) }
     ensures few { IfSome result (λ tally. tally.brought ≤ 2) }
     ensures most { IfSome result
-        (λ tally. BringsAtMost routers.now (change.now ∷ []) tally.brought) }
+        (λ tally. BringsAtMost columns.now.routers.items (change.now ∷ []) tally.brought) }
     ensures listed { IfSome result
-        (λ tally. tally.brought ≡ 0 → HasListedEnds routers.now change.now) }
-    ensures alike { IfSome result (λ tally. tally.alike ≡ true → IsAlike rows.now change.now) }
+        (λ tally. tally.brought ≡ 0 → HasListedEnds columns.now.routers.items change.now) }
+    ensures alike { IfSome result (λ tally. tally.alike ≡ true → IsAlike columns.now.rows.items change.now) }
 {
     match change {
-        Change::Put(link) => Some(tally_put(rows, routers, link)),
+        Change::Put(link) => Some(tally_put(columns, link)),
         Change::Remove { from, local } => {
-            if index_of(rows, *from, *local).is_none() {
+            if index_of(&columns.rows, *from, *local).is_none() {
                 return None;
             }
             Some(Tally {
@@ -118,28 +115,27 @@ fn tally_one(rows: &[Link], routers: &[Addr], change: &Change) -> Option<Tally>
 }
 
 /// What the changes do. Else the index of the first removal of a link that isn't there.
-pub(super) fn tally_all(rows: &[Link], routers: &[Addr], changes: &[Change]) -> Result<Tally, usize>
-    requires by_key { AreByKey rows.now }
-    requires all { routers.now ≡ router_list (database_of rows.now) }
+pub(super) fn tally_all(columns: &Columns, changes: &[Change]) -> Result<Tally, usize>
+    requires columns { AreColumns columns.now }
     requires short { length changes.now ≤ MOST_CHANGES }
     ensures bound { IfErr result (λ at. at < length changes.now) }
-    ensures absent { IfErr result (HoldsAt (RemovesNothing (database_of rows.now)) changes.now) }
-    ensures before { IfErr result (AllWithin (IsPresent (database_of rows.now)) changes.now 0) }
-    ensures present { IfOk result (λ _. All (IsPresent (database_of rows.now)) changes.now) }
+    ensures absent { IfErr result (HoldsAt (RemovesNothing (database_of columns.now.rows.items)) changes.now) }
+    ensures before { IfErr result (AllWithin (IsPresent (database_of columns.now.rows.items)) changes.now 0) }
+    ensures present { IfOk result (λ _. All (IsPresent (database_of columns.now.rows.items)) changes.now) }
     ensures added { IfOk result (λ tally. tally.added
-        ≡ count_by (adds_link (database_of rows.now)) changes.now) }
+        ≡ count_by (adds_link (database_of columns.now.rows.items)) changes.now) }
     ensures few { IfOk result (λ tally. tally.brought ≤ 2 * length changes.now) }
-    ensures most { IfOk result (λ tally. BringsAtMost routers.now changes.now tally.brought) }
+    ensures most { IfOk result (λ tally. BringsAtMost columns.now.routers.items changes.now tally.brought) }
     ensures listed { IfOk result
-        (λ tally. tally.brought ≡ 0 → All (HasListedEnds routers.now) changes.now) }
+        (λ tally. tally.brought ≡ 0 → All (HasListedEnds columns.now.routers.items) changes.now) }
     ensures alike { IfOk result
-        (λ tally. tally.alike ≡ true → All (IsAlike rows.now) changes.now) }
+        (λ tally. tally.alike ≡ true → All (IsAlike columns.now.rows.items) changes.now) }
 {
     let mut added = 0;
     let mut brought = 0;
     let mut alike = true;
     for (at, change) in changes.iter().enumerate() {
-        let Some(one) = tally_one(rows, routers, change) else {
+        let Some(one) = tally_one(columns, change) else {
             return Err(at);
         };
         added += one.added;

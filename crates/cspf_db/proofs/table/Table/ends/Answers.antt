@@ -5,9 +5,9 @@ use Rattle.cspf_db.proofs.table.Table.ends.Goals as goal
 pub returns-clause-within : goal.returns-clause-within
 unfolding router_list
 returns-clause-within c =
-    rw (c.as_slice.ensures.value, ← c.self.view_is, ← c.self.invariant.parts.routers.all) c.self.invariant.parts.ends.within
+    rw (c.as_slice.ensures.value, ← c.self.view_is, ← c.self.invariant.columns.parts.all) c.self.invariant.columns.parts.ends.within
 
 pub returns-clause-each : goal.returns-clause-each
 unfolding router_list
 returns-clause-each c =
-    rw (c.as_slice.ensures.value, ← c.self.view_is, ← c.self.invariant.parts.routers.all, links_of-database_of _ c.self.invariant.parts.rows.by_key) c.self.invariant.parts.ends.each
+    rw (c.as_slice.ensures.value, ← c.self.view_is, ← c.self.invariant.columns.parts.all, links_of-database_of _ c.self.invariant.columns.parts.by_key) c.self.invariant.columns.parts.ends.each

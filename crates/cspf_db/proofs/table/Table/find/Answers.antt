@@ -9,4 +9,4 @@ returns-in_err-at c =
 pub returns : goal.returns
 returns c =
     let at = rw c.deref.ensures.value at c.in_ok-at.ensures in
-    rw (← c.self.view_is, link_at-row _ (own_keys _ c.self.invariant.parts.rows.by_key) _ c.in_ok-at.at c.index.result.now at.bound (at.some _), ← c.index.ensures)
+    rw (← c.self.view_is, link_at-row _ (own_keys _ c.self.invariant.columns.parts.by_key) _ c.in_ok-at.at c.index.result.now at.bound (at.some _), ← c.index.ensures)

@@ -14,15 +14,18 @@ invariant_of-result c =
     let m = c.in_ok-with_capacity-6.ensures in
     let u = c.in_ok-with_capacity-7.ensures in
     record {
-      parts = record {
-        rows = record { by_key = rw r.items refl; most = rw r.items (omega arith); routers = rw r.items (omega (arith, router_count-no_links)); room = omega (arith, r.exact) };
-        routers = record { all = rw (s.items, r.items) router_list-nil; room = omega (arith, s.exact) };
-        ends = record { within = rw e.items (All-nil _); each = rw (e.items, r.items) refl };
-        room = omega (arith, e.exact);
+      columns = record {
+        parts = record {
+          room = record { rows = omega (arith, r.exact); routers = omega (arith, s.exact); ends = omega (arith, e.exact); reverses = omega (arith, b.exact); spans = omega (arith, t.exact) };
+          by_key = rw r.items refl;
+          most = rw r.items (omega arith);
+          few = rw r.items (omega (arith, router_count-no_links));
+          all = rw (s.items, r.items) router_list-nil;
+          ends = record { within = rw e.items (All-nil _); each = rw (e.items, r.items) refl };
+        };
+        reverses = record { many = rw (b.items, r.items) refl; each = rw r.items (λ at d h. absurd (omega arith)) };
+        spans = record { many = rw (t.items, s.items) refl; each = rw s.items (λ at d h. absurd (omega arith)) };
       };
-      spans = record { many = rw (t.items, s.items) refl; each = rw s.items (λ at d h. absurd (omega arith)) };
-      room = omega (arith, t.exact);
-      reverses = record { column = record { many = rw (b.items, r.items) refl; each = rw r.items (λ at d h. absurd (omega arith)) }; room = omega (arith, b.exact) };
       marks = record { rising = rw m.items refl; most = rw m.items (omega arith); room = omega (arith, m.exact) };
       listed = rw (s.items, r.items) (router_list-nil ∙ routers_marked [] _);
       transits = record { many = rw (u.items, s.items) refl; each = rw s.items (λ at h. absurd (omega arith)) };

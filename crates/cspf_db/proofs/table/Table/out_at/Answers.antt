@@ -3,7 +3,7 @@ use Rattle.cspf_db.proofs.table.Table.out_at.Goals as goal
 
 pub returns : goal.returns
 returns c =
-    let parts = c.self.invariant.parts in
-    let part = span_at c.args.self.now c.self.inside.rows.items c.self.inside.marks.items c.self.inside.routers.items c.self.inside.spans.items c.args.at c.index-span.result.now c.self.view_is parts.rows.by_key parts.routers.all
-    c.self.invariant.spans c.requires c.index-span.ensures in
+    let parts = c.self.invariant.columns.parts in
+    let part = span_at c.args.self.now c.self.inside.columns.rows.items c.self.inside.marks.items c.self.inside.columns.routers.items c.self.inside.columns.spans.items c.args.at c.index-span.result.now c.self.view_is parts.by_key parts.all
+    c.self.invariant.columns.spans c.requires c.index-span.ensures in
     rw (c.deref.ensures.value, c.from.ensures, c.from-2.ensures) part

@@ -8,7 +8,7 @@ use Rattle.cspf_db.proofs.table.Table.owners.Goals as goal
 
 pub overflow_cast-at : goal.overflow_cast-at
 overflow_cast-at c =
-    let few : length c.self.inside.routers.items < 2 ^ 16 = omega (arith, ap length c.self.invariant.parts.routers.all, length-router_list (database_of c.self.inside.rows.items), c.self.invariant.parts.rows.routers) in
+    let few : length c.self.inside.columns.routers.items < 2 ^ 16 = omega (arith, ap length c.self.invariant.columns.parts.all, length-router_list (database_of c.self.inside.columns.rows.items), c.self.invariant.columns.parts.few) in
     omega (arith, few)
 
 pub loop-at-preserved : goal.loop-at-preserved

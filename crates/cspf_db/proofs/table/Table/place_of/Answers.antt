@@ -3,8 +3,8 @@ use Rattle.cspf_db.proofs.Tables.RouterLists.{rising-router_list, none_from_sear
 use Rattle.cspf_db.proofs.table.Table.place_of.Goals as goal
 
 pub search-requires : goal.search-requires
-search-requires c = rw (c.deref.ensures.value, c.self.invariant.parts.routers.all) (rising-router_list _)
+search-requires c = rw (c.deref.ensures.value, c.self.invariant.columns.parts.all) (rising-router_list _)
 
 pub returns-clause-none : goal.returns-clause-none
 returns-clause-none c =
-    rw (← c.self.view_is) (none_from_search _ c.args.router c.search.result _ (rows_keyed c.self.inside.rows.items) c.ok.ensures.value (rw (c.deref.ensures.value, c.self.invariant.parts.routers.all) at c.search.ensures.gap))
+    rw (← c.self.view_is) (none_from_search _ c.args.router c.search.result _ (rows_keyed c.self.inside.columns.rows.items) c.ok.ensures.value (rw (c.deref.ensures.value, c.self.invariant.columns.parts.all) at c.search.ensures.gap))

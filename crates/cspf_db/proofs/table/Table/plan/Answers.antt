@@ -2,15 +2,12 @@ use Rattle.cspf_model.proofs.Batches.LeastReasons.{refused_unfit}
 use Rattle.cspf_db.proofs.Tables.Plans.{plan_of_rows}
 use Rattle.cspf_db.proofs.table.Table.plan.Goals as goal
 
-pub fits-requires-clause-all : goal.fits-requires-clause-all
-fits-requires-clause-all c = rw (c.deref-2.ensures.value, c.deref.ensures.value) c.self.invariant.parts.routers.all
-
 pub returns-in-Ok-clause-ok : goal.returns-in-Ok-clause-ok
 returns-in-Ok-clause-ok c =
     let is = c.self.invariant in
-    let found = rw (c.deref.ensures.value, c.deref-2.ensures.value, c.deref-4.ensures.value) at c.in-Ok.ensures in
+    let found = rw c.deref.ensures.value at c.in-Ok.ensures in
     rw (← c.self.view_is)
-    (plan_of_rows c.self.inside.rows.items c.self.inside.marks.items is.parts.rows.by_key c.self.inside.routers.items is.parts.routers.all c.args.batch.now _ found.ok found.added found.listed found.alike)
+    (plan_of_rows c.self.inside.columns.rows.items c.self.inside.marks.items is.columns.parts.by_key c.self.inside.columns.routers.items is.columns.parts.all c.args.batch.now _ found.ok found.added found.listed found.alike)
 
 pub returns-in-Err-clause-unfit : goal.returns-in-Err-clause-unfit
-returns-in-Err-clause-unfit c = refused_unfit c.args.self.now c.args.batch.now c.in-Err.why (rw (c.deref.ensures.value, c.deref-4.ensures.value, c.self.view_is) at c.in-Err.ensures.err)
+returns-in-Err-clause-unfit c = refused_unfit c.args.self.now c.args.batch.now c.in-Err.why (rw (c.deref.ensures.value, c.self.view_is) at c.in-Err.ensures.err)

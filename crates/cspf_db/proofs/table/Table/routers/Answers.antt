@@ -3,10 +3,10 @@ use Rattle.cspf_db.proofs.Tables.RouterLists.{Contains-router_list, rising-route
 use Rattle.cspf_db.proofs.table.Table.routers.Goals as goal
 
 pub returns-clause-known : goal.returns-clause-known
-returns-clause-known c router = rw (c.as_slice.ensures.value, ← c.self.view_is, c.self.invariant.parts.routers.all) (Contains-router_list _ (rows_keyed c.self.inside.rows.items) router)
+returns-clause-known c router = rw (c.as_slice.ensures.value, ← c.self.view_is, c.self.invariant.columns.parts.all) (Contains-router_list _ (rows_keyed c.self.inside.columns.rows.items) router)
 
 pub returns-clause-rising : goal.returns-clause-rising
-returns-clause-rising c = rw (c.as_slice.ensures.value, c.self.invariant.parts.routers.all) (increasing _ (rising-router_list _))
+returns-clause-rising c = rw (c.as_slice.ensures.value, c.self.invariant.columns.parts.all) (increasing _ (rising-router_list _))
 
 pub returns-clause-few : goal.returns-clause-few
-returns-clause-few c = rw (c.as_slice.ensures.value, c.self.invariant.parts.routers.all, length-router_list) c.self.invariant.parts.rows.routers
+returns-clause-few c = rw (c.as_slice.ensures.value, c.self.invariant.columns.parts.all, length-router_list) c.self.invariant.columns.parts.few

@@ -20,7 +20,7 @@ returns-then-has_too_many_links-clause-err c =
     let changes = c.as_slice-changes.result.now in
     rw (← c.batch.view_is, ← c.as_slice-changes.ensures.value) (
       record { short = c.if-changes-gt-MOST_CHANGES.false; once = c.in_default.ensures.none; present = c.in-Ok.ensures.present },
-      subst (λ n. 16384 < n) (links_counted c.args.rows.now c.args.marks.now changes) (c.if-has_too_many_links.ensures.0 refl),
+      subst (λ n. 16384 < n) (links_counted c.args.columns.now.rows.items c.args.marks.now changes) (c.if-has_too_many_links.ensures.0 refl),
     )
 
 pub returns-then-has_too_many_routers-clause-err : goal.returns-then-has_too_many_routers-clause-err
@@ -28,8 +28,8 @@ returns-then-has_too_many_routers-clause-err c =
     let changes = c.as_slice-changes.result.now in
     rw (← c.batch.view_is, ← c.as_slice-changes.ensures.value) (
       record { short = c.if-changes-gt-MOST_CHANGES.false; once = c.in_default.ensures.none; present = c.in-Ok.ensures.present },
-      subst (λ n. n ≤ 16384) (links_counted c.args.rows.now c.args.marks.now changes) (not_full c.if-has_too_many_links.ensures.1),
-      subst (λ n. 1024 < n) (routers_counted c.args.rows.now c.args.marks.now changes) (c.if-has_too_many_routers.ensures.0 refl),
+      subst (λ n. n ≤ 16384) (links_counted c.args.columns.now.rows.items c.args.marks.now changes) (not_full c.if-has_too_many_links.ensures.1),
+      subst (λ n. 1024 < n) (routers_counted c.args.columns.now.rows.items c.args.marks.now changes) (c.if-has_too_many_routers.ensures.0 refl),
     )
 
 pub returns-then-has_too_many_marks-clause-err : goal.returns-then-has_too_many_marks-clause-err
@@ -37,9 +37,9 @@ returns-then-has_too_many_marks-clause-err c =
     let changes = c.as_slice-changes.result.now in
     rw (← c.batch.view_is, ← c.as_slice-changes.ensures.value) (
       record { short = c.if-changes-gt-MOST_CHANGES.false; once = c.in_default.ensures.none; present = c.in-Ok.ensures.present },
-      subst (λ n. n ≤ 16384) (links_counted c.args.rows.now c.args.marks.now changes) (not_full c.if-has_too_many_links.ensures.1),
-      subst (λ n. n ≤ 1024) (routers_counted c.args.rows.now c.args.marks.now changes) (not_many c.if-has_too_many_routers.ensures.1),
-      subst (λ n. 1024 < n) (marks_counted c.args.rows.now c.args.marks.now changes) (c.if-has_too_many_marks.ensures.0 refl),
+      subst (λ n. n ≤ 16384) (links_counted c.args.columns.now.rows.items c.args.marks.now changes) (not_full c.if-has_too_many_links.ensures.1),
+      subst (λ n. n ≤ 1024) (routers_counted c.args.columns.now.rows.items c.args.marks.now changes) (not_many c.if-has_too_many_routers.ensures.1),
+      subst (λ n. 1024 < n) (marks_counted c.args.columns.now.rows.items c.args.marks.now changes) (c.if-has_too_many_marks.ensures.0 refl),
     )
 
 pub returns-else-has_too_many_marks-clause-ok : goal.returns-else-has_too_many_marks-clause-ok
@@ -49,7 +49,7 @@ returns-else-has_too_many_marks-clause-ok c =
       short = c.if-changes-gt-MOST_CHANGES.false;
       once = c.in_default.ensures.none;
       present = c.in-Ok.ensures.present;
-      links = subst (λ n. n ≤ 16384) (links_counted c.args.rows.now c.args.marks.now changes) (not_full c.if-has_too_many_links.ensures.1);
-      routers = subst (λ n. n ≤ 1024) (routers_counted c.args.rows.now c.args.marks.now changes) (not_many c.if-has_too_many_routers.ensures.1);
-      marks = subst (λ n. n ≤ 1024) (marks_counted c.args.rows.now c.args.marks.now changes) (not_many c.if-has_too_many_marks.ensures.1);
+      links = subst (λ n. n ≤ 16384) (links_counted c.args.columns.now.rows.items c.args.marks.now changes) (not_full c.if-has_too_many_links.ensures.1);
+      routers = subst (λ n. n ≤ 1024) (routers_counted c.args.columns.now.rows.items c.args.marks.now changes) (not_many c.if-has_too_many_routers.ensures.1);
+      marks = subst (λ n. n ≤ 1024) (marks_counted c.args.columns.now.rows.items c.args.marks.now changes) (not_many c.if-has_too_many_marks.ensures.1);
     })

@@ -1,45 +1,58 @@
-use Rattle.std.proofs.Common.{length, ap, arith}
+use Rattle.std.proofs.Common.{◌≡◌, List, length, sym, ap, ◌∙◌, arith}
+use Rattle.cspf_model.specs.declared.link.Link.{Link}
+use Rattle.cspf_model.specs.Database.{router_count}
+use Rattle.cspf_model.specs.Lemmas.LinkChanges.{all_relinked}
 use Rattle.cspf_model.specs.Lemmas.LinkRows.{database_of}
+use Rattle.cspf_db.specs.Index.{router_list}
 use Rattle.cspf_db.proofs.Tables.RouterColumn.{column_table}
-use Rattle.cspf_db.proofs.Tables.TableLimits.{still_rows}
-use Rattle.cspf_db.proofs.Tables.RouterPlaces.{column_more}
+use Rattle.cspf_db.proofs.Tables.TableLimits.{most_rows}
 use Rattle.cspf_db.proofs.Tables.RouterLists.{rising-router_list, length-router_list}
 use Rattle.cspf_db.proofs.table.row_changes.change_table.Goals as goal
 
-pub add_routers-requires-clause-rising : goal.add_routers-requires-clause-rising
-add_routers-requires-clause-rising c = rw c.requires.parts.routers.all (rising-router_list _)
+pub add_routers-requires-clause-tied : goal.add_routers-requires-clause-tied
+add_routers-requires-clause-tied c =
+    let parts = c.requires.columns.parts in
+    record {
+      room = parts.room;
+      by_key = parts.by_key;
+      rising = rw parts.all (rising-router_list _);
+      few = omega (arith, ap length parts.all, length-router_list (database_of c.args.columns.now.rows.items), parts.few);
+      column = column_table _ _ _ parts.by_key parts.all parts.ends;
+    }
 
 pub add_routers-requires-clause-few : goal.add_routers-requires-clause-few
-add_routers-requires-clause-few c = omega (arith, ap length c.requires.parts.routers.all, length-router_list (database_of c.args.rows.now.items), c.requires.parts.rows.routers)
+add_routers-requires-clause-few c = omega (arith, ap length c.requires.columns.parts.all, length-router_list (database_of c.args.columns.now.rows.items), c.requires.columns.parts.few)
 
-pub change_with_ends-follows-requires-clause-rows : goal.change_with_ends-follows-requires-clause-rows
-change_with_ends-follows-requires-clause-rows c =
+pub change_with_ends-follows-requires-clause-paired : goal.change_with_ends-follows-requires-clause-paired
+change_with_ends-follows-requires-clause-paired c =
     let added = c.add_routers.ensures in
-    rw c.deref.ensures.value (record {
-      by_key = c.requires.parts.rows.by_key;
-      most = c.requires.parts.rows.most;
-      room = c.requires.parts.rows.room;
-      room_for_ends = omega (arith, c.requires.parts.room, added.capacity_of_ends);
-      rising = added.rising;
-      few = omega (arith, added.few);
-      column =
-          column_more _ _ _ _ _ (column_table _ _ _ c.requires.parts.rows.by_key c.requires.parts.routers.all c.requires.parts.ends) added.kept added.within added.same;
-    })
+    record { tied = added.tied; reverses = rw (added.rows, added.reverses) c.requires.columns.reverses }
 
-pub change_with_ends-follows-requires-clause-changes : goal.change_with_ends-follows-requires-clause-changes
-change_with_ends-follows-requires-clause-changes c = record {
-  once = c.requires.once;
-  links = c.requires.links;
-  known = rw c.deref.ensures.value c.add_routers.ensures.listed;
-}
+pub change_with_ends-follows-requires-clause-added : goal.change_with_ends-follows-requires-clause-added
+change_with_ends-follows-requires-clause-added c = rw c.add_routers.ensures.rows c.requires.added
+
+pub change_with_ends-follows-requires-clause-most : goal.change_with_ends-follows-requires-clause-most
+change_with_ends-follows-requires-clause-most c = rw c.add_routers.ensures.rows c.requires.columns.parts.most
+
+pub returns-clause-changed : goal.returns-clause-changed
+returns-clause-changed c =
+    ap database_of c.drop_routers.ensures.rows ∙ c.change_with_ends-follows.ensures.changed
+    ∙ ap (λ (rows : List Link). all_relinked (database_of rows) c.args.changes.now) c.add_routers.ensures.rows
 
 pub returns-clause-parts : goal.returns-clause-parts
 returns-clause-parts c =
     let made = c.change_with_ends-follows.ensures in
     let dropped = c.drop_routers.ensures in
+    let changed : database_of c.drop_routers.new.columns.rows.items ≡ all_relinked (database_of c.args.columns.now.rows.items) c.args.changes.now =
+    ap database_of dropped.rows ∙ made.changed ∙ ap (λ (rows : List Link). all_relinked (database_of rows) c.args.changes.now) c.add_routers.ensures.rows in
     record {
-      rows = still_rows c.args.rows.now c.change_with_ends-follows.new.rows c.args.changes.now c.requires.parts.rows c.requires.links c.requires.few made.changed made.rows.by_key made.rows.room;
-      routers = rw c.deref-2.ensures.value at dropped.routers;
-      ends = rw c.deref-2.ensures.value at dropped.ends;
-      room = omega (arith, made.rows.room_for_ends, dropped.capacity_of_ends);
+      room = dropped.room;
+      by_key = rw dropped.rows made.tied.by_key;
+      most = most_rows _ _ (rw dropped.rows made.tied.by_key) changed c.requires.links;
+      few = omega (arith, ap router_count changed, c.requires.few);
+      all = dropped.all ∙ ap (λ (rows : List Link). router_list (database_of rows)) (sym dropped.rows);
+      ends = rw dropped.rows dropped.ends;
     }
+
+pub returns-clause-reverses : goal.returns-clause-reverses
+returns-clause-reverses c on = rw (c.drop_routers.ensures.rows, c.drop_routers.ensures.reverses) (c.change_with_ends-follows.ensures.reverses on)

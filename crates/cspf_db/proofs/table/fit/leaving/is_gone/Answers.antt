@@ -13,12 +13,14 @@ off false on = refl
 
 pub returns : goal.returns
 returns c gone =
-    let rows = c.args.rows.now in
-    let routers = c.args.routers.now in
+    let rows = c.args.columns.now.rows.items in
+    let routers = c.args.columns.now.routers.items in
     let changes = c.args.changes.now in
-    let router : c.index-routers-place.result ≡ slice_index routers c.args.place = c.index-routers-place.is ∙ get_or_default routers c.args.place c.index-routers-place.result 0 c.requires.within in
+    let router : c.index-router.result.now ≡ slice_index routers c.args.place = c.index-router.ensures ∙ get_or_default routers c.args.place c.index-router.result.now 0 c.requires.within in
+    let from = rw c.deref.ensures.value at (sym c.any_left_from.ensures ∙ c.if-any_left_from.false) in
+    let to = rw (c.deref-2.ensures.value, c.deref-3.ensures.value) at (c.any_left_to.ensures (off c.any_left_to.result gone)) in
     record {
-      left = nothing_left rows routers c.args.ends.now changes c.args.place (rw c.requires.all (rising-router_list _)) c.requires.ends c.requires.within
-          (subst (λ r. list_any (is_untouched changes) (filter (λ l. nat_eq l.from r) rows) ≡ false) router (sym c.any_left_from.ensures ∙ c.if-any_left_from.false)) (c.any_left_to.ensures (off c.any_left_to.result gone));
-      put = subst (λ r. list_any (is_at r) (links_put changes) ≡ false) router (sym (puts_there c.index-routers-place.result changes) ∙ sym c.any_puts_at.ensures ∙ c.if-any_puts_at.false);
+      left = nothing_left rows routers c.args.columns.now.ends.items changes c.args.place (rw c.requires.columns.parts.all (rising-router_list _)) c.requires.columns.parts.ends c.requires.within
+          (subst (λ r. list_any (is_untouched changes) (filter (λ l. nat_eq l.from r) rows) ≡ false) router from) to;
+      put = subst (λ r. list_any (is_at r) (links_put changes) ≡ false) router (sym (puts_there c.index-router.result.now changes) ∙ sym c.any_puts_at.ensures ∙ c.if-any_puts_at.false);
     }

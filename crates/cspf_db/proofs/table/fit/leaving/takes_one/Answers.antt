@@ -2,4 +2,4 @@ use Rattle.cspf_db.proofs.Tables.RouterLists.{rising-router_list}
 use Rattle.cspf_db.proofs.table.fit.leaving.takes_one.Goals as goal
 
 pub search-requires : goal.search-requires
-search-requires c = rw c.requires.all (rising-router_list _)
+search-requires c = rw (c.deref-2.ensures.value, c.requires.columns.parts.all) (rising-router_list _)

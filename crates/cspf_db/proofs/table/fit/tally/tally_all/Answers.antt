@@ -11,7 +11,7 @@ use Rattle.cspf_db.proofs.table.fit.tally.tally_all.Goals.{then-alike, else-alik
 
 pub loop-at-preserved : goal.loop-at-preserved
 loop-at-preserved c =
-    let d = database_of c.args.rows.now in
+    let d = database_of c.args.columns.now.rows.items in
     let changes = c.args.changes.now in
     let at = c.loop-at.at in
     let change = c.index-changes-at.result in
@@ -22,10 +22,10 @@ loop-at-preserved c =
       added = count_more (adds_link d) changes at change c.loop-at.added c.in-Some.one.added c.loop-at-test.true c.index-changes-at.is before.added one.added;
       few_added = omega (arith, before.few_added, one.one);
       few = omega (arith, before.few, one.few);
-      most = brings_once c.args.routers.now changes at change c.loop-at.brought c.in-Some.one.brought c.loop-at-test.true c.index-changes-at.is before.most (λ s inside _. one.most s inside);
+      most = brings_once c.args.columns.now.routers.items changes at change c.loop-at.brought c.in-Some.one.brought c.loop-at-test.true c.index-changes-at.is before.most (λ s inside _. one.most s inside);
       alike = elim c.if-alike.branch [
-        | then-alike w ↦ λ on. within_more (IsAlike c.args.rows.now) changes at change c.loop-at-test.true c.index-changes-at.is (one.alike (sym w.alike-is ∙ on)) (before.alike w.if-alike.true)
+        | then-alike w ↦ λ on. within_more (IsAlike c.args.columns.now.rows.items) changes at change c.loop-at-test.true c.index-changes-at.is (one.alike (sym w.alike-is ∙ on)) (before.alike w.if-alike.true)
         | else-alike w ↦ λ on. absurd (cc)
       ];
-      listed = λ none. within_more (HasListedEnds c.args.routers.now) changes at change c.loop-at-test.true c.index-changes-at.is (one.listed (omega (arith, none))) (before.listed (omega (arith, none)));
+      listed = λ none. within_more (HasListedEnds c.args.columns.now.routers.items) changes at change c.loop-at-test.true c.index-changes-at.is (one.listed (omega (arith, none))) (before.listed (omega (arith, none)));
     }

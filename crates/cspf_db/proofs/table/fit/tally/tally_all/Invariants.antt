@@ -9,11 +9,11 @@ use Rattle.cspf_db.proofs.table.fit.tally.tally_all.Given as goal
 
 abbrev pub invariant-loop-at : goal.invariant-loop-at
 invariant-loop-at l = record {
-  present : AllWithin (IsPresent (database_of l.rows)) l.changes 0 l.at;
-  added : l.added ≡ count_by (adds_link (database_of l.rows)) (take l.at l.changes);
+  present : AllWithin (IsPresent (database_of l.columns.rows.items)) l.changes 0 l.at;
+  added : l.added ≡ count_by (adds_link (database_of l.columns.rows.items)) (take l.at l.changes);
   few_added : l.added ≤ l.at;
   few : l.brought ≤ 2 * l.at;
-  most : BringsAtMost l.routers (take l.at l.changes) l.brought;
-  alike : l.alike ≡ true → AllWithin (IsAlike l.rows) l.changes 0 l.at;
-  listed : l.brought ≡ 0 → AllWithin (HasListedEnds l.routers) l.changes 0 l.at;
+  most : BringsAtMost l.columns.routers.items (take l.at l.changes) l.brought;
+  alike : l.alike ≡ true → AllWithin (IsAlike l.columns.rows.items) l.changes 0 l.at;
+  listed : l.brought ≡ 0 → AllWithin (HasListedEnds l.columns.routers.items) l.changes 0 l.at;
 }

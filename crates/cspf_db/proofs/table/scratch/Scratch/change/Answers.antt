@@ -6,33 +6,42 @@ use Rattle.cspf_model.specs.Lemmas.CountedEnds.{HasListedEnds}
 use Rattle.cspf_model.specs.Lemmas.LinkRows.{database_of}
 use Rattle.cspf_model.proofs.Databases.ChangedRows.{all_relinked-permuted}
 use Rattle.cspf_db.proofs.Tables.RemainingRouters.{rows_listed_after}
-use Rattle.cspf_db.proofs.Tables.TableLimits.{still_rows_with_ends}
 use Rattle.cspf_db.proofs.table.scratch.Scratch.change.Goals as goal
 
 pub returns-clause-changed : goal.returns-clause-changed
 returns-clause-changed c =
-    let made = rw (c.deref.ensures.value, c.deref-3.ensures.value) at c.merge.ensures.changed in
+    let made = rw (c.deref.ensures.value, c.deref-4.ensures.value) at c.merge.ensures.changed in
     ap (λ (v : Vec Link Global). database_of v.items) c.swap.ensures.x_after ∙ made
-    ∙ all_relinked-permuted c.args.changes.now _ c.sort_changes.ensures.permutation c.requires.changes.once (database_of c.args.rows.now.items)
+    ∙ all_relinked-permuted c.args.changes.now _ c.sort_changes.ensures.permutation c.requires.once (database_of c.args.columns.now.rows.items)
 
 pub merge-requires-clause-short : goal.merge-requires-clause-short
-merge-requires-clause-short c = rw c.deref-3.ensures.value (omega (arith, length_permutation _ _ c.sort_changes.ensures.permutation, c.requires.short))
+merge-requires-clause-short c = rw c.deref-4.ensures.value (omega (arith, length_permutation _ _ c.sort_changes.ensures.permutation, c.requires.short))
 
 pub merge-requires-clause-in_order : goal.merge-requires-clause-in_order
-merge-requires-clause-in_order c = rw c.deref-3.ensures.value c.sort_changes.ensures.in_order
+merge-requires-clause-in_order c = rw c.deref-4.ensures.value c.sort_changes.ensures.in_order
 
 pub merge-requires-clause-known : goal.merge-requires-clause-known
-merge-requires-clause-known c = rw c.deref-3.ensures.value (All-permutation (HasListedEnds c.args.routers.now) _ _ c.sort_changes.ensures.permutation c.requires.changes.known)
+merge-requires-clause-known c =
+    rw (c.deref-4.ensures.value, c.deref-3.ensures.value) (All-permutation (HasListedEnds c.args.columns.now.routers.items) _ _ c.sort_changes.ensures.permutation c.requires.known)
 
-pub returns-clause-rows : goal.returns-clause-rows
-returns-clause-rows c =
-    let old = c.requires.rows in
-    let made = rw (c.deref.ensures.value, c.deref-3.ensures.value) at c.merge.ensures.changed ∙ all_relinked-permuted c.args.changes.now _ c.sort_changes.ensures.permutation c.requires.changes.once (database_of c.args.rows.now.items) in
+pub returns-clause-tied : goal.returns-clause-tied
+returns-clause-tied c =
+    let old = c.requires.tied in
+    let columns = c.args.columns.now in
+    let made = rw (c.deref.ensures.value, c.deref-4.ensures.value) at c.merge.ensures.changed ∙ all_relinked-permuted c.args.changes.now _ c.sort_changes.ensures.permutation c.requires.once (database_of columns.rows.items) in
     let by_key = c.merge.ensures.by_key in
-    let ends = c.merge.ensures.ends in
-    let listed = rows_listed_after c.args.routers.now _ c.merge.new.merged.items _ c.args.changes.now old.column by_key made c.requires.changes.known in
-    rw (c.swap.ensures.x_after, c.swap-2.ensures.x_after)
-    (still_rows_with_ends c.args.routers.now c.args.rows.now _ c.args.ends.now _ _ old c.requires.changes.links made by_key
-    (omega (arith, c.args.self.now.room, c.clear.ensures.capacity, c.merge.ensures.capacity, c.sort_changes.ensures.capacity))
-    (omega (arith, c.args.self.now.room_for_ends, c.clear-2.ensures.capacity, c.merge.ensures.capacity_of_ends))
-    (record { froms = λ k d h. (listed k d h).0; ends = ends }))
+    let ends = rw c.deref-3.ensures.value at c.merge.ensures.ends in
+    let listed = rows_listed_after columns.routers.items _ c.merge.new.merged.items _ c.args.changes.now old.column by_key made c.requires.known in
+    rw (c.swap.ensures.x_after, c.swap-2.ensures.x_after) (record {
+      room = record {
+        rows = omega (arith, c.args.self.now.room, c.clear.ensures.capacity, c.merge.ensures.capacity, c.sort_changes.ensures.capacity);
+        routers = old.room.routers;
+        ends = omega (arith, c.args.self.now.room_for_ends, c.clear-2.ensures.capacity, c.merge.ensures.capacity_of_ends);
+        reverses = old.room.reverses;
+        spans = old.room.spans;
+      };
+      by_key = by_key;
+      rising = old.rising;
+      few = old.few;
+      column = record { froms = λ k d h. (listed k d h).0; ends = ends };
+    })
