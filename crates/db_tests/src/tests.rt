@@ -1,4 +1,5 @@
 mod batches;
+mod counted;
 mod edits;
 mod marks;
 mod owners;

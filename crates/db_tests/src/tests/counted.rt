@@ -1,0 +1,115 @@
+//! A table at work and one at rest, beside the same batches. `tests/scarce` counts how often both take
+//! memory: as often, since to look at a batch, to absorb it and to read the table take none.
+use super::edits::Edit::{self, Node, Put, Remove};
+use super::edits::{batch_of, put};
+use cspf_addr::{Addr, Prefix};
+use cspf_db::Table;
+use cspf_model::Batch;
+use std::alloc::Global;
+use std::test::Fail;
+
+// Batches of few changes, the last five of which don't fit.
+const FEW: [&[Edit]; 10] = [
+    // nothing
+    &[],
+    // a link, its reverse and a mark
+    &[Put(1, 10, 2, 20), Put(2, 20, 1, 10), Node(1, false)],
+    // the same links
+    &[Put(1, 10, 2, 20), Put(2, 20, 1, 10)],
+    // a link that turns to a new router
+    &[Put(1, 10, 3, 30)],
+    // a link that goes, with its router and a mark
+    &[Remove(1, 10), Node(1, true)],
+    // one key twice
+    &[Put(1, 10, 2, 20), Remove(1, 10)],
+    &[Node(5, false), Node(5, true)],
+    // a link that isn't there
+    &[Remove(9, 9)],
+    &[Put(1, 10, 2, 20), Remove(9, 9)],
+    &[Remove(9, 9), Remove(9, 9)],
+];
+
+// Puts of links from the router 0 to others, whose local addresses are the numbers of a range.
+fn many(alloc: Global, first: u32, end: u32, routers: u32) -> Result<Batch, Fail> {
+    let mut changes = Vec::new(alloc);
+    for local in first..end {
+        let to = local.checked_rem(routers).unwrap_or(0).wrapping_add(1);
+        changes.push(put(0, local, to, local ^ 1)?)?;
+    }
+    Ok(Batch { number: 1, changes })
+}
+
+// Batches of few changes, and batches that fill the table, change all its links at once, and bring
+// too many routers or links.
+fn batches(alloc: Global) -> Result<Vec<Batch>, Fail> {
+    let mut all = Vec::new(alloc);
+    for edits in FEW {
+        all.push(batch_of(alloc, edits)?)?;
+    }
+    for first in 0..4 {
+        let first = first * 4096;
+        all.push(many(alloc, first, first + 4096, 1000)?)?;
+    }
+    // alike, turned, and too many of each
+    all.push(many(alloc, 0, 4096, 1000)?)?;
+    all.push(many(alloc, 0, 4096, 1001)?)?;
+    all.push(many(alloc, 0, 4096, 1100)?)?;
+    all.push(many(alloc, 16384, 16385, 1000)?)?;
+    all.push(many(alloc, 0, 4097, 1000)?)?;
+    Ok(all)
+}
+
+// How much is found by all reads of a table.
+fn reads(table: &Table, prefix: Prefix) -> usize {
+    let mut found = table.ends().len().wrapping_add(table.marks().len());
+    for (at, router) in table.routers().iter().enumerate() {
+        let (out, ends) = (table.out(*router).len(), table.ends_at(at).len());
+        let (index, back) = (table.out_at(at).len(), table.reverses_at(at).len());
+        found = found.wrapping_add(out).wrapping_add(ends);
+        found = found.wrapping_add(index).wrapping_add(back);
+        let place = table.place_of(*router).is_some();
+        let (transit, known) = (table.transit(*router), table.has_router(*router));
+        found = found.wrapping_add(usize::from(place && transit == table.transit_at(at)));
+        found = found.wrapping_add(usize::from(known && table.owns(*router, prefix)));
+    }
+    for link in table.links() {
+        let has = table.find(link.from, link.local).is_some();
+        found = found.wrapping_add(usize::from(has && table.has_reverse(link)));
+    }
+    found
+}
+
+// Looks at each batch, absorbs it by both calls, and reads the table.
+fn work(table: &mut Table, batches: &[Batch], prefix: Prefix) -> usize {
+    let mut found = 0usize;
+    for batch in batches {
+        let fits = table.check(batch).is_ok();
+        let taken = table.try_absorb(batch).is_ok();
+        table.absorb(batch);
+        found = found.wrapping_add(usize::from(fits == taken));
+        found = found.wrapping_add(reads(table, prefix));
+    }
+    found
+}
+
+#[test]
+fn at_work(rt: HostRuntime) -> Result<(), Fail> {
+    let alloc = rt.alloc();
+    let (mut table, batches) = (Table::new(alloc)?, batches(alloc)?);
+    let found = work(
+        &mut table,
+        batches.as_slice(),
+        Prefix::new(Addr::new(0), 8)?,
+    );
+    assert!(rt; found > 100_000, "{found}");
+    Ok(())
+}
+
+#[test]
+fn at_rest(rt: HostRuntime) -> Result<(), Fail> {
+    let alloc = rt.alloc();
+    let (table, batches) = (Table::new(alloc)?, batches(alloc)?);
+    let found = reads(&table, Prefix::new(Addr::new(0), 8)?);
+    assert!(rt; found == 0 && batches.len() == 19, "{found} {batches:?}");
+    Ok(())
+}
