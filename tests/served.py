@@ -27,6 +27,7 @@ ROUTERS, BATCHES = 12, 60
 CLIENTS = 64  # the most of one run
 SILENT = 600  # requests by a client that doesn't read, more than its pipes hold
 NARROW = 4096  # bytes that these hold
+REFUSED, AT_ONCE = 70_000, 500  # rows of one stream that are refused, and those of them that are sent before their lines are read
 STREAMS, STREAM_CLIENTS = 30, 6  # runs over streams of any bytes, and the clients of each
 KILLS, TERMINATED = 100, 10  # runs that are killed, and every so many of them by SIGTERM
 MOMENT, PATIENCE = 0.01, 60  # seconds: between batches and before a kill at most, and that a line is awaited
@@ -45,6 +46,7 @@ def served(program, checks):
             return os.path.join(room, name)
 
         dialogue(program, checks, folder("dialogue"))
+        patient(program, checks, folder("patient"))
         many(program, checks, folder("many"), versions)
         silent(program, checks, folder("silent"), versions)
         limited(program, checks, folder("limited"), versions)
@@ -216,6 +218,22 @@ def dialogue(program, checks, room):
         checks.same("a client ends alone", run.talk(2, ask), f"ask 7 v2 {route}")
         checks.same("changes are left open", run.end(), (["unended 1\n", "", "", ""], 2, ""))
         checks.same("the journal of a dialogue", run.kept(), f"{puts}end,1,2\nend,2,0\n")
+
+
+def patient(program, checks, room):
+    """However many of its rows are refused, a client or the updates are answered further."""
+    with Serving(program, room, 1) as run:
+        for number in (1, 0):
+            wrong = None
+            for first in range(1, REFUSED + 1, AT_ONCE):
+                run.say(number, "x\n" * AT_ONCE)
+                found = [run.hear(number) for _ in range(AT_ONCE)]
+                if found != [f"row {at} refused: kind\n" for at in range(first, first + AT_ONCE)]:
+                    wrong = found
+                    break
+            checks.same(f"{REFUSED} refused rows of stream {number}", wrong, None)
+            checks.same(f"a request after them on stream {number}", run.talk(number, "ask,7,1.1.1.1,2.2.2.2,0,5,0x0,0x0,0x0,\n"), "ask 7 v0 unknown-from\n")
+        checks.same("the end after refused rows", run.end(), (["", ""], 2, ""))
 
 
 def many(program, checks, room, versions):
