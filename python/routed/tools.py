@@ -14,7 +14,7 @@ TOOLS = {
     "status": (".status", "one screen of the figures of listen or of a feed"),
     "audit": (".audit", "`routed audit`, and how far it is"),
     "feed": (".feed.ospf", "rows of a live network, from the OSPF API of one of its routers"),
-    "pcep": (".pcep.front", "routers ask by PCEP"),
+    "pcep": (".pcep.command", "routers ask by PCEP"),
     "sweep": (".sweep", "what the failure of each circuit, router or pair of circuits does to requests"),
     "join": (".join", "one sweep of its parts"),
     "draw": (".draw", "a picture of a network, with the routes of replies"),

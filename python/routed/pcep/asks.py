@@ -1,10 +1,9 @@
 """Asks of all PCCs, over a few connections to `routed-tools listen`, each with an id of its own."""
 import collections
-import contextlib
 
 from ..loop import READ, WRITE
 
-AGAIN = 0.2  # seconds from one try to connect to the next
+AGAIN, FREE_AGAIN = 0.2, 1  # seconds from one try to connect to the next, and to a server that was busy
 
 
 class Asks:
@@ -32,26 +31,38 @@ class Asks:
             connection.close()
 
     def ask(self, row, call):
-        if not self.connections:
-            call(None, None)
-            return
         self.number += 1
-        min(self.connections, key=lambda one: len(one.calls)).ask(f"ask,{self.number},{row}", call)
+        self.give(f"ask,{self.number},{row}", call, lambda one: len(one.calls))
 
-    def gone(self, connection, is_busy):
+    def give(self, row, call, rank):
+        if self.connections:
+            min(self.connections, key=rank).ask(row, call)
+        else:
+            call(None, None)
+
+    def gone(self, connection):
+        """A connection has ended. Asks of one that was busy go to another one, first to one that has answered."""
         if connection in self.connections:
             self.connections.remove(connection)
             if self.is_open:
-                self.loop.after(AGAIN, lambda: self.is_open and self.open())
-            if not is_busy:
+                seconds = FREE_AGAIN if connection.is_busy else 0 if connection.is_served else AGAIN
+                self.loop.after(seconds, lambda: self.is_open and self.open())
+            if not connection.is_busy:
                 self.lost()
+        while connection.calls:
+            row, call = connection.calls.popleft()
+            if connection.is_busy:
+                self.give(row, call, lambda one: (not one.is_served, len(one.calls)))
+            else:
+                call(None, None)
 
 
 class Connection:
     """One connection: asks in order, whose lines come in that order."""
 
     def __init__(self, asks):
-        self.asks, self.calls, self.unsent, self.unread, self.is_busy = asks, collections.deque(), b"", b"", False
+        self.asks, self.calls, self.unsent, self.unread = asks, collections.deque(), b"", b""
+        self.is_busy, self.is_served = False, False
         self.socket = asks.place.connect()
         self.socket.setblocking(False)
         asks.loop.want(self.socket.fileno(), READ, self.go_on)
@@ -90,6 +101,7 @@ class Connection:
             if text == "busy" or not self.calls:
                 self.is_busy = text == "busy"
                 continue
+            self.is_served = True
             row, call = self.calls.popleft()
             call(row, text)
         if not data:
@@ -99,7 +111,4 @@ class Connection:
         if self.socket.fileno() >= 0:
             self.asks.loop.want(self.socket.fileno(), 0)
             self.socket.close()
-            self.asks.gone(self, self.is_busy)
-            while self.calls:
-                with contextlib.suppress(IndexError):
-                    self.calls.popleft()[1](None, None)
+            self.asks.gone(self)

@@ -16,11 +16,13 @@ class Replies:
             self.number = max([int(name.split(".")[0]) for name in os.listdir(folder) if name.split(".")[0].isdigit()], default=0)
 
     def keep(self, row, line):
-        if self.files is None:
-            self.number += 1
-            self.files = [open(os.path.join(self.folder, f"{self.number}.{kind}"), "xb", buffering=0) for kind in ("requests", "replies")]
-        for file, text in zip(self.files, (row, line)):
-            file.write(f"{text}\n".encode())
+        with tried(f"{self.folder}: write"):
+            if self.files is None:
+                self.number += 1
+                paths = (os.path.join(self.folder, f"{self.number}.{kind}") for kind in ("requests", "replies"))
+                self.files = [open(path, "xb", buffering=0) for path in paths]
+            for file, text in zip(self.files, (row, line)):
+                file.write(f"{text}\n".encode())
         self.count += 1
         if self.count >= MOST:
             self.roll()

@@ -8,11 +8,10 @@ import struct
 from collections import namedtuple
 
 from . import wire
-from .wire import BadObject, Object, Refused, TE_METRIC, fields, pack
+from .wire import BadObject, Refused, TE_METRIC, fields, pack
 
 MOST_HOPS = 7  # of a row
 MINIMUM_COST = 1  # the objective function that a row has (RFC 5541 3.1)
-NEXT_TO = 1  # IPv4 END-POINTS, and bandwidth that is asked for
 CLASS, TYPE, PARAMETER = (4, 1), (4, 2), (4, 4)  # what isn't supported
 UNKNOWN_CLASS, UNKNOWN_TYPE = (3, 1), (3, 2)
 UNAVAILABLE, UNKNOWN_TO, UNKNOWN_FROM = 1, 2, 4  # bits of the NO-PATH-VECTOR
@@ -29,7 +28,7 @@ class Request:
 
     def __init__(self):
         self.ends, self.bandwidth, self.setup, self.masks, self.hops, self.bounds = None, 0, 7, (0, 0, 0), "", []
-        self.attributes, self.ignored = b"", b""  # objects as a PCUpd returns them, and with the I flag
+        self.attributes, self.iro, self.ignored = b"", b"", b""  # objects as a PCUpd returns them, and with the I flag
 
     def take(self, given):
         """Reads an object."""
@@ -40,7 +39,9 @@ class Request:
             if given.type not in TYPES.get(given.kind, (1,)):
                 raise Refused(*(TYPE if (given.kind, given.type) in KNOWN else UNKNOWN_TYPE))
             read(self, given.body)
-            if given.kind != wire.O_ENDS:
+            if given.kind == wire.O_IRO:
+                self.iro += pack(given.kind, given.body)
+            elif given.kind != wire.O_ENDS and (given.kind != wire.O_METRIC or given.body[2] & 1):  # no bound: another route's
                 self.attributes += pack(given.kind, given.body, given.type)
         except BadObject:
             raise
@@ -100,7 +101,8 @@ class Request:
     def row(self, group=0):
         """An `ask` row without its word and id. The links that it may use are in the group, too."""
         exclude, any_, all_ = self.masks
-        return (f"{self.ends[0]},{self.ends[1]},{self.setup},{self.bandwidth},0x{exclude:08x},0x{any_:08x},0x{all_ | group:08x},{self.hops}")
+        masks = f"0x{exclude:08x},0x{any_:08x},0x{all_ | group:08x}"
+        return f"{self.ends[0]},{self.ends[1]},{self.setup},{self.bandwidth},{masks},{self.hops}"
 
     def broken(self, cost):
         """The bounds that the cost is above. The least cost is above it, and so is each other one."""

@@ -23,6 +23,7 @@ class Session:
         self.keepalive, self.dead, self.unknown = KEEPALIVE, 0, []
         self.capabilities, self.setup_types, self.most_sids = 0, {0}, None
         self.vain, self.asked = {}, 0  # requests that had no path, by their ids; asks without an answer
+        self.is_full = False  # so much waits to be sent that LSPs aren't moved
         self.lsps = Lsps(self)
         self.send(wire.message(wire.OPEN, pack(wire.O_OPEN, bytes([0x20, KEEPALIVE, DEAD, number % 256]) + front.capabilities())))
 
@@ -40,7 +41,8 @@ class Session:
             self.state = OVER
             if last:
                 self.send(last)
-            self.front.say("warning" if last else "info", f"{self.peer}: the session ends: {why}; {len(self.lsps.all)} LSPs are its PCC's own now")
+            self.front.say("warning" if last else "info",
+                           f"{self.peer}: the session ends: {why}; {len(self.lsps.all)} LSPs are its PCC's own now")
             self.end()
 
     # ---- time
@@ -220,8 +222,8 @@ class Session:
                 self.send(data)
 
     def answer(self, asked, svec, answer, line):
-        """The message for a request, and what became of it."""
-        front = svec + asked.rp()
+        """The message for a request, and what became of it. Ignored objects come back where it has room for them (RFC 5440 7.2)."""
+        front = svec + asked.rp() if len(svec) < wire.MOST // 2 else asked.rp()
         if line is None:
             self.keep_vain(asked)
             return no_path(front, UNAVAILABLE), "unavailable"
@@ -242,9 +244,8 @@ class Session:
                 self.refuse(*why[0], asked.rp())
                 return b"", "refused"
             return no_path(front, UNAVAILABLE), "unavailable"
-        if len(front) + len(ero) + len(asked.request.ignored) + 16 > wire.MOST:
-            return no_path(front, UNAVAILABLE), "unavailable"
-        return path(front, ero, answer.cost, asked.request.ignored), "route"
+        has_room = len(front) + len(ero) + len(asked.request.ignored) + 16 <= wire.MOST
+        return path(front, ero, answer.cost, asked.request.ignored) if has_room else path(asked.rp(), ero, answer.cost, b""), "route"
 
     def ero(self, answer, head, setup_type):
         """The ERO of a route, or why there is none: the error that says so, if any, and words."""
@@ -269,8 +270,8 @@ class Session:
         for asked in [*self.vain.values()]:
             self.asked += 1
             self.front.ask(asked.request.row(self.group(asked.setup_type)), lambda line, asked=asked: self.vain_answered(asked, line))
-        self.lsps.again()
-        self.lsps.initiate()
+        self.lsps.moves.again()
+        self.lsps.making.initiate()
 
     def vain_answered(self, asked, line):
         self.asked -= 1

@@ -1,0 +1,78 @@
+"""Routers ask by PCEP (RFC 5440): a path computation element in front of `routed-tools listen`.
+
+A PCC's request becomes one `ask` row, and its reply line a path or NO-PATH. What a row can't say is refused by an error of
+its own. With --stateful, LSPs that PCCs delegate are asked again at each version, and moved where their best route is
+another one. docs/run/PCEP.md has what is taken from where, and what is refused.
+
+Nothing is reserved: two LSPs may be placed on the same bandwidth. There is no sign-on but TCP-MD5 (--keys).
+
+`ready` is printed once PCCs may connect. SIGHUP reads the file of --initiate again, SIGTERM and SIGINT end it: PCCs keep their
+LSPs. The status is 0 then, 2 where a word of the command line is refused, 3 where a socket or a file can't be had.
+"""
+import argparse
+
+from ..log import LEVELS, Log
+from ..places import Place, Stopped
+from .front import Front
+
+
+def number(low, high, form=int):
+    def read(text):
+        value = form(text)
+        if not low <= value <= high:
+            raise ValueError
+        return value
+
+    read.__name__ = f"number from {low} to {high}"
+    return read
+
+
+def group(text):
+    """The mask of an administrative group, 0 to 31."""
+    return 1 << number(0, 31)(text)
+
+
+def main(given=None):
+    """Takes the words of a command line, and answers the status."""
+    words = argparse.ArgumentParser(prog="pcep", description=__doc__, formatter_class=argparse.RawDescriptionHelpFormatter)
+    words.add_argument("--ask", required=True, type=Place, metavar="PLACE", help="where listen is asked")
+    words.add_argument("--watch", type=Place, metavar="PLACE", help="where listen tells versions")
+    words.add_argument("--address", default="127.0.0.1", help="where PCCs connect (127.0.0.1)")
+    words.add_argument("--port", type=number(0, 65535), default=4189, help="its port (4189); 0 for one that the system chooses")
+    words.add_argument("--keys", metavar="FILE", help="lines `ADDRESS KEY`: PCCs that use TCP-MD5 (RFC 2385)")
+    words.add_argument("--pccs", type=number(1, 65536), default=256, metavar="N", help="how many are connected at once (256)")
+    words.add_argument("--connections", type=number(1, 64), default=4, metavar="N", help="to the place of --ask (4)")
+    words.add_argument("--sids", metavar="FILE",
+                       help="adjacency SIDs, as feeds/ospf --sids writes them: segment routing (path setup type 1); needs --journal")
+    words.add_argument("--sid-group", dest="group", type=group, default=0, metavar="N",
+                       help="links of a segment routing path are in this group")
+    words.add_argument("--stateful", action="store_true", help="take LSPs that are delegated; needs --watch")
+    words.add_argument("--journal", metavar="FILE", help="that of listen, or its folder: by it a route that still serves is known")
+    words.add_argument("--gain", type=number(0, 100, float), default=0, metavar="PERCENT",
+                       help="an LSP stays where less is gained (0); needs --journal")
+    words.add_argument("--calm", type=number(0, 86400, float), default=0, metavar="SECONDS",
+                       help="from one such move of an LSP to the next (0); needs --journal")
+    words.add_argument("--initiate", metavar="FILE",
+                       help="LSPs that PCCs are to make, lines `NAME,FROM,TO,SETUP,BANDWIDTH,EXCLUDE_ANY,INCLUDE_ANY,INCLUDE_ALL`")
+    words.add_argument("--reopen", action="store_true",
+                       help="close a session once a request that had no path has one: FRR asks again in a new session alone")
+    words.add_argument("--replies", metavar="FOLDER", help="keep requests and reply lines there, as `routed audit` reads them")
+    words.add_argument("--metrics", type=Place, metavar="PLACE", help="where figures are read, by HTTP at /metrics")
+    words.add_argument("--log-level", choices=LEVELS, default="warning", help="which lines of the log are written (warning)")
+    options = words.parse_args(given)
+    if options.stateful and not options.watch:
+        words.error("--stateful needs --watch")
+    if (options.gain or options.calm or options.sids) and not options.journal:
+        words.error("--gain, --calm and --sids need --journal")
+    if options.group and not options.sids:
+        words.error("--sid-group needs --sids")
+    if (options.initiate or options.reopen) and not options.watch or options.initiate and not options.stateful:
+        words.error("--initiate needs --stateful, and --reopen needs --watch")
+    try:
+        return Front(options).run()
+    except (Stopped, OSError) as fault:
+        Log("pcep", options.log_level).say("error", str(fault))
+        return 3
+    finally:
+        if options.metrics:
+            options.metrics.leave()

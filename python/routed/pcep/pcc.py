@@ -1,0 +1,91 @@
+"""The connection of one PCC."""
+from ..loop import READ, WRITE
+from ..places import hang_up
+from .session import Session
+
+FULL, MOST_ASKED = 1 << 20, 256  # bytes that wait for a PCC, and its asks: beyond them nothing is read from it
+LINGER = 5  # seconds that a session's last bytes have
+
+
+class Pcc:
+    """The connection of one PCC: bytes that wait, and its session."""
+
+    def __init__(self, front, connection, peer):
+        self.front, self.connection, self.peer = front, connection, peer
+        self.unsent, self.is_ending, self.taken_at = b"", False, front.clock()
+        self.session = Session(front, peer, front.number, self.send, self.end, front.clock())
+        self.want()
+
+    def is_held(self):
+        return len(self.unsent) > FULL or self.session.asked > MOST_ASKED
+
+    def want(self):
+        if self.connection.fileno() >= 0:
+            reads = READ if not self.is_ending and not self.is_held() else 0
+            self.front.loop.want(self.connection.fileno(), reads | (WRITE if self.unsent else 0), self.go_on)
+
+    def send(self, data):
+        had, self.unsent = self.unsent, self.unsent + data
+        if not had:
+            self.taken_at = self.front.clock()
+            self.flush()
+        elif len(self.unsent) > FULL:
+            self.session.is_full = True
+
+    def flush(self):
+        try:
+            sent = self.connection.send(self.unsent)
+            self.unsent, self.taken_at = self.unsent[sent:], self.front.clock()
+        except BlockingIOError:
+            pass
+        except OSError as fault:
+            self.unsent = b""
+            if self.connection.fileno() >= 0:
+                self.front.loop.after(0, lambda: self.session.stop(f"its connection is gone: {fault.strerror}"))
+        if self.is_ending and not self.unsent:
+            self.close()
+        elif hasattr(self, "session"):
+            self.want()
+            if self.session.is_full and not self.unsent:
+                self.session.is_full = False
+                self.session.again()
+
+    def go_on(self, events):
+        if events & WRITE:
+            self.flush()
+        if events & READ and self.connection.fileno() >= 0 and not self.is_ending:
+            try:
+                data = self.connection.recv(1 << 16)
+            except BlockingIOError:
+                return
+            except OSError:
+                data = b""
+            if data:
+                self.session.take(data, self.front.clock())
+            else:
+                self.session.stop("its PCC closed the connection")
+        self.want()
+
+    def tick(self):
+        now = self.front.clock()
+        self.session.tick(now)
+        if self.unsent and now - self.taken_at > (self.session.dead or 120):
+            self.unsent = b""
+            self.session.stop("its PCC reads nothing")
+        self.want()
+
+    def end(self):
+        """Ends the connection once its last bytes are sent. Another session of this PCC may begin at once."""
+        self.is_ending = True
+        if self.front.pccs.get(self.peer) is self:
+            del self.front.pccs[self.peer]
+        if self.unsent:
+            self.front.loop.after(LINGER, self.close)
+            self.want()
+        else:
+            self.close()
+
+    def close(self):
+        if self.connection.fileno() >= 0:
+            self.front.loop.want(self.connection.fileno(), 0)
+            hang_up(self.front.loop, self.connection)

@@ -1,0 +1,36 @@
+"""The place where the server tells versions."""
+from ..loop import READ
+
+BUSY_AGAIN = 1  # seconds from one try to connect to the next where the place has no room
+
+
+class Watch:
+    """A connection that tells versions."""
+
+    def __init__(self, front):
+        self.front, self.unread, self.socket = front, b"", front.options.watch.connect()
+        self.socket.setblocking(False)
+        front.loop.want(self.socket.fileno(), READ, self.read)
+
+    def read(self, _):
+        try:
+            data = self.socket.recv(1 << 16)
+        except BlockingIOError:
+            return
+        except OSError:
+            data = b""
+        if not data:
+            self.front.lost()
+            return
+        *lines, self.unread = (self.unread + data).split(b"\n")
+        if b"busy" in lines:
+            self.front.lost("the place of versions is busy", BUSY_AGAIN)
+            return
+        versions = [int(line.split()[1]) for line in lines if line.startswith(b"version ")]
+        if versions:
+            self.front.told(versions[-1])
+
+    def close(self):
+        if self.socket.fileno() >= 0:
+            self.front.loop.want(self.socket.fileno(), 0)
+            self.socket.close()
