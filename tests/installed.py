@@ -14,6 +14,10 @@ from importlib.machinery import SourceFileLoader
 from feed import PAIR, Router
 from kept import started
 from listened import PATIENCE, Connection
+from pcep import request
+from pcep_runs import Client
+
+from routed.pcep.wire import pack
 
 HERE = os.path.dirname(os.path.abspath(__file__))
 TOP = os.path.dirname(HERE)
@@ -22,6 +26,7 @@ UNITS = sorted(name for name in os.listdir(DEPLOY) if name.endswith((".service",
 MOST_EXPOSED = 4.0  # of systemd-analyze security
 FILES = """bin/routed bin/routed-tools lib/python3/dist-packages/routed/listen.py lib/python3/dist-packages/routed/feed/ospf.py lib/routed/keep
 lib/routed/serve lib/routed/fed lib/systemd/system/routed-serve.service lib/systemd/system/routed-feed.service
+lib/systemd/system/routed-pcep.service share/doc/routed/examples/etc/routed/pcep.conf lib/python3/dist-packages/routed/pcep/front.py
 lib/systemd/system/routed-solve.socket lib/systemd/system/routed-solve@.service lib/sysusers.d/routed.conf lib/tmpfiles.d/routed.conf
 share/man/man1/routed.1.gz share/man/man1/routed-tools.1.gz share/man/man5/routed-formats.5.gz share/doc/routed/docs/run/OPERATORS.md
 share/doc/routed/examples/nsfnet.journal share/doc/routed/examples/etc/routed/serve.conf share/doc/routed/copyright
@@ -109,13 +114,13 @@ def command_of(unit, top, env, folder):
         for name, value in re.findall(r"(?m)^(\w+)=(.*)$", text_of(f"deploy/etc/{path}")):
             given[name] = re.sub(r"^/(run|var/lib)/routed", folder, value)
     words = re.search(r"(?m)^ExecStart=(.*)$", text)[1].split()
-    return [part for word in words for part in (given[word[1:]].split() if word[0] == "$" else [re.sub("^/usr", top, word)])], given
+    return [part for word in words for part in (given[word.strip("${}")].split() if word[0] == "$" else [re.sub("^/usr", top, word)])], given
 
 
 def units(checks, home, top, env):
     os.makedirs(os.path.join(home, "updates"))
     words, given = command_of("routed-serve.service", top, env, home)
-    with open(os.path.join(home, "said"), "w+", encoding="utf-8") as said, started(words, env=given, stderr=said) as server:
+    with open(os.path.join(home, "said"), "w+", encoding="utf-8") as said, started([*words, "--watch", os.path.join(home, "watch")], env=given, stderr=said) as server:
         checks.same("the command of routed-serve.service", server.stdout.readline(), "ready\n")
         said.seek(0)
         checks.true("a first start says that its network is empty", "keep: 000001 begins with an empty network\n" in said.read())
@@ -131,6 +136,18 @@ def units(checks, home, top, env):
                 line = asking.talk("ask,1,1.1.1.1,2.2.2.2,0,1,0x0,0x0,0x0,\n")
                 time.sleep(0.02)
             checks.true("the command of routed-feed.service brings the network", re.fullmatch(r"ask 1 v[12] .*\n", line), line)
+            words, given = command_of("routed-pcep.service", top, env, home)
+            with started([*words, "--port", "0"], env=given, stderr=subprocess.DEVNULL) as answering:
+                router_of = Client(int(answering.stdout.readline().split(":")[1]))
+                answering.stdout.readline()
+                router_of.open()
+                ends = pack(4, bytes([1] * 4 + [2] * 4), must=True)
+                found, end = "", time.monotonic() + PATIENCE
+                while not found.startswith("PCRep") and time.monotonic() < end:
+                    found = router_of.ask(request(ends=ends))
+                checks.true("the command of routed-pcep.service answers a router", found.startswith("PCRep "), found)
+                answering.terminate()
+                checks.same("its status after a signal", answering.wait(PATIENCE), 0)
         server.terminate()
         checks.same("the server's status after a signal", server.wait(PATIENCE), 143)
     words, given = command_of("routed-solve@.service", top, env, home)
@@ -157,7 +174,7 @@ def text_start(name):
 
 
 def hardened(_, checks):
-    checks.same("the units", UNITS, ["routed-feed.service", "routed-serve.service", "routed-solve.socket", "routed-solve@.service"])
+    checks.same("the units", UNITS, ["routed-feed.service", "routed-pcep.service", "routed-serve.service", "routed-solve.socket", "routed-solve@.service"])
     for unit in UNITS:
         text = text_of(f"deploy/{unit}")
         checks.true(f"{unit} starts only where it is configured", re.search("(?m)^(ConditionPathExists|EnvironmentFile)=/etc/routed/", text))
