@@ -40,27 +40,35 @@ def put(pipe, data):
 
 
 class Chain:
+    PARTS = "all", "OSPF", "feed", "routed"
+
     def __init__(self, program, collect, folder):
         self.journal, self.asks, self.replies = (os.path.join(folder, f"lab.{kind}") for kind in ("journal", "asks", "replies"))
-        self.known, self.batches, self.versions = [], {}, {}  # when router 1 knew of a change; a batch was written; its line came
+        self.begin(ENDS[0])
         self.count, self.unread = 0, b""
-        self.told = threading.Condition()
         rows, lines = (os.path.join(ROOM, f"client.{kind}") for kind in ("rows", "lines"))
         os.mkfifo(rows)
         os.mkfifo(lines)
         self.rows = os.open(rows, os.O_RDWR)  # both ends, so that this doesn't wait for the program
         self.lines = os.open(lines, os.O_RDONLY | os.O_NONBLOCK)
-        if os.path.exists(self.journal):
-            raise Fault("the journal is there already")
         pipes = {"stdin": subprocess.PIPE, "stdout": subprocess.PIPE}
         words = [program, "serve", "--explain", "--journal", self.journal, "--client", f"{rows}={lines}"]
         self.program = subprocess.Popen(words, **pipes)
         await_file(self.journal, self.program, "routed serve")  # it is opened last
         self.kept = [open(path, "w", encoding="ascii") for path in (self.asks, self.replies)]
-        self.watch = subprocess.Popen([*within(ENDS[0]), os.path.join(HERE, "lab"), "--watch"], stdin=subprocess.DEVNULL, stdout=subprocess.PIPE)
         self.feed = subprocess.Popen([*within(ENDS[0]), os.path.join(HERE, "ospf"), "--collect", str(collect)], **pipes)
-        for task in (self.take_times, self.take_rows, self.take_lines):
+        for task in (self.take_rows, self.take_lines):
             threading.Thread(target=task, daemon=True).start()
+
+    def begin(self, router):
+        """Begins to watch the router beside which the feed is."""
+        if os.path.exists(self.journal):
+            raise Fault("the journal is there already")
+        self.known, self.batches, self.versions = [], {}, {}  # when the router knew of a change; a batch was written; its line came
+        self.told = threading.Condition()
+        words = [*within(router), os.path.join(HERE, "lab"), "--watch"]
+        self.watch = subprocess.Popen(words, stdin=subprocess.DEVNULL, stdout=subprocess.PIPE)
+        threading.Thread(target=self.take_times, daemon=True).start()
 
     def take_times(self):
         for line in self.watch.stdout:
@@ -105,14 +113,21 @@ class Chain:
             file.write(text)
         return path_of(line.decode() + "\n")
 
+    def processes(self):
+        return [("the feed", self.feed), ("routed serve", self.program), ("what watches the router", self.watch)]
+
+    def look(self):
+        """That all parts run."""
+        for part, process in self.processes():
+            if process.poll() is not None:
+                raise Fault(f"{part} ended with status {process.returncode}")
+
     def answered(self, path):
         """Asks until the route is this one. The version of that answer, once its line has come."""
         start = time.monotonic()
         version, found = self.ask()
         while found != path:
-            for part, process in (("the feed", self.feed), ("routed serve", self.program), ("what watches router 1", self.watch)):
-                if process.poll() is not None:
-                    raise Fault(f"{part} ended with status {process.returncode}")
+            self.look()
             if time.monotonic() > start + PATIENCE:
                 raise Fault(f"the route is {found} after {PATIENCE:g} s, and not {path}")
             time.sleep(STEP if time.monotonic() < start + LONG else LATER)
@@ -134,6 +149,10 @@ class Chain:
         """Waits until router 1 has known of no change, and no batch was written, for so long."""
         while (left := max([*self.known[-1:], *self.batches.values()]) + seconds - time.monotonic()) > 0:
             time.sleep(left)
+
+    def pairs(self):
+        """The files of asks and replies, for the audit."""
+        return [(self.asks, self.replies)]
 
     def end(self):
         """Ends the feed, then the program and its client; that each ends as it should."""

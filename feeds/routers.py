@@ -1,10 +1,12 @@
-"""The six routers of the lab: FRR's `zebra` and `ospfd`, each in a network namespace, with circuits as pairs of virtual interfaces."""
+"""The six routers of the lab: FRR's `zebra` and `ospfd`, each in a network namespace, with circuits as pairs of virtual interfaces.
+
+With a PCE they have segment routing, and router 1 has `pathd`, a head-end whose LSPs the PCE places."""
 import os
 import shutil
 import subprocess
 import time
 
-DAEMONS = "/usr/lib/frr"
+DAEMONS, MODULES = "/usr/lib/frr", "/usr/lib/*/frr/modules"
 ROOM = "/var/tmp/frr"  # FRR's own folder; the lab has one to itself
 PATIENCE = 30.0  # seconds that a daemon has to come up
 FREE = 125_000_000  # unreserved bytes per second of each circuit, at each priority
@@ -27,6 +29,9 @@ transmit-interval 50
 detect-multiplier 3
 """
 BFD = ["ip ospf bfd", "ip ospf bfd profile lab"]
+HEAD, TAIL, PCE = 1, 6, 5  # the head-end, the end of its LSPs, and the router beside which the PCE runs
+LSPS = [("blue", 1_000_000), ("green", 2_500_000), ("red", 100_000_000)]  # of the head-end, and their bytes per second
+MADE = "gold", 1_000  # one that the PCE makes
 
 
 def router_id(router):
@@ -49,7 +54,8 @@ def neighbors(router):
 
 
 def zebra_conf(router):
-    lines = ["interface lo", f"ip address {router_id(router)}/32", "exit"]
+    # without an address of IPv6, pathd waits for one before it connects
+    lines = ["interface lo", f"ip address {router_id(router)}/32", f"ipv6 address 2001:db8::{router}/128", "exit"]
     for neighbor, _ in neighbors(router):
         # the default of the bandwidths comes from the interface, and none may be above the maximum: that one first
         lines += [f"interface {interface(router, neighbor)}", f"ip address {address(router, neighbor)}/30", "link-params", "enable",
@@ -58,13 +64,24 @@ def zebra_conf(router):
     return "\n".join([*lines, "ip forwarding", ""])
 
 
-def ospfd_conf(router, is_fast, has_bfd=False):
+def ospfd_conf(router, is_fast, has_bfd=False, has_pce=False):
     lines = ["interface lo", "ip ospf area 0", "exit"]
     for neighbor, cost in neighbors(router):
         lines += [f"interface {interface(router, neighbor)}", "ip ospf area 0", "ip ospf network point-to-point", f"ip ospf cost {cost}",
                   *FAST.splitlines() * is_fast, *BFD * has_bfd, "exit"]
     return "\n".join([*lines, "router ospf", f"ospf router-id {router_id(router)}", "capability opaque", "mpls-te on",
-                      f"mpls-te router-address {router_id(router)}", *FAST_LSAS.splitlines() * is_fast, "exit", ""])
+                      f"mpls-te router-address {router_id(router)}", *["segment-routing on"] * has_pce,
+                      *FAST_LSAS.splitlines() * is_fast, "exit", ""])
+
+
+def pathd_conf():
+    """A policy with a dynamic candidate for each LSP: the PCE gives its path. What the PCE makes gets color 1."""
+    lines = ["segment-routing", "traffic-eng"]
+    for color, (name, bandwidth) in enumerate(LSPS, 2):
+        lines += [f"policy color {color} endpoint {router_id(TAIL)}", f"name {name}", "candidate-path preference 100 name lab dynamic",
+                  f"bandwidth {bandwidth}", "exit", "exit"]
+    return "\n".join([*lines, "pcep", "pce lab", f"address ip {router_id(PCE)}", f"source-address ip {router_id(HEAD)}",
+                      "pce-initiated", "exit", "pcc", "peer lab precedence 10", "exit", "exit", "exit", "exit", ""])
 
 
 def command(*words):
@@ -94,19 +111,21 @@ def await_file(path, process, what, said=os.devnull):
 class Routers:
     """The running routers. Nothing ends them: they end with the process namespace that they are in."""
 
-    def __init__(self, is_fast, has_bfd):
+    def __init__(self, is_fast, has_bfd, has_pce=False):
         self.ospfd = {}
         for router in range(1, COUNT + 1):
             command("ip", "netns", "add", f"lab-{router}")
             command("ip", "-n", f"lab-{router}", "link", "set", "lo", "up")
         for a, b, _ in CIRCUITS:
-            command("ip", "link", "add", interface(a, b), "netns", f"lab-{a}", "type", "veth", "peer", "name", interface(b, a), "netns", f"lab-{b}")
+            command("ip", "link", "add", interface(a, b), "netns", f"lab-{a}", "type", "veth",
+                    "peer", "name", interface(b, a), "netns", f"lab-{b}")
             self.link(a, b, "up")
             self.link(b, a, "up")
         for router in range(1, COUNT + 1):
             daemons = [("zebra", zebra_conf(router), []), ("bfdd", BFDD_CONF, ["--bfdctl", f"{ROOM}/{router}/bfdd.sock"]),
-                       ("ospfd", ospfd_conf(router, is_fast, has_bfd), ["-a"])]
-            self.start(router, [daemon for daemon in daemons if has_bfd or daemon[0] != "bfdd"])
+                       ("ospfd", ospfd_conf(router, is_fast, has_bfd, has_pce), ["-a"]), ("pathd", pathd_conf(), ["-M", "pathd_pcep"])]
+            left_out = {"bfdd": not has_bfd, "pathd": not has_pce or router != HEAD}
+            self.start(router, [daemon for daemon in daemons if not left_out.get(daemon[0])])
 
     def start(self, router, daemons):
         folder = os.path.join(ROOM, str(router))
@@ -121,7 +140,8 @@ class Routers:
             with open(os.path.join(folder, f"{daemon}.out"), "wb") as said:
                 process = subprocess.Popen([*within(router), *words], stdin=subprocess.DEVNULL, stdout=said, stderr=said)
             await_file(f"{folder}/{daemon}.vty", process, f"{daemon} of router {router}", said.name)
-        self.ospfd[router] = process
+            if daemon == "ospfd":
+                self.ospfd[router] = process
 
     def link(self, router, neighbor, state):
         """Sets the interface of a router up or down; at the other end the carrier goes with it."""
