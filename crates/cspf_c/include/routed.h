@@ -2,7 +2,7 @@
  *
  * A session takes rows one after the other, and answers each with the line that `routed solve` writes
  * for it, if any. All lines of a session's calls, one behind the other, with the last line behind
- * them, are byte for byte what `routed solve` writes for all rows of the calls (docs/FORMATS.md has
+ * them, are byte for byte what `routed solve` writes for all rows of the calls (docs/run/FORMATS.md has
  * the formats of rows and lines). That is proved of the library, under what is asked of the caller
  * below, which nothing checks.
  *
