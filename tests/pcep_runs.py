@@ -17,9 +17,9 @@ from pcep import NORTH, PATH, SOUTH, TOP, bandwidth, changes, hop, ip, lspa, met
 from served import PATIENCE
 
 from routed.pcep import replies, wire
+from routed.pcep.keys import set_key
 from routed.pcep.wire import pack, tlv
 
-TCP_MD5 = 14
 PCEP = os.path.join(TOP, "tools/pcep")
 OPENED = ["Open", "Keepalive"]
 SILENT = 2  # seconds without an answer
@@ -71,11 +71,6 @@ class Client:
     def close(self):
         self.file.close()
         self.socket.close()
-
-
-def set_key(of, peer, key):
-    where = struct.pack("=HH4s120x", socket.AF_INET, 0, socket.inet_aton(peer))
-    of.setsockopt(socket.IPPROTO_TCP, TCP_MD5, where + struct.pack("=BBHi80s", 0, 0, len(key), 0, key))
 
 
 class Run:
