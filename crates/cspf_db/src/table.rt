@@ -22,6 +22,7 @@ mod fit;
 mod insertion;
 mod marks;
 mod merging;
+mod one_row;
 mod overwriting;
 mod plan;
 mod row_changes;

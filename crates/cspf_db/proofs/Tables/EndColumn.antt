@@ -1,5 +1,5 @@
 -- The column of ends, and what it is after a row has changed.
-use Rattle.std.proofs.Common.{◌≡◌, ℕ, suc, ◌-◌, ◌<◌, ◌≤◌, List, [], ◌∷◌, ◌++◌, All, Contains, length, map, take, drop, slice_index, slice_set, Result, Ok, Err, IfOk, IfErr, Option, Some, None, IfSome, IfNone, sym, ap, subst, ◌∙◌}
+use Rattle.std.proofs.Common.{◌≡◌, ℕ, suc, ◌-◌, ◌<◌, List, [], ◌∷◌, ◌++◌, All, Contains, length, map, take, drop, slice_index, slice_set, sym, ap, ◌∙◌}
 use Rattle.std.specs.List.{between, insert, remove as without}
 use Rattle.std.proofs.lemmas.List.{length-map, map-append, map-set, take-map, drop-map}
 use Rattle.std.proofs.lemmas.List.Elements.{All-append, All-nil, All-cons, All-take, All-drop, All-set}
@@ -34,7 +34,7 @@ module _ (rows : List Link) (routers ends : List ℕ) (are : IsEndColumn rows ro
   -- a row that is put
   module _ (l : Link) (end : ℕ) (from : Contains routers l.from) (within : end < length routers) (found : slice_index routers end ≡ l.to) where
     -- over another
-    put_over : (at : ℕ) → IsEndColumn (slice_set rows at l) routers (slice_set ends at end)
+    pub put_over : (at : ℕ) → IsEndColumn (slice_set rows at l) routers (slice_set ends at end)
     put_over at = record {
       froms = All-set (λ (m : Link). Contains routers m.from) rows at l from are.froms;
       ends = record {
@@ -45,7 +45,7 @@ module _ (rows : List Link) (routers ends : List ℕ) (are : IsEndColumn rows ro
     }
 
     -- between others
-    put_between : (at : ℕ) → IsEndColumn (insert rows at l) routers (insert ends at end)
+    pub put_between : (at : ℕ) → IsEndColumn (insert rows at l) routers (insert ends at end)
     put_between at = record {
       froms = all_insert (λ (m : Link). Contains routers m.from) rows at l from are.froms;
       ends = record {
@@ -55,16 +55,8 @@ module _ (rows : List Link) (routers ends : List ℕ) (are : IsEndColumn rows ro
       };
     }
 
-    -- at the place of a search
-    pub column_put : (place : Result ℕ ℕ) (new_rows : List Link) (new_ends : List ℕ) → IfOk place (λ at. new_rows ≡ slice_set rows at l) → IfErr place (λ at. new_rows ≡ insert rows at l)
-        → IfOk place (λ at. new_ends ≡ slice_set ends at end) → IfErr place (λ at. new_ends ≡ insert ends at end) → IsEndColumn new_rows routers new_ends
-    column_put (Ok at) new_rows new_ends over between over_end between_end =
-        subst (λ es. IsEndColumn new_rows routers es) (sym over_end) (subst (λ rs. IsEndColumn rs routers (slice_set ends at end)) (sym over) (put_over at))
-    column_put (Err at) new_rows new_ends over between over_end between_end =
-        subst (λ es. IsEndColumn new_rows routers es) (sym between_end) (subst (λ rs. IsEndColumn rs routers (insert ends at end)) (sym between) (put_between at))
-
   -- a row that is taken out
-  taken_out : (at : ℕ) → IsEndColumn (without rows at) routers (without ends at)
+  pub taken_out : (at : ℕ) → IsEndColumn (without rows at) routers (without ends at)
   taken_out at = record {
     froms = all_without (λ (m : Link). Contains routers m.from) rows at are.froms;
     ends = record {
@@ -73,27 +65,6 @@ module _ (rows : List Link) (routers ends : List ℕ) (are : IsEndColumn rows ro
           map-without (λ e. slice_index routers e) ends at ∙ ap (λ xs. without xs at) are.ends.each ∙ sym (map-without (λ (m : Link). m.to) rows at);
     };
   }
-
-  -- where a search finds one
-  pub column_remove : (place : Option ℕ) (new_rows : List Link) (new_ends : List ℕ) → IfSome place (λ at. new_rows ≡ without rows at) → IfNone place (new_rows ≡ rows)
-      → IfSome place (λ at. new_ends ≡ without ends at) → IfNone place (new_ends ≡ ends) → IsEndColumn new_rows routers new_ends
-  column_remove (Some at) new_rows new_ends out same out_end same_end =
-      subst (λ es. IsEndColumn new_rows routers es) (sym out_end) (subst (λ rs. IsEndColumn rs routers (without ends at)) (sym out) (taken_out at))
-  column_remove None new_rows new_ends out same out_end same_end =
-      subst (λ es. IsEndColumn new_rows routers es) (sym same_end) (subst (λ rs. IsEndColumn rs routers ends) (sym same) are)
-
--- a place within the rows is one within the ends
-pub within_ends : (rows : List Link) (routers ends : List ℕ) → AreEndsOf rows routers ends → (place : Result ℕ ℕ) → IfOk place (λ at. at < length rows) → IfOk place (λ at. at < length ends)
-within_ends rows routers ends are (Ok at) h = subst (λ n. at < n) (sym (length-ends rows routers ends are)) h
-within_ends rows routers ends are (Err at) h = tt
-
-pub upto_ends : (rows : List Link) (routers ends : List ℕ) → AreEndsOf rows routers ends → (place : Result ℕ ℕ) → IfErr place (λ at. at ≤ length rows) → IfErr place (λ at. at ≤ length ends)
-upto_ends rows routers ends are (Ok at) h = tt
-upto_ends rows routers ends are (Err at) h = subst (λ n. at ≤ n) (sym (length-ends rows routers ends are)) h
-
-pub some_within_ends : (rows : List Link) (routers ends : List ℕ) → AreEndsOf rows routers ends → (place : Option ℕ) → IfSome place (λ at. at < length rows) → IfSome place (λ at. at < length ends)
-some_within_ends rows routers ends are (Some at) h = subst (λ n. at < n) (sym (length-ends rows routers ends are)) h
-some_within_ends rows routers ends are None h = tt
 
 -- the ends of rows that follow each other
 pub ends_joined : (rows more : List Link) (routers ends more_ends : List ℕ) → AreEndsOf rows routers ends → AreEndsOf more routers more_ends → AreEndsOf (rows ++ more) routers (ends ++ more_ends)

@@ -1,7 +1,6 @@
 -- One step of a merge of rows and changes.
-use mathlib.Core.Bool.{true≢false}
 use Rattle.std.proofs.Common.{◌≡◌, ℕ, suc, ◌+◌, ◌-◌, ◌<◌, ◌≤◌, nat_lt, true, false, List, [], ◌∷◌, ◌++◌, length, map, drop, get_or, slice_set, refl, sym, ap, subst, ◌∙◌, append_assoc, add-one, append-nil, length-append, length-drop, ◌≢◌, All, arith}
-use Rattle.std.specs.Ordering.{is_lt, is_eq, eq_by_cmp}
+use Rattle.std.specs.Ordering.{is_lt, is_eq}
 use Rattle.std.specs.declared.cmp.Ordering.{Ordering}
 use Rattle.std.specs.declared.cmp.Ordering.TheVariants.{Less, Equal, Greater}
 use Rattle.std.specs.List.{HoldsAt, AllWithin, between, insert, remove as without}
@@ -18,11 +17,11 @@ use Rattle.cspf_model.specs.Lemmas.LinkChanges.{relinked}
 use Rattle.cspf_db.specs.Tables.MergeSteps.{EndsBelow}
 use Rattle.cspf_model.specs.Lemmas.RowsLeft.{links_put}
 use Rattle.cspf_model.specs.Lemmas.LinkRows.{entry_of, database_of, AreByKey}
-use Rattle.cspf_model.proofs.Databases.Keys.{keys_total, key_itself, change_keys_total, link_keys_same, link_not_mark}
+use Rattle.cspf_model.proofs.Databases.Keys.{keys_total, change_keys_total, link_keys_same, link_not_mark}
 use Rattle.cspf_model.proofs.Databases.FoundLinks.{link_at-no_row}
 use Rattle.cspf_db.proofs.Tables.SortedEntries.{turned_greater, turned_less, test_from_true, rises}
 use Rattle.cspf_model.proofs.Databases.OneChange.{database-without, relinked-absent}
-use Rattle.cspf_db.proofs.Tables.RowOrder.{own_keys, entries-hit, entries-gap, by_key-entries, database_of-entries, by_key-without}
+use Rattle.cspf_db.proofs.Tables.RowOrder.{own_keys, entries-hit, entries-gap, by_key-entries, database_of-entries, by_key-without, untied}
 
 -- rows that are copied stand before the others still
 copied : (old rows : List Link) (at next : ℕ) → at ≤ next → (old ++ between at next rows) ++ drop next rows ≡ old ++ drop at rows
@@ -146,12 +145,6 @@ above_next rows next k by_key no_less no_tie i d lo h =
           let same : i ≡ next = omega (arith, upto, lo) in
           subst (λ n. key_cmp (key_of (get_or rows n d)) k ≡ Greater) (sym same) first
     ] refl
-
--- keys that don't tie differ
-untied : (j k : Key) → eq_by_cmp key_cmp j k ≡ false → j ≢ k
-untied j k apart same =
-    let tie : eq_by_cmp key_cmp j k ≡ true = subst (λ q. eq_by_cmp key_cmp j q ≡ true) same (key_itself j) in
-    true≢false (sym tie ∙ apart)
 
 -- a change is merged where the next row has its key
 pub merged_over : (old rows : List Link) (at next : ℕ) (c : Change) → AreByKey (old ++ drop at rows) → at ≤ next → next < length rows → HoldsAt (λ m. link_key (key_of m) ≡ key_changed c) rows next

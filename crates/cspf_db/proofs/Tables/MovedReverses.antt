@@ -1,9 +1,8 @@
 -- The column of reverses as a row that is left out is put over another, put between others or taken out.
-use Rattle.std.proofs.Common.{◌≡◌, ◌≢◌, ℕ, ◌+◌, ◌-◌, ◌<◌, ◌≤◌, ◌⊎◌, List, ◌++◌, Vec, All, take, drop, length, map, cond, leb, slice_index_or, slice_set, Result, Ok, Err, IfOk, IfErr, Option, Some, None, IfSome, IfNone, refl, sym, ap, subst, ◌∙◌, inl, inr, arith}
-use Rattle.std.specs.declared.alloc.Global.{Global}
+use Rattle.std.proofs.Common.{◌≡◌, ◌≢◌, ℕ, ◌+◌, ◌-◌, ◌<◌, ◌≤◌, ◌⊎◌, List, length, map, cond, leb, slice_index_or, slice_set, sym, ap, subst, ◌∙◌, inl, inr, arith}
 use Rattle.std.specs.List.{HoldsAt, insert, remove as without}
 use Rattle.std.proofs.lemmas.Bool.{cases_eq, cases_lt, eq-eqb, ne_eqb, le-leb, lt-leb}
-use Rattle.std.proofs.lemmas.List.{length-set, length-map, get_or-set_same, get_or-set_other, get_or-map, take_at}
+use Rattle.std.proofs.lemmas.List.{length-set, length-map, get_or-set_same, get_or-set_other, get_or-map}
 use Rattle.std.proofs.lemmas.List.Edits.{length-insert, length-remove, get_or-insert_below, get_or-insert_at, get_or-insert_above, get_or-remove_below, get_or-remove_above}
 use Rattle.cspf_model.specs.declared.link.Link.{Link}
 use Rattle.cspf_db.specs.declared.limits.TheConstants.{NO_LINK, ROOM_FOR_LINKS}
@@ -67,7 +66,7 @@ module _ (rows : List Link) (column : List ℕ) (k : Key) (few : length rows ≤
         | inr apart ↦ inr (j, omega (arith, inside, length-set rows at l), get_or-set_other rows at j l d apart)
       ]
 
-      put_over : AreReversesBut (same_key k) over column
+      pub put_over : AreReversesBut (same_key k) over column
       put_over = column_of (same_key k) over column (are.many ∙ sym (length-set rows at l)) (λ i d h.
           let n = slice_index_or column i 0 in
           let old : i < length rows = omega (arith, h, length-set rows at l) in
@@ -135,7 +134,7 @@ module _ (rows : List Link) (column : List ℕ) (k : Key) (few : length rows ≤
       read : (i : ℕ) → i < length column → slice_index_or (map (index_behind at) column) i 0 ≡ index_behind at (slice_index_or column i 0)
       read i h = get_or-map (index_behind at) column i 0 0 h
 
-      put_between : AreReversesBut (same_key k) wider opened
+      pub put_between : AreReversesBut (same_key k) wider opened
       put_between = column_of (same_key k) wider opened (omega (arith, length-insert (map (index_behind at) column) at NO_LINK upto_column, length-map column (index_behind at), are.many, long)) (λ i d h. elim (cases_lt i at) [
         | inl below ↦
             let is : slice_index_or opened i 0 ≡ index_behind at (slice_index_or column i 0) = get_or-insert_below (map (index_behind at) column) at NO_LINK 0 i below upto_column ∙ read i (omega (arith, below, upto, are.many)) in
@@ -210,38 +209,6 @@ module _ (rows : List Link) (column : List ℕ) (k : Key) (few : length rows ≤
               subst (IsPair (same_key k) fewer d i) (sym is) (pair_before d (i + 1) i (omega (arith, h, short)) (kept_above d i from))
         ])
 
-    taken_out : AreReversesBut no_key fewer closed
+    pub taken_out : AreReversesBut no_key fewer closed
     taken_out = taken_in_unmet k fewer closed
         (λ j d inside same. let from = fewer_from d j inside in from.2 (here rows by_key at within k has from.0 d from.1 (sym (ap key_of from.3) ∙ same))) taken_out_but
-
--- a column that is written back to where it was
-pub written : (left_out : Key → Type 0) (rows : List Link) (old : Vec ℕ Global) (new : List ℕ) → length old.items ≡ length rows → AreReversesBut left_out rows new
-    → AreReversesBut left_out rows (take old.len (new ++ drop (length new) old.items))
-written left_out rows old new many are = subst (λ column. AreReversesBut left_out rows column) (sym (take_at new (drop (length new) old.items) old.len (omega (arith, many, are.many, old.ok.0)))) are
-
--- at the place where a search put a row
-pub column_of_put : (rows : List Link) (column : List ℕ) (l : Link) → length rows ≤ ROOM_FOR_LINKS → AreReversesBut (same_key (key_of l)) rows column
-    → (place : Result ℕ ℕ) (new : List Link) (new_column : List ℕ) (at : ℕ)
-    → IfOk place (λ n. n < length rows) → IfOk place (HoldsAt (λ m. key_of m ≡ key_of l) rows) → IfOk place (λ n. new ≡ slice_set rows n l)
-    → IfErr place (λ n. n ≤ length rows) → IfErr place (λ n. new ≡ insert rows n l)
-    → IfOk place (λ n. (at ≡ n) × (new_column ≡ column)) → IfErr place (λ n. (at ≡ n) × (new_column ≡ insert (map (index_behind n) column) n NO_LINK))
-    → (at < length new) × ((d : Link) → key_of (slice_index_or new at d) ≡ key_of l) × AreReversesBut (same_key (key_of l)) new new_column
-column_of_put rows column l few are (Ok n) new new_column at within has over upto between same opened = rw (over, same.0, same.1) (
-  omega (arith, within, length-set rows n l),
-  λ d. ap key_of (get_or-set_same rows n l d within),
-  put_over rows column (key_of l) few are l refl n within has,
-)
-column_of_put rows column l few are (Err n) new new_column at within has over upto between same opened = rw (between, opened.0, opened.1) (
-  omega (arith, upto, length-insert rows n l upto),
-  λ d. ap key_of (get_or-insert_at rows n l d upto),
-  put_between rows column (key_of l) few are l refl n upto,
-)
-
--- at the place where a search took one out
-pub column_of_removal : (rows : List Link) (column : List ℕ) (k : Key) → length rows ≤ ROOM_FOR_LINKS → AreByKey rows → AreReversesBut (same_key k) rows column
-    → (place : Option ℕ) (new : List Link) (new_column : List ℕ)
-    → IfSome place (λ n. n < length rows) → IfSome place (HoldsAt (λ m. key_of m ≡ k) rows) → IfSome place (λ n. new ≡ without rows n)
-    → IfNone place (All (λ m. key_of m ≢ k) rows) → IfNone place (new ≡ rows)
-    → IfSome place (λ n. new_column ≡ map (index_before n) (without column n)) → IfNone place (new_column ≡ column) → AreReversesBut no_key new new_column
-column_of_removal rows column k few by_key are (Some n) new new_column within has out unmet same closed same_column = rw (out, closed) (taken_out rows column k few are by_key n within has)
-column_of_removal rows column k few by_key are None new new_column within has out unmet same closed same_column = rw (same, same_column) (taken_in_unmet k rows column unmet are)

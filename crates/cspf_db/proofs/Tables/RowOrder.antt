@@ -1,6 +1,7 @@
 -- Rows in order of the key, and the links of their database.
-use Rattle.std.proofs.Common.{◌≡◌, ℕ, ◌<◌, ◌≤◌, ◌⊎◌, inl, inr, nat_lt, Bool, true, false, T, List, [], ◌∷◌, filter, length, map, get_or, slice_set, Result, Ok, Err, IfOk, IfErr, refl, sym, ap, subst, ◌∙◌, arith}
-use Rattle.std.specs.Ordering.{nat_cmp, eq_by_cmp, ordering_then}
+use mathlib.Core.Bool.{true≢false}
+use Rattle.std.proofs.Common.{◌≡◌, ◌≢◌, ℕ, All, ◌<◌, ◌≤◌, ◌⊎◌, inl, inr, nat_lt, Bool, true, false, T, List, [], ◌∷◌, filter, length, map, get_or, slice_set, Result, Ok, Err, IfOk, IfErr, refl, sym, ap, subst, ◌∙◌, arith}
+use Rattle.std.specs.Ordering.{nat_cmp, eq_by_cmp, is_eq, ordering_then}
 use Rattle.std.specs.declared.cmp.Ordering.TheVariants.{Less, Equal, Greater}
 use Rattle.std.specs.List.{HoldsAt, insert, remove as without}
 use Rattle.std.specs.List.Sorted.{IsNonDecreasingBy, IsBinarySearchResult, IsPartitionPoint}
@@ -111,3 +112,13 @@ from_rises rows by_key i j d le h =
   where
     i_or : (i j : ℕ) → i ≤ j → (i < j) ⊎ (i ≡ j)
     i_or i j le = elim (nat_lt i j) as (λ b. nat_lt i j ≡ b → (i < j) ⊎ (i ≡ j)) [ true ↦ λ e. inl (grind (arith, nat_tests)) | false ↦ λ e. inr (grind (arith, nat_tests)) ] refl
+
+-- keys that don't tie differ
+pub untied : (j k : Key) → eq_by_cmp key_cmp j k ≡ false → j ≢ k
+untied j k apart same =
+    let tie : eq_by_cmp key_cmp j k ≡ true = subst (λ q. eq_by_cmp key_cmp j q ≡ true) same (key_itself j) in
+    true≢false (sym tie ∙ apart)
+
+-- where a search by a key finds none, no row has it
+pub unmet_at_gap : (rows : List Link) (k : Key) (at : ℕ) → IsPartitionPoint (λ l. key_cmp (key_of l) k ≡ Less) (λ l. key_cmp (key_of l) k ≡ Greater) rows at → All (λ l. key_of l ≢ k) rows
+unmet_at_gap rows k at gap i d h = elim (cases_lt i at) [ inl below ↦ untied _ k (ap is_eq (gap.0 i d (omega arith) below)) | inr from ↦ untied _ k (ap is_eq (gap.1 i d from h)) ]

@@ -1,5 +1,5 @@
 -- Private: the rows of a table with their routers and ends, and the database that they make.
-use Rattle.std.specs.Prelude.{◌≡◌, ◌<◌, ◌≤◌, ℕ, Bool, false, not, IsTrue, List, All, Contains, filter, length, map, nat_eq, slice_index, slice_index_or, slice_range, Vec}
+use Rattle.std.specs.Prelude.{◌≡◌, ◌+◌, ◌<◌, ◌≤◌, ℕ, Bool, false, not, IsTrue, List, All, Contains, filter, length, map, nat_eq, slice_index, slice_index_or, slice_range, Vec}
 use Rattle.std.specs.Vec.{vec_capacity}
 use Rattle.std.specs.declared.alloc.Global.{Global}
 use Rattle.std.specs.Ordering.{nat_cmp}
@@ -9,7 +9,10 @@ use Rattle.cspf_model.specs.declared.link.Link.{Link}
 use Rattle.cspf_db.specs.declared.table.Table.TheInside.{Inside}
 use Rattle.cspf_db.specs.declared.table.columns.Columns.{Columns}
 use Rattle.cspf_db.specs.declared.table.columns.spans.Span.{Span}
+use Rattle.cspf_model.specs.declared.batch.Change.{Change}
 use Rattle.cspf_model.specs.Database.{router_count}
+use Rattle.cspf_model.specs.Lemmas.LinkChanges.{relinked}
+use Rattle.cspf_model.specs.Lemmas.CountedEnds.{is_end_of}
 use Rattle.cspf_model.specs.Lemmas.LinkRows.{AreByKey, database_of, marks_in, marked_database}
 use Rattle.cspf_db.specs.Index.{with_nothing, router_list}
 use Rattle.cspf_model.specs.declared.limits.TheConstants.{MOST_LINKS, MOST_MARKS, MOST_ROUTERS}
@@ -47,6 +50,15 @@ ArePlacesIn others routers places =
 pub record IsEndColumn (links : List Link) (routers : List ℕ) (indices : List ℕ) : Type 0 where
   pub froms : All (λ l. Contains routers l.from) links
   pub ends : AreEndsOf links routers indices
+
+-- Of some routers those are kept that are ends of rows, in their order, and beside all is the place that each
+-- has among these. Both lists keep their room.
+pub record AreKeptEnds (rows : List Link) (routers : List ℕ) (old old_places new new_places : Vec ℕ Global) : Type 0 where
+  pub kept : new.items ≡ filter (is_end_of rows) routers
+  pub placed : ArePlacesIn new.items routers new_places.items
+  pub len : length new_places.items ≡ length routers
+  pub capacity : vec_capacity old ≤ vec_capacity new
+  pub capacity_of_places : vec_capacity old_places ≤ vec_capacity new_places
 
 -- where the rows from a router begin and end, and between which addresses their interfaces are
 pub record IsSpanOf (rows : List Link) (router : ℕ) (span : Span) : Type 0 where
@@ -103,6 +115,13 @@ pub record AreTiedColumns (c : Columns) : Type 0 where
 pub record ArePaired (c : Columns) : Type 0 where
   pub tied : AreTiedColumns c
   pub reverses : AreReversesBut no_key c.rows.items c.reverses.items
+
+-- One change is made to columns that are paired.
+pub record IsOneChange (old new : Columns) (change : Change) : Type 0 where
+  pub changed : database_of new.rows.items ≡ relinked (database_of old.rows.items) change
+  pub paired : ArePaired new
+  pub longer : length new.rows.items ≤ length old.rows.items + 1
+  pub routers : new.routers.items ≡ old.routers.items
 
 -- The rows with their routers and their ends, no more of them than a table may have.
 pub record AreRowParts (c : Columns) : Type 0 where

@@ -14,10 +14,11 @@ ghost use Rattle.cspf_model.specs.Lemmas.CountedEnds.{HasListedEnds};
 ghost use Rattle.cspf_db.specs.Tables.MergeSteps.{AreMergedBelow, IsMergedUpTo, EndsBelow, AreSortedChanges, IsPlaceOfChange};
 ghost use Rattle.cspf_model.specs.Lemmas.RowsLeft.{links_put};
 ghost use Rattle.cspf_model.specs.Lemmas.LinkRows.{database_of, AreByKey};
-ghost use Rattle.cspf_db.specs.Tables.Rows.{AreRising, AreEndsOf};
+ghost use Rattle.cspf_db.specs.Tables.Rows.{AreRising, AreEndsOf, AreTiedColumns};
 ghost use Rattle.cspf_model.specs.declared.limits.TheConstants.{MOST_LINKS};
 ghost use Rattle.cspf_db.specs.declared.limits.TheConstants.{ROOM_FOR_LINKS, ROOM_FOR_ROUTERS};
 
+use crate::table::columns::Columns;
 use crate::table::columns::routers::index_among;
 use crate::table::columns::rows::compare;
 use crate::table::insertion::extend_within;
@@ -83,36 +84,32 @@ fn put_behind(merged: &mut Vec<Link>, merged_ends: &mut Vec<u16>, routers: &[Add
 fn merge_one(
     merged: &mut Vec<Link>,
     merged_ends: &mut Vec<u16>,
-    rows: &[Link],
-    ends: &[u16],
-    routers: &[Addr],
+    columns: &Columns,
     at: usize,
     change: &Change,
 ) -> usize
-    requires merged { AreMergedBelow rows.now at merged.old merged_ends.old }
+    requires tied { AreTiedColumns columns.now }
+    requires merged { AreMergedBelow columns.now.rows.items at merged.old merged_ends.old }
     requires below { EndsBelow merged.old.items (key_changed change.now) }
-    requires rising { AreRising routers.now }
-    requires few { length routers.now ≤ ROOM_FOR_ROUTERS }
-    requires known { HasListedEnds routers.now change.now }
-    requires ends { AreEndsOf rows.now routers.now ends.now }
-    requires ends_merged { AreEndsOf merged.old.items routers.now merged_ends.old.items }
-    ensures step { IsMergedUpTo change.now rows.now at merged.old merged.new result }
+    requires known { HasListedEnds columns.now.routers.items change.now }
+    requires ends_merged { AreEndsOf merged.old.items columns.now.routers.items merged_ends.old.items }
+    ensures step { IsMergedUpTo change.now columns.now.rows.items at merged.old merged.new result }
     ensures below { (k : ChangeKey) → change_key_cmp (key_changed change.now) k ≡ Ordering.Less
         → EndsBelow merged.new.items k }
     ensures capacity { vec_capacity merged.old ≤ vec_capacity merged.new }
     ensures capacity_of_ends { vec_capacity merged_ends.old ≤ vec_capacity merged_ends.new }
-    ensures ends { AreEndsOf merged.new.items routers.now merged_ends.new.items }
+    ensures ends { AreEndsOf merged.new.items columns.now.routers.items merged_ends.new.items }
 {
     let key = change.key();
     let Some(local) = key.1 else {
         return at;
     };
     let from = key.0;
-    let next = step(rows, at, from, local);
-    extend_within(merged, &rows[at..next]);
-    extend_within(merged_ends, &ends[at..next]);
-    put_behind(merged, merged_ends, routers, change);
-    if is_at(rows, next, from, local) {
+    let next = step(&columns.rows, at, from, local);
+    extend_within(merged, &columns.rows[at..next]);
+    extend_within(merged_ends, &columns.ends[at..next]);
+    put_behind(merged, merged_ends, &columns.routers, change);
+    if is_at(&columns.rows, next, from, local) {
         return next + 1;
     }
     next
@@ -122,35 +119,31 @@ fn merge_one(
 pub(super) fn merge(
     merged: &mut Vec<Link>,
     merged_ends: &mut Vec<u16>,
-    rows: &[Link],
-    ends: &[u16],
-    routers: &[Addr],
+    columns: &Columns,
     changes: &[Change],
 )
-    requires by_key { AreByKey rows.now }
-    requires most { length rows.now ≤ MOST_LINKS }
+    requires tied { AreTiedColumns columns.now }
+    requires most { length columns.now.rows.items ≤ MOST_LINKS }
     requires short { length changes.now ≤ MOST_CHANGES }
     requires in_order { AreSortedChanges changes.now }
     requires empty { merged.old.items ≡ [] }
     requires empty_ends { merged_ends.old.items ≡ [] }
     requires room { ROOM_FOR_LINKS ≤ vec_capacity merged.old }
     requires room_for_ends { ROOM_FOR_LINKS ≤ vec_capacity merged_ends.old }
-    requires rising { AreRising routers.now }
-    requires few { length routers.now ≤ ROOM_FOR_ROUTERS }
-    requires known { All (HasListedEnds routers.now) changes.now }
-    requires ends { AreEndsOf rows.now routers.now ends.now }
-    ensures changed { database_of merged.new.items ≡ all_relinked (database_of rows.now) changes.now }
+    requires known { All (HasListedEnds columns.now.routers.items) changes.now }
+    ensures changed { database_of merged.new.items
+        ≡ all_relinked (database_of columns.now.rows.items) changes.now }
     ensures by_key { AreByKey merged.new.items }
     ensures capacity { vec_capacity merged.old ≤ vec_capacity merged.new }
     ensures capacity_of_ends { vec_capacity merged_ends.old ≤ vec_capacity merged_ends.new }
-    ensures ends { AreEndsOf merged.new.items routers.now merged_ends.new.items }
+    ensures ends { AreEndsOf merged.new.items columns.now.routers.items merged_ends.new.items }
 {
     let mut at = 0;
     for change in changes {
-        at = merge_one(merged, merged_ends, rows, ends, routers, at, change);
+        at = merge_one(merged, merged_ends, columns, at, change);
     }
-    extend_within(merged, &rows[at..]);
-    extend_within(merged_ends, &ends[at..]);
+    extend_within(merged, &columns.rows[at..]);
+    extend_within(merged_ends, &columns.ends[at..]);
 }
 
 /// Lists the keys of the changes, each with the index of its change. There is room, so this takes no

@@ -1,24 +1,23 @@
 //! Changes of rows, with the columns of ends and of reverses changed as each row changes.
 ghost use Rattle.std.specs.Prelude.{count_by, ◌≡◌, ◌+◌, ◌<◌, ◌≤◌, true, All, length};
-ghost use Rattle.cspf_model.specs.Lemmas.LinkChanges.{relinked, all_relinked};
+ghost use Rattle.cspf_model.specs.Lemmas.LinkChanges.{all_relinked};
 ghost use Rattle.cspf_model.specs.Lemmas.CountedEnds.{HasListedEnds};
 ghost use Rattle.cspf_model.specs.Database.{link_count, router_count};
 ghost use Rattle.cspf_model.specs.Refusals.{AreOnceEach};
 ghost use Rattle.cspf_model.specs.Lemmas.RowsLeft.{adds_link, removes_link};
 ghost use Rattle.cspf_model.specs.Lemmas.LinkRows.{database_of};
-ghost use Rattle.cspf_db.specs.Tables.Rows.{AreColumns, ArePaired, AreRowParts, AreTiedColumns};
+ghost use Rattle.cspf_db.specs.Tables.Rows.{AreColumns, ArePaired, AreRowParts, AreTiedColumns, IsOneChange};
 ghost use Rattle.cspf_db.specs.Tables.Reverses.{AreReversesBut, no_key};
 ghost use Rattle.cspf_model.specs.declared.limits.TheConstants.{MOST_CHANGES, MOST_LINKS, MOST_ROUTERS};
 ghost use Rattle.cspf_db.specs.declared.limits.TheConstants.{ROOM_FOR_LINKS};
 
 use crate::table::changes::count_removed;
 use crate::table::columns::Columns;
-use crate::table::columns::ends::{put_end, remove_end};
-use crate::table::columns::reverses::{list_reverses, pair, put_reverse, remove_reverse, unpair};
-use crate::table::columns::routers::index_among;
-use crate::table::columns::rows::{index_alike, put, remove};
+use crate::table::columns::reverses::list_reverses;
+use crate::table::columns::rows::{index_of, search};
 use crate::table::columns::spans::list_spans;
 use crate::table::fit::tally::Tally;
+use crate::table::one_row::{insert_at, remove_at, replace_at};
 use crate::table::scratch::Scratch;
 use cspf_model::Change;
 
@@ -27,30 +26,17 @@ fn change_one(columns: &mut Columns, change: &Change)
     requires paired { ArePaired columns.old }
     requires room { length columns.old.rows.items < ROOM_FOR_LINKS }
     requires known { HasListedEnds columns.old.routers.items change.now }
-    ensures changed { database_of columns.new.rows.items
-        ≡ relinked (database_of columns.old.rows.items) change.now }
-    ensures paired { ArePaired columns.new }
-    ensures longer { length columns.new.rows.items ≤ length columns.old.rows.items + 1 }
-    ensures routers { columns.new.routers.items ≡ columns.old.routers.items }
+    ensures { IsOneChange columns.old columns.new change.now }
 {
     match change {
-        Change::Put(link) => {
-            if let Some(at) = index_alike(&columns.rows, link) {
-                columns.rows[at] = *link;
-                return;
-            }
-            let end = index_among(&columns.routers, link.to);
-            unpair(&mut columns.reverses, &columns.rows, link.from, link.local);
-            let place = put(&mut columns.rows, *link);
-            put_end(&mut columns.ends, place, end);
-            let at = put_reverse(&mut columns.reverses, place);
-            pair(&mut columns.reverses, &columns.rows, at);
-        }
+        Change::Put(link) => match search(&columns.rows, link.from, link.local) {
+            Ok(at) => replace_at(columns, at, link),
+            Err(at) => insert_at(columns, at, link),
+        },
         Change::Remove { from, local } => {
-            unpair(&mut columns.reverses, &columns.rows, *from, *local);
-            let place = remove(&mut columns.rows, *from, *local);
-            remove_end(&mut columns.ends, place);
-            remove_reverse(&mut columns.reverses, place);
+            if let Some(at) = index_of(&columns.rows, *from, *local) {
+                remove_at(columns, at);
+            }
         }
         Change::Node { .. } => {}
     }
@@ -71,7 +57,7 @@ fn change_rows(columns: &mut Columns, changes: &[Change])
 }
 
 /// How many rows may be put between others or taken out one by one, as each moves those after it.
-const FEW: usize = 48;
+const FEW: usize = 24;
 
 /// Whether changes, `added` of which add a link, put few rows between others and take few out.
 fn move_few(added: usize, changes: &[Change]) -> bool

@@ -79,14 +79,7 @@ impl Scratch {
         sort_changes(&mut self.order, &mut self.sorted, changes);
         self.merged.clear();
         self.ends.clear();
-        merge(
-            &mut self.merged,
-            &mut self.ends,
-            &columns.rows,
-            &columns.ends,
-            &columns.routers,
-            &self.sorted,
-        );
+        merge(&mut self.merged, &mut self.ends, columns, &self.sorted);
         swap(&mut columns.rows, &mut self.merged);
         swap(&mut columns.ends, &mut self.ends);
     }

@@ -4,7 +4,7 @@ ghost use Rattle.std.specs.Vec.{vec_capacity};
 ghost use Rattle.std.specs.List.{list_any};
 ghost use Rattle.cspf_model.specs.Lemmas.CountedEnds.{any_to, is_end_of};
 ghost use Rattle.cspf_model.specs.Lemmas.LinkRows.{AreByKey};
-ghost use Rattle.cspf_db.specs.Tables.Rows.{AreRising, IsEndColumn, ArePlacesIn};
+ghost use Rattle.cspf_db.specs.Tables.Rows.{AreRising, IsEndColumn, ArePlacesIn, AreKeptEnds};
 
 use crate::limits::ROOM_FOR_ROUTERS;
 use crate::table::columns::routers::index_near;
@@ -85,11 +85,7 @@ fn keep_marked(
         → slice_index_or marked.now at false ≡ any_to rows.now (slice_index routers.now at) }
     requires room { ROOM_FOR_ROUTERS ≤ vec_capacity kept.old }
     requires room_for_places { ROOM_FOR_ROUTERS ≤ vec_capacity places.old }
-    ensures kept { kept.new.items ≡ filter (is_end_of rows.now) routers.now }
-    ensures placed { ArePlacesIn kept.new.items routers.now places.new.items }
-    ensures len { vec_len places.new ≡ length routers.now }
-    ensures capacity { vec_capacity kept.old ≤ vec_capacity kept.new }
-    ensures capacity_of_places { vec_capacity places.old ≤ vec_capacity places.new }
+    ensures { AreKeptEnds rows.now routers.now kept.old places.old kept.new places.new }
 {
     kept.clear();
     places.clear();
@@ -113,11 +109,7 @@ pub(crate) fn keep_ends(
     requires column { IsEndColumn rows.now routers.now ends.now }
     requires room { ROOM_FOR_ROUTERS ≤ vec_capacity kept.old }
     requires room_for_places { ROOM_FOR_ROUTERS ≤ vec_capacity places.old }
-    ensures kept { kept.new.items ≡ filter (is_end_of rows.now) routers.now }
-    ensures placed { ArePlacesIn kept.new.items routers.now places.new.items }
-    ensures len { vec_len places.new ≡ length routers.now }
-    ensures capacity { vec_capacity kept.old ≤ vec_capacity kept.new }
-    ensures capacity_of_places { vec_capacity places.old ≤ vec_capacity places.new }
+    ensures { AreKeptEnds rows.now routers.now kept.old places.old kept.new places.new }
 {
     let mut marked = [false; ROOM_FOR_ROUTERS];
     mark_ends(&mut marked, ends);

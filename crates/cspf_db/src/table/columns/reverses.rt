@@ -3,17 +3,17 @@ ghost use Rattle.std.specs.Prelude.{◌≡◌, ◌<◌, ◌≤◌, length, map, 
 ghost use Rattle.std.specs.Vec.{vec_capacity};
 ghost use Rattle.std.specs.List.{HoldsAt, insert, remove as without};
 ghost use Rattle.cspf_model.specs.declared.link.Link.{Link as Linked};
-ghost use Rattle.cspf_model.specs.Database.{key_of};
+ghost use Rattle.cspf_model.specs.Database.{Key, key_of};
 ghost use Rattle.cspf_db.specs.declared.limits.TheConstants.{NO_LINK, ROOM_FOR_LINKS};
 ghost use Rattle.cspf_model.specs.Lemmas.LinkRows.{AreByKey};
-ghost use Rattle.cspf_db.specs.Tables.Rows.{AreSpansAtEnds, IsSpanOf};
+ghost use Rattle.cspf_db.specs.Tables.Rows.{ArePaired, AreSpansAtEnds, AreTiedColumns, IsSpanOf};
 ghost use Rattle.cspf_db.specs.Tables.Reverses.{AreReversesBut, IsIndexOfReverse, index_before, index_behind, no_key, same_key};
 
 use crate::limits::NO_LINK;
+use crate::table::columns::Columns;
 use crate::table::columns::rows::index_of;
 use crate::table::columns::spans::Span;
 use crate::table::insertion::insert_within;
-use cspf_addr::Addr;
 use cspf_model::Link;
 
 /// The index, if the row there is the reverse of the link, which has the key of its reverse.
@@ -74,38 +74,42 @@ pub(crate) fn list_reverses(reverses: &mut Vec<u16>, rows: &[Link], ends: &[u16]
     }
 }
 
-/// Parts the row with this key, if there is one, from its reverse.
-pub(crate) fn unpair(reverses: &mut [u16], rows: &[Link], from: Addr, local: Addr)
-    requires by_key { AreByKey rows.now }
-    requires most { length rows.now ≤ ROOM_FOR_LINKS }
-    requires before { AreReversesBut no_key rows.now reverses.old }
-    ensures after { AreReversesBut (same_key (from, local)) rows.now reverses.new }
+/// Parts the row at an index from its reverse, if it has one.
+pub(crate) fn unpair(columns: &mut Columns, at: usize)
+    requires paired { ArePaired columns.old }
+    requires within { at < length columns.old.rows.items }
+    ensures tied { AreTiedColumns columns.new }
+    ensures rows { columns.new.rows.items ≡ columns.old.rows.items }
+    ensures routers { columns.new.routers.items ≡ columns.old.routers.items }
+    ensures parted { (k : Key) → HoldsAt (λ l. key_of l ≡ k) columns.new.rows.items at
+        → AreReversesBut (same_key k) columns.new.rows.items columns.new.reverses.items }
 {
-    let Some(at) = index_of(rows, from, local) else {
-        return;
-    };
-    let other = reverses[at];
+    let other = columns.reverses[at];
     if other == NO_LINK {
         return;
     }
-    reverses[usize::from(other)] = NO_LINK;
-    reverses[at] = NO_LINK;
+    columns.reverses[usize::from(other)] = NO_LINK;
+    columns.reverses[at] = NO_LINK;
 }
 
-/// Pairs the row at an index with its reverse, if there is one.
-pub(crate) fn pair(reverses: &mut [u16], rows: &[Link], at: usize)
-    requires by_key { AreByKey rows.now }
-    requires most { length rows.now ≤ ROOM_FOR_LINKS }
-    requires within { at < length rows.now }
-    requires before { (d : Linked) → AreReversesBut (same_key (key_of (slice_index_or rows.now at d))) rows.now reverses.old }
-    ensures after { AreReversesBut no_key rows.now reverses.new }
+/// Pairs the row at an index, which has no reverse in the column, with its reverse, if there is one.
+pub(crate) fn pair(columns: &mut Columns, at: usize)
+    requires tied { AreTiedColumns columns.old }
+    requires most { length columns.old.rows.items ≤ ROOM_FOR_LINKS }
+    requires within { at < length columns.old.rows.items }
+    requires parted { (d : Linked)
+        → AreReversesBut (same_key (key_of (slice_index_or columns.old.rows.items at d)))
+        columns.old.rows.items columns.old.reverses.items }
+    ensures paired { ArePaired columns.new }
+    ensures rows { columns.new.rows.items ≡ columns.old.rows.items }
+    ensures routers { columns.new.routers.items ≡ columns.old.routers.items }
 {
-    let other = reverse_index(rows, &rows[at]);
+    let other = reverse_index(&columns.rows, &columns.rows[at]);
     if other == NO_LINK {
         return;
     }
-    reverses[usize::from(other)] = at as u16;
-    reverses[at] = other;
+    columns.reverses[usize::from(other)] = at as u16;
+    columns.reverses[at] = other;
 }
 
 /// Where the row at an index is once another was put before the rows from one on.
@@ -148,37 +152,25 @@ fn move_before(reverses: &mut [u16], at: usize)
     }
 }
 
-/// Puts no reverse for the row that was put between others, and says at which index the row that was
-/// put is. There is room, so this takes no memory and can't fail.
-pub(crate) fn put_reverse(reverses: &mut Vec<u16>, place: Result<usize, usize>) -> usize
+/// Puts no reverse for a row that is put at an index, before the rows from it on. There is room, so this
+/// takes no memory and can't fail.
+pub(crate) fn open_gap(reverses: &mut Vec<u16>, at: usize)
     requires few { vec_len reverses.old ≤ ROOM_FOR_LINKS }
-    requires upto { IfErr place (λ at. at ≤ length reverses.old.items) }
+    requires upto { at ≤ vec_len reverses.old }
     requires room { vec_len reverses.old < vec_capacity reverses.old }
-    ensures over { IfOk place (λ at. (result ≡ at) × (reverses.new.items ≡ reverses.old.items)) }
-    ensures between { IfErr place (λ at. (result ≡ at)
-        × (reverses.new.items ≡ insert (map (index_behind at) reverses.old.items) at NO_LINK)) }
+    ensures opened { reverses.new.items ≡ insert (map (index_behind at) reverses.old.items) at NO_LINK }
     ensures capacity { vec_capacity reverses.old ≤ vec_capacity reverses.new }
 {
-    match place {
-        Ok(at) => at,
-        Err(at) => {
-            move_behind(reverses, at);
-            insert_within(reverses, at, NO_LINK);
-            at
-        }
-    }
+    move_behind(reverses, at);
+    insert_within(reverses, at, NO_LINK);
 }
 
-/// Takes out the reverse of the row that was taken out, if one was.
-pub(crate) fn remove_reverse(reverses: &mut Vec<u16>, place: Option<usize>)
-    requires { IfSome place (λ at. at < length reverses.old.items) }
-    ensures out { IfSome place (λ at. reverses.new.items
-        ≡ map (index_before at) (without reverses.old.items at)) }
-    ensures same { IfNone place (reverses.new.items ≡ reverses.old.items) }
+/// Takes out the reverse of the row that is taken out at an index.
+pub(crate) fn close_gap(reverses: &mut Vec<u16>, at: usize)
+    requires { at < vec_len reverses.old }
+    ensures closed { reverses.new.items ≡ map (index_before at) (without reverses.old.items at) }
     ensures capacity { vec_capacity reverses.old ≤ vec_capacity reverses.new }
 {
-    if let Some(at) = place {
-        let _ = reverses.remove(at);
-        move_before(reverses, at);
-    }
+    let _ = reverses.remove(at);
+    move_before(reverses, at);
 }

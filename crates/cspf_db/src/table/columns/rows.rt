@@ -1,4 +1,4 @@
-//! The rows of a table, which are its links in order of their keys: searched, put and removed.
+//! The rows of a table, which are its links in order of their keys, and how they are searched.
 
 ghost use Rattle.std.specs.Prelude.{◌≡◌, ◌≢◌, ℕ, ◌+◌, ◌<◌, ◌≤◌, true, false, All, filter, length, nat_eq, slice_range, slice_set, vec_len, IfOk, IfErr, IfSome, IfNone};
 ghost use Rattle.std.specs.Vec.{vec_capacity};
@@ -61,20 +61,6 @@ pub(crate) fn is_alike(rows: &[Link], at: usize, link: &Link) -> bool
     rows[at].to == link.to && rows[at].remote == link.remote
 }
 
-/// The index of the row with the link's key, if there is one and it runs between the same interfaces.
-pub(crate) fn index_alike(rows: &[Link], link: &Link) -> Option<usize>
-    requires { AreByKey rows.now }
-    ensures within { IfSome result (λ at. at < length rows.now) }
-    ensures alike { IfSome result (HoldsAt (λ l. HasSameEnds l link.now) rows.now) }
-{
-    let at = index_of(rows, link.from, link.local)?;
-    if is_alike(rows, at, link) {
-        Some(at)
-    } else {
-        None
-    }
-}
-
 /// Where the rows from the router begin and end.
 pub(crate) fn span(rows: &[Link], router: Addr) -> (usize, usize)
     requires { AreByKey rows.now }
@@ -113,53 +99,4 @@ pub(crate) fn any_within(rows: &[Link], prefix: Prefix) -> bool
     ensures no { result ≡ false → All (λ l. ¬ Covers prefix l.local) rows.now }
 {
     rows.iter().any(|link| prefix.covers(link.local))
-}
-
-/// Puts the link in place of the row with its key, or between the lower keys and the higher ones,
-/// and says at which index.
-pub(crate) fn put(rows: &mut Vec<Link>, link: Link) -> Result<usize, usize>
-    requires by_key { AreByKey rows.old.items }
-    requires room { vec_len rows.old < vec_capacity rows.old }
-    ensures changed { database_of rows.new.items
-        ≡ relinked (database_of rows.old.items) (Change.Put link) }
-    ensures by_key { AreByKey rows.new.items }
-    ensures longer { vec_len rows.new ≤ vec_len rows.old + 1 }
-    ensures capacity { vec_capacity rows.old ≤ vec_capacity rows.new }
-    ensures within { IfOk result (λ at. at < length rows.old.items) }
-    ensures found { IfOk result (HoldsAt (λ l. key_of l ≡ key_of link) rows.old.items) }
-    ensures over { IfOk result (λ at. rows.new.items ≡ slice_set rows.old.items at link) }
-    ensures upto { IfErr result (λ at. at ≤ length rows.old.items) }
-    ensures between { IfErr result (λ at. rows.new.items ≡ insert rows.old.items at link) }
-{
-    match search(rows, link.from, link.local) {
-        Ok(at) => {
-            rows[at] = link;
-            Ok(at)
-        }
-        Err(at) => {
-            insert_within(rows, at, link);
-            Err(at)
-        }
-    }
-}
-
-/// Takes out the row with this key, if there is one, and says at which index.
-pub(crate) fn remove(rows: &mut Vec<Link>, from: Addr, local: Addr) -> Option<usize>
-    requires { AreByKey rows.old.items }
-    ensures changed { database_of rows.new.items
-        ≡ relinked (database_of rows.old.items) (Change.Remove from local) }
-    ensures by_key { AreByKey rows.new.items }
-    ensures longer { vec_len rows.new ≤ vec_len rows.old }
-    ensures capacity { vec_capacity rows.old ≤ vec_capacity rows.new }
-    ensures bound { IfSome result (λ at. at < length rows.old.items) }
-    ensures found { IfSome result (HoldsAt (λ l. key_of l ≡ (from, local)) rows.old.items) }
-    ensures out { IfSome result (λ at. rows.new.items ≡ without rows.old.items at) }
-    ensures none { IfNone result (All (λ l. key_of l ≢ (from, local)) rows.old.items) }
-    ensures same { IfNone result (rows.new.items ≡ rows.old.items) }
-{
-    if let Some(at) = index_of(rows, from, local) {
-        let _ = rows.remove(at);
-        return Some(at);
-    }
-    None
 }

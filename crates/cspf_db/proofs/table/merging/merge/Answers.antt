@@ -14,8 +14,8 @@ use Rattle.cspf_db.proofs.table.merging.merge.Goals as goal
 pub loop-change-init : goal.loop-change-init
 loop-change-init c = record {
   bound = omega arith;
-  left = ap (λ (xs : List Link). all_relinked (database_of (xs ++ c.args.rows.now)) c.args.changes.now) c.requires.empty;
-  joined = rw c.requires.empty c.requires.by_key;
+  left = ap (λ (xs : List Link). all_relinked (database_of (xs ++ c.args.columns.now.rows.items)) c.args.changes.now) c.requires.empty;
+  joined = rw c.requires.empty c.requires.tied.by_key;
   below = λ d h e some. absurd (omega (arith, some, ap length c.requires.empty));
   longer = omega (arith, ap length c.requires.empty);
   capacity = omega arith;
@@ -34,7 +34,7 @@ loop-change-preserved c =
     let change = c.change-item.result in
     let before = c.loop-change.invariant in
     let step = c.merge_one-at.ensures.step in
-    let d : Database = database_of (c.loop-change.merged.items ++ drop c.loop-change.at c.args.rows.now) in
+    let d : Database = database_of (c.loop-change.merged.items ++ drop c.loop-change.at c.args.columns.now.rows.items) in
     record {
       bound = step.bound;
       left =
@@ -51,5 +51,5 @@ loop-change-preserved c =
 
 pub returns-clause-ends : goal.returns-clause-ends
 returns-clause-ends c =
-    rw (c.extend_within.ensures.items, c.extend_within-2.ensures.items, length-ends _ _ _ c.requires.ends)
-    (ends_joined _ _ c.args.routers.now _ _ c.loop-change.invariant.ends (ends_between c.args.rows.now c.args.routers.now c.args.ends.now c.loop-change.at (length c.args.rows.now) c.requires.ends))
+    rw (c.extend_within.ensures.items, c.extend_within-2.ensures.items, c.deref.ensures.value, c.deref-2.ensures.value, length-ends _ _ _ c.requires.tied.column.ends)
+    (ends_joined _ _ c.args.columns.now.routers.items _ _ c.loop-change.invariant.ends (ends_between c.args.columns.now.rows.items c.args.columns.now.routers.items c.args.columns.now.ends.items c.loop-change.at (length c.args.columns.now.rows.items) c.requires.tied.column.ends))

@@ -10,12 +10,12 @@ use Rattle.cspf_db.proofs.table.merging.merge.Given as goal
 
 abbrev pub invariant-loop-change : goal.invariant-loop-change
 invariant-loop-change l = record {
-  bound : l.at ≤ length l.rows;
-  left : all_relinked (database_of (l.merged.items ++ drop l.at l.rows)) (drop l.change-index l.changes) ≡ all_relinked (database_of l.rows) l.changes;
-  joined : AreByKey (l.merged.items ++ drop l.at l.rows);
+  bound : l.at ≤ length l.columns.rows.items;
+  left : all_relinked (database_of (l.merged.items ++ drop l.at l.columns.rows.items)) (drop l.change-index l.changes) ≡ all_relinked (database_of l.columns.rows.items) l.changes;
+  joined : AreByKey (l.merged.items ++ drop l.at l.columns.rows.items);
   below : (d : Change) → l.change-index < length l.changes → EndsBelow l.merged.items (key_changed (slice_index_or l.changes l.change-index d));
-  longer : vec_len l.merged + (length l.rows - l.at) ≤ length l.rows + l.change-index;
+  longer : vec_len l.merged + (length l.columns.rows.items - l.at) ≤ length l.columns.rows.items + l.change-index;
   capacity : vec_capacity l.fn.merged ≤ vec_capacity l.merged;
   capacity_of_ends : vec_capacity l.fn.merged_ends ≤ vec_capacity l.merged_ends;
-  ends : AreEndsOf l.merged.items l.routers l.merged_ends.items;
+  ends : AreEndsOf l.merged.items l.columns.routers.items l.merged_ends.items;
 }

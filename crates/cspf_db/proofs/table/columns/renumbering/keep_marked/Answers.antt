@@ -5,8 +5,16 @@ use Rattle.cspf_db.specs.Tables.Rows.{ArePlacesIn}
 use Rattle.cspf_db.proofs.Tables.RouterPlaces.{filter_places}
 use Rattle.cspf_db.proofs.table.columns.renumbering.keep_marked.Goals as goal
 
-pub returns-clause-placed : goal.returns-clause-placed
-returns-clause-placed c =
-    subst (λ kept. ArePlacesIn kept c.args.routers.now c.loop-at.places.items)
-    (sym (c.loop-at.invariant.kept ∙ ap (filter (is_end_of c.args.rows.now)) (take_all c.loop-at.at c.args.routers.now (omega arith))))
-    (filter_places (is_end_of c.args.rows.now) c.args.routers.now c.loop-at.places.items (λ k h. c.loop-at.invariant.placed k (omega (arith, h))))
+pub returns : goal.returns
+returns c =
+    let is = c.loop-at.invariant in
+    let routers = c.args.routers.now in
+    let kept = is.kept ∙ ap (filter (is_end_of c.args.rows.now)) (take_all c.loop-at.at routers (omega arith)) in
+    record {
+      kept = kept;
+      placed = subst (λ kept. ArePlacesIn kept routers c.loop-at.places.items) (sym kept)
+          (filter_places (is_end_of c.args.rows.now) routers c.loop-at.places.items (λ k h. is.placed k (omega (arith, h))));
+      len = omega (arith, is.len, c.loop-at.places.ok.0);
+      capacity = is.capacity;
+      capacity_of_places = is.capacity_of_places;
+    }

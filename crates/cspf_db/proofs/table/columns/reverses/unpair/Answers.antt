@@ -1,19 +1,26 @@
-use Rattle.std.proofs.Common.{refl}
-use Rattle.cspf_db.proofs.Tables.PairedRows.{left_out_unmet, left_out_open, left_out_parted, within_column}
+use Rattle.std.proofs.Common.{sym, ◌∙◌, arith}
+use Rattle.std.proofs.lemmas.List.{get_or_default}
+use Rattle.cspf_db.proofs.Tables.PairedRows.{left_out_open, left_out_parted, within_column}
 use Rattle.cspf_db.proofs.table.columns.reverses.unpair.Goals as goal
 
-pub returns-in_default : goal.returns-in_default
-returns-in_default c = record { after = left_out_unmet (c.args.from, c.args.local) c.args.rows.now c.args.reverses.now c.in_default.ensures.none c.requires.before }
+pub returns-then-other-clause-parted : goal.returns-then-other-clause-parted
+returns-then-other-clause-parted c k has =
+    let columns = c.args.columns.now in
+    let is = c.requires.paired.reverses in
+    let read = get_or_default columns.reverses.items c.args.at 0 c.index-other.result.now (omega (arith, c.requires.within, is.many)) ∙ sym c.index-other.ensures in
+    left_out_open columns.rows.items c.requires.paired.tied.by_key c.args.at c.requires.within k has columns.reverses.items (read ∙ c.if-other.true) is
 
-pub returns-then-other : goal.returns-then-other
-returns-then-other c =
-    let at = c.in-Some.ensures in
-    record { after = left_out_open c.args.rows.now c.requires.by_key c.in-Some.at at.bound (c.args.from, c.args.local) at.some c.args.reverses.now c.if-other.true c.requires.before }
+pub index_mut-requires : goal.index_mut-requires
+index_mut-requires c =
+    let columns = c.args.columns.now in
+    let is = c.requires.paired.reverses in
+    let read = get_or_default columns.reverses.items c.args.at 0 c.index-other.result.now (omega (arith, c.requires.within, is.many)) ∙ sym c.index-other.ensures in
+    let within = within_column columns.rows.items columns.reverses.items c.args.at c.requires.within is (λ z. c.if-other.false (sym read ∙ z)) in
+    omega (arith, read, c.from.ensures, within, columns.reverses.ok.0)
 
-pub bounds-reverses-from : goal.bounds-reverses-from
-bounds-reverses-from c = rw c.from.ensures (within_column c.args.rows.now c.args.reverses.now c.in-Some.at c.in-Some.ensures.bound c.requires.before c.if-other.false)
-
-pub returns : goal.returns
-returns c =
-    let at = c.in-Some.ensures in
-    record { after = rw c.from.ensures (left_out_parted c.args.rows.now c.requires.by_key c.in-Some.at at.bound (c.args.from, c.args.local) at.some c.args.reverses.now _ refl c.if-other.false c.requires.before) }
+pub returns-clause-parted : goal.returns-clause-parted
+returns-clause-parted c k has =
+    let columns = c.args.columns.now in
+    let is = c.requires.paired.reverses in
+    let read = get_or_default columns.reverses.items c.args.at 0 c.index-other.result.now (omega (arith, c.requires.within, is.many)) ∙ sym c.index-other.ensures in
+    rw c.from.ensures (left_out_parted columns.rows.items c.requires.paired.tied.by_key c.args.at c.requires.within k has columns.reverses.items _ read c.if-other.false is)

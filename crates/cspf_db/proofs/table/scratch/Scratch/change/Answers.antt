@@ -10,27 +10,26 @@ use Rattle.cspf_db.proofs.table.scratch.Scratch.change.Goals as goal
 
 pub returns-clause-changed : goal.returns-clause-changed
 returns-clause-changed c =
-    let made = rw (c.deref.ensures.value, c.deref-4.ensures.value) at c.merge.ensures.changed in
+    let made = rw c.deref.ensures.value at c.merge.ensures.changed in
     ap (λ (v : Vec Link Global). database_of v.items) c.swap.ensures.x_after ∙ made
     ∙ all_relinked-permuted c.args.changes.now _ c.sort_changes.ensures.permutation c.requires.once (database_of c.args.columns.now.rows.items)
 
 pub merge-requires-clause-short : goal.merge-requires-clause-short
-merge-requires-clause-short c = rw c.deref-4.ensures.value (omega (arith, length_permutation _ _ c.sort_changes.ensures.permutation, c.requires.short))
+merge-requires-clause-short c = rw c.deref.ensures.value (omega (arith, length_permutation _ _ c.sort_changes.ensures.permutation, c.requires.short))
 
 pub merge-requires-clause-in_order : goal.merge-requires-clause-in_order
-merge-requires-clause-in_order c = rw c.deref-4.ensures.value c.sort_changes.ensures.in_order
+merge-requires-clause-in_order c = rw c.deref.ensures.value c.sort_changes.ensures.in_order
 
 pub merge-requires-clause-known : goal.merge-requires-clause-known
 merge-requires-clause-known c =
-    rw (c.deref-4.ensures.value, c.deref-3.ensures.value) (All-permutation (HasListedEnds c.args.columns.now.routers.items) _ _ c.sort_changes.ensures.permutation c.requires.known)
+    rw c.deref.ensures.value (All-permutation (HasListedEnds c.args.columns.now.routers.items) _ _ c.sort_changes.ensures.permutation c.requires.known)
 
 pub returns-clause-tied : goal.returns-clause-tied
 returns-clause-tied c =
     let old = c.requires.tied in
     let columns = c.args.columns.now in
-    let made = rw (c.deref.ensures.value, c.deref-4.ensures.value) at c.merge.ensures.changed ∙ all_relinked-permuted c.args.changes.now _ c.sort_changes.ensures.permutation c.requires.once (database_of columns.rows.items) in
+    let made = rw c.deref.ensures.value at c.merge.ensures.changed ∙ all_relinked-permuted c.args.changes.now _ c.sort_changes.ensures.permutation c.requires.once (database_of columns.rows.items) in
     let by_key = c.merge.ensures.by_key in
-    let ends = rw c.deref-3.ensures.value at c.merge.ensures.ends in
     let listed = rows_listed_after columns.routers.items _ c.merge.new.merged.items _ c.args.changes.now old.column by_key made c.requires.known in
     rw (c.swap.ensures.x_after, c.swap-2.ensures.x_after) (record {
       room = record {
@@ -43,5 +42,5 @@ returns-clause-tied c =
       by_key = by_key;
       rising = old.rising;
       few = old.few;
-      column = record { froms = λ k d h. (listed k d h).0; ends = ends };
+      column = record { froms = λ k d h. (listed k d h).0; ends = c.merge.ensures.ends };
     })
