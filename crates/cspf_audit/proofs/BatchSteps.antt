@@ -1,11 +1,15 @@
 -- One more batch of a journal.
-use Rattle.std.proofs.Common.{◌≡◌, ℕ, ◌+◌, ◌<◌, List, [], ◌∷◌, ◌++◌, length, take, drop, get_or, sym, ap, subst, ◌∙◌}
-use Rattle.std.proofs.lemmas.List.{take-append-drop}
+use Rattle.std.proofs.Common.{◌≡◌, ℕ, ◌+◌, ◌<◌, List, [], ◌∷◌, ◌++◌, length, take, get_or, inl, inr, sym, ap, subst, ◌∙◌, arith}
+use Rattle.std.proofs.lemmas.Bool.{cases_eq}
+use Rattle.std.proofs.lemmas.List.{get_or_at, get_or_append_left, get_or_default, length_push}
 use Rattle.std.proofs.lemmas.Grind.{take_at_read}
 use Rattle.cspf_model.specs.Numbered.{NumberedChanges}
 use Rattle.cspf_model.specs.Database.{Database}
 use Rattle.cspf_model.specs.Changes.{AreLawful, Fits, after_changes, database_after}
-use Rattle.cspf_model.specs.Laws.{OneMoreBatch, LawfulByOneMore, FirstBatchesAreLawful}
+use Rattle.cspf_model.specs.Laws.{OneMoreBatch, LawfulByOneMore}
+use Rattle.cspf_db.specs.declared.table.plan.Plan.{Plan}
+use Rattle.cspf_db.specs.Plans.{IsPlanOf}
+use Rattle.cspf_audit.specs.Reading.{ArePlansUpTo}
 
 module _ (batches : List NumberedChanges) (i : ℕ) (b : NumberedChanges) (within : i < length batches) (is_next : b ≡ get_or batches i b) where
   one_more : take (i + 1) batches ≡ take i batches ++ b ∷ []
@@ -19,15 +23,22 @@ module _ (batches : List NumberedChanges) (i : ℕ) (b : NumberedChanges) (withi
   pub lawful_next : LawfulByOneMore → AreLawful (take i batches) → Fits (database_after (take i batches)) b → AreLawful (take (i + 1) batches)
   lawful_next law lawful fits = subst AreLawful (sym one_more) ((law (take i batches) b).1 (lawful, fits))
 
-  -- it fits where the batches are lawful
-  pub fits_next : LawfulByOneMore → FirstBatchesAreLawful → AreLawful batches → Fits (database_after (take i batches)) b
-  fits_next law first lawful =
-      let front : AreLawful (take (i + 1) batches) = first (take (i + 1) batches) (drop (i + 1) batches) (subst AreLawful (sym (take-append-drop (i + 1) batches)) lawful) in
-      ((law (take i batches) b).0 (subst AreLawful one_more front)).1
+  -- a table with the database of the batches so far has the next one's database after its changes
+  pub absorbed : OneMoreBatch → (before after : Database) → before ≡ database_after (take i batches) → after ≡ after_changes before b.changes → after ≡ database_after (take (i + 1) batches)
+  absorbed law before after here absorbs = absorbs ∙ ap (λ d. after_changes d b.changes) here ∙ database_next law
 
-  -- a table with the database of the batches so far has the next one's database after it
-  pub absorbed : OneMoreBatch → LawfulByOneMore → FirstBatchesAreLawful → AreLawful batches → (before after : Database) → before ≡ database_after (take i batches)
-      → (Fits before b → after ≡ after_changes before b.changes) → after ≡ database_after (take (i + 1) batches)
-  absorbed law more first lawful before after here absorbs =
-      let fits = subst (λ d. Fits d b) (sym here) (fits_next more first lawful) in
-      absorbs fits ∙ ap (λ d. after_changes d b.changes) here ∙ database_next law
+  -- and one plan more is of it
+  pub one_more_plan : (plans : List Plan) (plan : Plan) → ArePlansUpTo batches plans i → IsPlanOf (database_after (take i batches)) b plan → ArePlansUpTo batches (plans ++ plan ∷ []) (i + 1)
+  one_more_plan plans plan are is = record {
+    many = omega (arith, length_push plans plan, are.many);
+    each = λ k a d below read. elim (cases_eq k i) [
+      | inl same ↦
+          let one : b ≡ a = subst (λ n. b ≡ get_or batches n a) (sym same) (is_next ∙ get_or_default batches i b a within) ∙ sym read in
+          let placed : plan ≡ get_or (plans ++ plan ∷ []) k d = sym (get_or_at plans plan [] d k (are.many ∙ sym same)) in
+          subst (λ p. IsPlanOf (database_after (take k batches)) a p) placed
+          (subst (λ n. IsPlanOf (database_after (take n batches)) a plan) (sym same) (subst (λ c. IsPlanOf (database_after (take i batches)) c plan) one is))
+      | inr apart ↦
+          let before : k < i = omega (arith, below, apart) in
+          subst (IsPlanOf (database_after (take k batches)) a) (sym (get_or_append_left plans (plan ∷ []) d k (omega (arith, before, are.many)))) (are.each k a d before read)
+    ];
+  }

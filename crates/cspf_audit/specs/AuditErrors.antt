@@ -1,10 +1,10 @@
 -- The audit of streams, or the first reason why they aren't audited.
-use Rattle.std.specs.Prelude.{◌≡◌, ℕ, ◌<◌, ◌≤◌, ◌⊎◌, List, ◌∷◌, ◌++◌, length, Option, IfSome}
+use Rattle.std.specs.Prelude.{◌≡◌, ℕ, ◌<◌, ◌≤◌, ◌⊎◌, List, length, Option, IfSome}
 use Rattle.cspf_model.specs.declared.refusal.Refusal.{Refusal}
 use Rattle.cspf_model.specs.declared.request.Request.{Request}
 use Rattle.cspf_model.specs.Numbered.{NumberedChanges}
-use Rattle.cspf_model.specs.Changes.{AreLawful, database_after}
-use Rattle.cspf_model.specs.Refusals.{IsRefusal, IsFirstUnfit}
+use Rattle.cspf_model.specs.Changes.{AreLawful}
+use Rattle.cspf_model.specs.Refusals.{IsFirstUnfit}
 use Rattle.cspf_rows.specs.declared.limits.TheConstants.{MOST_ROWS}
 use Rattle.cspf_rows.specs.declared.journal.Rest.TheVariants as rest
 use Rattle.cspf_rows.specs.declared.requests_error.RequestsError.{RequestsError}

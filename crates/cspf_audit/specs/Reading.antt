@@ -1,11 +1,13 @@
 -- Private: the state of the code after some lines were read and compared.
-use Rattle.std.specs.Prelude.{◌≡◌, ℕ, ◌+◌, ◌<◌, ◌≤◌, ◌⊎◌, ◌↔◌, Bool, true, false, nat_eq, if◌then◌else◌, Option, List, [], ◌∷◌, Contains, Some, None, length, take}
+use Rattle.std.specs.Prelude.{◌≡◌, ℕ, ◌+◌, ◌<◌, ◌≤◌, ◌⊎◌, ◌↔◌, Bool, true, false, nat_eq, if◌then◌else◌, Option, List, [], ◌∷◌, Contains, Some, None, length, slice_index_or, take}
 use Rattle.std.specs.BTreeMap.{BTreeMap, get}
 use Rattle.std.specs.List.{slice_get, slice_set}
 use Rattle.std.specs.Ordering.{nat_cmp}
 use Rattle.cspf_model.specs.declared.request.Request.{Request}
 use Rattle.cspf_model.specs.Numbered.{NumberedChanges}
 use Rattle.cspf_model.specs.Changes.{database_after}
+use Rattle.cspf_db.specs.declared.table.plan.Plan.{Plan}
+use Rattle.cspf_db.specs.Plans.{IsPlanOf}
 use Rattle.cspf_ero.specs.declared.head.Head.{Head}
 use Rattle.cspf_ero.specs.ReplyHead.{BeginsWithHead, HasNoHead}
 use Rattle.cspf_audit.specs.declared.audit_error.AuditError.{AuditError}
@@ -44,6 +46,12 @@ IsIdFault requests (error.Torn after) = ⊥
 IsIdFault requests (error.Batch number refusal) = ⊥
 IsIdFault requests (error.Requests why) = ⊥
 IsIdFault requests (error.SameId row) = RepeatsId requests row
+
+-- each of the first batches, as many as the number says, has its plan in the database of those before it
+pub record ArePlansUpTo (batches : List NumberedChanges) (plans : List Plan) (n : ℕ) : Type 0 where
+  pub many : length plans ≡ n
+  pub each : (i : ℕ) (b : NumberedChanges) (d : Plan) → i < n → b ≡ slice_index_or batches i b
+      → IsPlanOf (database_after (take i batches)) b (slice_index_or plans i d)
 
 -- the table has the database at its version of the batches
 pub record IsAtVersion (batches : List NumberedChanges) (replay : Replay) : Type 0 where

@@ -1,22 +1,22 @@
 //! The audit itself: it reads the three streams in their order, and then has each line judged.
 
 ghost use Rattle.std.specs.Prelude.{◌≤◌, length, IfOk, IfErr, IfSome};
-ghost use Rattle.cspf_model.specs.Changes.{AreLawful};
 ghost use Rattle.cspf_rows.specs.Records.{rows_of};
 ghost use Rattle.cspf_rows.specs.declared.limits.TheConstants.{MOST_ROWS};
 ghost use Rattle.cspf_audit.specs.Audits.{IsAudit};
 ghost use Rattle.cspf_audit.specs.AuditErrors.{IsAuditOf, IsAuditError};
 ghost use Rattle.cspf_audit.specs.Requests.{HaveOwnIds};
-ghost use Rattle.cspf_audit.specs.Reading.{ArePlaces};
+ghost use Rattle.cspf_audit.specs.Reading.{ArePlaces, ArePlansUpTo};
 
 use crate::AuditError;
 use crate::comparing::compare_all;
 use crate::faults::Audit;
 use crate::ids::index_ids;
-use crate::journal::lawful_journal;
+use crate::journal::{LawfulJournal, lawful_journal};
 use crate::lines::{ReplyLine, read_lines};
 use crate::replies::read_replies;
 use crate::reporting::report;
+use cspf_db::Plan;
 use cspf_model::{Batch, Request};
 use cspf_rows::read_requests;
 use std::alloc::{AllocError, Global};
@@ -39,22 +39,23 @@ pub fn audit<R: Read + Drop, Q: Read + Drop, P: Read + Drop>(
     ensures err { IfErr result
         (IsAuditError (R.remaining journal) (Q.remaining requests) (P.remaining replies)) }
 {
-    let batches = lawful_journal(alloc, journal)?;
+    let LawfulJournal { batches, plans } = lawful_journal(alloc, journal)?;
     let requests = read_requests(alloc, requests)?;
     let ids = index_ids(alloc, &requests)?;
     let lines = read_lines(alloc, replies)?;
-    Ok(audit_lines(alloc, &batches, &requests, &ids, &lines)?)
+    Ok(audit_lines(alloc, &batches, &plans, &requests, &ids, &lines)?)
 }
 
 /// Audits lines.
 fn audit_lines(
     alloc: Global,
     batches: &[Batch],
+    plans: &[Plan],
     requests: &[Request],
     ids: &BTreeMap<u64, usize>,
     lines: &[ReplyLine],
 ) -> Result<Audit, AllocError>
-    requires lawful { AreLawful batches.now }
+    requires planned { ArePlansUpTo batches.now plans.now (length batches.now) }
     requires places { ArePlaces ids.now requests.now }
     requires own { HaveOwnIds requests.now }
     requires most { length lines.now ≤ MOST_ROWS }
@@ -65,6 +66,7 @@ fn audit_lines(
     compare_all(
         alloc,
         batches,
+        plans,
         requests,
         lines,
         &replies.claims,

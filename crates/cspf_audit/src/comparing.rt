@@ -1,15 +1,14 @@
 //! Compares each line that claims to be a reply with the reply of the plain search at its version.
 
 ghost use Rattle.std.specs.Prelude.{◌≡◌, ◌↔◌, IsTrue, IfOk, OnOk, ◌∷◌, ◌++◌, [], length};
-ghost use Rattle.cspf_model.specs.Changes.{AreLawful};
 ghost use Rattle.cspf_audit.specs.Findings.{IsRightReply, AreFindings};
-ghost use Rattle.cspf_audit.specs.Reading.{AreOpenFindings, AreClaims};
+ghost use Rattle.cspf_audit.specs.Reading.{AreOpenFindings, AreClaims, ArePlansUpTo};
 
 use crate::claim::Claim;
 use crate::finding::Finding;
 use crate::lines::ReplyLine;
 use crate::replay::Replay;
-use cspf_db::Table;
+use cspf_db::{Plan, Table};
 use cspf_ero::{one_reply_line, reply_line};
 use cspf_model::{Batch, Request, one_best_answer};
 use cspf_search::best_by_rounds;
@@ -20,19 +19,20 @@ use std::alloc::{AllocError, Global};
 pub(crate) fn compare_all(
     alloc: Global,
     batches: &[Batch],
+    plans: &[Plan],
     requests: &[Request],
     lines: &[ReplyLine],
     claims: &[Claim],
     findings: &mut [Finding],
 ) -> Result<(), AllocError>
-    requires lawful { AreLawful batches.now }
+    requires planned { ArePlansUpTo batches.now plans.now (length batches.now) }
     requires claims { AreClaims requests.now (length batches.now) lines.now claims.now }
     requires open { AreOpenFindings batches.now requests.now lines.now claims.now findings.old }
     ensures { OnOk result (AreFindings batches.now requests.now lines.now findings.new) }
 {
     let mut replay = Replay::new(alloc)?;
     for claim in claims {
-        replay.go_to(alloc, batches, claim.version as usize)?;
+        replay.go_to(alloc, batches, plans, claim.version as usize)?;
         let request = &requests[claim.request];
         let line = lines[claim.line].text();
         if !is_reply(alloc, replay.table(), request, claim.version, line)? {

@@ -1,27 +1,40 @@
+//! Reads a journal whose batches are lawful, with the plan of each.
+
 ghost use Rattle.std.specs.Prelude.{◌≡◌, ◌≤◌, length, IfOk, IfErr, OnOk, IfSome};
 ghost use Rattle.cspf_model.specs.Changes.{AreLawful};
 ghost use Rattle.cspf_rows.specs.Records.{rows_of};
 ghost use Rattle.cspf_rows.specs.declared.limits.TheConstants.{MOST_ROWS};
 ghost use Rattle.cspf_audit.specs.AuditErrors.{IsLawfulJournal};
 ghost use Rattle.cspf_audit.specs.ErrorNames.{IsJournalFault, IsUnfitBatch};
+ghost use Rattle.cspf_audit.specs.Reading.{ArePlansUpTo};
 
 use crate::AuditError;
-use cspf_db::{Table, UnfitBatch, replay_into};
-use cspf_model::Batch;
+use cspf_db::{Plan, Table};
+use cspf_model::{Batch, absorbing, lawful_batches};
 use cspf_rows::{Journal, Rest, read_journal};
 use std::alloc::Global;
 use std::io::Read;
+
+/// The batches of a journal, each with what it does to the table of those before it.
+#[derive(Drop)]
+pub(crate) struct LawfulJournal {
+    /// The batches.
+    pub(crate) batches: Vec<Batch>,
+    /// Beside the batches, the plan of each.
+    pub(crate) plans: Vec<Plan>,
+}
 
 /// Reads the batches of a journal. Each has to fit the database of those before it, and no row may
 /// be left after them.
 pub(crate) fn lawful_journal<R: Read + Drop>(
     alloc: Global,
     journal: R,
-) -> Result<Vec<Batch>, AuditError>
-    ensures whole { IfOk result (λ batches. IfSome (R.remaining journal) (λ bytes.
-        IsLawfulJournal (rows_of bytes) batches.items)) }
-    ensures lawful { IfOk result (λ batches. AreLawful batches.items) }
-    ensures most { IfOk result (λ batches. length batches.items ≤ MOST_ROWS) }
+) -> Result<LawfulJournal, AuditError>
+    ensures whole { IfOk result (λ lawful. IfSome (R.remaining journal) (λ bytes.
+        IsLawfulJournal (rows_of bytes) lawful.batches.items)) }
+    ensures planned { IfOk result (λ lawful.
+        ArePlansUpTo lawful.batches.items lawful.plans.items (length lawful.batches.items)) }
+    ensures most { IfOk result (λ lawful. length lawful.batches.items ≤ MOST_ROWS) }
     ensures err { IfErr result (λ why. IfSome (R.remaining journal) (λ bytes.
         IsJournalFault (rows_of bytes) why)) }
 {
@@ -30,18 +43,31 @@ pub(crate) fn lawful_journal<R: Read + Drop>(
         let after = batches.len() as u32;
         return Err(AuditError::Torn { after });
     }
-    check_all(alloc, &batches)?;
-    Ok(batches)
+    let plans = plan_all(alloc, &batches)?;
+    Ok(LawfulJournal { batches, plans })
 }
 
-/// Refuses the first batch that doesn't fit the database of those before it.
-fn check_all(alloc: Global, batches: &[Batch]) -> Result<(), AuditError>
-    ensures ok { OnOk result (AreLawful batches.now) }
+/// Plans each batch, by a table of those before it, or refuses the first that doesn't fit.
+fn plan_all(alloc: Global, batches: &[Batch]) -> Result<Vec<Plan>, AuditError>
+    ensures lawful { OnOk result (AreLawful batches.now) }
+    ensures planned { IfOk result (λ plans. ArePlansUpTo batches.now plans.items (length batches.now)) }
     ensures err { IfErr result (IsUnfitBatch batches.now) }
 {
+    // Laws: one more batch makes its changes, and keeps the batches lawful where it fits.
+    absorbing();
+    lawful_batches();
     let mut table = Table::new(alloc)?;
-    match replay_into(&mut table, batches) {
-        Ok(()) => Ok(()),
-        Err(UnfitBatch { number, refusal }) => Err(AuditError::Batch { number, refusal }),
+    let mut plans = Vec::with_capacity(alloc, batches.len())?;
+    for batch in batches {
+        let plan = match table.plan(batch) {
+            Ok(plan) => plan,
+            Err(refusal) => {
+                let number = batch.number;
+                return Err(AuditError::Batch { number, refusal });
+            }
+        };
+        table.absorb_planned(batch, plan);
+        plans.push(plan)?;
     }
+    Ok(plans)
 }

@@ -1,9 +1,9 @@
 ghost use Rattle.std.specs.Prelude.{◌≡◌, ◌≤◌, [], length, IfOk, OnOk};
-ghost use Rattle.cspf_model.specs.Changes.{AreLawful, database_after};
-ghost use Rattle.cspf_audit.specs.Reading.{IsAtVersion};
+ghost use Rattle.cspf_model.specs.Changes.{database_after};
+ghost use Rattle.cspf_audit.specs.Reading.{ArePlansUpTo, IsAtVersion};
 
-use cspf_db::Table;
-use cspf_model::{Batch, absorbing, lawful_batches};
+use cspf_db::{Plan, Table};
+use cspf_model::{Batch, absorbing};
 use std::alloc::{AllocError, Global};
 
 /// The database at a version of a journal.
@@ -22,28 +22,29 @@ impl Replay {
         Ok(Replay { table, version: 0 })
     }
 
-    /// Goes to a version of a journal. Where it is above the last one, only the batches between
-    /// them are absorbed.
+    /// Goes to a version of a journal, by the plans of its batches. Where it is above the last one,
+    /// only the batches between them are absorbed.
     pub(crate) fn go_to(
         &mut self,
         alloc: Global,
         batches: &[Batch],
+        plans: &[Plan],
         version: usize,
     ) -> Result<(), AllocError>
-        requires lawful { AreLawful batches.now }
+        requires planned { ArePlansUpTo batches.now plans.now (length batches.now) }
         requires within { version ≤ length batches.now }
         requires here { IsAtVersion batches.now self.old }
         ensures here { OnOk result (IsAtVersion batches.now self.new) }
         ensures version { OnOk result (self.new.version ≡ version) }
     {
-        // Laws: one more batch makes its changes, and fits where it is of a lawful list.
+        // A law: one more batch makes its changes.
         absorbing();
-        lawful_batches();
         if version < self.version {
             *self = Replay::new(alloc)?;
         }
         while self.version < version {
-            self.table.absorb(&batches[self.version]);
+            self.table
+                .absorb_planned(&batches[self.version], plans[self.version]);
             self.version += 1;
         }
         Ok(())
