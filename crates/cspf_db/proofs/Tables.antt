@@ -1,25 +1,8 @@
--- Lemmas of the parts of a table: rows, routers, ends, reverses, spans and marks.
-pub mod SortedEntries
-pub mod RowOrder
+-- Lemmas of the parts of a table, and of the look at a batch.
 pub mod LinkCounts
-pub mod SortedChanges
-pub mod RowSpans
-pub mod TableLimits
-pub mod RouterLists
-pub mod OwnedPrefixes
 pub mod OwnerPlaces
 pub mod GoneRouters
-pub mod InterfaceRange
 pub mod CoveredRanges
-pub mod EndColumn
-pub mod ReverseColumn
-pub mod PairedRows
-pub mod MovedReverses
-pub mod AlikeRows
-pub mod RouterColumn
-pub mod MergedRows
-pub mod RouterPlaces
-pub mod RemainingRouters
 pub mod MarkChanges
 pub mod TransitColumn
 pub mod Plans

@@ -1,5 +1,5 @@
 -- What the contracts of the table cite beside the definitions of `cspf_model`.
-pub mod Index
+pub use Rattle.cspf_columns.specs.Index
 pub mod Owners
 pub mod Plans
 pub mod Replays

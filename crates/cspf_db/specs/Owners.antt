@@ -3,7 +3,7 @@ use Rattle.std.specs.Prelude.{◌<◌, ◌↔◌, ℕ, List, All, Contains, leng
 use Rattle.std.specs.List.Sorted.{IsStrictlyIncreasing}
 use Rattle.cspf_addr.specs.PrefixParts.{PrefixParts}
 use Rattle.cspf_model.specs.Database.{Database}
-use Rattle.cspf_db.specs.Index.{router_list}
+use Rattle.cspf_columns.specs.Index.{router_list}
 use Rattle.cspf_model.specs.Targets.{Owns}
 
 -- the indexes in the list of routers of those that own an address that a prefix covers, rising

@@ -6,8 +6,8 @@ use Rattle.cspf_model.specs.Changes.{Fits}
 use Rattle.cspf_model.specs.Lemmas.CountedEnds.{HasListedEnds}
 use Rattle.cspf_model.specs.Lemmas.RowsLeft.{adds_link}
 use Rattle.cspf_db.specs.declared.table.plan.Plan.{Plan}
-use Rattle.cspf_db.specs.Index.{links_of, router_list}
-use Rattle.cspf_db.specs.Tables.AlikeChanges.{IsAlike}
+use Rattle.cspf_columns.specs.Index.{links_of, router_list}
+use Rattle.cspf_columns.specs.AlikeChanges.{IsAlike}
 
 -- The plan is of the batch and the database: the batch fits, and the plan has what its changes do to the
 -- links and the routers.

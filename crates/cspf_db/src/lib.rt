@@ -6,6 +6,7 @@ mod limits;
 mod replay;
 mod table;
 
+pub use cspf_columns::NO_LINK;
 pub use cspf_model::{
     Batch, Change, Link, LinkError, MOST_CHANGES, MOST_LINKS, MOST_MARKS, MOST_ROUTERS, Refusal,
     Request, RequestError, absorbing, counted_routers, fields_of_links_and_requests,
@@ -14,6 +15,5 @@ pub use cspf_model::{
     worked_ends, worked_marks, worked_orders, worked_reverses, worked_routes, worked_ties,
     worked_unknown_ends,
 };
-pub use limits::NO_LINK;
 pub use replay::{UnfitBatch, replay_into};
 pub use table::{Plan, Table};

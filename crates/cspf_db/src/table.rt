@@ -6,7 +6,7 @@ ghost use Rattle.std.specs.List.Sorted.{IsStrictlyIncreasing};
 ghost use Rattle.std.specs.FinSet as set;
 ghost use Rattle.cspf_model.specs.declared.link.Link.{Link as Linked};
 ghost use Rattle.cspf_model.specs.Database.{AreLinksOf, AreAtTheirKeys, HasReverse, HasTransit, IsRouterOf, link_at, router_count, HaveOwnKeys};
-ghost use Rattle.cspf_db.specs.Index.{links_of, router_list, links_from, links_from_index, IsReverseAt};
+ghost use Rattle.cspf_columns.specs.Index.{links_of, router_list, links_from, links_from_index, IsReverseAt};
 ghost use Rattle.cspf_model.specs.Changes.{no_links, after_changes, Fits};
 ghost use Rattle.cspf_model.specs.Refusals.{IsRefusal};
 ghost use Rattle.cspf_db.specs.Owners.{AreOwners};
@@ -17,33 +17,26 @@ ghost use Rattle.cspf_model.specs.declared.limits.TheConstants.{MOST_LINKS, MOST
 
 mod address_range;
 mod changes;
-mod columns;
 mod fit;
-mod insertion;
 mod marks;
-mod merging;
-mod one_row;
-mod overwriting;
 mod plan;
-mod row_changes;
-mod scratch;
+mod transits;
 
-use crate::limits::{NO_LINK, ROOM_FOR_LINKS, ROOM_FOR_MARKS, ROOM_FOR_ROUTERS};
+use crate::limits::ROOM_FOR_MARKS;
 use address_range::{AddressRange, range_of};
-use columns::Columns;
-use columns::reverses::reverse_index;
-use columns::routers::search;
-use columns::rows::{any_within, index_of, rows_from};
-use columns::transits::list_transits;
 use cspf_addr::{Addr, Prefix};
+use cspf_columns::overwriting::write_over;
+use cspf_columns::reverses::reverse_index;
+use cspf_columns::routers::search;
+use cspf_columns::row_changes::change_columns;
+use cspf_columns::rows::{any_within, index_of, rows_from};
+use cspf_columns::{Columns, NO_LINK, Scratch};
 use cspf_model::{Batch, Link, MOST_ROUTERS, Refusal};
 use marks::{change_marks, is_marked};
-use overwriting::write_over;
 pub use plan::Plan;
-use row_changes::{change_table, list_beside};
-use scratch::Scratch;
 use std::alloc::{AllocError, Global};
 use std::marker::Model;
+use transits::list_transits;
 
 /// A traffic engineering database of at most 16,384 links, 1,024 routers and 1,024 marks of routers
 /// without transit. No call but `new` and `owners` can fail for memory.
@@ -64,7 +57,7 @@ impl Model for Table {
     ghost coded = { database_code };
 
     ghost use Rattle.cspf_model.specs.Lemmas.LinkRows.{marked_database};
-    ghost use Rattle.cspf_db.specs.Tables.Rows.{IsTable};
+    ghost use Rattle.cspf_db.specs.Tables.Parts.{IsTable};
 
     ghost view = { λ a. marked_database a.columns.rows.items a.marks.items };
 
@@ -77,13 +70,7 @@ impl Table {
         ensures { IfOk result (λ table. table ≡ no_links) }
     {
         Ok(Table {
-            columns: Columns {
-                rows: Vec::with_capacity(alloc, ROOM_FOR_LINKS)?,
-                routers: Vec::with_capacity(alloc, ROOM_FOR_ROUTERS)?,
-                ends: Vec::with_capacity(alloc, ROOM_FOR_LINKS)?,
-                reverses: Vec::with_capacity(alloc, ROOM_FOR_LINKS)?,
-                spans: Vec::with_capacity(alloc, MOST_ROUTERS)?,
-            },
+            columns: Columns::new(alloc)?,
             marks: Vec::with_capacity(alloc, ROOM_FOR_MARKS)?,
             transits: Vec::with_capacity(alloc, MOST_ROUTERS)?,
             scratch: Scratch::new(alloc)?,
@@ -325,16 +312,16 @@ impl Table {
         ensures { self.new ≡ after_changes self.old batch.now.changes }
     {
         if plan.tally.alike {
-            write_over(&mut self.columns.rows, &batch.changes);
+            write_over(&mut self.columns, &batch.changes);
             return;
         }
-        let follows = change_table(
+        change_columns(
             &mut self.columns,
             &mut self.scratch,
             &batch.changes,
-            plan.tally,
+            plan.tally.added,
+            plan.tally.brought,
         );
-        list_beside(&mut self.columns, follows);
         change_marks(&mut self.marks, &batch.changes);
         list_transits(&mut self.transits, &self.columns.routers, &self.marks);
     }

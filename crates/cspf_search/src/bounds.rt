@@ -7,7 +7,7 @@ ghost use Rattle.cspf_graph.specs.Lists.{IsIndexOf};
 ghost use Rattle.cspf_graph.specs.Roles.{AreTargetsOf};
 ghost use Rattle.cspf_search.specs.Bounds.{ArePassed, AreReached, AreBounds, Falls, IsLegBound, IsLower, IsPassed, IsRing, IsDeadEnd, bound_at, is_done};
 ghost use Rattle.cspf_db.specs.Index.{links_of, router_list};
-ghost use Rattle.cspf_db.specs.declared.limits.TheConstants.{NO_LINK};
+ghost use Rattle.cspf_columns.specs.declared.limits.TheConstants.{NO_LINK};
 
 use crate::limits::{FARTHEST, NO_WAY};
 use crate::query::Query;

@@ -13,11 +13,11 @@ use Rattle.cspf_model.specs.Changes.{link_left}
 use Rattle.cspf_model.specs.Database.{ends_of}
 use Rattle.cspf_model.specs.Lemmas.CountedEnds.{with_ends, BringsAtMost, BringsBeside}
 use Rattle.cspf_model.specs.Lemmas.GoneRouters.{is_at, puts_at}
-use Rattle.cspf_db.specs.Tables.Rows.{AreEndsOf, AreRising}
+use Rattle.cspf_columns.specs.Rows.{AreEndsOf, AreRising}
 use Rattle.cspf_model.specs.Lemmas.RowsLeft.{is_untouched, rows_untouched, links_put}
 use Rattle.cspf_model.proofs.Databases.EndCounts.{any-ends_of, contains-with_ends, one_end, or_right, with_ends-append}
-use Rattle.cspf_db.proofs.Tables.EndColumn.{length-ends}
-use Rattle.cspf_db.proofs.Tables.RouterPlaces.{one_place}
+use Rattle.cspf_columns.proofs.EndColumn.{length-ends}
+use Rattle.cspf_columns.proofs.RouterPlaces.{one_place}
 
 -- what the changes put ends at a router where one of them puts a link there
 pub puts_there : (router : ℕ) (cs : List Change) → list_any (puts_at router) cs ≡ list_any (is_at router) (links_put cs)

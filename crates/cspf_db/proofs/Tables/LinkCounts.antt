@@ -19,7 +19,7 @@ use Rattle.cspf_model.specs.Refusals.{AreOnceEach}
 use Rattle.cspf_model.proofs.Databases.Keys.{keys_total, change_keys_apart}
 use Rattle.cspf_model.proofs.Databases.ChangedRows.{link_at-relinked}
 use Rattle.cspf_model.proofs.Databases.EndCounts.{link_count-database_of}
-use Rattle.cspf_db.proofs.Tables.RowOrder.{own_keys}
+use Rattle.cspf_columns.proofs.RowOrder.{own_keys}
 
 -- a change leaves what is at another key
 same_there : (d : Database) (c : Change) (k : Key) → eq_by_cmp change_key_cmp (key_changed c) (link_key k) ≡ false → link_at (relinked d c) k ≡ link_at d k

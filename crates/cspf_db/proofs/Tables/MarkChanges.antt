@@ -16,18 +16,19 @@ use Rattle.cspf_model.specs.declared.link.Link.{Link}
 use Rattle.cspf_model.specs.declared.batch.Change.{Change}
 use Rattle.cspf_model.specs.declared.batch.Change.TheVariants.{Put, Remove, Node}
 use Rattle.cspf_model.specs.Database.{mark_count}
-use Rattle.cspf_db.specs.Index.{with_nothing}
+use Rattle.cspf_columns.specs.Index.{with_nothing}
 use Rattle.cspf_model.specs.Changes.{change_key_cmp, key_changed, mark_key, marks_after, after_changes}
 use Rattle.cspf_model.specs.Refusals.{AreOnceEach}
 use Rattle.cspf_model.specs.Lemmas.MarkChanges.{marked, all_marked, adds_mark, removes_mark}
 use Rattle.cspf_model.specs.Lemmas.LinkRows.{marks_in, marked_database}
-use Rattle.cspf_db.specs.Tables.Rows.{AreRising, AreMarks}
+use Rattle.cspf_columns.specs.Rows.{AreRising}
+use Rattle.cspf_db.specs.Tables.Parts.{AreMarks}
 use Rattle.cspf_model.proofs.Batches.RouterSets.{len-from_distinct}
 use Rattle.cspf_model.proofs.Databases.Keys.{change_keys_apart}
 use Rattle.cspf_model.proofs.Databases.LastChanges.{tied_alone, after_mark}
 use Rattle.cspf_model.proofs.Databases.MarkedLinks.{marks_counted}
-use Rattle.cspf_db.proofs.Tables.RouterLists.{apart_from_gap}
-use Rattle.cspf_db.proofs.Tables.SortedEntries.{test_from_true, true_from_test, distinct, sorted_without}
+use Rattle.cspf_columns.proofs.RouterLists.{apart_from_gap}
+use Rattle.cspf_columns.proofs.SortedEntries.{test_from_true, true_from_test, distinct, sorted_without}
 
 -- the numbers of entries alone
 numbers_of : (ns : List ℕ) → map (λ n. (with_nothing n).0) ns ≡ ns

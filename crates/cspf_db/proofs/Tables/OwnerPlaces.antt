@@ -6,7 +6,7 @@ use Rattle.std.proofs.lemmas.List.{length-append, get_or_at, get_or_append_left}
 use Rattle.std.proofs.lemmas.List.Elements.{All-nil, All-append, Contains-append_left, Contains-append_right, Contains-append_cases, All-contains}
 use Rattle.cspf_addr.specs.PrefixParts.{PrefixParts}
 use Rattle.cspf_model.specs.Database.{Database}
-use Rattle.cspf_db.specs.Index.{router_list}
+use Rattle.cspf_columns.specs.Index.{router_list}
 use Rattle.cspf_db.specs.Owners.{AreOwners}
 use Rattle.cspf_model.specs.Targets.{Owns}
 

@@ -10,11 +10,11 @@ use Rattle.cspf_model.specs.Lemmas.CountedEnds.{HasListedEnds}
 use Rattle.cspf_model.specs.Lemmas.RowsLeft.{adds_link}
 use Rattle.cspf_model.specs.Lemmas.LinkRows.{database_of, marked_database, AreByKey}
 use Rattle.cspf_db.specs.declared.table.plan.Plan.{Plan}
-use Rattle.cspf_db.specs.Index.{router_list}
+use Rattle.cspf_columns.specs.Index.{router_list}
 use Rattle.cspf_db.specs.Plans.{IsPlanOf}
-use Rattle.cspf_db.specs.Tables.AlikeChanges.{IsAlike}
-use Rattle.cspf_db.proofs.Tables.RouterLists.{routers_marked}
-use Rattle.cspf_db.proofs.Tables.RowOrder.{links_of-database_of}
+use Rattle.cspf_columns.specs.AlikeChanges.{IsAlike}
+use Rattle.cspf_columns.proofs.RouterLists.{routers_marked}
+use Rattle.cspf_columns.proofs.RowOrder.{links_of-database_of}
 
 module _ (rows : List Link) (marks : List ℕ) where
   -- marks are no links

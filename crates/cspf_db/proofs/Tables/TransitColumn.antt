@@ -9,11 +9,12 @@ use Rattle.std.proofs.lemmas.List.{get_or_default, get_or_read}
 use Rattle.std.proofs.lemmas.Map.Views.{Contains-from_any}
 use Rattle.cspf_model.specs.declared.link.Link.{Link}
 use Rattle.cspf_model.specs.Database.{Database, HasTransit}
-use Rattle.cspf_db.specs.Index.{router_list}
+use Rattle.cspf_columns.specs.Index.{router_list}
 use Rattle.cspf_model.specs.Lemmas.LinkRows.{marks_in, marked_database}
-use Rattle.cspf_db.specs.Tables.Rows.{AreRising, AreTransitsOf}
+use Rattle.cspf_columns.specs.Rows.{AreRising}
+use Rattle.cspf_db.specs.Tables.Parts.{AreTransitsOf}
 use Rattle.cspf_db.proofs.Tables.MarkChanges.{marked_at}
-use Rattle.cspf_db.proofs.Tables.RouterPlaces.{lower}
+use Rattle.cspf_columns.proofs.RouterPlaces.{lower}
 
 module _ (marks : List ℕ) (router at : ℕ) (rising : AreRising marks) (below : (k : ℕ) → k < at → slice_index marks k < router) where
   -- marks below a router and then above it are all of others

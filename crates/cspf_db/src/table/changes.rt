@@ -1,9 +1,9 @@
 //! What changes say by themselves: on which key each is, and which links they put or take out.
-ghost use Rattle.std.specs.Prelude.{count_by, ◌≡◌, ◌<◌};
+ghost use Rattle.std.specs.Prelude.{◌≡◌, ◌<◌};
 ghost use Rattle.std.specs.Ordering.{eq_by_cmp};
 ghost use Rattle.cspf_model.specs.Changes.{change_key_cmp, key_changed};
 ghost use Rattle.cspf_model.specs.Lemmas.RepeatedKeys.{is_changed};
-ghost use Rattle.cspf_model.specs.Lemmas.RowsLeft.{is_untouched, removes_link};
+ghost use Rattle.cspf_model.specs.Lemmas.RowsLeft.{is_untouched};
 ghost use Rattle.std.specs.List.{list_any};
 ghost use Rattle.cspf_model.specs.Lemmas.GoneRouters.{puts_at};
 
@@ -30,20 +30,6 @@ pub(super) fn is_untouched(row: &Link, changes: &[Change]) -> bool
     ensures { result ≡ is_untouched changes.now row.now }
 {
     !any_on(changes, (row.from, Some(row.local)))
-}
-
-/// Whether the change takes out a link.
-pub(super) fn is_removal(change: &Change) -> bool
-    ensures { result ≡ removes_link change.now }
-{
-    matches!(change, Change::Remove { .. })
-}
-
-/// How many changes take out a link.
-pub(super) fn count_removed(changes: &[Change]) -> usize
-    ensures { result ≡ count_by removes_link changes.now }
-{
-    changes.iter().filter(|change| is_removal(change)).count()
 }
 
 /// Whether the change puts a link that ends at the router.

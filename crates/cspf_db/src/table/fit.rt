@@ -3,10 +3,10 @@
 ghost use Rattle.std.specs.Prelude.{count_by, ◌≡◌, ◌+◌, ◌<◌, ◌≤◌, ◌↔◌, true, All, length, IfOk, IfErr, IsTrue};
 ghost use Rattle.cspf_model.specs.Database.{link_count};
 ghost use Rattle.cspf_model.specs.Changes.{Fits};
-ghost use Rattle.cspf_db.specs.Tables.AlikeChanges.{IsAlike};
+ghost use Rattle.cspf_columns.specs.AlikeChanges.{IsAlike};
 ghost use Rattle.cspf_model.specs.Lemmas.LinkChanges.{all_relinked};
 ghost use Rattle.cspf_model.specs.Lemmas.LinkRows.{database_of, marked_database};
-ghost use Rattle.cspf_db.specs.Tables.Rows.{AreColumns, AreRising};
+ghost use Rattle.cspf_columns.specs.Rows.{AreColumns, AreRising};
 ghost use Rattle.cspf_model.specs.Lemmas.RowsLeft.{adds_link};
 ghost use Rattle.cspf_model.specs.Lemmas.CountedEnds.{HasListedEnds};
 ghost use Rattle.cspf_model.specs.Refusals.{AreOnceEach, ArePresent, IsRefusal};
@@ -18,10 +18,10 @@ mod router_count;
 mod router_set;
 pub(super) mod tally;
 
-use crate::table::changes::count_removed;
-use crate::table::columns::Columns;
 use crate::table::marks::has_too_many_marks;
 use cspf_addr::Addr;
+use cspf_columns::Columns;
+use cspf_columns::row_changes::count_removed;
 use cspf_model::{Batch, Change, MOST_CHANGES, MOST_LINKS, Refusal};
 use repeats::repeat;
 use router_count::has_too_many_routers;

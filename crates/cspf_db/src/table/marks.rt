@@ -6,13 +6,13 @@ ghost use Rattle.cspf_model.specs.Changes.{marks_after};
 ghost use Rattle.cspf_model.specs.Refusals.{AreOnceEach};
 ghost use Rattle.cspf_model.specs.Lemmas.MarkChanges.{all_marked, adds_mark, removes_mark};
 ghost use Rattle.cspf_model.specs.Lemmas.LinkRows.{marks_in};
-ghost use Rattle.cspf_db.specs.Tables.Rows.{AreRising};
+ghost use Rattle.cspf_columns.specs.Rows.{AreRising};
 ghost use Rattle.cspf_model.specs.declared.limits.TheConstants.{MOST_CHANGES, MOST_MARKS};
 ghost use Rattle.cspf_db.specs.declared.limits.TheConstants.{ROOM_FOR_MARKS};
 
-use crate::table::columns::routers::search;
-use crate::table::insertion::insert_within;
 use cspf_addr::Addr;
+use cspf_columns::insertion::insert_within;
+use cspf_columns::routers::search;
 use cspf_model::{Change, MOST_MARKS};
 
 /// Whether the router is marked.

@@ -4,14 +4,14 @@ ghost use Rattle.std.specs.List.{list_any};
 ghost use Rattle.cspf_model.specs.declared.link.Link.{Link as Linked};
 ghost use Rattle.cspf_model.specs.Lemmas.GoneRouters.{HasGone, IsGone};
 ghost use Rattle.cspf_model.specs.Lemmas.LinkRows.{AreByKey};
-ghost use Rattle.cspf_db.specs.Tables.Rows.{AreColumns};
+ghost use Rattle.cspf_columns.specs.Rows.{AreColumns};
 ghost use Rattle.cspf_model.specs.Lemmas.RowsLeft.{is_untouched};
 
 use crate::table::changes::{any_puts_at, is_untouched};
-use crate::table::columns::Columns;
-use crate::table::columns::routers::search;
-use crate::table::columns::rows::{index_of, span};
 use cspf_addr::Addr;
+use cspf_columns::Columns;
+use cspf_columns::routers::search;
+use cspf_columns::rows::{index_of, span};
 use cspf_model::{Change, Link};
 
 /// Whether the changes leave one of the rows alone.

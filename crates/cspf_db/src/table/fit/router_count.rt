@@ -5,18 +5,18 @@ ghost use Rattle.std.specs.FinSet as set;
 ghost use Rattle.cspf_model.specs.Database.{router_count};
 ghost use Rattle.cspf_model.specs.Lemmas.LinkChanges.{all_relinked};
 ghost use Rattle.cspf_model.specs.Lemmas.LinkRows.{database_of};
-ghost use Rattle.cspf_db.specs.Tables.Rows.{AreColumns};
+ghost use Rattle.cspf_columns.specs.Rows.{AreColumns};
 ghost use Rattle.cspf_model.specs.Lemmas.RowsLeft.{is_untouched, rows_untouched, links_put};
 ghost use Rattle.cspf_model.specs.Lemmas.CountedEnds.{with_ends, BringsAtMost};
 ghost use Rattle.cspf_model.specs.Refusals.{AreOnceEach};
 ghost use Rattle.cspf_model.specs.declared.limits.TheConstants.{MOST_CHANGES};
 
 use crate::table::changes::is_untouched;
-use crate::table::columns::Columns;
 use crate::table::fit::leaving::any_goes;
 use crate::table::fit::repeats::FEW;
 use crate::table::fit::router_set::Routers;
 use crate::table::fit::tally::count_brought;
+use cspf_columns::Columns;
 use cspf_model::{Change, Link, MOST_ROUTERS};
 
 /// Adds the ends of the rows that the changes leave alone. It is false where there would be more

@@ -2,20 +2,20 @@
 ghost use Rattle.std.specs.Prelude.{count_by, ◌≡◌, ◌*◌, ◌<◌, ◌≤◌, ◌⊎◌, cond, true, [], ◌∷◌, All, Contains, length, IfOk, IfErr, IfSome, IfNone};
 ghost use Rattle.std.specs.List.{HoldsAt, AllWithin, list_any};
 ghost use Rattle.cspf_model.specs.Changes.{IsPresent};
-ghost use Rattle.cspf_db.specs.Tables.AlikeChanges.{IsAlike};
+ghost use Rattle.cspf_columns.specs.AlikeChanges.{IsAlike};
 ghost use Rattle.cspf_model.specs.Lemmas.CountedEnds.{HasListedEnds, BringsAtMost, BringsBeside};
 ghost use Rattle.cspf_model.specs.Lemmas.GoneRouters.{puts_at};
 ghost use Rattle.cspf_model.specs.Refusals.{RemovesNothing};
 ghost use Rattle.cspf_model.specs.Lemmas.LinkRows.{database_of};
-ghost use Rattle.cspf_db.specs.Tables.Rows.{AreColumns, AreRising};
+ghost use Rattle.cspf_columns.specs.Rows.{AreColumns, AreRising};
 ghost use Rattle.cspf_model.specs.Lemmas.RowsLeft.{adds_link};
 ghost use Rattle.cspf_model.specs.declared.limits.TheConstants.{MOST_CHANGES};
 
 use crate::table::changes::any_puts_at;
-use crate::table::columns::Columns;
-use crate::table::columns::routers::is_among;
-use crate::table::columns::rows::{index_of, is_alike};
 use cspf_addr::Addr;
+use cspf_columns::Columns;
+use cspf_columns::routers::is_among;
+use cspf_columns::rows::{index_of, is_alike};
 use cspf_model::{Change, Link};
 
 /// How many links changes put where there is none, how many of their ends are not among the

@@ -1,5 +1,5 @@
-use Rattle.cspf_db.specs.Index.{router_list}
-use Rattle.cspf_db.proofs.Tables.RowOrder.{links_of-database_of}
+use Rattle.cspf_columns.specs.Index.{router_list}
+use Rattle.cspf_columns.proofs.RowOrder.{links_of-database_of}
 use Rattle.cspf_db.proofs.table.Table.ends.Goals as goal
 
 pub returns-clause-within : goal.returns-clause-within

@@ -1,4 +1,4 @@
-use Rattle.cspf_db.proofs.Tables.RouterLists.{span_at, ends_at_part}
+use Rattle.cspf_columns.proofs.RouterLists.{span_at, ends_at_part}
 use Rattle.cspf_db.proofs.table.Table.ends_at.Goals as goal
 
 pub returns-clause-each : goal.returns-clause-each

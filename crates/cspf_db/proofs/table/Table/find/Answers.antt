@@ -1,5 +1,5 @@
 use Rattle.cspf_model.proofs.Databases.FoundLinks.{link_at-row, link_at-no_row}
-use Rattle.cspf_db.proofs.Tables.RowOrder.{own_keys}
+use Rattle.cspf_columns.proofs.RowOrder.{own_keys}
 use Rattle.cspf_db.proofs.table.Table.find.Goals as goal
 
 pub returns-in_err-at : goal.returns-in_err-at

@@ -1,4 +1,4 @@
-use Rattle.cspf_db.proofs.Tables.ReverseColumn.{tells_reverse, reverse_test}
+use Rattle.cspf_columns.proofs.ReverseColumn.{tells_reverse, reverse_test}
 use Rattle.cspf_db.proofs.table.Table.has_reverse.Goals as goal
 
 pub returns : goal.returns

@@ -1,5 +1,5 @@
 use Rattle.cspf_model.proofs.Databases.LinksOfRows.{rows_keyed}
-use Rattle.cspf_db.proofs.Tables.RouterLists.{rising-router_list, tells_router}
+use Rattle.cspf_columns.proofs.RouterLists.{rising-router_list, tells_router}
 use Rattle.cspf_db.proofs.table.Table.has_router.Goals as goal
 
 pub search-requires : goal.search-requires

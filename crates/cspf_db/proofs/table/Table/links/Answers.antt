@@ -1,7 +1,7 @@
 use Rattle.std.proofs.Common.{sym}
 use Rattle.cspf_model.proofs.Databases.LinksOfRows.{rows_listed, rows_keyed}
-use Rattle.cspf_db.proofs.Tables.InterfaceRange.{links_marked}
-use Rattle.cspf_db.proofs.Tables.RowOrder.{own_keys, links_of-database_of}
+use Rattle.cspf_columns.proofs.InterfaceRange.{links_marked}
+use Rattle.cspf_columns.proofs.RowOrder.{own_keys, links_of-database_of}
 use Rattle.cspf_db.proofs.table.Table.links.Goals as goal
 
 pub returns-clause-listed : goal.returns-clause-listed

@@ -1,4 +1,4 @@
-use Rattle.cspf_db.proofs.Tables.RouterLists.{increasing}
+use Rattle.cspf_columns.proofs.RouterLists.{increasing}
 use Rattle.cspf_db.proofs.table.Table.marks.Goals as goal
 
 pub returns-clause-rising : goal.returns-clause-rising

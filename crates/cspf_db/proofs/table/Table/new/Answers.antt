@@ -1,33 +1,16 @@
 use Rattle.std.proofs.Common.{[], refl, ◌∙◌, arith}
-use Rattle.std.proofs.lemmas.List.Elements.{All-nil}
-use Rattle.cspf_model.proofs.Databases.DistinctRouters.{router_count-no_links}
-use Rattle.cspf_db.proofs.Tables.RouterLists.{router_list-nil, routers_marked}
+use Rattle.cspf_columns.proofs.RouterLists.{router_list-nil, routers_marked}
 use Rattle.cspf_db.proofs.table.Table.new.Goals as goal
 
 pub invariant_of-result : goal.invariant_of-result
 invariant_of-result c =
-    let r = c.in_ok-with_capacity.ensures in
-    let s = c.in_ok-with_capacity-2.ensures in
-    let e = c.in_ok-with_capacity-3.ensures in
-    let b = c.in_ok-with_capacity-4.ensures in
-    let t = c.in_ok-with_capacity-5.ensures in
-    let m = c.in_ok-with_capacity-6.ensures in
-    let u = c.in_ok-with_capacity-7.ensures in
+    let made = c.in_ok-new.ensures in
+    let m = c.in_ok-with_capacity.ensures in
+    let u = c.in_ok-with_capacity-2.ensures in
     record {
-      columns = record {
-        parts = record {
-          room = record { rows = omega (arith, r.exact); routers = omega (arith, s.exact); ends = omega (arith, e.exact); reverses = omega (arith, b.exact); spans = omega (arith, t.exact) };
-          by_key = rw r.items refl;
-          most = rw r.items (omega arith);
-          few = rw r.items (omega (arith, router_count-no_links));
-          all = rw (s.items, r.items) router_list-nil;
-          ends = record { within = rw e.items (All-nil _); each = rw (e.items, r.items) refl };
-        };
-        reverses = record { many = rw (b.items, r.items) refl; each = rw r.items (λ at d h. absurd (omega arith)) };
-        spans = record { many = rw (t.items, s.items) refl; each = rw s.items (λ at d h. absurd (omega arith)) };
-      };
+      columns = made.columns;
       marks = record { rising = rw m.items refl; most = rw m.items (omega arith); room = omega (arith, m.exact) };
-      listed = rw (s.items, r.items) (router_list-nil ∙ routers_marked [] _);
-      transits = record { many = rw (u.items, s.items) refl; each = rw s.items (λ at h. absurd (omega arith)) };
+      listed = rw (made.routers, made.rows) (router_list-nil ∙ routers_marked [] _);
+      transits = record { many = rw (u.items, made.routers) refl; each = rw made.routers (λ at h. absurd (omega arith)) };
       room_for_transits = omega (arith, u.exact);
     }

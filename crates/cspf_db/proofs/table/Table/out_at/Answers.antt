@@ -1,4 +1,4 @@
-use Rattle.cspf_db.proofs.Tables.RouterLists.{span_at}
+use Rattle.cspf_columns.proofs.RouterLists.{span_at}
 use Rattle.cspf_db.proofs.table.Table.out_at.Goals as goal
 
 pub returns : goal.returns

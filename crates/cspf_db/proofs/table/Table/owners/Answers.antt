@@ -1,8 +1,8 @@
 use Rattle.std.proofs.Common.{◌<◌, ◌^◌, length, ap, sym, ◌∙◌, arith}
-use Rattle.cspf_db.specs.Index.{router_list}
+use Rattle.cspf_columns.specs.Index.{router_list}
 use Rattle.cspf_model.specs.Lemmas.LinkRows.{database_of}
 use Rattle.cspf_db.proofs.Tables.OwnerPlaces.{owners_of_all, one_more, passed_by}
-use Rattle.cspf_db.proofs.Tables.RouterLists.{length-router_list}
+use Rattle.cspf_columns.proofs.RouterLists.{length-router_list}
 use Rattle.cspf_db.proofs.table.Table.owners.Goals.{then-owns_within+in_ok-push, else-owns_within}
 use Rattle.cspf_db.proofs.table.Table.owners.Goals as goal
 

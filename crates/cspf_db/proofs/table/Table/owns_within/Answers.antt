@@ -1,9 +1,9 @@
 use Rattle.std.proofs.Common.{◌≡◌, false, slice_index, slice_range, refl}
-use Rattle.cspf_db.specs.Index.{router_list}
+use Rattle.cspf_columns.specs.Index.{router_list}
 use Rattle.cspf_db.proofs.Tables.CoveredRanges.{none_in_range}
-use Rattle.cspf_db.proofs.Tables.InterfaceRange.{router_at, known_at, owned_by_links}
-use Rattle.cspf_db.proofs.Tables.OwnedPrefixes.{owned_itself}
-use Rattle.cspf_db.proofs.Tables.RouterLists.{span_at, span_read}
+use Rattle.cspf_columns.proofs.InterfaceRange.{router_at, known_at, owned_by_links}
+use Rattle.cspf_columns.proofs.OwnedPrefixes.{owned_itself}
+use Rattle.cspf_columns.proofs.RouterLists.{span_at, span_read}
 use Rattle.cspf_db.proofs.table.Table.owns_within.Goals as goal
 
 pub returns-then-contains : goal.returns-then-contains

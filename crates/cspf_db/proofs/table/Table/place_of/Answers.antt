@@ -1,5 +1,5 @@
 use Rattle.cspf_model.proofs.Databases.LinksOfRows.{rows_keyed}
-use Rattle.cspf_db.proofs.Tables.RouterLists.{rising-router_list, none_from_search}
+use Rattle.cspf_columns.proofs.RouterLists.{rising-router_list, none_from_search}
 use Rattle.cspf_db.proofs.table.Table.place_of.Goals as goal
 
 pub search-requires : goal.search-requires

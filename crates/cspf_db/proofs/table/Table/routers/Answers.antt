@@ -1,5 +1,5 @@
 use Rattle.cspf_model.proofs.Databases.LinksOfRows.{rows_keyed}
-use Rattle.cspf_db.proofs.Tables.RouterLists.{Contains-router_list, rising-router_list, increasing, length-router_list}
+use Rattle.cspf_columns.proofs.RouterLists.{Contains-router_list, rising-router_list, increasing, length-router_list}
 use Rattle.cspf_db.proofs.table.Table.routers.Goals as goal
 
 pub returns-clause-known : goal.returns-clause-known

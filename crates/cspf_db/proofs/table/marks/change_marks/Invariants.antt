@@ -2,7 +2,7 @@ use Rattle.std.proofs.Common.{◌≡◌, ◌+◌, ◌≤◌, drop, vec_len}
 use Rattle.std.specs.Vec.{vec_capacity}
 use Rattle.cspf_model.specs.Lemmas.MarkChanges.{all_marked}
 use Rattle.cspf_model.specs.Lemmas.LinkRows.{marks_in}
-use Rattle.cspf_db.specs.Tables.Rows.{AreRising}
+use Rattle.cspf_columns.specs.Rows.{AreRising}
 use Rattle.cspf_db.proofs.table.marks.change_marks.Given as goal
 
 abbrev pub invariant-loop-change : goal.invariant-loop-change

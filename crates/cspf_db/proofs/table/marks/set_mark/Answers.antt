@@ -1,6 +1,6 @@
 use Rattle.std.proofs.Common.{sym, ap, ◌∙◌, not}
 use Rattle.cspf_db.proofs.Tables.MarkChanges.{marks-insert, marks-without, rising-without, marks-same, marked_at, unmarked_gap}
-use Rattle.cspf_db.proofs.Tables.RouterLists.{put-new, rising-put}
+use Rattle.cspf_columns.proofs.RouterLists.{put-new, rising-put}
 use Rattle.cspf_db.proofs.table.marks.set_mark.Goals as goal
 
 pub returns-then-transit-clause-marked : goal.returns-then-transit-clause-marked

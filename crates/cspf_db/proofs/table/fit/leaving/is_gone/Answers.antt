@@ -4,7 +4,7 @@ use Rattle.std.proofs.lemmas.List.{get_or_default}
 use Rattle.cspf_model.specs.Lemmas.GoneRouters.{is_at}
 use Rattle.cspf_model.specs.Lemmas.RowsLeft.{is_untouched, links_put}
 use Rattle.cspf_db.proofs.Tables.GoneRouters.{puts_there, nothing_left}
-use Rattle.cspf_db.proofs.Tables.RouterLists.{rising-router_list}
+use Rattle.cspf_columns.proofs.RouterLists.{rising-router_list}
 use Rattle.cspf_db.proofs.table.fit.leaving.is_gone.Goals as goal
 
 off : (b : Bool) → not b ≡ true → b ≡ false

@@ -1,4 +1,4 @@
-use Rattle.cspf_db.proofs.Tables.RouterLists.{rising-router_list}
+use Rattle.cspf_columns.proofs.RouterLists.{rising-router_list}
 use Rattle.cspf_db.proofs.table.fit.leaving.takes_one.Goals as goal
 
 pub search-requires : goal.search-requires

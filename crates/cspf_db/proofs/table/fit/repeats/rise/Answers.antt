@@ -3,7 +3,7 @@ use Rattle.std.specs.declared.cmp.Ordering.TheVariants.{Less}
 use Rattle.std.proofs.lemmas.List.{get_or_read}
 use Rattle.std.proofs.lemmas.List.Sorted.{all_adjacent_more}
 use Rattle.cspf_model.specs.Changes.{change_key_cmp}
-use Rattle.cspf_db.proofs.Tables.SortedEntries.{test_from_true, less_from}
+use Rattle.cspf_columns.proofs.SortedEntries.{test_from_true, less_from}
 use Rattle.cspf_model.proofs.Batches.RisingKeys.{IsBelow, distinct_from_rising}
 use Rattle.cspf_db.proofs.table.fit.repeats.rise.Goals as goal
 

@@ -1,7 +1,7 @@
 use Rattle.std.proofs.Common.{length, ap, ◌∙◌, arith}
 use Rattle.cspf_model.specs.Lemmas.LinkRows.{database_of}
-use Rattle.cspf_db.proofs.Tables.RowOrder.{own_keys}
-use Rattle.cspf_db.proofs.Tables.RouterLists.{ends_listed, length-router_list, rising-router_list}
+use Rattle.cspf_columns.proofs.RowOrder.{own_keys}
+use Rattle.cspf_columns.proofs.RouterLists.{ends_listed, length-router_list, rising-router_list}
 use Rattle.cspf_model.proofs.Databases.EndCounts.{router_count-brought, router_count-gone}
 use Rattle.cspf_db.proofs.table.fit.router_count.fit_by_one.Goals as goal
 

@@ -4,8 +4,8 @@ use Rattle.std.specs.Ordering.{nat_cmp}
 use Rattle.cspf_model.specs.Lemmas.LinkRows.{database_of}
 use Rattle.cspf_model.specs.Lemmas.RowsLeft.{links_put}
 use Rattle.cspf_model.specs.Lemmas.CountedEnds.{with_ends}
-use Rattle.cspf_db.proofs.Tables.RowOrder.{own_keys}
-use Rattle.cspf_db.proofs.Tables.RouterLists.{ends_listed, length-router_list}
+use Rattle.cspf_columns.proofs.RowOrder.{own_keys}
+use Rattle.cspf_columns.proofs.RouterLists.{ends_listed, length-router_list}
 use Rattle.cspf_model.proofs.Databases.EndCounts.{router_count-brought, many_put, tells_both}
 use Rattle.cspf_db.proofs.table.fit.router_count.has_too_many_routers.Goals as goal
 use Rattle.cspf_db.proofs.table.fit.router_count.has_too_many_routers.Goals.{then-add_puts, else-add_puts}

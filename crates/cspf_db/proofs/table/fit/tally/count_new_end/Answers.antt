@@ -1,8 +1,8 @@
 use Rattle.std.proofs.Common.{Contains, subst, sym, ◌∙◌}
 use Rattle.std.proofs.lemmas.Bool.{eqb-true}
 use Rattle.cspf_model.specs.declared.link.Link.{Link}
-use Rattle.cspf_db.proofs.Tables.RouterColumn.{to_among}
-use Rattle.cspf_db.proofs.Tables.RouterLists.{rising-router_list}
+use Rattle.cspf_columns.proofs.RouterColumn.{to_among}
+use Rattle.cspf_columns.proofs.RouterLists.{rising-router_list}
 use Rattle.cspf_db.proofs.table.fit.tally.count_new_end.Goals as goal
 
 pub count_new-requires : goal.count_new-requires

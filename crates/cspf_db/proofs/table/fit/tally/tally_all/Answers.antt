@@ -1,6 +1,6 @@
 use Rattle.std.proofs.Common.{sym, ◌∙◌, arith}
 use Rattle.cspf_model.specs.Changes.{IsPresent}
-use Rattle.cspf_db.specs.Tables.AlikeChanges.{IsAlike}
+use Rattle.cspf_columns.specs.AlikeChanges.{IsAlike}
 use Rattle.cspf_model.specs.Lemmas.CountedEnds.{HasListedEnds}
 use Rattle.cspf_model.specs.Lemmas.LinkRows.{database_of}
 use Rattle.cspf_model.specs.Lemmas.RowsLeft.{adds_link}

@@ -1,7 +1,7 @@
 use Rattle.std.proofs.Common.{◌≡◌, true, ◌≤◌, ◌*◌, take, count_by}
 use Rattle.std.specs.List.{AllWithin}
 use Rattle.cspf_model.specs.Changes.{IsPresent}
-use Rattle.cspf_db.specs.Tables.AlikeChanges.{IsAlike}
+use Rattle.cspf_columns.specs.AlikeChanges.{IsAlike}
 use Rattle.cspf_model.specs.Lemmas.CountedEnds.{HasListedEnds, BringsAtMost}
 use Rattle.cspf_model.specs.Lemmas.LinkRows.{database_of}
 use Rattle.cspf_model.specs.Lemmas.RowsLeft.{adds_link}

@@ -1,9 +1,9 @@
 use Rattle.std.proofs.Common.{Contains, Some, None, true, false, cond, refl, ap, subst, arith}
 use Rattle.cspf_model.proofs.Databases.EndCounts.{brings_put}
-use Rattle.cspf_db.proofs.Tables.AlikeRows.{contains_alike}
-use Rattle.cspf_db.proofs.Tables.RouterColumn.{from_among}
+use Rattle.cspf_columns.proofs.AlikeRows.{contains_alike}
+use Rattle.cspf_columns.proofs.RouterColumn.{from_among}
 use Rattle.cspf_model.proofs.Databases.FoundLinks.{tells_addition}
-use Rattle.cspf_db.proofs.Tables.RouterLists.{rising-router_list}
+use Rattle.cspf_columns.proofs.RouterLists.{rising-router_list}
 use Rattle.cspf_db.proofs.table.fit.tally.tally_put.Goals as goal
 
 pub count_new-requires : goal.count_new-requires

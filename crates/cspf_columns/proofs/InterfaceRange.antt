@@ -1,0 +1,108 @@
+-- The rows from one router rise by the address of their interface, so that a prefix below or above
+-- them all covers none of them.
+use Rattle.std.proofs.Common.{◌≡◌, ℕ, ◌+◌, ◌-◌, ◌<◌, ◌≤◌, ◌↔◌, inl, inr, Bool, true, false, IsTrue, List, All, length, filter, get_or, nat_eq, slice_index, refl, sym, ap, subst, ◌∙◌, arith}
+use Rattle.std.specs.Ordering.{nat_cmp, ordering_then}
+use Rattle.std.specs.declared.cmp.Ordering.TheVariants.{Less, Equal, Greater}
+use Rattle.std.specs.Cmp.{ranked}
+use Rattle.std.specs.List.{HoldsAt, between}
+use Rattle.std.specs.List.Sorted.{IsNonDecreasingBy}
+use Rattle.std.proofs.lemmas.Bool.{cases_eq, eqb-true}
+use Rattle.std.proofs.lemmas.List.{get_or_default, get_or_read_under}
+use Rattle.std.proofs.lemmas.List.Edits.{length-between, get_or-between}
+use Rattle.std.proofs.lemmas.List.Elements.{Contains-get_or, filter_passes}
+use Rattle.std.proofs.lemmas.List.Kept.{AllPairs-filter}
+use Rattle.cspf_addr.specs.PrefixParts.{PrefixParts}
+use Rattle.cspf_addr.specs.Prefixes.{Covers}
+use Rattle.cspf_model.specs.declared.link.Link.{Link}
+use Rattle.cspf_model.specs.Database.{Database, Key, key_of, key_cmp, AreLinksOf, AreAtTheirKeys, IsRouterOf}
+use Rattle.cspf_columns.specs.Index.{links_of, links_from, router_list}
+use Rattle.cspf_model.specs.Lemmas.LinkRows.{entry_of, database_of, marked_database, AreByKey}
+use Rattle.cspf_model.specs.Targets.{Owns}
+use Rattle.cspf_model.proofs.Databases.Keys.{keys_total}
+use Rattle.cspf_columns.proofs.SortedEntries.{test_from_true, rises}
+use Rattle.cspf_model.proofs.Databases.LinksOfRows.{rows_listed, rows_keyed}
+use Rattle.cspf_columns.proofs.RowOrder.{own_keys, links_of-database_of}
+use Rattle.cspf_columns.proofs.OwnedPrefixes.{tells_link, owned_by_link}
+use Rattle.cspf_columns.proofs.RouterLists.{Contains-router_list, routers_marked}
+
+-- of two keys of one router, the lower has the lower address
+local_le : (j k : Key) → key_cmp j k ≡ Less → j.0 ≡ k.0 → j.1 ≤ k.1
+local_le j k is tie =
+    elim (nat_cmp j.0 k.0) as (λ r. r ≡ nat_cmp j.0 k.0 → ordering_then r (nat_cmp j.1 k.1) ≡ Less → j.1 ≤ k.1) [
+      | Less ↦ λ e _. let low : j.0 < k.0 = ranked j.0 k.0 Less e in absurd (omega arith)
+      | Equal ↦ λ _ less. let low : j.1 < k.1 = ranked j.1 k.1 Less (sym less) in omega arith
+      | Greater ↦ λ _ off. absurd (cc)
+    ] refl is
+
+-- the rows from a router rise by the address of their interface
+pub locals_rise : (rows : List Link) (router : ℕ) → AreByKey rows → IsNonDecreasingBy (λ l. l.local) (filter (λ l. nat_eq l.from router) rows)
+locals_rise rows router by_key i j d le h =
+    let p : Link → Bool = λ l. nat_eq l.from router in
+    let from_router : (k : ℕ) → k < length (filter p rows) → (get_or (filter p rows) k d).from ≡ router = λ k within. eqb-true _ _ (filter_passes p rows k d within) in
+    elim (cases_eq i j) [
+      | inl same ↦ omega (arith, ap (λ k. (get_or (filter p rows) k d).local) same)
+      | inr apart ↦
+          AllPairs-filter (λ l m. l.from ≡ m.from → l.local ≤ m.local) p rows
+          (λ a b e low within. local_le (key_of (get_or rows a e)) (key_of (get_or rows b e)) (rises keys_total entry_of rows (test_from_true _ by_key) a b e low within)) i j d (omega (arith, le)) h
+          (from_router i (omega (arith, le, h)) ∙ sym (from_router j h))
+    ]
+
+-- so the first of some rows that rise has the lowest address, and the last one the highest
+module _ (rows : List Link) (first end : ℕ) (some : first < end) (bound : end ≤ length rows) (rising : IsNonDecreasingBy (λ l. l.local) (between first end rows)) where
+  long : length (between first end rows) ≡ end - first
+  long = length-between rows first end bound
+
+  pub lowest_first : (e : Link) → All (λ l. (get_or rows first e).local ≤ l.local) (between first end rows)
+  lowest_first e k d h =
+      let start : first + 0 ≡ first = omega arith in
+      let bottom : (get_or (between first end rows) 0 d).local ≡ (get_or rows first e).local =
+      ap (λ (l : Link). l.local) (get_or-between rows first end 0 d (omega (arith, some)) ∙ ap (λ i. get_or rows i d) start ∙ get_or_default rows first d e (omega (arith, some, bound))) in
+      omega (arith, bottom, rising 0 k d (omega arith) h)
+
+  pub highest_last : (e : Link) → All (λ l. l.local ≤ (get_or rows (end - 1) e).local) (between first end rows)
+  highest_last e k d h =
+      let last : first + (end - first - 1) ≡ end - 1 = omega (arith, some) in
+      let top : (get_or (between first end rows) (end - first - 1) d).local ≡ (get_or rows (end - 1) e).local =
+      ap (λ (l : Link). l.local) (get_or-between rows first end (end - first - 1) d (omega (arith, some)) ∙ ap (λ i. get_or rows i d) last ∙ get_or_default rows (end - 1) d e (omega (arith, some, bound))) in
+      omega (arith, top, rising k (end - first - 1) d (omega (arith, h, long)) (omega (arith, some, long)))
+
+-- and so do the links of a database from it
+pub links_rise : (d : Database) (rows : List Link) (marks : List ℕ) (part : List Link) (router : ℕ) → marked_database rows marks ≡ d → AreByKey rows → part ≡ links_from d router → IsNonDecreasingBy (λ l. l.local) part
+links_rise d rows marks part router e by_key is =
+    subst (IsNonDecreasingBy (λ l. l.local))
+    (ap (filter (λ (l : Link). nat_eq l.from router)) (sym (links_of-database_of rows by_key) ∙ ap links_of e) ∙ sym is)
+    (locals_rise rows router by_key)
+
+-- a prefix that covers no address from the first row's to the last one's covers that of no row
+pub none_between : (prefix : PrefixParts) (rows : List Link) (first last : Link) → 0 < length rows → IsNonDecreasingBy (λ l. l.local) rows
+    → ((address : ℕ) → (get_or rows 0 first).local ≤ address → address ≤ (get_or rows (length rows - 1) last).local → ¬ Covers prefix address) → All (λ l. ¬ Covers prefix l.local) rows
+none_between prefix rows first last some rising none k d h =
+    let bottom : (get_or rows 0 first).local ≡ (get_or rows 0 d).local = ap (λ (l : Link). l.local) (get_or_default rows 0 first d some) in
+    let top : (get_or rows (length rows - 1) last).local ≡ (get_or rows (length rows - 1) d).local = ap (λ (l : Link). l.local) (get_or_default rows (length rows - 1) last d (omega (arith, some))) in
+    none (get_or rows k d).local (omega (arith, bottom, rising 0 k d (omega arith) h)) (omega (arith, top, rising k (length rows - 1) d (omega (arith, h)) (omega (arith, some))))
+
+-- the router that is read at an index of the routers
+pub router_at : (d : Database) (rows : List Link) (marks : List ℕ) (routers : List ℕ) (at router : ℕ) → marked_database rows marks ≡ d → routers ≡ router_list (database_of rows) → at < length (router_list d)
+    → router ≡ get_or routers at router → router ≡ slice_index (router_list d) at
+router_at d rows marks routers at router e all h read =
+    let listed : routers ≡ router_list d = all ∙ routers_marked rows marks ∙ ap router_list e in
+    let within : at < length routers = subst (λ rs. at < length rs) (sym listed) h in
+    get_or_read_under routers at (length routers) router 0 read within refl ∙ ap (λ rs. slice_index rs at) listed
+
+-- each of them is a router of the database
+pub known_at : (d : Database) (rows : List Link) (marks : List ℕ) (at : ℕ) → marked_database rows marks ≡ d → at < length (router_list d) → IsRouterOf d (slice_index (router_list d) at)
+known_at d rows marks at e h = (Contains-router_list d (subst AreAtTheirKeys e (rows_keyed rows)) (slice_index (router_list d) at)).0 (Contains-get_or (router_list d) at 0 h)
+
+-- marks leave the links
+pub links_marked : (rows : List Link) (marks : List ℕ) (links : List Link) → AreLinksOf (database_of rows) links → AreLinksOf (marked_database rows marks) links
+links_marked rows marks links are = record { each = are.each; whole = are.whole }
+
+-- a router that the prefix doesn't cover owns it where a link from it is within
+pub owned_by_links : (d : Database) (rows : List Link) (marks : List ℕ) (part : List Link) (prefix : PrefixParts) (router : ℕ) (b : Bool) → marked_database rows marks ≡ d → AreByKey rows → IsRouterOf d router → part ≡ links_from d router
+    → ¬ Covers prefix router → (b ≡ true → (at : ℕ) × (at < length part) × HoldsAt (λ l. Covers prefix l.local) part at) → (b ≡ false → All (λ l. ¬ Covers prefix l.local) part)
+    → IsTrue b ↔ Owns d prefix router
+owned_by_links d rows marks part prefix router b e by_key known is apart hit miss =
+    let links : AreLinksOf (marked_database rows marks) rows = links_marked rows marks rows (rows_listed rows (own_keys rows by_key)) in
+    let listed : AreLinksOf d (links_of d) =
+    subst (λ o. AreLinksOf o (links_of o)) e (subst (AreLinksOf (marked_database rows marks)) (sym (links_of-database_of rows by_key)) links) in
+    owned_by_link d prefix router b known apart (tells_link prefix router d (links_of d) b listed (subst (λ ls. b ≡ true → (at : ℕ) × (at < length ls) × HoldsAt (λ l. Covers prefix l.local) ls at) is hit) (subst (λ ls. b ≡ false → All (λ (l : Link). ¬ Covers prefix l.local) ls) is miss))

@@ -1,0 +1,214 @@
+-- The column of reverses as a row that is left out is put over another, put between others or taken out.
+use Rattle.std.proofs.Common.{◌≡◌, ◌≢◌, ℕ, ◌+◌, ◌-◌, ◌<◌, ◌≤◌, ◌⊎◌, List, length, map, cond, leb, slice_index_or, slice_set, sym, ap, subst, ◌∙◌, inl, inr, arith}
+use Rattle.std.specs.List.{HoldsAt, insert, remove as without}
+use Rattle.std.proofs.lemmas.Bool.{cases_eq, cases_lt, eq-eqb, ne_eqb, le-leb, lt-leb}
+use Rattle.std.proofs.lemmas.List.{length-set, length-map, get_or-set_same, get_or-set_other, get_or-map}
+use Rattle.std.proofs.lemmas.List.Edits.{length-insert, length-remove, get_or-insert_below, get_or-insert_at, get_or-insert_above, get_or-remove_below, get_or-remove_above}
+use Rattle.cspf_model.specs.declared.link.Link.{Link}
+use Rattle.cspf_columns.specs.declared.limits.TheConstants.{NO_LINK, ROOM_FOR_LINKS}
+use Rattle.cspf_model.specs.Database.{Key, key_of}
+use Rattle.cspf_model.specs.Lemmas.LinkRows.{AreByKey}
+use Rattle.cspf_columns.specs.Reverses.{AreReversesBut, no_key, same_key, index_behind, index_before}
+use Rattle.cspf_columns.proofs.PairedRows.{IsPair, here, paired, column_of, open_pair, taken_in_unmet}
+
+-- rows after a change, of which each is one from before or has a key that is left out
+abbrev IsFrom : (out : Key → Type 0) (rows new : List Link) (d : Link) (j : ℕ) → Type 0
+IsFrom out rows new d j = out (key_of (slice_index_or new j d)) ⊎ ((k : ℕ) × (k < length rows) × (slice_index_or new j d ≡ slice_index_or rows k d))
+
+-- a pair that is found at other indices
+moved : (out : Key → Type 0) (rows new : List Link) (d : Link) (i n j m : ℕ) → IsPair out rows d i n → slice_index_or new j d ≡ slice_index_or rows i d
+    → (n ≢ NO_LINK → (m ≢ NO_LINK) × (m < length new) × (slice_index_or new m d ≡ slice_index_or rows n d)) → (n ≡ NO_LINK → m ≡ NO_LINK)
+    → ((k : ℕ) → k < length new → IsFrom out rows new d k) → IsPair out new d j m
+moved out rows new d i n j m is same to open_to from = elim (cases_eq n NO_LINK) [
+  | inl z ↦ subst (IsPair out new d j) (sym (open_to z)) (open_pair out new d j (λ k inside back. elim (from k inside) [
+    | inl left ↦ inr left
+    | inr old ↦ rw (same, old.2) (is.none z old.0 old.1 (rw (same, old.2) at back))
+  ]))
+  | inr some ↦ record {
+    within = λ _. (to some).1;
+    found = λ _. rw (same, (to some).2) (is.found some);
+    kept = λ _. rw (same, (to some).2) (is.kept some);
+    none = λ z. absurd ((to some).0 z);
+  }
+]
+
+-- the index after a gap, and before one
+behind_none : (at n : ℕ) → n ≡ NO_LINK → index_behind at n ≡ NO_LINK
+behind_none at n z = ap (λ b. cond b n (cond (leb at n) (n + 1) n)) (eq-eqb n NO_LINK z) ∙ z
+
+before_none : (at n : ℕ) → n ≡ NO_LINK → index_before at n ≡ NO_LINK
+before_none at n z = ap (λ b. cond b n (cond (leb at n) (n - 1) n)) (eq-eqb n NO_LINK z) ∙ z
+
+behind_from : (at n : ℕ) → n ≢ NO_LINK → at ≤ n → index_behind at n ≡ n + 1
+behind_from at n some h = ap (λ b. cond b n (cond (leb at n) (n + 1) n)) (ne_eqb n NO_LINK some) ∙ ap (λ b. cond b (n + 1) n) (le-leb at n h)
+
+behind_below : (at n : ℕ) → n ≢ NO_LINK → n < at → index_behind at n ≡ n
+behind_below at n some h = ap (λ b. cond b n (cond (leb at n) (n + 1) n)) (ne_eqb n NO_LINK some) ∙ ap (λ b. cond b (n + 1) n) (lt-leb at n h)
+
+before_from : (at n : ℕ) → n ≢ NO_LINK → at ≤ n → index_before at n ≡ n - 1
+before_from at n some h = ap (λ b. cond b n (cond (leb at n) (n - 1) n)) (ne_eqb n NO_LINK some) ∙ ap (λ b. cond b (n - 1) n) (le-leb at n h)
+
+before_below : (at n : ℕ) → n ≢ NO_LINK → n < at → index_before at n ≡ n
+before_below at n some h = ap (λ b. cond b n (cond (leb at n) (n - 1) n)) (ne_eqb n NO_LINK some) ∙ ap (λ b. cond b (n - 1) n) (lt-leb at n h)
+
+-- rows with a column that leaves a key out
+module _ (rows : List Link) (column : List ℕ) (k : Key) (few : length rows ≤ ROOM_FOR_LINKS) (are : AreReversesBut (same_key k) rows column) where
+  -- a link with that key
+  module _ (l : Link) (has_key : key_of l ≡ k) (at : ℕ) where
+    -- is put over the row with it
+    module _ (within : at < length rows) (has : HoldsAt (λ m. key_of m ≡ k) rows at) where
+      abbrev over : List Link
+      over = slice_set rows at l
+
+      over_from : (d : Link) (j : ℕ) → j < length over → IsFrom (same_key k) rows over d j
+      over_from d j inside = elim (cases_eq j at) [
+        | inl same ↦ inl (ap (λ a. key_of (slice_index_or over a d)) same ∙ ap key_of (get_or-set_same rows at l d within) ∙ has_key)
+        | inr apart ↦ inr (j, omega (arith, inside, length-set rows at l), get_or-set_other rows at j l d apart)
+      ]
+
+      pub put_over : AreReversesBut (same_key k) over column
+      put_over = column_of (same_key k) over column (are.many ∙ sym (length-set rows at l)) (λ i d h.
+          let n = slice_index_or column i 0 in
+          let old : i < length rows = omega (arith, h, length-set rows at l) in
+          let is = paired (same_key k) rows column are i d old in
+          elim (cases_eq i at) [
+            | inl same ↦
+                let unpaired : n ≡ NO_LINK = elim (cases_eq n NO_LINK) [ inl z ↦ z | inr some ↦ absurd ((is.kept some).0 (ap (λ a. key_of (slice_index_or rows a d)) same ∙ has d)) ] in
+                subst (IsPair (same_key k) over d i) (sym unpaired)
+                (open_pair (same_key k) over d i (λ j inside back. inl (ap (λ a. key_of (slice_index_or over a d)) same ∙ ap key_of (get_or-set_same rows at l d within) ∙ has_key)))
+            | inr apart ↦ moved (same_key k) rows over d i n i n is (get_or-set_other rows at i l d apart)
+                (λ some. (
+                  some,
+                  omega (arith, is.within some, length-set rows at l),
+                  get_or-set_other rows at n l d (λ same. (is.kept some).1 (ap (λ a. key_of (slice_index_or rows a d)) same ∙ has d)),
+                ))
+                (λ z. z) (over_from d)
+          ])
+
+    -- is put between others
+    module _ (upto : at ≤ length rows) where
+      abbrev wider : List Link
+      wider = insert rows at l
+
+      abbrev opened : List ℕ
+      opened = insert (map (index_behind at) column) at NO_LINK
+
+      long : length wider ≡ length rows + 1
+      long = length-insert rows at l upto
+
+      upto_column : at ≤ length (map (index_behind at) column)
+      upto_column = omega (arith, upto, are.many, length-map column (index_behind at))
+
+      row_below : (d : Link) (i : ℕ) → i < at → slice_index_or wider i d ≡ slice_index_or rows i d
+      row_below d i h = get_or-insert_below rows at l d i h upto
+
+      row_above : (d : Link) (i : ℕ) → at ≤ i → slice_index_or wider (i + 1) d ≡ slice_index_or rows i d
+      row_above d i h = get_or-insert_above rows at l d i h upto
+
+      wider_from : (d : Link) (j : ℕ) → j < length wider → IsFrom (same_key k) rows wider d j
+      wider_from d j inside = elim (cases_lt j at) [
+        | inl below ↦ inr (j, omega (arith, below, upto), row_below d j below)
+        | inr from ↦ elim (cases_eq j at) [
+          | inl same ↦ inl (ap (λ a. key_of (slice_index_or wider a d)) same ∙ ap key_of (get_or-insert_at rows at l d upto) ∙ has_key)
+          | inr apart ↦
+              let back : j - 1 + 1 ≡ j = omega (arith, from, apart) in
+              inr (j - 1, omega (arith, inside, long, back), subst (λ a. slice_index_or wider a d ≡ slice_index_or rows (j - 1) d) back (row_above d (j - 1) (omega (arith, from, back))))
+        ]
+      ]
+
+      -- what a row's own pair becomes
+      pair_behind : (d : Link) (i j : ℕ) → i < length rows → slice_index_or wider j d ≡ slice_index_or rows i d → IsPair (same_key k) wider d j (index_behind at (slice_index_or column i 0))
+      pair_behind d i j old same =
+          let n = slice_index_or column i 0 in
+          let is = paired (same_key k) rows column are i d old in
+          moved (same_key k) rows wider d i n j (index_behind at n) is same
+          (λ some. elim (cases_lt n at) [
+            | inl below ↦
+                let here : index_behind at n ≡ n = behind_below at n some below in
+                rw here (some, omega (arith, is.within some, long), row_below d n below)
+            | inr from ↦
+                let here : index_behind at n ≡ n + 1 = behind_from at n some from in
+                rw here (λ e. absurd (omega (arith, e, is.within some, few)), omega (arith, is.within some, long), row_above d n from)
+          ]) (behind_none at n) (wider_from d)
+
+      read : (i : ℕ) → i < length column → slice_index_or (map (index_behind at) column) i 0 ≡ index_behind at (slice_index_or column i 0)
+      read i h = get_or-map (index_behind at) column i 0 0 h
+
+      pub put_between : AreReversesBut (same_key k) wider opened
+      put_between = column_of (same_key k) wider opened (omega (arith, length-insert (map (index_behind at) column) at NO_LINK upto_column, length-map column (index_behind at), are.many, long)) (λ i d h. elim (cases_lt i at) [
+        | inl below ↦
+            let is : slice_index_or opened i 0 ≡ index_behind at (slice_index_or column i 0) = get_or-insert_below (map (index_behind at) column) at NO_LINK 0 i below upto_column ∙ read i (omega (arith, below, upto, are.many)) in
+            subst (IsPair (same_key k) wider d i) (sym is) (pair_behind d i i (omega (arith, below, upto)) (row_below d i below))
+        | inr from ↦ elim (cases_eq i at) [
+          | inl same ↦
+              let is : slice_index_or opened i 0 ≡ NO_LINK = ap (λ a. slice_index_or opened a 0) same ∙ get_or-insert_at (map (index_behind at) column) at NO_LINK 0 upto_column in
+              subst (IsPair (same_key k) wider d i) (sym is)
+              (open_pair (same_key k) wider d i (λ j inside back. inl (ap (λ a. key_of (slice_index_or wider a d)) same ∙ ap key_of (get_or-insert_at rows at l d upto) ∙ has_key)))
+          | inr apart ↦
+              let one : i - 1 + 1 ≡ i = omega (arith, from, apart) in
+              let old : i - 1 < length rows = omega (arith, h, long, one) in
+              let is : slice_index_or opened i 0 ≡ index_behind at (slice_index_or column (i - 1) 0) =
+              ap (λ a. slice_index_or opened a 0) (sym one) ∙ get_or-insert_above (map (index_behind at) column) at NO_LINK 0 (i - 1) (omega (arith, from, one, apart)) upto_column ∙ read (i - 1) (omega (arith, old, are.many)) in
+              subst (IsPair (same_key k) wider d i) (sym is)
+              (pair_behind d (i - 1) i old (subst (λ a. slice_index_or wider a d ≡ slice_index_or rows (i - 1) d) one (row_above d (i - 1) (omega (arith, from, one, apart)))))
+        ]
+      ])
+
+  -- the row with that key is taken out
+  module _ (by_key : AreByKey rows) (at : ℕ) (within : at < length rows) (has : HoldsAt (λ m. key_of m ≡ k) rows at) where
+    abbrev fewer : List Link
+    fewer = without rows at
+
+    abbrev closed : List ℕ
+    closed = map (index_before at) (without column at)
+
+    short : length fewer + 1 ≡ length rows
+    short = length-remove rows at within
+
+    kept_below : (d : Link) (i : ℕ) → i < at → slice_index_or fewer i d ≡ slice_index_or rows i d
+    kept_below d i h = get_or-remove_below rows at d i h within
+
+    kept_above : (d : Link) (i : ℕ) → at ≤ i → slice_index_or fewer i d ≡ slice_index_or rows (i + 1) d
+    kept_above d i h = get_or-remove_above rows at d i h within
+
+    fewer_from : (d : Link) (j : ℕ) → j < length fewer → (i : ℕ) × (i < length rows) × (i ≢ at) × (slice_index_or fewer j d ≡ slice_index_or rows i d)
+    fewer_from d j inside = elim (cases_lt j at) [
+      | inl below ↦ (j, omega (arith, inside, short), λ e. absurd (omega (arith, e, below)), kept_below d j below)
+      | inr from ↦ (j + 1, omega (arith, inside, short), λ e. absurd (omega (arith, e, from)), kept_above d j from)
+    ]
+
+    pair_before : (d : Link) (i j : ℕ) → i < length rows → slice_index_or fewer j d ≡ slice_index_or rows i d → IsPair (same_key k) fewer d j (index_before at (slice_index_or column i 0))
+    pair_before d i j old same =
+        let n = slice_index_or column i 0 in
+        let is = paired (same_key k) rows column are i d old in
+        moved (same_key k) rows fewer d i n j (index_before at n) is same
+        (λ some. elim (cases_lt n at) [
+          | inl below ↦
+              let here : index_before at n ≡ n = before_below at n some below in
+              rw here (some, omega (arith, below, within, short), kept_below d n below)
+          | inr from ↦
+              let apart : n ≢ at = λ e. (is.kept some).1 (ap (λ a. key_of (slice_index_or rows a d)) e ∙ has d) in
+              let one : n - 1 + 1 ≡ n = omega (arith, from, apart) in
+              let here : index_before at n ≡ n - 1 = before_from at n some from in
+              rw here (λ e. absurd (omega (arith, e, is.within some, few)), omega (arith, is.within some, short, one), kept_above d (n - 1) (omega (arith, from, apart, one)) ∙ ap (λ a. slice_index_or rows a d) one)
+        ]) (before_none at n) (λ x inside. let from = fewer_from d x inside in inr (from.0, from.1, from.3))
+
+    read_before : (i : ℕ) → i < length (without column at) → slice_index_or closed i 0 ≡ index_before at (slice_index_or (without column at) i 0)
+    read_before i h = get_or-map (index_before at) (without column at) i 0 0 h
+
+    taken_out_but : AreReversesBut (same_key k) fewer closed
+    taken_out_but =
+        let in_column : at < length column = omega (arith, within, are.many) in
+        let short_column = length-remove column at in_column in
+        column_of (same_key k) fewer closed (omega (arith, length-map (without column at) (index_before at), short_column, short, are.many)) (λ i d h. elim (cases_lt i at) [
+          | inl below ↦
+              let is : slice_index_or closed i 0 ≡ index_before at (slice_index_or column i 0) = read_before i (omega (arith, h, short, short_column, are.many)) ∙ ap (index_before at) (get_or-remove_below column at 0 i below in_column) in
+              subst (IsPair (same_key k) fewer d i) (sym is) (pair_before d i i (omega (arith, h, short)) (kept_below d i below))
+          | inr from ↦
+              let is : slice_index_or closed i 0 ≡ index_before at (slice_index_or column (i + 1) 0) = read_before i (omega (arith, h, short, short_column, are.many)) ∙ ap (index_before at) (get_or-remove_above column at 0 i from in_column) in
+              subst (IsPair (same_key k) fewer d i) (sym is) (pair_before d (i + 1) i (omega (arith, h, short)) (kept_above d i from))
+        ])
+
+    pub taken_out : AreReversesBut no_key fewer closed
+    taken_out = taken_in_unmet k fewer closed
+        (λ j d inside same. let from = fewer_from d j inside in from.2 (here rows by_key at within k has from.0 d from.1 (sym (ap key_of from.3) ∙ same))) taken_out_but

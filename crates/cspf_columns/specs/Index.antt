@@ -1,0 +1,38 @@
+-- The links and the routers of a database in order, and the links from a router.
+use Rattle.std.specs.Prelude.{◌≡◌, ◌≢◌, ◌<◌, ℕ, List, map, filter, length, nat_eq, slice_index, slice_index_or}
+use Rattle.std.specs.Ordering.{nat_cmp}
+use Rattle.std.specs.FinMap as finite
+use Rattle.cspf_model.specs.declared.link.Link.{Link}
+use Rattle.cspf_columns.specs.declared.limits.TheConstants.{NO_LINK}
+use Rattle.cspf_model.specs.Database.{Database, HasReverse, IsReverse, ends_of}
+
+-- the links of a database, in order of the key
+abbrev pub links_of : Database → List Link
+links_of d = finite.values d.links
+
+-- a number alone
+abbrev pub with_nothing : ℕ → ℕ × Unit {0}
+with_nothing n = (n, tt)
+
+-- the numbers of a list, each once
+abbrev pub numbers_in : List ℕ → finite.FinMap nat_cmp (Unit {0})
+numbers_in ns = finite.from_entries {R = nat_cmp} (map with_nothing ns)
+
+-- the routers of a database, rising: the ends of its links, each once
+unfoldable pub router_list : Database → List ℕ
+router_list d = finite.keys (numbers_in (ends_of (links_of d)))
+
+-- the links from a router, in order of the local address
+abbrev pub links_from : Database → ℕ → List Link
+links_from d router = filter (λ l. nat_eq l.from router) (links_of d)
+
+-- the links from the router at an index of the list of routers
+abbrev pub links_from_index : Database → ℕ → List Link
+links_from_index d at = links_from d (slice_index (router_list d) at)
+
+-- a number is the index of the reverse of a link among the links of a database, or `NO_LINK` where the
+-- database has no reverse of it
+pub record IsReverseAt (d : Database) (l : Link) (n : ℕ) : Type 0 where
+  pub within : n ≢ NO_LINK → n < length (links_of d)
+  pub found : n ≢ NO_LINK → IsReverse l (slice_index_or (links_of d) n l)
+  pub none : n ≡ NO_LINK → ¬ HasReverse d l

@@ -1,0 +1,36 @@
+-- Private: the column of reverses, beside the rows.
+use Rattle.std.specs.Prelude.{◌≡◌, ◌≢◌, ◌<◌, ◌+◌, ◌-◌, ◌⊎◌, ℕ, cond, nat_eq, nat_le, List, length, slice_index_or}
+use Rattle.cspf_model.specs.declared.link.Link.{Link}
+use Rattle.cspf_columns.specs.declared.limits.TheConstants.{NO_LINK}
+use Rattle.cspf_model.specs.Database.{Key, key_of, IsReverse}
+
+-- A number is the index at which the reverse of a link is among rows, or there is none. Links with
+-- keys that are left out have no reverse and are none.
+pub record IsIndexOfReverse (left_out : Key → Type 0) (rows : List Link) (l : Link) (n : ℕ) : Type 0 where
+  pub within : n ≢ NO_LINK → n < length rows
+  pub found : n ≢ NO_LINK → IsReverse l (slice_index_or rows n l)
+  pub kept : n ≢ NO_LINK → (¬ left_out (key_of l)) × ¬ left_out (key_of (slice_index_or rows n l))
+  pub none : n ≡ NO_LINK → (at : ℕ) → at < length rows → IsReverse l (slice_index_or rows at l)
+      → left_out (key_of l) ⊎ left_out (key_of (slice_index_or rows at l))
+
+-- so it is for each row
+pub record AreReversesBut (left_out : Key → Type 0) (rows : List Link) (column : List ℕ) : Type 0 where
+  pub many : length column ≡ length rows
+  pub each : (at : ℕ) (d : Link) → at < length rows
+      → IsIndexOfReverse left_out rows (slice_index_or rows at d) (slice_index_or column at 0)
+
+-- no key is left out
+abbrev pub no_key : Key → Type 0
+no_key k = ⊥
+
+-- this key is left out
+abbrev pub same_key : Key → Key → Type 0
+same_key key k = k ≡ key
+
+-- where an index is once a row was put between others
+abbrev pub index_behind : ℕ → ℕ → ℕ
+index_behind at n = cond (nat_eq n NO_LINK) n (cond (nat_le at n) (n + 1) n)
+
+-- and once one was taken out
+abbrev pub index_before : ℕ → ℕ → ℕ
+index_before at n = cond (nat_eq n NO_LINK) n (cond (nat_le at n) (n - 1) n)

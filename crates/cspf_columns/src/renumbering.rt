@@ -1,0 +1,117 @@
+//! Where routers are in another list, once routers are added to the list or dropped from it.
+ghost use Rattle.std.specs.Prelude.{◌≡◌, ℕ, ◌+◌, ◌<◌, ◌≤◌, true, false, [], ◌∷◌, ◌++◌, cond, All, Contains, filter, length, slice_index, slice_index_or, vec_len, nat_eq};
+ghost use Rattle.std.specs.Vec.{vec_capacity};
+ghost use Rattle.std.specs.List.{list_any};
+ghost use Rattle.cspf_model.specs.Lemmas.CountedEnds.{any_to, is_end_of};
+ghost use Rattle.cspf_model.specs.Lemmas.LinkRows.{AreByKey};
+ghost use Rattle.cspf_columns.specs.Rows.{AreRising, IsEndColumn, ArePlacesIn, AreKeptEnds};
+
+use crate::limits::ROOM_FOR_ROUTERS;
+use crate::routers::index_near;
+use crate::rows::begins;
+use cspf_addr::Addr;
+use cspf_model::Link;
+
+/// Lists where the routers are in a list that has them all. Where both rise, few are searched.
+pub(crate) fn list_places(places: &mut Vec<u16>, routers: &[Addr], others: &[Addr])
+    requires rising { AreRising others.now }
+    requires few { length others.now ≤ ROOM_FOR_ROUTERS }
+    requires among { All (Contains others.now) routers.now }
+    requires room { length routers.now ≤ vec_capacity places.old }
+    ensures each { ArePlacesIn others.now routers.now places.new.items }
+    ensures len { vec_len places.new ≡ length routers.now }
+    ensures capacity { vec_capacity places.old ≤ vec_capacity places.new }
+{
+    places.clear();
+    let mut near = 0;
+    for router in routers {
+        let place = index_near(others, near, *router);
+        places.push_reserved(place);
+        near = usize::from(place) + 1;
+    }
+}
+
+/// Marks the indices that are among the ends.
+fn mark_ends(marked: &mut [bool], ends: &[u16])
+    requires within { All (λ end. end < length marked.old) ends.now }
+    requires none { All (λ mark. mark ≡ false) marked.old }
+    ensures marked { (at : ℕ) → at < length marked.old
+        → slice_index_or marked.new at false ≡ list_any (λ end. nat_eq end at) ends.now }
+{
+    for end in ends {
+        marked[*end as usize] = true;
+    }
+}
+
+/// Whether the router is an end of a row, where it is known whether one runs to it.
+fn is_end(rows: &[Link], router: Addr, arrives: bool) -> bool
+    requires by_key { AreByKey rows.now }
+    requires known { arrives ≡ any_to rows.now router }
+    ensures { result ≡ is_end_of rows.now router }
+{
+    arrives || begins(rows, router)
+}
+
+/// Notes the place that the router would have after those that stay, and keeps it if it stays.
+fn keep_one(kept: &mut Vec<Addr>, places: &mut Vec<u16>, router: Addr, stays: bool)
+    requires few { vec_len kept.old < ROOM_FOR_ROUTERS }
+    requires room { vec_len kept.old < vec_capacity kept.old }
+    requires room_for_places { vec_len places.old < vec_capacity places.old }
+    ensures kept { kept.new.items ≡ kept.old.items ++ cond stays (router ∷ []) [] }
+    ensures placed { places.new.items ≡ places.old.items ++ length kept.old.items ∷ [] }
+    ensures len { vec_len places.new ≡ vec_len places.old + 1 }
+    ensures longer { vec_len kept.new ≤ vec_len kept.old + 1 }
+    ensures capacity { vec_capacity kept.old ≤ vec_capacity kept.new }
+    ensures capacity_of_places { vec_capacity places.old ≤ vec_capacity places.new }
+{
+    places.push_reserved(kept.len() as u16);
+    if stays {
+        kept.push_reserved(router);
+    }
+}
+
+/// Keeps the routers that are ends of rows, where the indices are marked to which rows run.
+fn keep_marked(
+    kept: &mut Vec<Addr>,
+    places: &mut Vec<u16>,
+    marked: &[bool],
+    routers: &[Addr],
+    rows: &[Link],
+)
+    requires by_key { AreByKey rows.now }
+    requires few { length routers.now ≤ ROOM_FOR_ROUTERS }
+    requires enough { length routers.now ≤ length marked.now }
+    requires marked { (at : ℕ) → at < length routers.now
+        → slice_index_or marked.now at false ≡ any_to rows.now (slice_index routers.now at) }
+    requires room { ROOM_FOR_ROUTERS ≤ vec_capacity kept.old }
+    requires room_for_places { ROOM_FOR_ROUTERS ≤ vec_capacity places.old }
+    ensures { AreKeptEnds rows.now routers.now kept.old places.old kept.new places.new }
+{
+    kept.clear();
+    places.clear();
+    for (at, router) in routers.iter().enumerate() {
+        let stays = is_end(rows, *router, marked[at]);
+        keep_one(kept, places, *router, stays);
+    }
+}
+
+/// Keeps the routers that are ends of rows, and lists the places of each among them.
+pub(crate) fn keep_ends(
+    kept: &mut Vec<Addr>,
+    places: &mut Vec<u16>,
+    routers: &[Addr],
+    ends: &[u16],
+    rows: &[Link],
+)
+    requires by_key { AreByKey rows.now }
+    requires rising { AreRising routers.now }
+    requires few { length routers.now ≤ ROOM_FOR_ROUTERS }
+    requires column { IsEndColumn rows.now routers.now ends.now }
+    requires room { ROOM_FOR_ROUTERS ≤ vec_capacity kept.old }
+    requires room_for_places { ROOM_FOR_ROUTERS ≤ vec_capacity places.old }
+    ensures { AreKeptEnds rows.now routers.now kept.old places.old kept.new places.new }
+{
+    let mut marked = [false; ROOM_FOR_ROUTERS];
+    mark_ends(&mut marked, ends);
+    keep_marked(kept, places, &marked, routers, rows);
+}

@@ -1,0 +1,176 @@
+//! The column of the indices at which the reverses of the rows are, and how it follows the rows.
+ghost use Rattle.std.specs.Prelude.{◌≡◌, ◌<◌, ◌≤◌, length, map, slice_index_or, vec_len, IfOk, IfErr, IfSome, IfNone};
+ghost use Rattle.std.specs.Vec.{vec_capacity};
+ghost use Rattle.std.specs.List.{HoldsAt, insert, remove as without};
+ghost use Rattle.cspf_model.specs.declared.link.Link.{Link as Linked};
+ghost use Rattle.cspf_model.specs.Database.{Key, key_of};
+ghost use Rattle.cspf_columns.specs.declared.limits.TheConstants.{NO_LINK, ROOM_FOR_LINKS};
+ghost use Rattle.cspf_model.specs.Lemmas.LinkRows.{AreByKey};
+ghost use Rattle.cspf_columns.specs.Rows.{ArePaired, AreSpansAtEnds, AreTiedColumns, IsSpanOf};
+ghost use Rattle.cspf_columns.specs.Reverses.{AreReversesBut, IsIndexOfReverse, index_before, index_behind, no_key, same_key};
+
+use crate::columns::Columns;
+use crate::insertion::insert_within;
+use crate::limits::NO_LINK;
+use crate::rows::index_of;
+use crate::spans::Span;
+use cspf_model::Link;
+
+/// The index, if the row there is the reverse of the link, which has the key of its reverse.
+fn index_back(rows: &[Link], at: usize, link: &Link) -> u16
+    requires by_key { AreByKey rows.now }
+    requires most { length rows.now ≤ ROOM_FOR_LINKS }
+    requires within { at < length rows.now }
+    requires key { HoldsAt (λ l. key_of l ≡ (link.now.to, link.now.remote)) rows.now at }
+    ensures { IsIndexOfReverse no_key rows.now link.now result }
+{
+    let other = &rows[at];
+    if other.to != link.from || other.remote != link.local {
+        return NO_LINK;
+    }
+    at as u16
+}
+
+/// The index of the row that is the reverse of the link, if there is one.
+pub fn reverse_index(rows: &[Link], link: &Link) -> u16
+    requires by_key { AreByKey rows.now }
+    requires most { length rows.now ≤ ROOM_FOR_LINKS }
+    ensures { IsIndexOfReverse no_key rows.now link.now result }
+{
+    let Some(at) = index_of(rows, link.to, link.remote) else {
+        return NO_LINK;
+    };
+    index_back(rows, at, link)
+}
+
+/// The index of the reverse, where the span of the router that the link runs to is known.
+fn reverse_within(rows: &[Link], span: &Span, link: &Link) -> u16
+    requires by_key { AreByKey rows.now }
+    requires most { length rows.now ≤ ROOM_FOR_LINKS }
+    requires span { IsSpanOf rows.now link.now.to span.now }
+    ensures { IsIndexOfReverse no_key rows.now link.now result }
+{
+    let (first, end) = (usize::from(span.first), usize::from(span.end));
+    let Some(at) = index_of(&rows[first..end], link.to, link.remote) else {
+        return NO_LINK;
+    };
+    index_back(rows, first + at, link)
+}
+
+/// Lists where the reverse of each row is.
+pub(crate) fn list_reverses(reverses: &mut Vec<u16>, rows: &[Link], ends: &[u16], spans: &[Span])
+    requires by_key { AreByKey rows.now }
+    requires most { length rows.now ≤ ROOM_FOR_LINKS }
+    requires ends { length ends.now ≡ length rows.now }
+    requires spans { AreSpansAtEnds rows.now ends.now spans.now }
+    requires room { ROOM_FOR_LINKS ≤ vec_capacity reverses.old }
+    ensures column { AreReversesBut no_key rows.now reverses.new.items }
+    ensures room { ROOM_FOR_LINKS ≤ vec_capacity reverses.new }
+{
+    reverses.clear();
+    for (at, link) in rows.iter().enumerate() {
+        let span = &spans[usize::from(ends[at])];
+        reverses.push_reserved(reverse_within(rows, span, link));
+    }
+}
+
+/// Parts the row at an index from its reverse, if it has one.
+pub(crate) fn unpair(columns: &mut Columns, at: usize)
+    requires paired { ArePaired columns.old }
+    requires within { at < length columns.old.rows.items }
+    ensures tied { AreTiedColumns columns.new }
+    ensures rows { columns.new.rows.items ≡ columns.old.rows.items }
+    ensures routers { columns.new.routers.items ≡ columns.old.routers.items }
+    ensures parted { (k : Key) → HoldsAt (λ l. key_of l ≡ k) columns.new.rows.items at
+        → AreReversesBut (same_key k) columns.new.rows.items columns.new.reverses.items }
+{
+    let other = columns.reverses[at];
+    if other == NO_LINK {
+        return;
+    }
+    columns.reverses[usize::from(other)] = NO_LINK;
+    columns.reverses[at] = NO_LINK;
+}
+
+/// Pairs the row at an index, which has no reverse in the column, with its reverse, if there is one.
+pub(crate) fn pair(columns: &mut Columns, at: usize)
+    requires tied { AreTiedColumns columns.old }
+    requires most { length columns.old.rows.items ≤ ROOM_FOR_LINKS }
+    requires within { at < length columns.old.rows.items }
+    requires parted { (d : Linked)
+        → AreReversesBut (same_key (key_of (slice_index_or columns.old.rows.items at d)))
+        columns.old.rows.items columns.old.reverses.items }
+    ensures paired { ArePaired columns.new }
+    ensures rows { columns.new.rows.items ≡ columns.old.rows.items }
+    ensures routers { columns.new.routers.items ≡ columns.old.routers.items }
+{
+    let other = reverse_index(&columns.rows, &columns.rows[at]);
+    if other == NO_LINK {
+        return;
+    }
+    columns.reverses[usize::from(other)] = at as u16;
+    columns.reverses[at] = other;
+}
+
+/// Where the row at an index is once another was put before the rows from one on.
+fn behind(reverse: u16, at: usize) -> u16
+    ensures { result ≡ index_behind at reverse }
+{
+    if reverse != NO_LINK && at <= usize::from(reverse) {
+        reverse + 1
+    } else {
+        reverse
+    }
+}
+
+/// Where the row at an index is once the one before the rows from one on was taken out.
+fn before(reverse: u16, at: usize) -> u16
+    ensures { result ≡ index_before at reverse }
+{
+    if reverse != NO_LINK && at <= usize::from(reverse) && reverse > 0 {
+        reverse - 1
+    } else {
+        reverse
+    }
+}
+
+/// Moves the indices of the rows from one on, since a row is put before them.
+fn move_behind(reverses: &mut [u16], at: usize)
+    ensures { reverses.new ≡ map (index_behind at) reverses.old }
+{
+    for reverse in reverses.iter_mut() {
+        *reverse = behind(*reverse, at);
+    }
+}
+
+/// Moves the indices of the rows from one on back, since the row before them is taken out.
+fn move_before(reverses: &mut [u16], at: usize)
+    ensures { reverses.new ≡ map (index_before at) reverses.old }
+{
+    for reverse in reverses.iter_mut() {
+        *reverse = before(*reverse, at);
+    }
+}
+
+/// Puts no reverse for a row that is put at an index, before the rows from it on. There is room, so this
+/// takes no memory and can't fail.
+pub(crate) fn open_gap(reverses: &mut Vec<u16>, at: usize)
+    requires few { vec_len reverses.old ≤ ROOM_FOR_LINKS }
+    requires upto { at ≤ vec_len reverses.old }
+    requires room { vec_len reverses.old < vec_capacity reverses.old }
+    ensures opened { reverses.new.items ≡ insert (map (index_behind at) reverses.old.items) at NO_LINK }
+    ensures capacity { vec_capacity reverses.old ≤ vec_capacity reverses.new }
+{
+    move_behind(reverses, at);
+    insert_within(reverses, at, NO_LINK);
+}
+
+/// Takes out the reverse of the row that is taken out at an index.
+pub(crate) fn close_gap(reverses: &mut Vec<u16>, at: usize)
+    requires { at < vec_len reverses.old }
+    ensures closed { reverses.new.items ≡ map (index_before at) (without reverses.old.items at) }
+    ensures capacity { vec_capacity reverses.old ≤ vec_capacity reverses.new }
+{
+    let _ = reverses.remove(at);
+    move_before(reverses, at);
+}

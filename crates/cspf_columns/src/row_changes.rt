@@ -1,0 +1,156 @@
+//! Changes of rows, with the columns of ends and of reverses changed as each row changes.
+ghost use Rattle.std.specs.Prelude.{count_by, ◌≡◌, ◌+◌, ◌<◌, ◌≤◌, true, All, length};
+ghost use Rattle.cspf_model.specs.Lemmas.LinkChanges.{all_relinked};
+ghost use Rattle.cspf_model.specs.Lemmas.CountedEnds.{HasListedEnds};
+ghost use Rattle.cspf_model.specs.Database.{link_count, router_count};
+ghost use Rattle.cspf_model.specs.Refusals.{AreOnceEach};
+ghost use Rattle.cspf_model.specs.Lemmas.RowsLeft.{adds_link, removes_link};
+ghost use Rattle.cspf_model.specs.Lemmas.LinkRows.{database_of};
+ghost use Rattle.cspf_columns.specs.Rows.{AreColumns, ArePaired, AreRowParts, AreTiedColumns, IsOneChange};
+ghost use Rattle.cspf_columns.specs.Reverses.{AreReversesBut, no_key};
+ghost use Rattle.cspf_model.specs.declared.limits.TheConstants.{MOST_CHANGES, MOST_LINKS, MOST_ROUTERS};
+ghost use Rattle.cspf_columns.specs.declared.limits.TheConstants.{ROOM_FOR_LINKS};
+
+use crate::columns::Columns;
+use crate::one_row::{insert_at, remove_at, replace_at};
+use crate::reverses::list_reverses;
+use crate::rows::{index_of, search};
+use crate::scratch::Scratch;
+use crate::spans::list_spans;
+use cspf_model::Change;
+
+/// Makes one change.
+fn change_one(columns: &mut Columns, change: &Change)
+    requires paired { ArePaired columns.old }
+    requires room { length columns.old.rows.items < ROOM_FOR_LINKS }
+    requires known { HasListedEnds columns.old.routers.items change.now }
+    ensures { IsOneChange columns.old columns.new change.now }
+{
+    match change {
+        Change::Put(link) => match search(&columns.rows, link.from, link.local) {
+            Ok(at) => replace_at(columns, at, link),
+            Err(at) => insert_at(columns, at, link),
+        },
+        Change::Remove { from, local } => {
+            if let Some(at) = index_of(&columns.rows, *from, *local) {
+                remove_at(columns, at);
+            }
+        }
+        Change::Node { .. } => {}
+    }
+}
+
+/// Makes changes one by one. They put links between listed routers alone.
+fn change_rows(columns: &mut Columns, changes: &[Change])
+    requires paired { ArePaired columns.old }
+    requires room { length columns.old.rows.items + length changes.now ≤ ROOM_FOR_LINKS }
+    requires known { All (HasListedEnds columns.old.routers.items) changes.now }
+    ensures changed { database_of columns.new.rows.items
+        ≡ all_relinked (database_of columns.old.rows.items) changes.now }
+    ensures paired { ArePaired columns.new }
+{
+    for change in changes {
+        change_one(columns, change);
+    }
+}
+
+/// Whether the change takes out a link.
+fn is_removal(change: &Change) -> bool
+    ensures { result ≡ removes_link change.now }
+{
+    matches!(change, Change::Remove { .. })
+}
+
+/// How many changes take out a link.
+pub fn count_removed(changes: &[Change]) -> usize
+    ensures { result ≡ count_by removes_link changes.now }
+{
+    changes.iter().filter(|change| is_removal(change)).count()
+}
+
+/// How many rows may be put between others or taken out one by one, as each moves those after it.
+const FEW: usize = 24;
+
+/// Whether changes, `added` of which add a link, put few rows between others and take few out.
+fn move_few(added: usize, changes: &[Change]) -> bool
+    requires few { added ≤ MOST_CHANGES }
+    requires short { length changes.now ≤ MOST_CHANGES }
+    ensures { result ≡ true → added + count_by removes_link changes.now ≤ FEW }
+{
+    added + count_removed(changes) <= FEW
+}
+
+/// Makes changes on distinct keys, with the column of ends, and says whether that of reverses
+/// follows. They put links between listed routers alone.
+fn change_with_ends(
+    columns: &mut Columns,
+    scratch: &mut Scratch,
+    changes: &[Change],
+    added: usize,
+) -> bool
+    requires paired { ArePaired columns.old }
+    requires most { length columns.old.rows.items ≤ MOST_LINKS }
+    requires short { length changes.now ≤ MOST_CHANGES }
+    requires added { added ≡ count_by (adds_link (database_of columns.old.rows.items)) changes.now }
+    requires once { AreOnceEach changes.now }
+    requires known { All (HasListedEnds columns.old.routers.items) changes.now }
+    ensures changed { database_of columns.new.rows.items
+        ≡ all_relinked (database_of columns.old.rows.items) changes.now }
+    ensures tied { AreTiedColumns columns.new }
+    ensures reverses { result ≡ true
+        → AreReversesBut no_key columns.new.rows.items columns.new.reverses.items }
+{
+    if move_few(added, changes) {
+        change_rows(columns, changes);
+        return true;
+    }
+    scratch.change(columns, changes);
+    false
+}
+
+/// Lists where the rows from each router are, and the reverses if their column doesn't follow.
+fn list_beside(columns: &mut Columns, follows: bool)
+    requires parts { AreRowParts columns.old }
+    requires reverses { follows ≡ true
+        → AreReversesBut no_key columns.old.rows.items columns.old.reverses.items }
+    ensures columns { AreColumns columns.new }
+    ensures rows { columns.new.rows.items ≡ columns.old.rows.items }
+{
+    list_spans(&mut columns.spans, &columns.routers, &columns.rows);
+    if !follows {
+        list_reverses(
+            &mut columns.reverses,
+            &columns.rows,
+            &columns.ends,
+            &columns.spans,
+        );
+    }
+}
+
+/// Makes the changes of a batch that fits. `added` of them add a link, and they put links between the
+/// routers alone where `brought` is 0.
+pub fn change_columns(
+    columns: &mut Columns,
+    scratch: &mut Scratch,
+    changes: &[Change],
+    added: usize,
+    brought: usize,
+)
+    requires columns { AreColumns columns.old }
+    requires added { added ≡ count_by (adds_link (database_of columns.old.rows.items)) changes.now }
+    requires listed { brought ≡ 0 → All (HasListedEnds columns.old.routers.items) changes.now }
+    requires short { length changes.now ≤ MOST_CHANGES }
+    requires once { AreOnceEach changes.now }
+    requires links { link_count (all_relinked (database_of columns.old.rows.items) changes.now)
+        ≤ MOST_LINKS }
+    requires few { router_count (all_relinked (database_of columns.old.rows.items) changes.now)
+        ≤ MOST_ROUTERS }
+    ensures changed { database_of columns.new.rows.items
+        ≡ all_relinked (database_of columns.old.rows.items) changes.now }
+    ensures columns { AreColumns columns.new }
+{
+    scratch.add_routers(columns, changes, brought);
+    let follows = change_with_ends(columns, scratch, changes, added);
+    scratch.drop_routers(columns);
+    list_beside(columns, follows);
+}

@@ -1,0 +1,102 @@
+//! The rows of a table, which are its links in order of their keys, and how they are searched.
+
+ghost use Rattle.std.specs.Prelude.{◌≡◌, ◌≢◌, ℕ, ◌+◌, ◌<◌, ◌≤◌, true, false, All, filter, length, nat_eq, slice_range, slice_set, vec_len, IfOk, IfErr, IfSome, IfNone};
+ghost use Rattle.std.specs.Vec.{vec_capacity};
+ghost use Rattle.std.specs.List.{HoldsAt, insert, remove as without};
+ghost use Rattle.std.specs.List.Sorted.{IsPartitionPoint, IsNonDecreasingBy};
+ghost use Rattle.cspf_addr.specs.Prefixes.{Covers};
+ghost use Rattle.cspf_model.specs.Database.{key_of, key_cmp};
+ghost use Rattle.cspf_columns.specs.Index.{links_from};
+ghost use Rattle.cspf_model.specs.Lemmas.LinkChanges.{relinked};
+ghost use Rattle.cspf_model.specs.Lemmas.LinkRows.{database_of, AreByKey};
+ghost use Rattle.cspf_columns.specs.Rows.{HasSameEnds};
+ghost use Rattle.cspf_model.specs.Lemmas.CountedEnds.{any_from};
+
+use crate::insertion::insert_within;
+use cspf_addr::{Addr, Prefix};
+use cspf_model::{Change, Link};
+use std::cmp::Ordering;
+
+/// How the key of the row compares with another.
+pub(crate) fn compare(row: &Link, from: Addr, local: Addr) -> Ordering
+    ensures { result ≡ key_cmp (key_of row.now) (from, local) }
+{
+    row.from.cmp(&from).then(row.local.cmp(&local))
+}
+
+/// The index of the row with this key, and else the index at which it would stand.
+pub(crate) fn search(rows: &[Link], from: Addr, local: Addr) -> Result<usize, usize>
+    requires { AreByKey rows.now }
+    ensures within { IfOk result (λ at. at < length rows.now) }
+    ensures found { IfOk result (HoldsAt (λ l. key_of l ≡ (from, local)) rows.now) }
+    ensures upto { IfErr result (λ at. at ≤ length rows.now) }
+    ensures gap { IfErr result (IsPartitionPoint
+        (λ l. key_cmp (key_of l) (from, local) ≡ Ordering.Less)
+        (λ l. key_cmp (key_of l) (from, local) ≡ Ordering.Greater)
+        rows.now) }
+{
+    rows.binary_search_by(
+        |row: &Link| -> Ordering
+            ensures { result ≡ key_cmp (key_of row.now) (from, local) }
+        { compare(row, from, local) },
+    )
+}
+
+/// The index of the row with this key, if there is one.
+pub fn index_of(rows: &[Link], from: Addr, local: Addr) -> Option<usize>
+    requires { AreByKey rows.now }
+    ensures bound { IfSome result (λ at. at < length rows.now) }
+    ensures some { IfSome result (λ at. HoldsAt (λ l. key_of l ≡ (from, local)) rows.now at) }
+    ensures none { IfNone result (All (λ l. key_of l ≢ (from, local)) rows.now) }
+{
+    search(rows, from, local).ok()
+}
+
+/// Whether the row at the index, which has the link's key, runs between the same interfaces.
+pub fn is_alike(rows: &[Link], at: usize, link: &Link) -> bool
+    requires within { at < length rows.now }
+    requires key { HoldsAt (λ l. key_of l ≡ key_of link.now) rows.now at }
+    ensures { result ≡ true → HoldsAt (λ l. HasSameEnds l link.now) rows.now at }
+{
+    rows[at].to == link.to && rows[at].remote == link.remote
+}
+
+/// Where the rows from the router begin and end.
+pub fn span(rows: &[Link], router: Addr) -> (usize, usize)
+    requires { AreByKey rows.now }
+    ensures order { result.0 ≤ result.1 }
+    ensures bound { result.1 ≤ length rows.now }
+    ensures rows { slice_range rows.now result.0 result.1
+        ≡ filter (λ l. nat_eq l.from router) rows.now }
+{
+    let first = rows.partition_point(|row| row.from < router);
+    let end = rows.partition_point(|row| row.from <= router);
+    (first, end)
+}
+
+/// The rows from the router, in order.
+pub fn rows_from(rows: &[Link], router: Addr) -> &[Link]
+    requires { AreByKey rows.now }
+    ensures { result.now ≡ links_from (database_of rows.now) router }
+{
+    let (first, end) = span(rows, router);
+    &rows[first..end]
+}
+
+/// Whether a row begins at the router.
+pub(crate) fn begins(rows: &[Link], router: Addr) -> bool
+    requires { AreByKey rows.now }
+    ensures { result ≡ any_from rows.now router }
+{
+    let (first, end) = span(rows, router);
+    first < end
+}
+
+/// Whether one of the rows has the address of its interface within the prefix.
+pub fn any_within(rows: &[Link], prefix: Prefix) -> bool
+    ensures yes { result ≡ true
+        → (at : ℕ) × (at < length rows.now) × HoldsAt (λ l. Covers prefix l.local) rows.now at }
+    ensures no { result ≡ false → All (λ l. ¬ Covers prefix l.local) rows.now }
+{
+    rows.iter().any(|link| prefix.covers(link.local))
+}

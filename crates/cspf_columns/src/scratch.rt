@@ -1,0 +1,134 @@
+//! The room in which a batch's changes are made, which the table takes once, when it is made.
+
+ghost use Rattle.std.specs.Prelude.{◌≡◌, ◌≤◌, All, length};
+ghost use Rattle.std.specs.Vec.{vec_capacity};
+ghost use Rattle.cspf_model.specs.declared.limits.TheConstants.{MOST_CHANGES, MOST_LINKS, MOST_ROUTERS};
+ghost use Rattle.cspf_columns.specs.declared.limits.TheConstants.{ROOM_FOR_LINKS, ROOM_FOR_ROUTERS};
+
+use crate::columns::Columns;
+use crate::ends::move_ends;
+use crate::limits::{ROOM_FOR_LINKS, ROOM_FOR_ROUTERS};
+use crate::merging::{merge, sort_changes};
+use crate::renumbering::{keep_ends, list_places};
+use crate::routers::add_ends;
+use cspf_addr::Addr;
+use cspf_model::{Change, Link, MOST_CHANGES};
+use std::alloc::{AllocError, Global};
+use std::mem::swap;
+
+/// Room for the rows, their ends and the routers after changes, for the changes and their keys in order, and
+/// for the places of routers.
+#[derive(Debug, Drop)]
+pub struct Scratch {
+    merged: Vec<Link>,
+    ends: Vec<u16>,
+    order: Vec<((Addr, Option<Addr>), u16)>,
+    sorted: Vec<Change>,
+    listed: Vec<Addr>,
+    places: Vec<u16>,
+    ghost room: { ROOM_FOR_LINKS ≤ vec_capacity merged },
+    ghost room_for_ends: { ROOM_FOR_LINKS ≤ vec_capacity ends },
+    ghost room_for_order: { MOST_CHANGES ≤ vec_capacity order },
+    ghost room_for_changes: { MOST_CHANGES ≤ vec_capacity sorted },
+    ghost room_for_routers: { ROOM_FOR_ROUTERS ≤ vec_capacity listed },
+    ghost room_for_places: { ROOM_FOR_ROUTERS ≤ vec_capacity places },
+}
+
+/// Copies the routers. There is room, so this takes no memory and can't fail.
+fn copy_routers(listed: &mut Vec<Addr>, routers: &[Addr])
+    requires { length routers.now ≤ vec_capacity listed.old }
+    ensures items { listed.new.items ≡ routers.now }
+    ensures capacity { vec_capacity listed.old ≤ vec_capacity listed.new }
+{
+    listed.clear();
+    let _ = listed.extend_from_slice(routers);
+}
+
+impl Scratch {
+    /// Room for the rows of a full table and a batch.
+    pub fn new(alloc: Global) -> Result<Self, AllocError> {
+        Ok(Scratch {
+            merged: Vec::with_capacity(alloc, ROOM_FOR_LINKS)?,
+            ends: Vec::with_capacity(alloc, ROOM_FOR_LINKS)?,
+            order: Vec::with_capacity(alloc, MOST_CHANGES)?,
+            sorted: Vec::with_capacity(alloc, MOST_CHANGES)?,
+            listed: Vec::with_capacity(alloc, ROOM_FOR_ROUTERS)?,
+            places: Vec::with_capacity(alloc, ROOM_FOR_ROUTERS)?,
+        })
+    }
+}
+
+impl Scratch {
+    ghost use Rattle.cspf_model.specs.Lemmas.LinkChanges.{all_relinked};
+    ghost use Rattle.cspf_model.specs.Lemmas.CountedEnds.{HasListedEnds};
+    ghost use Rattle.cspf_model.specs.Lemmas.LinkRows.{database_of};
+    ghost use Rattle.cspf_columns.specs.Rows.{AreEndsOf, AreTiedColumns, HaveRoom};
+    ghost use Rattle.cspf_columns.specs.Index.{router_list};
+    ghost use Rattle.cspf_model.specs.Refusals.{AreOnceEach};
+
+    /// Makes changes on distinct keys, however many rows they move, with the column of ends. They
+    /// put links between listed routers alone. It takes no memory.
+    pub(crate) fn change(&mut self, columns: &mut Columns, changes: &[Change])
+        requires tied { AreTiedColumns columns.old }
+        requires most { length columns.old.rows.items ≤ MOST_LINKS }
+        requires short { length changes.now ≤ MOST_CHANGES }
+        requires once { AreOnceEach changes.now }
+        requires known { All (HasListedEnds columns.old.routers.items) changes.now }
+        ensures changed { database_of columns.new.rows.items
+            ≡ all_relinked (database_of columns.old.rows.items) changes.now }
+        ensures tied { AreTiedColumns columns.new }
+    {
+        sort_changes(&mut self.order, &mut self.sorted, changes);
+        self.merged.clear();
+        self.ends.clear();
+        merge(&mut self.merged, &mut self.ends, columns, &self.sorted);
+        swap(&mut columns.rows, &mut self.merged);
+        swap(&mut columns.ends, &mut self.ends);
+    }
+
+    /// Lists the ends of the links that the changes put, those that aren't listed, where there are
+    /// any. The column of ends says of the rows what it said.
+    pub(crate) fn add_routers(&mut self, columns: &mut Columns, changes: &[Change], brought: usize)
+        requires listed { brought ≡ 0
+            → All (HasListedEnds columns.old.routers.items) changes.now }
+        requires tied { AreTiedColumns columns.old }
+        requires few { length columns.old.routers.items ≤ MOST_ROUTERS }
+        requires short { length changes.now ≤ MOST_CHANGES }
+        ensures listed { All (HasListedEnds columns.new.routers.items) changes.now }
+        ensures tied { AreTiedColumns columns.new }
+        ensures rows { columns.new.rows.items ≡ columns.old.rows.items }
+        ensures reverses { columns.new.reverses.items ≡ columns.old.reverses.items }
+    {
+        if brought == 0 {
+            return;
+        }
+        copy_routers(&mut self.listed, &columns.routers);
+        add_ends(&mut self.listed, changes);
+        list_places(&mut self.places, &columns.routers, &self.listed);
+        move_ends(&mut columns.ends, &self.places);
+        swap(&mut columns.routers, &mut self.listed);
+    }
+
+    /// Drops the routers that are no end of a row. The column of ends follows.
+    pub(crate) fn drop_routers(&mut self, columns: &mut Columns)
+        requires tied { AreTiedColumns columns.old }
+        ensures room { HaveRoom columns.new }
+        ensures all { columns.new.routers.items ≡ router_list (database_of columns.old.rows.items) }
+        ensures ends { AreEndsOf columns.old.rows.items columns.new.routers.items columns.new.ends.items }
+        ensures rows { columns.new.rows.items ≡ columns.old.rows.items }
+        ensures reverses { columns.new.reverses.items ≡ columns.old.reverses.items }
+    {
+        keep_ends(
+            &mut self.listed,
+            &mut self.places,
+            &columns.routers,
+            &columns.ends,
+            &columns.rows,
+        );
+        if self.listed.len() == columns.routers.len() {
+            return;
+        }
+        move_ends(&mut columns.ends, &self.places);
+        swap(&mut columns.routers, &mut self.listed);
+    }
+}

@@ -1,7 +1,0 @@
-use Rattle.std.proofs.Common.{◌∙◌, arith}
-use Rattle.cspf_db.proofs.Tables.RouterPlaces.{any_to-ends}
-use Rattle.cspf_db.proofs.table.columns.renumbering.keep_ends.Goals as goal
-
-pub keep_marked-requires-clause-marked : goal.keep_marked-requires-clause-marked
-keep_marked-requires-clause-marked c at h =
-    c.mark_ends.ensures.marked at (omega (arith, h, c.requires.few)) ∙ any_to-ends c.args.routers.now c.requires.rising c.args.rows.now c.args.ends.now c.requires.column.ends at h

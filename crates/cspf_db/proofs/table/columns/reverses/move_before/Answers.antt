@@ -1,6 +1,0 @@
-use Rattle.cspf_db.specs.Tables.Reverses.{index_before}
-use Rattle.cspf_db.proofs.Tables.RouterPlaces.{moved_one}
-use Rattle.cspf_db.proofs.table.columns.reverses.move_before.Goals as goal
-
-pub loop-reverse-preserved : goal.loop-reverse-preserved
-loop-reverse-preserved c = rw c.before-in-loop-reverse.ensures (moved_one (index_before c.args.at) c.args.reverses.now c.loop-reverse.reverses c.loop-reverse.reverse-index c.loop-reverse-test.true c.loop-reverse.invariant)

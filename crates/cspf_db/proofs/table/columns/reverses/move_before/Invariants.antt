@@ -1,6 +1,0 @@
-use Rattle.std.proofs.Common.{◌≡◌, ◌++◌, drop, map, take}
-use Rattle.cspf_db.specs.Tables.Reverses.{index_before}
-use Rattle.cspf_db.proofs.table.columns.reverses.move_before.Given as goal
-
-abbrev pub invariant-loop-reverse : goal.invariant-loop-reverse
-invariant-loop-reverse l = l.reverses ≡ map (index_before l.at) (take l.reverse-index l.fn.reverses) ++ drop l.reverse-index l.fn.reverses

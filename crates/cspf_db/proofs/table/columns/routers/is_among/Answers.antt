@@ -1,5 +1,0 @@
-use Rattle.cspf_db.proofs.Tables.RouterLists.{among_from_search}
-use Rattle.cspf_db.proofs.table.columns.routers.is_among.Goals as goal
-
-pub returns : goal.returns
-returns c = among_from_search c.args.routers.now c.args.router c.search.result c.is_ok.result c.is_ok.ensures.value c.search.ensures.within c.search.ensures.found

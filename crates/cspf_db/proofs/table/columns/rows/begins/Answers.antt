@@ -1,5 +1,0 @@
-use Rattle.cspf_db.proofs.Tables.RouterPlaces.{any_span}
-use Rattle.cspf_db.proofs.table.columns.rows.begins.Goals as goal
-
-pub returns : goal.returns
-returns c = any_span _ c.args.rows.now c.span-first.result.0 c.span-first.result.1 c.span-first.ensures.bound c.span-first.ensures.rows

@@ -1,0 +1,52 @@
+//! The column that says beside each router whether it has transit.
+ghost use Rattle.std.specs.Prelude.{◌≡◌, ℕ, ◌<◌, ◌≤◌, length, not, slice_index};
+ghost use Rattle.std.specs.Vec.{vec_capacity};
+ghost use Rattle.std.specs.FinSet as set;
+ghost use Rattle.cspf_model.specs.Lemmas.LinkRows.{marks_in};
+ghost use Rattle.cspf_columns.specs.Rows.{AreRising};
+ghost use Rattle.cspf_db.specs.Tables.Parts.{AreTransitsOf};
+ghost use Rattle.cspf_model.specs.declared.limits.TheConstants.{MOST_ROUTERS};
+
+use cspf_addr::Addr;
+
+/// The index after the marks below the router that follow each other from an index on.
+fn skip_below(marks: &[Addr], first: usize, router: Addr) -> usize
+    requires { first ≤ length marks.now }
+    ensures bound { result ≤ length marks.now }
+    ensures below { (k : ℕ) → first ≤ k → k < result → slice_index marks.now k < router }
+    ensures behind { result < length marks.now → router ≤ slice_index marks.now result }
+{
+    let mut at = first;
+    while at < marks.len() && marks[at] < router {
+        at += 1;
+    }
+    at
+}
+
+/// Whether the router isn't marked, where the marks before an index are below it, and the others
+/// aren't.
+fn is_unmarked_at(marks: &[Addr], at: usize, router: Addr) -> bool
+    requires rising { AreRising marks.now }
+    requires below { (k : ℕ) → k < at → slice_index marks.now k < router }
+    requires behind { at < length marks.now → router ≤ slice_index marks.now at }
+    ensures { result ≡ not (set.contains (marks_in marks.now) router) }
+{
+    at >= marks.len() || marks[at] != router
+}
+
+/// Lists whether each router has transit. This passes over the routers and the marks once.
+pub(crate) fn list_transits(transits: &mut Vec<bool>, routers: &[Addr], marks: &[Addr])
+    requires routers { AreRising routers.now }
+    requires marks { AreRising marks.now }
+    requires few { length routers.now ≤ MOST_ROUTERS }
+    requires room { MOST_ROUTERS ≤ vec_capacity transits.old }
+    ensures each { AreTransitsOf routers.now marks.now transits.new.items }
+    ensures room { MOST_ROUTERS ≤ vec_capacity transits.new }
+{
+    transits.clear();
+    let mut next = 0;
+    for router in routers {
+        next = skip_below(marks, next, *router);
+        transits.push_reserved(is_unmarked_at(marks, next, *router));
+    }
+}
