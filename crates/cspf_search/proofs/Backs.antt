@@ -150,3 +150,16 @@ locals_of_one nodes x y l k found goal by_x by_y one h =
     ap (walk_with (walk_at (walks nodes) y.parent)) by_y ∙ ap (λ i. walk_at (walks nodes) i ++ (k ∷ [])) (sym one) in
     let all = locals_more (walk_of nodes x) (walk_of nodes y) front front l k found goal is_x is_y refl h in
     ap (λ o. ordering_then o (ordering_then (nat_cmp l.local k.local) found)) (sym (tied_itself nat_list_cmp_total (locals_of front))) ∙ all
+
+-- two walks by a link each from nodes, by the walks of these and then the links
+pub locals_by : (nodes : List Node) → AreNodes nodes → (x y : Node) (i j : ℕ) → i < length nodes → j < length nodes → x ≡ slice_index_or nodes i x
+    → y ≡ slice_index_or nodes j y → (v w : List Link) (l k : Link) → v ≡ walk_at (walks nodes) i ++ (l ∷ []) → w ≡ walk_at (walks nodes) j ++ (k ∷ [])
+    → length v ≡ length w → locals_cmp v w ≡ ordering_then (locals_cmp (walk_of nodes x) (walk_of nodes y)) (nat_cmp l.local k.local)
+locals_by nodes are x y i j hi hj is_x is_y v w l k ev ew e =
+    let grown_x : walk_at (walks nodes) i ≡ walk_of nodes x = are.grown i x hi ∙ ap (walk_of nodes) (sym is_x) in
+    let grown_y : walk_at (walks nodes) j ≡ walk_of nodes y = are.grown j y hj ∙ ap (walk_of nodes) (sym is_y) in
+    let front_v : v ≡ walk_of nodes x ++ (l ∷ []) = ev ∙ ap (λ u. u ++ (l ∷ [])) grown_x in
+    let front_w : w ≡ walk_of nodes y ++ (k ∷ []) = ew ∙ ap (λ u. u ++ (k ∷ [])) grown_y in
+    let lengths : length (walk_of nodes x) ≡ length (walk_of nodes y) =
+    omega (arith, e, ap (λ (u : List Link). length u) front_v, ap (λ (u : List Link). length u) front_w, length_push (walk_of nodes x) l, length_push (walk_of nodes y) k) in
+    (λ t. locals_cmp (front_v t) (front_w t)) ∙ locals_cmp-last (walk_of nodes x) (walk_of nodes y) l k lengths

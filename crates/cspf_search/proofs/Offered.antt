@@ -16,7 +16,7 @@ use Rattle.cspf_search.specs.declared.labels.Label.{Label}
 use Rattle.cspf_search.specs.States.{State}
 use Rattle.cspf_search.specs.Settled.{IsNoLater}
 use Rattle.cspf_search.specs.Arena.{walk_of, state_of, index_of, AreNodes, IsNext}
-use Rattle.cspf_search.specs.Frontier.{state_at, node_of, rank_of, walk_rank, no_rank, lift, IsBeyond, IsReached, IsLabel, is_settled, is_reached, is_unreached, HeapKey, key_at, label_at, heap_key_cmp, no_label, IsKey, AreLabels, IsOffer, AreTied, Gains, StaysAt, GoesTo}
+use Rattle.cspf_search.specs.Frontier.{state_at, node_of, rank_of, walk_rank, no_rank, lift, IsBeyond, IsReached, IsLabel, is_settled, is_reached, is_unreached, HeapKey, key_at, label_at, heap_key_cmp, no_label, IsKey, AreLabels, IsOffer, AreTied, HasKey, StaysAt, GoesTo}
 use Rattle.cspf_graph.specs.Roles.{IsStateIndex}
 use Rattle.cspf_graph.specs.Lists.{AreListed}
 use Rattle.cspf_search.proofs.Orders.{walks_total}
@@ -187,10 +187,11 @@ module _ (d : Database) (q : Request) (nodes : List Node) (are : AreNodes nodes)
   gets old label lower h (is_unreached left none first) better passes =
       becomes old label lower better passes left (λ w was. inr (beyond_lower cap lower (lift goal i) w h (first w was)))
 
-  -- a better label replaces the old one
-  pub labels_change : (label : Label) (key : ℕ) (new_keys : List HeapKey) → key ≡ label.rank + lift goal i → IsBetter d nodes P cap (lift goal i) (state_at d i) (label_at labels i) label x → Q x (state_at d i)
-      → Gains (key_at key i) keys new_keys → AreLabels d q nodes R goal (set labels i label) new_keys
-  labels_change label key new_keys is_key better passes gains =
+  -- a better label replaces the old one, among keys that are no fewer
+  labels_over : (label : Label) (new_keys : List HeapKey) → IsBetter d nodes P cap (lift goal i) (state_at d i) (label_at labels i) label x → Q x (state_at d i)
+      → IsHeap heap_key_cmp new_keys → All (IsKey d q goal) new_keys → (0 < label.rank → Contains new_keys (key_at (label.rank + lift goal i) i))
+      → ((key : HeapKey) → Contains keys key → Contains new_keys key) → AreLabels d q nodes R goal (set labels i label) new_keys
+  labels_over label new_keys better passes ordered keyed waits kept =
       let within : i < length labels = omega (arith, before.many, index.low) in
       let here : label_at (set labels i label) i ≡ label = get_or-set_same labels i label _ within in
       let lower : (label_at (set labels i label) goal.at).rank ≤ cap =
@@ -198,11 +199,21 @@ module _ (d : Database) (q : Request) (nodes : List Node) (are : AreNodes nodes)
         | inl same ↦ rw (same, here) better.no_more
         | inr ne ↦ let e = ap (λ (l : Label). l.rank) (get_or-set_other labels i goal.at label no_label ne) in omega (arith, e)
       ] in
-      let key_most = rank_small nodes are (node_of d nodes label) better.offer.next in
       labels_set d q nodes nodes P R goal labels keys new_keys before i index label
       (gets (label_at labels i) label (label_at (set labels i label) goal.at).rank lower (before.each i index open_leg) better passes)
       (λ j jx behind ne. other j jx ne (label_at (set labels i label) goal.at).rank lower (label_at labels j) (before.each j jx behind))
-      (gains.kept before.ordered)
+      ordered keyed waits (λ j behind ne was. kept (key_at ((label_at labels j).rank + lift goal j) j) was)
+
+  -- a better label replaces the old one
+  pub labels_change : (label : Label) (key : ℕ) (new_keys : List HeapKey) → key ≡ label.rank + lift goal i → IsBetter d nodes P cap (lift goal i) (state_at d i) (label_at labels i) label x → Q x (state_at d i)
+      → HasKey label.rank (label_at labels i).rank (key_at key i) keys new_keys → AreLabels d q nodes R goal (set labels i label) new_keys
+  labels_change label key new_keys is_key better passes (inl tie) =
+      let most = rank_small nodes are (node_of d nodes label) better.offer.next in
+      rw tie.1 (labels_over label keys better passes before.ordered before.keyed
+      (λ some. rw tie.0 (before.waiting i index open_leg (omega (arith, some, tie.0)) (omega (arith, tie.0, better.rank, most)))) (λ key has. has))
+  labels_change label key new_keys is_key better passes (inr gains) =
+      let key_most = rank_small nodes are (node_of d nodes label) better.offer.next in
+      labels_over label new_keys better passes (gains.kept before.ordered)
       (All-permutation (IsKey d q goal) (key_at key i ∷ keys) new_keys gains.moved
       (All-cons (IsKey d q goal) (key_at key i) keys
       (record {
@@ -212,9 +223,7 @@ module _ (d : Database) (q : Request) (nodes : List Node) (are : AreNodes nodes)
       })
       before.keyed))
       (λ some. rw (← is_key) (Contains-permutation (key_at key i ∷ keys) new_keys (key_at key i) gains.moved (0, omega arith, refl)))
-      (λ j behind ne was.
-      let k = key_at ((label_at labels j).rank + lift goal j) j in
-      Contains-permutation (key_at key i ∷ keys) new_keys k gains.moved (Contains-append_right (key_at key i ∷ []) keys k was))
+      (λ k was. Contains-permutation (key_at key i ∷ keys) new_keys k gains.moved (Contains-append_right (key_at key i ∷ []) keys k was))
 
   -- the labels after an offer
   pub labels_offered : (label : Label) (key : ℕ) (new : List Label) (new_keys : List HeapKey) → key ≡ label.rank + lift goal i → IsOffer d nodes label → label.rank ≡ rank_of (node_of d nodes label)

@@ -227,6 +227,11 @@ pub record StaysAt (d : Database) (nodes : List Node) (i : ℕ) (label : Label)
   pub labels : new ≡ old
   pub keys : new_keys ≡ old_keys
 
+-- The key of the label that is offered waits. A state whose label had the same rank waits already, and
+-- gets no second key.
+abbrev pub HasKey : ℕ → ℕ → HeapKey → List HeapKey → List HeapKey → Type 0
+HasKey rank before key old new = ((rank ≡ before) × (new ≡ old)) ⊎ Gains key old new
+
 -- the state gets the label that is offered
 pub record GoesTo (d : Database) (nodes : List Node) (i : ℕ) (label : Label) (key : ℕ)
     (old new : List Label) (old_keys new_keys : List HeapKey) : Type 0 where
@@ -234,7 +239,7 @@ pub record GoesTo (d : Database) (nodes : List Node) (i : ℕ) (label : Label) (
       → is_gt (locals_cmp (walk_of nodes (node_of d nodes (label_at old i)))
       (walk_of nodes (node_of d nodes label))) ≡ true
   pub labels : new ≡ set old i label
-  pub keys : Gains (key_at key i) old_keys new_keys
+  pub keys : HasKey label.rank (label_at old i).rank (key_at key i) old_keys new_keys
 
 -- the legs below the floor are closed, and the goal is after them
 pub record IsFloor (d : Database) (q : Request) (labels : Labels) (goal : Goal) : Type 0 where

@@ -4,9 +4,10 @@ ghost use Rattle.cspf_model.specs.declared.limits.TheConstants.{MOST_LINKS};
 ghost use Rattle.std.specs.Prelude.{◌≡◌, ◌+◌, ◌*◌, ◌%◌, ◌<◌, ◌≤◌, ◌⊎◌, Some, length, slice_get, slice_index_or, OnOk};
 ghost use Rattle.std.specs.BinaryHeap.{heap_items, heap_len};
 ghost use Rattle.cspf_db.specs.Index.{links_of, links_from_index};
-ghost use Rattle.cspf_search.specs.Arena.{AreNodes, AreInLegs};
+ghost use Rattle.cspf_search.specs.Arena.{AreNodes, AreInLegs, walk_of};
 ghost use Rattle.cspf_search.specs.Rounds.{CrossesBelow};
-ghost use Rattle.cspf_search.specs.Frontier.{AreLabels, AreTied, CrossesUpTo, GoesTo, IsNodeAt, IsOffer, NodeMayLeave, StaysAt, label_at, nowhere, rank_of};
+ghost use Rattle.cspf_search.specs.Frontier.{AreLabels, AreTied, CrossesUpTo, GoesTo, IsNodeAt, IsOffer, NodeMayLeave, StaysAt, label_at, node_of, nowhere, rank_of};
+ghost use Rattle.cspf_search.specs.Settled.{locals_cmp};
 ghost use Rattle.cspf_graph.specs.Lists.{AreListed, IsIndexOf};
 ghost use Rattle.cspf_graph.specs.Roles.{AreRoles, IsStateIndex};
 ghost use Rattle.cspf_search.specs.Source.{AreBefore, AreUpToRow, IsEdge, IsSource};
@@ -15,13 +16,14 @@ ghost use Rattle.cspf_search.specs.Query.{IsQuery, CrossesBefore};
 use crate::arena::{Node, locals};
 use crate::edge::Edge;
 use crate::goal::{Goal, lift};
-use crate::labels::{Label, Waiting, node_of, put};
+use crate::labels::{Label, Waiting, link_of, node_of, put};
 use crate::limits::COST_WEIGHT;
 use crate::query::Query;
 use cspf_db::{NO_LINK, Table};
 use cspf_graph::{accepts, may_leave_at};
 use cspf_model::MOST_ROUTERS;
 use std::alloc::{AllocError, Global};
+use std::cmp::Ordering;
 use std::collections::BinaryHeap;
 
 /// The row of a label that a turn to the next leg leads to.
@@ -42,8 +44,24 @@ struct Source<'a> {
     rank: u64,
 }
 
+/// Compares the local addresses of the walks of two labels with the same number of links, from the
+/// first link on. Only where one of them is a turn to the next leg are their nodes made.
+fn compare_tied(table: &Table, nodes: &[Node], a: &Label, b: &Label) -> Ordering
+    requires arena { AreNodes nodes.now }
+    requires offered { IsOffer table.now nodes.now b.now }
+    requires tied { AreTied table.now nodes.now a.now b.now }
+    ensures { result ≡ locals_cmp (walk_of nodes.now (node_of table.now nodes.now a.now))
+        (walk_of nodes.now (node_of table.now nodes.now b.now)) }
+{
+    let (Some(l), Some(m)) = (link_of(table, a), link_of(table, b)) else {
+        return locals(nodes, &node_of(table, nodes, a), &node_of(table, nodes, b));
+    };
+    let (x, y) = (&nodes[usize::from(a.parent)], &nodes[usize::from(b.parent)]);
+    locals(nodes, x, y).then(l.local.cmp(&m.local))
+}
+
 /// Gives the state at an index this label, and has it wait with this key. Where the label of the
-/// state has the same rank and is not after the new one, nothing changes.
+/// state has the same rank, it waits already, and the first of the two labels stays.
 fn offer(
     table: &Table,
     nodes: &[Node],
@@ -67,10 +85,11 @@ fn offer(
 {
     let old = labels[index];
     if label.rank == old.rank {
-        let (kept, new) = (node_of(table, nodes, &old), node_of(table, nodes, &label));
-        if !locals(nodes, &kept, &new).is_gt() {
-            return Ok(());
+        if compare_tied(table, nodes, &old, &label).is_gt() {
+            // The key that the state has waits already.
+            labels[index] = label;
         }
+        return Ok(());
     }
     put(labels, heap, index, label, key)
 }

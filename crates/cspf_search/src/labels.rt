@@ -2,9 +2,9 @@
 //! found.
 
 ghost use Rattle.cspf_model.specs.declared.limits.TheConstants.{MOST_ROUTERS};
-ghost use Rattle.std.specs.Prelude.{◌≡◌, ◌+◌, ◌*◌, ◌<◌, ◌≤◌, ◌↔◌, IsTrue, All, Contains, length, set, IfSome, IfNone, OnOk};
+ghost use Rattle.std.specs.Prelude.{◌≡◌, ◌+◌, ◌*◌, ◌<◌, ◌≤◌, ◌↔◌, IsTrue, All, Contains, length, set, slice_get, option_map, IfSome, IfNone, OnOk};
 ghost use Rattle.std.specs.BinaryHeap.{IsHeap, heap_items, heap_len};
-ghost use Rattle.cspf_db.specs.Index.{router_list};
+ghost use Rattle.cspf_db.specs.Index.{router_list, links_from_index};
 ghost use Rattle.cspf_search.specs.Arena.{AreNodes};
 ghost use Rattle.cspf_search.specs.Frontier.{lift, node_of, key_at, heap_key_cmp, Gains, IsKey, IsLeast, IsLive, IsOpenOf, HeapKey};
 
@@ -12,7 +12,7 @@ use crate::arena::Node;
 use crate::goal::{Goal, lift};
 use crate::limits::ROOM_FOR_WAITING;
 use cspf_db::Table;
-use cspf_model::Request;
+use cspf_model::{Link, Request};
 use std::alloc::{AllocError, Global};
 use std::cmp::Reverse;
 use std::collections::BinaryHeap;
@@ -50,6 +50,16 @@ pub(crate) const SETTLED: Label = Label {
 /// The key of a state that waits, which is its rank with its lift, and the index of the state.
 pub(crate) type Waiting = Reverse<(u64, u64)>;
 
+/// The last link of the walk that a label describes, unless it is a turn to the next leg.
+pub(crate) fn link_of<'a>(table: &'a Table, label: &Label) -> Option<&'a Link>
+    requires { label.now.place < length (router_list table.now) }
+    ensures { option_map (λ link. link.now) result ≡ slice_get (links_from_index table.now label.now.place) label.now.row }
+{
+    table
+        .out_at(usize::from(label.place))
+        .get(usize::from(label.row))
+}
+
 /// The node that a label describes.
 pub(crate) fn node_of(table: &Table, nodes: &[Node], label: &Label) -> Node
     requires arena { AreNodes nodes.now }
@@ -59,10 +69,7 @@ pub(crate) fn node_of(table: &Table, nodes: &[Node], label: &Label) -> Node
 {
     let at = usize::from(label.parent);
     let from = &nodes[at];
-    match table
-        .out_at(usize::from(label.place))
-        .get(usize::from(label.row))
-    {
+    match link_of(table, label) {
         Some(link) => Node {
             parent: at,
             by: Some(*link),
