@@ -111,7 +111,7 @@ module _ (d : Database) (q : Request) (nodes : List Node) (at state : ℕ) (is :
       let routers = ap (λ (n : Node). n.router) same in
       (omega (arith, leg, legs, x.within), rw (legs ∙ leg, routers ∙ router) at x.target)
 
-  no_row : (row : ℕ) (w : List Link) (t : State) → ((l : Link) × Contains (take 0 (links_from_index d (state % 1024))) l × CrossesBy d q nodes at l w t) → ⊥
+  pub no_row : (row : ℕ) (w : List Link) (t : State) → ((l : Link) × Contains (take 0 (links_from_index d (state % 1024))) l × CrossesBy d q nodes at l w t) → ⊥
   no_row row w t x = let low = x.1.1 in omega arith
 
   pub turn_left : (w : List Link) (t : State) → CrossesBelow d q nodes (links_of d) at w t → CrossesUpTo d q nodes at (state % 1024) 0 w t
@@ -172,23 +172,35 @@ module _ (d : Database) (q : Request) (nodes : List Node) (at state : ℕ) (is :
     row_is : l ≡ slice_index_or (links_from_index d (state % 1024)) row l
     row_is = sym (get_or_from_slice_get (links_from_index d (state % 1024)) row l l listed)
 
+    -- what leads on by the links before a row, by this one, and by both
+
+    pub row_kept : (w : List Link) (t : State) → CrossesFrom d q nodes (take row (links_from_index d (state % 1024))) at w t
+        → CrossesFrom d q nodes (take (row + 1) (links_from_index d (state % 1024))) at w t
+    row_kept = kept_link d q nodes (links_from_index d (state % 1024)) at row row_within l row_is
+
+    pub row_new : (w : List Link) (t : State) → CrossesBy d q nodes at l w t → CrossesFrom d q nodes (take (row + 1) (links_from_index d (state % 1024))) at w t
+    row_new = new_link d q nodes (links_from_index d (state % 1024)) at row row_within l row_is
+
+    pub row_cases : (w : List Link) (t : State) → CrossesFrom d q nodes (take (row + 1) (links_from_index d (state % 1024))) at w t
+        → CrossesFrom d q nodes (take row (links_from_index d (state % 1024))) at w t ⊎ CrossesBy d q nodes at l w t
+    row_cases = either_link d q nodes (links_from_index d (state % 1024)) at row row_within l row_is
+
     pub link_left : (w : List Link) (t : State) → CrossesUpTo d q nodes at (state % 1024) row w t → CrossesUpTo d q nodes at (state % 1024) (row + 1) w t
     link_left w t (inl x) = inl x
-    link_left w t (inr x) = inr (kept_link d q nodes (links_from_index d (state % 1024)) at row row_within l row_is w t x)
+    link_left w t (inr x) = inr (row_kept w t x)
 
     pub link_right : (w : List Link) (t : State) → CrossesBy d q nodes at l w t → CrossesUpTo d q nodes at (state % 1024) (row + 1) w t
-    link_right w t x = inr (new_link d q nodes (links_from_index d (state % 1024)) at row row_within l row_is w t x)
+    link_right w t x = inr (row_new w t x)
 
     pub link_cases : (w : List Link) (t : State) → CrossesUpTo d q nodes at (state % 1024) (row + 1) w t
         → CrossesUpTo d q nodes at (state % 1024) row w t ⊎ CrossesBy d q nodes at l w t
     link_cases w t (inl x) = inl (inl x)
-    link_cases w t (inr x) =
-        elim (either_link d q nodes (links_from_index d (state % 1024)) at row row_within l row_is w t x) [ inl old ↦ inl (inr old) | inr new ↦ inr new ]
+    link_cases w t (inr x) = elim (row_cases w t x) [ inl old ↦ inl (inr old) | inr new ↦ inr new ]
 
   -- no link, where the walk may not leave its router
 
   -- then no link crosses
-  no_link_crosses : (NodeMayLeave d nodes at state → ⊥) → (l : Link) (w : List Link) (t : State) → CrossesBy d q nodes at l w t → ⊥
+  pub no_link_crosses : (NodeMayLeave d nodes at state → ⊥) → (l : Link) (w : List Link) (t : State) → CrossesBy d q nodes at l w t → ⊥
   no_link_crosses never l w t x =
       let same : x.node ≡ slice_index_or nodes at nowhere = same_Some x.node (slice_index_or nodes at nowhere) (sym x.there ∙ there) in
       let runs : l.from ≡ slice_index (router_list d) (state % 1024) = x.runs ∙ ap (λ (n : Node). n.router) same ∙ router in
@@ -216,15 +228,20 @@ module _ (d : Database) (q : Request) (nodes : List Node) (at state : ℕ) (is :
 
   -- all links
 
+  pub here_from : (w : List Link) (t : State) → CrossesFrom d q nodes (take (length (links_from_index d (state % 1024))) (links_from_index d (state % 1024))) at w t
+      → CrossesFrom d q nodes (links_of d) at w t
+  here_from w t (inl turn) = inl turn
+  here_from w t (inr x) =
+      let all = take_all (length (links_from_index d (state % 1024))) (links_from_index d (state % 1024)) (omega arith) in
+      inr (x.0, kept_of d (state % 1024) x.0 (rw all at x.1), x.2)
+
   pub all_below : (w : List Link) (t : State) → CrossesUpTo d q nodes at (state % 1024) (length (links_from_index d (state % 1024))) w t
       → CrossesBelow d q nodes (links_of d) (at + 1) w t
   all_below w t (inl x) = (x.0, omega (arith, x.1), x.2)
   all_below w t (inr (inl turn)) = (at, omega arith, inl turn)
-  all_below w t (inr (inr x)) =
-      let all = take_all (length (links_from_index d (state % 1024))) (links_from_index d (state % 1024)) (omega arith) in
-      (at, omega arith, inr (x.0, kept_of d (state % 1024) x.0 (rw all at x.1), x.2))
+  all_below w t (inr (inr x)) = (at, omega arith, here_from w t (inr x))
 
-  from_here : (w : List Link) (t : State) → CrossesFrom d q nodes (links_of d) at w t
+  pub from_here : (w : List Link) (t : State) → CrossesFrom d q nodes (links_of d) at w t
       → CrossesFrom d q nodes (take (length (links_from_index d (state % 1024))) (links_from_index d (state % 1024))) at w t
   from_here w t (inl turn) = inl turn
   from_here w t (inr x) =

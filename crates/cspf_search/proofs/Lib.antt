@@ -15,6 +15,7 @@ pub mod Expanded
 pub mod Taken
 pub mod Few
 pub mod Looked
+mod Lows
 pub mod Marked
 pub mod Grown
 pub mod Answered

@@ -69,7 +69,7 @@ module _ (nodes : List Node) (n : Node) (before : AreApart nodes) (apart : AreAp
       ] refl
 
   module _ (d : Database) (q : Request) (links : List Link) where
-    from_old : (at : ℕ) → at < length nodes → (w : List Link) (t : State) → CrossesFrom d q (nodes ++ (n ∷ [])) links at w t → CrossesFrom d q nodes links at w t
+    pub from_old : (at : ℕ) → at < length nodes → (w : List Link) (t : State) → CrossesFrom d q (nodes ++ (n ∷ [])) links at w t → CrossesFrom d q nodes links at w t
     from_old at h w t (inl turn) = inl (record {
       node = turn.node;
       there = sym (get_old at h) ∙ turn.there;

@@ -1,10 +1,18 @@
 -- Private words of the search by rounds: the state at the start of a round, and the node that it
 -- looks on from.
-use Rattle.std.specs.Prelude.{slice_index_or}
+use Rattle.std.specs.Prelude.{◌≡◌, ℕ, ◌%◌, ◌<◌, ◌≤◌, Option, Some, None, List, length, take, slice_index_or}
+use Rattle.cspf_model.specs.declared.link.Link.{Link}
+use Rattle.cspf_model.specs.declared.limits.TheConstants.{MOST_ROUTERS}
+use Rattle.cspf_model.specs.declared.request.Request.{Request}
+use Rattle.cspf_model.specs.Database.{Database}
+use Rattle.cspf_db.specs.Index.{links_of, links_from_index}
+use Rattle.cspf_search.specs.declared.arena.Node.{Node}
+use Rattle.cspf_search.specs.States.{State}
+use Rattle.cspf_search.specs.Rounds.{CrossesFrom}
 use Rattle.cspf_search.specs.declared.rounds.Look.{Look}
 use Rattle.cspf_search.specs.declared.rounds.Round.{Round}
 use Rattle.cspf_search.specs.Arena.{AreNodes, AreInLegs, state_of}
-use Rattle.cspf_search.specs.Frontier.{IsNodeAt, nowhere}
+use Rattle.cspf_search.specs.Frontier.{IsNodeAt, no_rank, nowhere, rank_of, walk_rank}
 use Rattle.cspf_search.specs.ForwardStars.{AreForwardStars, AreStateMarks, IsForwardStar}
 use Rattle.cspf_search.specs.Query.{IsQuery}
 
@@ -23,3 +31,25 @@ pub record IsLook (look : Look) : Type 0 where
   pub marks : AreStateMarks look.query.table.now look.query.request.now look.nodes.now look.marks.now
   pub from : IsNodeAt look.query.table.now look.query.request.now look.nodes.now look.at look.star.state
   pub star : IsForwardStar look.query.table.now (state_of (slice_index_or look.nodes.now look.at nowhere)) look.star
+
+-- what leads on from the node by the turn, and by its links before a row
+abbrev pub LeadsToRow : Look → ℕ → List Link → State → Type 0
+LeadsToRow look row =
+    CrossesFrom look.query.table.now look.query.request.now look.nodes.now
+    (take row (links_from_index look.query.table.now (look.star.state % MOST_ROUTERS))) look.at
+
+-- the rank of a node, and more than any where there is none
+abbrev pub low_of : Option Node → ℕ
+low_of None = no_rank
+low_of (Some n) = rank_of n
+
+-- nothing that leads on from the node at an index ranks below a number, and nothing leads on where
+-- that is more than any rank
+abbrev pub IsLow : Database → Request → List Node → ℕ → ℕ → Type 0
+IsLow d q nodes at low =
+    (w : List Link) (t : State) → CrossesFrom d q nodes (links_of d) at w t → (low < no_rank) × (low ≤ walk_rank w)
+
+-- each node has such a number
+pub record AreLows (d : Database) (q : Request) (nodes : List Node) (lows : List ℕ) : Type 0 where
+  pub many : length lows ≡ length nodes
+  pub each : (at : ℕ) → at < length nodes → IsLow d q nodes at (slice_index_or lows at 0)

@@ -1,22 +1,23 @@
 //! One round of the plain search: the first node that a turn or a link leads to from any
-//! settled node.
+//! settled node. A node is looked at again only where what leads on from it may come first.
 
-ghost use Rattle.std.specs.Prelude.{◌≡◌, ◌+◌, ◌-◌, ◌%◌, ◌<◌, ◌↔◌, Some, None, IsTrue, length, slice_get, slice_index_or};
+ghost use Rattle.std.specs.Prelude.{◌≡◌, ◌⊎◌, ◌+◌, ◌-◌, ◌%◌, ◌<◌, ◌↔◌, true, Some, None, IsTrue, length, slice_get, slice_index_or};
 ghost use Rattle.std.specs.Option.{ForSome, IsSomeAnd};
 ghost use Rattle.cspf_db.specs.Index.{links_of, links_from_index};
 ghost use Rattle.cspf_search.specs.Settled.{state_cmp};
 ghost use Rattle.cspf_search.specs.Arena.{AreNodes, AreInLegs, IsNext, state_of, index_of, walk_of};
-ghost use Rattle.cspf_search.specs.Rounds.{CrossesBelow, IsFirst, RanksBefore, earlier_of};
+ghost use Rattle.cspf_search.specs.Rounds.{CrossesFrom, IsFirst, RanksBefore, earlier_of};
 ghost use Rattle.cspf_graph.specs.Lists.{AreListed, IsIndexOf};
 ghost use Rattle.cspf_graph.specs.Roles.{AreRoles};
-ghost use Rattle.cspf_search.specs.Frontier.{CrossesUpTo, IsNodeAt, NodeMayLeave, nowhere, state_at};
-ghost use Rattle.cspf_search.specs.Query.{CrossesBefore, CrossesToRow};
-ghost use Rattle.cspf_search.specs.RoundSteps.{IsLook, IsRound};
+ghost use Rattle.cspf_search.specs.Frontier.{IsNodeAt, NodeMayLeave, no_rank, nowhere, rank_of, state_at};
+ghost use Rattle.cspf_search.specs.Query.{CrossesBefore};
+ghost use Rattle.cspf_search.specs.RoundSteps.{AreLows, IsLook, IsRound, LeadsToRow, low_of};
 ghost use Rattle.cspf_search.specs.Source.{IsEdge};
 
 use crate::arena::{Node, locals};
 use crate::edge::Edge;
 use crate::forward_star::ForwardStar;
+use crate::limits::COST_WEIGHT;
 use crate::query::Query;
 use cspf_db::{NO_LINK, Table};
 use cspf_graph::{accepts, may_leave_at};
@@ -93,32 +94,28 @@ struct Look<'a> {
     star: ForwardStar<'a>,
 }
 
-/// Keeps the node that the turn to the next leg leads to from this node, if it comes before the
-/// best. There has to be a next leg, nothing may be settled there, and this node has to be at a
-/// target of its leg.
-fn look_at_turn(look: Look<'_>, best: &mut Option<Node>)
+/// The node that the turn to the next leg leads to from this node. There has to be a next leg,
+/// nothing may be settled there, and this node has to be at a target of its leg.
+fn look_at_turn(look: Look<'_>) -> Option<Node>
     requires look { IsLook look }
-    requires before { IsFirst look.nodes.now (CrossesBefore look.query look.nodes.now look.at) best.old }
-    ensures after { IsFirst look.entry.nodes.now
-        (CrossesToRow look.entry.query look.entry.nodes.now look.entry.at look.entry.star.state 0) best.new }
+    ensures { IsFirst look.entry.nodes.now (LeadsToRow look.entry 0) result }
 {
     let (marks, nodes, state) = (look.marks, look.nodes, look.star.state);
     if state / MOST_ROUTERS >= look.query.request.hops.len() {
-        return;
+        return None;
     }
     if marks[state + MOST_ROUTERS] {
-        return;
+        return None;
     }
     let role = look.query.roles[state];
     if !role.target {
-        return;
+        return None;
     }
     let from = nodes[look.at];
-    let node = Node {
+    Some(Node {
         leg: from.leg + 1,
         ..from
-    };
-    keep(nodes, best, node);
+    })
 }
 
 /// Keeps the node that a link leads to from this node, if it comes before the best. The request has
@@ -130,10 +127,9 @@ fn look_at_link(look: Look<'_>, edge: Edge<'_>, best: &mut Option<Node>)
     requires edge { IsEdge look.query.table.now (look.star.state % MOST_ROUTERS) edge }
     requires left { index_of look.nodes.now
         (state_at look.query.table.now (look.star.state - look.star.state % MOST_ROUTERS + edge.end)) ≡ None }
-    requires before { IsFirst look.nodes.now
-        (CrossesToRow look.query look.nodes.now look.at look.star.state edge.row) best.old }
+    requires before { IsFirst look.nodes.now (LeadsToRow look edge.row) best.old }
     ensures after { IsFirst look.entry.nodes.now
-        (CrossesToRow look.entry.query look.entry.nodes.now look.entry.at look.entry.star.state (edge.entry.row + 1)) best.new }
+        (LeadsToRow look.entry (edge.entry.row + 1)) best.new }
 {
     let (nodes, state) = (look.nodes, look.star.state);
     let from = nodes[look.at];
@@ -167,10 +163,8 @@ fn look_at_row(look: Look<'_>, row: usize, best: &mut Option<Node>)
     requires look { IsLook look }
     requires leaves { NodeMayLeave look.query.table.now look.nodes.now look.at look.star.state }
     requires row { row < length (links_from_index look.query.table.now (look.star.state % MOST_ROUTERS)) }
-    requires before { IsFirst look.nodes.now
-        (CrossesToRow look.query look.nodes.now look.at look.star.state row) best.old }
-    ensures after { IsFirst look.entry.nodes.now
-        (CrossesToRow look.entry.query look.entry.nodes.now look.entry.at look.entry.star.state (row + 1)) best.new }
+    requires before { IsFirst look.nodes.now (LeadsToRow look row) best.old }
+    ensures after { IsFirst look.entry.nodes.now (LeadsToRow look.entry (row + 1)) best.new }
 {
     let (marks, star) = (look.marks, look.star);
     let end = usize::from(star.ends[row]);
@@ -189,33 +183,74 @@ fn look_at_row(look: Look<'_>, row: usize, best: &mut Option<Node>)
     look_at_link(look, edge, best);
 }
 
-/// Keeps the first node that the turn leads to from this node, or a link if the walk may leave its
-/// router. It is kept if it comes before the best.
-fn look_from(look: Look<'_>, best: &mut Option<Node>)
+/// The first node that the turn leads to from this node, or a link if the walk may leave its router.
+fn look_from(look: Look<'_>) -> Option<Node>
     requires look { IsLook look }
-    requires before { IsFirst look.nodes.now (CrossesBefore look.query look.nodes.now look.at) best.old }
-    ensures after { IsFirst look.entry.nodes.now
-        (CrossesBefore look.entry.query look.entry.nodes.now (look.entry.at + 1)) best.new }
+    ensures { IsFirst look.entry.nodes.now
+        (CrossesFrom look.entry.query.table.now look.entry.query.request.now look.entry.nodes.now
+        (links_of look.entry.query.table.now) look.entry.at) result }
 {
-    look_at_turn(look, best);
+    let mut best = look_at_turn(look);
     let place = look.star.state % MOST_ROUTERS;
     if !may_leave_at(look.query.table, place, look.nodes[look.at].links as u32) {
-        return;
+        return best;
     }
     for row in 0..look.star.links.len() {
-        look_at_row(look, row, best);
+        look_at_row(look, row, &mut best);
+    }
+    best
+}
+
+/// The rank of the node, if there is one, and else more than any rank.
+fn low_of(nodes: &[Node], found: &Option<Node>) -> u64
+    requires arena { AreNodes nodes.now }
+    requires next { ForSome found.now (IsNext nodes.now) }
+    ensures { result ≡ low_of found.now }
+{
+    match found {
+        Some(node) => node.cost * COST_WEIGHT + node.links as u64 + 1,
+        None => u64::MAX,
     }
 }
 
-/// The first node that a turn or a link leads to from any node.
-pub(crate) fn first(round: Round<'_>) -> Option<Node>
+/// Whether all that leads on from a node comes after the best one, where none of it ranks below the
+/// number.
+fn is_passed(nodes: &[Node], best: &Option<Node>, low: u64) -> bool
+    requires arena { AreNodes nodes.now }
+    requires next { ForSome best.now (IsNext nodes.now) }
+    ensures { result ≡ true → (low ≡ no_rank) ⊎ (low_of best.now < low) }
+{
+    low == u64::MAX || low_of(nodes, best) < low
+}
+
+/// Keeps a node in place of the best one, if there is one and it comes before that.
+fn keep_found(nodes: &[Node], best: &mut Option<Node>, found: Option<Node>)
+    requires arena { AreNodes nodes.now }
+    requires first { ForSome best.old (IsNext nodes.now) }
+    requires second { ForSome found (IsNext nodes.now) }
+    ensures { best.new ≡ earlier_of nodes.now best.old found }
+{
+    if let Some(node) = found {
+        keep(nodes, best, node);
+    }
+}
+
+/// The first node that a turn or a link leads to from any node. For each node `lows` has a number
+/// below which nothing ranks that leads on from it, before and after.
+pub(crate) fn first(round: Round<'_>, lows: &mut Vec<u64>) -> Option<Node>
     requires round { IsRound round }
-    ensures { IsFirst round.entry.nodes.now
+    requires lows { AreLows round.query.table.now round.query.request.now round.nodes.now lows.old.items }
+    ensures first { IsFirst round.entry.nodes.now
         (CrossesBefore round.entry.query round.entry.nodes.now (length round.entry.nodes.now))
         result }
+    ensures lows { AreLows round.entry.query.table.now round.entry.query.request.now
+        round.entry.nodes.now lows.new.items }
 {
     let mut best = None;
     for at in 0..round.nodes.len() {
+        if is_passed(round.nodes, &best, lows[at]) {
+            continue;
+        }
         let look = Look {
             query: round.query,
             nodes: round.nodes,
@@ -223,7 +258,9 @@ pub(crate) fn first(round: Round<'_>) -> Option<Node>
             at,
             star: round.stars[at],
         };
-        look_from(look, &mut best);
+        let found = look_from(look);
+        lows[at] = low_of(round.nodes, &found);
+        keep_found(round.nodes, &mut best, found);
     }
     best
 }

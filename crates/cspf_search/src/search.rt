@@ -17,7 +17,7 @@ ghost use Rattle.std.specs.BinaryHeap.{IsHeap, heap_items, heap_len};
 ghost use Rattle.cspf_search.specs.Query.{IsQuery, CrossesBefore};
 ghost use Rattle.cspf_model.specs.RouteLinks.{AreLinked};
 ghost use Rattle.cspf_search.specs.Rounds.{IsFirst, IsFirstOf};
-ghost use Rattle.cspf_search.specs.RoundSteps.{IsRound};
+ghost use Rattle.cspf_search.specs.RoundSteps.{AreLows, IsRound};
 ghost use Rattle.cspf_search.specs.Searched.{IsSearched};
 
 use crate::arena::{Node, index_of, links_to};
@@ -55,17 +55,20 @@ fn rooted(alloc: Global, request: &Request) -> Result<Vec<Node>, AllocError>
 
 /// The node to settle next, unless the tail-end is settled in the last of the legs or nothing leads
 /// on.
-fn next(round: Round<'_>) -> Option<Node>
+fn next(round: Round<'_>, lows: &mut Vec<u64>) -> Option<Node>
     requires round { IsRound round }
+    requires lows { AreLows round.query.table.now round.query.request.now round.nodes.now lows.old.items }
     ensures some { IfSome result
         (IsFirstOf round.entry.nodes.now (CrossesBefore round.entry.query round.entry.nodes.now (length round.entry.nodes.now))) }
     ensures none { IfNone result (labels_of round.entry.nodes.now (end_state round.entry.query.request.now) ≡ None
         → IsFirst round.entry.nodes.now (CrossesBefore round.entry.query round.entry.nodes.now (length round.entry.nodes.now)) None) }
+    ensures lows { AreLows round.entry.query.table.now round.entry.query.request.now
+        round.entry.nodes.now lows.new.items }
 {
     if index_of(round.nodes, round.query.legs, round.query.request.to).is_some() {
         return None;
     }
-    first(round)
+    first(round, lows)
 }
 
 /// The nodes that are settled when the tail-end is in the last of the legs, or when nothing leads
@@ -78,17 +81,22 @@ fn settled(alloc: Global, query: Query<'_>) -> Result<Vec<Node>, AllocError>
     let mut nodes = rooted(alloc, query.request)?;
     let root = star_of(query.table, &nodes[0]);
     let mut stars = Vec::from_slice(alloc, &[root])?;
+    let mut lows = Vec::from_elem(alloc, 0u64, 1)?;
     let mut marks = Vec::from_elem(alloc, false, query.legs * MOST_ROUTERS)?;
     marks[root.state] = true;
-    while let Some(node) = next(Round {
-        query,
-        nodes: &nodes,
-        stars: &stars,
-        marks: &marks,
-    }) {
+    while let Some(node) = next(
+        Round {
+            query,
+            nodes: &nodes,
+            stars: &stars,
+            marks: &marks,
+        },
+        &mut lows,
+    ) {
         let star = star_of(query.table, &node);
         nodes.extend_from_slice(&[node])?;
         stars.extend_from_slice(&[star])?;
+        lows.push(0)?;
         marks[star.state] = true;
     }
     Ok(nodes)

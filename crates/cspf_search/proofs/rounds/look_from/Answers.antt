@@ -1,12 +1,12 @@
-use Rattle.std.proofs.Common.{◌≡◌, ◌+◌, ◌%◌, List, length, slice_index, ap, arith}
+use Rattle.std.proofs.Common.{◌≡◌, ◌%◌, List, length, slice_index, take, ap, arith}
 use Rattle.std.proofs.lemmas.Bool.{false≢true}
 use Rattle.cspf_model.specs.declared.link.Link.{Link}
 use Rattle.cspf_db.specs.Index.{links_of, links_from_index, router_list}
-use Rattle.cspf_search.specs.Rounds.{CrossesBelow}
-use Rattle.cspf_search.specs.Frontier.{CrossesUpTo}
-use Rattle.cspf_search.proofs.Expanded.{turn_below, below_turn, all_below, below_all}
+use Rattle.cspf_search.specs.Rounds.{CrossesFrom}
+use Rattle.cspf_search.proofs.Expanded.{here_from, from_here}
 use Rattle.cspf_search.proofs.Backs.{leaves_told}
 use Rattle.cspf_search.proofs.Firsts.{first_same}
+use Rattle.cspf_search.proofs.Looked.{turn_here, here_turn}
 use Rattle.cspf_search.proofs.rounds.look_from.Goals as goal
 
 pub returns : goal.returns
@@ -14,14 +14,12 @@ returns c =
     let d = c.args.look.query.table.now in
     let q = c.args.look.query.request.now in
     let nodes = c.args.look.nodes.now in
-    let place = c.args.look.star.state % 1024 in
+    let at = c.args.look.at in
+    let state = c.args.look.star.state in
+    let from = c.requires.look.from in
     let all : c.loop-row.row ≡ length (links_from_index d (c.args.look.star.state % 1024)) = omega (arith, ap (λ (ls : List Link). length ls) c.requires.look.star.links) in
-    record {
-      after =
-          first_same nodes (CrossesUpTo d q nodes c.args.look.at place (length (links_from_index d place))) (CrossesBelow d q nodes (links_of d) (c.args.look.at + 1))
-          (all_below d q nodes c.args.look.at c.args.look.star.state c.requires.look.from) (below_all d q nodes c.args.look.at c.args.look.star.state c.requires.look.from) c.loop-row.best
-          (rw all at c.loop-row.invariant);
-    }
+    first_same nodes (CrossesFrom d q nodes (take (length (links_from_index d (state % 1024))) (links_from_index d (state % 1024))) at) (CrossesFrom d q nodes (links_of d) at)
+    (here_from d q nodes at state from) (from_here d q nodes at state from) c.loop-row.best (rw all at c.loop-row.invariant)
 
 pub returns-then-not-may_leave_at : goal.returns-then-not-may_leave_at
 returns-then-not-may_leave_at c =
@@ -32,10 +30,7 @@ returns-then-not-may_leave_at c =
     let state = c.args.look.star.state in
     let from = c.requires.look.from in
     let told = leaves_told d (slice_index (router_list d) (c.args.look.star.state % 1024)) nodes c.requires.look.arena at from.within c.index-look-look.result in
-    record {
-      after =
-          first_same nodes (CrossesUpTo d q nodes c.args.look.at (c.args.look.star.state % 1024) 0) (CrossesBelow d q nodes (links_of d) (c.args.look.at + 1))
-          (turn_below d q nodes at state from)
-          (below_turn d q nodes at state from (λ may. false≢true (c.if-not-may_leave_at.ensures.1 (told.1 may))))
-          c.look_at_turn.new.best c.look_at_turn.ensures.after;
-    }
+    first_same nodes (CrossesFrom d q nodes (take 0 (links_from_index d (state % 1024))) at) (CrossesFrom d q nodes (links_of d) at)
+    (turn_here d q nodes c.requires.look.arena at state from)
+    (here_turn d q nodes c.requires.look.arena at state from (λ may. false≢true (c.if-not-may_leave_at.ensures.1 (told.1 may))))
+    c.look_at_turn-best.result c.look_at_turn-best.ensures

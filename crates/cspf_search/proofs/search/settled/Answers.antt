@@ -6,6 +6,7 @@ use Rattle.cspf_search.specs.declared.arena.Node.{Node}
 use Rattle.cspf_search.specs.Arena.{labels_of, root_of, state_of}
 use Rattle.cspf_search.specs.ForwardStars.{IsForwardStar}
 use Rattle.cspf_search.proofs.Grown.{root_nodes, root_settled, nodes_in_legs, nothing_crosses}
+use Rattle.cspf_search.proofs.Lows.{lows_root, lows_push}
 use Rattle.cspf_search.proofs.Settles.{no_route}
 use Rattle.cspf_search.proofs.Marked.{no_stars, no_marks, star_index, stars_push, marks_push, after, new_router, new_leg}
 use Rattle.cspf_search.proofs.search.settled.Goals as goal
@@ -23,12 +24,14 @@ loop-node-init c =
     let root : c.index.result.now ≡ root_of c.args.query.request.now = rw c.in_ok-nodes.ensures at c.index.ensures in
     let is = subst (λ (n : Node). IsForwardStar c.args.query.table.now (state_of n) c.star_of-root.result) root c.star_of-root.ensures in
     let marks : c.in_ok-marks.marks.items ≡ replicate (c.args.query.legs * 1024) false = c.in_ok-marks.ensures.items_if_clones_equal (λ y e. e) in
-    rw (c.in_ok-nodes.ensures, c.in_ok-stars.ensures.items, marks)
+    let lows : c.in_ok-lows.lows.items ≡ replicate 1 0 = c.in_ok-lows.ensures.items_if_clones_equal (λ y e. e) in
+    rw (c.in_ok-nodes.ensures, c.in_ok-stars.ensures.items, marks, lows)
     (record {
       arena = root_nodes q;
       few = omega arith;
       settled = root_settled d q;
       stars = stars_push d [] [] (no_stars d) (root_of q) star is;
+      lows = lows_root d q (root_of q);
       marks =
           marks_push d q c.requires.query.listed [] (root_of q) (λ i j e low high. absurd (omega arith)) (root_nodes q).apart (replicate (c.args.query.legs * 1024) false)
           (no_marks d q (c.args.query.legs * 1024) (ap (λ n. n * 1024) c.requires.query.count)) star is (record { low = omega arith; high = omega arith });
@@ -45,6 +48,7 @@ next-requires c =
         stars = rw (c.deref.ensures.value, c.deref-in-loop-node.ensures.value) before.stars;
         marks = rw (c.deref.ensures.value, c.deref-in-loop-node-2.ensures.value) before.marks;
       };
+      lows = rw c.deref.ensures.value before.lows;
     }
 
 pub star_of-star-requires-clause-known : goal.star_of-star-requires-clause-known
@@ -95,12 +99,13 @@ loop-node-preserved c =
     after d q c.requires.query.links c.requires.known c.requires.query.few (omega arith) c.loop-node.nodes.items before.arena before.settled c.in-Some.node first in
     let leg =
     new_leg d q c.requires.query.links c.requires.known c.requires.query.few (omega arith) c.loop-node.nodes.items before.arena before.settled c.in-Some.node first in
-    rw (c.in_ok-extend_from_slice.ensures.items, c.in_ok-extend_from_slice-2.ensures.items)
+    rw (c.in_ok-extend_from_slice.ensures.items, c.in_ok-extend_from_slice-2.ensures.items, c.in_ok-push.ensures.items)
     (record {
       arena = new.0;
       few = omega (arith, new.2, length_push c.loop-node.nodes.items c.in-Some.node);
       settled = new.1;
       stars = stars_push d nodes c.loop-node.stars.items before.stars node star c.star_of-star.ensures;
+      lows = lows_push d q nodes node before.arena.apart new.0.apart _ (rw c.deref.ensures.value at c.next.ensures.lows);
       marks = marks_push d q c.requires.query.listed nodes node before.arena.apart new.0.apart c.loop-node.marks.items before.marks star c.star_of-star.ensures leg;
     })
 
