@@ -1,10 +1,7 @@
 //! The column of ends: for each row the index of the router that it runs to. It follows rows that
 //! are put or taken out, and a list of routers that changes.
-ghost use Rattle.std.specs.Prelude.{◌≡◌, ◌<◌, ◌≤◌, All, length, slice_set, vec_len, IfOk, IfErr, IfSome, IfNone, map, slice_index};
+ghost use Rattle.std.specs.Prelude.{◌≡◌, ◌<◌, ◌≤◌, All, length, map, slice_index};
 ghost use Rattle.std.specs.Vec.{vec_capacity};
-ghost use Rattle.std.specs.List.{insert, remove as without};
-
-use crate::insertion::insert_within;
 
 /// Puts in place of each end the place of its router in another list.
 pub(crate) fn move_ends(ends: &mut Vec<u16>, places: &[u16])

@@ -19,6 +19,6 @@ mod scratch;
 mod spans;
 
 pub use columns::Columns;
-pub use limits::{NO_LINK, ROOM_FOR_LINKS, ROOM_FOR_ROUTERS};
+pub use limits::NO_LINK;
 pub use scratch::Scratch;
 pub use spans::Span;

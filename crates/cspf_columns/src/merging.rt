@@ -1,5 +1,5 @@
 //! Rows and changes, both in order of the key, merged into spare room.
-ghost use Rattle.std.specs.Prelude.{◌≡◌, ℕ, ◌+◌, ◌-◌, ◌<◌, ◌≤◌, List, true, false, [], ◌∷◌, ◌++◌, All, drop, length, map, slice_index_or, vec_len};
+ghost use Rattle.std.specs.Prelude.{◌≡◌, ◌+◌, ◌-◌, ◌<◌, ◌≤◌, List, true, false, [], ◌∷◌, ◌++◌, All, length, map, slice_index_or, vec_len};
 ghost use Rattle.std.specs.Vec.{vec_capacity};
 ghost use Rattle.std.specs.List.Sorted.{IsPermutation};
 ghost use Rattle.std.specs.List.{HoldsAt, AllWithin};
@@ -8,7 +8,7 @@ ghost use Rattle.cspf_model.specs.declared.link.Link.{Link as Linked};
 ghost use Rattle.cspf_model.specs.declared.batch.Change.{Change as Changed};
 ghost use Rattle.cspf_model.specs.Database.{key_of, key_cmp};
 ghost use Rattle.cspf_model.specs.Changes.{ChangeKey, change_key_cmp, key_changed};
-ghost use Rattle.cspf_model.specs.Lemmas.LinkChanges.{relinked, all_relinked};
+ghost use Rattle.cspf_model.specs.Lemmas.LinkChanges.{all_relinked};
 ghost use Rattle.cspf_model.specs.Refusals.{AreOnceEach};
 ghost use Rattle.cspf_model.specs.Lemmas.CountedEnds.{HasListedEnds};
 ghost use Rattle.cspf_columns.specs.MergeSteps.{AreMergedBelow, IsMergedUpTo, EndsBelow, AreSortedChanges, IsPlaceOfChange};

@@ -1,5 +1,5 @@
 //! Where routers are in another list, once routers are added to the list or dropped from it.
-ghost use Rattle.std.specs.Prelude.{◌≡◌, ℕ, ◌+◌, ◌<◌, ◌≤◌, true, false, [], ◌∷◌, ◌++◌, cond, All, Contains, filter, length, slice_index, slice_index_or, vec_len, nat_eq};
+ghost use Rattle.std.specs.Prelude.{◌≡◌, ℕ, ◌+◌, ◌<◌, ◌≤◌, true, false, [], ◌∷◌, ◌++◌, cond, All, Contains, length, slice_index, slice_index_or, vec_len, nat_eq};
 ghost use Rattle.std.specs.Vec.{vec_capacity};
 ghost use Rattle.std.specs.List.{list_any};
 ghost use Rattle.cspf_model.specs.Lemmas.CountedEnds.{any_to, is_end_of};

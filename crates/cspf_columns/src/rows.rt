@@ -1,20 +1,17 @@
 //! The rows of a table, which are its links in order of their keys, and how they are searched.
 
-ghost use Rattle.std.specs.Prelude.{◌≡◌, ◌≢◌, ℕ, ◌+◌, ◌<◌, ◌≤◌, true, false, All, filter, length, nat_eq, slice_range, slice_set, vec_len, IfOk, IfErr, IfSome, IfNone};
-ghost use Rattle.std.specs.Vec.{vec_capacity};
-ghost use Rattle.std.specs.List.{HoldsAt, insert, remove as without};
-ghost use Rattle.std.specs.List.Sorted.{IsPartitionPoint, IsNonDecreasingBy};
+ghost use Rattle.std.specs.Prelude.{◌≡◌, ◌≢◌, ℕ, ◌<◌, ◌≤◌, true, false, All, filter, length, nat_eq, slice_range, IfOk, IfErr, IfSome, IfNone};
+ghost use Rattle.std.specs.List.{HoldsAt};
+ghost use Rattle.std.specs.List.Sorted.{IsPartitionPoint};
 ghost use Rattle.cspf_addr.specs.Prefixes.{Covers};
 ghost use Rattle.cspf_model.specs.Database.{key_of, key_cmp};
 ghost use Rattle.cspf_columns.specs.Index.{links_from};
-ghost use Rattle.cspf_model.specs.Lemmas.LinkChanges.{relinked};
 ghost use Rattle.cspf_model.specs.Lemmas.LinkRows.{database_of, AreByKey};
 ghost use Rattle.cspf_columns.specs.Rows.{HasSameEnds};
 ghost use Rattle.cspf_model.specs.Lemmas.CountedEnds.{any_from};
 
-use crate::insertion::insert_within;
 use cspf_addr::{Addr, Prefix};
-use cspf_model::{Change, Link};
+use cspf_model::Link;
 use std::cmp::Ordering;
 
 /// How the key of the row compares with another.

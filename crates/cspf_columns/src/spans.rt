@@ -1,5 +1,5 @@
 //! Where the rows from each router begin and end, and between which addresses its interfaces are.
-ghost use Rattle.std.specs.Prelude.{◌≡◌, ℕ, All, ◌∷◌, [], ◌++◌, ◌+◌, ◌-◌, ◌<◌, ◌≤◌, ◌⊎◌, IsTrue, true, filter, length, nat_eq, slice_index_or, slice_range, vec_len};
+ghost use Rattle.std.specs.Prelude.{◌≡◌, ℕ, All, ◌+◌, ◌-◌, ◌<◌, ◌≤◌, true, filter, length, nat_eq, slice_index_or, slice_range, vec_len};
 ghost use Rattle.std.specs.Vec.{vec_capacity};
 ghost use Rattle.std.specs.List.Sorted.{IsNonDecreasingBy};
 ghost use Rattle.cspf_model.specs.declared.link.Link.{Link as Linked};

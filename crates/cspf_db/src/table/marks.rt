@@ -8,7 +8,6 @@ ghost use Rattle.cspf_model.specs.Lemmas.MarkChanges.{all_marked, adds_mark, rem
 ghost use Rattle.cspf_model.specs.Lemmas.LinkRows.{marks_in};
 ghost use Rattle.cspf_columns.specs.Rows.{AreRising};
 ghost use Rattle.cspf_model.specs.declared.limits.TheConstants.{MOST_CHANGES, MOST_MARKS};
-ghost use Rattle.cspf_db.specs.declared.limits.TheConstants.{ROOM_FOR_MARKS};
 
 use cspf_addr::Addr;
 use cspf_columns::insertion::insert_within;
