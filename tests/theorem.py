@@ -159,7 +159,7 @@ class Closure:
             self.item(found)
             return
         home = f"{crate} {module}"
-        found = self.tree.definitions.get((home, name)) or self.variant(home, name)
+        found = self.tree.definition(where) or self.variant(home, name)
         if found is None:
             self.lost.append(f"{name or path}, which {by.name} cites from {path}")
         else:

@@ -1,4 +1,2 @@
-pub mod Prefixes
-pub mod BatchAddition
 pub mod FitTest
 pub mod Steps

@@ -9,14 +9,14 @@ use Rattle.cspf_model.specs.Database.{Database}
 use Rattle.cspf_model.specs.Changes.{after_changes, database_after, Fits}
 use Rattle.cspf_model.specs.Laws.{LawfulByOneMore, OneMoreBatch}
 use Rattle.cspf_publish.specs.BatchAbsorption.{database_with}
-use Rattle.cspf_publish.specs.Histories.{IsHistory, MayFollow}
-use Rattle.cspf_publish.specs.KnownBatches.{KnownBatches, AreFirstOf}
-use Rattle.cspf_publish.specs.Operations.{known_with, idle_batch}
+use Rattle.cspf_journal.specs.Histories.{IsHistory, MayFollow}
+use Rattle.cspf_journal.specs.KnownBatches.{KnownBatches, AreFirstOf, known_with}
+use Rattle.cspf_publish.specs.Operations.{idle_batch}
 use Rattle.cspf_publish.specs.ReplicaStates.{ReplicaState, published_state, state_with}
 use Rattle.cspf_publish.specs.ReplicaRule.{HoldsBetweenSteps, HasItsDatabase, Knows, IsPublisher, HasOnePublisher, Opens, Publishes, Enters, note_of, view_with_note}
 use Rattle.cspf_publish.specs.declared.seat_view.SeatView.{SeatView}
 use Rattle.cspf_publish.specs.declared.seat_view.SeatView.TheVariants.{New, Asker, Publisher}
-use Rattle.cspf_publish.proofs.Prefixes.{BeginsWith-self, BeginsWith-snoc, IsHistory-snoc}
+use Rattle.cspf_journal.proofs.Prefixes.{BeginsWith-self, BeginsWith-snoc, IsHistory-snoc}
 use Rattle.cspf_publish.proofs.FitTest.{database_with-Fits, database_with-nothing}
 
 -- what each seat knows of the published batches

@@ -4,7 +4,7 @@ use Rattle.std.specs.Io.KnownBytes.{Appends}
 use Rattle.cspf_model.specs.Numbered.{NumberedChanges}
 use Rattle.cspf_model.specs.Changes.{database_after}
 use Rattle.cspf_model.specs.Refusals.{IsRefusal}
-use Rattle.cspf_publish.specs.Histories.{MayFollow}
+use Rattle.cspf_journal.specs.Histories.{MayFollow}
 use Rattle.cspf_publish.specs.PublisherStates.{PublisherState, IsStopped}
 use Rattle.cspf_rows.specs.BatchText.{batch_text}
 use Rattle.cspf_model.specs.declared.limits.TheConstants.{MOST_VERSIONS}

@@ -1,6 +1,5 @@
-pub mod Histories
-pub mod KnownBatches
-pub mod HistoryRule
+pub use Rattle.cspf_journal.specs.Histories
+pub use Rattle.cspf_journal.specs.KnownBatches
 pub mod BatchAbsorption
 pub mod ReplicaStates
 pub mod ReplicaRule

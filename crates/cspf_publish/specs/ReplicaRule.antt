@@ -5,8 +5,8 @@ use mathlib.Core.Option.{some}
 use lib.ListN.{get_elem?}
 use Rattle.cspf_model.specs.Numbered.{NumberedChanges}
 use Rattle.cspf_model.specs.Changes.{database_after}
-use Rattle.cspf_publish.specs.Histories.{IsHistory, MayFollow}
-use Rattle.cspf_publish.specs.KnownBatches.{KnownBatches, AreFirstOf}
+use Rattle.cspf_journal.specs.Histories.{IsHistory, MayFollow}
+use Rattle.cspf_journal.specs.KnownBatches.{KnownBatches, AreFirstOf}
 use Rattle.cspf_publish.specs.ReplicaStates.{ReplicaState}
 use Rattle.cspf_publish.specs.declared.seat_view.SeatView.{SeatView}
 use Rattle.cspf_publish.specs.declared.seat_view.SeatView.TheVariants.{New, Asker, Publisher}

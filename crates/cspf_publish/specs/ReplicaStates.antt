@@ -3,7 +3,7 @@ use Rattle.std.specs.Prelude.{Bool, true}
 use Rattle.cspf_model.specs.Numbered.{NumberedChanges}
 use Rattle.cspf_model.specs.Database.{Database}
 use Rattle.cspf_model.specs.Changes.{database_after}
-use Rattle.cspf_publish.specs.KnownBatches.{KnownBatches}
+use Rattle.cspf_journal.specs.KnownBatches.{KnownBatches}
 use Rattle.cspf_publish.specs.BatchAbsorption.{database_with}
 
 -- The database, the batches that it is known by, and whether a publisher's seat knows them: from the

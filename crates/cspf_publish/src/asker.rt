@@ -3,17 +3,17 @@
 ghost use Rattle.std.specs.Prelude.{◌≡◌, ◌⊎◌, length, IfOk, IfSome, IfNone, IfErr};
 ghost use Rattle.left_right.specs.Sides.{view};
 ghost use Rattle.cspf_publish.specs.Answers.{IsAnswerAfter, IsBestAfter};
-ghost use Rattle.cspf_publish.specs.Histories.{BeginsWith, IsHistory};
-ghost use Rattle.cspf_publish.specs.KnownBatches.{KnownBatches, AreFirstOf};
+ghost use Rattle.cspf_journal.specs.Histories.{BeginsWith, IsHistory};
+ghost use Rattle.cspf_journal.specs.KnownBatches.{KnownBatches, AreFirstOf};
 ghost use Rattle.cspf_publish.specs.ReplicaRule.{KnowsItsEntry};
 ghost use Rattle.cspf_publish.specs.declared.seat_view.SeatView.TheVariants.{Asker as IsAsker};
 
-use crate::known::Known;
 use crate::replica::Replica;
 use crate::replica_rule::{Entry, ReplicaRule};
 use crate::seat_view::SeatView;
 use crate::{Answer, AskError, Told};
 use core::mem::replace_with;
+use cspf_journal::Known;
 use cspf_model::{Outcome, Request};
 use cspf_search::best;
 use left_right::reader::Reader;
@@ -33,7 +33,7 @@ pub struct Asker {
 
 impl Model for Asker {
     ghost use Rattle.left_right.specs.Sides.{view as seen_by};
-    ghost use Rattle.cspf_publish.specs.KnownBatches.{KnownBatches};
+    ghost use Rattle.cspf_journal.specs.KnownBatches.{KnownBatches};
     ghost use Rattle.cspf_publish.specs.ReplicaRule.{KnowsItsEntry};
 
     ghost Value = { KnownBatches };
@@ -99,7 +99,7 @@ impl Asker {
                 version: self.known.version(),
                 outcome,
             }),
-            Err(_) => Err(AskError::Memory),
+            Err(refused) => Err(AskError::from(refused)),
         }
     }
 
@@ -112,6 +112,13 @@ impl Asker {
         ensures one { (self.new ≡ self.old) ⊎ (self.new ≡ told) }
     {
         let _raised = self.known.raise(told.known());
+    }
+
+    /// The known batches: what a journal's crate lets be known of its list.
+    pub fn known(&self) -> &Known
+        ensures { result.now ≡ self.now }
+    {
+        &self.known
     }
 
     /// The version up to which the batches are known.

@@ -2,6 +2,7 @@
 
 ghost use Rattle.std.specs.Prelude.{◌≡◌};
 ghost use Rattle.cspf_publish.specs.declared.errors.OpenError.TheVariants as open_error;
+ghost use Rattle.cspf_publish.specs.declared.errors.AskError.TheVariants as ask_error;
 
 use crate::limits::MOST_ASKERS;
 use cspf_model::{MOST_VERSIONS, Refusal};
@@ -17,28 +18,16 @@ pub enum OpenError {
     /// Out of memory.
     #[error("out of memory")]
     Memory,
-    /// There was no place for a reader.
+    /// There was no place for a reader. It never comes: `open` makes the places itself.
     #[error("no place for a reader")]
     Places,
 }
-
-/// There was no place for a reader.
-#[derive(Clone, Copy, Debug)]
-pub(crate) struct NoPlace;
 
 impl From<AllocError> for OpenError {
     ghost from_gives = { λ _ error. error ≡ open_error.Memory };
 
     fn from(_refused: AllocError) -> OpenError {
         OpenError::Memory
-    }
-}
-
-impl From<NoPlace> for OpenError {
-    ghost from_gives = { λ _ error. error ≡ open_error.Places };
-
-    fn from(_refused: NoPlace) -> OpenError {
-        OpenError::Places
     }
 }
 
@@ -80,4 +69,12 @@ pub enum AskError {
     /// Out of memory. More batches may be known than before.
     #[error("out of memory")]
     Memory,
+}
+
+impl From<AllocError> for AskError {
+    ghost from_gives = { λ _ error. error ≡ ask_error.Memory };
+
+    fn from(_refused: AllocError) -> AskError {
+        AskError::Memory
+    }
 }

@@ -1,17 +1,17 @@
 //! The publisher: it checks each batch, writes its text to the journal, and then shows it to
 //! the askers.
 
-ghost use Rattle.std.specs.Prelude.{◌≡◌, ◌<◌, ◌≤◌, ◌↔◌, ◌++◌, [], ◌∷◌, false, length, All, IfOk, OnOk, IfErr, OnErr, vec_len};
+ghost use Rattle.std.specs.Prelude.{◌≡◌, ◌<◌, ◌≤◌, ◌↔◌, ◌++◌, [], ◌∷◌, true, false, length, take, All, IfOk, OnOk, IfErr, OnErr, vec_len};
 ghost use Rattle.std.specs.Io.KnownBytes.{Appends};
 ghost use Rattle.cspf_publish.specs.Answers.{IsAnswerAfter};
 ghost use Rattle.cspf_publish.specs.ApplyErrors.{IsApplyError, IsNextBatch};
 ghost use Rattle.cspf_rows.specs.BatchText.{batch_text};
-ghost use Rattle.cspf_publish.specs.Histories.{IsHistory};
+ghost use Rattle.cspf_journal.specs.Histories.{IsHistory, MayFollow};
+ghost use Rattle.cspf_journal.specs.KnownBatches.{known_with};
 
-use crate::batch_list::BatchList;
-use crate::journal::JournalWriter;
 use crate::replicas::Replicas;
 use crate::{Answer, ApplyError, Asker, MOST_ASKERS, OpenError, Told};
+use cspf_journal::{JournalWriter, Known, NewJournal, NotRecorded};
 use cspf_model::{Batch, MOST_VERSIONS, Request};
 use cspf_rows::batch_text;
 use std::alloc::{AllocError, Global};
@@ -27,7 +27,7 @@ pub struct Publisher<W> {
 }
 
 impl<W> Model for Publisher<W> {
-    ghost use Rattle.std.specs.Prelude.{◌≡◌, false};
+    ghost use Rattle.std.specs.Prelude.{◌≡◌};
     ghost use Rattle.cspf_publish.specs.PublisherStates.{PublisherState};
 
     ghost Value = { PublisherState W };
@@ -39,9 +39,9 @@ impl<W> Model for Publisher<W> {
       journal = p.journal.writer;
     } };
 
-    // Unless a fault came before, what is recorded is published.
+    // What is recorded is published.
     ghost invariant = { λ p. (p.journal.source ≡ p.replicas.source)
-        × (p.journal.stopped ≡ false → p.journal.batches ≡ p.replicas.batches) };
+        × (p.journal.batches ≡ p.replicas.batches) };
 }
 
 /// A publisher of the empty database, version 0, and 1 to 64 askers. It owns the writer of the
@@ -60,30 +60,82 @@ pub fn open<W: Write, R: Wait>(
     ensures within { OnOk result ((0 < askers) × (askers ≤ MOST_ASKERS)) }
     ensures outside { IfErr result (λ e.
         (e.0 ≡ OpenError.Askers) ↔ ¬ ((0 < askers) × (askers ≤ MOST_ASKERS))) }
+    ensures memory { IfErr result (λ e.
+        0 < askers → askers ≤ MOST_ASKERS → e.0 ≡ OpenError.Memory) }
     ensures journal { IfErr result (λ e. e.1 ≡ journal) }
 {
+    open_over(rt, alloc, NewJournal::new(journal), askers)
+}
+
+/// The same over a new journal. The publisher and its askers are of the journal's source: what they
+/// know is what the journal has recorded.
+pub fn open_over<W: Write, R: Wait>(
+    rt: &R,
+    alloc: Global,
+    journal: NewJournal<W>,
+    askers: usize,
+) -> Result<(Publisher<W>, Vec<Asker>), (OpenError, W)>
+    ensures publisher { IfOk result (λ opened. (opened.0.batches ≡ [])
+        × (opened.0.stopped ≡ false) × (opened.0.journal ≡ journal.writer)) }
+    ensures source { IfOk result (λ opened. opened.0.source ≡ journal.source) }
+    ensures askers { IfOk result (λ opened.
+        All (λ a. (a.batches ≡ []) × (a.source ≡ journal.source)) opened.1.items) }
+    ensures count { IfOk result (λ opened. vec_len opened.1 ≡ askers) }
+    ensures within { OnOk result ((0 < askers) × (askers ≤ MOST_ASKERS)) }
+    ensures outside { IfErr result (λ e.
+        (e.0 ≡ OpenError.Askers) ↔ ¬ ((0 < askers) × (askers ≤ MOST_ASKERS))) }
+    ensures memory { IfErr result (λ e.
+        0 < askers → askers ≤ MOST_ASKERS → e.0 ≡ OpenError.Memory) }
+    ensures journal { IfErr result (λ e. e.1 ≡ journal.writer) }
+{
+    let (journal, right) = journal.start();
     if askers == 0 || askers > MOST_ASKERS {
-        return Err((OpenError::Askers, journal));
+        return Err((OpenError::Askers, journal.into_writer()));
     }
     let room = match Vec::with_capacity(alloc, askers) {
         Ok(room) => room,
-        Err(refused) => return Err((OpenError::from(refused), journal)),
+        Err(refused) => return Err((OpenError::from(refused), journal.into_writer())),
     };
-    let list = BatchList::new();
-    let mut replicas = match Replicas::new(rt, alloc, list.known(), askers) {
+    let mut replicas = match Replicas::new(rt, alloc, right, askers) {
         Ok(replicas) => replicas,
-        Err(refused) => return Err((OpenError::from(refused), journal)),
+        Err(refused) => return Err((OpenError::from(refused), journal.into_writer())),
     };
-    match replicas.askers(room, askers) {
-        Ok(all) => {
-            let journal = JournalWriter::new(journal, list);
-            Ok((Publisher { replicas, journal }, all))
-        }
-        Err(refused) => {
-            replicas.close(rt);
-            Err((OpenError::from(refused), journal))
+    let all = replicas.askers(rt, room, askers);
+    Ok((Publisher { replicas, journal }, all))
+}
+
+// Records a batch. The error is how many bytes of its text were written. Nothing but the publisher
+// takes a step on the journal's list, so the first turn of the loop is the last one.
+fn record<W: Write, R: Wait>(
+    journal: &mut JournalWriter<W>,
+    rt: &R,
+    batch: &Batch,
+    text: &[u8],
+) -> Result<Known, usize>
+    requires going { journal.old.stopped ≡ false }
+    requires next { MayFollow journal.old.batches batch.now }
+    requires text { text.now ≡ batch_text batch.now }
+    ensures source { journal.new.source ≡ journal.old.source }
+    ensures going { OnOk result (journal.new.stopped ≡ false) }
+    ensures list { OnOk result (journal.new.batches ≡ journal.old.batches ++ batch.now ∷ []) }
+    ensures known { IfOk result (λ known.
+        known ≡ known_with journal.old.batches journal.old.source batch.now) }
+    ensures written { OnOk result (Appends
+        (W.contents journal.old.writer) (W.contents journal.new.writer) (batch_text batch.now)) }
+    ensures same { OnErr result (journal.new.batches ≡ journal.old.batches) }
+    ensures stopped { OnErr result (journal.new.stopped ≡ true) }
+    ensures cut { IfErr result (λ written. (written < length (batch_text batch.now)) × Appends
+        (W.contents journal.old.writer) (W.contents journal.new.writer)
+        (take written (batch_text batch.now))) }
+{
+    for _ in rt.forever() {
+        match journal.record(batch, text) {
+            Ok(known) => return Ok(known),
+            Err(NotRecorded::Writer { written }) => return Err(written),
+            Err(NotRecorded::Lost) => (),
         }
     }
+    unreachable!()
 }
 
 impl<W: Write> Publisher<W> {
@@ -163,7 +215,7 @@ impl<W: Write> Publisher<W> {
         let Ok(copy) = batch.copy(alloc) else {
             return Err(ApplyError::Memory);
         };
-        match self.journal.record(rt, batch, text.as_slice()) {
+        match record(&mut self.journal, rt, batch, text.as_slice()) {
             Ok(recorded) => Ok(self.replicas.publish(rt, copy, recorded)),
             Err(written) => Err(ApplyError::Journal { written }),
         }

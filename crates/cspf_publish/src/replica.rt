@@ -2,8 +2,8 @@
 ghost use Rattle.std.specs.Prelude.{◌≡◌};
 ghost use Rattle.cspf_publish.specs.BatchAbsorption.{database_with};
 
-use crate::known::Known;
 use cspf_db::Table;
+use cspf_journal::Known;
 use cspf_model::Batch;
 use left_right::Absorb;
 use std::alloc::AllocError;

@@ -5,20 +5,21 @@ ghost use Rattle.cspf_model.specs.Numbered.{NumberedChanges};
 ghost use Rattle.cspf_model.specs.Changes.{no_links, database_after, Fits};
 ghost use Rattle.cspf_model.specs.Refusals.{IsRefusal};
 ghost use Rattle.cspf_publish.specs.Answers.{IsBestAfter};
-ghost use Rattle.cspf_publish.specs.Histories.{IsHistory, MayFollow};
-ghost use Rattle.cspf_publish.specs.Operations.{known_with, idle_batch};
+ghost use Rattle.cspf_journal.specs.Histories.{IsHistory, MayFollow};
+ghost use Rattle.cspf_journal.specs.KnownBatches.{known_with};
+ghost use Rattle.cspf_publish.specs.Operations.{idle_batch};
 ghost use Rattle.cspf_publish.specs.ReplicaStates.{published_state};
 ghost use Rattle.cspf_publish.specs.declared.limits.TheConstants.{MOST_ASKERS};
-ghost use Rattle.cspf_publish.specs.declared.seat_view.SeatView.TheVariants.{Publisher as IsPublisher};
+ghost use Rattle.cspf_publish.specs.declared.seat_view.SeatView.TheVariants.{New as IsNew, Publisher as IsPublisher};
 
-use crate::errors::NoPlace;
-use crate::known::Known;
+use crate::asker::ReplicaReader;
 use crate::replica::{PendingBatch, Replica};
 use crate::replica_rule::{FirstNote, Opening, ReplicaRule, Swap};
 use crate::seat_view::SeatView;
 use crate::{Asker, Told};
 use core::mem::replace_with;
 use cspf_db::Table;
+use cspf_journal::{Known, RightToShow};
 use cspf_model::{Batch, Outcome, Refusal, Request, absorbing, lawful_batches};
 use cspf_search::best;
 use left_right::writer::Writer;
@@ -28,15 +29,17 @@ use std::sync::Wait;
 
 type ReplicaWriter = Writer<Replica, PendingBatch, SeatView, ReplicaRule>;
 
-/// It is not `Drop`: end it by `close`.
+/// A pair of replicas. It holds the one right to show its source's batches, so a source has one
+/// pair. It is not `Drop`: end it by `close`.
 pub(crate) struct Replicas {
     writer: ReplicaWriter,
+    right: RightToShow,
 }
 
 impl Model for Replicas {
     ghost use Rattle.std.specs.Prelude.{◌≡◌, [], drop};
     ghost use Rattle.left_right.specs.Sides.{view as seen_by};
-    ghost use Rattle.cspf_publish.specs.KnownBatches.{KnownBatches};
+    ghost use Rattle.cspf_journal.specs.KnownBatches.{KnownBatches};
     ghost use Rattle.cspf_publish.specs.ReplicaStates.{published_state};
     ghost use Rattle.cspf_publish.specs.declared.seat_view.SeatView.TheVariants.{Publisher};
 
@@ -47,7 +50,8 @@ impl Model for Replicas {
     ghost invariant = { λ r. (r.writer.desk.shown.value
         ≡ published_state r.writer.desk.shown.value.known)
         × (seen_by r.writer.desk.place ≡ Publisher r.writer.desk.shown.value.known)
-        × (drop r.writer.behind r.writer.log.items ≡ []) };
+        × (drop r.writer.behind r.writer.log.items ≡ [])
+        × (r.right.source ≡ r.writer.desk.shown.value.known.source) };
 }
 
 // The first step, which changes no table. From now on the writer's seat knows the published
@@ -142,19 +146,34 @@ fn append<R: Wait>(writer: &mut ReplicaWriter, rt: &R, operation: PendingBatch)
     unreachable!()
 }
 
+// A new reader. The replicas were made with a place for each, so the first turn of the loop is the
+// last one.
+fn new_reader<R: Wait>(writer: &ReplicaWriter, rt: &R) -> ReplicaReader
+    ensures view { view result.place ≡ IsNew }
+    ensures table { result.place.table_id ≡ writer.now.desk.place.table_id }
+{
+    for _ in rt.forever() {
+        if let Ok(reader) = writer.factory().reader() {
+            return reader;
+        }
+    }
+    unreachable!()
+}
+
 impl Replicas {
     /// Two empty replicas. The writer's log grows only here. Later it never has more than two
     /// operations.
     pub(crate) fn new<R: Wait>(
         rt: &R,
         alloc: Global,
-        known: Known,
+        right: RightToShow,
         readers: usize,
     ) -> Result<Replicas, AllocError>
-        requires none { known.batches ≡ [] }
+        requires none { right.batches ≡ [] }
         requires readers { (0 < readers) × (readers ≤ MOST_ASKERS) }
-        ensures { IfOk result (λ r. r ≡ known) }
+        ensures { IfOk result (λ r. r ≡ right) }
     {
+        let known = right.known();
         let first = empty_replica(alloc, &known)?;
         let second = empty_replica(alloc, &known)?;
         let mut writer: ReplicaWriter = Writer::new(alloc, first, second, readers)?;
@@ -168,33 +187,31 @@ impl Replicas {
         };
         Ok(Replicas {
             writer: open_writer(writer, rt),
+            right,
         })
     }
 
     /// Makes `count` askers, with `room` as their memory. They know the published batches.
-    pub(crate) fn askers(&mut self, room: Vec<Asker>, count: usize) -> Result<Vec<Asker>, NoPlace>
+    pub(crate) fn askers<R: Wait>(&mut self, rt: &R, room: Vec<Asker>, count: usize) -> Vec<Asker>
         requires { (room.items ≡ []) × (count ≤ vec_capacity room) }
         ensures same { self.new ≡ self.old }
-        ensures count { IfOk result (λ all. vec_len all ≡ count) }
-        ensures each { IfOk result (λ all. All (λ a. a ≡ self.old) all.items) }
+        ensures count { vec_len result ≡ count }
+        ensures each { All (λ a. a ≡ self.old) result.items }
     {
         let mut all = room;
         for _ in 0..count {
-            let Ok(asker) = self.asker() else {
-                return Err(NoPlace);
-            };
-            all.push_reserved(asker);
+            all.push_reserved(self.asker(rt));
         }
-        Ok(all)
+        all
     }
 
-    fn asker(&mut self) -> Result<Asker, AllocError>
+    fn asker<R: Wait>(&mut self, rt: &R) -> Asker
         ensures same { self.new ≡ self.old }
-        ensures ok { IfOk result (λ a. a ≡ self.old) }
+        ensures asker { result ≡ self.old }
     {
-        let mut reader = self.writer.factory().reader()?;
+        let mut reader = new_reader(&self.writer, rt);
         reader.learn::<FirstNote>(self.writer.tell::<FirstNote>());
-        Ok(Asker::new(reader, self.known()))
+        Asker::new(reader, self.known())
     }
 
     // The batches that are published.
@@ -254,7 +271,10 @@ impl Replicas {
     pub(crate) fn close<R: Wait>(self, rt: &R) -> Known
         ensures { result ≡ self }
     {
-        let Replicas { writer } = self;
+        let Replicas {
+            writer,
+            right: _right,
+        } = self;
         let shown = writer.take(rt);
         shown.known.copy()
     }

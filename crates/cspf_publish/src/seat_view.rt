@@ -1,5 +1,5 @@
 //! The view that the rule of the replicas has of each seat.
-use crate::known::Known;
+use cspf_journal::Known;
 
 /// The view of a seat. No value of this type is made at run time.
 pub enum SeatView {

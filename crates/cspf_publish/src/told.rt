@@ -1,7 +1,7 @@
 ghost use Rattle.std.specs.Prelude.{◌≡◌, length};
-ghost use Rattle.cspf_publish.specs.Histories.{IsHistory};
+ghost use Rattle.cspf_journal.specs.Histories.{IsHistory};
 
-use crate::known::Known;
+use cspf_journal::Known;
 use std::marker::Model;
 
 /// A token of the batches that a publisher had published.
@@ -11,7 +11,7 @@ pub struct Told {
 }
 
 impl Model for Told {
-    ghost use Rattle.cspf_publish.specs.KnownBatches.{KnownBatches};
+    ghost use Rattle.cspf_journal.specs.KnownBatches.{KnownBatches};
 
     ghost Value = { KnownBatches };
 
@@ -25,7 +25,8 @@ impl Told {
         Told { known }
     }
 
-    pub(crate) fn known(&self) -> &Known
+    /// The batches of the token: what a journal's crate lets be known of its list.
+    pub fn known(&self) -> &Known
         ensures { result.now ≡ self.now }
     {
         &self.known

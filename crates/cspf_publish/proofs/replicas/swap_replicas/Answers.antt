@@ -1,5 +1,5 @@
 use Rattle.std.proofs.Common.{◌≡◌, ◌∙◌, sym, ap, fold, drop, subst, rules}
-use Rattle.cspf_publish.specs.Operations.{known_with}
+use Rattle.cspf_journal.specs.KnownBatches.{known_with}
 use Rattle.cspf_publish.specs.ReplicaStates.{ReplicaState, state_with}
 use Rattle.cspf_publish.specs.ReplicaRule.{HasItsDatabase}
 use Rattle.cspf_publish.specs.declared.replica.PendingBatch.{PendingBatch}

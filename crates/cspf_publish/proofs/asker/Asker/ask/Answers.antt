@@ -2,7 +2,7 @@ use Rattle.std.proofs.Common.{IfOk, refl, subst, sym}
 use Rattle.cspf_model.specs.Changes.{database_after}
 use Rattle.cspf_model.specs.Best.{IsBestAnswer}
 use Rattle.cspf_model.specs.Outcome.{answer_of}
-use Rattle.cspf_publish.specs.KnownBatches.{KnownBatches}
+use Rattle.cspf_journal.specs.KnownBatches.{KnownBatches}
 use Rattle.cspf_publish.proofs.asker.Asker.ask.Goals as goal
 
 pub returns-in-Ok-clause-answer : goal.returns-in-Ok-clause-answer

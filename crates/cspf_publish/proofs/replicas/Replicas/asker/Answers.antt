@@ -1,15 +1,12 @@
 use Rattle.std.proofs.Common.{rules}
-use Rattle.cspf_publish.proofs.Steps.{admits, forks, merges, AreFirstOf-self}
+use Rattle.cspf_publish.proofs.Steps.{forks, merges, AreFirstOf-self}
 use Rattle.cspf_publish.proofs.replicas.Replicas.asker.Goals as goal
 
-pub reader-requires : goal.reader-requires
-reader-requires c = admits
-
 pub tell-requires : goal.tell-requires
-tell-requires c = forks _ _
+tell-requires g c = forks _ _
 
 pub learn-requires-clause-rule : goal.learn-requires-clause-rule
-learn-requires-clause-rule c = merges _ _ _ _
+learn-requires-clause-rule g c = merges _ _ _ _
 
 pub new-requires : goal.new-requires
-new-requires c = record { entered = c.known.result; seat = search rules; first = AreFirstOf-self c.known.result }
+new-requires g c = record { entered = c.known.result; seat = search rules; first = AreFirstOf-self c.known.result }

@@ -3,7 +3,7 @@ use Rattle.cspf_publish.proofs.replicas.Replicas.askers.Given as goal
 
 -- as many askers are made as are counted, and nothing else changed
 abbrev pub invariant-loop : goal.invariant-loop
-invariant-loop l = record {
+invariant-loop g l = record {
   same : l.self ≡ l.fn.self;
   count : vec_len l.all ≡ l.counter;
   room : l.count ≤ vec_capacity l.all;

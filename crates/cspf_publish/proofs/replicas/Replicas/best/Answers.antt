@@ -3,7 +3,7 @@ use Rattle.cspf_model.specs.Database.{Database}
 use Rattle.cspf_model.specs.Changes.{database_after}
 use Rattle.cspf_model.specs.Best.{IsBestAnswer}
 use Rattle.cspf_model.specs.Outcome.{answer_of}
-use Rattle.cspf_publish.specs.KnownBatches.{KnownBatches}
+use Rattle.cspf_journal.specs.KnownBatches.{KnownBatches}
 use Rattle.cspf_publish.specs.ReplicaStates.{ReplicaState}
 use Rattle.cspf_publish.proofs.replicas.Replicas.best.Goals as goal
 

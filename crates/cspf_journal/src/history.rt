@@ -8,7 +8,7 @@ pub struct History;
 impl Rule<Batch, u64> for History {
     ghost use Rattle.std.specs.Prelude.{[]};
     ghost use base.Fml.{ftrue};
-    ghost use Rattle.cspf_publish.specs.HistoryRule.{IsKeptHistory};
+    ghost use Rattle.cspf_journal.specs.HistoryRule.{IsKeptHistory};
 
     ghost holds = { λ cells log. IsKeptHistory cells log };
 
@@ -36,7 +36,7 @@ impl Gain<Batch, u64> for NoGain {
 pub struct AddBatch;
 
 impl Play<Batch, u64> for AddBatch {
-    ghost use Rattle.cspf_publish.specs.HistoryRule.{Adds};
+    ghost use Rattle.cspf_journal.specs.HistoryRule.{Adds};
 
     ghost then = { Adds };
 }

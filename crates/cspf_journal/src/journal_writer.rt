@@ -1,28 +1,30 @@
-//! The journal, and the list of the batches that are recorded in it.
-ghost use Rattle.std.specs.Prelude.{◌≡◌, ◌++◌, ◌∷◌, [], ◌<◌, true, false, length, take, IfOk, OnOk, IfErr, OnErr};
+//! A journal: the writer of the texts, and the list of the batches that are recorded.
+ghost use Rattle.std.specs.Prelude.{◌≡◌, ◌++◌, ◌∷◌, [], false, length, IfOk, OnOk, IfErr, OnErr};
 ghost use Rattle.std.specs.Io.KnownBytes.{Appends};
 ghost use Rattle.cspf_rows.specs.BatchText.{batch_text};
-ghost use Rattle.cspf_publish.specs.Histories.{MayFollow};
-ghost use Rattle.cspf_publish.specs.Operations.{known_with};
+ghost use Rattle.cspf_journal.specs.Histories.{IsHistory, MayFollow};
+ghost use Rattle.cspf_journal.specs.JournalStates.{IsNotRecorded};
+ghost use Rattle.cspf_journal.specs.KnownBatches.{known_with};
 
 use crate::batch_list::BatchList;
 use crate::known::Known;
+use crate::not_recorded::NotRecorded;
 use cspf_model::Batch;
 use cspf_rows::put_all;
 use std::io::Write;
 use std::marker::Model;
-use std::sync::Wait;
 
-/// A writer, and the list of the batches whose texts it has. Only `record` makes knowledge of a
+/// A writer, and the list of the batches whose texts it has. Only `record` gives knowledge of a
 /// longer list, so no batch can be shown that isn't recorded.
-pub(crate) struct JournalWriter<W> {
+#[derive(Drop)]
+pub struct JournalWriter<W> {
     writer: W,
     list: BatchList,
     stopped: bool,
 }
 
 impl<W> Model for JournalWriter<W> {
-    ghost use Rattle.cspf_publish.specs.PublisherStates.{JournalState};
+    ghost use Rattle.cspf_journal.specs.JournalStates.{JournalState};
 
     ghost Value = { JournalState W };
 
@@ -52,14 +54,14 @@ impl<W> JournalWriter<W> {
     }
 
     /// Whether the writer failed.
-    pub(crate) fn is_stopped(&self) -> bool
+    pub fn is_stopped(&self) -> bool
         ensures { result ≡ self.now.stopped }
     {
         self.stopped
     }
 
     /// The writer, as the last call left it.
-    pub(crate) fn into_writer(self) -> W
+    pub fn into_writer(self) -> W
         ensures { result ≡ self.writer }
     {
         let JournalWriter {
@@ -72,15 +74,10 @@ impl<W> JournalWriter<W> {
 }
 
 impl<W: Write> JournalWriter<W> {
-    /// Adds a batch to the list, and writes its text whole. Only then are the batches up to it
-    /// known. The error is how many bytes of the text were written; the journal is then stopped. It
-    /// takes no memory.
-    pub(crate) fn record<R: Wait>(
-        &mut self,
-        rt: &R,
-        batch: &Batch,
-        text: &[u8],
-    ) -> Result<Known, usize>
+    /// Records a batch. A step on the list comes first. If it is lost, nothing is written. Else the
+    /// batch's text is written whole, and then the batches up to it are known. It takes no memory
+    /// and always returns.
+    pub fn record(&mut self, batch: &Batch, text: &[u8]) -> Result<Known, NotRecorded>
         requires going { self.old.stopped ≡ false }
         requires next { MayFollow self.old.batches batch.now }
         requires text { text.now ≡ batch_text batch.now }
@@ -91,16 +88,17 @@ impl<W: Write> JournalWriter<W> {
             known ≡ known_with self.old.batches self.old.source batch.now) }
         ensures written { OnOk result (Appends
             (W.contents self.old.writer) (W.contents self.new.writer) (batch_text batch.now)) }
-        ensures stopped { OnErr result (self.new.stopped ≡ true) }
-        ensures cut { IfErr result (λ written. (written < length (batch_text batch.now)) × Appends
-            (W.contents self.old.writer) (W.contents self.new.writer)
-            (take written (batch_text batch.now))) }
+        ensures same { OnErr result (self.new.batches ≡ self.old.batches) }
+        ensures why { IfErr result (IsNotRecorded W.contents self.old self.new batch.now) }
     {
-        self.list.extend(rt, batch);
+        let Some(longer) = self.list.add(batch) else {
+            return Err(NotRecorded::Lost);
+        };
         if let Err(written) = put_all(&mut self.writer, text) {
             self.stopped = true;
-            return Err(written);
+            return Err(NotRecorded::Writer { written });
         }
-        Ok(self.list.known())
+        self.list.keep(&longer);
+        Ok(longer)
     }
 }

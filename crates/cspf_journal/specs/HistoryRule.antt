@@ -2,7 +2,7 @@
 use Rattle.std.specs.Prelude.{ℕ, ◌≡◌, ◌==◌, true, List, [], ◌∷◌, ◌++◌, length, MatchBool}
 use Rattle.logbook.specs.Pages.{Cell, Step, View, Book, Named}
 use Rattle.cspf_model.specs.Numbered.{NumberedChanges}
-use Rattle.cspf_publish.specs.Histories.{IsHistory}
+use Rattle.cspf_journal.specs.Histories.{IsHistory}
 
 -- The first word is the length of the list, which is a history. A book has two words, and the second
 -- stays 0.

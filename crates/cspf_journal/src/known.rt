@@ -1,13 +1,13 @@
-//! The known prefix of the list of all batches.
+//! The known prefix of the list of all batches of a journal.
 ghost use Rattle.std.specs.Prelude.{◌≡◌, ◌<◌, length, MatchBool};
-ghost use Rattle.cspf_publish.specs.Histories.{BeginsWith, IsHistory};
+ghost use Rattle.cspf_journal.specs.Histories.{BeginsWith, IsHistory};
 
 use crate::history::History;
 use cspf_model::Batch;
 use logbook::Seen;
 use std::marker::Model;
 
-/// A prefix of a publisher's list of batches. The code keeps its length alone.
+/// A prefix of a journal's list of batches. The code keeps its length alone.
 #[derive(Drop)]
 pub struct Known {
     version: u32,
@@ -16,8 +16,8 @@ pub struct Known {
 
 impl Model for Known {
     ghost use Rattle.std.specs.Prelude.{◌≡◌, length};
-    ghost use Rattle.cspf_publish.specs.Histories.{IsHistory};
-    ghost use Rattle.cspf_publish.specs.KnownBatches.{KnownBatches};
+    ghost use Rattle.cspf_journal.specs.Histories.{IsHistory};
+    ghost use Rattle.cspf_journal.specs.KnownBatches.{KnownBatches};
 
     ghost Value = { KnownBatches };
 
@@ -43,7 +43,7 @@ impl Known {
     }
 
     /// How many batches are known.
-    pub(crate) fn version(&self) -> u32
+    pub fn version(&self) -> u32
         ensures version { result ≡ length self.now.batches }
         ensures history { IsHistory self.now.batches }
     {
@@ -51,7 +51,7 @@ impl Known {
     }
 
     /// A copy.
-    pub(crate) fn copy(&self) -> Known
+    pub fn copy(&self) -> Known
         ensures { result ≡ self.now }
     {
         Known {
@@ -62,7 +62,7 @@ impl Known {
 
     /// Knows the other's batches from now on, if they are no fewer. Returns whether they are. The
     /// shorter list is a prefix of the longer.
-    pub(crate) fn raise(&mut self, other: &Known) -> bool
+    pub fn raise(&mut self, other: &Known) -> bool
         requires { other.now.source ≡ self.old.source }
         ensures { MatchBool result
             ((self.new ≡ other.now) × BeginsWith other.now.batches self.old.batches)

@@ -1,5 +1,5 @@
 -- Lists of batches that one publisher may have published.
-use Rattle.std.specs.Prelude.{◌≡◌, ℕ, suc, ◌+◌, ◌<◌, ◌≤◌, List, [], ◌∷◌, ◌++◌, length}
+use Rattle.std.specs.Prelude.{◌≡◌, ◌+◌, ◌<◌, ◌≤◌, List, ◌++◌, length}
 use Rattle.cspf_model.specs.Numbered.{NumberedChanges, AreNumberedFrom}
 use Rattle.cspf_model.specs.Changes.{database_after, Fits, AreLawful}
 use Rattle.cspf_model.specs.declared.limits.TheConstants.{MOST_VERSIONS}

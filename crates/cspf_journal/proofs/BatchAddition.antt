@@ -7,9 +7,9 @@ use prog.Atomic.{either}
 use Rattle.logbook.specs.Pages.{Cell, cell, keeps, no_nib, step, Moves, Goes}
 use Rattle.cspf_model.specs.Numbered.{NumberedChanges}
 use Rattle.cspf_model.specs.Laws.{LawfulByOneMore}
-use Rattle.cspf_publish.specs.Histories.{IsHistory, MayFollow}
-use Rattle.cspf_publish.specs.HistoryRule.{IsKeptHistory, Adds}
-use Rattle.cspf_publish.proofs.Prefixes.{begins, all_of, IsHistory-snoc}
+use Rattle.cspf_journal.specs.Histories.{IsHistory, MayFollow}
+use Rattle.cspf_journal.specs.HistoryRule.{IsKeptHistory, Adds}
+use Rattle.cspf_journal.proofs.Prefixes.{begins, all_of, IsHistory-snoc}
 
 -- what clients see of the list: nothing
 abbrev pub shown : List NumberedChanges → List NumberedChanges

@@ -1,9 +1,9 @@
 use Rattle.std.proofs.Common.{ap, subst, arith, refl, length, List, ◌<◌, ◌≤◌, ◌∙◌}
 use mathlib.Core.List.{IsPrefix}
 use Rattle.cspf_model.specs.Numbered.{NumberedChanges}
-use Rattle.cspf_publish.specs.Histories.{BeginsWith}
-use Rattle.cspf_publish.proofs.Prefixes.{begins, shorter}
-use Rattle.cspf_publish.proofs.known.Known.raise.Goals as goal
+use Rattle.cspf_journal.specs.Histories.{BeginsWith}
+use Rattle.cspf_journal.proofs.Prefixes.{begins, shorter}
+use Rattle.cspf_journal.proofs.known.Known.raise.Goals as goal
 
 pub returns-then-other-self : goal.returns-then-other-self
 returns-then-other-self c =

@@ -1,8 +1,8 @@
--- The batches that a publisher, an asker or a `Told` token knows.
-use Rattle.std.specs.Prelude.{◌≡◌, List}
+-- What is known of a journal's list: by a publisher, an asker or a `Told` token.
+use Rattle.std.specs.Prelude.{◌≡◌, List, [], ◌∷◌, ◌++◌}
 use Rattle.logbook.specs.Pages.{Book}
 use Rattle.cspf_model.specs.Numbered.{NumberedChanges}
-use Rattle.cspf_publish.specs.Histories.{BeginsWith}
+use Rattle.cspf_journal.specs.Histories.{BeginsWith}
 
 -- a prefix of a publisher's list of batches, and which publisher's
 pub record KnownBatches : Type 0 where
@@ -13,3 +13,7 @@ pub record KnownBatches : Type 0 where
 pub record AreFirstOf (all first : KnownBatches) : Type 0 where
   pub source : first.source ≡ all.source
   pub begins : BeginsWith all.batches first.batches
+
+-- the batches with one more
+abbrev pub known_with : List NumberedChanges → Book → NumberedChanges → KnownBatches
+known_with batches source b = record { batches = batches ++ b ∷ []; source = source }

@@ -1,10 +1,10 @@
 -- Prefixes of one list of batches.
-use Rattle.std.proofs.Common.{◌≡◌, ℕ, suc, ◌+◌, ◌≤◌, List, [], ◌∷◌, ◌++◌, length, refl, sym, ap, ◌∙◌, arith, append_assoc, length-append}
+use Rattle.std.proofs.Common.{◌≡◌, ℕ, ◌+◌, ◌≤◌, List, [], ◌∷◌, ◌++◌, length, refl, sym, ap, ◌∙◌, arith, append_assoc, length-append}
 use Rattle.std.proofs.lemmas.List.{append-nil}
 use mathlib.Core.List.{IsPrefix}
 use Rattle.cspf_model.specs.Numbered.{NumberedChanges, AreNumberedFrom}
 use Rattle.cspf_model.specs.Laws.{LawfulByOneMore}
-use Rattle.cspf_publish.specs.Histories.{BeginsWith, IsHistory, MayFollow}
+use Rattle.cspf_journal.specs.Histories.{BeginsWith, IsHistory, MayFollow}
 
 -- a prefix, as a book has it
 pub begins : (first all : List NumberedChanges) → IsPrefix first all → BeginsWith all first

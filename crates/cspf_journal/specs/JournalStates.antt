@@ -1,0 +1,29 @@
+-- The values of journals in clauses, and what is known where a batch isn't recorded.
+use Rattle.std.specs.Prelude.{◌≡◌, ℕ, ◌<◌, Bool, true, List, length, take, Option}
+use Rattle.std.specs.Io.KnownBytes.{Appends}
+use Rattle.logbook.specs.Pages.{Book}
+use Rattle.cspf_model.specs.Numbered.{NumberedChanges}
+use Rattle.cspf_rows.specs.BatchText.{batch_text}
+use Rattle.cspf_journal.specs.declared.not_recorded.NotRecorded.{NotRecorded}
+use Rattle.cspf_journal.specs.declared.not_recorded.NotRecorded.TheVariants.{Lost, Writer}
+
+-- A journal to which no batch was added: whose list it has, and its writer.
+pub record NewJournalState (W : Type 0) : Type 0 where
+  pub source : Book
+  pub writer : W
+
+-- The batches whose texts the writer has whole, whose list they are of, whether the writer failed in the
+-- text of a later one, and the writer.
+pub record JournalState (W : Type 0) : Type 0 where
+  pub batches : List NumberedChanges
+  pub source : Book
+  pub stopped : Bool
+  pub writer : W
+
+-- Why a batch isn't recorded, and the journal then. If the step on the list is lost, nothing changed. If the
+-- writer failed, it has a strict prefix of the batch's text, and the journal is stopped for good.
+abbrev pub IsNotRecorded : {W : Type 0} → (W → Option (List ℕ)) → JournalState W → JournalState W → NumberedChanges → NotRecorded → Type 0
+IsNotRecorded contents j j' b Lost = j' ≡ j
+IsNotRecorded contents j j' b (Writer written) =
+    (j'.stopped ≡ true) × (written < length (batch_text b))
+    × Appends (contents j.writer) (contents j'.writer) (take written (batch_text b))

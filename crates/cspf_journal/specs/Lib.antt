@@ -1,0 +1,4 @@
+pub mod Histories
+pub mod KnownBatches
+pub mod HistoryRule
+pub mod JournalStates

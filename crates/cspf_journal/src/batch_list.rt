@@ -1,0 +1,86 @@
+//! The list of all batches of a journal. Only its owner can add to it.
+ghost use Rattle.std.specs.Prelude.{◌≡◌, [], IfSome};
+ghost use Rattle.cspf_journal.specs.Histories.{MayFollow};
+ghost use Rattle.cspf_journal.specs.HistoryRule.{length_word};
+ghost use Rattle.cspf_journal.specs.KnownBatches.{known_with};
+
+use crate::history::{AddBatch, History, NoGain};
+use crate::known::Known;
+use cspf_model::{Batch, lawful_batches};
+use logbook::{Offer, Seen, Start, Word};
+use std::marker::Model;
+
+/// The word that the journal moves: the length of the list.
+type LengthWord = Word<Batch, u64, History>;
+
+/// The batches of a list that are kept. Batches are added only through this value.
+#[derive(Drop)]
+pub(crate) struct BatchList {
+    word: LengthWord,
+    kept: Known,
+}
+
+impl Model for BatchList {
+    ghost use Rattle.std.specs.Prelude.{◌≡◌};
+    ghost use Rattle.cspf_journal.specs.HistoryRule.{length_word};
+    ghost use Rattle.cspf_journal.specs.KnownBatches.{KnownBatches};
+
+    ghost Value = { KnownBatches };
+
+    ghost view = { λ l. l.kept };
+
+    ghost invariant = { λ l. l.word ≡ length_word l.kept.source };
+}
+
+impl BatchList {
+    /// A new list, with no batch.
+    pub(crate) fn new() -> BatchList
+        ensures { result.batches ≡ [] }
+    {
+        let (seen, mut first, _second) = Seen::open(Start::alone(), 0, 0);
+        let word = Word::tracked(0, &mut first);
+        BatchList {
+            word,
+            kept: Known::new(0, seen),
+        }
+    }
+
+    /// The batches that are kept.
+    pub(crate) fn known(&self) -> Known
+        ensures { result ≡ self.now }
+    {
+        self.kept.copy()
+    }
+
+    /// Adds a batch, by one step. The result knows the longer list; it isn't kept yet. None if the
+    /// list has more batches than are kept: then the step is lost.
+    pub(crate) fn add(&self, batch: &Batch) -> Option<Known>
+        requires { MayFollow self.now.batches batch.now }
+        ensures { IfSome result (λ longer.
+            longer ≡ known_with self.now.batches self.now.source batch.now) }
+    {
+        // A law: one more batch that fits keeps the list lawful.
+        lawful_batches();
+        let mut seen = self.kept.seen();
+        let mut offer: Offer<Batch, u64, History, NoGain> = seen.plain::<NoGain, Batch, AddBatch>(
+            batch,
+        );
+        let mut pen = seen.no_pen();
+        let old = self.kept.version() as u64;
+        let found = self
+            .word
+            .compare_exchange::<AddBatch, NoGain>(old, old + 1, &mut seen, &mut offer, &mut pen);
+        if found != old {
+            return None;
+        }
+        Some(Known::new(batch.number, seen))
+    }
+
+    /// Keeps the batches of a longer list.
+    pub(crate) fn keep(&mut self, longer: &Known)
+        requires { longer.now.source ≡ self.old.source }
+        ensures { self.new ≡ longer.now }
+    {
+        self.kept = longer.copy();
+    }
+}
