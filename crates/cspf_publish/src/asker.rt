@@ -114,7 +114,7 @@ impl Asker {
         let _raised = self.known.raise(told.known());
     }
 
-    /// The known batches: what a journal's crate lets be known of its list.
+    /// What the asker knows of the list: batches that the journal has recorded.
     pub fn known(&self) -> &Known
         ensures { result.now ≡ self.now }
     {

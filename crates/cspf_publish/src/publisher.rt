@@ -67,8 +67,8 @@ pub fn open<W: Write, R: Wait>(
     open_over(rt, alloc, NewJournal::new(journal), askers)
 }
 
-/// The same over a new journal. The publisher and its askers are of the journal's source: what they
-/// know is what the journal has recorded.
+/// The same as `open`, over a new journal. The publisher and its askers are of the journal's source,
+/// so the journal has recorded the batches that they know.
 pub fn open_over<W: Write, R: Wait>(
     rt: &R,
     alloc: Global,

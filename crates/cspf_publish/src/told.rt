@@ -25,7 +25,7 @@ impl Told {
         Told { known }
     }
 
-    /// The batches of the token: what a journal's crate lets be known of its list.
+    /// What the token knows of the list: batches that the journal has recorded.
     pub fn known(&self) -> &Known
         ensures { result.now ≡ self.now }
     {
