@@ -159,6 +159,7 @@ class Closure:
             self.item(found)
             return
         home = f"{crate} {module}"
+        # (a crate may pass on the definitions of a lower one)
         found = self.tree.definition(where) or self.variant(home, name)
         if found is None:
             self.lost.append(f"{name or path}, which {by.name} cites from {path}")
