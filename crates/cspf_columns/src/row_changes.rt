@@ -69,7 +69,7 @@ pub fn count_removed(changes: &[Change]) -> usize
 }
 
 /// How many rows may be put between others or taken out one by one, as each moves those after it.
-const FEW: usize = 24;
+const FEW: usize = 16;
 
 /// Whether changes, `added` of which add a link, put few rows between others and take few out.
 fn move_few(added: usize, changes: &[Change]) -> bool
