@@ -1,11 +1,12 @@
 //! Strict hops, with links to them and without.
-use super::{FOUR, ONE, Row, THREE, TWO, by_hops, is_route, table};
-use cspf_model::Outcome;
+
+use super::Wanted::{NoRoute, Route};
+use super::{Case, FOUR, ONE, Row, THREE, TWO, assert_networks};
 use std::test::Fail;
 
 // From ONE to FOUR by TWO at a cost of 2, and by THREE at one of 4. The link from TWO to THREE and its
 // reverse have no unreserved bandwidth.
-const ROWS: [Row; 5] = [
+const ROWS: &[Row] = &[
     (ONE, 0x0a00_0c01, TWO, 0x0a00_0c02, 1, 1000),
     (TWO, 0x0a00_1802, FOUR, 0x0a00_1804, 1, 1000),
     (ONE, 0x0a00_0d01, THREE, 0x0a00_0d03, 2, 1000),
@@ -17,45 +18,50 @@ const BY_TWO: &[u32] = &[0x0a00_0c02, 0x0a00_1804];
 
 const BY_THREE: &[u32] = &[0x0a00_0d03, 0x0a00_2204];
 
-#[test]
-fn strict_hops_with_links_to_them(rt: HostRuntime) -> Result<(), Fail> {
-    let alloc = rt.alloc();
-    let table = table(alloc, &ROWS)?;
-    let cases: [(&[u8], u64, &[u32]); 6] = [
-        (b"2.2.2.2/32s", 2, BY_TWO),
-        (b"3.3.3.3/32s 4.4.4.4/32s", 4, BY_THREE),
-        // the route stays where the hop before it ends, or where it begins
-        (b"2.2.2.2/32s 2.2.2.2/32s", 2, BY_TWO),
-        (b"1.1.1.1/32s", 2, BY_TWO),
-        (b"0.0.0.0/0s 1.1.1.1/32s", 2, BY_TWO),
-        // the first hop may end at two routers, of which one owns the second
-        (b"2.0.0.0/7s 10.0.13.0/24s", 4, BY_THREE),
-    ];
-    for (hops, cost, remotes) in cases {
-        let found = by_hops(alloc, &table, FOUR, hops)?;
-        assert!(rt;
-            is_route(&found, cost, false, remotes),
-            "{hops:?}: {found:?}"
-        );
-    }
-    Ok(())
-}
+const CASES: &[Case] = &[
+    (&[], (ONE, FOUR), b"2.2.2.2/32s", Route(2, BY_TWO)),
+    (
+        &[],
+        (ONE, FOUR),
+        b"3.3.3.3/32s 4.4.4.4/32s",
+        Route(4, BY_THREE),
+    ),
+    // the route stays where the hop before it ends, or where it begins
+    (
+        &[],
+        (ONE, FOUR),
+        b"2.2.2.2/32s 2.2.2.2/32s",
+        Route(2, BY_TWO),
+    ),
+    (&[], (ONE, FOUR), b"1.1.1.1/32s", Route(2, BY_TWO)),
+    (
+        &[],
+        (ONE, FOUR),
+        b"0.0.0.0/0s 1.1.1.1/32s",
+        Route(2, BY_TWO),
+    ),
+    // the first hop may end at two routers, of which one owns the second
+    (
+        &[],
+        (ONE, FOUR),
+        b"2.0.0.0/7s 10.0.13.0/24s",
+        Route(4, BY_THREE),
+    ),
+    // no link leads to the strict hop
+    (&[], (ONE, FOUR), b"4.4.4.4/32s", NoRoute),
+    (
+        &[],
+        (ONE, FOUR),
+        b"2.2.2.2/32l 1.1.1.1/32l 4.4.4.4/32s",
+        NoRoute,
+    ),
+    (&[], (ONE, FOUR), b"4.4.4.4/32l 1.1.1.1/32s", NoRoute),
+    // the link there has no bandwidth
+    (&[], (ONE, FOUR), b"2.2.2.2/32s 3.3.3.3/32s", NoRoute),
+    (&[], (ONE, FOUR), b"3.3.3.3/32l 2.2.2.2/32s", NoRoute),
+];
 
 #[test]
-fn strict_hops_that_no_link_leads_to(rt: HostRuntime) -> Result<(), Fail> {
-    let alloc = rt.alloc();
-    let table = table(alloc, &ROWS)?;
-    let cases: [&[u8]; 5] = [
-        b"4.4.4.4/32s",
-        b"2.2.2.2/32l 1.1.1.1/32l 4.4.4.4/32s",
-        b"4.4.4.4/32l 1.1.1.1/32s",
-        // the link there has no bandwidth
-        b"2.2.2.2/32s 3.3.3.3/32s",
-        b"3.3.3.3/32l 2.2.2.2/32s",
-    ];
-    for hops in cases {
-        let found = by_hops(alloc, &table, FOUR, hops)?;
-        assert!(rt; matches!(found, Outcome::NoRoute), "{hops:?}: {found:?}");
-    }
-    Ok(())
+fn strict_hops(rt: HostRuntime) -> Result<(), Fail> {
+    assert_networks(&rt, rt.alloc(), &[(ROWS, true, CASES)])
 }

@@ -1,0 +1,169 @@
+//! Drawn networks, in which both searches answer alike. With marked routers, they answer as in a network
+//! without marks where no bandwidth is unreserved on the links from these.
+
+use super::{Row, answered, is_same, mark, one_way, request};
+use cspf_db::Table;
+use cspf_model::{Outcome, Request};
+use cspf_search::best;
+use std::alloc::{AllocError, Global};
+use std::test::Fail;
+
+// The next of a row of numbers that look drawn.
+fn draw(seed: &mut u32) -> u32 {
+    let mut x = *seed;
+    x ^= (x & 0x7_ffff) << 13;
+    x ^= x >> 17;
+    x ^= (x & 0x7ff_ffff) << 5;
+    *seed = x;
+    x
+}
+
+// A link over two interfaces, of a metric from 0 to 3, that has unreserved bandwidth or not.
+fn drawn_link(seed: &mut u32, from: (u32, u32), to: (u32, u32)) -> Row {
+    let metric = draw(seed) % 4;
+    let free = if draw(seed) % 8 == 0 { 0 } else { 1000 };
+    (router(from.0), from.1, router(to.0), to.1, metric, free)
+}
+
+// A network of 12 routers with 24 links and the reverses of all but some of them.
+fn drawn(alloc: Global, seed: &mut u32) -> Result<Vec<Row>, Fail> {
+    let mut rows = Vec::new(alloc);
+    for number in 0..24 {
+        let from = draw(seed) % 12;
+        let to = (from + 1 + draw(seed) % 11) % 12;
+        let local = (draw(seed) % 4) * 256 + number;
+        let remote = (draw(seed) % 4) * 256 + 128 + number;
+        rows.push(drawn_link(seed, (from, local), (to, remote)))?;
+        if draw(seed) % 10 > 0 {
+            rows.push(drawn_link(seed, (to, remote), (from, local)))?;
+        }
+    }
+    Ok(rows)
+}
+
+// One to three marked routers in a third of the networks, and none in the others.
+fn drawn_marks(alloc: Global, seed: &mut u32) -> Result<Vec<u32>, AllocError> {
+    let mut marks = Vec::new(alloc);
+    let most = if draw(seed) % 3 == 0 {
+        1 + draw(seed) % 3
+    } else {
+        0
+    };
+    for _ in 0..most {
+        let marked = router(draw(seed));
+        if !marks.contains(&marked) {
+            marks.push(marked)?;
+        }
+    }
+    Ok(marks)
+}
+
+// The network without marks in which requests from a router, or from any that isn't marked where it is
+// 0, are answered as in the one with these marks. No bandwidth is unreserved on the links from other
+// marked routers, nor on those back to this one.
+fn unmarked(alloc: Global, rows: &[Row], marks: &[u32], from: u32) -> Result<Table, Fail> {
+    let mut open = Vec::new(alloc);
+    for row in rows {
+        let mut row = *row;
+        if row.2 == from || (row.0 != from && marks.contains(&row.0)) {
+            row.5 = 0;
+        }
+        open.push(row)?;
+    }
+    one_way(alloc, &open)
+}
+
+// Routers 0 to 3 have addresses in 10.0.0.0/30, routers 4 to 11 in 10.0.0.0/28.
+fn router(number: u32) -> u32 {
+    0x0a00_0000 + number % 12
+}
+
+const HOPS: [&[u8]; 6] = [
+    b"",
+    b"10.0.0.0/30l",
+    b"10.0.0.0/30s",
+    b"10.0.0.4/30s 10.0.0.0/29s",
+    b"10.0.0.0/28s 10.0.0.8/30l 10.0.0.0/30s",
+    b"0.0.1.0/24l 10.0.0.1/32l 10.0.0.0/28s",
+];
+
+// A request between two routers, with these hops.
+fn drawn_request(seed: &mut u32, hops: &[u8]) -> Result<Request, Fail> {
+    let from = draw(seed) % 12;
+    let to = from + 1 + draw(seed) % 11;
+    request((router(from), router(to)), 0, (0, 0, 0), hops)
+}
+
+// A network, its marked routers, and tables of it with these marks and without.
+#[derive(Drop)]
+struct DrawnNetwork {
+    rows: Vec<Row>,
+    marks: Vec<u32>,
+    marked: Table,
+    open: Table,
+}
+
+fn drawn_network(alloc: Global, seed: &mut u32) -> Result<DrawnNetwork, Fail> {
+    let (rows, marks) = (drawn(alloc, seed)?, drawn_marks(alloc, seed)?);
+    let mut marked = one_way(alloc, &rows)?;
+    mark(alloc, &mut marked, &marks)?;
+    let open = unmarked(alloc, &rows, &marks, 0)?;
+    Ok(DrawnNetwork {
+        rows,
+        marks,
+        marked,
+        open,
+    })
+}
+
+// What a request is answered in a network without marks.
+fn without_marks(
+    alloc: Global,
+    network: &DrawnNetwork,
+    request: &Request,
+) -> Result<Outcome, Fail> {
+    let from = request.from.number();
+    if network.marks.contains(&from) {
+        let open = unmarked(alloc, &network.rows, &network.marks, from)?;
+        Ok(best(alloc, &open, request)?)
+    } else {
+        Ok(best(alloc, &network.open, request)?)
+    }
+}
+
+// Whether a request has a route. Where there are marks, it is the one without them.
+fn has_route(alloc: Global, network: &DrawnNetwork, request: &Request) -> Result<bool, Fail> {
+    let outcome = answered(alloc, &network.marked, request)?;
+    if !network.marks.is_empty() {
+        let wanted = without_marks(alloc, network, request)?;
+        if !is_same(&outcome, &wanted) {
+            return Err(Fail::new(format_args!("{outcome:?} and {wanted:?}")));
+        }
+    }
+    Ok(matches!(outcome, Outcome::Route(_)))
+}
+
+// How many of 16 requests in a network have a route.
+fn drawn_routes(alloc: Global, seed: &mut u32) -> Result<u32, Fail> {
+    let network = drawn_network(alloc, seed)?;
+    let mut routes = 0u32;
+    for i in 0..16 {
+        let request = drawn_request(seed, HOPS[i % 6])?;
+        if has_route(alloc, &network, &request)? {
+            routes = routes.saturating_add(1);
+        }
+    }
+    Ok(routes)
+}
+
+// Both searches answer 2,000 requests, some of them in networks with marked routers.
+#[test]
+fn drawn_networks(rt: HostRuntime) -> Result<(), Fail> {
+    let mut seed = 2463534242;
+    let mut routes = 0u32;
+    for _network in 0..125 {
+        routes = routes.saturating_add(drawn_routes(rt.alloc(), &mut seed)?);
+    }
+    assert!(rt; routes > 1000, "{routes}");
+    Ok(())
+}
