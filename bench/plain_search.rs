@@ -1,7 +1,7 @@
 //! The plain search that `bench/run` holds `best` against: Dijkstra's over packed arrays, which stops
 //! at the tail-end and breaks ties as they come. A link without a reverse is left out while the
 //! network is read. It reads the rows of a journal and of requests
-//! without hops, and answers as `search_bench` does: `plain ANSWERS COST MICROSECONDS`.
+//! without hops, and answers as `routed_bench` does: `plain ANSWERS COST MICROSECONDS`.
 use std::cmp::Reverse;
 use std::collections::{BTreeMap, BinaryHeap};
 use std::time::Instant;

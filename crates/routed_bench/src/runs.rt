@@ -1,0 +1,73 @@
+//! The runs of publishers that are timed.
+//!
+//! Each further batch is published and timed by itself. Then 1, 2 and 4 askers at once each ask all
+//! requests while the further batches are published. Last the requests are divided among 1, 2 and 4
+//! workers: in fixed shares, in which each of n workers asks every nth request, and by draws.
+
+use crate::published::{Nothing, apply_all, time_batches};
+use crate::workers::{time_askers, time_draws, time_shares};
+use cspf_model::{Batch, Request};
+use cspf_publish::open;
+use std::io;
+use std::io::ErrorKind;
+use std::rt::Clock;
+use std::sync::Wait;
+use std::thread::Threads;
+
+/// What is timed.
+#[derive(Clone, Copy)]
+enum Timed {
+    Batches,
+    Askers,
+    Shares,
+    Draws,
+}
+
+/// What is timed, by how many askers.
+const ALL: [(Timed, usize); 10] = [
+    (Timed::Batches, 1),
+    (Timed::Askers, 1),
+    (Timed::Askers, 2),
+    (Timed::Askers, 4),
+    (Timed::Shares, 1),
+    (Timed::Draws, 1),
+    (Timed::Shares, 2),
+    (Timed::Draws, 2),
+    (Timed::Shares, 4),
+    (Timed::Draws, 4),
+];
+
+/// Times one thing over a publisher that has the first batches.
+fn time_one<R: AllocGlobal + Clock + Print + Threads + Wait + Sync>(
+    rt: &R,
+    (load, more): (&[Batch], &[Batch]),
+    requests: &[Request],
+    timed: Timed,
+    count: usize,
+) -> io::Result<()> {
+    let Ok((mut publisher, askers)) = open(rt, rt.alloc(), Nothing, count) else {
+        return Err(io::Error::from(ErrorKind::OutOfMemory));
+    };
+    apply_all(rt, load, &mut publisher);
+    let printed = match timed {
+        Timed::Batches => time_batches(rt, more, &mut publisher),
+        Timed::Askers => time_askers(rt, more, requests, askers, &mut publisher),
+        Timed::Shares => time_shares(rt, requests, askers),
+        Timed::Draws => time_draws(rt, requests, askers),
+    };
+    publisher.close(rt);
+    printed
+}
+
+/// Times all of it.
+pub(crate) fn time_publisher<R: AllocGlobal + Clock + Print + Threads + Wait + Sync>(
+    rt: &R,
+    load: &[Batch],
+    more: &[Batch],
+    requests: &[Request],
+) -> io::Result<()> {
+    for (timed, count) in ALL {
+        time_one(rt, (load, more), requests, timed, count)?;
+    }
+    Ok(())
+}

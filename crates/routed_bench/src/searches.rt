@@ -1,0 +1,138 @@
+//! Times the table and both searches.
+//!
+//! `best` answers all requests, several times: `best ANSWERS COST MICROSECONDS`, with the sum of the
+//! routes' costs. Both calls answer the first ROUNDS of them: `rounds ANSWERS COST MICROSECONDS`, and
+//! `agreed ANSWERS`, the number of requests on which the two agree. Then each further batch is checked
+//! and absorbed, and timed by itself: `absorb CHANGES MICROSECONDS`.
+
+use cspf_db::Table;
+use cspf_model::{Batch, Outcome, Request};
+use cspf_search::{best, best_by_rounds};
+use std::alloc::{AllocError, Global};
+use std::io;
+use std::io::ErrorKind;
+use std::rt::Clock;
+use std::time::Instant;
+
+/// How often the requests are answered.
+const TIMES: usize = 5;
+
+/// The cost of the route, 0 where there is none.
+fn cost(outcome: &Outcome) -> u64 {
+    match outcome {
+        Outcome::Route(route) => route.cost(),
+        _ => 0,
+    }
+}
+
+/// Whether both outcomes agree: the same links, or the same reason why there are none.
+fn agree(one: &Outcome, other: &Outcome) -> bool {
+    match (one, other) {
+        (Outcome::Route(a), Outcome::Route(b)) => a.links() == b.links(),
+        (Outcome::NoRoute, Outcome::NoRoute) => true,
+        (Outcome::UnknownFrom, Outcome::UnknownFrom) => true,
+        (Outcome::UnknownTo, Outcome::UnknownTo) => true,
+        _ => false,
+    }
+}
+
+/// What a request is answered: by `best`, or round by round.
+fn answer(
+    alloc: Global,
+    table: &Table,
+    request: &Request,
+    by_rounds: bool,
+) -> Result<Outcome, AllocError> {
+    if by_rounds {
+        best_by_rounds(alloc, table, request)
+    } else {
+        best(alloc, table, request)
+    }
+}
+
+/// Answers each request: how many are answered, and the sum of the costs.
+fn answer_each(
+    alloc: Global,
+    table: &Table,
+    requests: &[Request],
+    by_rounds: bool,
+) -> (usize, u64) {
+    let (mut answers, mut sum) = (0usize, 0u64);
+    for request in requests {
+        if let Ok(outcome) = answer(alloc, table, request, by_rounds) {
+            answers = answers.saturating_add(1);
+            sum = sum.saturating_add(cost(&outcome));
+        }
+    }
+    (answers, sum)
+}
+
+/// Whether both searches agree on a request.
+fn is_agreed(alloc: Global, table: &Table, request: &Request) -> bool {
+    match (
+        best(alloc, table, request),
+        best_by_rounds(alloc, table, request),
+    ) {
+        (Ok(one), Ok(other)) => agree(&one, &other),
+        _ => false,
+    }
+}
+
+/// Times the requests from the table: how many are answered, the sum of the costs, and microseconds.
+fn timed<R: AllocGlobal + Clock + Print>(
+    rt: &R,
+    table: &Table,
+    requests: &[Request],
+    by_rounds: bool,
+) -> io::Result<(usize, u64, u128)> {
+    let start = Instant::now(rt)?;
+    let (answers, sum) = answer_each(rt.alloc(), table, requests, by_rounds);
+    Ok((answers, sum, start.elapsed(rt)?.as_micros()))
+}
+
+/// Prints how long the requests take from a plain table: `plain ANSWERS MICROSECONDS`.
+pub(crate) fn time_plain<R: AllocGlobal + Clock + Print>(
+    rt: &R,
+    table: &Table,
+    requests: &[Request],
+) -> io::Result<()> {
+    let (answers, _, took) = timed(rt, table, requests, false)?;
+    println!(rt; "plain {answers} {took}")
+}
+
+/// Times `best` at all requests, and both searches at a few.
+pub(crate) fn time_searches<R: AllocGlobal + Clock + Print>(
+    rt: &R,
+    table: &Table,
+    requests: &[Request],
+    few: &[Request],
+) -> io::Result<()> {
+    for _time in 0..TIMES {
+        let (answers, sum, took) = timed(rt, table, requests, false)?;
+        println!(rt; "best {answers} {sum} {took}")?;
+    }
+    let (answers, sum, took) = timed(rt, table, few, true)?;
+    println!(rt; "rounds {answers} {sum} {took}")?;
+    let agreed = few
+        .iter()
+        .filter(|request| is_agreed(rt.alloc(), table, request));
+    println!(rt; "agreed {}", agreed.count())
+}
+
+/// Times each batch: the check whether it fits, and its changes.
+pub(crate) fn time_batches<R: AllocGlobal + Clock + Print>(
+    rt: &R,
+    table: &mut Table,
+    batches: &[Batch],
+) -> io::Result<()> {
+    for batch in batches {
+        let start = Instant::now(rt)?;
+        let fits = table.try_absorb(batch).is_ok();
+        let took = start.elapsed(rt)?.as_micros();
+        if !fits {
+            return Err(io::Error::from(ErrorKind::InvalidInput));
+        }
+        println!(rt; "absorb {} {took}", batch.changes.len())?;
+    }
+    Ok(())
+}
