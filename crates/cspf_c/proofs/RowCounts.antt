@@ -4,9 +4,9 @@ use Rattle.std.specs.Coded.{le_prop}
 use Rattle.std.proofs.Math.Logic.{∥∥₁_elim}
 use Rattle.cspf_rows.specs.declared.row.Row.{Row}
 use Rattle.cspf_rows.specs.declared.row_error.RowError.{RowError}
-use Rattle.cspf_serve.specs.Script.{RunState, at_next_row, IsRowAnswered}
-use Rattle.cspf_serve.specs.SolveLaws.{CountsByOne}
-use Rattle.cspf_serve.specs.SolverStates.{KeepsRun, AreFew}
+use Rattle.cspf_solve.specs.Script.{RunState, at_next_row, IsRowAnswered}
+use Rattle.cspf_solve.specs.SolveLaws.{CountsByOne}
+use Rattle.cspf_solve.specs.SolverStates.{KeepsRun, AreFew}
 use Rattle.cspf_c.specs.History.{IsCounted}
 use Rattle.cspf_c.specs.declared.session.TakenRows.{TakenRows}
 
@@ -14,7 +14,7 @@ use Rattle.cspf_c.specs.declared.session.TakenRows.{TakenRows}
 pub few : (taken : TakenRows) → ∥ IsCounted taken ∥₁ → AreFew taken.solver
 few taken truly = record {
   rows = ∥∥₁_elim truly le_prop (λ counted. omega (arith, counted.kept.rows, counted.rows, counted.most));
-  count = ∥∥₁_elim truly le_prop (λ counted. omega (arith, counted.kept.count, counted.changes, counted.most));
+  count = ∥∥₁_elim truly le_prop (λ counted. omega (arith, counted.kept.changes.count, counted.changes, counted.most));
   answers = ∥∥₁_elim truly le_prop (λ counted. omega (arith, counted.kept.answers, counted.answers, counted.most));
   refused = ∥∥₁_elim truly le_prop (λ counted. omega (arith, counted.kept.refused, counted.refused, counted.most));
 }

@@ -7,20 +7,17 @@ use Rattle.cspf_rows.specs.Rows.{row_of}
 use Rattle.cspf_rows.specs.declared.row.Row.{Row}
 use Rattle.cspf_rows.specs.declared.row_error.RowError.{RowError}
 use Rattle.cspf_stream.specs.RowAnswers.{AreAnswered as AreTaken}
-use Rattle.cspf_serve.specs.Script.{RunState, start, at_next_row, IsRowAnswered, AreRowsAnswered, IsSolveRun, is_too_many, last_line, summary_of}
-use Rattle.cspf_serve.specs.SolveLaws.{CountsByOne, GoesOnByOneRow}
-use Rattle.cspf_serve.specs.declared.solve.summary.Summary.{Summary}
-use Rattle.cspf_serve.specs.SolverStates.{KeepsRun}
-use Rattle.cspf_c.specs.History.{HasAnswered, IsCounted, IsOneMore, IsPast}
+use Rattle.cspf_solve.specs.Script.{RunState, start, at_next_row, IsRowAnswered, AreRowsAnswered, IsSolveRun, is_too_many, last_line, summary_of}
+use Rattle.cspf_solve.specs.SolveLaws.{CountsByOne, GoesOnByOneRow}
+use Rattle.cspf_solve.specs.declared.summary.Summary.{Summary}
+use Rattle.cspf_solve.specs.SolverStates.{KeepsRun, IsPast}
+use Rattle.cspf_c.specs.History.{HasAnswered, IsCounted, IsOneMore}
 use Rattle.cspf_c.specs.declared.session.TakenRows.{TakenRows}
+use Rattle.cspf_solve.proofs.SolveRun.{none_answered, rows_read}
 use Rattle.cspf_c.proofs.RowCounts.{counted_more}
 
 abbrev Rows : Type 0
 Rows = List (List (List ℕ))
-
-pub none_answered : (s : RunState) → AreRowsAnswered s [] [] s
-unfolding AreRowsAnswered
-none_answered s = (refl, refl)
 
 -- before the first row
 pub none_given : (taken : TakenRows) → KeepsRun taken.solver start → taken.answered ≡ 0 → taken.too_many ≡ false → HasAnswered taken [] []
@@ -129,15 +126,6 @@ all_answered place old new (fields ∷ more) out rows lines a has =
     (subst (λ (r : Rows). HasAnswered new r ((lines ++ a.0) ++ a.2)) (append_assoc rows (fields ∷ []) more) rest))
 
 -- ---- the end
-
-rows_read : (too_many : Bool) (count : ℕ) (rows done rest : Rows) → rows ≡ done ++ rest → length done ≡ count → IsPast too_many count rest
-    → (take 1000000 rows ≡ done) × (is_too_many rows ≡ too_many)
-rows_read false count rows done rest split same past =
-    let is : rows ≡ done = split ∙ rw past.0 (append-nil done) in
-    let most : length done ≤ 1000000 = omega (arith, same, past.1) in
-    rw is (take_all 1000000 done most, le-ltb 1000000 (length done) most)
-rows_read true count rows done rest split same past =
-    rw split (take_at done rest 1000000 (same ∙ past.1), lt-ltb 1000000 (length (done ++ rest)) (omega (arith, same, past.0, past.1, length-append done rest)))
 
 pub ended : (taken : TakenRows) (rows : Rows) (lines last : List ℕ) → ((s : RunState) → KeepsRun taken.solver s → last ≡ last_line taken.too_many s.changes)
     → HasAnswered taken rows lines → (summary : Summary) × IsSolveRun rows (lines ++ last) summary

@@ -3,8 +3,8 @@ use Rattle.std.specs.Prelude.{◌≡◌, ℕ, List, [], ◌++◌, length, take, 
 use Rattle.std.specs.declared.alloc.AllocError.{AllocError}
 use Rattle.std.specs.declared.option.Option.TheVariants.{None, Some}
 use Rattle.cspf_rows.specs.Records.{rows_of}
-use Rattle.cspf_serve.specs.Script.{IsSolveRun}
-use Rattle.cspf_serve.specs.declared.solve.summary.Summary.{Summary}
+use Rattle.cspf_solve.specs.Script.{IsSolveRun}
+use Rattle.cspf_solve.specs.declared.summary.Summary.{Summary}
 use Rattle.cspf_c.specs.History.{HasAnswered}
 use Rattle.cspf_c.specs.declared.codes.TheConstants.{ANSWERED, MEMORY, CLOSED}
 use Rattle.cspf_c.specs.declared.opened.Opened.{Opened}

@@ -1,17 +1,12 @@
 -- The answers of a session.
-use Rattle.std.specs.Prelude.{◌≡◌, ℕ, ◌<◌, ◌≤◌, Bool, true, false, List, [], ◌∷◌, ◌++◌, length, Result}
+use Rattle.std.specs.Prelude.{◌≡◌, ℕ, ◌≤◌, List, [], ◌∷◌, ◌++◌, length, Result}
 use Rattle.cspf_rows.specs.Rows.{row_of}
 use Rattle.cspf_rows.specs.declared.limits.TheConstants.{MOST_ROWS}
 use Rattle.cspf_rows.specs.declared.row.Row.{Row}
 use Rattle.cspf_rows.specs.declared.row_error.RowError.{RowError}
-use Rattle.cspf_serve.specs.Script.{RunState, start, AreRowsAnswered}
-use Rattle.cspf_serve.specs.SolverStates.{KeepsRun}
+use Rattle.cspf_solve.specs.Script.{RunState, start, AreRowsAnswered}
+use Rattle.cspf_solve.specs.SolverStates.{KeepsRun, IsPast}
 use Rattle.cspf_c.specs.declared.session.TakenRows.{TakenRows}
-
--- rows after the first 1,000,000: none, or some where 1,000,000 are answered
-abbrev pub IsPast : Bool → ℕ → List (List (List ℕ)) → Type 0
-IsPast false count rest = (rest ≡ []) × (count ≤ MOST_ROWS)
-IsPast true count rest = (0 < length rest) × (count ≡ MOST_ROWS)
 
 -- These rows were given, one after the other. These lines answer the first 1,000,000 of them.
 pub record HasAnswered (taken : TakenRows) (rows : List (List (List ℕ))) (lines : List ℕ) : Type 0 where

@@ -3,12 +3,12 @@
 
 ghost use Rattle.std.specs.Prelude.{◌≡◌, ◌++◌, ℕ, List, [], IfOk};
 ghost use Rattle.cspf_rows.specs.Records.{rows_of};
-ghost use Rattle.cspf_serve.specs.Script.{IsSolveRun};
-ghost use Rattle.cspf_serve.specs.declared.solve.summary.Summary.{Summary};
+ghost use Rattle.cspf_solve.specs.Script.{IsSolveRun};
+ghost use Rattle.cspf_solve.specs.declared.summary.Summary.{Summary};
 ghost use Rattle.cspf_c.specs.History.{HasAnswered, IsCounted, IsOneMore};
 
 use cspf_rows::{MOST_ROWS, Row, RowError, open_records};
-use cspf_serve::{Solver, runs_go_on_row_by_row};
+use cspf_solve::{Solver, runs_go_on_row_by_row};
 use cspf_stream::{Answering, answer_rows};
 use std::alloc::{AllocError, Global};
 

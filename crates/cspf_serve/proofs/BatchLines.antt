@@ -1,6 +1,6 @@
 -- The lines of batches and of requests, and where a run over a journal ends early.
-use Rattle.std.proofs.Common.{◌≡◌, ℕ, ◌<◌, ◌≤◌, ◌⊎◌, Bool, Option, Some, None, IfSome, List, ◌++◌, length, inl, inr, refl, ap, arith, Result, Ok, Err, IfOk, IfErr, OnOk}
-use Rattle.std.proofs.KnownBytes.{Appends-trans}
+use Rattle.std.proofs.Common.{◌≡◌, ℕ, ◌<◌, ◌≤◌, ◌⊎◌, Bool, Option, Some, None, IfSome, List, [], ◌++◌, length, inl, inr, refl, ap, arith, Result, Ok, Err, IfOk, IfErr, OnOk}
+use Rattle.std.proofs.KnownBytes.{Appends-nil, Appends-trans}
 use Rattle.std.proofs.lemmas.List.{length-map}
 use Rattle.std.specs.Io.KnownBytes.{Appends}
 use Rattle.cspf_model.specs.declared.request.Request.{Request}
@@ -16,9 +16,9 @@ use Rattle.cspf_serve.specs.declared.line.Line.{Line}
 use Rattle.cspf_serve.specs.declared.streams.early_end.EarlyEnd.{EarlyEnd}
 use Rattle.cspf_serve.specs.declared.streams.early_end.EarlyEnd.TheVariants as early_end
 use Rattle.cspf_serve.specs.declared.streams.error.RunError.{RunError}
-use Rattle.cspf_serve.specs.declared.solve.summary.Summary.{Summary}
-use Rattle.cspf_serve.specs.Script.{IsSolveRun}
-use Rattle.cspf_serve.specs.BatchRun.{AreReplies, AreAccepted, IsOneUnfit, version_lines, AreBatchesOf, AreRequestsOf, IsBatchRun}
+use Rattle.cspf_solve.specs.declared.summary.Summary.{Summary}
+use Rattle.cspf_solve.specs.Script.{IsSolveRun}
+use Rattle.cspf_serve.specs.BatchRun.{AreReplies, AreAccepted, IsOneUnfit, version_lines, AreBatchesOf, AreRequestsOf, AreRequestsRefused, IsBatchRun}
 use Rattle.cspf_serve.specs.BatchLaws.{IsCleanJournal, AreLinesOfAScript}
 use Rattle.cspf_serve.specs.LineTexts.{line_text}
 use Rattle.cspf_serve.specs.EarlyEnds.{IfRefused, IfFailed, Writes, WritesAllBut, IsRefusalWritten, IsLastError}
@@ -151,6 +151,19 @@ module _ (accept_torn : Bool) (kept asked : Option (List ℕ)) (published : List
   batch_failed (Ok done) failed = tt
   batch_failed (Err (early_end.Refused line)) failed = tt
   batch_failed (Err (early_end.Failed error)) failed = run_ended error failed
+
+-- the requests are refused, and no line is written yet
+refused_asking : (accept_torn : Bool) (kept asked : Option (List ℕ)) (published : List NumberedChanges) (unfit : Option Line) (old : Option (List ℕ)) (line : List ℕ)
+    → IsPublished accept_torn kept published unfit → IfSome asked (λ bytes. AreRequestsRefused (rows_of bytes) line) → IsRefusedRun accept_torn kept asked line old old
+refused_asking accept_torn None asked published unfit old line read refused = tt
+refused_asking accept_torn (Some journal) None published unfit old line read refused = tt
+refused_asking accept_torn (Some journal) (Some requests) published unfit old line read refused = ([], inr (read.0, read.1, inl (refused, refl)), Appends-nil old)
+
+pub requests_refused : (accept_torn : Bool) (kept asked : Option (List ℕ)) (published : List NumberedChanges) (unfit : Option Line) (old : Option (List ℕ)) (end : EarlyEnd)
+    → IsPublished accept_torn kept published unfit → IfRefused end (λ line. IfSome asked (λ bytes. AreRequestsRefused (rows_of bytes) line))
+    → IfRefused end (λ line. IsRefusedRun accept_torn kept asked line old old)
+requests_refused accept_torn kept asked published unfit old (early_end.Failed error) read refused = tt
+requests_refused accept_torn kept asked published unfit old (early_end.Refused line) read refused = refused_asking accept_torn kept asked published unfit old (line_text line) read refused
 
 -- a run that ends early by a refusal is refused by its last line
 pub run_refused : (accept_torn : Bool) (kept asked : Option (List ℕ)) (s : EarlyEnd) (r : Result ℕ RunError) (old mid new : Option (List ℕ))

@@ -1,11 +1,4 @@
 -- The lemmas of this crate's proofs.
-pub mod KeptChanges
-pub mod BatchRefusals
-pub mod SolverSteps
-pub mod OneReply
-pub mod RowCounts
-pub mod SolveRun
-pub mod OutputPrefix
 pub mod BatchLines
 pub mod ScriptOfBatches
 pub mod AnswerLines

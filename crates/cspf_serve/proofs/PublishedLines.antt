@@ -19,11 +19,11 @@ use Rattle.cspf_rows.specs.declared.read_error.ReadError.TheVariants as read_err
 use Rattle.cspf_rows.specs.GivenBatches.{HasGiven}
 use Rattle.cspf_rows.specs.Journal.{IsJournal}
 use Rattle.cspf_rows.specs.Records.{rows_of, Records}
-use Rattle.cspf_serve.specs.declared.batch_refusal.BatchRefusal.TheVariants as refusal
+use Rattle.cspf_stream.specs.declared.batch_refusal.BatchRefusal.TheVariants as refusal
 use Rattle.cspf_serve.specs.declared.line.Line.{Line}
 use Rattle.cspf_serve.specs.declared.streams.early_end.EarlyEnd.{EarlyEnd}
 use Rattle.cspf_serve.specs.declared.streams.early_end.EarlyEnd.TheVariants as early_end
-use Rattle.cspf_serve.specs.Lines.{version_line, refused_batch_line}
+use Rattle.cspf_stream.specs.Lines.{version_line, refused_batch_line}
 use Rattle.cspf_serve.specs.LineTexts.{line_text}
 use Rattle.cspf_serve.specs.BatchRun.{version_lines, torn_line, AreBatchesOf, IsJournalRefused}
 use Rattle.cspf_serve.specs.EarlyEnds.{IfRefused, IsOwnFaultLine, IsJournalLine}

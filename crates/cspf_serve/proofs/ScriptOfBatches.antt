@@ -17,9 +17,9 @@ use Rattle.cspf_rows.specs.Journal.{change_row, batch_rows, journal_rows, IsJour
 use Rattle.cspf_rows.specs.JournalLaws.{IsOneJournal}
 use Rattle.cspf_rows.specs.Requests.{AreRequests}
 use Rattle.cspf_rows.specs.Rows.{row_of}
-use Rattle.cspf_serve.specs.declared.solve.summary.Summary.{Summary}
-use Rattle.cspf_serve.specs.Lines.{version_line}
-use Rattle.cspf_serve.specs.Script.{RunState, start, at_next_row, after_change_row, after_batch, after_reply, open_batch, IsAccepted, IsRowAnswered, AreRowsAnswered, IsSolveRun, is_too_many, summary_of}
+use Rattle.cspf_solve.specs.declared.summary.Summary.{Summary}
+use Rattle.cspf_stream.specs.Lines.{version_line}
+use Rattle.cspf_solve.specs.Script.{RunState, start, at_next_row, after_change_row, after_batch, after_reply, open_batch, IsAccepted, IsRowAnswered, AreRowsAnswered, IsSolveRun, is_too_many, summary_of}
 use Rattle.cspf_serve.specs.BatchRun.{version_lines, AreReplies, AreAccepted}
 use Rattle.cspf_serve.specs.BatchLaws.{AreLinesOfAScript}
 

@@ -12,11 +12,11 @@ use Rattle.cspf_publish.specs.KnownBatches.{KnownBatches, AreFirstOf}
 use Rattle.cspf_client.specs.ServingStates.{ServingState, IsReady, HasMet}
 use Rattle.cspf_stream.specs.RowAnswers.{AreAllAnswered}
 use Rattle.cspf_stream.specs.declared.error.StreamError.{StreamError}
-use Rattle.cspf_serve.specs.Script.{end_line}
+use Rattle.cspf_stream.specs.Lines.{end_line}
 use Rattle.cspf_serve.specs.ServedRun.{IsServedClient, IsServedStatus, IsUpdateAnsweredAt, IsLastLineSaid, IsUpdatesRun}
 use Rattle.cspf_serve.specs.ServedSteps.{IsSeated, IsRunOn, IsServedEnd}
 use Rattle.cspf_serve.specs.Updates.{UpdatesState, no_updates}
-use Rattle.cspf_serve.specs.OpenChanges.{AreOpen}
+use Rattle.cspf_stream.specs.OpenChanges.{AreOpen}
 use Rattle.cspf_serve.specs.UpdatesStates.{KeptUpdates, KeepsUpdates, IsFresh}
 use Rattle.std.proofs.KnownBytes.{Appends-nil}
 use Rattle.cspf_serve.proofs.Pairs.{pairs_through, pairs_weaker, pairs_second}

@@ -9,29 +9,32 @@ use Rattle.cspf_model.specs.Numbered.{NumberedChanges}
 use Rattle.cspf_model.specs.Changes.{database_after}
 use Rattle.cspf_model.specs.Refusals.{IsRefusal}
 use Rattle.cspf_publish.specs.ApplyErrors.{IsApplyError, IsNextBatch}
-use Rattle.cspf_serve.specs.OpenChanges.{AreOpen, IsPublished}
-use Rattle.cspf_serve.specs.declared.serving.open_changes.OpenChanges.{OpenChanges}
+use Rattle.cspf_stream.specs.OpenChanges.{AreOpen}
+use Rattle.cspf_stream.specs.declared.open_changes.OpenChanges.{OpenChanges}
+use Rattle.cspf_stream.specs.declared.step.Step.TheVariants as step
+use Rattle.cspf_stream.proofs.RowsOfSteps.{row_with}
 use Rattle.cspf_publish.specs.PublisherStates.{PublisherState}
 use Rattle.cspf_publish.specs.declared.errors.ApplyError.{ApplyError}
 use Rattle.cspf_publish.specs.declared.errors.ApplyError.TheVariants as error
 use Rattle.cspf_rows.specs.BatchText.{batch_text}
-use Rattle.cspf_serve.specs.declared.batch_refusal.BatchRefusal.{BatchRefusal}
-use Rattle.cspf_serve.specs.declared.batch_refusal.BatchRefusal.TheVariants as refusal
-use Rattle.cspf_serve.specs.Lines.{version_line, refused_batch_line}
+use Rattle.cspf_stream.specs.declared.batch_refusal.BatchRefusal.{BatchRefusal}
+use Rattle.cspf_stream.specs.declared.batch_refusal.BatchRefusal.TheVariants as refusal
+use Rattle.cspf_stream.specs.Lines.{version_line, refused_batch_line}
 use Rattle.cspf_serve.specs.LiveWords.{unpublished_line}
 use Rattle.cspf_model.specs.Best.{Answer, IsBestAnswer}
 use Rattle.cspf_model.specs.declared.batch.Change.{Change}
+use Rattle.cspf_model.specs.declared.batch.Change.TheVariants as change
 use Rattle.cspf_model.specs.declared.request.Request.{Request}
 use Rattle.cspf_ero.specs.ReplyLine.{IsReply}
 use Rattle.cspf_rows.specs.declared.row.Row.{Row}
 use Rattle.cspf_rows.specs.declared.row.Row.TheVariants as row
 use Rattle.cspf_rows.specs.declared.row_error.RowError.{RowError}
 use Rattle.cspf_stream.specs.RefusedRows.{refused_row_line}
-use Rattle.cspf_serve.specs.Script.{RunState, open_batch, at_next_row, after_change_row, after_refused_row, after_refused_batch, after_reply, IsAccepted, IsBatchRefusal}
+use Rattle.cspf_solve.specs.Script.{RunState, open_batch, at_next_row, after_change_row, after_refused_row, after_refused_batch, after_reply, IsAccepted, IsBatchRefusal}
 use Rattle.cspf_serve.specs.Updates.{UpdatesState, IsEndUpdate, IsUpdateAnswered, at_next_update}
-use Rattle.cspf_serve.specs.UpdatesStates.{KeptUpdates, ArePublished, KeepsUpdates, Leads, IsMiscounted, IsUpdateTaken, IsUpdateFailed, after_published}
-use Rattle.cspf_serve.proofs.BatchRefusals.{not_exhausted, not_numbered, not_counted, not_fitting}
-use Rattle.cspf_serve.proofs.KeptChanges.{kept_all, fits_whole, refusal_whole}
+use Rattle.cspf_serve.specs.UpdatesStates.{KeptUpdates, IsPublished, ArePublished, KeepsUpdates, Leads, IsMiscounted, IsUpdateTaken, IsUpdateFailed, after_published}
+use Rattle.cspf_solve.proofs.BatchRefusals.{not_exhausted, not_numbered, not_counted, not_fitting}
+use Rattle.cspf_stream.proofs.KeptChanges.{kept_all, fits_whole, refusal_whole}
 
 -- one more row changes nothing that is kept
 pub next_keeps : {J : Type 0} (contents : J → Option (List ℕ)) (first : PublisherState J) (k : KeptUpdates J) (s : UpdatesState)
@@ -202,20 +205,24 @@ still_published contents first p s t are accepted stopped text = record {
 abbrev pub after_change : UpdatesState → Change → UpdatesState
 after_change s c = record s { run = after_change_row s.run c }
 
-pub takes_change : {J : Type 0} (contents : J → Option (List ℕ)) (r : Result (Vec ℕ Global) AllocError) (k k' : KeptUpdates J) (c : Change) (row : Result Row RowError)
-    → ((s : UpdatesState) (line : List ℕ) → line ≡ [] → IsUpdateAnswered s row line (after_change s c))
+change_updated : (s : UpdatesState) (c : Change) (line : List ℕ) → line ≡ [] → IsUpdateAnswered s (Ok (row_with (step.Change c))) line (after_change s c)
+change_updated s (change.Put link) line none = record { answered = (none, refl); same = refl }
+change_updated s (change.Remove from local) line none = record { answered = (none, refl); same = refl }
+change_updated s (change.Node router transit) line none = record { answered = (none, refl); same = refl }
+
+pub takes_change : {J : Type 0} (contents : J → Option (List ℕ)) (r : Result (Vec ℕ Global) AllocError) (k k' : KeptUpdates J) (c : Change)
     → IfOk r (λ line. line.items ≡ []) → OnOk r ((all : List Change) → AreOpen k.changes all → AreOpen k'.changes (all ++ c ∷ []))
     → OnOk r (k' ≡ record k { changes = k'.changes })
-    → IfOk r (λ line. Leads contents k k' (λ s t. IsUpdateAnswered s row line.items t))
-takes_change contents (Err e) k k' c row step none opened others = tt
-takes_change {J} contents (Ok line) k k' c row step none opened others = λ first s kept. (
+    → IfOk r (λ line. Leads contents k k' (λ s t. IsUpdateAnswered s (Ok (row_with (step.Change c))) line.items t))
+takes_change contents (Err e) k k' c none opened others = tt
+takes_change {J} contents (Ok line) k k' c none opened others = λ first s kept. (
   after_change s c,
   record {
     published = rw (ap (λ (x : KeptUpdates J). x.publisher) others) (still_published contents first k.publisher s (after_change s c) kept.published refl refl refl);
     changes = opened s.run.changes kept.changes;
     refused = ap (λ (x : KeptUpdates J). x.refused) others ∙ kept.refused;
   },
-  step s line.items none,
+  change_updated s c line.items none,
 )
 
 -- a request is answered at the published version

@@ -11,7 +11,7 @@ use Rattle.cspf_stream.specs.RowAnswers.{AreAnswered, AreAllAnswered}
 use Rattle.cspf_stream.specs.StreamStops.{StopsBetween, StopsInRow, IsRowStopped, HasStopped}
 use Rattle.cspf_stream.specs.declared.error.StreamError.{StreamError}
 use Rattle.cspf_stream.specs.declared.error.StreamError.TheVariants as stream_error
-use Rattle.cspf_serve.specs.Script.{RunState, IsEndAnswered, IsRowAnswered}
+use Rattle.cspf_solve.specs.Script.{RunState, IsEndAnswered, IsRowAnswered}
 use Rattle.cspf_serve.specs.Updates.{UpdatesState, IsLeftByFault, IsEndUpdate, IsUpdateAnswered, at_next_update, no_updates}
 use Rattle.cspf_serve.specs.UpdatesStates.{KeptUpdates, KeepsUpdates, IsUpdateTaken, IsUpdateFailed}
 use Rattle.cspf_serve.specs.ServedRun.{IsUpdateAnsweredAt, IsUpdateLostAt}

@@ -9,8 +9,8 @@ use Rattle.cspf_audit.specs.declared.audit_error.AuditError.{AuditError}
 use Rattle.cspf_audit.specs.declared.audit_error.AuditError.TheVariants as error
 use Rattle.cspf_audit.specs.declared.faults.Audit.{Audit}
 use Rattle.cspf_audit.specs.declared.faults.AuditFault.{AuditFault}
-use Rattle.cspf_serve.specs.declared.batch_refusal.BatchRefusal.TheVariants as refusal
-use Rattle.cspf_serve.specs.Lines.{refused_batch_line, too_many_line}
+use Rattle.cspf_stream.specs.declared.batch_refusal.BatchRefusal.TheVariants as refusal
+use Rattle.cspf_stream.specs.Lines.{refused_batch_line, too_many_line}
 use Rattle.cspf_serve.specs.BatchRun.{torn_line, IsFaultLine}
 
 -- the line of a fault

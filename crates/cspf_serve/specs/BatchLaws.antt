@@ -5,8 +5,8 @@ use Rattle.cspf_model.specs.Numbered.{NumberedChanges}
 use Rattle.cspf_rows.specs.declared.limits.TheConstants.{MOST_ROWS}
 use Rattle.cspf_rows.specs.declared.journal.Rest.TheVariants as rest
 use Rattle.cspf_rows.specs.Journal.{IsJournal}
-use Rattle.cspf_serve.specs.declared.solve.summary.Summary.{Summary}
-use Rattle.cspf_serve.specs.Script.{IsSolveRun}
+use Rattle.cspf_solve.specs.declared.summary.Summary.{Summary}
+use Rattle.cspf_solve.specs.Script.{IsSolveRun}
 use Rattle.cspf_serve.specs.BatchRun.{IsBatchRun}
 
 -- nothing is left after the batches of a journal

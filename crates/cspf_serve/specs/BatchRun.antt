@@ -20,8 +20,8 @@ use Rattle.cspf_rows.specs.declared.row_error.RowError.TheVariants as row_error
 use Rattle.cspf_rows.specs.Journal.{IsJournal}
 use Rattle.cspf_rows.specs.Requests.{AreRequests, IsRequestsFault}
 use Rattle.cspf_rows.specs.Words.{words}
-use Rattle.cspf_serve.specs.declared.batch_refusal.BatchRefusal.TheVariants as refusal
-use Rattle.cspf_serve.specs.Lines.{version_line, refused_batch_line, too_many_line}
+use Rattle.cspf_stream.specs.declared.batch_refusal.BatchRefusal.TheVariants as refusal
+use Rattle.cspf_stream.specs.Lines.{version_line, refused_batch_line, too_many_line}
 
 -- the line of a journal that has this many batches, and rows after them
 abbrev pub torn_line : ℕ → List ℕ

@@ -14,10 +14,10 @@ use Rattle.cspf_rows.specs.declared.requests_error.RequestsError.{RequestsError}
 use Rattle.cspf_rows.specs.declared.requests_error.RequestsError.TheVariants as requests_error
 use Rattle.cspf_work.specs.declared.serve_error.ServeError.{ServeError}
 use Rattle.cspf_work.specs.declared.serve_error.ServeError.TheVariants as serve_error
-use Rattle.cspf_serve.specs.declared.batch_refusal.BatchRefusal.TheVariants as refusal
+use Rattle.cspf_stream.specs.declared.batch_refusal.BatchRefusal.TheVariants as refusal
 use Rattle.cspf_serve.specs.declared.streams.error.RunError.{RunError}
 use Rattle.cspf_serve.specs.declared.streams.error.RunError.TheVariants.{Memory, Device}
-use Rattle.cspf_serve.specs.Lines.{refused_batch_line, too_many_line}
+use Rattle.cspf_stream.specs.Lines.{refused_batch_line, too_many_line}
 use Rattle.cspf_serve.specs.LineTexts.{line_text}
 use Rattle.cspf_serve.specs.BatchRun.{AreBatchesOf, IsJournalRefused, AreRequestsRefused}
 use Rattle.cspf_serve.specs.declared.streams.early_end.EarlyEnd.{EarlyEnd}

@@ -1,12 +1,5 @@
 -- The words of this crate's contracts.
 pub mod ErrorNames
-pub mod BatchWords
-pub mod Lines
-pub mod Script
-pub mod OutputAtError
-pub mod SolveLaws
-pub mod SolverStates
-pub mod Status
 pub mod BatchRun
 pub mod BatchLaws
 pub mod AuditRun
@@ -18,7 +11,6 @@ pub mod LineTexts
 pub mod LiveRun
 pub mod LiveLines
 pub mod RunFaults
-pub mod OpenChanges
 pub mod Updates
 pub mod UpdatesStates
 pub mod ServedRun

@@ -2,19 +2,14 @@
 use Rattle.std.specs.Prelude.{ℕ, List}
 use Rattle.cspf_serve.specs.declared.line.Line.{Line}
 use Rattle.cspf_serve.specs.declared.line.Line.TheVariants as line
-use Rattle.cspf_stream.specs.RefusedRows.{refused_row_line}
-use Rattle.cspf_serve.specs.Lines.{version_line, refused_batch_line, unended_line, too_many_line}
+use Rattle.cspf_stream.specs.LineTexts.{stream_line_text}
 use Rattle.cspf_serve.specs.AuditRun.{fault_line, audited_line, same_id_line}
 use Rattle.cspf_serve.specs.BatchRun.{torn_line, refused_request_line}
 use Rattle.cspf_serve.specs.LiveWords.{applied_line, unpublished_line}
 
 -- the text of a line
 abbrev pub line_text : Line → List ℕ
-line_text (line.RefusedRow row error) = refused_row_line row error
-line_text (line.Version version) = version_line version
-line_text (line.RefusedBatch number refusal) = refused_batch_line number refusal
-line_text (line.Unended count) = unended_line count
-line_text line.TooManyRows = too_many_line
+line_text (line.Stream said) = stream_line_text said
 line_text (line.Torn count) = torn_line count
 line_text (line.RefusedRequest row error) = refused_request_line row error
 line_text (line.Applied count) = applied_line count

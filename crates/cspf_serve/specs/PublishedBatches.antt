@@ -4,9 +4,9 @@ use Rattle.cspf_model.specs.declared.refusal.Refusal.{Refusal}
 use Rattle.cspf_model.specs.Numbered.{NumberedChanges}
 use Rattle.cspf_model.specs.Changes.{database_after}
 use Rattle.cspf_model.specs.Refusals.{IsRefusal}
-use Rattle.cspf_serve.specs.declared.batch_refusal.BatchRefusal.TheVariants as refusal
+use Rattle.cspf_stream.specs.declared.batch_refusal.BatchRefusal.TheVariants as refusal
 use Rattle.cspf_serve.specs.declared.line.Line.{Line}
-use Rattle.cspf_serve.specs.Lines.{refused_batch_line}
+use Rattle.cspf_stream.specs.Lines.{refused_batch_line}
 use Rattle.cspf_serve.specs.LineTexts.{line_text}
 
 -- the batch after those that are published doesn't fit, as the line says

@@ -18,7 +18,7 @@ use Rattle.cspf_stream.specs.RowAnswers.{AreAllAnswered}
 use Rattle.cspf_stream.specs.StreamStops.{HasStopped, IsLineStopped}
 use Rattle.cspf_stream.specs.declared.error.StreamError.{StreamError}
 use Rattle.cspf_stream.specs.declared.error.StreamError.TheVariants as error
-use Rattle.cspf_serve.specs.Script.{end_line}
+use Rattle.cspf_stream.specs.Lines.{end_line}
 use Rattle.cspf_serve.specs.Updates.{UpdatesState, IsUpdateAnswered, IsUpdateLost, at_next_update, no_updates}
 use Rattle.cspf_serve.specs.declared.serving.served_run.Served.{Served}
 

@@ -8,8 +8,8 @@ use Rattle.cspf_model.specs.Changes.{AreLawful, database_after}
 use Rattle.cspf_rows.specs.JournalLaws.{journal_text}
 use Rattle.cspf_snapshot.specs.Snapshots.{IsSnapshot}
 use Rattle.cspf_serve.specs.BatchRun.{AreBatchesOf, IsJournalRefused}
-use Rattle.cspf_serve.specs.Lines.{refused_batch_line}
-use Rattle.cspf_serve.specs.declared.batch_refusal.BatchRefusal.TheVariants.{Unfit}
+use Rattle.cspf_stream.specs.Lines.{refused_batch_line}
+use Rattle.cspf_stream.specs.declared.batch_refusal.BatchRefusal.TheVariants.{Unfit}
 
 -- The batches make from nothing the database of the journal's own, each of which fits those before it.
 pub record IsSnapshotOf (accept_torn : Bool) (records : Records) (making : List NumberedChanges) : Type 0 where

@@ -8,7 +8,7 @@ use Rattle.cspf_rows.specs.declared.row.Row.{Row}
 use Rattle.cspf_rows.specs.declared.row.Row.TheVariants as row
 use Rattle.cspf_rows.specs.declared.row_error.RowError.{RowError}
 use Rattle.cspf_serve.specs.LiveWords.{unpublished_line}
-use Rattle.cspf_serve.specs.Script.{RunState, start, at_next_row, after_refused_batch, open_batch, IsAccepted, IsEndAnswered, IsRowAnswered}
+use Rattle.cspf_solve.specs.Script.{RunState, start, at_next_row, after_refused_batch, open_batch, IsAccepted, IsEndAnswered, IsRowAnswered}
 
 -- the state between two rows
 pub record UpdatesState : Type 0 where

@@ -1,14 +1,16 @@
 -- Private: the state of a stream of updates that the code keeps.
-use Rattle.std.specs.Prelude.{◌≡◌, ◌≢◌, ℕ, ◌+◌, ◌<◌, false, Option, List, ◌++◌, length, Result}
+use Rattle.std.specs.Prelude.{◌≡◌, ◌≢◌, ℕ, ◌+◌, ◌<◌, false, Option, List, [], ◌∷◌, ◌++◌, length, Result}
 use Rattle.std.specs.Io.KnownBytes.{Appends}
+use Rattle.cspf_model.specs.Numbered.{NumberedChanges}
+use Rattle.cspf_publish.specs.ApplyErrors.{IsNextBatch}
 use Rattle.cspf_publish.specs.PublisherStates.{PublisherState}
 use Rattle.cspf_model.specs.declared.limits.TheConstants.{MOST_VERSIONS}
 use Rattle.cspf_rows.specs.BatchText.{batch_text}
 use Rattle.cspf_rows.specs.declared.row.Row.{Row}
 use Rattle.cspf_rows.specs.declared.row_error.RowError.{RowError}
-use Rattle.cspf_serve.specs.declared.serving.open_changes.OpenChanges.{OpenChanges}
-use Rattle.cspf_serve.specs.OpenChanges.{AreOpen}
-use Rattle.cspf_serve.specs.Script.{open_batch, after_batch, after_refused_batch, IsAccepted}
+use Rattle.cspf_stream.specs.declared.open_changes.OpenChanges.{OpenChanges}
+use Rattle.cspf_stream.specs.OpenChanges.{AreOpen}
+use Rattle.cspf_solve.specs.Script.{open_batch, after_batch, after_refused_batch, IsAccepted}
 use Rattle.cspf_serve.specs.Updates.{UpdatesState, IsUpdateAnswered, IsUpdateLost, IsEndUpdate, at_next_update}
 
 -- the publisher, the open changes, and how many rows and batches were refused
@@ -35,6 +37,13 @@ pub record KeepsUpdates {J : Type 0} (contents : J → Option (List ℕ)) (first
   pub published : ArePublished contents first k.publisher s
   pub changes : AreOpen k.changes s.run.changes
   pub refused : k.refused ≡ s.run.refused
+
+-- The batch comes next and is published, and its text is in the journal.
+pub record IsPublished {J : Type 0} (contents : J → Option (List ℕ)) (old new : PublisherState J) (b : NumberedChanges) : Type 0 where
+  pub next : IsNextBatch old b
+  pub batches : new.batches ≡ old.batches ++ b ∷ []
+  pub going : new.stopped ≡ false
+  pub recorded : Appends (contents old.journal) (contents new.journal) (batch_text b)
 
 -- if the code keeps a state before, it keeps a state after that this relation relates to it
 abbrev pub Leads : {J : Type 0} → (J → Option (List ℕ)) → KeptUpdates J → KeptUpdates J → (UpdatesState → UpdatesState → Type 0) → Type 0

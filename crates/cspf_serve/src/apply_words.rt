@@ -1,5 +1,5 @@
-use crate::BatchRefusal;
 use cspf_publish::ApplyError;
+use cspf_stream::BatchRefusal;
 use std::fmt;
 
 /// The words of a batch that isn't published.

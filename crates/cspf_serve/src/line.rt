@@ -1,26 +1,18 @@
 //! The lines of a run, all but the replies to requests.
 
-use crate::BatchRefusal;
 use crate::apply_words::ApplyWords;
 use cspf_audit::AuditFault;
 use cspf_publish::ApplyError;
 use cspf_rows::RowError;
+use cspf_stream::StreamLine;
 use std::alloc::{AllocError, Global};
 use std::fmt;
 
 /// A line of a run, unless it is the reply to a request.
 #[derive(Clone, Copy)]
 pub(crate) enum Line {
-    /// The row with this number is refused.
-    RefusedRow { row: u32, error: RowError },
-    /// A batch is accepted, which makes this version.
-    Version { version: u32 },
-    /// The batch with this number is refused.
-    RefusedBatch { number: u32, refusal: BatchRefusal },
-    /// This many changes are taken by no batch.
-    Unended { count: u64 },
-    /// In place of rows that aren't read.
-    TooManyRows,
+    /// A line that streams of rows have, too.
+    Stream(StreamLine),
     /// A journal has this many batches, and rows after them.
     Torn { count: usize },
     /// The request row with this number is refused.
@@ -45,14 +37,7 @@ impl fmt::Display for Line {
 
     fn fmt<W: fmt::Write>(&self, f: &mut fmt::Formatter<W>) -> fmt::Result {
         match *self {
-            Line::RefusedRow { row, error } => write!(f, "row {row} refused: {error}\n"),
-            Line::Version { version } => write!(f, "version {version}\n"),
-            Line::RefusedBatch { number, refusal } => write!(
-                f,
-                "batch {number} refused: {refusal}\n"
-            ),
-            Line::Unended { count } => write!(f, "unended {count}\n"),
-            Line::TooManyRows => f.write_str("too many rows\n"),
+            Line::Stream(line) => write!(f, "{line}"),
             Line::Torn { count } => write!(f, "journal torn after {count}\n"),
             Line::RefusedRequest { row, error } => write!(
                 f,

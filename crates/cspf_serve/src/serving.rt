@@ -1,6 +1,5 @@
 //! Updates are published as they come in, while clients ask, each on its stream.
 
-mod open_changes;
 mod served_run;
 mod updates;
 

@@ -1,5 +1,5 @@
 -- A stream of rows, the first of which were read and answered.
-use Rattle.std.proofs.Common.{◌≡◌, ℕ, suc, ◌+◌, Bool, true, false, List, [], ◌∷◌, ◌++◌, length, length-append, Option, Some, None, IfSome, inl, inr, refl, sym, ap, ◌∙◌, append_assoc, append-nil, arith}
+use Rattle.std.proofs.Common.{◌≡◌, ℕ, suc, ◌+◌, ◌<◌, ◌≤◌, Bool, true, false, List, [], ◌∷◌, ◌++◌, length, length-append, Option, Some, None, IfSome, Result, Ok, Err, OnOk, IfErr, inl, inr, refl, sym, ap, ◌∙◌, append_assoc, append-nil, arith}
 use Rattle.std.proofs.KnownBytes.{Appends-nil, Appends-trans}
 use Rattle.std.specs.Io.KnownBytes.{Appends}
 use Rattle.cspf_rows.specs.ReadFaults.{stream_fault_of}
@@ -8,7 +8,8 @@ use Rattle.cspf_rows.specs.Rows.{row_of}
 use Rattle.cspf_rows.specs.declared.record_error.RecordError.{RecordError}
 use Rattle.cspf_rows.specs.declared.record_error.RecordError.TheVariants as fault
 use Rattle.cspf_stream.specs.RowAnswers.{AnswersOf, AreAnswered, AreAllAnswered}
-use Rattle.cspf_stream.specs.StreamStops.{FailsOf, IsRowStopped, HasStopped, StopsBetween}
+use Rattle.cspf_stream.specs.FirstRows.{AreFirstRowsAnswered, StopsAfterRows, StopsInRowAfter, IsRowStoppedAfter, IsLineStoppedAfter, HasStoppedAfter}
+use Rattle.cspf_stream.specs.StreamStops.{FailsOf, IsRowStopped, IsLineStopped, HasStopped, StopsInRow}
 use Rattle.cspf_stream.specs.declared.limits.TheConstants.{MOST_STREAM_ROWS}
 use Rattle.cspf_stream.specs.declared.error.StreamError.{StreamError}
 use Rattle.cspf_stream.specs.declared.error.StreamError.TheVariants as stream_error
@@ -21,13 +22,14 @@ abbrev pub IsReadUpTo : Option (List (List (List ℕ))) → List (List (List ℕ
 IsReadUpTo all done left = IfSome all (λ rows. (rest : List (List (List ℕ))) × (left ≡ Some rest) × (rows ≡ done ++ rest))
 
 -- a stream of which this many rows are answered, from a state to a state
-pub record IsGoing {S : Type 0} (answers : AnswersOf S) (all left : Option (List (List (List ℕ)))) (s t : S) (old new : Option (List ℕ)) (read : ℕ) : Type 0 where
+pub record IsGoing {S : Type 0} (answers : AnswersOf S) (all left : Option (List (List (List ℕ)))) (s t : S) (old new : Option (List ℕ)) (read bytes : ℕ) : Type 0 where
   pub done : List (List (List ℕ))
   pub lines : List ℕ
   pub count : length done ≡ read
   pub split : IsReadUpTo all done left
   pub answered : AreAnswered answers 1 s done lines t
   pub written : Appends old new lines
+  pub size : length lines ≡ bytes
 
 -- a row was read
 row_read : (left next : Option Rows) (rows : Rows) (fields : List (List ℕ)) → left ≡ Some rows → Takes left next true fields
@@ -105,21 +107,22 @@ module _ {S : Type 0} (answers : AnswersOf S) where
         answered_more (suc place) before.1 t u done fields before.2 line before.5 (rw n at step),
       )
 
-  pub begins : (all : Option (List (List (List ℕ)))) (s : S) (old : Option (List ℕ)) → IsGoing answers all all s s old old 0
-  begins all s old = record {
+  pub begins : (all : Option (List (List (List ℕ)))) (s : S) (old : Option (List ℕ)) (bytes : ℕ) → bytes ≡ 0 → IsGoing answers all all s s old old 0 bytes
+  begins all s old bytes none = record {
     done = [];
     lines = [];
     count = refl;
     split = split_at_start all;
     answered = none_answered 1 s;
     written = Appends-nil old;
+    size = sym none;
   }
 
-  module _ (all left next : Option (List (List (List ℕ)))) (s t : S) (old mid : Option (List ℕ)) (read : ℕ) (fields : List (List ℕ)) (going : IsGoing answers all left s t old mid read) where
+  module _ (all left next : Option (List (List (List ℕ)))) (s t : S) (old mid : Option (List ℕ)) (read bytes : ℕ) (fields : List (List ℕ)) (going : IsGoing answers all left s t old mid read bytes) where
     -- one more row is answered
-    pub steps : (u : S) (new : Option (List ℕ)) (line : List ℕ) → Takes left next true fields → answers (read + 1) t (row_of fields) line u → Appends mid new line
-        → IsGoing answers all next s u old new (read + 1)
-    steps u new line takes answered written =
+    pub steps : (u : S) (new : Option (List ℕ)) (line : List ℕ) (after : ℕ) → Takes left next true fields → answers (read + 1) t (row_of fields) line u → Appends mid new line
+        → after ≡ bytes + length line → IsGoing answers all next s u old new (read + 1) after
+    steps u new line after takes answered written size =
         let place : read + 1 ≡ 1 + length going.done = omega (arith, going.count) in
         record {
           done = going.done ++ (fields ∷ []);
@@ -128,86 +131,80 @@ module _ {S : Type 0} (answers : AnswersOf S) where
           split = split_more all next going.done fields (split_next all left next going.done fields going.split takes);
           answered = answered_more 1 s t u going.done fields going.lines line going.answered (rw place at answered);
           written = Appends-trans old mid new going.lines line going.written written;
+          size = omega (arith, length-append going.lines line, going.size, size);
         }
 
     -- no row is left
-    pub ends : Takes left next false fields → AreAllAnswered answers all s t old mid
-    ends takes = record {
-      done = going.done;
-      lines = going.lines;
-      whole = split_whole all left next going.done fields going.split takes;
-      answered = going.answered;
-      written = going.written;
+    pub ends : (limit : ℕ) → read ≤ limit → Takes left next false fields → AreFirstRowsAnswered answers limit bytes all s t old mid
+    ends limit few takes = record {
+      whole = record {
+        done = going.done;
+        lines = going.lines;
+        whole = split_whole all left next going.done fields going.split takes;
+        answered = going.answered;
+        written = going.written;
+      };
+      few = omega (arith, going.count, few);
+      size = going.size;
     }
 
-    between : StopsBetween answers all s t old mid
-    between = record {
-      done = going.done;
-      rest = rest_of left;
-      lines = going.lines;
-      split = split_here all left going.done going.split;
-      answered = going.answered;
-      written = going.written;
+    between : (limit : ℕ) → read ≤ limit → StopsAfterRows answers limit bytes all s t old mid
+    between limit few = record {
+      between = record {
+        done = going.done;
+        rest = rest_of left;
+        lines = going.lines;
+        split = split_here all left going.done going.split;
+        answered = going.answered;
+        written = going.written;
+      };
+      few = omega (arith, going.count, few);
+      size = going.size;
     }
 
-    module _ (fails : FailsOf S) where
+    module _ (fails : FailsOf S) (limit : ℕ) (flush : Bool) where
       -- a row can't be read
-      pub stops_at_read : (why : RecordError) (error : StreamError) (after : Option (List (List (List ℕ)))) (failed : Bool) → failed ≡ true
-          → error ≡ stream_fault_of stream_error.Memory stream_error.Read why → HasStopped answers fails error all after failed s t old mid
-      stops_at_read fault.Memory error after failed is e = rw e (inl (is, between))
-      stops_at_read fault.Device error after failed is e = rw e (is, between)
+      pub stops_at_read : (why : RecordError) (error : StreamError) (after : Option (List (List (List ℕ)))) (failed : Bool) → failed ≡ true → read ≤ limit
+          → error ≡ stream_fault_of stream_error.Memory stream_error.Read why → HasStoppedAfter answers fails limit flush bytes error all after failed s t old mid
+      stops_at_read fault.Memory error after failed is few e = rw e (inl (is, between limit few))
+      stops_at_read fault.Device error after failed is few e = rw e (is, between limit few)
 
       -- the row that was read stops
-      pub stops_in_row : (u : S) (new : Option (List ℕ)) (failed : Bool) (error : StreamError) → Takes left next true fields
-          → IsRowStopped answers fails error (read + 1) (row_of fields) t u mid new → HasStopped answers fails error all next failed s u old new
-      stops_in_row u new failed error takes stops =
+      pub stops_in_row : (u : S) (new : Option (List ℕ)) (failed : Bool) (error : StreamError) (after : ℕ) → read < limit → Takes left next true fields
+          → IsRowStoppedAfter answers fails flush bytes after error (read + 1) (row_of fields) t u mid new → HasStoppedAfter answers fails limit flush after error all next failed s u old new
+      stops_in_row u new failed error after few takes stops =
           let split = split_rest all next going.done fields (split_next all left next going.done fields going.split takes) in
           let place : read + 1 ≡ suc (length going.done) = omega (arith, going.count) in
-          go error (rw place at stops) split
+          let before : bytes ≡ length going.lines = sym going.size in
+          go error (rw (place, before) at stops) split
         where
-          go : (error : StreamError) → IsRowStopped answers fails error (suc (length going.done)) (row_of fields) t u mid new
-              → IfSome all (λ rows. (rows ≡ going.done ++ (fields ∷ rest_of next)) × (next ≡ Some (rest_of next))) → HasStopped answers fails error all next failed s u old new
-          go stream_error.Memory stops split = inr (record {
+          here : (why : StreamError) → IsRowStoppedAfter answers fails flush (length going.lines) after why (suc (length going.done)) (row_of fields) t u mid new
+              → IfSome all (λ rows. (rows ≡ going.done ++ (fields ∷ rest_of next)) × (next ≡ Some (rest_of next)))
+              → StopsInRowAfter answers fails limit flush after why all next s u old new
+          here why stops split = record {
             done = going.done;
             fields = fields;
             rest = rest_of next;
             lines = going.lines;
             before = t;
             mid = mid;
+            few = omega (arith, going.count, few);
             split = split;
             answered = going.answered;
             written = going.written;
             stops = stops;
-          })
+          }
+
+          go : (error : StreamError) → IsRowStoppedAfter answers fails flush (length going.lines) after error (suc (length going.done)) (row_of fields) t u mid new
+              → IfSome all (λ rows. (rows ≡ going.done ++ (fields ∷ rest_of next)) × (next ≡ Some (rest_of next))) → HasStoppedAfter answers fails limit flush after error all next failed s u old new
+          go stream_error.Memory stops split = inr (here stream_error.Memory stops split)
           go stream_error.Read stops split = absurd stops
-          go stream_error.Write stops split = record {
-            done = going.done;
-            fields = fields;
-            rest = rest_of next;
-            lines = going.lines;
-            before = t;
-            mid = mid;
-            split = split;
-            answered = going.answered;
-            written = going.written;
-            stops = stops;
-          }
-          go stream_error.Flush stops split = record {
-            done = going.done;
-            fields = fields;
-            rest = rest_of next;
-            lines = going.lines;
-            before = t;
-            mid = mid;
-            split = split;
-            answered = going.answered;
-            written = going.written;
-            stops = stops;
-          }
+          go stream_error.Write stops split = here stream_error.Write stops split
+          go stream_error.Flush stops split = here stream_error.Flush stops split
           go stream_error.TooManyRows stops split = absurd stops
 
-      -- one row more than can be counted
-      pub too_many : (failed : Bool) → read ≡ MOST_STREAM_ROWS → Takes left next true fields → HasStopped answers fails stream_error.TooManyRows all next failed s t old mid
+      -- one row more than the limit allows
+      pub too_many : (failed : Bool) → read ≡ limit → Takes left next true fields → HasStoppedAfter answers fails limit flush bytes stream_error.TooManyRows all next failed s t old mid
       too_many failed most takes = record {
         done = going.done;
         fields = fields;
@@ -217,4 +214,88 @@ module _ {S : Type 0} (answers : AnswersOf S) where
         split = first_of all next going.done fields (split_rest all next going.done fields (split_next all left next going.done fields going.split takes));
         answered = going.answered;
         written = going.written;
+        size = going.size;
       }
+
+-- ---- a stream without a limit but the count of its rows
+
+module _ {S : Type 0} (answers : AnswersOf S) (fails : FailsOf S) (bytes : ℕ) (all left : Option (List (List (List ℕ)))) (failed : Bool) (s t : S) (old new : Option (List ℕ)) where
+  row_stopped : (flush : Bool) (before after : ℕ) (why : StreamError) (place : ℕ) (fields : List (List ℕ)) (b : S) (mid : Option (List ℕ))
+      → IsRowStoppedAfter answers fails flush before after why place (row_of fields) b t mid new → IsRowStopped answers fails why place (row_of fields) b t mid new
+  row_stopped flush before after stream_error.Memory place fields b mid a = (a.0, a.1)
+  row_stopped flush before after stream_error.Read place fields b mid a = absurd a
+  row_stopped flush before after stream_error.Write place fields b mid a = (a.0, a.2, (a.1, a.3, a.4))
+  row_stopped flush before after stream_error.Flush place fields b mid a = (a.0, a.1, a.3)
+  row_stopped flush before after stream_error.TooManyRows place fields b mid a = absurd a
+
+  in_row : (flush : Bool) (limit : ℕ) (why : StreamError) → StopsInRowAfter answers fails limit flush bytes why all left s t old new → StopsInRow answers fails why all left s t old new
+  in_row flush limit why a = record {
+    done = a.done;
+    fields = a.fields;
+    rest = a.rest;
+    lines = a.lines;
+    before = a.before;
+    mid = a.mid;
+    split = a.split;
+    answered = a.answered;
+    written = a.written;
+    stops = row_stopped flush (length a.lines) bytes why (suc (length a.done)) a.fields a.before a.mid a.stops;
+  }
+
+  stopped : (flush : Bool) (why : StreamError) → HasStoppedAfter answers fails MOST_STREAM_ROWS flush bytes why all left failed s t old new
+      → HasStopped answers fails why all left failed s t old new
+  stopped flush stream_error.Memory (inl a) = inl (a.0, a.1.between)
+  stopped flush stream_error.Memory (inr a) = inr (in_row flush MOST_STREAM_ROWS stream_error.Memory a)
+  stopped flush stream_error.Read a = (a.0, a.1.between)
+  stopped flush stream_error.Write a = in_row flush MOST_STREAM_ROWS stream_error.Write a
+  stopped flush stream_error.Flush a = in_row flush MOST_STREAM_ROWS stream_error.Flush a
+  stopped flush stream_error.TooManyRows a = record {
+    done = a.done;
+    fields = a.fields;
+    rest = a.rest;
+    lines = a.lines;
+    count = a.count;
+    split = a.split;
+    answered = a.answered;
+    written = a.written;
+  }
+
+  pub all_answered : {T : Type 0} (r : Result T StreamError) (limit : ℕ) → OnOk r (AreFirstRowsAnswered answers limit bytes all s t old new) → OnOk r (AreAllAnswered answers all s t old new)
+  all_answered (Ok x) limit a = a.whole
+  all_answered (Err e) limit a = tt
+
+  pub all_stopped : {T : Type 0} (r : Result T StreamError) (flush : Bool) → IfErr r (λ why. HasStoppedAfter answers fails MOST_STREAM_ROWS flush bytes why all left failed s t old new)
+      → IfErr r (λ why. HasStopped answers fails why all left failed s t old new)
+  all_stopped (Ok x) flush a = tt
+  all_stopped (Err why) flush a = stopped flush why a
+
+-- ---- a line
+
+line_cut : (size : ℕ) (flush : Bool) (why : StreamError) (line : List ℕ) (old new : Option (List ℕ)) → IsLineStoppedAfter flush size why line old new → IsLineStopped why line old new
+line_cut size flush stream_error.Memory line old new a = absurd a
+line_cut size flush stream_error.Read line old new a = absurd a
+line_cut size flush stream_error.Write line old new a = (size, a.0, a.1)
+line_cut size flush stream_error.Flush line old new a = a.2
+line_cut size flush stream_error.TooManyRows line old new a = absurd a
+
+pub line_stopped : {T : Type 0} (r : Result T StreamError) (size : ℕ) (flush : Bool) (line : List ℕ) (old new : Option (List ℕ)) → IfErr r (λ why. IsLineStoppedAfter flush size why line old new)
+    → IfErr r (λ why. IsLineStopped why line old new)
+line_stopped (Ok x) size flush line old new a = tt
+line_stopped (Err why) size flush line old new a = line_cut size flush why line old new a
+
+-- the answer to a row stops in its line
+row_cut : {S : Type 0} (answers : AnswersOf S) (fails : FailsOf S) (flush : Bool) (before size after : ℕ) (why : StreamError) (place : ℕ) (fields : List (List ℕ)) (s t : S) (line : List ℕ) (old new : Option (List ℕ))
+    → answers place s (row_of fields) line t → after ≡ before + size → IsLineStoppedAfter flush size why line old new
+    → IsRowStoppedAfter answers fails flush before after why place (row_of fields) s t old new
+row_cut answers fails flush before size after stream_error.Memory place fields s t line old new answered is a = absurd a
+row_cut answers fails flush before size after stream_error.Read place fields s t line old new answered is a = absurd a
+row_cut answers fails flush before size after stream_error.Write place fields s t line old new answered is a = (line, size, answered, a.0, a.1, is)
+row_cut answers fails flush before size after stream_error.Flush place fields s t line old new answered is a = (line, answered, a.0, a.2, is ∙ ap (λ n. before + n) a.1)
+row_cut answers fails flush before size after stream_error.TooManyRows place fields s t line old new answered is a = absurd a
+
+pub row_stops : {T : Type 0} (r : Result T StreamError) {S : Type 0} (answers : AnswersOf S) (fails : FailsOf S) (flush : Bool) (before size after place : ℕ) (fields : List (List ℕ)) (s t : S) (line : List ℕ) (old new : Option (List ℕ))
+    → answers place s (row_of fields) line t → after ≡ before + size → IfErr r (λ why. IsLineStoppedAfter flush size why line old new)
+    → IfErr r (λ why. IsRowStoppedAfter answers fails flush before after why place (row_of fields) s t old new)
+row_stops (Ok x) answers fails flush before size after place fields s t line old new answered is a = tt
+row_stops (Err why) answers fails flush before size after place fields s t line old new answered is a =
+    row_cut answers fails flush before size after why place fields s t line old new answered is a

@@ -1,1 +1,4 @@
+-- The lemmas of this crate's proofs.
 pub mod Going
+pub mod KeptChanges
+pub mod RowsOfSteps

@@ -1,3 +1,10 @@
+-- The words of this crate's contracts.
+pub mod BatchWords
+pub mod FirstRows
+pub mod Lines
+pub mod LineTexts
+pub mod OpenChanges
 pub mod RefusedRows
 pub mod RowAnswers
+pub mod Steps
 pub mod StreamStops

@@ -1,20 +1,29 @@
 //! The loop over a stream: each row is answered, and its line is written before the next row is
 //! read.
 
-ghost use Rattle.std.specs.Prelude.{◌≡◌, ◌+◌, ◌<◌, ◌≤◌, ℕ, List, true, length, take, OnOk, IfErr};
+ghost use Rattle.std.specs.Prelude.{◌≡◌, ◌+◌, ◌*◌, ◌^◌, ◌<◌, ◌≤◌, ℕ, List, true, false, length, OnOk, IfErr};
 ghost use Rattle.std.specs.Io.KnownBytes.{Appends};
 ghost use Rattle.csv.specs.Records.{fields_of};
 ghost use Rattle.csv.specs.Reading.{has_failed};
 ghost use Rattle.cspf_rows.specs.Records.{rows_left, IsPlain};
 ghost use Rattle.cspf_rows.specs.Rows.{row_of};
 ghost use Rattle.cspf_stream.specs.RowAnswers.{AreAllAnswered};
-ghost use Rattle.cspf_stream.specs.StreamStops.{HasStopped, IsRowStopped, IsLineStopped};
+ghost use Rattle.cspf_stream.specs.StreamStops.{HasStopped, IsLineStopped};
+ghost use Rattle.cspf_stream.specs.FirstRows.{AreFirstRowsAnswered, HasStoppedAfter, IsRowStoppedAfter, IsLineStoppedAfter};
 
 use crate::{Answering, MOST_STREAM_ROWS, StreamError};
 use cspf_rows::{Row, next_record, put_all};
 use csv::{ByteRecord, Reader};
 use std::alloc::Global;
 use std::io::{Read, Write};
+
+/// How a stream is answered: how many rows at most, and whether the writer is flushed after each
+/// line.
+#[derive(Clone, Copy)]
+struct Manner {
+    limit: u64,
+    flush: bool,
+}
 
 /// Answers all rows that a reader has left, in order. The line of a row is written and flushed
 /// before the next row is read. It takes one write where the writer takes it whole. An empty line
@@ -37,32 +46,101 @@ pub fn answer_rows<R: Read, W: Write, C, A: Answering<C>>(
         (rows_left R.remaining rows.old) (rows_left R.remaining rows.new) (has_failed rows.new)
         answering.old answering.new (W.contents writer.old) (W.contents writer.new)) }
 {
+    let manner = Manner {
+        limit: MOST_STREAM_ROWS,
+        flush: true,
+    };
     let mut fields = ByteRecord::new(alloc);
-    answer_each(context, alloc, rows, &mut fields, writer, answering)
+    let mut written = 0;
+    answer_each(
+        context,
+        alloc,
+        manner,
+        rows,
+        &mut fields,
+        writer,
+        &mut written,
+        answering,
+    )
 }
 
-/// Answers all rows that a reader has left, each of which is read into these fields.
+/// Answers the rows that a reader has left as `answer_rows` does, but at most as many as the limit
+/// allows, and without a flush. Returns how many bytes were written, and how the stream ended.
+pub fn answer_first_rows<R: Read, W: Write, C, A: Answering<C>>(
+    context: &C,
+    alloc: Global,
+    limit: u64,
+    rows: &mut Reader<R>,
+    writer: &mut W,
+    answering: &mut A,
+) -> (u128, Result<(), StreamError>)
+    requires plain { IsPlain rows.old }
+    requires state { A.may_stand 1 answering.old }
+    ensures whole { OnOk result.1 (AreFirstRowsAnswered A.answers limit result.0
+        (rows_left R.remaining rows.old)
+        answering.old answering.new (W.contents writer.old) (W.contents writer.new)) }
+    ensures stopped { IfErr result.1 (λ error. HasStoppedAfter A.answers A.fails limit false result.0 error
+        (rows_left R.remaining rows.old) (rows_left R.remaining rows.new) (has_failed rows.new)
+        answering.old answering.new (W.contents writer.old) (W.contents writer.new)) }
+    ensures small { result.0 ≤ limit * 2 ^ 64 }
+{
+    let manner = Manner {
+        limit,
+        flush: false,
+    };
+    let mut fields = ByteRecord::new(alloc);
+    let mut written = 0;
+    let ended = answer_each(
+        context,
+        alloc,
+        manner,
+        rows,
+        &mut fields,
+        writer,
+        &mut written,
+        answering,
+    );
+    (written, ended)
+}
+
+/// Answers the rows that a reader has left, each of which is read into these fields, and counts the
+/// bytes that are written.
 fn answer_each<R: Read, W: Write, C, A: Answering<C>>(
     context: &C,
     alloc: Global,
+    manner: Manner,
     rows: &mut Reader<R>,
     fields: &mut ByteRecord,
     writer: &mut W,
+    written: &mut u128,
     answering: &mut A,
 ) -> Result<(), StreamError>
     requires plain { IsPlain rows.old }
     requires state { A.may_stand 1 answering.old }
-    ensures whole { OnOk result (AreAllAnswered A.answers (rows_left R.remaining rows.old)
+    requires none { written.old ≡ 0 }
+    ensures whole { OnOk result (AreFirstRowsAnswered A.answers manner.limit written.new
+        (rows_left R.remaining rows.old)
         answering.old answering.new (W.contents writer.old) (W.contents writer.new)) }
-    ensures stopped { IfErr result (λ error. HasStopped A.answers A.fails error
+    ensures stopped { IfErr result (λ error. HasStoppedAfter A.answers A.fails
+        manner.limit manner.flush written.new error
         (rows_left R.remaining rows.old) (rows_left R.remaining rows.new) (has_failed rows.new)
         answering.old answering.new (W.contents writer.old) (W.contents writer.new)) }
+    ensures small { written.new ≤ manner.limit * 2 ^ 64 }
 {
-    for read in 0..MOST_STREAM_ROWS {
+    for read in 0..manner.limit {
         if !next_record(rows, fields)? {
             return Ok(());
         }
-        answer_row(context, alloc, read + 1, fields, writer, answering)?;
+        answer_row(
+            context,
+            alloc,
+            manner.flush,
+            read + 1,
+            fields,
+            writer,
+            written,
+            answering,
+        )?;
     }
     if next_record(rows, fields)? {
         return Err(StreamError::TooManyRows);
@@ -70,27 +148,61 @@ fn answer_each<R: Read, W: Write, C, A: Answering<C>>(
     Ok(())
 }
 
-/// Answers the row at this place, and writes and flushes its line.
+/// Answers the row at this place, writes its line, flushes the writer where that is asked for, and
+/// counts the bytes that are written.
 fn answer_row<W: Write, C, A: Answering<C>>(
     context: &C,
     alloc: Global,
+    flush: bool,
     place: u64,
     fields: &ByteRecord,
     writer: &mut W,
+    written: &mut u128,
     answering: &mut A,
 ) -> Result<(), StreamError>
     requires place { 1 ≤ place }
     requires state { A.may_stand place answering.old }
+    requires room { written.old + 2 ^ 64 ≤ place * 2 ^ 64 }
     ensures answered { OnOk result ((line : List ℕ)
         × A.answers place answering.old (row_of (fields_of fields.now)) line answering.new
-        × Appends (W.contents writer.old) (W.contents writer.new) line) }
+        × Appends (W.contents writer.old) (W.contents writer.new) line
+        × (written.new ≡ written.old + length line)) }
     ensures state { OnOk result (A.may_stand (place + 1) answering.new) }
-    ensures stopped { IfErr result (λ error. IsRowStopped A.answers A.fails error
+    ensures stopped { IfErr result (λ error. IsRowStoppedAfter A.answers A.fails
+        flush written.old written.new error
         place (row_of (fields_of fields.now)) answering.old answering.new
         (W.contents writer.old) (W.contents writer.new)) }
+    ensures small { written.new ≤ place * 2 ^ 64 }
 {
     let line = answering.answer(context, alloc, place, &Row::read(fields))?;
-    put_line(line.as_slice(), writer)
+    let (size, put) = put_counted(line.as_slice(), flush, writer);
+    *written += size as u128;
+    put
+}
+
+/// Writes a line and flushes the writer where that is asked for, unless the line is empty. Returns
+/// how many bytes of it were written, too.
+fn put_counted<W: Write>(
+    line: &[u8],
+    flush: bool,
+    writer: &mut W,
+) -> (usize, Result<(), StreamError>)
+    ensures whole { OnOk result.1 (Appends (W.contents writer.old) (W.contents writer.new) line.now
+        × (result.0 ≡ length line.now)) }
+    ensures stopped { IfErr result.1 (λ error. IsLineStoppedAfter flush result.0 error line.now
+        (W.contents writer.old) (W.contents writer.new)) }
+    ensures small { result.0 ≤ 2 ^ 64 }
+{
+    if line.is_empty() {
+        return (0, Ok(()));
+    }
+    if let Err(size) = put_all(writer, line) {
+        return (size, Err(StreamError::Write));
+    }
+    if flush && writer.flush().is_err() {
+        return (line.len(), Err(StreamError::Flush));
+    }
+    (line.len(), Ok(()))
 }
 
 /// Writes a line and flushes the writer, unless the line is empty.
@@ -99,14 +211,5 @@ pub fn put_line<W: Write>(line: &[u8], writer: &mut W) -> Result<(), StreamError
     ensures stopped { IfErr result (λ error. IsLineStopped error line.now
         (W.contents writer.old) (W.contents writer.new)) }
 {
-    if line.is_empty() {
-        return Ok(());
-    }
-    if put_all(writer, line).is_err() {
-        return Err(StreamError::Write);
-    }
-    if writer.flush().is_err() {
-        return Err(StreamError::Flush);
-    }
-    Ok(())
+    put_counted(line, true, writer).1
 }

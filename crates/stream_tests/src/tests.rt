@@ -2,6 +2,7 @@
 
 mod dialogues;
 mod faults;
+mod first_rows;
 mod words;
 
 ghost use Rattle.std.specs.Prelude.{◌≡◌, ◌+◌, ◌<◌, [], MatchResult};

@@ -6,12 +6,13 @@ ghost use Rattle.cspf_serve.specs.AuditRun.{IsAuditErrorLine, IsAuditRun, audit_
 ghost use Rattle.cspf_serve.specs.EarlyEnds.{IfRefused, IfFailed, IsAuditFailure};
 ghost use Rattle.cspf_serve.specs.RunFaults.{IsStreamFault};
 
+use crate::RunError;
 use crate::line::Line;
 use crate::streams::early_end::EarlyEnd;
 use crate::streams::input::requests_end_of;
 use crate::streams::output::{put_line, refuse};
-use crate::{BatchRefusal, RunError};
 use cspf_audit::{Audit, AuditError, audit};
+use cspf_stream::{BatchRefusal, StreamLine};
 use std::alloc::Global;
 use std::io::{Read, Write};
 
@@ -45,13 +46,13 @@ fn audit_end_of(error: AuditError) -> EarlyEnd
     let line = match error {
         AuditError::Memory => return EarlyEnd::Failed(RunError::Memory),
         AuditError::Device => return EarlyEnd::Failed(RunError::Device),
-        AuditError::TooManyRows => Line::TooManyRows,
+        AuditError::TooManyRows => Line::Stream(StreamLine::TooManyRows),
         AuditError::Torn { after } => Line::Torn {
             count: after as usize,
         },
         AuditError::Batch { number, refusal } => {
             let refusal = BatchRefusal::Unfit(refusal);
-            Line::RefusedBatch { number, refusal }
+            Line::Stream(StreamLine::RefusedBatch { number, refusal })
         }
         AuditError::Requests(error) => return requests_end_of(error),
         AuditError::SameId { row } => Line::SameId { row },

@@ -4,8 +4,8 @@ ghost use Rattle.std.specs.Prelude.{◌≡◌, ℕ, ◌<◌, ◌⊎◌, ◌≤�
 ghost use Rattle.std.specs.Io.KnownBytes.{Appends};
 ghost use Rattle.cspf_model.specs.Numbered.{NumberedChanges};
 ghost use Rattle.cspf_rows.specs.Records.{rows_of};
-ghost use Rattle.cspf_serve.specs.declared.solve.summary.Summary.{Summary as Counts};
-ghost use Rattle.cspf_serve.specs.Script.{IsSolveRun};
+ghost use Rattle.cspf_solve.specs.declared.summary.Summary.{Summary as Counts};
+ghost use Rattle.cspf_solve.specs.Script.{IsSolveRun};
 ghost use Rattle.cspf_serve.specs.BatchRun.{AreAccepted, IsOneUnfit, IsBatchRun};
 ghost use Rattle.cspf_serve.specs.BatchLaws.{IsCleanJournal};
 ghost use Rattle.cspf_serve.specs.EarlyEnds.{IfRefused, IfFailed, Writes, WritesAllBut};

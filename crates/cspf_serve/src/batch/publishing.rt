@@ -10,13 +10,14 @@ ghost use Rattle.cspf_serve.specs.EarlyEnds.{IfRefused, IfFailed, IsOwnFaultLine
 ghost use Rattle.cspf_serve.specs.PublishedBatches.{ArePublishedOrRefused};
 ghost use Rattle.cspf_serve.specs.RunFaults.{IsStreamFault};
 
+use crate::RunError;
 use crate::line::Line;
 use crate::streams::early_end::EarlyEnd;
 use crate::streams::input::{accept_rest, journal_end_of};
-use crate::{BatchRefusal, RunError};
 use cspf_model::Batch;
 use cspf_publish::{ApplyError, Publisher};
 use cspf_rows::{JournalReader, JournalStep};
+use cspf_stream::{BatchRefusal, StreamLine};
 use std::alloc::Global;
 use std::io::{Read, Write};
 use std::sync::Wait;
@@ -132,5 +133,5 @@ fn end_of(number: u32, error: ApplyError) -> EarlyEnd
             return EarlyEnd::Failed(RunError::Device);
         }
     };
-    EarlyEnd::Refused(Line::RefusedBatch { number, refusal })
+    EarlyEnd::Refused(Line::Stream(StreamLine::RefusedBatch { number, refusal }))
 }

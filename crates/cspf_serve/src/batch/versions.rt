@@ -7,6 +7,7 @@ ghost use Rattle.cspf_serve.specs.RunFaults.{IsStreamFault};
 use crate::RunError;
 use crate::line::Line;
 use crate::streams::output::put_line;
+use cspf_stream::StreamLine;
 use std::alloc::Global;
 use std::io::Write;
 
@@ -23,7 +24,7 @@ pub(super) fn write_versions<W: Write>(
 {
     for made in 0..count {
         let version = made + 1;
-        put_line(alloc, Line::Version { version }, writer)?;
+        put_line(alloc, Line::Stream(StreamLine::Version { version }), writer)?;
     }
     Ok(())
 }

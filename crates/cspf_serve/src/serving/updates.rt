@@ -8,20 +8,19 @@ ghost use Rattle.cspf_model.specs.Changes.{database_after};
 ghost use Rattle.cspf_model.specs.declared.batch.Change.{Change as Changed};
 ghost use Rattle.cspf_rows.specs.declared.row.Row.TheVariants.{End as IsEnd};
 ghost use Rattle.cspf_serve.specs.LineTexts.{line_text};
-ghost use Rattle.cspf_serve.specs.OpenChanges.{AreOpen};
-ghost use Rattle.cspf_serve.specs.Script.{end_line};
+ghost use Rattle.cspf_stream.specs.OpenChanges.{AreOpen};
+ghost use Rattle.cspf_stream.specs.Lines.{end_line};
 ghost use Rattle.cspf_serve.specs.Updates.{IsEndUpdate, IsUpdateAnswered, IsUpdateLost};
-ghost use Rattle.cspf_serve.specs.UpdatesStates.{IsFresh, IsMiscounted, IsPublishedAs, IsUnpublishedAs, Leads};
+ghost use Rattle.cspf_publish.specs.ApplyErrors.{IsApplyError};
+ghost use Rattle.cspf_serve.specs.UpdatesStates.{IsFresh, IsMiscounted, IsPublished, IsPublishedAs, IsUnpublishedAs, Leads};
 
-use crate::BatchRefusal;
 use crate::line::Line;
-use crate::serving::open_changes::OpenChanges;
 use cspf_client::Teller;
 use cspf_ero::reply_line;
 use cspf_model::{Change, MOST_VERSIONS, Request, one_refusal};
-use cspf_publish::{Publisher, Told};
+use cspf_publish::{ApplyError, Publisher, Told};
 use cspf_rows::{Row, RowError};
-use cspf_stream::{Answering, refused_row};
+use cspf_stream::{Answering, BatchRefusal, OpenChanges, Step, StreamLine, refused_row};
 use std::alloc::{AllocError, Global};
 use std::io::Write;
 use std::marker::Model;
@@ -112,24 +111,10 @@ impl<J: Write> Updates<J> {
         ensures count { self.new.changes.count ≤ self.old.changes.count + 1 }
         ensures refused { self.new.refused ≤ self.old.refused + 1 }
     {
-        match row {
-            Row::Put(link) => self.add(alloc, Change::Put(*link)),
-            Row::Remove { from, local } => {
-                let change = Change::Remove {
-                    from: *from,
-                    local: *local,
-                };
-                self.add(alloc, change)
-            }
-            Row::Node { router, transit } => {
-                let change = Change::Node {
-                    router: *router,
-                    transit: *transit,
-                };
-                self.add(alloc, change)
-            }
-            Row::End { number, count } => self.end(rt, alloc, *number, *count),
-            Row::Ask(request) => self.reply(alloc, request),
+        match Step::of(row) {
+            Step::Change(change) => self.add(alloc, change),
+            Step::End { number, count } => self.end(rt, alloc, number, count),
+            Step::Ask(request) => self.reply(alloc, &request),
         }
     }
 
@@ -165,7 +150,7 @@ impl<J: Write> Updates<J> {
         ensures count { self.new.changes.count ≤ self.old.changes.count }
         ensures refused { self.new.refused ≤ self.old.refused + 1 }
     {
-        let version = Line::Version { version: number }.bytes(alloc)?;
+        let version = StreamLine::Version { version: number }.bytes(alloc)?;
         let found = self.publish(rt, alloc, number, count);
         self.changes.clear();
         match found {
@@ -198,9 +183,10 @@ impl<J: Write> Updates<J> {
             let refusal = BatchRefusal::WrongCount {
                 counted: self.changes.count,
             };
-            return Err(Line::RefusedBatch { number, refusal });
+            let refused = StreamLine::RefusedBatch { number, refusal };
+            return Err(Line::Stream(refused));
         }
-        match self.changes.publish(rt, alloc, &mut self.publisher, number) {
+        match publish_kept(rt, alloc, &mut self.publisher, &mut self.changes, number) {
             Ok(()) => {
                 tell_each(&mut self.publisher, &mut self.tellers);
                 Ok(())
@@ -236,11 +222,7 @@ impl<J: Write> Updates<J> {
         ensures { IfOk result (λ line. (all : List Changed) → AreOpen self.now.changes all
             → line.items ≡ end_line all) }
     {
-        if self.changes.count == 0 {
-            return Ok(Vec::new(alloc));
-        }
-        let count = self.changes.count;
-        Line::Unended { count }.bytes(alloc)
+        self.changes.last_line(alloc)
     }
 
     /// Whether a row or a batch was refused, or changes are open.
@@ -282,4 +264,29 @@ fn tell_each<J: Write>(publisher: &mut Publisher<J>, tellers: &mut Vec<Teller>)
     for index in 0..tellers.len() {
         tellers[index].tell(publisher);
     }
+}
+
+/// Publishes the open changes that are kept as the batch with this number. They stay open.
+fn publish_kept<J: Write, R: Wait>(
+    rt: &R,
+    alloc: Global,
+    publisher: &mut Publisher<J>,
+    changes: &mut OpenChanges,
+    number: u32,
+) -> Result<(), ApplyError>
+    ensures batch { changes.new.batch ≡ record {
+      number = number;
+      changes = changes.old.batch.changes;
+    } }
+    ensures count { changes.new.count ≡ changes.old.count }
+    ensures source { publisher.new.source ≡ publisher.old.source }
+    ensures published { OnOk result (IsPublished J.contents
+        publisher.old publisher.new changes.new.batch) }
+    ensures same { OnErr result (publisher.new.batches ≡ publisher.old.batches) }
+    ensures why { IfErr result (λ e.
+        IsApplyError J.contents publisher.old publisher.new changes.new.batch e) }
+{
+    changes.batch.number = number;
+    publisher.apply(rt, alloc, &changes.batch)?;
+    Ok(())
 }

@@ -8,14 +8,15 @@ ghost use Rattle.cspf_serve.specs.EarlyEnds.{IfRefused, IfFailed, Writes};
 ghost use Rattle.cspf_serve.specs.RunFaults.{IsStreamFault};
 ghost use Rattle.cspf_serve.specs.SnapshotRun.{IsSnapshotOf, IsSnapshotRefused, IsSnapshotRun};
 
+use crate::RunError;
 use crate::line::Line;
 use crate::streams::early_end::EarlyEnd;
 use crate::streams::input::batches_of;
 use crate::streams::output::{put, refuse};
-use crate::{BatchRefusal, RunError};
 use cspf_model::Batch;
 use cspf_rows::batch_text;
 use cspf_snapshot::{ReplayError, replay, snapshot};
+use cspf_stream::{BatchRefusal, StreamLine};
 use std::alloc::Global;
 use std::io::{Read, Write};
 
@@ -64,7 +65,7 @@ fn snapshot_of<R: Read + Drop>(
         Err(ReplayError::Memory) => Err(EarlyEnd::Failed(RunError::Memory)),
         Err(ReplayError::Refused { number, refusal }) => {
             let refusal = BatchRefusal::Unfit(refusal);
-            Err(EarlyEnd::Refused(Line::RefusedBatch { number, refusal }))
+            Err(EarlyEnd::Refused(Line::Stream(StreamLine::RefusedBatch { number, refusal })))
         }
     }
 }

@@ -14,6 +14,7 @@ use crate::line::Line;
 use crate::streams::early_end::EarlyEnd;
 use cspf_model::{Batch, Request};
 use cspf_rows::{Journal, ReadError, RequestsError, Rest, RowError, read_journal, read_requests};
+use cspf_stream::StreamLine;
 use std::alloc::Global;
 use std::io::Read;
 
@@ -45,7 +46,7 @@ pub(crate) fn journal_end_of(error: ReadError) -> EarlyEnd
     match error {
         ReadError::Memory => EarlyEnd::Failed(RunError::Memory),
         ReadError::Device => EarlyEnd::Failed(RunError::Device),
-        ReadError::TooManyRows => EarlyEnd::Refused(Line::TooManyRows),
+        ReadError::TooManyRows => EarlyEnd::Refused(Line::Stream(StreamLine::TooManyRows)),
     }
 }
 
@@ -100,7 +101,9 @@ pub(crate) fn requests_end_of(error: RequestsError) -> EarlyEnd
     let (row, error) = match error {
         RequestsError::Memory => return EarlyEnd::Failed(RunError::Memory),
         RequestsError::Device => return EarlyEnd::Failed(RunError::Device),
-        RequestsError::TooManyRows => return EarlyEnd::Refused(Line::TooManyRows),
+        RequestsError::TooManyRows => return EarlyEnd::Refused(Line::Stream(
+            StreamLine::TooManyRows,
+        )),
         RequestsError::Bad { row, error } => (row, error),
         RequestsError::NotAsk { row } => (row, RowError::Kind),
     };

@@ -1,7 +1,8 @@
-use cspf_addr::HopsError;
+use cspf_addr::{Addr, HopsError};
 use cspf_ero::EroError;
+use cspf_model::{Change, Refusal};
 use cspf_rows::{HopsFault, RowError};
-use cspf_stream::refused_row;
+use cspf_stream::{BatchRefusal, OpenChanges, StreamLine, refused_row};
 use std::test::Fail;
 
 #[test]
@@ -36,5 +37,45 @@ fn lines_of_refused_rows(rt: HostRuntime) -> Result<(), Fail> {
             "{place}"
         );
     }
+    Ok(())
+}
+
+#[test]
+fn lines_of_streams(rt: HostRuntime) -> Result<(), Fail> {
+    let unfit = BatchRefusal::Unfit(Refusal::Absent { at: 3 });
+    let wanted: [(StreamLine, &[u8]); 4] = [
+        (StreamLine::Version { version: 7 }, b"version 7\n"),
+        (
+            StreamLine::RefusedBatch {
+                number: 8,
+                refusal: unfit,
+            },
+            b"batch 8 refused: absent 3\n",
+        ),
+        (StreamLine::Unended { count: 9 }, b"unended 9\n"),
+        (StreamLine::TooManyRows, b"too many rows\n"),
+    ];
+    for (line, text) in wanted {
+        assert!(rt; line.bytes(rt.alloc())?.as_slice() == text);
+    }
+    Ok(())
+}
+
+/// Changes are open until they are cleared.
+#[test]
+fn lines_of_open_changes(rt: HostRuntime) -> Result<(), Fail> {
+    let mut changes = OpenChanges::new(rt.alloc());
+    let wanted: [&[u8]; 3] = [b"", b"unended 1\n", b"unended 2\n"];
+    for text in wanted {
+        assert!(rt; changes.last_line(rt.alloc())?.as_slice() == text);
+        if changes.count < 9 {
+            changes.add(Change::Node {
+                router: Addr::new(1),
+                transit: false,
+            })?;
+        }
+    }
+    changes.clear();
+    assert!(rt; changes.last_line(rt.alloc())?.is_empty());
     Ok(())
 }

@@ -20,9 +20,9 @@ pub returns-clause-answered : goal.returns-clause-answered
 returns-clause-answered c =
     let new : TakenRows = record { solver = c.answer.new.self; answered = c.args.self.now.answered + 1; too_many = c.args.self.now.too_many } in
     let law = c.runs_go_on_row_by_row.ensures in
-    one_more law.more law.counts c.args._place c.args.self.now new c.args.row.now c.in_ok-line.line.items refl refl (omega (arith, c.if-self-ge-MOST_ROWS.false)) c.in_ok-line.ensures
+    one_more law.more law.counts c.args._place c.args.self.now new c.args.row.now c.in_ok-line.line.items refl refl (omega (arith, c.if-self-ge-MOST_ROWS.false)) c.in_ok-line.ensures.answered
 
 pub returns-clause-state : goal.returns-clause-state
 returns-clause-state c =
     let new : TakenRows = record { solver = c.answer.new.self; answered = c.args.self.now.answered + 1; too_many = c.args.self.now.too_many } in
-    ∥∥₁_map c.requires.state (counted_more c.runs_go_on_row_by_row.ensures.counts c.args.self.now new c.args.row.now c.in_ok-line.line.items refl (omega (arith, c.if-self-ge-MOST_ROWS.false)) c.in_ok-line.ensures)
+    ∥∥₁_map c.requires.state (counted_more c.runs_go_on_row_by_row.ensures.counts c.args.self.now new c.args.row.now c.in_ok-line.line.items refl (omega (arith, c.if-self-ge-MOST_ROWS.false)) c.in_ok-line.ensures.answered)

@@ -3,7 +3,7 @@ use Rattle.std.proofs.KnownBytes.{Appends-trans}
 use Rattle.std.proofs.Math.Seq.{take-length}
 use Rattle.std.specs.Io.KnownBytes.{Appends}
 use Rattle.cspf_serve.specs.BatchRun.{version_lines}
-use Rattle.cspf_serve.specs.Lines.{version_line}
+use Rattle.cspf_stream.specs.Lines.{version_line}
 use Rattle.cspf_serve.proofs.PublishedLines.{version_more}
 use Rattle.cspf_serve.proofs.batch.versions.write_versions.Goals as goal
 

@@ -1,7 +1,7 @@
 use Rattle.std.proofs.Common.{sym, subst, ◌∙◌}
 use Rattle.std.proofs.lemmas.Bool.{false≢true}
-use Rattle.cspf_serve.specs.declared.batch_refusal.BatchRefusal.TheVariants as refusal
-use Rattle.cspf_serve.specs.Lines.{refused_batch_line}
+use Rattle.cspf_stream.specs.declared.batch_refusal.BatchRefusal.TheVariants as refusal
+use Rattle.cspf_stream.specs.Lines.{refused_batch_line}
 use Rattle.cspf_serve.specs.LiveWords.{unpublished_line}
 use Rattle.cspf_serve.specs.UpdatesStates.{KeptUpdates, IsMiscounted, IsPublishedAs, IsUnpublishedAs}
 use Rattle.cspf_serve.proofs.UpdatesSteps.{ends_miscounted, ends_published, ends_unpublished}
@@ -23,7 +23,7 @@ returns-in-Ok-clause-published g c =
     (λ wrong. false≢true (sym c.if-is_miscounted.false ∙ c.is_miscounted.ensures.1 wrong)) in
     subst (λ (x : KeptUpdates g.row.J.Denot). IsPublishedAs g.J.Write.contents x c.tell_each.new.publisher c.args.number c.args.count) c.self.view_is
     (λ first s kept. rw c.tell_each.ensures.same
-    (ends_published g.J.Write.contents first k s kept c.args.number c.args.count right c.publish.new.publisher c.publish.ensures.source (rw c.publish.ensures.batch at c.in-Ok.ensures.published)))
+    (ends_published g.J.Write.contents first k s kept c.args.number c.args.count right c.publish_kept.new.publisher c.publish_kept.ensures.source (rw c.publish_kept.ensures.batch at c.in-Ok.ensures.published)))
 
 pub returns-in-Err-clause-unpublished : goal.returns-in-Err-clause-unpublished
 returns-in-Err-clause-unpublished g c =
@@ -31,6 +31,6 @@ returns-in-Err-clause-unpublished g c =
     let right : ¬ IsMiscounted k c.args.number c.args.count =
     subst (λ (x : KeptUpdates g.row.J.Denot). ¬ IsMiscounted x c.args.number c.args.count) (sym c.self.view_is)
     (λ wrong. false≢true (sym c.if-is_miscounted.false ∙ c.is_miscounted.ensures.1 wrong)) in
-    subst (λ (x : KeptUpdates g.row.J.Denot). IsUnpublishedAs g.J.Write.contents x c.publish.new.publisher c.args.number c.args.count (unpublished_line c.args.number c.in-Err.error)) c.self.view_is
-    (λ first s kept. ends_unpublished g.J.Write.contents first k s kept c.args.number c.args.count c.one_refusal.ensures.unfit right c.publish.new.publisher c.in-Err.error
-    c.publish.ensures.source c.in-Err.ensures.same (rw c.publish.ensures.batch at c.in-Err.ensures.why))
+    subst (λ (x : KeptUpdates g.row.J.Denot). IsUnpublishedAs g.J.Write.contents x c.publish_kept.new.publisher c.args.number c.args.count (unpublished_line c.args.number c.in-Err.error)) c.self.view_is
+    (λ first s kept. ends_unpublished g.J.Write.contents first k s kept c.args.number c.args.count c.one_refusal.ensures.unfit right c.publish_kept.new.publisher c.in-Err.error
+    c.publish_kept.ensures.source c.in-Err.ensures.same (rw c.publish_kept.ensures.batch at c.in-Err.ensures.why))

@@ -1,5 +1,0 @@
-use Rattle.cspf_serve.proofs.OneReply.{run_once}
-use Rattle.cspf_serve.proofs.solve.laws.rows_have_one_reply.Goals as goal
-
-pub returns : goal.returns
-returns c = run_once c.one_best_answer.ensures c.one_reply_line.ensures c.one_refusal.ensures.one

@@ -1,0 +1,157 @@
+-- The lines of a stream of rows, from its bytes to bytes, and the summary of its run.
+use Rattle.std.specs.Prelude.{◌≡◌, ◌≢◌, ℕ, ◌+◌, ◌<◌, ◌≤◌, ◌⊎◌, nat_lt, if◌then◌else◌, Bool, true, false, List, [], ◌∷◌, ◌++◌, take, length, Result, Ok, Err}
+use Rattle.cspf_model.specs.declared.batch.Change.{Change}
+use Rattle.cspf_model.specs.declared.batch.Change.TheVariants as change
+use Rattle.cspf_model.specs.Numbered.{NumberedChanges}
+use Rattle.cspf_model.specs.Database.{Database}
+use Rattle.cspf_model.specs.Changes.{Fits, database_after}
+use Rattle.cspf_model.specs.Refusals.{IsRefusal}
+use Rattle.cspf_model.specs.Best.{Answer, IsBestAnswer}
+use Rattle.cspf_ero.specs.ReplyLine.{IsReply}
+use Rattle.cspf_model.specs.declared.limits.TheConstants.{MOST_VERSIONS}
+use Rattle.cspf_rows.specs.declared.limits.TheConstants.{MOST_ROWS}
+use Rattle.cspf_rows.specs.declared.row.Row.{Row}
+use Rattle.cspf_rows.specs.declared.row.Row.TheVariants as row
+use Rattle.cspf_rows.specs.declared.row_error.RowError.{RowError}
+use Rattle.cspf_rows.specs.Records.{rows_of}
+use Rattle.cspf_rows.specs.Rows.{row_of}
+use Rattle.cspf_stream.specs.declared.batch_refusal.BatchRefusal.{BatchRefusal}
+use Rattle.cspf_stream.specs.declared.batch_refusal.BatchRefusal.TheVariants as refusal
+use Rattle.cspf_solve.specs.declared.summary.Summary.{Summary}
+use Rattle.cspf_stream.specs.RefusedRows.{refused_row_line}
+use Rattle.cspf_stream.specs.Lines.{version_line, refused_batch_line, too_many_line, end_line}
+
+-- the state between two rows
+pub record RunState : Type 0 where
+  -- how many rows were read
+  pub rows : ℕ
+  -- the batches that were accepted, in order
+  pub accepted : List NumberedChanges
+  -- the open changes, which no end row has taken yet
+  pub changes : List Change
+  -- how many requests were answered
+  pub answers : ℕ
+  -- how many rows and batches were refused
+  pub refused : ℕ
+
+-- before the first row: version 0, the empty database, and no open changes
+abbrev pub start : RunState
+start = record { rows = 0; accepted = []; changes = []; answers = 0; refused = 0 }
+
+-- the version is the number of the accepted batches
+abbrev pub current_version : RunState → ℕ
+current_version s = length s.accepted
+
+-- the database of the accepted batches: open changes aren't in it
+abbrev pub current_database : RunState → Database
+current_database s = database_after s.accepted
+
+-- the open changes as the batch with this number
+abbrev pub open_batch : RunState → ℕ → NumberedChanges
+open_batch s number = record { number = number; changes = s.changes }
+
+-- one more row is read
+abbrev pub at_next_row : RunState → RunState
+at_next_row s = record s { rows = s.rows + 1 }
+
+-- the row is refused: database, version and open changes stay
+abbrev pub after_refused_row : RunState → RunState
+after_refused_row s = record s { refused = s.refused + 1 }
+
+-- one more open change
+abbrev pub after_change_row : RunState → Change → RunState
+after_change_row s c = record s { changes = s.changes ++ c ∷ [] }
+
+-- the open changes are applied in one, and none are open
+abbrev pub after_batch : RunState → ℕ → RunState
+after_batch s number = record s { accepted = s.accepted ++ open_batch s number ∷ []; changes = [] }
+
+-- the open changes are dropped: database and version stay
+abbrev pub after_refused_batch : RunState → RunState
+after_refused_batch s = record s { changes = []; refused = s.refused + 1 }
+
+-- a request is answered: database, version and open changes stay
+abbrev pub after_reply : RunState → RunState
+after_reply s = record s { answers = s.answers + 1 }
+
+-- The open changes are accepted as the batch with this number and this count where all is right.
+-- The version is below 1,000,000, the number is the next version, the count is right, and the batch
+-- fits the database.
+pub record IsAccepted (s : RunState) (number count : ℕ) : Type 0 where
+  pub room : current_version s < MOST_VERSIONS
+  pub next : number ≡ current_version s + 1
+  pub counted : count ≡ length s.changes
+  pub fits : Fits (current_database s) (open_batch s number)
+
+-- Why the open changes are refused as the batch with this number and this count: the first of these
+-- that applies.
+abbrev pub IsBatchRefusal : RunState → ℕ → ℕ → BatchRefusal → Type 0
+IsBatchRefusal s number count refusal.Exhausted = MOST_VERSIONS ≤ current_version s
+IsBatchRefusal s number count (refusal.WrongNumber expected) =
+    (current_version s < MOST_VERSIONS) × (number ≢ current_version s + 1) × (expected ≡ current_version s + 1)
+IsBatchRefusal s number count (refusal.WrongCount counted) =
+    (current_version s < MOST_VERSIONS) × (number ≡ current_version s + 1) × (count ≢ length s.changes) × (counted ≡ length s.changes)
+IsBatchRefusal s number count (refusal.Unfit why) =
+    (current_version s < MOST_VERSIONS) × (number ≡ current_version s + 1) × (count ≡ length s.changes)
+    × IsRefusal (current_database s) (open_batch s number) why
+
+-- an end row is answered by the version that its batch makes, or by the refusal of the batch
+abbrev pub IsEndAnswered : RunState → ℕ → ℕ → List ℕ → RunState → Type 0
+IsEndAnswered s number count line after =
+    (IsAccepted s number count × (line ≡ version_line number) × (after ≡ after_batch s number))
+    ⊎ ((why : BatchRefusal) × (¬ IsAccepted s number count) × IsBatchRefusal s number count why
+    × (line ≡ refused_batch_line number why) × (after ≡ after_refused_batch s))
+
+-- the line that the row with the number `s.rows` is answered, and the state after it
+abbrev pub IsRowAnswered : RunState → Result Row RowError → List ℕ → RunState → Type 0
+IsRowAnswered s (Err error) line after = (line ≡ refused_row_line s.rows error) × (after ≡ after_refused_row s)
+IsRowAnswered s (Ok (row.Put link)) line after = (line ≡ []) × (after ≡ after_change_row s (change.Put link))
+IsRowAnswered s (Ok (row.Remove from local)) line after = (line ≡ []) × (after ≡ after_change_row s (change.Remove from local))
+IsRowAnswered s (Ok (row.Node router transit)) line after = (line ≡ []) × (after ≡ after_change_row s (change.Node router transit))
+IsRowAnswered s (Ok (row.End number count)) line after = IsEndAnswered s number count line after
+IsRowAnswered s (Ok (row.Ask q)) line after =
+    (answer : Answer) × IsBestAnswer (current_database s) q answer × IsReply q.id (current_version s) answer line × (after ≡ after_reply s)
+
+-- rows are answered one after the other, from a state to a state
+unfoldable pub AreRowsAnswered : RunState → List (List (List ℕ)) → List ℕ → RunState → Type 0
+AreRowsAnswered s [] lines after = (lines ≡ []) × (after ≡ s)
+AreRowsAnswered s (fields ∷ rows) lines after =
+    (line : List ℕ) × (next : RunState) × (more : List ℕ)
+    × IsRowAnswered (at_next_row s) (row_of fields) line next × (lines ≡ line ++ more) × AreRowsAnswered next rows more after
+
+-- there is a row past the 1,000,000th
+abbrev pub is_too_many : List (List (List ℕ)) → Bool
+is_too_many rows = nat_lt MOST_ROWS (length rows)
+
+-- the last line of a run: rows that aren't read come before changes that are still open
+abbrev pub last_line : Bool → List Change → List ℕ
+last_line true changes = too_many_line
+last_line false changes = end_line changes
+
+-- changes that are still open after the last row count as one refusal more
+abbrev pub unended_count : Bool → List Change → ℕ
+unended_count true changes = 0
+unended_count false changes = if nat_lt 0 (length changes) then 1 else 0
+
+-- the summary of a run that ends in a state
+abbrev pub summary_of : RunState → Bool → Summary
+summary_of s too_many = record {
+  rows = s.rows;
+  version = current_version s;
+  answers = s.answers;
+  refused = s.refused + unended_count too_many s.changes;
+  too_many = too_many;
+}
+
+-- A run over rows: the first 1,000,000 of them are answered one after the other, and then comes the
+-- last line.
+pub record IsSolveRun (rows : List (List (List ℕ))) (lines : List ℕ) (summary : Summary) : Type 0 where
+  pub replies : List ℕ
+  pub after : RunState
+  pub answered : AreRowsAnswered start (take MOST_ROWS rows) replies after
+  pub whole : lines ≡ replies ++ last_line (is_too_many rows) after.changes
+  pub counts : summary ≡ summary_of after (is_too_many rows)
+
+-- a run over the rows of a stream of bytes
+abbrev pub IsScript : List ℕ → List ℕ → Summary → Type 0
+IsScript bytes lines summary = IsSolveRun (rows_of bytes) lines summary

@@ -1,0 +1,43 @@
+ghost use Rattle.std.specs.Prelude.{◌≡◌};
+ghost use Rattle.cspf_rows.specs.ReadFaults.{stream_fault_of};
+ghost use Rattle.cspf_solve.specs.declared.error.SolveError.TheVariants as solve_error;
+
+use cspf_rows::RecordError;
+use std::alloc::AllocError;
+use thiserror::Error;
+
+/// Why a run stops before the end of its rows.
+#[derive(Clone, Copy, Debug, PartialEq, Eq, Error)]
+pub enum SolveError {
+    /// Memory was refused.
+    #[error("out of memory")]
+    Memory,
+    /// A read failed.
+    #[error("a read failed")]
+    Read,
+    /// A write failed, or took no bytes.
+    #[error("a write failed after {written} bytes")]
+    Write {
+        /// The bytes that the whole run wrote. No run can write too many for this type.
+        written: u128,
+    },
+}
+
+impl From<AllocError> for SolveError {
+    ghost from_gives = { λ _ error. error ≡ solve_error.Memory };
+
+    fn from(_refused: AllocError) -> SolveError {
+        SolveError::Memory
+    }
+}
+
+impl From<RecordError> for SolveError {
+    ghost from_gives = { λ fault error. error ≡ stream_fault_of solve_error.Memory solve_error.Read fault };
+
+    fn from(fault: RecordError) -> SolveError {
+        match fault {
+            RecordError::Memory => SolveError::Memory,
+            RecordError::Device => SolveError::Read,
+        }
+    }
+}

@@ -1,0 +1,98 @@
+//! The run of `solve`: one stream of rows in, the line of each out.
+
+ghost use Rattle.std.specs.Prelude.{◌≡◌, ℕ, ◌+◌, ◌*◌, ◌^◌, ◌≤◌, List, true, IfOk, IfErr, IfSome};
+ghost use Rattle.std.specs.Io.KnownBytes.{Appends};
+ghost use Rattle.csv.specs.Reading.{has_failed};
+ghost use Rattle.cspf_rows.specs.Records.{rows_of, rows_left, IsPlain};
+ghost use Rattle.cspf_solve.specs.declared.error.SolveError.TheVariants.{Read as IsRead};
+ghost use Rattle.cspf_solve.specs.Script.{RunState, start, IsSolveRun, IsScript, last_line, summary_of};
+ghost use Rattle.cspf_solve.specs.OutputAtError.{IsOutputAtError};
+ghost use Rattle.cspf_solve.specs.SolverStates.{KeepsRun, AreCounted, IsEndCut};
+
+use crate::{SolveError, Solver, Summary};
+use cspf_rows::{MOST_ROWS, open_records, put_all};
+use cspf_stream::{StreamError, answer_first_rows};
+use csv::Reader;
+use std::alloc::Global;
+use std::io::{Read, Write};
+
+/// Reads a stream of rows and writes the line of each when it is known, in one write where the
+/// writer takes it whole. `IsScript` defines the lines, and when a row or a batch is refused. At
+/// most 1,000,000 rows are read, and memory is taken only for the longest one.
+///
+/// After an error the writer has the lines of a prefix of the rows. After a failed write it may
+/// also have a part of the next text, but not all of it. `Read` comes from a read that failed and
+/// `Write` from a write that failed or took no bytes. The writer isn't flushed.
+pub fn run_solve<R: Read + Drop, W: Write>(
+    alloc: Global,
+    reader: R,
+    writer: &mut W,
+) -> Result<Summary, SolveError>
+    ensures whole { IfOk result (λ summary. IfSome (R.remaining reader) (λ bytes.
+        (lines : List ℕ) × IsScript bytes lines summary
+        × Appends (W.contents writer.old) (W.contents writer.new) lines)) }
+    ensures stopped { IfErr result (λ error. IfSome (R.remaining reader) (λ bytes.
+        (out : List ℕ) × IsOutputAtError error (rows_of bytes) out
+        × Appends (W.contents writer.old) (W.contents writer.new) out)) }
+{
+    let mut solver = Solver::new(alloc)?;
+    let mut rows = open_records(alloc, reader);
+    solve_rows(alloc, &mut rows, &mut solver, writer)
+}
+
+/// Answers the rows that a reader has left.
+fn solve_rows<R: Read, W: Write>(
+    alloc: Global,
+    rows: &mut Reader<R>,
+    solver: &mut Solver,
+    writer: &mut W,
+) -> Result<Summary, SolveError>
+    requires plain { IsPlain rows.old }
+    requires fresh { KeepsRun solver.old start }
+    ensures whole { IfOk result (λ summary. IfSome (rows_left R.remaining rows.old) (λ all.
+        (lines : List ℕ) × IsSolveRun all lines summary
+        × Appends (W.contents writer.old) (W.contents writer.new) lines)) }
+    ensures stopped { IfErr result (λ error. IfSome (rows_left R.remaining rows.old) (λ all.
+        (out : List ℕ) × IsOutputAtError error all out
+        × Appends (W.contents writer.old) (W.contents writer.new) out)) }
+    // Only the reader's own fault is answered `Read`.
+    ensures read { IfErr result (λ error. error ≡ IsRead → has_failed rows.new ≡ true) }
+{
+    let limit = u64::from(MOST_ROWS);
+    let (written, ended) = answer_first_rows(&(), alloc, limit, rows, writer, solver);
+    match ended {
+        Ok(()) => finish(alloc, solver, writer, written, false),
+        Err(StreamError::TooManyRows) => finish(alloc, solver, writer, written, true),
+        Err(StreamError::Memory) => Err(SolveError::Memory),
+        Err(StreamError::Read) => Err(SolveError::Read),
+        Err(StreamError::Write) => Err(SolveError::Write { written }),
+        // Nothing is flushed.
+        Err(StreamError::Flush) => unreachable!(),
+    }
+}
+
+/// Writes the last line, after `written` bytes, and returns the summary.
+fn finish<W: Write>(
+    alloc: Global,
+    solver: &Solver,
+    writer: &mut W,
+    written: u128,
+    too_many: bool,
+) -> Result<Summary, SolveError>
+    requires counted { AreCounted solver.now }
+    requires room { written ≤ MOST_ROWS * 2 ^ 64 }
+    ensures ended { IfOk result (λ summary. (s : RunState) → KeepsRun solver.now s
+        → Appends (W.contents writer.old) (W.contents writer.new) (last_line too_many s.changes)
+        × (summary ≡ summary_of s too_many)) }
+    ensures stopped { IfErr result (λ error. (s : RunState) → KeepsRun solver.now s
+        → IsEndCut (last_line too_many s.changes)
+        (W.contents writer.old) (W.contents writer.new) written error) }
+{
+    let line = solver.last_line(alloc, too_many)?;
+    match put_all(writer, line.as_slice()) {
+        Ok(()) => Ok(solver.summary(too_many)),
+        Err(size) => Err(SolveError::Write {
+            written: written + size as u128,
+        }),
+    }
+}

@@ -1,0 +1,10 @@
+use Rattle.csv.specs.Reading.{has_failed}
+use Rattle.cspf_rows.specs.Records.{rows_left}
+use Rattle.cspf_stream.proofs.Going.{all_answered, all_stopped}
+use Rattle.cspf_stream.proofs.stream.answer_rows.Goals as goal
+
+pub returns-clause-whole : goal.returns-clause-whole
+returns-clause-whole g c = all_answered g.A.Answering.answers g.A.Answering.fails c.answer_each.new.written _ (rows_left g.R.Read.remaining c.answer_each.new.rows) (has_failed c.answer_each.new.rows) _ _ _ _ c.answer_each.result _ c.answer_each.ensures.whole
+
+pub returns-clause-stopped : goal.returns-clause-stopped
+returns-clause-stopped g c = all_stopped g.A.Answering.answers g.A.Answering.fails c.answer_each.new.written _ _ _ _ _ _ _ c.answer_each.result _ c.answer_each.ensures.stopped

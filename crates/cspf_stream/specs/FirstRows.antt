@@ -1,0 +1,85 @@
+-- What is answered and written of the first rows of a stream, within a limit, and how many bytes that
+-- is.
+use Rattle.std.specs.Prelude.{◌≡◌, ℕ, suc, ◌+◌, ◌<◌, ◌≤◌, ◌⊎◌, Bool, true, List, ◌∷◌, ◌++◌, take, length, Option, Some, Result, IfSome}
+use Rattle.std.specs.Io.KnownBytes.{Appends}
+use Rattle.std.specs.Io.KnownBytes as known
+use Rattle.cspf_rows.specs.Rows.{row_of}
+use Rattle.cspf_rows.specs.declared.row.Row.{Row}
+use Rattle.cspf_rows.specs.declared.row_error.RowError.{RowError}
+use Rattle.cspf_stream.specs.RowAnswers.{AnswersOf, AreAnswered, AreAllAnswered}
+use Rattle.cspf_stream.specs.StreamStops.{FailsOf, StopsBetween}
+use Rattle.cspf_stream.specs.declared.error.StreamError.{StreamError}
+use Rattle.cspf_stream.specs.declared.error.StreamError.TheVariants as error
+
+-- All rows of a stream are answered, which are no more than the limit. Their lines have this many bytes.
+pub record AreFirstRowsAnswered {S : Type 0} (answers : AnswersOf S) (limit bytes : ℕ) (all : Option (List (List (List ℕ)))) (s t : S) (old new : Option (List ℕ)) : Type 0 where
+  pub whole : AreAllAnswered answers all s t old new
+  pub few : length whole.done ≤ limit
+  pub size : length whole.lines ≡ bytes
+
+-- Where the line of a row stops, after this many of its bytes. A flush fails only where one was asked
+-- for.
+abbrev pub IsLineStoppedAfter : Bool → ℕ → StreamError → List ℕ → Option (List ℕ) → Option (List ℕ) → Type 0
+IsLineStoppedAfter flush size error.Memory line old new = ⊥
+IsLineStoppedAfter flush size error.Read line old new = ⊥
+IsLineStoppedAfter flush size error.Write line old new = (size < length line) × Appends old new (take size line)
+IsLineStoppedAfter flush size error.Flush line old new = (flush ≡ true) × (size ≡ length line) × Appends old new line
+IsLineStoppedAfter flush size error.TooManyRows line old new = ⊥
+
+-- Where the answer to the row at a place stops, and how many bytes are written before it and at the
+-- stop.
+abbrev pub IsRowStoppedAfter : {S : Type 0} → AnswersOf S → FailsOf S → Bool → ℕ → ℕ → StreamError → ℕ → Result Row RowError → S → S → Option (List ℕ) → Option (List ℕ) → Type 0
+IsRowStoppedAfter answers fails flush before after error.Memory place row s t old new =
+    fails place s row t × known.Keeps old new × (after ≡ before)
+IsRowStoppedAfter answers fails flush before after error.Read place row s t old new = ⊥
+IsRowStoppedAfter answers fails flush before after error.Write place row s t old new =
+    (line : List ℕ) × (size : ℕ) × answers place s row line t × (size < length line) × Appends old new (take size line) × (after ≡ before + size)
+IsRowStoppedAfter answers fails flush before after error.Flush place row s t old new =
+    (line : List ℕ) × answers place s row line t × (flush ≡ true) × Appends old new line × (after ≡ before + length line)
+IsRowStoppedAfter answers fails flush before after error.TooManyRows place row s t old new = ⊥
+
+-- The stream stops between two rows, within the limit. The lines before have this many bytes.
+pub record StopsAfterRows {S : Type 0} (answers : AnswersOf S) (limit bytes : ℕ) (all : Option (List (List (List ℕ)))) (s t : S) (old new : Option (List ℕ)) : Type 0 where
+  pub between : StopsBetween answers all s t old new
+  pub few : length between.done ≤ limit
+  pub size : length between.lines ≡ bytes
+
+-- The stream stops in a row, before which fewer rows than the limit are answered.
+pub record StopsInRowAfter {S : Type 0} (answers : AnswersOf S) (fails : FailsOf S) (limit : ℕ) (flush : Bool) (bytes : ℕ) (error : StreamError) (all left : Option (List (List (List ℕ)))) (s t : S) (old new : Option (List ℕ)) : Type 0 where
+  pub done : List (List (List ℕ))
+  pub fields : List (List ℕ)
+  pub rest : List (List (List ℕ))
+  pub lines : List ℕ
+  pub before : S
+  pub mid : Option (List ℕ)
+  pub few : length done < limit
+  pub split : IfSome all (λ rows. (rows ≡ done ++ (fields ∷ rest)) × (left ≡ Some rest))
+  pub answered : AreAnswered answers 1 s done lines before
+  pub written : Appends old mid lines
+  pub stops : IsRowStoppedAfter answers fails flush (length lines) bytes error (suc (length done)) (row_of fields) before t mid new
+
+-- As many rows as the limit allows are answered. There is one more row.
+pub record HasMoreRows {S : Type 0} (answers : AnswersOf S) (limit bytes : ℕ) (all : Option (List (List (List ℕ)))) (s t : S) (old new : Option (List ℕ)) : Type 0 where
+  pub done : List (List (List ℕ))
+  pub fields : List (List ℕ)
+  pub rest : List (List (List ℕ))
+  pub lines : List ℕ
+  pub count : length done ≡ limit
+  pub split : IfSome all (λ rows. rows ≡ done ++ (fields ∷ rest))
+  pub answered : AreAnswered answers 1 s done lines t
+  pub written : Appends old new lines
+  pub size : length lines ≡ bytes
+
+-- the state where the first rows of a stream stop, as in `HasStopped`
+abbrev pub HasStoppedAfter : {S : Type 0} → AnswersOf S → FailsOf S → ℕ → Bool → ℕ → StreamError → Option (List (List (List ℕ))) → Option (List (List (List ℕ))) → Bool → S → S → Option (List ℕ) → Option (List ℕ) → Type 0
+HasStoppedAfter answers fails limit flush bytes error.Memory all left failed s t old new =
+    ((failed ≡ true) × StopsAfterRows answers limit bytes all s t old new)
+    ⊎ StopsInRowAfter answers fails limit flush bytes error.Memory all left s t old new
+HasStoppedAfter answers fails limit flush bytes error.Read all left failed s t old new =
+    (failed ≡ true) × StopsAfterRows answers limit bytes all s t old new
+HasStoppedAfter answers fails limit flush bytes error.Write all left failed s t old new =
+    StopsInRowAfter answers fails limit flush bytes error.Write all left s t old new
+HasStoppedAfter answers fails limit flush bytes error.Flush all left failed s t old new =
+    StopsInRowAfter answers fails limit flush bytes error.Flush all left s t old new
+HasStoppedAfter answers fails limit flush bytes error.TooManyRows all left failed s t old new =
+    HasMoreRows answers limit bytes all s t old new

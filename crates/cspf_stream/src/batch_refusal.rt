@@ -1,0 +1,45 @@
+use cspf_model::Refusal;
+use std::error::Error;
+use std::fmt;
+
+/// Why a batch is refused.
+#[derive(Clone, Copy, Debug, PartialEq, Eq)]
+pub enum BatchRefusal {
+    /// The version is 1,000,000.
+    Exhausted,
+    /// Another number than the next version.
+    WrongNumber {
+        /// The next version.
+        expected: u32,
+    },
+    /// Another count than that of the open changes.
+    WrongCount {
+        /// The number of the open changes.
+        counted: u64,
+    },
+    /// The batch doesn't fit the database.
+    Unfit(Refusal),
+}
+
+impl fmt::Display for BatchRefusal {
+    ghost use Rattle.std.specs.Prelude.{Some};
+    ghost use Rattle.cspf_stream.specs.BatchWords.{batch_words};
+
+    ghost output = { λ refusal. Some (batch_words refusal) };
+
+    fn fmt<W: fmt::Write>(&self, f: &mut fmt::Formatter<W>) -> fmt::Result {
+        match self {
+            BatchRefusal::Exhausted => f.write_str("exhausted"),
+            BatchRefusal::WrongNumber { expected } => write!(f, "expected {expected}"),
+            BatchRefusal::WrongCount { counted } => write!(f, "counted {counted}"),
+            BatchRefusal::Unfit(Refusal::TooLong) => f.write_str("long"),
+            BatchRefusal::Unfit(Refusal::Duplicate { at }) => write!(f, "duplicate {at}"),
+            BatchRefusal::Unfit(Refusal::Absent { at }) => write!(f, "absent {at}"),
+            BatchRefusal::Unfit(Refusal::Full) => f.write_str("full"),
+            BatchRefusal::Unfit(Refusal::TooManyRouters) => f.write_str("routers"),
+            BatchRefusal::Unfit(Refusal::TooManyMarks) => f.write_str("marks"),
+        }
+    }
+}
+
+impl Error for BatchRefusal {}

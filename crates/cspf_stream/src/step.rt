@@ -1,0 +1,40 @@
+use cspf_model::{Change, Request};
+use cspf_rows::Row;
+
+/// What a row asks for.
+#[derive(Clone, Copy)]
+pub enum Step {
+    /// One more open change.
+    Change(Change),
+    /// The open changes are a batch with this number and this count.
+    End { number: u32, count: u32 },
+    /// The answer to a request.
+    Ask(Request),
+}
+
+impl Step {
+    ghost use Rattle.std.specs.Prelude.{◌≡◌};
+    ghost use Rattle.cspf_stream.specs.Steps.{step_of};
+
+    /// The step of a row.
+    pub fn of(row: &Row) -> Step
+        ensures { result ≡ step_of row.now }
+    {
+        match row {
+            Row::Put(link) => Step::Change(Change::Put(*link)),
+            Row::Remove { from, local } => Step::Change(Change::Remove {
+                from: *from,
+                local: *local,
+            }),
+            Row::Node { router, transit } => Step::Change(Change::Node {
+                router: *router,
+                transit: *transit,
+            }),
+            Row::End { number, count } => Step::End {
+                number: *number,
+                count: *count,
+            },
+            Row::Ask(request) => Step::Ask(*request),
+        }
+    }
+}
