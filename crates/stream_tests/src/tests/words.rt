@@ -1,3 +1,5 @@
+//! The lines of refused rows, of batches and of open changes, against texts written by hand.
+
 use cspf_addr::{Addr, HopsError};
 use cspf_ero::EroError;
 use cspf_model::{Change, Refusal};
