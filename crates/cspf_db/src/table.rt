@@ -2,6 +2,7 @@
 //! The modules below have one list or one step of a change each.
 
 ghost use Rattle.std.specs.Prelude.{◌≡◌, ◌<◌, ◌≤◌, ◌↔◌, ℕ, All, Contains, length, map, slice_index, slice_index_or, IfOk, OnOk, IfErr, OnErr, IfSome, IfNone, IsTrue};
+ghost use Rattle.std.specs.Vec.{vec_capacity};
 ghost use Rattle.std.specs.List.Sorted.{IsStrictlyIncreasing};
 ghost use Rattle.std.specs.FinSet as set;
 ghost use Rattle.cspf_model.specs.declared.link.Link.{Link as Linked};
@@ -39,7 +40,7 @@ use std::marker::Model;
 use transits::list_transits;
 
 /// A traffic engineering database of at most 16,384 links, 1,024 routers and 1,024 marks of routers
-/// without transit. No call but `new` and `owners` can fail for memory.
+/// without transit. No call but `new` can fail for memory.
 #[derive(Debug, Drop)]
 pub struct Table {
     columns: Columns,
@@ -237,19 +238,21 @@ impl Table {
         any_within(self.out_at(at), prefix)
     }
 
-    /// The indexes in `routers` of those that own an address that the prefix covers, as `owns` says,
-    /// rising. Links are read only from a router between whose interfaces the prefix has addresses.
-    pub fn owners(&self, alloc: Global, prefix: Prefix) -> Result<Vec<u16>, AllocError>
-        ensures { IfOk result (λ owners. AreOwners self.now prefix owners.items) }
+    /// Lists the indexes in `routers` of those that own an address that the prefix covers, as `owns`
+    /// says, rising. Links are read only from a router between whose interfaces the prefix has
+    /// addresses. There is room for all routers, so this takes no memory.
+    pub fn list_owners(&self, owners: &mut Vec<u16>, prefix: Prefix)
+        requires { MOST_ROUTERS ≤ vec_capacity owners.old }
+        ensures owners { AreOwners self.now prefix owners.new.items }
+        ensures room { vec_capacity owners.old ≤ vec_capacity owners.new }
     {
         let range = range_of(prefix);
-        let mut owners = Vec::new(alloc);
+        owners.clear();
         for at in 0..self.columns.routers.len() {
             if self.owns_within(at, prefix, &range) {
-                owners.push(at as u16)?;
+                owners.push_reserved(at as u16);
             }
         }
-        Ok(owners)
     }
 
     /// Whether the batch fits, and else the first reason why it doesn't. The batch's number isn't

@@ -135,7 +135,11 @@ fn targets_of(
     ensures { IfOk result (λ places. AreTargetsOf table.now request.now (leg_index + 1) places.items) }
 {
     match request.hops.get(leg_index) {
-        Some(hop) => table.owners(alloc, hop.prefix),
+        Some(hop) => {
+            let mut owners = Vec::with_capacity(alloc, MOST_ROUTERS)?;
+            table.list_owners(&mut owners, hop.prefix);
+            Ok(owners)
+        }
         None => Ok(Vec::new(alloc)),
     }
 }

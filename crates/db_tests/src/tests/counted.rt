@@ -4,7 +4,7 @@ use super::edits::Edit::{self, Node, Put, Remove};
 use super::edits::{batch_of, put};
 use cspf_addr::{Addr, Prefix};
 use cspf_db::Table;
-use cspf_model::Batch;
+use cspf_model::{Batch, MOST_ROUTERS};
 use std::alloc::Global;
 use std::test::Fail;
 
@@ -96,12 +96,11 @@ fn work(table: &mut Table, batches: &[Batch], prefix: Prefix) -> usize {
 fn at_work(rt: HostRuntime) -> Result<(), Fail> {
     let alloc = rt.alloc();
     let (mut table, batches) = (Table::new(alloc)?, batches(alloc)?);
-    let found = work(
-        &mut table,
-        batches.as_slice(),
-        Prefix::new(Addr::new(0), 8)?,
-    );
-    assert!(rt; found > 100_000, "{found}");
+    let mut owners = Vec::with_capacity(alloc, MOST_ROUTERS)?;
+    let prefix = Prefix::new(Addr::new(0), 8)?;
+    let found = work(&mut table, batches.as_slice(), prefix);
+    table.list_owners(&mut owners, prefix);
+    assert!(rt; found > 100_000 && owners.len() > 100, "{found} {owners:?}");
     Ok(())
 }
 
@@ -109,7 +108,11 @@ fn at_work(rt: HostRuntime) -> Result<(), Fail> {
 fn at_rest(rt: HostRuntime) -> Result<(), Fail> {
     let alloc = rt.alloc();
     let (table, batches) = (Table::new(alloc)?, batches(alloc)?);
+    let owners: Vec<u16> = Vec::with_capacity(alloc, MOST_ROUTERS)?;
     let found = reads(&table, Prefix::new(Addr::new(0), 8)?);
-    assert!(rt; found == 0 && batches.len() == 19, "{found} {batches:?}");
+    assert!(rt;
+        found == 0 && owners.is_empty() && batches.len() == 19,
+        "{found} {batches:?}"
+    );
     Ok(())
 }

@@ -5,7 +5,7 @@ use super::edits::{answer, batch_of};
 use super::reverses::Draw;
 use cspf_addr::{Addr, Prefix};
 use cspf_db::Table;
-use cspf_model::Batch;
+use cspf_model::{Batch, MOST_ROUTERS};
 use std::alloc::{AllocError, Global};
 use std::process::Abort;
 use std::test::Fail;
@@ -46,7 +46,8 @@ fn assert_alike(
             wanted.push(at as u16)?;
         }
     }
-    let owners = table.owners(alloc, prefix)?;
+    let mut owners = Vec::with_capacity(alloc, MOST_ROUTERS)?;
+    table.list_owners(&mut owners, prefix);
     assert_eq!(rt; owners.as_slice(), wanted.as_slice(), "{prefix:?}");
     Ok(wanted.len())
 }
@@ -63,7 +64,8 @@ fn assert_owners(
 ) -> Result<(), Fail> {
     for (address, length, wanted) in cases {
         let prefix = Prefix::new(Addr::new(*address), *length)?;
-        let owners = table.owners(alloc, prefix)?;
+        let mut owners = Vec::with_capacity(alloc, MOST_ROUTERS)?;
+        table.list_owners(&mut owners, prefix);
         assert_eq!(rt; owners.as_slice(), *wanted, "{prefix:?}");
         assert_alike(rt, alloc, table, prefix)?;
     }
