@@ -262,8 +262,9 @@ class Feed:
         self.router.accept()
         self.settle()
 
-    def batch(self, answer=None):
-        """The rows of the next batch without its end row, and the number; the answer by default accepts it."""
+    def batch(self, answer=None, before=lambda: None):
+        """The rows of the next batch without its end row, and the number; the answer by default accepts it, and `before` is called
+        before it is said."""
         rows = []
         while (line := self.line()) is not None and not line.startswith("end,"):
             rows.append(line)
@@ -272,6 +273,7 @@ class Feed:
         _, number, count = line.split(",")
         if int(count) != len(rows):
             raise AssertionError(f"a count of {count} for {len(rows)} rows")
+        before()
         self.say(answer or f"version {number}")
         return rows, int(number)
 

@@ -46,11 +46,17 @@ class Told:
         new, self.read = text[self.read:], len(text)
         return new.splitlines()
 
+    def batch(self, answer=None):
+        """The next batch, and the lines of the file that stand there before it is answered, since the answer may bring more."""
+        found = []
+        batch = self.feed.batch(answer, lambda: found.extend(self.lines()))
+        return batch, found
+
     def play(self, *lsas):
         """Sends LSAs; the lines of the file that stand there once the batch has come, and the batch's rows."""
         self.router.send(update(*lsas))
-        rows = self.feed.batch()[0]
-        return self.lines(), rows
+        (rows, _), found = self.batch()
+        return found, rows
 
     def quiet(self, *lsas):
         """Sends LSAs that make no batch, and gives the lines."""
@@ -150,15 +156,15 @@ def refusals(checks):
     told = Told("--sid-group", "0")
     told.router.send(update(*ROUTERS, *LINKS, *BOTH))
     grouped = [each.replace("0x00000000", "0x00000001") for each in PAIR_ROWS]
-    checks.same("a batch that is refused", (told.feed.batch("batch 1 refused: memory"), told.lines()), ((grouped, 1), SIDS))
-    checks.same("its half takes the number", (told.feed.batch(), told.lines()), ((grouped[:1], 1), SIDS))
-    checks.same("and the other half the next, with nothing more to say", (told.feed.batch(), told.lines()), ((grouped[1:], 2), []))
+    checks.same("a batch that is refused", told.batch("batch 1 refused: memory"), ((grouped, 1), SIDS))
+    checks.same("its half takes the number", told.batch(), ((grouped[:1], 1), SIDS))
+    checks.same("and the other half the next, with nothing more to say", told.batch(), ((grouped[1:], 2), []))
     told.router.send(update(link_lsa(A, A_B, sequence=2), link_lsa(B, B_A, neighbor=A, sequence=2)))
     gone = [f"sid,3,{A},{A_B},", f"sid,3,{B},{B_A},"]
-    checks.same("SIDs that go in a batch that is refused", (told.feed.batch("batch 3 refused: memory"), told.lines()), ((PAIR_ROWS, 3), gone))
-    checks.same("that of a link which the half leaves in the group is there", (told.feed.batch(), told.lines()),
+    checks.same("SIDs that go in a batch that is refused", told.batch("batch 3 refused: memory"), ((PAIR_ROWS, 3), gone))
+    checks.same("that of a link which the half leaves in the group is there", told.batch(),
                 ((PAIR_ROWS[:1], 3), [gone[0], f"sid,3,{B},{B_A},1048575"]))
-    checks.same("until its batch", (told.feed.batch(), told.lines()), ((PAIR_ROWS[1:], 4), [f"sid,4,{B},{B_A},"]))
+    checks.same("until its batch", told.batch(), ((PAIR_ROWS[1:], 4), [f"sid,4,{B},{B_A},"]))
     told.end()
 
 
@@ -171,8 +177,7 @@ def held(checks):
     checks.same("nothing is told: nothing is dropped", told.quiet(), [])
     checks.same("one is told with another label", told.quiet(*ROUTERS, LINKS[0], link_lsa(A, A_B, sid(44))), [f"sid,1,{A},{A_B},44"])
     told.feed.waits(HOLD)
-    checks.same("what isn't told goes with its link", (told.feed.batch()[0], told.lines()),
-                ([f"drop,{B},{B_A}"], [f"sid,2,{B},{B_A},"]))
+    checks.same("what isn't told goes with its link", told.batch(), (([f"drop,{B},{B_A}"], 2), [f"sid,2,{B},{B_A},"]))
     told.end()
 
 
