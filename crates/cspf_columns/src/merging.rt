@@ -109,10 +109,7 @@ fn merge_one(
     extend_within(merged, &columns.rows[at..next]);
     extend_within(merged_ends, &columns.ends[at..next]);
     put_behind(merged, merged_ends, &columns.routers, change);
-    if is_at(&columns.rows, next, from, local) {
-        return next + 1;
-    }
-    next
+    next + usize::from(is_at(&columns.rows, next, from, local))
 }
 
 /// Merges changes in order of the key into the rows, with the column of ends.

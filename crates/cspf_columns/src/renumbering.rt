@@ -70,31 +70,6 @@ fn keep_one(kept: &mut Vec<Addr>, places: &mut Vec<u16>, router: Addr, stays: bo
     }
 }
 
-/// Keeps the routers that are ends of rows, where the indices are marked to which rows run.
-fn keep_marked(
-    kept: &mut Vec<Addr>,
-    places: &mut Vec<u16>,
-    marked: &[bool],
-    routers: &[Addr],
-    rows: &[Link],
-)
-    requires by_key { AreByKey rows.now }
-    requires few { length routers.now ≤ ROOM_FOR_ROUTERS }
-    requires enough { length routers.now ≤ length marked.now }
-    requires marked { (at : ℕ) → at < length routers.now
-        → slice_index_or marked.now at false ≡ any_to rows.now (slice_index routers.now at) }
-    requires room { ROOM_FOR_ROUTERS ≤ vec_capacity kept.old }
-    requires room_for_places { ROOM_FOR_ROUTERS ≤ vec_capacity places.old }
-    ensures { AreKeptEnds rows.now routers.now kept.old places.old kept.new places.new }
-{
-    kept.clear();
-    places.clear();
-    for (at, router) in routers.iter().enumerate() {
-        let stays = is_end(rows, *router, marked[at]);
-        keep_one(kept, places, *router, stays);
-    }
-}
-
 /// Keeps the routers that are ends of rows, and lists the places of each among them.
 pub(crate) fn keep_ends(
     kept: &mut Vec<Addr>,
@@ -113,5 +88,10 @@ pub(crate) fn keep_ends(
 {
     let mut marked = [false; ROOM_FOR_ROUTERS];
     mark_ends(&mut marked, ends);
-    keep_marked(kept, places, &marked, routers, rows);
+    kept.clear();
+    places.clear();
+    for (at, router) in routers.iter().enumerate() {
+        let stays = is_end(rows, *router, marked[at]);
+        keep_one(kept, places, *router, stays);
+    }
 }

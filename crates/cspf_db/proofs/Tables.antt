@@ -6,3 +6,4 @@ pub mod CoveredRanges
 pub mod MarkChanges
 pub mod TransitColumn
 pub mod Plans
+pub mod SeenRows

@@ -2,3 +2,4 @@
 pub mod Parts
 pub mod RouterSets
 pub mod AddressRanges
+pub mod Tallies

@@ -5,6 +5,7 @@ pub mod FieldLemmas
 pub mod RowLaws
 pub mod ReadBack
 pub mod Lines
+pub mod MaskDigits
 pub mod RowsRead
 pub mod HopRefusalLemmas
 pub mod RowRefusalLemmas

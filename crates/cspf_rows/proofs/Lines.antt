@@ -19,6 +19,10 @@ pub line_text-cons : (x : List ℕ) (xs : List (List ℕ)) → record_line (x �
 unfolding record_line
 line_text-cons x xs = rw (join_with_byte-cons x xs, append_assoc x (fields_after xs) (10 ∷ [])) refl
 
+-- the line of a word and two fields, which are written one after the other
+pub line_of_three : (old x a b : List ℕ) → (((old ++ x) ++ (44 ∷ a)) ++ (44 ∷ b)) ++ (10 ∷ []) ≡ old ++ record_line (x ∷ a ∷ b ∷ [])
+line_of_three old x a b = rw (line_text-cons x (a ∷ b ∷ [])) (simp (append_assoc))
+
 -- a line that is written in two pieces
 line_text-append : (old x : List ℕ) (xs ys : List (List ℕ)) → ((old ++ (x ++ fields_after xs)) ++ fields_after ys) ++ (10 ∷ []) ≡ old ++ record_line (x ∷ (xs ++ ys))
 line_text-append old x xs ys = simp (line_text-cons, flat_map-append, append_assoc)

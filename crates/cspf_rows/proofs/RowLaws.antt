@@ -12,7 +12,7 @@ use Rattle.cspf_rows.specs.declared.row.Row.TheVariants as row
 use Rattle.cspf_rows.specs.declared.row_error.RowError.{RowError}
 use Rattle.cspf_addr.specs.ResultSteps.{◌>>=◌}
 use Rattle.cspf_rows.specs.FieldValues.{field, number_at, small_number_at, priority_at, address_at, mask_at, hops_at}
-use Rattle.cspf_rows.specs.Rows.{link_with, request_with, put_between, put, ask_between, ask, put_row_of, drop_row_of, node_row_of, end_row_of, ask_row_of, row_of}
+use Rattle.cspf_rows.specs.Rows.{link_with, request_with, put_between, put, ask_between, ask, put_row_of, drop_row_of, node_row_of, end_row_of, ask_row_of, row_of, row_of_two}
 use Rattle.cspf_rows.specs.FieldTexts.{AreTextsRead}
 use Rattle.cspf_rows.specs.Says.{SaysPut, SaysRemove, SaysNode, SaysEnd, SaysAsk, Says, AreRowsRead, SaysOneRow}
 use Rattle.cspf_rows.proofs.AttributeLemmas.{put-link, ask-fields}
@@ -151,30 +151,29 @@ said-put_row_of texts fields r count kind read =
     let made = said-put _ _ _ r after_u7 in
     subst (Says fields) made.1 (said-link texts fields made.0 _ made.2 count kind is_from is_local is_to is_remote is_metric is_group is_u0 is_u1 is_u2 is_u3 is_u4 is_u5 is_u6 is_u7)))))))))))))))
 
--- the two values that a row of two fields was made of
-two_steps : {A B : Type 0} (first : Result A RowError) (second : Result B RowError) (make : A → B → Row) (r : Row) → (first >>= (λ x. second >>= (λ y. Ok (make x y)))) ≡ Ok r
-    → (x : A) × (y : B) × (first ≡ Ok x) × (second ≡ Ok y) × (make x y ≡ r)
-two_steps (Ok x) (Ok y) make r read = (x, y, refl, refl, cc)
-two_steps (Ok x) (Err e) make r read = absurd (cc)
-two_steps (Err e) second make r read = absurd (cc)
+-- a record is read as the row of two fields: it says that row where it says each that two values make
+said_of_two : {A B : Type 0} (fields : List (List ℕ)) (first : Result A RowError) (second : Result B RowError) (make : A → B → Row) (r : Row)
+    → ((x : A) (y : B) → first ≡ Ok x → second ≡ Ok y → Says fields (make x y)) → row_of_two first second make ≡ Ok r → Says fields r
+said_of_two fields (Ok x) (Ok y) make r says read =
+    let same : make x y ≡ r = cc in
+    subst (Says fields) same (says x y refl refl)
+said_of_two fields (Ok x) (Err e) make r says read = absurd (cc)
+said_of_two fields (Err e) second make r says read = absurd (cc)
 
 said-drop_row_of : AreTextsRead → (fields : List (List ℕ)) (r : Row) → length fields ≡ 3 → field fields 1 ≡ codes "drop" → drop_row_of fields ≡ Ok r → Says fields r
 unfolding drop_row_of
-said-drop_row_of texts fields r count kind read =
-    let (from, local, is_from, is_local, same) = two_steps _ _ row.Remove r read in
-    subst (Says fields) same (record { count = count; kind = kind; from = spelled-address_at texts fields 2 from is_from; local = spelled-address_at texts fields 3 local is_local })
+said-drop_row_of texts fields r count kind =
+    said_of_two fields _ _ row.Remove r (λ from local is_from is_local. record { count = count; kind = kind; from = spelled-address_at texts fields 2 from is_from; local = spelled-address_at texts fields 3 local is_local })
 
 said-node_row_of : AreTextsRead → (fields : List (List ℕ)) (r : Row) → length fields ≡ 3 → field fields 1 ≡ codes "node" → node_row_of fields ≡ Ok r → Says fields r
 unfolding node_row_of
-said-node_row_of texts fields r count kind read =
-    let (router, transit, is_router, is_transit, same) = two_steps _ _ row.Node r read in
-    subst (Says fields) same (record { count = count; kind = kind; router = spelled-address_at texts fields 2 router is_router; transit = spelled-flag_at texts fields 3 transit is_transit })
+said-node_row_of texts fields r count kind =
+    said_of_two fields _ _ row.Node r (λ router transit is_router is_transit. record { count = count; kind = kind; router = spelled-address_at texts fields 2 router is_router; transit = spelled-flag_at texts fields 3 transit is_transit })
 
 said-end_row_of : AreTextsRead → (fields : List (List ℕ)) (r : Row) → length fields ≡ 3 → field fields 1 ≡ codes "end" → end_row_of fields ≡ Ok r → Says fields r
 unfolding end_row_of
-said-end_row_of texts fields r count kind read =
-    let (number, changes, is_number, is_changes, same) = two_steps _ _ row.End r read in
-    subst (Says fields) same (record { count = count; kind = kind; number = spelled-small_number_at texts fields 2 number is_number; has = spelled-small_number_at texts fields 3 changes is_changes })
+said-end_row_of texts fields r count kind =
+    said_of_two fields _ _ row.End r (λ number changes is_number is_changes. record { count = count; kind = kind; number = spelled-small_number_at texts fields 2 number is_number; has = spelled-small_number_at texts fields 3 changes is_changes })
 
 said-ask_row_of : AreTextsRead → (fields : List (List ℕ)) (r : Row) → length fields ≡ 10 → field fields 1 ≡ codes "ask" → ask_row_of fields ≡ Ok r → Says fields r
 unfolding ask_row_of ask

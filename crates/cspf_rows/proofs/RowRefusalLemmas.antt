@@ -17,7 +17,7 @@ use Rattle.cspf_rows.specs.FieldValues.{field, number_at, small_number_at, prior
 use Rattle.cspf_rows.specs.FieldTexts.{AreTextsRead}
 use Rattle.cspf_rows.specs.Says.{SpellsNumber, SpellsFlag, SpellsAddress}
 use Rattle.cspf_rows.specs.RowRefusals.{Kind, put_kind, drop_kind, node_kind, end_kind, ask_kind, address, number, small_number, priority, flag, mask, hops, word_of, sorts_of, SpellsSort, IsFieldRefused, SpellOneAddress, AreEndsRefused, AreFieldsRefused, IsRefusedAs, IsRefused, AreRowsRefused, IsRefusedOnce}
-use Rattle.cspf_rows.specs.Rows.{put_between, put, ask_between, ask, put_row_of, drop_row_of, node_row_of, end_row_of, ask_row_of, of_count, row_of}
+use Rattle.cspf_rows.specs.Rows.{put_between, put, ask_between, ask, put_row_of, drop_row_of, node_row_of, end_row_of, ask_row_of, of_count, row_of, row_of_two}
 use Rattle.cspf_rows.proofs.HopRefusalLemmas.{mapped_error, fault_told, told_fault}
 use Rattle.cspf_rows.proofs.AttributeLemmas.{put-self, ask-same}
 use Rattle.cspf_rows.proofs.FieldLemmas.{number_at-spelled, spelled-number_at, small_number_at-spelled, spelled-small_number_at, priority_at-spelled, spelled-priority_at, flag_at-spelled, spelled-flag_at, address_at-spelled, spelled-address_at, mask_at-spelled, spelled-mask_at, hops_at-spelled, spelled-hops_at}
@@ -235,23 +235,22 @@ put_refused texts fields =
     step _ _ (number_read texts fields 15) (λ u7 is_u7.
     put_ends texts fields _ _ is_from is_to))))))))))))))
 
+-- a row of two fields is refused for one of its fields
+two_refused : {A B : Type 0} {first : Result A RowError} {second : Result B RowError} (make : A → B → Row) {One Two : Type 0} {NotOne NotTwo : RowError → Type 0}
+    → IsSortRead first One NotOne → IsSortRead second Two NotTwo → (e : RowError) → (row_of_two first second make ≡ Err e) ↔ (NotOne e ⊎ (One × (NotTwo e ⊎ (Two × ⊥))))
+two_refused make one two = step _ _ one (λ x is_x. step _ _ two (λ y is_y. read_whole (make x y)))
+
 drop_refused : AreTextsRead → (fields : List (List ℕ)) (e : RowError) → (drop_row_of fields ≡ Err e) ↔ AreFieldsRefused drop_kind 2 (sorts_of drop_kind) fields e
 unfolding drop_row_of
-drop_refused texts fields =
-    step _ _ (address_read texts fields 2) (λ from is_from.
-    step _ _ (address_read texts fields 3) (λ local is_local. read_whole (row.Remove from local)))
+drop_refused texts fields = two_refused row.Remove (address_read texts fields 2) (address_read texts fields 3)
 
 node_refused : AreTextsRead → (fields : List (List ℕ)) (e : RowError) → (node_row_of fields ≡ Err e) ↔ AreFieldsRefused node_kind 2 (sorts_of node_kind) fields e
 unfolding node_row_of
-node_refused texts fields =
-    step _ _ (address_read texts fields 2) (λ router is_router.
-    step _ _ (flag_read texts fields 3) (λ transit is_transit. read_whole (row.Node router transit)))
+node_refused texts fields = two_refused row.Node (address_read texts fields 2) (flag_read texts fields 3)
 
 end_refused : AreTextsRead → (fields : List (List ℕ)) (e : RowError) → (end_row_of fields ≡ Err e) ↔ AreFieldsRefused end_kind 2 (sorts_of end_kind) fields e
 unfolding end_row_of
-end_refused texts fields =
-    step _ _ (small_number_read texts fields 2) (λ version is_version.
-    step _ _ (small_number_read texts fields 3) (λ count is_count. read_whole (row.End version count)))
+end_refused texts fields = two_refused row.End (small_number_read texts fields 2) (small_number_read texts fields 3)
 
 ask_refused : AreTextsRead → (fields : List (List ℕ)) (e : RowError) → (ask_row_of fields ≡ Err e) ↔ AreFieldsRefused ask_kind 2 (sorts_of ask_kind) fields e
 unfolding ask_row_of

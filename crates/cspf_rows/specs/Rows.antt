@@ -62,26 +62,24 @@ put_row_of fields = do
   u7 ← number_at fields 15
   put (record { from = from; local = local; to = to; remote = remote; metric = metric; group = group; free = u0 ∷ u1 ∷ u2 ∷ u3 ∷ u4 ∷ u5 ∷ u6 ∷ u7 ∷ [] }) refl
 
+-- the row that two fields after the word make
+abbrev pub row_of_two : {A B : Type 0} → Result A RowError → Result B RowError → (A → B → Row) → Result Row RowError
+row_of_two first second make = do
+  one ← first
+  two ← second
+  Ok (make one two)
+
 -- the row of 3 fields that removes a link
 unfoldable pub drop_row_of : List (List ℕ) → Result Row RowError
-drop_row_of fields = do
-  from ← address_at fields 2
-  local ← address_at fields 3
-  Ok (row.Remove from local)
+drop_row_of fields = row_of_two (address_at fields 2) (address_at fields 3) row.Remove
 
 -- the row of 3 fields that says whether a router has transit
 unfoldable pub node_row_of : List (List ℕ) → Result Row RowError
-node_row_of fields = do
-  router ← address_at fields 2
-  transit ← flag_at fields 3
-  Ok (row.Node router transit)
+node_row_of fields = row_of_two (address_at fields 2) (flag_at fields 3) row.Node
 
 -- the row of 3 fields that ends a batch
 unfoldable pub end_row_of : List (List ℕ) → Result Row RowError
-end_row_of fields = do
-  number ← small_number_at fields 2
-  count ← small_number_at fields 3
-  Ok (row.End number count)
+end_row_of fields = row_of_two (small_number_at fields 2) (small_number_at fields 3) row.End
 
 -- the row of 10 fields that asks for a route
 unfoldable pub ask_row_of : List (List ℕ) → Result Row RowError

@@ -1,9 +1,9 @@
 //! The text of a batch: a line for each change, and its end row.
 
-ghost use Rattle.std.specs.Prelude.{◌≡◌, ◌++◌, map, codes, IfOk, OnOk};
+ghost use Rattle.std.specs.Prelude.{◌≡◌, ◌++◌, ◌∷◌, [], ℕ, List, ◌^◌, ◌<◌, map, codes, IfOk, OnOk};
 ghost use Rattle.std.specs.Fmt.{decimal};
 ghost use Rattle.std.specs.List.{flat_map};
-ghost use Rattle.std.specs.String.{string_bytes};
+ghost use Rattle.cspf_addr.specs.AddressText.{address_text};
 ghost use Rattle.cspf_addr.specs.MaskText.{mask_text};
 ghost use Rattle.cspf_model.specs.declared.batch.Change.TheVariants as change;
 ghost use Rattle.cspf_rows.specs.Written.{end_fields};
@@ -11,8 +11,8 @@ ghost use Rattle.cspf_rows.specs.BatchText.{batch_text, change_fields, record_li
 
 use cspf_addr::{Addr, Mask};
 use cspf_model::{Batch, Change, Link};
+use itoa::Buffer;
 use std::alloc::{AllocError, Global};
-use std::fmt::Write;
 
 /// The text of a batch: one line for each change, in order, and then its end row. The group of a
 /// link is written as `0x` and eight lower-case hexadecimal digits, and each line ends with a line
@@ -20,15 +20,15 @@ use std::fmt::Write;
 pub fn batch_text(alloc: Global, batch: &Batch) -> Result<Vec<u8>, AllocError>
     ensures { IfOk result (λ text. text.items ≡ batch_text batch.now) }
 {
-    let mut text = String::new(alloc);
+    let mut text = Vec::new(alloc);
     write_changes(&mut text, &batch.changes)?;
     write_end(&mut text, batch.number, batch.changes.len())?;
-    Ok(text.into_bytes())
+    Ok(text)
 }
 
 /// Writes the line of each change.
-fn write_changes(text: &mut String, changes: &[Change]) -> Result<(), AllocError>
-    ensures { OnOk result (string_bytes text.new ≡ string_bytes text.old
+fn write_changes(text: &mut Vec<u8>, changes: &[Change]) -> Result<(), AllocError>
+    ensures { OnOk result (text.new.items ≡ text.old.items
         ++ flat_map (λ change. record_line (change_fields change)) changes.now) }
 {
     for change in changes {
@@ -42,76 +42,121 @@ fn write_changes(text: &mut String, changes: &[Change]) -> Result<(), AllocError
 }
 
 /// Writes the line of a link that is put.
-fn write_put(text: &mut String, link: &Link) -> Result<(), AllocError>
-    ensures { OnOk result (string_bytes text.new
-        ≡ string_bytes text.old ++ record_line (change_fields (change.Put link.now))) }
+fn write_put(text: &mut Vec<u8>, link: &Link) -> Result<(), AllocError>
+    ensures { OnOk result (text.new.items
+        ≡ text.old.items ++ record_line (change_fields (change.Put link.now))) }
 {
     write_attributes(text, link)?;
     write_bandwidths(text, &link.free)?;
-    writeln!(text)
+    text.extend_from_slice(b"\n")
 }
 
-/// Writes the fields of a link that is put, but for its unreserved bandwidths.
-fn write_attributes(text: &mut String, link: &Link) -> Result<(), AllocError>
-    ensures { OnOk result (string_bytes text.new
-        ≡ string_bytes text.old ++ (codes "put" ++ fields_after (attributes link.now))) }
+/// Writes the fields of a link that is put, except for its unreserved bandwidths.
+fn write_attributes(text: &mut Vec<u8>, link: &Link) -> Result<(), AllocError>
+    ensures { OnOk result (text.new.items
+        ≡ text.old.items ++ (codes "put" ++ fields_after (attributes link.now))) }
 {
-    let Link {
-        from,
-        local,
-        to,
-        remote,
-        metric,
-        ..
-    } = *link;
-    write!(text, "put,{from},{local},{to},{remote},{metric},")?;
+    text.extend_from_slice(b"put")?;
+    write_address(text, link.from)?;
+    write_address(text, link.local)?;
+    write_address(text, link.to)?;
+    write_address(text, link.remote)?;
+    write_number(text, u64::from(link.metric))?;
     write_mask(text, link.group)
 }
 
-/// Writes a mask with eight digits.
-#[tactic(auto, using(std::proofs::lemmas::Fmt::hex_byte), unfolding(cspf_addr::specs::MaskText::mask_text))]
-fn write_mask(text: &mut String, mask: Mask) -> Result<(), AllocError>
-    ensures { OnOk result (string_bytes text.new ≡ string_bytes text.old ++ mask_text mask) }
+/// Writes a comma and a number.
+fn write_number(text: &mut Vec<u8>, number: u64) -> Result<(), AllocError>
+    ensures { OnOk result (text.new.items ≡ text.old.items ++ (44 ∷ decimal number)) }
 {
-    let [a, b, c, d] = mask.bits().to_be_bytes();
-    write!(text, "0x{a:02x}{b:02x}{c:02x}{d:02x}")
+    text.extend_from_slice(b",")?;
+    write_digits(text, number)
+}
+
+/// Writes the decimal digits of a number.
+fn write_digits(text: &mut Vec<u8>, number: u64) -> Result<(), AllocError>
+    ensures { OnOk result (text.new.items ≡ text.old.items ++ decimal number) }
+{
+    let mut buffer = Buffer::new();
+    text.extend_from_slice(buffer.format(number).as_bytes())
+}
+
+/// Writes a comma and an address.
+#[tactic(auto, unfolding(cspf_addr::specs::AddressText::address_text))]
+fn write_address(text: &mut Vec<u8>, address: Addr) -> Result<(), AllocError>
+    ensures { OnOk result (text.new.items ≡ text.old.items ++ (44 ∷ address_text address)) }
+{
+    let [a, b, c, d] = address.number().to_be_bytes();
+    write_number(text, u64::from(a))?;
+    write_octet(text, b)?;
+    write_octet(text, c)?;
+    write_octet(text, d)
+}
+
+/// Writes a point and a number.
+fn write_octet(text: &mut Vec<u8>, octet: u8) -> Result<(), AllocError>
+    ensures { OnOk result (text.new.items ≡ text.old.items ++ (46 ∷ decimal octet)) }
+{
+    text.extend_from_slice(b".")?;
+    write_digits(text, u64::from(octet))
+}
+
+/// Writes a comma and a mask with eight digits.
+fn write_mask(text: &mut Vec<u8>, mask: Mask) -> Result<(), AllocError>
+    ensures { OnOk result (text.new.items ≡ text.old.items ++ (44 ∷ mask_text mask)) }
+{
+    let mut digits = [0; 8];
+    let Ok(()) = hex::encode_to_slice(mask.bits().to_be_bytes(), &mut digits) else {
+        // There is room for two digits of each of the four bytes.
+        unreachable!()
+    };
+    text.extend_from_slice(b",0x")?;
+    text.extend_from_slice(&digits)
 }
 
 /// Writes the unreserved bandwidths of a link.
-fn write_bandwidths(text: &mut String, free: &[u64]) -> Result<(), AllocError>
-    ensures { OnOk result (string_bytes text.new
-        ≡ string_bytes text.old ++ fields_after (map decimal free.now)) }
+fn write_bandwidths(text: &mut Vec<u8>, free: &[u64]) -> Result<(), AllocError>
+    ensures { OnOk result (text.new.items
+        ≡ text.old.items ++ fields_after (map decimal free.now)) }
 {
     for bandwidth in free {
-        write!(text, ",{bandwidth}")?;
+        write_number(text, *bandwidth)?;
     }
     Ok(())
 }
 
 /// Writes the line of a link that is taken out.
-#[tactic(auto, unfolding(crate::specs::BatchText::record_line))]
-fn write_drop(text: &mut String, from: Addr, local: Addr) -> Result<(), AllocError>
-    ensures { OnOk result (string_bytes text.new
-        ≡ string_bytes text.old ++ record_line (change_fields (change.Remove from local))) }
+#[tactic(auto, using(crate::proofs::Lines::line_of_three))]
+fn write_drop(text: &mut Vec<u8>, from: Addr, local: Addr) -> Result<(), AllocError>
+    ensures { OnOk result (text.new.items
+        ≡ text.old.items ++ record_line (change_fields (change.Remove from local))) }
 {
-    writeln!(text, "drop,{from},{local}")
+    text.extend_from_slice(b"drop")?;
+    write_address(text, from)?;
+    write_address(text, local)?;
+    text.extend_from_slice(b"\n")
 }
 
 /// Writes the line of a router with transit, 1, or without, 0.
-#[tactic(auto, unfolding(crate::specs::BatchText::record_line))]
-fn write_node(text: &mut String, router: Addr, transit: bool) -> Result<(), AllocError>
-    ensures { OnOk result (string_bytes text.new
-        ≡ string_bytes text.old ++ record_line (change_fields (change.Node router transit))) }
+#[tactic(auto, using(crate::proofs::Lines::line_of_three))]
+fn write_node(text: &mut Vec<u8>, router: Addr, transit: bool) -> Result<(), AllocError>
+    ensures { OnOk result (text.new.items
+        ≡ text.old.items ++ record_line (change_fields (change.Node router transit))) }
 {
-    let flag = u8::from(transit);
-    writeln!(text, "node,{router},{flag}")
+    text.extend_from_slice(b"node")?;
+    write_address(text, router)?;
+    write_number(text, u64::from(transit))?;
+    text.extend_from_slice(b"\n")
 }
 
 /// Writes the line that ends a batch.
-#[tactic(auto, unfolding(crate::specs::BatchText::record_line))]
-fn write_end(text: &mut String, number: u32, count: usize) -> Result<(), AllocError>
-    ensures { OnOk result (string_bytes text.new
-        ≡ string_bytes text.old ++ record_line (end_fields number count)) }
+#[tactic(auto, using(crate::proofs::Lines::line_of_three))]
+fn write_end(text: &mut Vec<u8>, number: u32, count: usize) -> Result<(), AllocError>
+    ensures { OnOk result (text.new.items
+        ≡ text.old.items ++ record_line (end_fields number count)) }
 {
-    writeln!(text, "end,{number},{count}")
+    text.extend_from_slice(b"end")?;
+    write_number(text, u64::from(number))?;
+    write_number(text, count as u64)?;
+    text.extend_from_slice(b"\n")
 }

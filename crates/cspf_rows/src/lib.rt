@@ -27,6 +27,7 @@ mod request_reader;
 mod requests_error;
 mod row;
 mod row_error;
+mod stream_faults;
 
 pub use batch::batch_text;
 pub use journal::{

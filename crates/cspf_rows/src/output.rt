@@ -1,6 +1,11 @@
+//! Whole texts, written to any writer.
+
+mod open_writer;
+
 ghost use Rattle.std.specs.Prelude.{◌<◌, length, take, OnOk, IfErr};
 ghost use Rattle.std.specs.Io.KnownBytes.{Appends};
 
+use crate::output::open_writer::OpenWriter;
 use std::io::Write;
 
 /// Writes the whole text, unless a write fails in any way or takes no byte: the error is how many
@@ -11,12 +16,12 @@ pub fn put_all<W: Write>(to: &mut W, text: &[u8]) -> Result<(), usize>
         Appends (W.contents to.old) (W.contents to.new) (take n text.now)) }
     ensures less { IfErr result (λ n. n < length text.now) }
 {
+    let mut to = OpenWriter::new(to);
     let mut sent = 0;
     while sent < text.len() {
-        match to.write(&text[sent..]) {
-            Ok(0) => return Err(sent),
-            Ok(n) => sent += n,
-            Err(_) => return Err(sent),
+        match to.write_some(&text[sent..]) {
+            Some(taken) => sent += taken,
+            None => return Err(sent),
         }
     }
     Ok(())

@@ -1,10 +1,4 @@
-ghost use Rattle.std.specs.Prelude.{◌≡◌};
-ghost use Rattle.cspf_rows.specs.ReadFaults.{stream_fault_of};
-ghost use Rattle.cspf_rows.specs.declared.requests_error.RequestsError.TheVariants as requests_error;
-
-use crate::record_error::RecordError;
 use crate::row_error::RowError;
-use std::alloc::AllocError;
 use thiserror::Error;
 
 /// Why requests can't be read. Rows count from 1.
@@ -33,20 +27,4 @@ pub enum RequestsError {
         /// Which row it is.
         row: u32,
     },
-}
-
-impl From<RecordError> for RequestsError {
-    ghost from_gives = { λ error fault. fault ≡ stream_fault_of requests_error.Memory requests_error.Device error };
-
-    fn from(error: RecordError) -> RequestsError {
-        error.of_stream(RequestsError::Memory, RequestsError::Device)
-    }
-}
-
-impl From<AllocError> for RequestsError {
-    ghost from_gives = { λ _ fault. fault ≡ requests_error.Memory };
-
-    fn from(_refused: AllocError) -> RequestsError {
-        RequestsError::Memory
-    }
 }

@@ -198,11 +198,34 @@ fn answer(alloc: Global, query: Query<'_>, nodes: &[Node]) -> Result<Outcome, Al
     Ok(Outcome::Route(route_to(alloc, nodes, at)?))
 }
 
-/// The best answer to a request in the table's database (RFC 2702 7): its head-end or its tail-end
-/// is unknown, or the route before all others, or there is none. A route is a walk of admissible
-/// links that passes through no router without transit (RFC 6987). The hops of the request cut it
-/// into legs (RFC 3209 4.3.3). The search settles routers in legs from a heap.
-pub fn best(alloc: Global, table: &Table, request: &Request) -> Result<Outcome, AllocError>
+/// The nodes that one of both searches settles: by rounds, or from a heap.
+fn searched(
+    alloc: Global,
+    query: Query<'_>,
+    from: usize,
+    to: usize,
+    by_rounds: bool,
+) -> Result<Vec<Node>, AllocError>
+    requires query { IsQuery query }
+    requires known { IsRouterOf query.table.now query.request.now.from }
+    requires from { IsIndexOf query.table.now query.request.now.from from }
+    requires to { IsIndexOf query.table.now query.request.now.to to }
+    ensures { IfOk result (λ nodes. IsSearched query.entry.table.now query.entry.request.now nodes.items) }
+{
+    if by_rounds {
+        settled(alloc, query)
+    } else {
+        reached(alloc, query, from, to)
+    }
+}
+
+/// The best answer to a request in the table's database, by one of both searches.
+fn best_by(
+    alloc: Global,
+    table: &Table,
+    request: &Request,
+    by_rounds: bool,
+) -> Result<Outcome, AllocError>
     ensures { IfOk result (λ outcome.
         IsBestAnswer table.now request.now (answer_of outcome)) }
 {
@@ -221,8 +244,19 @@ pub fn best(alloc: Global, table: &Table, request: &Request) -> Result<Outcome, 
         roles: &roles.states,
         targets: &roles.targets,
     };
-    let nodes = reached(alloc, query, from, to)?;
+    let nodes = searched(alloc, query, from, to, by_rounds)?;
     answer(alloc, query, &nodes)
+}
+
+/// The best answer to a request in the table's database (RFC 2702 7): its head-end or its tail-end
+/// is unknown, or the route before all others, or there is none. A route is a walk of admissible
+/// links that passes through no router without transit (RFC 6987). The hops of the request cut it
+/// into legs (RFC 3209 4.3.3). The search settles routers in legs from a heap.
+pub fn best(alloc: Global, table: &Table, request: &Request) -> Result<Outcome, AllocError>
+    ensures { IfOk result (λ outcome.
+        IsBestAnswer table.now request.now (answer_of outcome)) }
+{
+    best_by(alloc, table, request, false)
 }
 
 /// The answer of `best`, by a slower and simpler search. Each round settles the first of all
@@ -235,21 +269,5 @@ pub fn best_by_rounds(
     ensures { IfOk result (λ outcome.
         IsBestAnswer table.now request.now (answer_of outcome)) }
 {
-    listed(table);
-    let Some(head) = table.place_of(request.from) else {
-        return Ok(Outcome::UnknownFrom);
-    };
-    let Some(to) = table.place_of(request.to) else {
-        return Ok(Outcome::UnknownTo);
-    };
-    let roles = find_roles(alloc, table, request, head, to)?;
-    let query = Query {
-        table,
-        request,
-        legs: request.hops.len() + 1,
-        roles: &roles.states,
-        targets: &roles.targets,
-    };
-    let nodes = settled(alloc, query)?;
-    answer(alloc, query, &nodes)
+    best_by(alloc, table, request, true)
 }

@@ -1,14 +1,13 @@
 //! Whether a batch fits the table, and the first reason why it doesn't.
 
-ghost use Rattle.std.specs.Prelude.{count_by, ◌≡◌, ◌+◌, ◌<◌, ◌≤◌, ◌↔◌, true, All, length, IfOk, IfErr, IsTrue};
+ghost use Rattle.std.specs.Prelude.{count_by, ◌≡◌, ◌+◌, ◌<◌, ◌≤◌, ◌↔◌, true, length, IfOk, IfErr, IsOkAnd, IsTrue};
 ghost use Rattle.cspf_model.specs.Database.{link_count};
 ghost use Rattle.cspf_model.specs.Changes.{Fits};
-ghost use Rattle.cspf_columns.specs.AlikeChanges.{IsAlike};
 ghost use Rattle.cspf_model.specs.Lemmas.LinkChanges.{all_relinked};
 ghost use Rattle.cspf_model.specs.Lemmas.LinkRows.{database_of, marked_database};
 ghost use Rattle.cspf_columns.specs.Rows.{AreColumns, AreRising};
 ghost use Rattle.cspf_model.specs.Lemmas.RowsLeft.{adds_link};
-ghost use Rattle.cspf_model.specs.Lemmas.CountedEnds.{HasListedEnds};
+ghost use Rattle.cspf_db.specs.Tables.Tallies.{IsTallyOf};
 ghost use Rattle.cspf_model.specs.Refusals.{AreOnceEach, ArePresent, IsRefusal};
 ghost use Rattle.cspf_model.specs.declared.limits.TheConstants.{MOST_MARKS};
 
@@ -41,6 +40,16 @@ fn has_too_many_links(columns: &Columns, changes: &[Change], added: usize) -> bo
     after > MOST_LINKS
 }
 
+/// Whether the tally tells that no two changes are on one key.
+fn tells_apart(tally: &Result<Tally, usize>) -> bool
+    ensures { result ≡ true → IsOkAnd tally.now (λ tally. tally.apart ≡ true) }
+{
+    match tally {
+        Ok(tally) => tally.apart,
+        Err(_) => false,
+    }
+}
+
 /// Whether the batch fits the rows and the marks, with what it does to the rows, and else the first
 /// reason why it doesn't.
 pub(super) fn fits(columns: &Columns, marks: &[Addr], batch: &Batch) -> Result<Tally, Refusal>
@@ -50,21 +59,17 @@ pub(super) fn fits(columns: &Columns, marks: &[Addr], batch: &Batch) -> Result<T
     ensures ok { IfOk result (λ _. Fits (marked_database columns.now.rows.items marks.now) batch.now) }
     ensures err { IfErr result
         (λ refusal. IsRefusal (marked_database columns.now.rows.items marks.now) batch.now refusal) }
-    ensures added { IfOk result (λ tally. tally.added
-        ≡ count_by (adds_link (database_of columns.now.rows.items)) batch.now.changes) }
-    ensures listed { IfOk result
-        (λ tally. tally.brought ≡ 0 → All (HasListedEnds columns.now.routers.items) batch.now.changes) }
-    ensures alike { IfOk result
-        (λ tally. tally.alike ≡ true → All (IsAlike columns.now.rows.items) batch.now.changes) }
+    ensures tally { IfOk result (IsTallyOf columns.now batch.now.changes) }
 {
     let changes = batch.changes.as_slice();
     if changes.len() > MOST_CHANGES {
         return Err(Refusal::TooLong);
     }
-    if let Some(at) = repeat(changes) {
+    let tally = tally_all(columns, changes);
+    if let Some(at) = repeat(changes, tells_apart(&tally)) {
         return Err(Refusal::Duplicate { at: at + 1 });
     }
-    match tally_all(columns, changes) {
+    match tally {
         Err(at) => Err(Refusal::Absent { at: at + 1 }),
         Ok(tally) => {
             if has_too_many_links(columns, changes, tally.added) {

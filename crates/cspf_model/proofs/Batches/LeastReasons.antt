@@ -1,9 +1,10 @@
 -- The first reason why a batch does not fit, and that there is one at most.
 use Rattle.cspf_model.specs.Laws.{OneRefusal}
 use mathlib.Core.Bool.{true≢false}
-use Rattle.std.proofs.Common.{◌≡◌, ℕ, zero, suc, ◌+◌, ◌<◌, ◌≤◌, ◌||◌, true, false, Option, Some, None, option_map, List, [], ◌∷◌, length, map, take, refl, sym, ap, subst, ◌∙◌, add-one, arith, length-take-le, is_some, IfNone, IsTrue}
+use Rattle.std.proofs.Common.{◌≡◌, ℕ, zero, suc, ◌+◌, ◌<◌, ◌≤◌, inl, inr, ◌||◌, true, false, Option, Some, None, option_map, List, [], ◌∷◌, length, map, take, refl, sym, ap, subst, ◌∙◌, add-one, arith, length-take-le, is_some, IfNone, IsTrue}
 use Rattle.std.specs.Ordering.{eq_by_cmp}
 use Rattle.std.specs.List.{IsDistinct, AllWithin, HoldsAt, list_any, slice_get, slice_index_or}
+use Rattle.std.proofs.lemmas.Bool.{cases_lt}
 use Rattle.std.proofs.lemmas.Cmp.{eq_by_cmp_equiv}
 use Rattle.std.proofs.lemmas.List.{map-append, take_more, take_all, get_or-take, get_or_default, length-map}
 use Rattle.std.proofs.lemmas.List.Folds.{Any-from_list_any, list_any-from_Any}
@@ -214,57 +215,47 @@ one_least P m n is also =
     not_apart : (m n : ℕ) → (m < n → ⊥) → (n < m → ⊥) → m ≡ n
     not_apart m n below above = omega (arith, below, above)
 
+-- which reason comes first
+rank : Refusal → ℕ
+rank TooLong = 0
+rank (Duplicate at) = 1
+rank (Absent at) = 2
+rank Full = 3
+rank TooManyRouters = 4
+rank TooManyMarks = 5
+
+-- a reason is the only one, where none of those before it is one
+one_upto : (d : Database) (b : NumberedChanges) (e f : Refusal) → rank e ≤ rank f → IsRefusal d b e → IsRefusal d b f → e ≡ f
+unfolding rank
+one_upto d b TooLong TooLong low is also = refl
+one_upto d b TooLong (Duplicate n) low is also = absurd (omega (arith, is, also.0))
+one_upto d b TooLong (Absent n) low is also = absurd (omega (arith, is, also.0))
+one_upto d b (Duplicate m) (Duplicate n) low is also =
+    ap Duplicate (one_least (RepeatsAt b.changes) m n is.1 also.1)
+one_upto d b (Duplicate m) (Absent n) low is also =
+    absurd (repeats_not_once b.changes m is.1.here also.1)
+one_upto d b (Absent m) (Absent n) low is also =
+    ap Absent (one_least (RemovesNothingAt d b.changes) m n is.2 also.2)
+one_upto d b Full Full low is also = refl
+one_upto d b Full TooManyRouters low is also = absurd (omega (arith, is.1, also.1))
+one_upto d b Full TooManyMarks low is also = absurd (omega (arith, is.1, also.1))
+one_upto d b TooManyRouters TooManyRouters low is also = refl
+one_upto d b TooManyRouters TooManyMarks low is also = absurd (omega (arith, is.2, also.2))
+one_upto d b TooManyMarks TooManyMarks low is also = refl
+one_upto d b TooLong Full low is also = absurd (omega (arith, is, also.0.short))
+one_upto d b TooLong TooManyRouters low is also = absurd (omega (arith, is, also.0.short))
+one_upto d b TooLong TooManyMarks low is also = absurd (omega (arith, is, also.0.short))
+one_upto d b (Duplicate m) Full low is also = absurd (repeats_not_once b.changes m is.1.here also.0.once)
+one_upto d b (Duplicate m) TooManyRouters low is also = absurd (repeats_not_once b.changes m is.1.here also.0.once)
+one_upto d b (Duplicate m) TooManyMarks low is also = absurd (repeats_not_once b.changes m is.1.here also.0.once)
+one_upto d b (Absent m) Full low is also = absurd (removes_not_present d b.changes m is.2.here also.0.present)
+one_upto d b (Absent m) TooManyRouters low is also = absurd (removes_not_present d b.changes m is.2.here also.0.present)
+one_upto d b (Absent m) TooManyMarks low is also = absurd (removes_not_present d b.changes m is.2.here also.0.present)
+one_upto d b e f low is also = absurd (omega (arith, low))
+
 -- a batch is refused for one reason at most
 pub one_reason : OneRefusal
-one_reason d b TooLong TooLong is also = refl
-one_reason d b TooLong (Duplicate n) is also = absurd (omega (arith, is, also.0))
-one_reason d b TooLong (Absent n) is also = absurd (omega (arith, is, also.0))
-one_reason d b TooLong Full is also = absurd (omega (arith, is, also.0.short))
-one_reason d b TooLong TooManyRouters is also = absurd (omega (arith, is, also.0.short))
-one_reason d b TooLong TooManyMarks is also = absurd (omega (arith, is, also.0.short))
-one_reason d b (Duplicate m) TooLong is also = absurd (omega (arith, is.0, also))
-one_reason d b (Duplicate m) (Duplicate n) is also =
-    ap Duplicate (one_least (RepeatsAt b.changes) m n is.1 also.1)
-one_reason d b (Duplicate m) (Absent n) is also =
-    absurd (repeats_not_once b.changes m is.1.here also.1)
-one_reason d b (Duplicate m) Full is also =
-    absurd (repeats_not_once b.changes m is.1.here also.0.once)
-one_reason d b (Duplicate m) TooManyRouters is also =
-    absurd (repeats_not_once b.changes m is.1.here also.0.once)
-one_reason d b (Duplicate m) TooManyMarks is also =
-    absurd (repeats_not_once b.changes m is.1.here also.0.once)
-one_reason d b (Absent m) TooLong is also = absurd (omega (arith, is.0, also))
-one_reason d b (Absent m) (Duplicate n) is also =
-    absurd (repeats_not_once b.changes n also.1.here is.1)
-one_reason d b (Absent m) (Absent n) is also =
-    ap Absent (one_least (RemovesNothingAt d b.changes) m n is.2 also.2)
-one_reason d b (Absent m) Full is also =
-    absurd (removes_not_present d b.changes m is.2.here also.0.present)
-one_reason d b (Absent m) TooManyRouters is also =
-    absurd (removes_not_present d b.changes m is.2.here also.0.present)
-one_reason d b (Absent m) TooManyMarks is also =
-    absurd (removes_not_present d b.changes m is.2.here also.0.present)
-one_reason d b Full TooLong is also = absurd (omega (arith, is.0.short, also))
-one_reason d b Full (Duplicate n) is also =
-    absurd (repeats_not_once b.changes n also.1.here is.0.once)
-one_reason d b Full (Absent n) is also =
-    absurd (removes_not_present d b.changes n also.2.here is.0.present)
-one_reason d b Full Full is also = refl
-one_reason d b Full TooManyRouters is also = absurd (omega (arith, is.1, also.1))
-one_reason d b Full TooManyMarks is also = absurd (omega (arith, is.1, also.1))
-one_reason d b TooManyRouters TooLong is also = absurd (omega (arith, is.0.short, also))
-one_reason d b TooManyRouters (Duplicate n) is also =
-    absurd (repeats_not_once b.changes n also.1.here is.0.once)
-one_reason d b TooManyRouters (Absent n) is also =
-    absurd (removes_not_present d b.changes n also.2.here is.0.present)
-one_reason d b TooManyRouters Full is also = absurd (omega (arith, is.1, also.1))
-one_reason d b TooManyRouters TooManyRouters is also = refl
-one_reason d b TooManyRouters TooManyMarks is also = absurd (omega (arith, is.2, also.2))
-one_reason d b TooManyMarks TooLong is also = absurd (omega (arith, is.0.short, also))
-one_reason d b TooManyMarks (Duplicate n) is also =
-    absurd (repeats_not_once b.changes n also.1.here is.0.once)
-one_reason d b TooManyMarks (Absent n) is also =
-    absurd (removes_not_present d b.changes n also.2.here is.0.present)
-one_reason d b TooManyMarks Full is also = absurd (omega (arith, is.1, also.1))
-one_reason d b TooManyMarks TooManyRouters is also = absurd (omega (arith, is.2, also.2))
-one_reason d b TooManyMarks TooManyMarks is also = refl
+one_reason d b e f is also = elim (cases_lt (rank e) (rank f)) [
+  | inl below ↦ one_upto d b e f (omega (arith, below)) is also
+  | inr upto ↦ sym (one_upto d b f e upto also is)
+]

@@ -3,7 +3,7 @@ use Rattle.std.proofs.Common.{◌≡◌, zero, suc, ◌||◌, Bool, true, false,
 use Rattle.std.specs.Ordering.{eq_by_cmp}
 use Rattle.std.specs.List.{IsDistinct, AllByRecursion}
 use Rattle.std.specs.List.Sorted.{IsPermutation}
-use Rattle.std.specs.FinMap.{find, get-insert, get-remove}
+use Rattle.std.specs.FinMap.{find}
 use Rattle.std.proofs.lemmas.Cmp.{eq_by_cmp_equiv}
 use Rattle.std.proofs.lemmas.Map.Keys.{IsDistinct-IsPermutation}
 use Rattle.std.proofs.lemmas.List.Sorted.{IsPermutation-sym, IsPermutation-map, Contains-permutation, list_any-IsPermutation}
@@ -17,7 +17,8 @@ use Rattle.cspf_model.specs.Lemmas.LinkRows.{entry_of, database_of}
 use Rattle.cspf_model.specs.Lemmas.RepeatedKeys.{is_changed}
 use Rattle.cspf_model.specs.Lemmas.RowsLeft.{is_untouched, rows_untouched, links_put}
 use Rattle.cspf_model.specs.Refusals.{AreOnceEach}
-use Rattle.cspf_model.proofs.Databases.Keys.{keys_total, keys_same, change_keys_total, link_apart}
+use Rattle.cspf_model.proofs.Databases.Keys.{keys_same, change_keys_total, link_apart}
+use Rattle.cspf_model.proofs.Databases.LastChanges.{link_at-after_change}
 use Rattle.cspf_model.proofs.Databases.LinksOfRows.{link_at-database_of}
 use Rattle.cspf_model.proofs.Databases.OneChange.{same_database, same_options, found_too}
 
@@ -135,10 +136,9 @@ not_again c cs once = none_on (key_changed c) cs once.0
 -- what is at a key after one change
 pub link_at-relinked : (d : Database) (c : Change) (k : Key)
     → link_at (relinked d c) k ≡ cond (eq_by_cmp change_key_cmp (link_key k) (key_changed c)) (link_left c) (link_at d k)
-link_at-relinked d (Put l) k = get-insert keys_total d.links (key_of l) l k
-link_at-relinked d (Remove from local) k = get-remove keys_total d.links (from, local) k
-link_at-relinked d (Node router transit) k =
-    ap (λ b. cond b None (link_at d k)) (sym (link_apart k router))
+link_at-relinked d (Put l) k = link_at-after_change d (Put l) k
+link_at-relinked d (Remove from local) k = link_at-after_change d (Remove from local) k
+link_at-relinked d (Node router transit) k = link_at-after_change d (Node router transit) k
 
 -- some changes, then others
 pub all_relinked-append : (d : Database) (bs cs : List Change)

@@ -5,9 +5,10 @@ use Rattle.std.proofs.lemmas.Bool.{eqb-false}
 use Rattle.std.specs.Ordering.{is_eq}
 use Rattle.std.specs.Cmp.{nat_cmp_total, tied_itself}
 use Rattle.std.specs.FinSet as set
+use Rattle.cspf_model.specs.declared.link.Link.{Link}
 use Rattle.cspf_model.specs.declared.request.Request.{Request}
-use Rattle.cspf_model.specs.Database.{Database, HasTransit}
-use Rattle.cspf_model.specs.Admissible.{IsAdmissible}
+use Rattle.cspf_model.specs.Database.{Database, HasTransit, IsLinkOf, IsReverse}
+use Rattle.cspf_model.specs.Admissible.{IsAdmitted, IsAdmissible}
 use Rattle.cspf_model.specs.Walks.{IsWalk}
 use Rattle.cspf_model.specs.Examples.{router, back, asked_fields, from_1_to_2, from_1_to_3, from_2_to_3}
 use Rattle.cspf_model.specs.NetworkLaws.{network, triangle, from_2_to_1, way_by_2, way_and_back, way_by_1_again, IsWalkWithMarks, IsNoWalkWithMarks, MayBeAsked, IsMarkedByChange, IsUnmarkedByChange}
@@ -33,42 +34,26 @@ module _ (marks : List ℕ) (priority : 0 < 8) (two_ends : router 1 ≢ router 3
   abbrev q : Request
   q = made (asked_fields (router 3) []) priority two_ends
 
+  -- a link is in use where its reverse is there too
+  way : (l r : Link) → IsAdmitted q l → IsLinkOf d l → IsLinkOf d r → IsReverse l r → IsAdmissible d q l
+  way l r admits here back same = record { link = here; usable = record { admitted = admits; reverse = (r, back, same) } }
+
   -- its links in use
   way_1_to_2 : IsAdmissible d q from_1_to_2
-  way_1_to_2 = record {
-    link = link_at-network triangle marks (router 1, from_1_to_2.local);
-    usable = record {
-      admitted = admitted (router 3) [] priority two_ends _ _ _ _ _ _;
-      reverse = (from_2_to_1, link_at-network triangle marks (router 2, from_2_to_1.local), record { from = refl; local = refl; to = refl; remote = refl });
-    };
-  }
+  way_1_to_2 = way from_1_to_2 from_2_to_1 (admitted (router 3) [] priority two_ends _ _ _ _ _ _)
+      (link_at-network triangle marks (router 1, from_1_to_2.local)) (link_at-network triangle marks (router 2, from_2_to_1.local)) (record { from = refl; local = refl; to = refl; remote = refl })
 
   way_2_to_1 : IsAdmissible d q from_2_to_1
-  way_2_to_1 = record {
-    link = link_at-network triangle marks (router 2, from_2_to_1.local);
-    usable = record {
-      admitted = admitted (router 3) [] priority two_ends _ _ _ _ _ _;
-      reverse = (from_1_to_2, link_at-network triangle marks (router 1, from_1_to_2.local), record { from = refl; local = refl; to = refl; remote = refl });
-    };
-  }
+  way_2_to_1 = way from_2_to_1 from_1_to_2 (admitted (router 3) [] priority two_ends _ _ _ _ _ _)
+      (link_at-network triangle marks (router 2, from_2_to_1.local)) (link_at-network triangle marks (router 1, from_1_to_2.local)) (record { from = refl; local = refl; to = refl; remote = refl })
 
   way_2_to_3 : IsAdmissible d q from_2_to_3
-  way_2_to_3 = record {
-    link = link_at-network triangle marks (router 2, from_2_to_3.local);
-    usable = record {
-      admitted = admitted (router 3) [] priority two_ends _ _ _ _ _ _;
-      reverse = (back from_2_to_3, link_at-network triangle marks (router 3, from_2_to_3.remote), record { from = refl; local = refl; to = refl; remote = refl });
-    };
-  }
+  way_2_to_3 = way from_2_to_3 (back from_2_to_3) (admitted (router 3) [] priority two_ends _ _ _ _ _ _)
+      (link_at-network triangle marks (router 2, from_2_to_3.local)) (link_at-network triangle marks (router 3, from_2_to_3.remote)) (record { from = refl; local = refl; to = refl; remote = refl })
 
   way_1_to_3 : IsAdmissible d q from_1_to_3
-  way_1_to_3 = record {
-    link = link_at-network triangle marks (router 1, from_1_to_3.local);
-    usable = record {
-      admitted = admitted (router 3) [] priority two_ends _ _ _ _ _ _;
-      reverse = (back from_1_to_3, link_at-network triangle marks (router 3, from_1_to_3.remote), record { from = refl; local = refl; to = refl; remote = refl });
-    };
-  }
+  way_1_to_3 = way from_1_to_3 (back from_1_to_3) (admitted (router 3) [] priority two_ends _ _ _ _ _ _)
+      (link_at-network triangle marks (router 1, from_1_to_3.local)) (link_at-network triangle marks (router 3, from_1_to_3.remote)) (record { from = refl; local = refl; to = refl; remote = refl })
 
   -- the walks, where the routers that they pass through have transit
   by_2 : HasTransit d (router 2) → IsWalk d q way_by_2
@@ -92,31 +77,27 @@ module _ (marks : List ℕ) (priority : 0 < 8) (two_ends : router 1 ≢ router 3
     transit = (passed, (again, tt));
   }
 
+-- links are a walk with marks where they are one for each request that is made
+walks : (marks : List ℕ) (walk : List Link) → ((priority : 0 < 8) (two_ends : router 1 ≢ router 3) → IsWalk (network triangle marks) (made (asked_fields (router 3) []) priority two_ends) walk)
+    → IsWalkWithMarks marks walk
+walks marks walk each q says = for_each (asked_fields (router 3) []) (λ q. IsWalk (network triangle marks) q walk) each q says
+
 -- with no marks and with marks at both ends they are walks
 pub unmarked : IsWalkWithMarks [] way_by_2
-unmarked q says =
-    for_each (asked_fields (router 3) []) (λ q. IsWalk (network triangle []) q way_by_2)
-    (λ priority two_ends. by_2 [] priority two_ends (has_transit [] (router 2) (marks-network triangle [] (router 2)))) q says
+unmarked = walks [] way_by_2 (λ p e. by_2 [] p e (has_transit [] (router 2) (marks-network triangle [] (router 2))))
 
 pub head_end : IsWalkWithMarks (router 1 ∷ []) way_by_2
-head_end q says =
-    for_each (asked_fields (router 3) []) (λ q. IsWalk (network triangle (router 1 ∷ [])) q way_by_2)
-    (λ priority two_ends. by_2 (router 1 ∷ []) priority two_ends (has_transit (router 1 ∷ []) (router 2) (marks-network triangle (router 1 ∷ []) (router 2)))) q says
+head_end = walks (router 1 ∷ []) way_by_2 (λ p e. by_2 (router 1 ∷ []) p e (has_transit (router 1 ∷ []) (router 2) (marks-network triangle (router 1 ∷ []) (router 2))))
 
 pub tail_end : IsWalkWithMarks (router 3 ∷ []) way_by_2
-tail_end q says =
-    for_each (asked_fields (router 3) []) (λ q. IsWalk (network triangle (router 3 ∷ [])) q way_by_2)
-    (λ priority two_ends. by_2 (router 3 ∷ []) priority two_ends (has_transit (router 3 ∷ []) (router 2) (marks-network triangle (router 3 ∷ []) (router 2)))) q says
+tail_end = walks (router 3 ∷ []) way_by_2 (λ p e. by_2 (router 3 ∷ []) p e (has_transit (router 3 ∷ []) (router 2) (marks-network triangle (router 3 ∷ []) (router 2))))
 
 pub to_head_end : IsWalkWithMarks (router 1 ∷ []) way_and_back
-to_head_end q says =
-    for_each (asked_fields (router 3) []) (λ q. IsWalk (network triangle (router 1 ∷ [])) q way_and_back)
-    (λ priority two_ends. and_back (router 1 ∷ []) priority two_ends (has_transit (router 1 ∷ []) (router 2) (marks-network triangle (router 1 ∷ []) (router 2)))) q says
+to_head_end = walks (router 1 ∷ []) way_and_back (λ p e. and_back (router 1 ∷ []) p e (has_transit (router 1 ∷ []) (router 2) (marks-network triangle (router 1 ∷ []) (router 2))))
 
 pub again_unmarked : IsWalkWithMarks [] way_by_1_again
-again_unmarked q says =
-    for_each (asked_fields (router 3) []) (λ q. IsWalk (network triangle []) q way_by_1_again)
-    (λ priority two_ends. by_1_again [] priority two_ends (has_transit [] (router 2) (marks-network triangle [] (router 2))) (has_transit [] (router 1) (marks-network triangle [] (router 1)))) q says
+again_unmarked =
+    walks [] way_by_1_again (λ p e. by_1_again [] p e (has_transit [] (router 2) (marks-network triangle [] (router 2))) (has_transit [] (router 1) (marks-network triangle [] (router 1))))
 
 -- a marked router in the middle is not passed
 pub middle : IsNoWalkWithMarks (router 2 ∷ []) way_by_2

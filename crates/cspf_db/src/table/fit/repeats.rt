@@ -78,15 +78,16 @@ fn are_apart(changes: &[Change]) -> bool
 pub(super) const FEW: usize = 16;
 
 /// The index of the first change on the key of an earlier one. Among many it is searched only where
-/// there is one.
-pub(super) fn repeat(changes: &[Change]) -> Option<usize>
-    requires { length changes.now ≤ MOST_CHANGES }
+/// there is one, and keys are put in order only where it isn't known that the changes are apart.
+pub(super) fn repeat(changes: &[Change], apart: bool) -> Option<usize>
+    requires short { length changes.now ≤ MOST_CHANGES }
+    requires known { apart ≡ true → AreOnceEach changes.now }
     ensures bound { IfSome result (λ at. at < length changes.now) }
     ensures some { IfSome result (IsRepeatedAt changes.now) }
     ensures before { IfSome result (λ at. (k : ℕ) → k < at → IsNewAt changes.now k) }
     ensures none { IfNone result (AreOnceEach changes.now) }
 {
-    if changes.len() > FEW && are_apart(changes) {
+    if apart || changes.len() > FEW && are_apart(changes) {
         None
     } else {
         first_repeat(changes)

@@ -1,25 +1,28 @@
 //! What the changes of a batch do to the rows and to the number of routers, by one search for each.
-ghost use Rattle.std.specs.Prelude.{count_by, ◌≡◌, ◌*◌, ◌<◌, ◌≤◌, ◌⊎◌, cond, true, [], ◌∷◌, All, Contains, length, IfOk, IfErr, IfSome, IfNone};
-ghost use Rattle.std.specs.List.{HoldsAt, AllWithin, list_any};
+ghost use Rattle.std.specs.Prelude.{◌≡◌, ℕ, ◌*◌, ◌<◌, ◌≤◌, ◌⊎◌, cond, true, [], ◌∷◌, Contains, length, IfOk, IfErr, IfSome, IfNone, IsSomeAnd};
+ghost use Rattle.std.specs.List.{list_any};
 ghost use Rattle.cspf_model.specs.Changes.{IsPresent};
 ghost use Rattle.cspf_columns.specs.AlikeChanges.{IsAlike};
 ghost use Rattle.cspf_model.specs.Lemmas.CountedEnds.{HasListedEnds, BringsAtMost, BringsBeside};
 ghost use Rattle.cspf_model.specs.Lemmas.GoneRouters.{puts_at};
 ghost use Rattle.cspf_model.specs.Refusals.{RemovesNothing};
-ghost use Rattle.cspf_model.specs.Lemmas.LinkRows.{database_of};
+ghost use Rattle.cspf_model.specs.Lemmas.LinkRows.{database_of, AreByKey};
 ghost use Rattle.cspf_columns.specs.Rows.{AreColumns, AreRising};
+ghost use Rattle.cspf_db.specs.Tables.Tallies.{IsRowOf, IsSeenAt, IsTallyOf, IsFirstAbsent};
 ghost use Rattle.cspf_model.specs.Lemmas.RowsLeft.{adds_link};
 ghost use Rattle.cspf_model.specs.declared.limits.TheConstants.{MOST_CHANGES};
 
 use crate::table::changes::any_puts_at;
+use crate::table::fit::repeats::FEW;
 use cspf_addr::Addr;
 use cspf_columns::Columns;
 use cspf_columns::routers::is_among;
 use cspf_columns::rows::{index_of, is_alike};
-use cspf_model::{Change, Link};
+use cspf_model::{Change, Link, MOST_LINKS};
 
 /// How many links changes put where there is none, how many of their ends are not among the
-/// routers, and whether no row moves. An end of several links is counted for each.
+/// routers, whether no row moves, and whether no row is changed twice. An end of several links is
+/// counted for each.
 #[derive(Clone, Copy, Debug)]
 pub struct Tally {
     /// How many links are put where there is none.
@@ -28,6 +31,20 @@ pub struct Tally {
     pub brought: usize,
     /// Whether each puts a link in place of one between the same interfaces.
     pub alike: bool,
+    /// Whether each is known to be on a row of its own.
+    pub apart: bool,
+}
+
+/// The index of the row that the change is on, if there is one.
+fn row_of(rows: &[Link], change: &Change) -> Option<usize>
+    requires { AreByKey rows.now }
+    ensures { IsRowOf rows.now change.now result }
+{
+    let key = change.key();
+    let Some(local) = key.1 else {
+        return None;
+    };
+    index_of(rows, key.0, local)
 }
 
 /// 0 where the router is among them, and else 1.
@@ -54,9 +71,10 @@ fn count_new_end(columns: &Columns, at: usize, link: &Link) -> usize
     }
 }
 
-/// What a put does.
-fn tally_put(columns: &Columns, link: &Link) -> Tally
+/// What a put does, where it is known which row it is on.
+fn tally_put(columns: &Columns, link: &Link, row: Option<usize>) -> Tally
     requires columns { AreColumns columns.now }
+    requires row { IsRowOf columns.now.rows.items (Change.Put link.now) row }
     ensures added { result.added
         ≡ cond (adds_link (database_of columns.now.rows.items) (Change.Put link.now)) 1 0 }
     ensures one { result.added ≤ 1 }
@@ -65,23 +83,27 @@ fn tally_put(columns: &Columns, link: &Link) -> Tally
     ensures listed { result.brought ≡ 0 → HasListedEnds columns.now.routers.items (Change.Put link.now) }
     ensures alike { result.alike ≡ true → IsAlike columns.now.rows.items (Change.Put link.now) }
 {
-    match index_of(&columns.rows, link.from, link.local) {
+    match row {
         Some(at) => Tally {
             added: 0,
             brought: count_new_end(columns, at, link),
             alike: is_alike(&columns.rows, at, link),
+            apart: true,
         },
         None => Tally {
             added: 1,
             brought: count_new(&columns.routers, link.from) + count_new(&columns.routers, link.to),
             alike: false,
+            apart: false,
         },
     }
 }
 
-/// What a change does. It is none where a link is removed that isn't there.
-fn tally_one(columns: &Columns, change: &Change) -> Option<Tally>
+/// What a change does, where it is known which row it is on. It is none where a link is removed that
+/// isn't there.
+fn tally_one(columns: &Columns, change: &Change, row: Option<usize>) -> Option<Tally>
     requires columns { AreColumns columns.now }
+    requires row { IsRowOf columns.now.rows.items change.now row }
     ensures absent { IfNone result (RemovesNothing (database_of columns.now.rows.items) change.now) }
     ensures present { IfSome result (λ _. IsPresent (database_of columns.now.rows.items) change.now) }
     ensures added { IfSome result (λ tally. tally.added
@@ -95,58 +117,84 @@ fn tally_one(columns: &Columns, change: &Change) -> Option<Tally>
     ensures alike { IfSome result (λ tally. tally.alike ≡ true → IsAlike columns.now.rows.items change.now) }
 {
     match change {
-        Change::Put(link) => Some(tally_put(columns, link)),
-        Change::Remove { from, local } => {
-            if index_of(&columns.rows, *from, *local).is_none() {
+        Change::Put(link) => Some(tally_put(columns, link, row)),
+        Change::Remove { .. } => {
+            if row.is_none() {
                 return None;
             }
             Some(Tally {
                 added: 0,
                 brought: 0,
                 alike: false,
+                apart: true,
             })
         }
         Change::Node { .. } => Some(Tally {
             added: 0,
             brought: 0,
             alike: false,
+            apart: false,
         }),
     }
 }
 
-/// What the changes do. Else the index of the first removal of a link that isn't there.
-pub(super) fn tally_all(columns: &Columns, changes: &[Change]) -> Result<Tally, usize>
+/// Marks the row that a change is on as seen. It is false where there is no row, or no mark for it, or it
+/// is seen already.
+fn see(seen: &mut [bool], row: Option<usize>) -> bool
+    ensures { result ≡ true → IsSomeAnd row (IsSeenAt seen.old seen.new) }
+{
+    let Some(at) = row else {
+        return false;
+    };
+    if at >= seen.len() || seen[at] {
+        return false;
+    }
+    seen[at] = true;
+    true
+}
+
+/// What the changes do, with marks of the rows that are seen. Else the index of the first removal of a
+/// link that isn't there.
+fn tally_each(columns: &Columns, changes: &[Change], seen: &mut [bool]) -> Result<Tally, usize>
     requires columns { AreColumns columns.now }
     requires short { length changes.now ≤ MOST_CHANGES }
-    ensures bound { IfErr result (λ at. at < length changes.now) }
-    ensures absent { IfErr result (HoldsAt (RemovesNothing (database_of columns.now.rows.items)) changes.now) }
-    ensures before { IfErr result (AllWithin (IsPresent (database_of columns.now.rows.items)) changes.now 0) }
-    ensures present { IfOk result (λ _. All (IsPresent (database_of columns.now.rows.items)) changes.now) }
-    ensures added { IfOk result (λ tally. tally.added
-        ≡ count_by (adds_link (database_of columns.now.rows.items)) changes.now) }
-    ensures few { IfOk result (λ tally. tally.brought ≤ 2 * length changes.now) }
-    ensures most { IfOk result (λ tally. BringsAtMost columns.now.routers.items changes.now tally.brought) }
-    ensures listed { IfOk result
-        (λ tally. tally.brought ≡ 0 → All (HasListedEnds columns.now.routers.items) changes.now) }
-    ensures alike { IfOk result
-        (λ tally. tally.alike ≡ true → All (IsAlike columns.now.rows.items) changes.now) }
+    ensures tally { IfOk result (IsTallyOf columns.now changes.now) }
+    ensures absent { IfErr result (IsFirstAbsent (database_of columns.now.rows.items) changes.now) }
 {
     let mut added = 0;
     let mut brought = 0;
     let mut alike = true;
+    let mut apart = true;
     for (at, change) in changes.iter().enumerate() {
-        let Some(one) = tally_one(columns, change) else {
+        let row = row_of(&columns.rows, change);
+        let Some(one) = tally_one(columns, change, row) else {
             return Err(at);
         };
         added += one.added;
         brought += one.brought;
         alike = alike && one.alike;
+        apart = see(seen, row) && apart;
     }
     Ok(Tally {
         added,
         brought,
         alike,
+        apart,
     })
+}
+
+/// What the changes do. Else the index of the first removal of a link that isn't there. Only among many
+/// changes it is known whether they are apart.
+pub(super) fn tally_all(columns: &Columns, changes: &[Change]) -> Result<Tally, usize>
+    requires columns { AreColumns columns.now }
+    requires short { length changes.now ≤ MOST_CHANGES }
+    ensures tally { IfOk result (IsTallyOf columns.now changes.now) }
+    ensures absent { IfErr result (IsFirstAbsent (database_of columns.now.rows.items) changes.now) }
+{
+    if changes.len() <= FEW {
+        return tally_each(columns, changes, &mut []);
+    }
+    tally_each(columns, changes, &mut [false; MOST_LINKS])
 }
 
 /// 0 where the router is among the routers, or an end of a link that the changes put, and else 1.

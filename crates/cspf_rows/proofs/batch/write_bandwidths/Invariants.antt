@@ -1,9 +1,8 @@
 use Rattle.std.proofs.Common.{◌≡◌, ◌++◌, map, take}
 use Rattle.std.specs.Fmt.{decimal}
-use Rattle.std.specs.String.{string_bytes}
 use Rattle.cspf_rows.specs.BatchText.{fields_after}
 use Rattle.cspf_rows.proofs.batch.write_bandwidths.Given as goal
 
 -- the bandwidths so far are written
 abbrev pub invariant-loop-bandwidth : goal.invariant-loop-bandwidth
-invariant-loop-bandwidth l = string_bytes l.text ≡ string_bytes l.fn.text ++ fields_after (map decimal (take l.bandwidth-index l.free))
+invariant-loop-bandwidth l = l.text.items ≡ l.fn.text.items ++ fields_after (map decimal (take l.bandwidth-index l.free))

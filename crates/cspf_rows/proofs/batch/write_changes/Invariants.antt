@@ -1,10 +1,9 @@
 use Rattle.std.proofs.Common.{◌≡◌, ◌++◌, take}
 use Rattle.std.specs.List.{flat_map}
-use Rattle.std.specs.String.{string_bytes}
 use Rattle.cspf_rows.specs.BatchText.{record_line, change_fields}
 use Rattle.cspf_rows.proofs.batch.write_changes.Given as goal
 
 -- the changes so far are written
 abbrev pub invariant-loop-change : goal.invariant-loop-change
 invariant-loop-change l =
-    string_bytes l.text ≡ string_bytes l.fn.text ++ flat_map (λ change. record_line (change_fields change)) (take l.change-index l.changes)
+    l.text.items ≡ l.fn.text.items ++ flat_map (λ change. record_line (change_fields change)) (take l.change-index l.changes)

@@ -1,10 +1,7 @@
-use Rattle.std.proofs.Common.{◌∙◌}
-use Rattle.std.proofs.lemmas.Result.{on_ok_weaker}
+use Rattle.std.proofs.Common.{rules}
 use Rattle.cspf_rows.proofs.Lines.{line_text-put}
 use Rattle.cspf_rows.proofs.batch.write_put.Goals as goal
 
 pub returns : goal.returns
 returns c =
-    on_ok_weaker c.writeln.result
-    (λ written. written ∙ line_text-put _ _ _ c.args.link.now c.in_ok-write_attributes.ensures c.in_ok-write_bandwidths.ensures)
-    c.writeln.ensures.bytes
+    search (rules, line_text-put _ _ _ c.args.link.now c.in_ok-write_attributes.ensures c.in_ok-write_bandwidths.ensures)

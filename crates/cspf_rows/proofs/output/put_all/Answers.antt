@@ -1,4 +1,4 @@
-use Rattle.std.proofs.Common.{take, drop, sym, subst, rules}
+use Rattle.std.proofs.Common.{take, drop, sym, subst, rules, ◌∙◌}
 use Rattle.std.proofs.KnownBytes.{Appends-trans}
 use Rattle.std.proofs.Math.Seq.{take-add}
 use Rattle.std.proofs.lemmas.List.{take_rest}
@@ -9,9 +9,11 @@ pub loop-sent-preserved : goal.loop-sent-preserved
 loop-sent-preserved g c =
     let text = c.args.text.now in
     let sent = c.loop-sent.sent in
-    let taken = c.in-Ok.n in record {
+    let taken = c.in-Some.taken in record {
       within = search rules;
+      writer = c.write_some.ensures.writer ∙ c.loop-sent.invariant.writer;
+      unfailed = search rules;
       written =
-          subst (Appends (g.W.Write.contents c.args.to.now) (g.W.Write.contents c.write.new.self)) (sym (take-add sent taken text))
-          (Appends-trans _ _ _ (take sent text) (take taken (drop sent text)) c.loop-sent.invariant.written (rw (take_rest text sent) at c.in-Ok.ensures.bytes));
+          subst (Appends (g.W.Write.contents c.args.to.now) (g.W.Write.contents c.write_some.new.self.to.now)) (sym (take-add sent taken text))
+          (Appends-trans _ _ _ (take sent text) (take taken (drop sent text)) c.loop-sent.invariant.written (rw (take_rest text sent) at c.in-Some.ensures.taken));
     }

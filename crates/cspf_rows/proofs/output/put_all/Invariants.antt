@@ -1,12 +1,14 @@
-use Rattle.std.proofs.Common.{◌≤◌, ◌-◌, length, take}
+use Rattle.std.proofs.Common.{◌≡◌, ◌≤◌, ◌-◌, false, length, take}
 use Rattle.std.specs.Io.KnownBytes.{Appends}
 use Rattle.cspf_rows.proofs.output.put_all.Given as goal
 
--- the bytes so far are written
+-- the bytes so far are written, and no write has failed
 abbrev pub invariant-loop-sent : goal.invariant-loop-sent
 invariant-loop-sent g l = record {
   within : l.sent ≤ length l.text;
-  written : Appends (g.W.Write.contents l.fn.to) (g.W.Write.contents l.to) (take l.sent l.text);
+  writer : l.to.to.ghost_name ≡ l.initial.to.to.ghost_name;
+  unfailed : l.to.has_failed ≡ false;
+  written : Appends (g.W.Write.contents l.fn.to) (g.W.Write.contents l.to.to.now) (take l.sent l.text);
 }
 
 abbrev pub decreases-loop-sent : goal.decreases-loop-sent

@@ -1,9 +1,12 @@
-use Rattle.std.proofs.Common.{◌≡◌, [], ◌∷◌, ◌++◌, ◌+◌, ◌-◌, ◌*◌, length, replicate, set, length-set, refl, sym, ap, ◌∙◌, heap_items, arith}
+use Rattle.std.proofs.Common.{◌≡◌, ℕ, [], ◌∷◌, ◌++◌, ◌+◌, ◌-◌, ◌*◌, length, replicate, set, length-set, refl, sym, ap, ◌∙◌, heap_items, arith}
 use Rattle.std.proofs.lemmas.List.{length_push}
 use Rattle.std.specs.Vec.{with_item, with_items}
 use Rattle.cspf_db.specs.Index.{links_of}
 use Rattle.cspf_search.specs.declared.goal.Goal.{Goal}
 use Rattle.cspf_search.specs.declared.labels.Label.{Label}
+use Rattle.cspf_search.specs.declared.query.Query.{Query}
+use Rattle.cspf_search.specs.Query.{IsQuery}
+use Rattle.cspf_graph.specs.Lists.{IsIndexOf}
 use Rattle.cspf_search.specs.Rounds.{CrossesBelow}
 use Rattle.cspf_search.specs.Arena.{labels_of, root_of}
 use Rattle.cspf_search.specs.Bounds.{AreBounds}
@@ -14,6 +17,21 @@ use Rattle.cspf_search.proofs.Popped.{first_labels}
 use Rattle.cspf_search.proofs.Reached.{IsAsked, taken, ended, no_start, first_floor, first_left, stepped, stepped_few, node_there, at_goal, settle, still_left, floor_on, labels_on}
 use Rattle.cspf_graph.proofs.Slices.{written_back}
 use Rattle.cspf_search.proofs.search.reached.Goals as goal
+
+-- what the search is asked
+asked_of : (query : Query) (from to : ℕ) (goal : Goal) → IsQuery query → IsIndexOf query.table.now query.request.now.from from → IsIndexOf query.table.now query.request.now.to to
+    → goal.at ≡ (query.legs - 1) * 1024 + to → AreBounds query.table.now query.request.now goal.bounds.now → IsAsked query.table.now query.request.now query.legs from to goal
+asked_of query from to goal is start end at bounds = record {
+  links = is.links;
+  listed = is.listed;
+  few = is.few;
+  count = is.count;
+  most = is.most;
+  start = start;
+  end = end;
+  at = at;
+  bounds = bounds;
+}
 
 pub expand-requires-clause-before : goal.expand-requires-clause-before
 expand-requires-clause-before c =
@@ -32,17 +50,7 @@ returns-then-is_shut c =
     let d = c.args.query.table.now in
     let q = c.args.query.request.now in
     let goal : Goal = record { at = (c.args.query.legs - 1) * 1024 + c.args.to; floor = 0; bounds = c.deref.result } in
-    let asked : IsAsked d q c.args.query.legs c.args.from c.args.to goal = record {
-      links = c.requires.query.links;
-      listed = c.requires.query.listed;
-      few = c.requires.query.few;
-      count = c.requires.query.count;
-      most = c.requires.query.most;
-      start = c.requires.from;
-      end = c.requires.to;
-      at = refl;
-      bounds = rw c.deref.ensures.value c.in_ok-bounds.ensures;
-    } in
+    let asked = asked_of c.args.query c.args.from c.args.to goal c.requires.query c.requires.from c.requires.to refl (rw c.deref.ensures.value c.in_ok-bounds.ensures) in
     rw c.in_ok-nodes.ensures (record {
       arena = root_nodes q;
       few = omega arith;
@@ -55,18 +63,8 @@ loop-at-init c =
     let d = c.args.query.table.now in
     let q = c.args.query.request.now in
     let legs = c.args.query.legs in
-    let bounds : AreBounds c.args.query.table.now c.args.query.request.now c.deref.result.now = rw c.deref.ensures.value c.in_ok-bounds.ensures in
-    let asked : IsAsked c.args.query.table.now c.args.query.request.now c.args.query.legs c.args.from c.args.to (record { at = (c.args.query.legs - 1) * 1024 + c.args.to; floor = 0; bounds = c.deref.result }) = record {
-      links = c.requires.query.links;
-      listed = c.requires.query.listed;
-      few = c.requires.query.few;
-      count = c.requires.query.count;
-      most = c.requires.query.most;
-      start = c.requires.from;
-      end = c.requires.to;
-      at = refl;
-      bounds = bounds;
-    } in
+    let goal : Goal = record { at = (c.args.query.legs - 1) * 1024 + c.args.to; floor = 0; bounds = c.deref.result } in
+    let asked = asked_of c.args.query c.args.from c.args.to goal c.requires.query c.requires.from c.requires.to refl (rw c.deref.ensures.value c.in_ok-bounds.ensures) in
     let after = rw (c.deref-2.ensures.value, c.in_ok-nodes.ensures) at c.in_ok-expand.ensures.after in
     let put =
     written_back c.in_ok-labels.labels.len c.expand.new.labels c.deref_mut.result.now (set c.in_ok-labels.labels.items c.args.from (record { rank = 0; parent = 0; place = 0; row = 0 }))
@@ -77,8 +75,8 @@ loop-at-init c =
       under_way = record {
         arena = root_nodes q;
         settled = root_settled d q;
-        left = first_left d q legs c.args.from c.args.to (record { at = (c.args.query.legs - 1) * 1024 + c.args.to; floor = 0; bounds = c.deref.result }) asked;
-        floor = first_floor d q legs c.args.from c.args.to (record { at = (c.args.query.legs - 1) * 1024 + c.args.to; floor = 0; bounds = c.deref.result }) asked refl (labels_of (root_of q ∷ []));
+        left = first_left d q legs c.args.from c.args.to goal asked;
+        floor = first_floor d q legs c.args.from c.args.to goal asked refl (labels_of (root_of q ∷ []));
         labelled = rw put after;
       };
     })

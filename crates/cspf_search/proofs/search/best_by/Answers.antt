@@ -1,10 +1,13 @@
-use Rattle.cspf_search.proofs.search.best.Goals as goal
+use Rattle.cspf_search.proofs.search.best_by.Goals as goal
 
 pub returns-in_default-place_of : goal.returns-in_default-place_of
 returns-in_default-place_of c = (
   c.listed.ensures.known c.args.request.now.from c.in-Some.from (record { within = c.in-Some.ensures.bound; is = c.in-Some.ensures.some }),
   c.in_default-place_of.ensures.none,
 )
+
+pub searched-requires-clause-known : goal.searched-requires-clause-known
+searched-requires-clause-known c = c.listed.ensures.known c.args.request.now.from c.in-Some.from (record { within = c.in-Some.ensures.bound; is = c.in-Some.ensures.some })
 
 pub answer-requires-clause-ends : goal.answer-requires-clause-ends
 answer-requires-clause-ends c = record {

@@ -1,7 +1,7 @@
 use Rattle.std.proofs.Common.{◌≡◌, ℕ, ◌<◌, ◌≤◌, filter, take, length, slice_index, vec_len}
 use Rattle.std.specs.Vec.{vec_capacity}
 use Rattle.cspf_model.specs.Lemmas.CountedEnds.{is_end_of}
-use Rattle.cspf_columns.proofs.renumbering.keep_marked.Given as goal
+use Rattle.cspf_columns.proofs.renumbering.keep_ends.Given as goal
 
 abbrev pub invariant-loop-at : goal.invariant-loop-at
 invariant-loop-at l = record {
