@@ -5,6 +5,7 @@ ghost use Rattle.cspf_rows.specs.declared.read_error.ReadError.{ReadError as IsR
 ghost use Rattle.cspf_audit.specs.ErrorNames.{audit_error_of, requests_error_of, IsIoFault};
 ghost use Rattle.cspf_audit.specs.declared.audit_error.AuditError.TheVariants as audit_error;
 
+use cspf_db::UnfitBatch;
 use cspf_model::Refusal;
 use cspf_rows::{ReadError, RequestsError};
 use std::alloc::{AllocError, AllocFailed};
@@ -18,7 +19,7 @@ pub enum AuditError {
     /// Memory was refused.
     #[error("out of memory")]
     Memory,
-    /// A read failed.
+    /// A read of one of the streams failed.
     #[error("a read failed")]
     Device,
     /// There is a row or a line past `MOST_ROWS` of one stream.
@@ -71,6 +72,15 @@ impl From<RequestsError> for AuditError {
             RequestsError::TooManyRows => AuditError::TooManyRows,
             RequestsError::Bad { .. } | RequestsError::NotAsk { .. } => AuditError::Requests(why),
         }
+    }
+}
+
+impl From<UnfitBatch> for AuditError {
+    ghost from_gives = { λ unfit error. error ≡ audit_error.Batch unfit.number unfit.refusal };
+
+    fn from(unfit: UnfitBatch) -> AuditError {
+        let UnfitBatch { number, refusal } = unfit;
+        AuditError::Batch { number, refusal }
     }
 }
 

@@ -1,7 +1,9 @@
 //! Reads a journal whose batches are lawful, with the plan of each.
 
-ghost use Rattle.std.specs.Prelude.{◌≡◌, ◌≤◌, length, IfOk, IfErr, OnOk, IfSome};
-ghost use Rattle.cspf_model.specs.Changes.{AreLawful};
+ghost use Rattle.std.specs.Prelude.{◌≡◌, ◌≤◌, [], length, IfOk, IfErr, OnOk, IfSome};
+ghost use Rattle.std.specs.Vec.{vec_capacity};
+ghost use Rattle.cspf_model.specs.Changes.{AreLawful, no_links};
+ghost use Rattle.cspf_model.specs.Refusals.{IsFirstUnfit};
 ghost use Rattle.cspf_rows.specs.Records.{rows_of};
 ghost use Rattle.cspf_rows.specs.declared.limits.TheConstants.{MOST_ROWS};
 ghost use Rattle.cspf_audit.specs.AuditErrors.{IsLawfulJournal};
@@ -9,7 +11,7 @@ ghost use Rattle.cspf_audit.specs.ErrorNames.{IsJournalFault, IsUnfitBatch};
 ghost use Rattle.cspf_audit.specs.Reading.{ArePlansUpTo};
 
 use crate::AuditError;
-use cspf_db::{Plan, Table};
+use cspf_db::{Plan, Table, UnfitBatch};
 use cspf_model::{Batch, absorbing, lawful_batches};
 use cspf_rows::{Journal, Rest, read_journal};
 use std::alloc::Global;
@@ -53,21 +55,35 @@ fn plan_all(alloc: Global, batches: &[Batch]) -> Result<Vec<Plan>, AuditError>
     ensures planned { IfOk result (λ plans. ArePlansUpTo batches.now plans.items (length batches.now)) }
     ensures err { IfErr result (IsUnfitBatch batches.now) }
 {
+    let mut table = Table::new(alloc)?;
+    let mut plans = Vec::with_capacity(alloc, batches.len())?;
+    plan_each(&mut table, batches, &mut plans)?;
+    Ok(plans)
+}
+
+/// Plans each batch, by a table of those before it, or returns the first that doesn't fit. The plans
+/// join an empty list that has room for them, so the call takes no memory.
+fn plan_each(table: &mut Table, batches: &[Batch], plans: &mut Vec<Plan>) -> Result<(), UnfitBatch>
+    requires empty { table.old ≡ no_links }
+    requires none { plans.old.items ≡ [] }
+    requires room { length batches.now ≤ vec_capacity plans.old }
+    ensures lawful { OnOk result (AreLawful batches.now) }
+    ensures planned { OnOk result (ArePlansUpTo batches.now plans.new.items (length batches.now)) }
+    ensures err { IfErr result (λ unfit. IsFirstUnfit batches.now unfit.number unfit.refusal) }
+{
     // Laws: one more batch makes its changes, and keeps the batches lawful where it fits.
     absorbing();
     lawful_batches();
-    let mut table = Table::new(alloc)?;
-    let mut plans = Vec::with_capacity(alloc, batches.len())?;
     for batch in batches {
         let plan = match table.plan(batch) {
             Ok(plan) => plan,
             Err(refusal) => {
                 let number = batch.number;
-                return Err(AuditError::Batch { number, refusal });
+                return Err(UnfitBatch { number, refusal });
             }
         };
         table.absorb_planned(batch, plan);
-        plans.push(plan)?;
+        plans.push_reserved(plan);
     }
-    Ok(plans)
+    Ok(())
 }

@@ -12,7 +12,7 @@ use Rattle.cspf_publish.specs.Answers.{IsAnswerAfter}
 use Rattle.cspf_publish.specs.KnownBatches.{KnownBatches}
 use Rattle.cspf_work.specs.Served.{AreAnswersAfter, AreAnswersWithin, IsAnswerWithin}
 use Rattle.cspf_serve.specs.BatchRun.{AreReplies, IsReplyTo}
-use Rattle.cspf_serve.specs.EarlyEnds.{Writes}
+use Rattle.cspf_judge.specs.EarlyEnds.{Writes}
 use Rattle.cspf_serve.specs.AnswerLines.{AreAnswerLines}
 use Rattle.cspf_serve.specs.LiveRun.{AreRepliesWithin}
 

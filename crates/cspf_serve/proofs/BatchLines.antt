@@ -1,6 +1,6 @@
 -- The lines of batches and of requests, and where a run over a journal ends early.
-use Rattle.std.proofs.Common.{◌≡◌, ℕ, ◌<◌, ◌≤◌, ◌⊎◌, Bool, Option, Some, None, IfSome, List, [], ◌++◌, length, inl, inr, refl, ap, arith, Result, Ok, Err, IfOk, IfErr, OnOk}
-use Rattle.std.proofs.KnownBytes.{Appends-nil, Appends-trans}
+use Rattle.std.proofs.Common.{◌≡◌, ℕ, ◌<◌, ◌≤◌, ◌⊎◌, Bool, Option, Some, None, IfSome, List, ◌++◌, length, inl, inr, refl, ap, arith, Result, Ok, Err, IfOk, IfErr}
+use Rattle.std.proofs.KnownBytes.{Appends-trans}
 use Rattle.std.proofs.lemmas.List.{length-map}
 use Rattle.std.specs.Io.KnownBytes.{Appends}
 use Rattle.cspf_model.specs.declared.request.Request.{Request}
@@ -12,53 +12,62 @@ use Rattle.cspf_rows.specs.declared.row.Row.TheVariants as row
 use Rattle.cspf_rows.specs.declared.row_error.RowError.{RowError}
 use Rattle.cspf_rows.specs.Rows.{row_of}
 use Rattle.cspf_rows.specs.Records.{rows_of, Records}
-use Rattle.cspf_serve.specs.declared.line.Line.{Line}
-use Rattle.cspf_serve.specs.declared.streams.early_end.EarlyEnd.{EarlyEnd}
-use Rattle.cspf_serve.specs.declared.streams.early_end.EarlyEnd.TheVariants as early_end
+use Rattle.cspf_judge.specs.declared.line.JudgeLine.{JudgeLine}
+use Rattle.cspf_judge.specs.declared.early_end.EarlyEnd.{EarlyEnd}
+use Rattle.cspf_judge.specs.declared.early_end.EarlyEnd.TheVariants as early_end
 use Rattle.cspf_serve.specs.declared.streams.error.RunError.{RunError}
 use Rattle.cspf_solve.specs.declared.summary.Summary.{Summary}
 use Rattle.cspf_solve.specs.Script.{IsSolveRun}
-use Rattle.cspf_serve.specs.BatchRun.{AreReplies, AreAccepted, IsOneUnfit, version_lines, AreBatchesOf, AreRequestsOf, AreRequestsRefused, IsBatchRun}
+use Rattle.cspf_judge.specs.Inputs.{AreBatchesOf, AreRequestsOf}
+use Rattle.cspf_serve.specs.BatchRun.{AreReplies, version_lines, IsBatchRun}
 use Rattle.cspf_serve.specs.BatchLaws.{IsCleanJournal, AreLinesOfAScript}
-use Rattle.cspf_serve.specs.LineTexts.{line_text}
-use Rattle.cspf_serve.specs.EarlyEnds.{IfRefused, IfFailed, Writes, WritesAllBut, IsRefusalWritten, IsLastError}
-use Rattle.cspf_serve.specs.PublishedBatches.{IsUnfitBehind, ArePublishedOrRefused}
+use Rattle.cspf_judge.specs.LineTexts.{judge_line_text}
+use Rattle.cspf_judge.specs.EarlyEnds.{IfRefused, Writes, IsRefusalWritten}
+use Rattle.cspf_serve.specs.EarlyEnds.{AreStreamsRefused}
+use Rattle.cspf_serve.specs.PublishedBatches.{IsUnfitBehind, ArePublishedOrRefused, IsAcceptedOrUnfit}
 use Rattle.cspf_serve.specs.RunFaults.{IsStreamFault, IsAnsweringFault, IsStrayInBatchRun, IsBatchFault}
 
 -- what holds of the line that refuses
 pub IfRefused-weaker : (s : EarlyEnd) (P Q : List ℕ → Type 0) → ((line : List ℕ) → P line → Q line) → IfRefused s P → IfRefused s Q
-IfRefused-weaker (early_end.Refused line) P Q f refused = f (line_text line) refused
+IfRefused-weaker (early_end.Refused line) P Q f refused = f (judge_line_text line) refused
 IfRefused-weaker (early_end.Failed error) P Q f refused = tt
 
 -- the batches before one are applied, and that one is refused
-pub unfit_written : (bs published : List NumberedChanges) (line : List ℕ) (old new : Option (List ℕ)) → IsUnfitBehind bs published line → AreLawful published
-    → Appends old new (version_lines published) → WritesAllBut line old new (IsOneUnfit bs)
-unfit_written bs published line old new is lawful written = (
-  version_lines published,
-  record {
-    before = published;
-    batch = is.batch;
-    after = is.after;
-    split = is.split;
-    lawful = lawful;
-    why = is.why;
-    refused = is.refused;
-    whole = rw is.is_line refl;
-  },
-  written,
+pub unfit_written : (bs published : List NumberedChanges) (qs : List Request) (line : List ℕ) (old mid new : Option (List ℕ)) → IsUnfitBehind bs published line
+    → AreLawful published → Appends old mid (version_lines published) → Appends mid new line → Writes old new (λ lines. IsAcceptedOrUnfit bs qs lines 2)
+unfit_written bs published qs line old mid new is lawful versions last = (
+  version_lines published ++ line,
+  inr (
+    record {
+      before = published;
+      batch = is.batch;
+      after = is.after;
+      split = is.split;
+      lawful = lawful;
+      why = is.why;
+      refused = is.refused;
+      whole = rw is.is_line refl;
+    },
+    refl,
+  ),
+  Appends-trans old mid new (version_lines published) line versions last,
 )
 
 -- the batches are applied, and the requests answered
 pub accepted_written : (bs : List NumberedChanges) (qs : List Request) (d : Database) (old mid new : Option (List ℕ))
-    → AreLawful bs → d ≡ database_after bs → Appends old mid (version_lines bs) → Writes mid new (AreReplies d (length bs) qs) → Writes old new (AreAccepted bs qs)
+    → AreLawful bs → d ≡ database_after bs → Appends old mid (version_lines bs) → Writes mid new (AreReplies d (length bs) qs)
+    → Writes old new (λ lines. IsAcceptedOrUnfit bs qs lines 0)
 accepted_written bs qs d old mid new lawful database written replies = (
   version_lines bs ++ replies.0,
-  record {
-    lawful = lawful;
-    replies = replies.0;
-    answered = rw (← database) replies.1;
-    whole = refl;
-  },
+  inl (
+    record {
+      lawful = lawful;
+      replies = replies.0;
+      answered = rw (← database) replies.1;
+      whole = refl;
+    },
+    refl,
+  ),
   Appends-trans old mid new (version_lines bs) replies.0 written replies.2,
 )
 
@@ -84,47 +93,29 @@ rows_asked records qs index is within =
     let same = ap length is.asked in
     omega (arith, within, rows, asks, same)
 
--- what holds of a run that is refused, except of the last line
-abbrev pub IsRefusedRun : Bool → Option (List ℕ) → Option (List ℕ) → List ℕ → Option (List ℕ) → Option (List ℕ) → Type 0
-IsRefusedRun accept_torn kept asked line old new =
-    IfSome kept (λ journal. IfSome asked (λ requests. WritesAllBut line old new (λ lines. IsBatchRun accept_torn (rows_of journal) (rows_of requests) lines 2)))
-
 -- what holds of a journal that was read
-abbrev pub IsPublished : Bool → Option (List ℕ) → List NumberedChanges → Option Line → Type 0
+abbrev pub IsPublished : Bool → Option (List ℕ) → List NumberedChanges → Option JudgeLine → Type 0
 IsPublished accept_torn kept published unfit =
     IfSome kept (λ bytes. (batches : List NumberedChanges) × AreBatchesOf accept_torn (rows_of bytes) batches × ArePublishedOrRefused batches published unfit)
 
-module _ (accept_torn : Bool) (kept asked : Option (List ℕ)) (published : List NumberedChanges) (unfit : Option Line) (qs : List Request)
+module _ (accept_torn : Bool) (kept asked : Option (List ℕ)) (published : List NumberedChanges) (unfit : Option JudgeLine) (qs : List Request)
     (old new : Option (List ℕ)) (read : IsPublished accept_torn kept published unfit) (of_rows : IfSome asked (λ bytes. AreRequestsOf (rows_of bytes) qs)) where
-  accepted_run : (kept asked : Option (List ℕ)) → IsPublished accept_torn kept published unfit → IfSome asked (λ bytes. AreRequestsOf (rows_of bytes) qs)
-      → ((batches : List NumberedChanges) → ArePublishedOrRefused batches published unfit → Writes old new (AreAccepted batches qs)) → IsWrittenRun accept_torn kept asked 0 old new
-  accepted_run None asked read of_rows accepted = tt
-  accepted_run (Some journal) None read of_rows accepted = tt
-  accepted_run (Some journal) (Some requests) read of_rows accepted =
-      let is = accepted read.0 read.2 in
-      (is.0, inr (read.0, read.1, inr (qs, of_rows, inl (is.1, refl))), is.2)
+  ran_of : (kept asked : Option (List ℕ)) (status : ℕ) → IsPublished accept_torn kept published unfit → IfSome asked (λ bytes. AreRequestsOf (rows_of bytes) qs)
+      → ((batches : List NumberedChanges) → ArePublishedOrRefused batches published unfit → Writes old new (λ lines. IsAcceptedOrUnfit batches qs lines status))
+      → IsWrittenRun accept_torn kept asked status old new
+  ran_of None asked status read of_rows ran = tt
+  ran_of (Some journal) None status read of_rows ran = tt
+  ran_of (Some journal) (Some requests) status read of_rows ran =
+      let is = ran read.0 read.2 in
+      (is.0, inr (read.0, read.1, inr (qs, of_rows, is.1)), is.2)
 
-  unfit_run : (kept asked : Option (List ℕ)) (line : List ℕ) → IsPublished accept_torn kept published unfit → IfSome asked (λ bytes. AreRequestsOf (rows_of bytes) qs)
-      → ((batches : List NumberedChanges) → ArePublishedOrRefused batches published unfit → WritesAllBut line old new (IsOneUnfit batches)) → IsRefusedRun accept_torn kept asked line old new
-  unfit_run None asked line read of_rows refused = tt
-  unfit_run (Some journal) None line read of_rows refused = tt
-  unfit_run (Some journal) (Some requests) line read of_rows refused =
-      let is = refused read.0 read.2 in
-      (is.0, inr (read.0, read.1, inr (qs, of_rows, inr (is.1, refl))), is.2)
-
-  -- all is accepted
-  pub batch_ran : (r : Result (Unit {0}) EarlyEnd) → OnOk r ((batches : List NumberedChanges) → ArePublishedOrRefused batches published unfit → Writes old new (AreAccepted batches qs))
-      → OnOk r (IsWrittenRun accept_torn kept asked 0 old new)
-  batch_ran (Err end) accepted = tt
-  batch_ran (Ok done) accepted = accepted_run kept asked read of_rows accepted
-
-  -- a batch doesn't fit
-  pub batch_refused : (r : Result (Unit {0}) EarlyEnd)
-      → IfErr r (λ end. IfRefused end (λ line. (batches : List NumberedChanges) → ArePublishedOrRefused batches published unfit → WritesAllBut line old new (IsOneUnfit batches)))
-      → IfErr r (λ end. IfRefused end (λ line. IsRefusedRun accept_torn kept asked line old new))
-  batch_refused (Ok done) refused = tt
-  batch_refused (Err (early_end.Failed error)) refused = tt
-  batch_refused (Err (early_end.Refused line)) refused = unfit_run kept asked (line_text line) read of_rows refused
+  -- all is accepted, or a batch doesn't fit
+  pub batch_ran : (r : Result ℕ RunError)
+      → IfOk r (λ status. (batches : List NumberedChanges) → ArePublishedOrRefused batches published unfit
+      → Writes old new (λ lines. IsAcceptedOrUnfit batches qs lines status))
+      → IfOk r (λ status. IsWrittenRun accept_torn kept asked status old new)
+  batch_ran (Err e) ran = tt
+  batch_ran (Ok status) ran = ran_of kept asked status read of_rows ran
 
   -- a request is answered at a version above the number of the batches
   pub stray_in_run : (kept asked : Option (List ℕ)) (index version : ℕ) → IsPublished accept_torn kept published unfit → IfSome asked (λ bytes. AreRequestsOf (rows_of bytes) qs)
@@ -137,54 +128,33 @@ module _ (accept_torn : Bool) (kept asked : Option (List ℕ)) (published : List
       (rows_asked (rows_of requests) qs index of_rows within, (read.0, read.1, above read.0 read.2))
 
   -- the answers end the run
-  pub run_ended : (e : RunError) → IsStreamFault e ⊎ IsAnsweringFault (λ index version. (index < length qs)
-      × ((batches : List NumberedChanges) → ArePublishedOrRefused batches published unfit → length batches < version)) e → IsBatchFault accept_torn kept asked e
-  run_ended e (inl fault) = inl fault
-  run_ended e (inr (inl gave_up)) = inr (inr (inl gave_up))
-  run_ended e (inr (inr stray)) =
-      inr (inr (inr (stray.0, stray.1, stray.2, stray_in_run kept asked stray.0 stray.1 read of_rows stray.3.0 stray.3.1)))
+  pub batch_failed : (r : Result ℕ RunError)
+      → IfErr r (λ e. IsStreamFault e ⊎ IsAnsweringFault (λ index version. (index < length qs)
+      × ((batches : List NumberedChanges) → ArePublishedOrRefused batches published unfit → length batches < version)) e)
+      → IfErr r (IsBatchFault accept_torn kept asked)
+  batch_failed (Ok status) failed = tt
+  batch_failed (Err e) (inl fault) = inl fault
+  batch_failed (Err e) (inr (inl gave_up)) = inr (inl gave_up)
+  batch_failed (Err e) (inr (inr stray)) =
+      inr (inr (stray.0, stray.1, stray.2, stray_in_run kept asked stray.0 stray.1 read of_rows stray.3.0 stray.3.1))
 
-  pub batch_failed : (r : Result (Unit {0}) EarlyEnd)
-      → IfErr r (λ end. IfFailed end (λ e. IsStreamFault e ⊎ IsAnsweringFault (λ index version. (index < length qs)
-      × ((batches : List NumberedChanges) → ArePublishedOrRefused batches published unfit → length batches < version)) e))
-      → IfErr r (λ end. IfFailed end (IsBatchFault accept_torn kept asked))
-  batch_failed (Ok done) failed = tt
-  batch_failed (Err (early_end.Refused line)) failed = tt
-  batch_failed (Err (early_end.Failed error)) failed = run_ended error failed
+-- streams that are refused give that line alone
+refused_alone : (accept_torn : Bool) (journal requests : Records) (line : List ℕ) → AreStreamsRefused accept_torn journal requests line
+    → IsBatchRun accept_torn journal requests line 2
+refused_alone accept_torn journal requests line (inl refused) = inl (refused, refl)
+refused_alone accept_torn journal requests line (inr (batches, read, refused)) = inr (batches, read, inl (refused, refl))
 
--- the requests are refused, and no line is written yet
-refused_asking : (accept_torn : Bool) (kept asked : Option (List ℕ)) (published : List NumberedChanges) (unfit : Option Line) (old : Option (List ℕ)) (line : List ℕ)
-    → IsPublished accept_torn kept published unfit → IfSome asked (λ bytes. AreRequestsRefused (rows_of bytes) line) → IsRefusedRun accept_torn kept asked line old old
-refused_asking accept_torn None asked published unfit old line read refused = tt
-refused_asking accept_torn (Some journal) None published unfit old line read refused = tt
-refused_asking accept_torn (Some journal) (Some requests) published unfit old line read refused = ([], inr (read.0, read.1, inl (refused, refl)), Appends-nil old)
-
-pub requests_refused : (accept_torn : Bool) (kept asked : Option (List ℕ)) (published : List NumberedChanges) (unfit : Option Line) (old : Option (List ℕ)) (end : EarlyEnd)
-    → IsPublished accept_torn kept published unfit → IfRefused end (λ line. IfSome asked (λ bytes. AreRequestsRefused (rows_of bytes) line))
-    → IfRefused end (λ line. IsRefusedRun accept_torn kept asked line old old)
-requests_refused accept_torn kept asked published unfit old (early_end.Failed error) read refused = tt
-requests_refused accept_torn kept asked published unfit old (early_end.Refused line) read refused = refused_asking accept_torn kept asked published unfit old (line_text line) read refused
-
--- a run that ends early by a refusal is refused by its last line
-pub run_refused : (accept_torn : Bool) (kept asked : Option (List ℕ)) (s : EarlyEnd) (r : Result ℕ RunError) (old mid new : Option (List ℕ))
-    → IfRefused s (λ line. IsRefusedRun accept_torn kept asked line old mid) → IfOk r (λ status. status ≡ 2) → IfOk r (λ status. IsRefusalWritten s mid new)
+-- a run that ends early by a refusal writes its line
+pub run_refused : (accept_torn : Bool) (kept asked : Option (List ℕ)) (s : EarlyEnd) (r : Result ℕ RunError) (old new : Option (List ℕ))
+    → IfRefused s (λ line. IfSome kept (λ journal. IfSome asked (λ requests. AreStreamsRefused accept_torn (rows_of journal) (rows_of requests) line)))
+    → IfOk r (λ status. status ≡ 2) → IfOk r (λ status. IsRefusalWritten s old new)
     → IfOk r (λ status. IsWrittenRun accept_torn kept asked status old new)
-run_refused accept_torn kept asked s (Err e) old mid new refused two written = tt
-run_refused accept_torn None asked s (Ok status) old mid new refused two written = tt
-run_refused accept_torn (Some journal) None s (Ok status) old mid new refused two written = tt
-run_refused accept_torn (Some journal) (Some requests) (early_end.Failed error) (Ok status) old mid new refused two written = absurd written
-run_refused accept_torn (Some journal) (Some requests) (early_end.Refused line) (Ok status) old mid new refused two written = (
-  refused.0 ++ line_text line,
-  rw two refused.1,
-  Appends-trans old mid new refused.0 (line_text line) refused.2 written,
-)
-
--- the last error of a run that fails or is refused
-pub run_failed : (accept_torn : Bool) (kept asked : Option (List ℕ)) (s : EarlyEnd) (r : Result ℕ RunError) → IfFailed s (IsBatchFault accept_torn kept asked)
-    → IfErr r (IsLastError s) → IfErr r (IsBatchFault accept_torn kept asked)
-run_failed accept_torn kept asked s (Ok status) failed last = tt
-run_failed accept_torn kept asked (early_end.Refused line) (Err e) failed last = inl last
-run_failed accept_torn kept asked (early_end.Failed error) (Err e) failed last = rw last failed
+run_refused accept_torn kept asked s (Err e) old new refused two written = tt
+run_refused accept_torn None asked s (Ok status) old new refused two written = tt
+run_refused accept_torn (Some journal) None s (Ok status) old new refused two written = tt
+run_refused accept_torn (Some journal) (Some requests) (early_end.Failed error) (Ok status) old new refused two written = absurd written
+run_refused accept_torn (Some journal) (Some requests) (early_end.Refused line) (Ok status) old new refused two written =
+    (judge_line_text line, rw two (refused_alone accept_torn (rows_of journal) (rows_of requests) (judge_line_text line) refused), written)
 
 -- the output is the lines of a script
 pub script_written : AreLinesOfAScript → (accept_torn : Bool) (kept asked old new : Option (List ℕ)) → IsWrittenRun accept_torn kept asked 0 old new

@@ -1,5 +1,5 @@
 -- The lines of a live run, and the text of its journal.
-use Rattle.std.proofs.Common.{◌≡◌, ℕ, ◌+◌, ◌<◌, ◌≤◌, false, Option, Some, None, IfSome, Result, Ok, Err, IfOk, IfErr, List, [], ◌++◌, take, get_or, length, slice_get, inl, inr, refl, sym, ap, ◌∙◌, subst, append_assoc, arith, true}
+use Rattle.std.proofs.Common.{◌≡◌, ℕ, ◌+◌, ◌<◌, ◌≤◌, ◌⊎◌, Vec, false, Option, Some, None, IfSome, Result, Ok, Err, IfOk, IfErr, List, [], ◌++◌, take, get_or, length, slice_get, inl, inr, refl, sym, ap, ◌∙◌, subst, append_assoc, arith, true}
 use Rattle.std.proofs.KnownBytes.{Appends-nil, Appends-trans}
 use Rattle.std.proofs.lemmas.List.{length-map, length-take-le}
 use Rattle.std.proofs.lemmas.Bool.{cases_lt}
@@ -22,19 +22,25 @@ use Rattle.cspf_rows.specs.Rows.{row_of}
 use Rattle.cspf_rows.specs.declared.row.Row.{Row}
 use Rattle.cspf_rows.specs.declared.row.Row.TheVariants as row
 use Rattle.cspf_rows.specs.declared.row_error.RowError.{RowError}
-use Rattle.cspf_work.specs.Served.{AreAnswersWithin}
+use Rattle.std.specs.Global.{Global}
+use Rattle.std.proofs.lemmas.Result.{IfOk-weaker, IfErr-weaker}
+use Rattle.cspf_publish.specs.KnownBatches.{KnownBatches}
+use Rattle.cspf_work.specs.declared.live.Live.{Live}
+use Rattle.cspf_work.specs.declared.serve_error.ServeError.{ServeError}
+use Rattle.cspf_serve.specs.declared.streams.error.RunError.TheVariants.{Serve}
+use Rattle.cspf_work.specs.Served.{AreAnswersWithin, AreAnsweredByWorkers, IsFaultOfWorker, IsUnaccounted}
 use Rattle.cspf_work.specs.Applied.{AreApplied, IsAppliedUpTo, IsAppliedInPart, IsEndOfApplying}
 use Rattle.cspf_serve.specs.AnswerLines.{AreAnswerLines}
-use Rattle.cspf_serve.specs.BatchRun.{AreBatchesOf, AreRequestsOf}
-use Rattle.cspf_serve.specs.EarlyEnds.{Writes, IfRefused, IsRefusalWritten}
+use Rattle.cspf_judge.specs.Inputs.{AreBatchesOf, AreRequestsOf}
+use Rattle.cspf_judge.specs.EarlyEnds.{Writes, IfRefused, IsRefusalWritten}
 use Rattle.cspf_serve.specs.declared.streams.error.RunError.{RunError}
-use Rattle.cspf_serve.specs.declared.streams.early_end.EarlyEnd.{EarlyEnd}
-use Rattle.cspf_serve.specs.declared.streams.early_end.EarlyEnd.TheVariants as early_end
+use Rattle.cspf_judge.specs.declared.early_end.EarlyEnd.{EarlyEnd}
+use Rattle.cspf_judge.specs.declared.early_end.EarlyEnd.TheVariants as early_end
 use Rattle.cspf_serve.specs.LiveRun.{IsWhyNot, begun_text, IsEndOfLiveRun, AreAnsweredLive, AreRecordedAtError, IsRecordedAtError, AreInputsRefused, IsLiveRun}
 use Rattle.cspf_serve.specs.LiveLines.{IsFaultShown, AreLiveLines}
 use Rattle.cspf_serve.specs.LiveWords.{applied_line, unpublished_line}
-use Rattle.cspf_serve.specs.RunFaults.{IsRunFault, IsLiveFault}
-use Rattle.cspf_serve.specs.LineTexts.{line_text}
+use Rattle.cspf_serve.specs.RunFaults.{IsStreamFault, IsRunFault, IsLiveFault}
+use Rattle.cspf_judge.specs.LineTexts.{judge_line_text}
 use Rattle.cspf_serve.proofs.AnswerLines.{replies_within}
 use Rattle.cspf_serve.proofs.BatchLines.{numbers_of}
 use Rattle.cspf_serve.proofs.PublishedLines.{number_at}
@@ -188,6 +194,52 @@ pub at_error : {X : Type 0} (r : Result ℕ RunError) → X → IfErr r (λ e. X
 at_error (Ok status) x = tt
 at_error (Err e) x = x
 
+-- ---- what the workers returned, and how the run ended
+
+module _ {J : Type 0} (contents : J → Option (List ℕ)) (batches : List NumberedChanges) (requests : List Request) (before : PublisherState J)
+    (ended : Result ℕ RunError) (journal : J) where
+  -- the lines are written of answers that are there
+  pub run_answered : (ran : Result (Live J) (ServeError × PublisherState J × Vec KnownBatches Global)) (askers : List KnownBatches) (old new : Option (List ℕ))
+      → AreNumberedFrom 1 batches → length batches ≤ 1000000 → before.batches ≡ [] → before.stopped ≡ false
+      → IfOk ran (λ live. AreAnsweredByWorkers requests askers live.askers.items live.list.items live.drawn.items)
+      → IfOk ran (λ live. AreAnswersWithin live.publisher.batches requests live.list.items)
+      → IfOk ran (λ live. IsAppliedUpTo contents before live.publisher batches live.applied live.fault)
+      → IfOk ran (λ live. IfOk ended (λ status. Writes old new (AreLiveLines live.list.items batches (length live.publisher.batches) live.fault status)))
+      → IfOk ran (λ live. journal ≡ live.publisher.journal) → IfOk ran (λ live. IsHistory live.publisher.batches)
+      → IfErr ran (λ e. ended ≡ Err (Serve e.0))
+      → IfOk ended (λ status. (lines : List ℕ) × (text : List ℕ) × AreAnsweredLive batches requests lines text status
+      × Appends old new lines × Appends (contents before.journal) (contents journal) text)
+  run_answered (Err e) askers old new numbered few fresh going answers within up lines same history fault = rw fault tt
+  run_answered (Ok live) askers old new numbered few fresh going answers within up lines same history fault =
+      rw same
+      (IfOk-weaker ended _ _
+      (λ status written.
+      live_answered contents batches requests live.list.items before live.publisher live.applied (length live.publisher.batches) live.fault status old new
+      numbered few fresh going up refl history answers.count within written)
+      lines)
+
+  -- the writer of lines fails, or a worker
+  pub run_failed : (ran : Result (Live J) (ServeError × PublisherState J × Vec KnownBatches Global))
+      → IfOk ran (λ live. IfErr ended IsStreamFault) → IfErr ran (λ e. ended ≡ Err (Serve e.0))
+      → IfErr ran (λ e. IsFaultOfWorker e.0 ⊎ IsUnaccounted (length requests) (length (e.1).batches) e.0)
+      → IfErr ended (IsRunFault (λ index version. (index < length requests) × (0 < version)))
+  run_failed (Ok live) failed fault why = IfErr-weaker ended _ _ (λ e stream. inl stream) failed
+  run_failed (Err e) failed fault (inl worker) = rw fault (inr (inl (e.0, refl, worker)))
+  run_failed (Err e) failed fault (inr stray) =
+      rw fault (inr (inr (stray.0, stray.1, ap Serve stray.2, (stray.3, omega (arith, stray.4)))))
+
+  -- the journal has grown by what was applied
+  pub run_recorded : (ran : Result (Live J) (ServeError × PublisherState J × Vec KnownBatches Global))
+      → AreNumberedFrom 1 batches → length batches ≤ 1000000 → before.batches ≡ [] → before.stopped ≡ false
+      → IfOk ran (λ live. IsAppliedUpTo contents before live.publisher batches live.applied live.fault)
+      → IfErr ran (λ e. IsAppliedInPart contents before e.1 batches)
+      → IfOk ran (λ live. journal ≡ live.publisher.journal) → IfErr ran (λ e. journal ≡ (e.1).journal)
+      → IfErr ended (λ e. IsHeldAtError batches (contents before.journal) (contents journal))
+  run_recorded (Ok live) numbered few fresh going up part same closed =
+      rw same (at_error ended (held_applied contents batches before live.publisher live.applied live.fault numbered few fresh going up))
+  run_recorded (Err e) numbered few fresh going up part same closed =
+      rw closed (at_error ended (held_in_part contents batches before e.1 numbered few fresh going part))
+
 -- the text that is added to the journal of a run over updates after an error
 abbrev pub IsHeldLive : Option (List ℕ) → Option (List ℕ) → Option (List ℕ) → Type 0
 IsHeldLive updates old new = IfSome updates (λ kept. (text : List ℕ) × IsRecordedAtError (rows_of kept) text × Appends old new text)
@@ -242,19 +294,18 @@ live_refused None requests s (Ok status) old new held refused two written = tt
 live_refused (Some kept) None s (Ok status) old new held refused two written = tt
 live_refused (Some kept) (Some asked) (early_end.Failed error) (Ok status) old new held refused two written = absurd written
 live_refused (Some kept) (Some asked) (early_end.Refused line) (Ok status) old new held refused two written =
-    (line_text line, [], inl (refused, refl, two), written, Appends-nil held)
+    (judge_line_text line, [], inl (refused, refl, two), written, Appends-nil held)
 
 -- a request of those that the stream asks for is one of the stream
 pub live_fault : (requests : Option (List ℕ)) (qs : List Request) (r : Result ℕ RunError) → IfSome requests (λ bytes. AreRequestsOf (rows_of bytes) qs)
     → IfErr r (IsRunFault (λ index version. (index < length qs) × (0 < version))) → IfErr r (IsLiveFault requests)
 live_fault requests qs (Ok status) asked fault = tt
 live_fault requests qs (Err e) asked (inl stream) = inl stream
-live_fault requests qs (Err e) asked (inr (inl opening)) = inr (inl opening)
-live_fault requests qs (Err e) asked (inr (inr (inl worker))) = inr (inr (inl worker))
-live_fault None qs (Err e) asked (inr (inr (inr stray))) = inr (inr (inr (stray.0, stray.1, stray.2, (tt, stray.3.1))))
-live_fault (Some bytes) qs (Err e) asked (inr (inr (inr stray))) =
+live_fault requests qs (Err e) asked (inr (inl worker)) = inr (inl worker)
+live_fault None qs (Err e) asked (inr (inr stray)) = inr (inr (stray.0, stray.1, stray.2, (tt, stray.3.1)))
+live_fault (Some bytes) qs (Err e) asked (inr (inr stray)) =
     let below = stray.3.0 in
     let same = ap length asked.asked in
     let rows = length-map (rows_of bytes) row_of in
     let asks = length-map {B = Result Row RowError} qs (λ (q : Request). Ok (row.Ask q)) in
-    inr (inr (inr (stray.0, stray.1, stray.2, (omega (arith, below, same, rows, asks), stray.3.1))))
+    inr (inr (stray.0, stray.1, stray.2, (omega (arith, below, same, rows, asks), stray.3.1)))

@@ -9,7 +9,7 @@ use Rattle.cspf_model.specs.Database.{Database}
 use Rattle.cspf_publish.specs.KnownBatches.{KnownBatches}
 use Rattle.cspf_work.specs.Served.{AreSameAskers}
 use Rattle.cspf_serve.specs.BatchRun.{AreReplies}
-use Rattle.cspf_serve.specs.EarlyEnds.{Writes}
+use Rattle.cspf_judge.specs.EarlyEnds.{Writes}
 
 joined : (d : Database) (version : ℕ) (qs ps : List Request) (lines more : List ℕ) → AreReplies d version qs lines
     → AreReplies d version ps more → AreReplies d version (qs ++ ps) (lines ++ more)

@@ -20,13 +20,15 @@ use Rattle.cspf_rows.specs.GivenBatches.{HasGiven}
 use Rattle.cspf_rows.specs.Journal.{IsJournal}
 use Rattle.cspf_rows.specs.Records.{rows_of, Records}
 use Rattle.cspf_stream.specs.declared.batch_refusal.BatchRefusal.TheVariants as refusal
-use Rattle.cspf_serve.specs.declared.line.Line.{Line}
-use Rattle.cspf_serve.specs.declared.streams.early_end.EarlyEnd.{EarlyEnd}
-use Rattle.cspf_serve.specs.declared.streams.early_end.EarlyEnd.TheVariants as early_end
+use Rattle.cspf_judge.specs.declared.line.JudgeLine.{JudgeLine}
+use Rattle.cspf_judge.specs.declared.early_end.EarlyEnd.{EarlyEnd}
+use Rattle.cspf_judge.specs.declared.early_end.EarlyEnd.TheVariants as early_end
 use Rattle.cspf_stream.specs.Lines.{version_line, refused_batch_line}
-use Rattle.cspf_serve.specs.LineTexts.{line_text}
-use Rattle.cspf_serve.specs.BatchRun.{version_lines, torn_line, AreBatchesOf, IsJournalRefused}
-use Rattle.cspf_serve.specs.EarlyEnds.{IfRefused, IsOwnFaultLine, IsJournalLine}
+use Rattle.cspf_judge.specs.LineTexts.{judge_line_text}
+use Rattle.cspf_judge.specs.Inputs.{torn_line, AreBatchesOf, IsJournalRefused}
+use Rattle.cspf_serve.specs.BatchRun.{version_lines}
+use Rattle.cspf_judge.specs.EarlyEnds.{IfRefused, IsJournalLine}
+use Rattle.cspf_serve.specs.EarlyEnds.{IsOwnFaultLine}
 use Rattle.cspf_serve.specs.PublishedBatches.{IsUnfitBehind, ArePublishedOrRefused}
 
 -- the number of the batch at a place
@@ -91,7 +93,7 @@ unfit_more given published b line is = record {
 
 -- ---- the end of a journal
 
-module _ (accept_torn : Bool) (given published : List NumberedChanges) (unfit : Option Line) (is : ArePublishedOrRefused given published unfit) where
+module _ (accept_torn : Bool) (given published : List NumberedChanges) (unfit : Option JudgeLine) (is : ArePublishedOrRefused given published unfit) where
   accepted : (rows : Records) (left : Rest) → (left ≡ rest.Torn → accept_torn ≡ true) → IsJournal rows given left → length rows ≤ 1000000 → AreBatchesOf accept_torn rows given
   accepted rows rest.Clean torn journal few = record { few = few; journal = inl journal }
   accepted rows rest.Torn torn journal few = record { few = few; journal = inr (journal, torn refl) }
@@ -127,7 +129,7 @@ of_bytes (Some text) Holds is = is
 
 module _ {R : Type 0} (accept_torn : Bool) (rem : R → Option (List ℕ)) (reader : JournalReader R) (bytes : Option (List ℕ)) where
   -- the records that were read, where the bytes are known
-  pub read_of_bytes : (published : List NumberedChanges) (r : Result (Option Line) EarlyEnd) → HasGiven rem (option_map rows_of bytes) reader []
+  pub read_of_bytes : (published : List NumberedChanges) (r : Result (Option JudgeLine) EarlyEnd) → HasGiven rem (option_map rows_of bytes) reader []
       → IfOk r (λ unfit. (all : Option (List (List (List ℕ)))) → HasGiven rem all reader []
       → IfSome all (λ rows. (batches : List NumberedChanges) × AreBatchesOf accept_torn rows batches × ArePublishedOrRefused batches published unfit))
       → IfOk r (λ unfit. IfSome bytes (λ text. (batches : List NumberedChanges) × AreBatchesOf accept_torn (rows_of text) batches × ArePublishedOrRefused batches published unfit))
@@ -136,11 +138,11 @@ module _ {R : Type 0} (accept_torn : Bool) (rem : R → Option (List ℕ)) (read
       of_bytes bytes (λ rows. (batches : List NumberedChanges) × AreBatchesOf accept_torn rows batches × ArePublishedOrRefused batches published unfit)
       (is (option_map rows_of bytes) none)
 
-  pub refused_of_bytes : (r : Result (Option Line) EarlyEnd) → HasGiven rem (option_map rows_of bytes) reader []
+  pub refused_of_bytes : (r : Result (Option JudgeLine) EarlyEnd) → HasGiven rem (option_map rows_of bytes) reader []
       → IfErr r (λ end. IfRefused end (λ line. (all : Option (List (List (List ℕ)))) → HasGiven rem all reader []
       → IfSome all (λ rows. IsJournalRefused accept_torn rows line)))
       → IfErr r (λ end. IfRefused end (λ line. IfSome bytes (λ text. IsJournalRefused accept_torn (rows_of text) line)))
   refused_of_bytes (Ok unfit) none is = tt
   refused_of_bytes (Err (early_end.Failed e)) none is = tt
   refused_of_bytes (Err (early_end.Refused line)) none is =
-      of_bytes bytes (λ rows. IsJournalRefused accept_torn rows (line_text line)) (is (option_map rows_of bytes) none)
+      of_bytes bytes (λ rows. IsJournalRefused accept_torn rows (judge_line_text line)) (is (option_map rows_of bytes) none)

@@ -111,7 +111,10 @@ closed_of {Q} {V} published told old met served batches others known (inl is) le
 closed_of {Q} {V} published told old met served batches others known (inr is) left = record {
   replies = ap (λ (x : ServedClient V). x.replies) left ∙ ap (λ (x : ServingState Q V). x.replies) others;
   refused = ap (λ (x : ServedClient V). x.refused) left ∙ ap (λ (x : ServingState Q V). x.state.refused) others;
-  end = inr (ap (λ (x : ServedClient V). x.end) left ∙ is.1);
+  end = inr (
+    ap (λ (x : ServedClient V). x.end) left ∙ is.1,
+    subst (λ (bs : List NumberedChanges). length bs < length old.state.known.batches) batches is.0.1,
+  );
 }
 
 -- the state that is kept before the first row

@@ -1,195 +1,61 @@
 -- The state after the rows of a stream of updates.
-use Rattle.std.proofs.Common.{◌≡◌, ◌≢◌, ℕ, ◌+◌, ◌<◌, ◌≤◌, false, true, Option, List, [], ◌∷◌, ◌++◌, take, length, Vec, Result, Ok, Err, IfOk, OnOk, OnErr, inl, inr, refl, sym, ap, subst, ◌∙◌, arith}
-use Rattle.std.specs.Global.{Global}
-use Rattle.std.specs.declared.alloc.AllocError.{AllocError}
+use Rattle.std.proofs.Common.{◌≡◌, ◌≢◌, ℕ, ◌+◌, false, true, Option, List, [], ◌∷◌, ◌++◌, take, length, Result, Ok, Err, inl, inr, refl, sym, ap, subst, ◌∙◌, arith}
 use Rattle.std.proofs.KnownBytes.{Appends-trans}
-use Rattle.std.proofs.lemmas.Bool.{cases_lt}
+use Rattle.std.proofs.lemmas.Bool.{false≢true}
 use Rattle.cspf_model.specs.Laws.{RefusedIsUnfit}
 use Rattle.cspf_model.specs.Numbered.{NumberedChanges}
 use Rattle.cspf_model.specs.Changes.{database_after}
-use Rattle.cspf_model.specs.Refusals.{IsRefusal}
+use Rattle.cspf_model.specs.declared.batch.Change.{Change}
+use Rattle.cspf_model.specs.declared.batch.Change.TheVariants as change
 use Rattle.cspf_publish.specs.ApplyErrors.{IsApplyError, IsNextBatch}
-use Rattle.cspf_stream.specs.OpenChanges.{AreOpen}
-use Rattle.cspf_stream.specs.declared.open_changes.OpenChanges.{OpenChanges}
-use Rattle.cspf_stream.specs.declared.step.Step.TheVariants as step
-use Rattle.cspf_stream.proofs.RowsOfSteps.{row_with}
 use Rattle.cspf_publish.specs.PublisherStates.{PublisherState}
 use Rattle.cspf_publish.specs.declared.errors.ApplyError.{ApplyError}
 use Rattle.cspf_publish.specs.declared.errors.ApplyError.TheVariants as error
 use Rattle.cspf_rows.specs.BatchText.{batch_text}
-use Rattle.cspf_stream.specs.declared.batch_refusal.BatchRefusal.{BatchRefusal}
-use Rattle.cspf_stream.specs.declared.batch_refusal.BatchRefusal.TheVariants as refusal
-use Rattle.cspf_stream.specs.Lines.{version_line, refused_batch_line}
-use Rattle.cspf_serve.specs.LiveWords.{unpublished_line}
-use Rattle.cspf_model.specs.Best.{Answer, IsBestAnswer}
-use Rattle.cspf_model.specs.declared.batch.Change.{Change}
-use Rattle.cspf_model.specs.declared.batch.Change.TheVariants as change
-use Rattle.cspf_model.specs.declared.request.Request.{Request}
-use Rattle.cspf_ero.specs.ReplyLine.{IsReply}
 use Rattle.cspf_rows.specs.declared.row.Row.{Row}
 use Rattle.cspf_rows.specs.declared.row.Row.TheVariants as row
 use Rattle.cspf_rows.specs.declared.row_error.RowError.{RowError}
-use Rattle.cspf_stream.specs.RefusedRows.{refused_row_line}
-use Rattle.cspf_solve.specs.Script.{RunState, open_batch, at_next_row, after_change_row, after_refused_row, after_refused_batch, after_reply, IsAccepted, IsBatchRefusal}
-use Rattle.cspf_serve.specs.Updates.{UpdatesState, IsEndUpdate, IsUpdateAnswered, at_next_update}
-use Rattle.cspf_serve.specs.UpdatesStates.{KeptUpdates, IsPublished, ArePublished, KeepsUpdates, Leads, IsMiscounted, IsUpdateTaken, IsUpdateFailed, after_published}
-use Rattle.cspf_solve.proofs.BatchRefusals.{not_exhausted, not_numbered, not_counted, not_fitting}
-use Rattle.cspf_stream.proofs.KeptChanges.{kept_all, fits_whole, refusal_whole}
+use Rattle.cspf_stream.specs.EndRows.{IsRightEnd, IsWrongEnd}
+use Rattle.cspf_stream.specs.Lines.{refused_batch_line}
+use Rattle.cspf_stream.specs.OpenChanges.{AreKeptChanges, AreOpen}
+use Rattle.cspf_stream.specs.RowsTaken.{RowsState, KeepsRows, RowsLead, IsEndAccepted, IsEndRefused, IsBatchDropped, IsRowTaken, IsRowLost}
+use Rattle.cspf_stream.specs.declared.batch_refusal.BatchRefusal.{BatchRefusal}
+use Rattle.cspf_stream.specs.declared.batch_refusal.BatchRefusal.TheVariants as refusal
+use Rattle.cspf_stream.specs.declared.rows.Rows.{Rows}
+use Rattle.cspf_stream.proofs.KeptChanges.{kept_all, refusal_whole}
+use Rattle.cspf_solve.specs.Script.{RunState, open_batch, after_change_row, after_refused_row, after_refused_batch, after_reply, IsAccepted, IsBatchRefusal}
+use Rattle.cspf_solve.proofs.BatchRefusals.{wrong_end, unfit_end}
+use Rattle.cspf_serve.specs.LiveWords.{refusal_of}
+use Rattle.cspf_serve.specs.Updates.{UpdatesState, IsEndUpdate, IsUpdateAnswered, IsUpdateLost, at_next_update}
+use Rattle.cspf_serve.specs.UpdatesStates.{KeptUpdates, IsPublished, ArePublished, KeepsUpdates, IsUpdateTaken, IsUpdateFailed, publisher_spec, after_published}
 
--- one more row changes nothing that is kept
-pub next_keeps : {J : Type 0} (contents : J → Option (List ℕ)) (first : PublisherState J) (k : KeptUpdates J) (s : UpdatesState)
-    → KeepsUpdates contents first k s → KeepsUpdates contents first k (at_next_update s)
-next_keeps contents first k s kept = record {
-  published = record { source = kept.published.source; batches = kept.published.batches; stopped = kept.published.stopped; journal = kept.published.journal };
-  changes = kept.changes;
-  refused = kept.refused;
-}
+-- ---- a batch has as many of the open changes as are kept
 
-module _ {J : Type 0} (contents : J → Option (List ℕ)) (first : PublisherState J) (k : KeptUpdates J) (s : UpdatesState) (kept : KeepsUpdates contents first k s) (number count : ℕ) where
-  -- the batch of the changes that are kept
-  abbrev kept_batch : NumberedChanges
-  kept_batch = record { number = number; changes = k.changes.batch.changes }
+module _ {J : Type 0} (contents : J → Option (List ℕ)) (p q : PublisherState J) (b : NumberedChanges) (all : List Change) (front : AreKeptChanges b.changes all) where
+  -- they are all changes where it may come next
+  all_open : IsNextBatch p b → b.changes ≡ all
+  all_open next = kept_all b.changes all front next.follows.fits.short
 
-  -- the line of an end row that publishes nothing
-  abbrev pub IsEnded : PublisherState J → List ℕ → Type 0
-  IsEnded p line =
-      (t : UpdatesState) × ArePublished contents first p t × IsEndUpdate s.stopped s number count line t × (t.run ≡ after_refused_batch s.run)
+  pub published_whole : IsPublished contents p q b → IsPublished contents p q (record b { changes = all })
+  published_whole is = subst (λ cs. IsPublished contents p q (record { number = b.number; changes = cs })) (all_open is.next) is
 
-  version : length k.publisher.batches ≡ length s.run.accepted
-  version = ap length kept.published.batches
+  pub apply_error_whole : (why : ApplyError) → IsApplyError contents p q b why → IsApplyError contents p q (record b { changes = all }) why
+  apply_error_whole error.Stopped is = is
+  apply_error_whole error.Exhausted is = is
+  apply_error_whole (error.WrongNumber expected) is = is
+  apply_error_whole (error.Refused why) is = (is.0, is.1, refusal_whole (database_after p.batches) b.number b.changes all why front is.2, is.3)
+  apply_error_whole error.Memory is =
+      subst (λ cs. IsApplyError contents p q (record { number = b.number; changes = cs }) error.Memory) (all_open is.0) is
+  apply_error_whole (error.Journal written) is =
+      subst (λ cs. IsApplyError contents p q (record { number = b.number; changes = cs }) (error.Journal written)) (all_open is.0) is
 
-  -- the count is right where it isn't wrong
-  counted : k.publisher.stopped ≡ false → length k.publisher.batches < 1000000 → number ≡ length k.publisher.batches + 1
-      → ¬ IsMiscounted k number count → count ≡ length s.run.changes
-  counted going room next right =
-      elim (cases_lt count k.changes.count) [
-        | inl lt ↦ absurd (right (record { going = going; room = room; next = next; other = λ e. omega (arith, e, lt) }))
-        | inr ge ↦ elim (cases_lt k.changes.count count) [
-          | inl gt ↦ absurd (right (record { going = going; room = room; next = next; other = λ e. omega (arith, e, gt) }))
-          | inr le ↦ omega (arith, ge, le, kept.changes.count)
-        ]
-      ]
+-- ---- the answer to a row
 
-  -- the batch is refused as in a script
-  refuses : (p : PublisherState J) (why : BatchRefusal) → k.publisher.stopped ≡ false → p ≡ k.publisher → ¬ IsAccepted s.run number count
-      → IsBatchRefusal s.run number count why → IsEnded p (refused_batch_line number why)
-  refuses p why going same unaccepted is =
-      let goes : s.stopped ≡ false = sym kept.published.stopped ∙ going in (
-        record { run = after_refused_batch s.run; stopped = false; text = s.text },
-        rw same (record { source = kept.published.source; batches = kept.published.batches; stopped = going; journal = kept.published.journal }),
-        rw goes (inl (record {
-          answered = inr (why, unaccepted, is, refl, refl);
-          going = refl;
-          published = λ accepted. absurd (unaccepted accepted);
-          refused = λ not. refl;
-        })),
-        refl,
-      )
-
-  pub ends_miscounted : IsMiscounted k number count → IsEnded k.publisher (refused_batch_line number (refusal.WrongCount k.changes.count))
-  ends_miscounted wrong =
-      let other : count ≢ length s.run.changes = λ e. wrong.other (e ∙ sym kept.changes.count) in
-      refuses k.publisher (refusal.WrongCount k.changes.count) wrong.going refl (not_counted s.run number count other)
-      (omega (arith, version, wrong.room), omega (arith, version, wrong.next), other, kept.changes.count)
-
-  -- a batch that may come next is accepted, and has all open changes
-  all_open : IsNextBatch k.publisher kept_batch → k.changes.batch.changes ≡ s.run.changes
-  all_open next = kept_all k.changes.batch.changes s.run.changes kept.changes.changes next.follows.fits.short
-
-  accepted : ¬ IsMiscounted k number count → IsNextBatch k.publisher kept_batch → IsAccepted s.run number count
-  accepted right next = record {
-    room = omega (arith, version, next.follows.room);
-    next = omega (arith, version, next.follows.number);
-    counted = counted next.going next.follows.room next.follows.number right;
-    fits = rw kept.published.batches at (fits_whole (database_after k.publisher.batches) number k.changes.batch.changes s.run.changes kept.changes.changes next.follows.fits);
-  }
-
-  pub ends_published : ¬ IsMiscounted k number count → (p : PublisherState J) → p.source ≡ k.publisher.source → IsPublished contents k.publisher p kept_batch
-      → ArePublished contents first p (after_published s number) × IsAccepted s.run number count × (s.stopped ≡ false)
-  ends_published right p source is = (
-    record {
-      source = source ∙ kept.published.source;
-      batches = is.batches ∙ rw (kept.published.batches, all_open is.next) refl;
-      stopped = is.going;
-      journal = Appends-trans (contents first.journal) (contents k.publisher.journal) (contents p.journal) s.text _ kept.published.journal (rw (all_open is.next) at is.recorded);
-    },
-    accepted right is.next,
-    sym kept.published.stopped ∙ is.next.going,
-  )
-
-  pub ends_unpublished : RefusedIsUnfit → ¬ IsMiscounted k number count → (p : PublisherState J) (why : ApplyError) → p.source ≡ k.publisher.source → p.batches ≡ k.publisher.batches
-      → IsApplyError contents k.publisher p kept_batch why → IsEnded p (unpublished_line number why)
-  ends_unpublished unfit right p error.Stopped source same is =
-      let stops : s.stopped ≡ true = sym kept.published.stopped ∙ is.0 in (
-        record { run = after_refused_batch s.run; stopped = true; text = s.text },
-        rw is.1 (record { source = kept.published.source; batches = kept.published.batches; stopped = is.0; journal = kept.published.journal }),
-        rw stops (refl, refl),
-        refl,
-      )
-  ends_unpublished unfit right p error.Exhausted source same is =
-      let full : 1000000 ≤ length s.run.accepted = omega (arith, version, is.1) in
-      refuses p refusal.Exhausted is.0 is.2 (not_exhausted s.run number count full) full
-  ends_unpublished unfit right p (error.WrongNumber expected) source same is =
-      let other : number ≢ length s.run.accepted + 1 = λ e. is.1 (omega (arith, e, version)) in
-      refuses p (refusal.WrongNumber expected) is.0.going is.3 (not_numbered s.run number count other)
-      (omega (arith, version, is.0.room), other, omega (arith, version, is.2))
-  ends_unpublished unfit right p (error.Refused why) source same is =
-      let room : length s.run.accepted < 1000000 = omega (arith, version, is.0.room) in
-      let next : number ≡ length s.run.accepted + 1 = omega (arith, version, is.1) in
-      let whole : IsRefusal (database_after s.run.accepted) (open_batch s.run number) why =
-      refusal_whole (database_after s.run.accepted) number k.changes.batch.changes s.run.changes why kept.changes.changes (rw kept.published.batches at is.2) in
-      refuses p (refusal.Unfit why) is.0.going is.3 (not_fitting s.run number count (unfit (database_after s.run.accepted) (open_batch s.run number) why whole))
-      (room, next, counted is.0.going is.0.room is.1 right, whole)
-  ends_unpublished unfit right p error.Memory source same is =
-      let goes : s.stopped ≡ false = sym kept.published.stopped ∙ is.0.going in (
-        record { run = after_refused_batch s.run; stopped = false; text = s.text },
-        rw is.1 (record { source = kept.published.source; batches = kept.published.batches; stopped = is.0.going; journal = kept.published.journal }),
-        rw goes (inr (record { accepted = accepted right is.0; why = error.Memory; left = refl; line_is = refl })),
-        refl,
-      )
-  ends_unpublished unfit right p (error.Journal written) source same is =
-      let goes : s.stopped ≡ false = sym kept.published.stopped ∙ is.0.going in
-      let whole = all_open is.0 in (
-        record { run = after_refused_batch s.run; stopped = true; text = s.text ++ take written (batch_text (open_batch s.run number)) },
-        record {
-          source = source ∙ kept.published.source;
-          batches = same ∙ kept.published.batches;
-          stopped = is.1;
-          journal = Appends-trans (contents first.journal) (contents k.publisher.journal) (contents p.journal) s.text _ kept.published.journal (rw whole at is.3);
-        },
-        rw goes (inr (record { accepted = accepted right is.0; why = error.Journal written; left = (rw whole at is.2, refl); line_is = refl })),
-        refl,
-      )
-
-  -- the state that is kept once the open changes are dropped, after a batch that is published
-  pub kept_published : (p : PublisherState J) (changes : OpenChanges) (line : List ℕ) → AreOpen changes [] → line ≡ version_line number
-      → ArePublished contents first p (after_published s number) × IsAccepted s.run number count × (s.stopped ≡ false)
-      → (t : UpdatesState) × KeepsUpdates contents first (record { publisher = p; changes = changes; refused = k.refused }) t × IsEndUpdate s.stopped s number count line t
-  kept_published p changes line none is published = (
-    after_published s number,
-    record { published = published.0; changes = none; refused = kept.refused },
-    rw published.2 (inl (record {
-      answered = inl (published.1, is, refl);
-      going = refl;
-      published = λ accepted. refl;
-      refused = λ not. absurd (not published.1);
-    })),
-  )
-
-  -- and after one that isn't
-  pub kept_unpublished : (p : PublisherState J) (changes : OpenChanges) (line : List ℕ) → AreOpen changes [] → IsEnded p line
-      → (t : UpdatesState) × KeepsUpdates contents first (record { publisher = p; changes = changes; refused = k.refused + 1 }) t × IsEndUpdate s.stopped s number count line t
-      × (t.run.accepted ≡ s.run.accepted)
-  kept_unpublished p changes line none ended = (
-    ended.0,
-    record {
-      published = ended.1;
-      changes = subst (λ (x : RunState). AreOpen changes x.changes) (sym ended.3) none;
-      refused = ap (λ n. n + 1) kept.refused ∙ sym (ap (λ (x : RunState). x.refused) ended.3);
-    },
-    ended.2,
-    ap (λ (x : RunState). x.accepted) ended.3,
-  )
+-- the publisher's batches are those that were accepted, and the changes are those that are open
+pub record IsOfUpdates {J : Type 0} (contents : J → Option (List ℕ)) (first : PublisherState J) (r : RowsState (PublisherState J)) (s : UpdatesState) : Type 0 where
+  pub published : ArePublished contents first r.sink s
+  pub changes : r.changes ≡ s.run.changes
+  pub refused : r.refused ≡ s.run.refused
 
 -- a state of which the publisher's part is the same
 still_published : {J : Type 0} (contents : J → Option (List ℕ)) (first p : PublisherState J) (s t : UpdatesState) → ArePublished contents first p s
@@ -201,66 +67,217 @@ still_published contents first p s t are accepted stopped text = record {
   journal = rw text are.journal;
 }
 
--- one more open change
-abbrev pub after_change : UpdatesState → Change → UpdatesState
-after_change s c = record s { run = after_change_row s.run c }
+module _ {J : Type 0} (contents : J → Option (List ℕ)) (first : PublisherState J) (unfit : RefusedIsUnfit) (r : RowsState (PublisherState J)) (s : UpdatesState) (of : IsOfUpdates contents first r s) where
+  -- a row after which the rows are of a state
+  abbrev Answered : (UpdatesState → Type 0) → RowsState (PublisherState J) → Type 0
+  Answered Says t = (after : UpdatesState) × IsOfUpdates contents first t after × Says after
 
-change_updated : (s : UpdatesState) (c : Change) (line : List ℕ) → line ≡ [] → IsUpdateAnswered s (Ok (row_with (step.Change c))) line (after_change s c)
-change_updated s (change.Put link) line none = record { answered = (none, refl); same = refl }
-change_updated s (change.Remove from local) line none = record { answered = (none, refl); same = refl }
-change_updated s (change.Node router transit) line none = record { answered = (none, refl); same = refl }
+  version : length r.sink.batches ≡ length s.run.accepted
+  version = ap length of.published.batches
 
-pub takes_change : {J : Type 0} (contents : J → Option (List ℕ)) (r : Result (Vec ℕ Global) AllocError) (k k' : KeptUpdates J) (c : Change)
-    → IfOk r (λ line. line.items ≡ []) → OnOk r ((all : List Change) → AreOpen k.changes all → AreOpen k'.changes (all ++ c ∷ []))
-    → OnOk r (k' ≡ record k { changes = k'.changes })
-    → IfOk r (λ line. Leads contents k k' (λ s t. IsUpdateAnswered s (Ok (row_with (step.Change c))) line.items t))
-takes_change contents (Err e) k k' c none opened others = tt
-takes_change {J} contents (Ok line) k k' c none opened others = λ first s kept. (
-  after_change s c,
-  record {
-    published = rw (ap (λ (x : KeptUpdates J). x.publisher) others) (still_published contents first k.publisher s (after_change s c) kept.published refl refl refl);
-    changes = opened s.run.changes kept.changes;
-    refused = ap (λ (x : KeptUpdates J). x.refused) others ∙ kept.refused;
-  },
-  change_updated s c line.items none,
-)
+  module _ (number count : ℕ) (line : List ℕ) (t : RowsState (PublisherState J)) where
+    right_accepted : IsRightEnd r.sink.stopped (length r.sink.batches) number count (length r.changes) → IsNextBatch r.sink (record { number = number; changes = r.changes }) → IsAccepted s.run number count
+    right_accepted right next = record {
+      room = omega (arith, version, right.room);
+      next = omega (arith, version, right.next);
+      counted = right.counted ∙ ap length of.changes;
+      fits = rw (of.published.batches, of.changes) at next.follows.fits;
+    }
 
--- a request is answered at the published version
-pub takes_ask : {J : Type 0} (contents : J → Option (List ℕ)) (k : KeptUpdates J) (q : Request) (line : List ℕ)
-    → (answer : Answer) × IsBestAnswer (database_after k.publisher.batches) q answer × IsReply q.id (length k.publisher.batches) answer line
-    → Leads contents k k (λ s t. IsUpdateAnswered s (Ok (row.Ask q)) line t)
-takes_ask contents k q line replied = λ first s kept. (
-  record s { run = after_reply s.run },
-  record {
-    published = still_published contents first k.publisher s (record s { run = after_reply s.run }) kept.published refl refl refl;
-    changes = kept.changes;
+    accepted : IsEndAccepted (publisher_spec contents) r number count line t → Answered (IsEndUpdate s.stopped s number count line) t
+    accepted a =
+        let right = a.taken.0 in
+        let is = a.taken.1.0 in
+        let goes : s.stopped ≡ false = sym of.published.stopped ∙ right.going in
+        let taken = right_accepted right is.next in (
+          after_published s number,
+          record {
+            published = record {
+              source = a.taken.1.1 ∙ of.published.source;
+              batches = is.batches ∙ rw (of.published.batches, of.changes) refl;
+              stopped = is.going;
+              journal = Appends-trans (contents first.journal) (contents r.sink.journal) (contents t.sink.journal) s.text _ of.published.journal (rw of.changes at is.recorded);
+            };
+            changes = ap (λ (x : RowsState (PublisherState J)). x.changes) a.after;
+            refused = ap (λ (x : RowsState (PublisherState J)). x.refused) a.after ∙ of.refused;
+          },
+          rw goes (inl (record {
+            answered = inl (taken, a.line_is, refl);
+            going = refl;
+            published = λ accepted. refl;
+            refused = λ not. absurd (not taken);
+          })),
+        )
+
+    -- the end row is answered this line, and its batch is refused
+    abbrev IsEnded : PublisherState J → List ℕ → Type 0
+    IsEnded p said =
+        (after : UpdatesState) × ArePublished contents first p after × IsEndUpdate s.stopped s number count said after × (after.run ≡ after_refused_batch s.run)
+
+    -- as in a script
+    refuses : (p : PublisherState J) (why : BatchRefusal) → r.sink.stopped ≡ false → p ≡ r.sink → (¬ IsAccepted s.run number count) × IsBatchRefusal s.run number count why
+        → IsEnded p (refused_batch_line number why)
+    refuses p why going same is =
+        let goes : s.stopped ≡ false = sym of.published.stopped ∙ going in (
+          record { run = after_refused_batch s.run; stopped = false; text = s.text },
+          rw same (record { source = of.published.source; batches = of.published.batches; stopped = going; journal = of.published.journal }),
+          rw goes (inl (record {
+            answered = inr (why, is.0, is.1, refl, refl);
+            going = refl;
+            published = λ accepted. absurd (is.0 accepted);
+            refused = λ not. refl;
+          })),
+          refl,
+        )
+
+    not_right : (p : PublisherState J) (why : BatchRefusal) → p ≡ r.sink → r.sink.stopped ≡ false → IsWrongEnd r.sink.stopped (length r.sink.batches) number count (length r.changes) why
+        → IsEnded p (refused_batch_line number why)
+    not_right p why same going is =
+        refuses p why going same (wrong_end s.run r.sink.stopped (length r.sink.batches) number count (length r.changes) why going version (ap length of.changes) is)
+
+    -- the end row isn't right
+    wrong : (p : PublisherState J) (why : BatchRefusal) → p ≡ r.sink → IsWrongEnd r.sink.stopped (length r.sink.batches) number count (length r.changes) why → IsEnded p (refused_batch_line number why)
+    wrong p refusal.Stopped same is =
+        let stops : s.stopped ≡ true = sym of.published.stopped ∙ is in (
+          record { run = after_refused_batch s.run; stopped = true; text = s.text },
+          rw same (record { source = of.published.source; batches = of.published.batches; stopped = is; journal = of.published.journal }),
+          rw stops (refl, refl),
+          refl,
+        )
+    wrong p refusal.Exhausted same is = not_right p refusal.Exhausted same is.0 is
+    wrong p (refusal.WrongNumber expected) same is = not_right p (refusal.WrongNumber expected) same is.0 is
+    wrong p (refusal.WrongCount counted) same is = not_right p (refusal.WrongCount counted) same is.0 is
+    wrong p (refusal.Unfit why) same is = absurd is
+    wrong p refusal.Memory same is = absurd is
+    wrong p (refusal.Journal written) same is = absurd is
+
+    -- its batch isn't published
+    unpublished : (p : PublisherState J) (why : ApplyError) → IsRightEnd r.sink.stopped (length r.sink.batches) number count (length r.changes)
+        → IsApplyError contents r.sink p (record { number = number; changes = r.changes }) why → p.batches ≡ r.sink.batches → p.source ≡ r.sink.source
+        → IsEnded p (refused_batch_line number (refusal_of why))
+    unpublished p error.Stopped right is same source = absurd (false≢true (sym right.going ∙ is.0))
+    unpublished p error.Exhausted right is same source = absurd (omega (arith, right.room, is.1))
+    unpublished p (error.WrongNumber expected) right is same source = absurd (is.1 right.next)
+    unpublished p (error.Refused why) right is same source =
+        refuses p (refusal.Unfit why) right.going is.3
+        (unfit_end unfit s.run r.sink.stopped (length r.sink.batches) number count (length r.changes) why version (ap length of.changes) right
+        (rw (of.published.batches, of.changes) at is.2))
+    unpublished p error.Memory right is same source =
+        let goes : s.stopped ≡ false = sym of.published.stopped ∙ right.going in (
+          record { run = after_refused_batch s.run; stopped = false; text = s.text },
+          rw is.1 (record { source = of.published.source; batches = of.published.batches; stopped = right.going; journal = of.published.journal }),
+          rw goes (inr (record { accepted = right_accepted right is.0; why = error.Memory; left = refl; line_is = refl })),
+          refl,
+        )
+    unpublished p (error.Journal written) right is same source =
+        let goes : s.stopped ≡ false = sym of.published.stopped ∙ right.going in (
+          record { run = after_refused_batch s.run; stopped = true; text = s.text ++ take written (batch_text (open_batch s.run number)) },
+          record {
+            source = source ∙ of.published.source;
+            batches = same ∙ of.published.batches;
+            stopped = is.1;
+            journal = Appends-trans (contents first.journal) (contents r.sink.journal) (contents p.journal) s.text _ of.published.journal (rw of.changes at is.3);
+          },
+          rw goes (inr (record { accepted = right_accepted right is.0; why = error.Journal written; left = (rw of.changes at is.2, refl); line_is = refl })),
+          refl,
+        )
+
+    dropped : (p : PublisherState J) (why : BatchRefusal) → IsBatchDropped (publisher_spec contents) r.sink number count r.changes why p → IsEnded p (refused_batch_line number why)
+    dropped p why (inl is) = wrong p why is.1 is.0
+    dropped p why (inr (right, is)) = rw is.1 (unpublished p is.0 right is.2 is.3 is.4)
+
+    refused : IsEndRefused (publisher_spec contents) r number count line t
+        → Answered (λ after. IsEndUpdate s.stopped s number count line after × (after.run.accepted ≡ s.run.accepted)) t
+    refused a =
+        let d = dropped t.sink a.why a.dropped in
+        let said : IsEndUpdate s.stopped s number count line d.0 = subst (λ x. IsEndUpdate s.stopped s number count x d.0) (sym a.line_is) d.2 in (
+          d.0,
+          record {
+            published = d.1;
+            changes = ap (λ (x : RowsState (PublisherState J)). x.changes) a.after ∙ sym (ap (λ (x : RunState). x.changes) d.3);
+            refused = ap (λ (x : RowsState (PublisherState J)). x.refused) a.after ∙ ap (λ n. n + 1) of.refused ∙ sym (ap (λ (x : RunState). x.refused) d.3);
+          },
+          (said, ap (λ (x : RunState). x.accepted) d.3),
+        )
+
+  -- one more open change
+  changed : (c : Change) → IsOfUpdates contents first (record r { changes = r.changes ++ c ∷ [] }) (record s { run = after_change_row s.run c })
+  changed c = record {
+    published = still_published contents first r.sink s (record s { run = after_change_row s.run c }) of.published refl refl refl;
+    changes = ap (λ cs. cs ++ c ∷ []) of.changes;
+    refused = of.refused;
+  }
+
+  row_taken : (t : RowsState (PublisherState J)) (row : Result Row RowError) (line : List ℕ) → IsRowTaken (publisher_spec contents) s.run.rows r row line t → Answered (IsUpdateAnswered s row line) t
+  row_taken t (Err why) line a = (
+    record s { run = after_refused_row s.run },
+    rw a.1 (record {
+      published = still_published contents first r.sink s (record s { run = after_refused_row s.run }) of.published refl refl refl;
+      changes = of.changes;
+      refused = ap (λ n. n + 1) of.refused;
+    }),
+    record { answered = (a.0, refl); same = refl },
+  )
+  row_taken t (Ok (row.Put link)) line a =
+      (record s { run = after_change_row s.run (change.Put link) }, rw a.1 (changed (change.Put link)), record { answered = (a.0, refl); same = refl })
+  row_taken t (Ok (row.Remove from local)) line a =
+      (record s { run = after_change_row s.run (change.Remove from local) }, rw a.1 (changed (change.Remove from local)), record { answered = (a.0, refl); same = refl })
+  row_taken t (Ok (row.Node router transit)) line a =
+      (record s { run = after_change_row s.run (change.Node router transit) }, rw a.1 (changed (change.Node router transit)), record { answered = (a.0, refl); same = refl })
+  row_taken t (Ok (row.End number count)) line (inl a) = accepted number count line t a
+  row_taken t (Ok (row.End number count)) line (inr a) = let is = refused number count line t a in (is.0, is.1, is.2.0)
+  row_taken t (Ok (row.Ask q)) line a = (
+    record s { run = after_reply s.run },
+    rw a.1 (record {
+      published = still_published contents first r.sink s (record s { run = after_reply s.run }) of.published refl refl refl;
+      changes = of.changes;
+      refused = of.refused;
+    }),
+    record { answered = (a.0.0, rw of.published.batches at a.0.1, rw of.published.batches at a.0.2, refl); same = refl },
+  )
+
+  same_lost : (t : RowsState (PublisherState J)) (row : Result Row RowError) → t ≡ r → Answered (IsUpdateLost s row) t
+  same_lost t row is = (s, rw is of, inl refl)
+
+  row_lost : (t : RowsState (PublisherState J)) (row : Result Row RowError) → IsRowLost (publisher_spec contents) r row t → Answered (IsUpdateLost s row) t
+  row_lost t (Err why) a = same_lost t (Err why) a
+  row_lost t (Ok (row.Put link)) a = same_lost t (Ok (row.Put link)) a
+  row_lost t (Ok (row.Remove from local)) a = same_lost t (Ok (row.Remove from local)) a
+  row_lost t (Ok (row.Node router transit)) a = same_lost t (Ok (row.Node router transit)) a
+  row_lost t (Ok (row.End number count)) (inl a) = same_lost t (Ok (row.End number count)) a
+  row_lost t (Ok (row.End number count)) (inr a) = let is = refused number count a.0 t a.1 in (is.0, is.1, inr (a.0, is.2.0, is.2.1))
+  row_lost t (Ok (row.Ask q)) a = same_lost t (Ok (row.Ask q)) a
+
+-- ---- what the code keeps
+
+-- the updates' rows, as they are kept
+abbrev pub kept_of : {J : Type 0} → Rows (PublisherState J) → KeptUpdates J
+kept_of k = record { publisher = k.sink; changes = k.changes; answers = k.answers; refused = k.refused }
+
+module _ {J : Type 0} (contents : J → Option (List ℕ)) (unfit : RefusedIsUnfit) (k k' : Rows (PublisherState J)) (place : ℕ) (row : Result Row RowError) where
+  begun : (first : PublisherState J) (s : UpdatesState) → KeepsUpdates contents first (kept_of k) s
+      → IsOfUpdates contents first (record { sink = k.sink; changes = s.run.changes; answers = k.answers; refused = k.refused }) (at_next_update s)
+  begun first s kept = record {
+    published = still_published contents first k.sink s (at_next_update s) kept.published refl refl refl;
+    changes = refl;
     refused = kept.refused;
-  },
-  record { answered = (replied.0, rw kept.published.batches at replied.1, rw kept.published.batches at replied.2, refl); same = refl },
-)
+  }
 
--- a row is refused
-pub takes_refusal : {J : Type 0} (contents : J → Option (List ℕ)) (k : KeptUpdates J) (place : ℕ) (why : RowError) (line : List ℕ) → line ≡ refused_row_line place why
-    → IsUpdateTaken contents place k (Err why) line (record k { refused = k.refused + 1 })
-takes_refusal contents k place why line is = λ first s kept at. (
-  record s { run = after_refused_row (at_next_row s.run) },
-  record {
-    published = still_published contents first k.publisher s (record s { run = after_refused_row (at_next_row s.run) }) kept.published refl refl refl;
-    changes = kept.changes;
-    refused = ap (λ n. n + 1) kept.refused;
-  },
-  record { answered = (is ∙ ap (λ n. refused_row_line n why) at, refl); same = refl },
-)
+  kept_again : (first : PublisherState J) (t : RowsState (PublisherState J)) (s : UpdatesState) → KeepsRows k' t → IsOfUpdates contents first t s → KeepsUpdates contents first (kept_of k') s
+  kept_again first t s kept of = record {
+    published = rw kept.sink of.published;
+    changes = subst (λ cs. AreOpen k'.changes cs) of.changes kept.changes;
+    refused = kept.refused ∙ of.refused;
+  }
 
--- nothing is changed
-pub loses_nothing : {J : Type 0} (contents : J → Option (List ℕ)) (k : KeptUpdates J) (place : ℕ) (row : Result Row RowError) → IsUpdateFailed contents place k row k
-loses_nothing contents k place row = λ first s kept at. (at_next_update s, next_keeps contents first k s kept, inl refl)
+  pub update_taken : (line : List ℕ) → RowsLead k k' (λ r t. IsRowTaken (publisher_spec contents) place r row line t) → IsUpdateTaken contents place (kept_of k) row line (kept_of k')
+  update_taken line lead = λ first s kept here.
+      let led = lead (record { sink = k.sink; changes = s.run.changes; answers = k.answers; refused = k.refused }) (record { sink = refl; changes = kept.changes; answers = refl; refused = refl }) in
+      let a = row_taken contents first unfit _ (at_next_update s) (begun first s kept) led.0 row line (rw here at led.2) in
+      (a.0, kept_again first led.0 a.0 led.1 a.1, a.2)
 
--- what always holds also holds at an error
-pub at_error : {T E : Type 0} (P : Type 0) (r : Result T E) → P → OnErr r P
-at_error P (Ok x) holds = tt
-at_error P (Err e) holds = holds
-
-pub error_weaker : {T E : Type 0} (P Q : Type 0) (r : Result T E) → (P → Q) → OnErr r P → OnErr r Q
-error_weaker P Q (Ok x) weaker holds = tt
-error_weaker P Q (Err e) weaker holds = weaker holds
+  pub update_lost : RowsLead k k' (λ r t. IsRowLost (publisher_spec contents) r row t) → IsUpdateFailed contents place (kept_of k) row (kept_of k')
+  update_lost lead = λ first s kept here.
+      let led = lead (record { sink = k.sink; changes = s.run.changes; answers = k.answers; refused = k.refused }) (record { sink = refl; changes = kept.changes; answers = refl; refused = refl }) in
+      let a = row_lost contents first unfit _ (at_next_update s) (begun first s kept) led.0 row led.2 in
+      (a.0, kept_again first led.0 a.0 led.1 a.1, a.2)

@@ -2,7 +2,6 @@
 pub mod ErrorNames
 pub mod BatchRun
 pub mod BatchLaws
-pub mod AuditRun
 pub mod EarlyEnds
 pub mod PublishedBatches
 pub mod AnswerLines
@@ -15,4 +14,3 @@ pub mod Updates
 pub mod UpdatesStates
 pub mod ServedRun
 pub mod ServedSteps
-pub mod SnapshotRun

@@ -10,7 +10,8 @@ use Rattle.cspf_publish.specs.Histories.{IsHistory}
 use Rattle.cspf_publish.specs.declared.errors.ApplyError.{ApplyError}
 use Rattle.cspf_publish.specs.declared.errors.ApplyError.TheVariants as error
 use Rattle.cspf_rows.specs.BatchText.{batch_text}
-use Rattle.cspf_serve.specs.BatchRun.{IsReplyTo, AreBatchesOf, IsJournalRefused, AreRequestsOf, AreRequestsRefused}
+use Rattle.cspf_judge.specs.Inputs.{AreBatchesOf, IsJournalRefused, AreRequestsOf, AreRequestsRefused}
+use Rattle.cspf_serve.specs.BatchRun.{IsReplyTo}
 use Rattle.cspf_serve.specs.LiveWords.{applied_line, unpublished_line}
 
 -- a request is answered by this line, at a published version: in the database of a prefix of these

@@ -3,17 +3,18 @@ use Rattle.std.specs.Prelude.{ℕ, List, ◌++◌, codes}
 use Rattle.std.specs.Fmt.{decimal}
 use Rattle.cspf_publish.specs.declared.errors.ApplyError.{ApplyError}
 use Rattle.cspf_publish.specs.declared.errors.ApplyError.TheVariants as error
+use Rattle.cspf_stream.specs.declared.batch_refusal.BatchRefusal.{BatchRefusal}
 use Rattle.cspf_stream.specs.declared.batch_refusal.BatchRefusal.TheVariants as refusal
-use Rattle.cspf_stream.specs.BatchWords.{batch_words}
+use Rattle.cspf_stream.specs.Lines.{refused_batch_line}
 
--- the words of a batch that isn't published: those of a refused batch, and three more
-abbrev pub apply_words : ApplyError → List ℕ
-apply_words error.Stopped = codes "stopped"
-apply_words error.Exhausted = batch_words refusal.Exhausted
-apply_words (error.WrongNumber expected) = batch_words (refusal.WrongNumber expected)
-apply_words (error.Refused why) = batch_words (refusal.Unfit why)
-apply_words error.Memory = codes "memory"
-apply_words (error.Journal written) = codes "journal " ++ decimal written
+-- why a batch is refused that a publisher doesn't publish
+abbrev pub refusal_of : ApplyError → BatchRefusal
+refusal_of error.Stopped = refusal.Stopped
+refusal_of error.Exhausted = refusal.Exhausted
+refusal_of (error.WrongNumber expected) = refusal.WrongNumber expected
+refusal_of (error.Refused why) = refusal.Unfit why
+refusal_of error.Memory = refusal.Memory
+refusal_of (error.Journal written) = refusal.Journal written
 
 -- how many batches were published
 abbrev pub applied_line : ℕ → List ℕ
@@ -21,4 +22,4 @@ applied_line count = codes "applied " ++ decimal count ++ codes "\n"
 
 -- the line of the batch with this number, which isn't published
 abbrev pub unpublished_line : ℕ → ApplyError → List ℕ
-unpublished_line number why = codes "batch " ++ decimal number ++ codes " refused: " ++ apply_words why ++ codes "\n"
+unpublished_line number why = refused_batch_line number (refusal_of why)

@@ -1,13 +1,15 @@
--- Private: which batches of a journal are published.
-use Rattle.std.specs.Prelude.{◌≡◌, ℕ, Option, Some, None, List, ◌∷◌, ◌++◌}
+-- Private: which batches of a journal are published, and what is written of them.
+use Rattle.std.specs.Prelude.{◌≡◌, ℕ, ◌⊎◌, Option, Some, None, List, ◌∷◌, ◌++◌}
 use Rattle.cspf_model.specs.declared.refusal.Refusal.{Refusal}
 use Rattle.cspf_model.specs.Numbered.{NumberedChanges}
 use Rattle.cspf_model.specs.Changes.{database_after}
 use Rattle.cspf_model.specs.Refusals.{IsRefusal}
 use Rattle.cspf_stream.specs.declared.batch_refusal.BatchRefusal.TheVariants as refusal
-use Rattle.cspf_serve.specs.declared.line.Line.{Line}
+use Rattle.cspf_judge.specs.declared.line.JudgeLine.{JudgeLine}
+use Rattle.cspf_judge.specs.LineTexts.{judge_line_text}
+use Rattle.cspf_model.specs.declared.request.Request.{Request}
 use Rattle.cspf_stream.specs.Lines.{refused_batch_line}
-use Rattle.cspf_serve.specs.LineTexts.{line_text}
+use Rattle.cspf_serve.specs.BatchRun.{AreAccepted, IsOneUnfit}
 
 -- the batch after those that are published doesn't fit, as the line says
 pub record IsUnfitBehind (batches published : List NumberedChanges) (line : List ℕ) : Type 0 where
@@ -19,6 +21,11 @@ pub record IsUnfitBehind (batches published : List NumberedChanges) (line : List
   pub is_line : line ≡ refused_batch_line batch.number (refusal.Unfit why)
 
 -- the batches are published, or else those before the first one that doesn't fit, as a line says
-abbrev pub ArePublishedOrRefused : List NumberedChanges → List NumberedChanges → Option Line → Type 0
+abbrev pub ArePublishedOrRefused : List NumberedChanges → List NumberedChanges → Option JudgeLine → Type 0
 ArePublishedOrRefused batches published None = published ≡ batches
-ArePublishedOrRefused batches published (Some line) = IsUnfitBehind batches published (line_text line)
+ArePublishedOrRefused batches published (Some line) = IsUnfitBehind batches published (judge_line_text line)
+
+-- all batches are accepted and the requests answered, or one of the batches doesn't fit
+abbrev pub IsAcceptedOrUnfit : List NumberedChanges → List Request → List ℕ → ℕ → Type 0
+IsAcceptedOrUnfit batches requests lines status =
+    (AreAccepted batches requests lines × (status ≡ 0)) ⊎ (IsOneUnfit batches lines × (status ≡ 2))

@@ -7,7 +7,14 @@ use Rattle.cspf_serve.specs.declared.streams.error.RunError.TheVariants.{Memory,
 use Rattle.cspf_work.specs.declared.serve_error.ServeError.{ServeError}
 use Rattle.cspf_work.specs.declared.serve_error.ServeError.TheVariants.{Unaccounted}
 use Rattle.cspf_work.specs.Served.{IsFaultOfWorker}
-use Rattle.cspf_serve.specs.BatchRun.{AreBatchesOf}
+use Rattle.cspf_judge.specs.Inputs.{AreBatchesOf}
+use Rattle.cspf_judge.specs.declared.early_end.JudgeError.{JudgeError}
+use Rattle.cspf_judge.specs.declared.early_end.JudgeError.TheVariants as judge_error
+
+-- each error of a journal, requests or replies keeps its name
+abbrev pub judged_error_of : JudgeError → RunError
+judged_error_of judge_error.Memory = Memory
+judged_error_of judge_error.Device = Device
 
 -- memory was refused, or a read or a write failed
 abbrev pub IsStreamFault : RunError → Type 0
@@ -23,9 +30,9 @@ IsAnsweringFault IsStray e =
     ((fault : ServeError) × (e ≡ Serve fault) × IsFaultOfWorker fault)
     ⊎ ((index : ℕ) × (version : ℕ) × (e ≡ Serve (Unaccounted index version)) × IsStray index version)
 
--- the streams, the opening of a publisher or the answers end a run
+-- the streams, a publisher without memory or the answers end a run
 abbrev pub IsRunFault : (ℕ → ℕ → Type 0) → RunError → Type 0
-IsRunFault IsStray e = IsStreamFault e ⊎ (IsOpeningFault e ⊎ IsAnsweringFault IsStray e)
+IsRunFault IsStray e = IsStreamFault e ⊎ IsAnsweringFault IsStray e
 
 -- a request of the stream is answered at a version above the number of the journal's batches
 abbrev pub IsStrayInBatchRun : Bool → Option (List ℕ) → Option (List ℕ) → ℕ → ℕ → Type 0

@@ -1,6 +1,6 @@
 -- The result of a run over updates and clients: one list of published batches. The updates make it,
 -- the journal has it, and every client is answered from it.
-use Rattle.std.specs.Prelude.{◌≡◌, ℕ, ◌+◌, ◌⊎◌, Bool, Option, List, [], All, Result, Err, MatchResult}
+use Rattle.std.specs.Prelude.{◌≡◌, ℕ, ◌+◌, ◌<◌, ◌⊎◌, Bool, Option, List, [], length, All, Result, Err, MatchResult}
 use Rattle.std.specs.List.{AllZip}
 use Rattle.std.specs.Option.{option_map}
 use Rattle.std.specs.Io.KnownBytes.{Appends, Keeps}
@@ -68,8 +68,8 @@ IsUpdatesRun ended all t old new =
 
 -- A client was run, from before the first row of its requests until it learnt all batches that were
 -- published in the end. The batches that it knew after its last row are a prefix of these, so each
--- of its replies is the best answer at a published version. A client that knew more, which no run
--- shows, ends as `Ahead`.
+-- of its replies is the best answer at a published version. Or it knew more batches after its last row
+-- than were published in the end, which no run shows, and ends as `Ahead`.
 pub record IsServedClient {Q V : Type 0} (bytes : Q → Option (List ℕ)) (contents : V → Option (List ℕ)) (published : List NumberedChanges) (client : Client Q V) (served : ServedClient V) : Type 0 where
   pub before : ServingState Q V
   pub after : ServingState Q V
@@ -79,7 +79,9 @@ pub record IsServedClient {Q V : Type 0} (bytes : Q → Option (List ℕ)) (cont
   pub run : IsClientRun bytes contents before after
   pub replies : served.replies ≡ after.replies
   pub refused : served.refused ≡ after.state.refused
-  pub end : ((served.end ≡ after.end) × BeginsWith published after.state.known.batches) ⊎ (served.end ≡ Err Ahead)
+  pub end :
+      ((served.end ≡ after.end) × BeginsWith published after.state.known.batches)
+      ⊎ ((served.end ≡ Err Ahead) × (length published < length after.state.known.batches))
 
 -- no row and no batch was refused on any stream, and no change was left open
 pub record IsAllAccepted {V : Type 0} (t : UpdatesState) (clients : List (ServedClient V)) : Type 0 where

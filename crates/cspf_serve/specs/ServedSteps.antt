@@ -47,8 +47,10 @@ pub record IsRunOn {Q V : Type 0} (bytes : Q → Option (List ℕ)) (contents : 
   pub run : IsClientRun bytes contents old new
   pub known : AreFirstOf new.state.known old.state.known
 
--- the result of a client that has learnt all published batches
+-- the result of a client that has learnt all published batches, or knew more
 pub record IsServedEnd {Q V : Type 0} (published : List NumberedChanges) (c : ServingState Q V) (served : ServedClient V) : Type 0 where
   pub replies : served.replies ≡ c.replies
   pub refused : served.refused ≡ c.state.refused
-  pub end : ((served.end ≡ c.end) × BeginsWith published c.state.known.batches) ⊎ (served.end ≡ Err Ahead)
+  pub end :
+      ((served.end ≡ c.end) × BeginsWith published c.state.known.batches)
+      ⊎ ((served.end ≡ Err Ahead) × (length published < length c.state.known.batches))

@@ -6,26 +6,20 @@
 //! publishes batches, each written to the journal first, while workers answer requests:
 //! `specs/LiveRun.antt` defines the lines and the journal of a live run. `serving` publishes
 //! updates as they come in while clients ask. `specs/Updates.antt` defines the answers to updates,
-//! and `specs/ServedRun.antt` the result of a whole run. `audits` judges replies by a journal and
-//! requests: `specs/AuditRun.antt` says what is written of them. `snapshots` writes the batches
-//! that make a journal's last database from nothing: `specs/SnapshotRun.antt` says what is written
-//! of a journal. `streams` has what these share, and `specs/RunFaults.antt` says which errors end
-//! them.
+//! and `specs/ServedRun.antt` the result of a whole run. `streams` has what these share, and
+//! `specs/RunFaults.antt` says which errors end them.
 //!
-//! The run over one stream of rows is that of `cspf_solve`, the workers are those of `cspf_work` and
-//! the audit that of `cspf_audit`. Their names stand here too.
+//! The run over one stream of rows is that of `cspf_solve`, the workers are those of `cspf_work`,
+//! and audit and snapshot those of `cspf_judge`. Their names stand here too.
 #![tactic(auto)]
 
-mod apply_words;
-mod audits;
 mod batch;
+mod judging;
 mod line;
 mod live;
 mod serving;
-mod snapshots;
 mod streams;
 
-pub use audits::run_audit;
 pub use batch::{lines_of_a_script, run_batch};
 pub use cspf_audit::{Audit, AuditError, AuditFault, audit};
 pub use cspf_client::{Client, ClientError, Replies, ServedClient};
@@ -39,7 +33,7 @@ pub use cspf_work::{
     Answers, Drawer, Gate, Live, MOST_REQUESTS, NoGate, ServeError, answer_all, answer_latest,
     run_live,
 };
+pub use judging::{run_audit, run_snapshot};
 pub use live::run_live_rows;
 pub use serving::{Served, run_serve};
-pub use snapshots::run_snapshot;
 pub use streams::RunError;

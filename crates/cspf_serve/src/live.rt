@@ -1,5 +1,6 @@
 //! Batches are published over a journal while workers answer requests.
 
+mod inputs;
 mod live_run;
 
 pub use live_run::run_live_rows;

@@ -1,5 +1,4 @@
 pub mod FullBatches
-pub mod KeyOrder
 pub mod Parts
 pub mod RouterCounts
 pub mod OwnChanges

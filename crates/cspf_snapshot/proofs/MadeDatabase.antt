@@ -11,7 +11,7 @@ use Rattle.cspf_model.specs.declared.batch.Change.TheVariants.{Put}
 use Rattle.cspf_model.specs.Database.{Database, Key, key_of, link_at, AreLinksOf, AreAtTheirKeys}
 use Rattle.cspf_model.specs.Changes.{no_links, after_change, after_changes}
 use Rattle.cspf_snapshot.specs.Snapshots.{marking, changes_making, AreMarksOf}
-use Rattle.cspf_snapshot.proofs.KeyOrder.{keys_total, keys_antisymmetric}
+use Rattle.cspf_model.proofs.Databases.Keys.{keys_total, keys_antisymmetric}
 use Rattle.cspf_snapshot.proofs.Parts.{AreOwnChanges, none_is_part, part_after, has_link_after, has_link_put}
 
 -- each link that is put is there after all changes

@@ -8,7 +8,7 @@ use Rattle.cspf_model.specs.declared.link.Link.{Link}
 use Rattle.cspf_model.specs.Database.{Database, Key, key_of, key_cmp, IsLinkOf, HaveOwnKeys}
 use Rattle.cspf_model.specs.Changes.{change_key_cmp, link_key, mark_key, key_changed}
 use Rattle.cspf_snapshot.specs.Snapshots.{marking, changes_making}
-use Rattle.cspf_snapshot.proofs.KeyOrder.{link_apart, mark_below_apart}
+use Rattle.cspf_model.proofs.Databases.Keys.{link_apart}
 use Rattle.cspf_snapshot.proofs.Parts.{AreOwnChanges}
 
 -- changes that mark routers are any database's own
@@ -21,6 +21,11 @@ pub own_changes : (d : Database) (links : List Link) (marks : List ℕ)
     → AllByRecursion (IsLinkOf d) links → AreOwnChanges d (changes_making links marks)
 own_changes d [] marks each = own_marks d marks
 own_changes d (l ∷ links) marks each = (each.0, own_changes d links marks each.1)
+
+-- the key of a router below another does not tie with its key
+mark_below_apart : (router other : ℕ) → nat_cmp router other ≡ Less
+    → eq_by_cmp change_key_cmp (mark_key router) (mark_key other) ≡ false
+mark_below_apart router other below = rw below refl
 
 -- the key of a router below others does not tie with theirs
 apart_above : (router : ℕ) (marks : List ℕ)

@@ -10,7 +10,7 @@ use Rattle.cspf_model.specs.declared.batch.Change.{Change}
 use Rattle.cspf_model.specs.declared.batch.Change.TheVariants.{Put, Remove, Node}
 use Rattle.cspf_model.specs.Database.{Database, Key, key_of, key_cmp, link_at, IsLinkOf, AreAtTheirKeys, link_count, mark_count}
 use Rattle.cspf_model.specs.Changes.{no_links, marks_after, after_change, after_changes}
-use Rattle.cspf_snapshot.proofs.KeyOrder.{keys_total, keys_same, key_itself}
+use Rattle.cspf_model.proofs.Databases.Keys.{keys_total, keys_same, key_itself}
 
 -- each link of one database is at the same key of the other
 abbrev pub IsPartOf : Database → Database → Type 0

@@ -1,6 +1,7 @@
 ghost use Rattle.std.specs.Prelude.{◌≡◌};
 ghost use Rattle.cspf_snapshot.specs.declared.replay_error.ReplayError.TheVariants as replay_error;
 
+use cspf_db::UnfitBatch;
 use cspf_model::Refusal;
 use std::alloc::AllocError;
 use thiserror::Error;
@@ -19,6 +20,15 @@ pub enum ReplayError {
         /// Why it doesn't fit.
         refusal: Refusal,
     },
+}
+
+impl From<UnfitBatch> for ReplayError {
+    ghost from_gives = { λ unfit error. error ≡ replay_error.Refused unfit.number unfit.refusal };
+
+    fn from(unfit: UnfitBatch) -> ReplayError {
+        let UnfitBatch { number, refusal } = unfit;
+        ReplayError::Refused { number, refusal }
+    }
 }
 
 impl From<AllocError> for ReplayError {

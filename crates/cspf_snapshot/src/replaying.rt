@@ -3,7 +3,7 @@ ghost use Rattle.cspf_model.specs.Changes.{AreLawful, database_after};
 ghost use Rattle.cspf_snapshot.specs.Replays.{IsReplayError};
 
 use crate::ReplayError;
-use cspf_db::{Table, UnfitBatch, replay_into};
+use cspf_db::{Table, replay_into};
 use cspf_model::Batch;
 use std::alloc::Global;
 
@@ -15,8 +15,6 @@ pub fn replay(alloc: Global, batches: &[Batch]) -> Result<Table, ReplayError>
     ensures err { IfErr result (IsReplayError batches.now) }
 {
     let mut table = Table::new(alloc)?;
-    match replay_into(&mut table, batches) {
-        Ok(()) => Ok(table),
-        Err(UnfitBatch { number, refusal }) => Err(ReplayError::Refused { number, refusal }),
-    }
+    replay_into(&mut table, batches)?;
+    Ok(table)
 }

@@ -1,18 +1,39 @@
 -- A batch that is refused isn't accepted.
-use Rattle.std.proofs.Common.{◌≢◌, ℕ, ◌+◌, ◌≤◌, length, arith}
-use Rattle.cspf_model.specs.Changes.{Fits}
-use Rattle.cspf_solve.specs.Script.{RunState, IsAccepted, current_version, current_database, open_batch}
+use Rattle.std.proofs.Common.{◌≡◌, ◌≢◌, ℕ, ◌+◌, ◌≤◌, Bool, true, false, length, sym, ◌∙◌, arith}
+use Rattle.std.proofs.lemmas.Bool.{false≢true}
+use Rattle.cspf_model.specs.Laws.{RefusedIsUnfit}
+use Rattle.cspf_model.specs.Refusals.{IsRefusal}
+use Rattle.cspf_model.specs.declared.refusal.Refusal.{Refusal}
+use Rattle.cspf_stream.specs.EndRows.{IsRightEnd, IsWrongEnd}
+use Rattle.cspf_stream.specs.declared.batch_refusal.BatchRefusal.{BatchRefusal}
+use Rattle.cspf_stream.specs.declared.batch_refusal.BatchRefusal.TheVariants as refusal
+use Rattle.cspf_solve.specs.Script.{RunState, IsAccepted, IsBatchRefusal, current_version, current_database, open_batch}
 
-pub not_exhausted : (s : RunState) (number count : ℕ) → 1000000 ≤ current_version s → ¬ IsAccepted s number count
-not_exhausted s number count full = λ a. omega (arith, a.room)
+-- the batch isn't accepted, for this reason
+abbrev pub IsKept : RunState → ℕ → ℕ → BatchRefusal → Type 0
+IsKept s number count why = (¬ IsAccepted s number count) × IsBatchRefusal s number count why
 
-pub not_numbered : (s : RunState) (number count : ℕ) → number ≢ current_version s + 1 → ¬ IsAccepted s number count
-not_numbered s number count other = λ a. other a.next
+-- an end row that isn't right
+pub wrong_end : (s : RunState) (stopped : Bool) (version number count changes : ℕ) (why : BatchRefusal) → stopped ≡ false → version ≡ current_version s → changes ≡ length s.changes
+    → IsWrongEnd stopped version number count changes why → IsKept s number count why
+wrong_end s stopped version number count changes refusal.Stopped going is_version is_count wrong = absurd (false≢true (sym going ∙ wrong))
+wrong_end s stopped version number count changes refusal.Exhausted going is_version is_count wrong = (λ a. omega (arith, a.room, is_version, wrong.1), omega (arith, is_version, wrong.1))
+wrong_end s stopped version number count changes (refusal.WrongNumber expected) going is_version is_count wrong = (
+  λ a. wrong.2 (omega (arith, a.next, is_version)),
+  (omega (arith, is_version, wrong.1), λ e. wrong.2 (omega (arith, e, is_version)), omega (arith, is_version, wrong.3)),
+)
+wrong_end s stopped version number count changes (refusal.WrongCount counted) going is_version is_count wrong = (
+  λ a. wrong.3 (a.counted ∙ sym is_count),
+  (omega (arith, is_version, wrong.1), omega (arith, is_version, wrong.2), λ e. wrong.3 (e ∙ sym is_count), wrong.4 ∙ is_count),
+)
+wrong_end s stopped version number count changes (refusal.Unfit why) going is_version is_count wrong = absurd wrong
+wrong_end s stopped version number count changes refusal.Memory going is_version is_count wrong = absurd wrong
+wrong_end s stopped version number count changes (refusal.Journal written) going is_version is_count wrong = absurd wrong
 
-pub not_counted : (s : RunState) (number count : ℕ) → count ≢ length s.changes → ¬ IsAccepted s number count
-not_counted s number count other = λ a. other a.counted
-
-pub not_fitting : (s : RunState) (number count : ℕ) → ¬ Fits (current_database s) (open_batch s number) → ¬ IsAccepted s number count
-not_fitting s number count unfit = λ a. unfit a.fits
-
-pub ruleset refused = (not_exhausted, not_numbered, not_counted)
+-- a batch that doesn't fit
+pub unfit_end : RefusedIsUnfit → (s : RunState) (stopped : Bool) (version number count changes : ℕ) (why : Refusal) → version ≡ current_version s → changes ≡ length s.changes
+    → IsRightEnd stopped version number count changes → IsRefusal (current_database s) (open_batch s number) why → IsKept s number count (refusal.Unfit why)
+unfit_end unfit s stopped version number count changes why is_version is_count right is = (
+  λ a. unfit (current_database s) (open_batch s number) why is a.fits,
+  (omega (arith, is_version, right.room), omega (arith, is_version, right.next), right.counted ∙ is_count, is),
+)

@@ -19,6 +19,12 @@ SameReply l s m t = (l ≡ m) × (s ≡ t)
 
 refusal_once : OneRefusal → (s : RunState) (number count : ℕ) (why other : BatchRefusal)
     → IsBatchRefusal s number count why → IsBatchRefusal s number count other → why ≡ other
+refusal_once one s number count refusal.Stopped other a b = absurd a
+refusal_once one s number count refusal.Memory other a b = absurd a
+refusal_once one s number count (refusal.Journal written) other a b = absurd a
+refusal_once one s number count why refusal.Stopped a b = absurd b
+refusal_once one s number count why refusal.Memory a b = absurd b
+refusal_once one s number count why (refusal.Journal written) a b = absurd b
 refusal_once one s number count refusal.Exhausted refusal.Exhausted a b = refl
 refusal_once one s number count refusal.Exhausted (refusal.WrongNumber e) a b = absurd (omega (arith, a, b.0))
 refusal_once one s number count refusal.Exhausted (refusal.WrongCount k) a b = absurd (omega (arith, a, b.0))

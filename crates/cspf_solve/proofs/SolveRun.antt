@@ -18,7 +18,7 @@ use Rattle.cspf_solve.specs.declared.error.SolveError.{SolveError}
 use Rattle.cspf_solve.specs.declared.error.SolveError.TheVariants as solve_error
 use Rattle.cspf_solve.specs.Script.{RunState, start, at_next_row, IsRowAnswered, AreRowsAnswered, IsSolveRun, is_too_many, last_line, summary_of}
 use Rattle.cspf_solve.specs.OutputAtError.{IsBegunByRows, IsNextText, IsOutputAtError}
-use Rattle.cspf_solve.specs.SolverStates.{KeepsRun, AreCounted, IsAnsweredBySolver, IsPast, IsEndCut}
+use Rattle.cspf_solve.specs.SolverStates.{KeepsRun, AreCounted, IsAnsweredBySolver, IsPast, IsEndCut, end_after_rows}
 use Rattle.cspf_solve.proofs.RowCounts.{counted_rows}
 
 abbrev Rows : Type 0
@@ -81,7 +81,7 @@ whole_split None done is = tt
 whole_split (Some all) done is = is ∙ sym (append-nil done)
 
 module _ (all left : Option (List (List (List ℕ)))) (old new : Option (List ℕ)) (k k' : Solver) (bytes : ℕ) (fresh : KeepsRun k start) where
-  pub has_run : AreFirstRowsAnswered SolverAnswers 1000000 bytes all k k' old new → HasRun all old new k' bytes false
+  has_run : AreFirstRowsAnswered SolverAnswers 1000000 bytes all k k' old new → HasRun all old new k' bytes false
   has_run a =
       let c = carried 1 k k' start a.whole.done a.whole.lines fresh a.whole.answered in
       record {
@@ -97,33 +97,22 @@ module _ (all left : Option (List (List (List ℕ)))) (old new : Option (List �
         past = (refl, a.few);
       }
 
-  pub has_more : HasMoreRows SolverAnswers 1000000 bytes all k k' old new → HasRun all old new k' bytes true
+  has_more : HasMoreRows SolverAnswers 1000000 bytes all k k' old new → HasRun all old new k' bytes true
   has_more a =
-      let c = carried 1 k k' start a.done a.lines fresh a.answered in
+      let m = a.more in
+      let c = carried 1 k k' start m.done m.lines fresh m.answered in
       record {
-        done = a.done;
-        rest = a.fields ∷ a.rest;
+        done = m.done;
+        rest = m.fields ∷ m.rest;
         state = c.0;
-        out = a.lines;
+        out = m.lines;
         answered = c.2;
         kept = c.1;
-        text = a.written;
+        text = m.written;
         size = a.size;
-        split = a.split;
-        past = (omega arith, a.count);
+        split = m.split;
+        past = (omega arith, m.count);
       }
-
-  pub ok_run : (r : Result (Unit {0}) StreamError) (x : Unit {0}) (limit : ℕ) → r ≡ Ok x → limit ≡ 1000000 → OnOk r (AreFirstRowsAnswered SolverAnswers limit bytes all k k' old new)
-      → HasRun all old new k' bytes false
-  ok_run (Ok y) x limit is most a = has_run (rw most at a)
-  ok_run (Err why) x limit is most a = absurd cc
-
--- the stream stopped by this error
-pub stop_at : (all left : Option (List (List (List ℕ)))) (old new : Option (List ℕ)) (k k' : Solver) (bytes : ℕ) (failed : Bool) (r : Result (Unit {0}) StreamError) (why : StreamError) (limit : ℕ)
-    → r ≡ Err why → limit ≡ 1000000 → IfErr r (λ e. HasStoppedAfter SolverAnswers SolverFails limit false bytes e all left failed k k' old new)
-    → HasStoppedAfter SolverAnswers SolverFails 1000000 false bytes why all left failed k k' old new
-stop_at all left old new k k' bytes failed (Ok x) why limit is most a = absurd cc
-stop_at all left old new k k' bytes failed (Err e) why limit is most a = let same : e ≡ why = cc in rw (same, most) at a
 
 pub counted_run : (all : Option (List (List (List ℕ)))) (old new : Option (List ℕ)) (solver : Solver) (bytes : ℕ) (too_many : Bool)
     → HasRun all old new solver bytes too_many → AreCounted solver
@@ -229,26 +218,44 @@ module _ (all left : Option (List (List (List ℕ)))) (old new : Option (List �
       let c = carried 1 k k' start a.between.done a.between.lines fresh a.between.answered in
       by_rows all a.between.done a.between.rest old new c.0 a.between.lines a.between.split a.few c.2 a.between.written
 
-  pub stops_in_memory : (failed : Bool) → HasStoppedAfter SolverAnswers SolverFails 1000000 false bytes stream_error.Memory all left failed k k' old new → IsHalted all old new solve_error.Memory
+  stops_in_memory : (failed : Bool) → HasStoppedAfter SolverAnswers SolverFails 1000000 false bytes stream_error.Memory all left failed k k' old new → IsHalted all old new solve_error.Memory
   stops_in_memory failed (inl a) = between a.1
   stops_in_memory failed (inr a) =
       let c = carried 1 k a.before start a.done a.lines fresh a.answered in
-      by_rows all a.done (a.fields ∷ a.rest) old new c.0 a.lines (in_row_split all left a.done a.rest a.fields a.split) (omega (arith, a.few)) c.2
-      (Appends-kept old a.mid new a.lines a.written a.stops.1)
+      by_rows all a.done (a.fields ∷ a.rest) old new c.0 a.lines (in_row_split all left a.done a.rest a.fields a.split) (omega (arith, a.stops.0)) c.2
+      (Appends-kept old a.mid new a.lines a.written a.stops.1.1)
 
-  pub stops_at_read : (failed : Bool) → HasStoppedAfter SolverAnswers SolverFails 1000000 false bytes stream_error.Read all left failed k k' old new → IsHalted all old new solve_error.Read
-  stops_at_read failed a = between a.1
-
-  pub stops_at_write : (failed : Bool) → HasStoppedAfter SolverAnswers SolverFails 1000000 false bytes stream_error.Write all left failed k k' old new → IsHalted all old new (solve_error.Write bytes)
+  stops_at_write : (failed : Bool) → HasStoppedAfter SolverAnswers SolverFails 1000000 false bytes stream_error.Write all left failed k k' old new → IsHalted all old new (solve_error.Write bytes)
   stops_at_write failed a =
       let c = carried 1 k a.before start a.done a.lines fresh a.answered in
-      let step = a.stops.2 c.0 c.1 in
-      cut_off all a.done (a.fields ∷ a.rest) old a.mid new c.0 a.lines a.stops.0 a.stops.1 (length a.lines) bytes (in_row_split all left a.done a.rest a.fields a.split)
-      (omega (arith, a.few)) c.2 (inl (a.few, step.0, step.2)) a.stops.3 a.written a.stops.4 refl a.stops.5
+      let stop = a.stops.1 in
+      let step = stop.2 c.0 c.1 in
+      cut_off all a.done (a.fields ∷ a.rest) old a.mid new c.0 a.lines stop.0 stop.1 (length a.lines) bytes (in_row_split all left a.done a.rest a.fields a.split)
+      (omega (arith, a.stops.0)) c.2 (inl (a.stops.0, step.0, step.2)) stop.3 a.written stop.4 refl stop.5
 
   -- nothing is flushed
-  pub no_flush : (failed : Bool) → HasStoppedAfter SolverAnswers SolverFails 1000000 false bytes stream_error.Flush all left failed k k' old new → ⊥
-  no_flush failed a = false≢true a.stops.2
+  no_flush : (failed : Bool) → HasStoppedAfter SolverAnswers SolverFails 1000000 false bytes stream_error.Flush all left failed k k' old new → ⊥
+  no_flush failed a = false≢true a.stops.1.2
+
+  -- the end of the rows: all that are read are answered, or the run stops
+  abbrev pub IsRowsEnd : Bool → Result Bool SolveError → Type 0
+  IsRowsEnd failed (Ok too_many) = HasRun all old new k' bytes too_many
+  IsRowsEnd failed (Err error) = IsHalted all old new error × (error ≡ solve_error.Read → failed ≡ true)
+
+  rows_end : (failed : Bool) (ended : Result (Unit {0}) StreamError) → OnOk ended (AreFirstRowsAnswered SolverAnswers 1000000 bytes all k k' old new)
+      → IfErr ended (λ e. HasStoppedAfter SolverAnswers SolverFails 1000000 false bytes e all left failed k k' old new) → IsRowsEnd failed (end_after_rows bytes ended)
+  rows_end failed (Ok x) whole stopped = has_run all left old new k k' bytes fresh whole
+  rows_end failed (Err stream_error.TooManyRows) whole stopped = has_more all left old new k k' bytes fresh stopped
+  rows_end failed (Err stream_error.Memory) whole stopped = (stops_in_memory failed stopped, λ e. absurd (cc e))
+  rows_end failed (Err stream_error.Read) whole stopped = (between stopped.1, λ e. stopped.0)
+  rows_end failed (Err stream_error.Write) whole stopped = (stops_at_write failed stopped, λ e. absurd (cc e))
+  rows_end failed (Err stream_error.Flush) whole stopped = absurd (no_flush failed stopped)
+
+  pub rows_end_at : (failed : Bool) (limit : ℕ) (ended : Result (Unit {0}) StreamError) (r : Result Bool SolveError) → limit ≡ 1000000
+      → OnOk ended (AreFirstRowsAnswered SolverAnswers limit bytes all k k' old new)
+      → IfErr ended (λ e. HasStoppedAfter SolverAnswers SolverFails limit false bytes e all left failed k k' old new) → end_after_rows bytes ended ≡ r → IsRowsEnd failed r
+  rows_end_at failed limit ended r most whole stopped is =
+      subst (λ (x : Result Bool SolveError). IsRowsEnd failed x) is (rows_end failed ended (rw most at whole) (rw most at stopped))
 
 end_next : (done rest : Rows) (s : RunState) (too_many : Bool) → IsPast too_many (length done) rest → IsNextText done s rest (last_line too_many s.changes)
 end_next done [] s false past = refl

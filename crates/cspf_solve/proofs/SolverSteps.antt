@@ -1,82 +1,124 @@
--- The state after the answer to a row.
-use Rattle.std.proofs.Common.{◌≡◌, ℕ, ◌+◌, List, [], ◌∷◌, ◌++◌, length, length-append, Ok, refl, sym, ap, ◌∙◌, arith}
-use Rattle.cspf_model.specs.Changes.{after_changes}
-use Rattle.cspf_model.specs.Laws.{OneMoreBatch}
-use Rattle.cspf_stream.specs.OpenChanges.{AreOpen}
-use Rattle.cspf_stream.specs.declared.open_changes.OpenChanges.{OpenChanges}
-use Rattle.cspf_stream.specs.declared.step.Step.TheVariants as step
-use Rattle.cspf_stream.proofs.RowsOfSteps.{row_with}
-use Rattle.cspf_solve.specs.declared.solver.Solver.{Solver}
+-- The state of a run after the answer to a row.
+use Rattle.std.proofs.Common.{◌≡◌, ◌≢◌, ℕ, ◌+◌, false, List, [], ◌∷◌, ◌++◌, length, length-append, Result, Ok, Err, inl, inr, refl, sym, ap, subst, ◌∙◌, arith}
+use Rattle.cspf_model.specs.Changes.{database_after}
+use Rattle.cspf_model.specs.Laws.{OneMoreBatch, RefusedIsUnfit}
 use Rattle.cspf_model.specs.declared.batch.Change.{Change}
 use Rattle.cspf_model.specs.declared.batch.Change.TheVariants as change
-use Rattle.cspf_solve.specs.Script.{RunState, at_next_row, after_refused_row, after_reply, after_batch, after_change_row, open_batch, IsAccepted, IsRowAnswered}
+use Rattle.cspf_rows.specs.declared.row.Row.{Row}
+use Rattle.cspf_rows.specs.declared.row.Row.TheVariants as row
+use Rattle.cspf_rows.specs.declared.row_error.RowError.{RowError}
+use Rattle.cspf_stream.specs.OpenChanges.{AreOpen}
+use Rattle.cspf_stream.specs.RowsTaken.{RowsState, KeepsRows, RowsLead, IsEndAccepted, IsEndRefused, IsBatchDropped, IsRowTaken}
+use Rattle.cspf_stream.specs.declared.batch_refusal.BatchRefusal.{BatchRefusal}
+use Rattle.cspf_solve.specs.declared.solver.Solver.{Solver}
+use Rattle.cspf_solve.specs.declared.table_sink.TableSink.{TableSink}
+use Rattle.cspf_solve.specs.Script.{RunState, at_next_row, after_refused_row, after_change_row, after_reply, after_batch, after_refused_batch, open_batch, IsAccepted, IsBatchRefusal, IsEndAnswered, IsRowAnswered}
 use Rattle.cspf_solve.specs.SolverStates.{KeepsRun}
-use Rattle.std.proofs.lemmas.List.{take_all}
+use Rattle.cspf_solve.specs.TableSinks.{table_spec}
+use Rattle.cspf_solve.proofs.BatchRefusals.{wrong_end, unfit_end}
 
--- the counts of rows, answers and refusals, where they are those of the state
-keeps_counts : (old : Solver) (s : RunState) (rows rows' answers answers' refused refused' : ℕ) → KeepsRun old s → rows ≡ rows' → answers ≡ answers' → refused ≡ refused'
-    → KeepsRun (record old { rows = rows; answers = answers; refused = refused }) (record s { rows = rows'; answers = answers'; refused = refused' })
-keeps_counts old s rows rows' answers answers' refused refused' kept same_rows same_answers same_refused = record {
-  table = kept.table;
-  changes = kept.changes;
-  rows = same_rows;
-  version = kept.version;
-  answers = same_answers;
-  refused = same_refused;
-}
+-- the table has the batches that a run has accepted, and the changes are those that are open
+pub record IsOfRun (r : RowsState TableSink) (s : RunState) : Type 0 where
+  pub table : r.sink.table ≡ database_after s.accepted
+  pub version : r.sink.version ≡ length s.accepted
+  pub changes : r.changes ≡ s.changes
+  pub answers : r.answers ≡ s.answers
+  pub refused : r.refused ≡ s.refused
 
--- one more
-one_more : (m n : ℕ) → m ≡ n → m + 1 ≡ n + 1
-one_more m n same = ap (λ k. k + 1) same
+-- an answer to the row at which a run is, after which it is of this state
+abbrev Answered : RunState → (RunState → Type 0) → RowsState TableSink → Type 0
+Answered s Says t = (after : RunState) × IsOfRun t after × Says after × (after.rows ≡ s.rows)
 
-pub keeps_next : (old : Solver) (s : RunState) → KeepsRun old s → KeepsRun (record old { rows = old.rows + 1 }) (at_next_row s)
-keeps_next old s kept =
-    keeps_counts old s (old.rows + 1) (s.rows + 1) old.answers s.answers old.refused s.refused kept (one_more old.rows s.rows kept.rows) kept.answers kept.refused
+module _ (more : OneMoreBatch) (unfit : RefusedIsUnfit) (r t : RowsState TableSink) (s : RunState) (of : IsOfRun r s) (number count : ℕ) (line : List ℕ) where
+  accepted : IsEndAccepted table_spec r number count line t → Answered s (IsEndAnswered s number count line) t
+  accepted a =
+      let right = a.taken.0 in
+      let takes = a.taken.1 in
+      let longer : length (s.accepted ++ (open_batch s number ∷ [])) ≡ length s.accepted + 1 = length-append s.accepted (open_batch s number ∷ []) in (
+        after_batch s number,
+        record {
+          table = ap (λ (x : TableSink). x.table) takes.1 ∙ rw (of.table, of.changes) (sym (more s.accepted (open_batch s number)));
+          version = ap (λ (x : TableSink). x.version) takes.1 ∙ ap (λ n. n + 1) of.version ∙ sym longer;
+          changes = ap (λ (x : RowsState TableSink). x.changes) a.after;
+          answers = ap (λ (x : RowsState TableSink). x.answers) a.after ∙ of.answers;
+          refused = ap (λ (x : RowsState TableSink). x.refused) a.after ∙ of.refused;
+        },
+        inl (
+          record {
+            room = omega (arith, of.version, right.room);
+            next = omega (arith, of.version, right.next);
+            counted = right.counted ∙ ap length of.changes;
+            fits = rw (of.table, of.changes) at takes.0;
+          },
+          a.line_is,
+          refl,
+        ),
+        refl,
+      )
 
-pub keeps_refused : (old : Solver) (s : RunState) → KeepsRun old s
-    → KeepsRun (record old { rows = old.rows + 1; refused = old.refused + 1 }) (after_refused_row (at_next_row s))
-keeps_refused old s kept =
-    keeps_counts old s (old.rows + 1) (s.rows + 1) old.answers s.answers (old.refused + 1) (s.refused + 1) kept
-    (one_more old.rows s.rows kept.rows) kept.answers (one_more old.refused s.refused kept.refused)
+  why_dropped : (why : BatchRefusal) (sink : TableSink) → IsBatchDropped table_spec r.sink number count r.changes why sink
+      → (¬ IsAccepted s number count) × IsBatchRefusal s number count why × (sink ≡ r.sink)
+  why_dropped why sink (inl wrong) =
+      let is = wrong_end s false r.sink.version number count (length r.changes) why refl of.version (ap length of.changes) wrong.0 in
+      (is.0, is.1, wrong.1)
+  why_dropped why sink (inr (right, refuses)) =
+      let is = unfit_end unfit s false r.sink.version number count (length r.changes) refuses.0 of.version (ap length of.changes) right (rw (of.table, of.changes) at refuses.2) in
+      (is.0, rw refuses.1 is.1, refuses.3)
 
-pub keeps_replied : (old : Solver) (s : RunState) → KeepsRun old s
-    → KeepsRun (record old { answers = old.answers + 1 }) (after_reply s)
-keeps_replied old s kept =
-    keeps_counts old s old.rows s.rows (old.answers + 1) (s.answers + 1) old.refused s.refused kept kept.rows (one_more old.answers s.answers kept.answers) kept.refused
+  refused : IsEndRefused table_spec r number count line t → Answered s (IsEndAnswered s number count line) t
+  refused a =
+      let d = why_dropped a.why t.sink a.dropped in (
+        after_refused_batch s,
+        record {
+          table = ap (λ (x : TableSink). x.table) d.2 ∙ of.table;
+          version = ap (λ (x : TableSink). x.version) d.2 ∙ of.version;
+          changes = ap (λ (x : RowsState TableSink). x.changes) a.after;
+          answers = ap (λ (x : RowsState TableSink). x.answers) a.after ∙ of.answers;
+          refused = ap (λ (x : RowsState TableSink). x.refused) a.after ∙ ap (λ n. n + 1) of.refused;
+        },
+        inr (a.why, d.0, d.1, a.line_is, refl),
+        refl,
+      )
 
 -- one more open change
-pub keeps_changed : (old : Solver) (s : RunState) (changes : OpenChanges) (c : Change) → KeepsRun old s → AreOpen changes (s.changes ++ c ∷ [])
-    → KeepsRun (record old { changes = changes }) (after_change_row s c)
-keeps_changed old s changes c kept opened = record {
-  table = kept.table;
-  changes = opened;
-  rows = kept.rows;
-  version = kept.version;
-  answers = kept.answers;
-  refused = kept.refused;
-}
+changed : (r : RowsState TableSink) (s : RunState) (c : Change) → IsOfRun r s → IsOfRun (record r { changes = r.changes ++ c ∷ [] }) (after_change_row s c)
+changed r s c of = record { table = of.table; version = of.version; changes = ap (λ cs. cs ++ c ∷ []) of.changes; answers = of.answers; refused = of.refused }
 
--- the changes that are kept are all where a batch of all is accepted
-pub all_kept : (old : Solver) (s : RunState) (number count : ℕ) → KeepsRun old s → IsAccepted s number count → old.changes.batch.changes ≡ s.changes
-all_kept old s number count kept accepted = kept.changes.changes ∙ take_all 4097 s.changes (omega (arith, accepted.fits.short))
+row_refused : (r : RowsState TableSink) (s : RunState) → IsOfRun r s → IsOfRun (record r { refused = r.refused + 1 }) (after_refused_row s)
+row_refused r s of = record { table = of.table; version = of.version; changes = of.changes; answers = of.answers; refused = ap (λ n. n + 1) of.refused }
 
--- the state that is kept after a batch is the one after its acceptance
-pub keeps_batch : OneMoreBatch → (old new : Solver) (s : RunState) (number count : ℕ) → KeepsRun old s → IsAccepted s number count
-    → new.table ≡ after_changes old.table old.changes.batch.changes → new.version ≡ number → AreOpen new.changes []
-    → new.rows ≡ old.rows → new.answers ≡ old.answers → new.refused ≡ old.refused → KeepsRun new (after_batch s number)
-keeps_batch more old new s number count kept accepted table version none rows answers refused =
-    let longer : length (s.accepted ++ (open_batch s number ∷ [])) ≡ length s.accepted + 1 = length-append s.accepted (open_batch s number ∷ []) in
-    record {
-      table = table ∙ rw (kept.table, all_kept old s number count kept accepted) (sym (more s.accepted (open_batch s number)));
-      changes = none;
-      rows = rows ∙ kept.rows;
-      version = version ∙ accepted.next ∙ sym longer;
-      answers = answers ∙ kept.answers;
-      refused = refused ∙ kept.refused;
-    }
+replied : (r : RowsState TableSink) (s : RunState) → IsOfRun r s → IsOfRun (record r { answers = r.answers + 1 }) (after_reply s)
+replied r s of = record { table = of.table; version = of.version; changes = of.changes; answers = ap (λ n. n + 1) of.answers; refused = of.refused }
 
--- the answer to a row with one more change
-pub change_answered : (s : RunState) (c : Change) (line : List ℕ) → line ≡ [] → IsRowAnswered s (Ok (row_with (step.Change c))) line (after_change_row s c)
-change_answered s (change.Put link) line none = (none, refl)
-change_answered s (change.Remove from local) line none = (none, refl)
-change_answered s (change.Node router transit) line none = (none, refl)
+row_taken : OneMoreBatch → RefusedIsUnfit → (r t : RowsState TableSink) (s : RunState) (row : Result Row RowError) (line : List ℕ) → IsOfRun r s → IsRowTaken table_spec s.rows r row line t
+    → Answered s (IsRowAnswered s row line) t
+row_taken more unfit r t s (Err error) line of a = (after_refused_row s, rw a.1 (row_refused r s of), (a.0, refl), refl)
+row_taken more unfit r t s (Ok (row.Put link)) line of a = (after_change_row s (change.Put link), rw a.1 (changed r s (change.Put link) of), (a.0, refl), refl)
+row_taken more unfit r t s (Ok (row.Remove from local)) line of a = (after_change_row s (change.Remove from local), rw a.1 (changed r s (change.Remove from local) of), (a.0, refl), refl)
+row_taken more unfit r t s (Ok (row.Node router transit)) line of a = (after_change_row s (change.Node router transit), rw a.1 (changed r s (change.Node router transit) of), (a.0, refl), refl)
+row_taken more unfit r t s (Ok (row.End number count)) line of (inl a) = accepted more unfit r t s of number count line a
+row_taken more unfit r t s (Ok (row.End number count)) line of (inr a) = refused more unfit r t s of number count line a
+row_taken more unfit r t s (Ok (row.Ask q)) line of a =
+    (after_reply s, rw a.1 (replied r s of), (a.0.0, rw of.table at a.0.1, rw of.version at a.0.2, refl), refl)
+
+-- the solver answers a row as its rows take it
+pub run_row : OneMoreBatch → RefusedIsUnfit → (k k' : Solver) (row : Result Row RowError) (line : List ℕ) → k'.read ≡ k.read + 1
+    → RowsLead k.rows k'.rows (λ r t. IsRowTaken table_spec (k.read + 1) r row line t)
+    → (s : RunState) → KeepsRun k s → (after : RunState) × KeepsRun k' after × IsRowAnswered (at_next_row s) row line after
+run_row more unfit k k' row line read lead s kept =
+    let r : RowsState TableSink = record { sink = k.rows.sink; changes = s.changes; answers = k.rows.answers; refused = k.rows.refused } in
+    let led = lead r (record { sink = refl; changes = kept.changes; answers = refl; refused = refl }) in
+    let place : k.read + 1 ≡ s.rows + 1 = ap (λ n. n + 1) kept.rows in
+    let of : IsOfRun r (at_next_row s) = record { table = kept.table; version = kept.version; changes = refl; answers = kept.answers; refused = kept.refused } in
+    let a = row_taken more unfit r led.0 (at_next_row s) row line of (rw place at led.2) in (
+      a.0,
+      record {
+        table = ap (λ (x : TableSink). x.table) led.1.sink ∙ a.1.table;
+        changes = subst (λ cs. AreOpen k'.rows.changes cs) a.1.changes led.1.changes;
+        rows = read ∙ place ∙ sym a.3;
+        version = ap (λ (x : TableSink). x.version) led.1.sink ∙ a.1.version;
+        answers = led.1.answers ∙ a.1.answers;
+        refused = led.1.refused ∙ a.1.refused;
+      },
+      a.2,
+    )

@@ -4,3 +4,4 @@ pub mod OutputAtError
 pub mod SolveLaws
 pub mod SolverStates
 pub mod Status
+pub mod TableSinks

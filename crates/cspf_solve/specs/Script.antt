@@ -84,8 +84,9 @@ pub record IsAccepted (s : RunState) (number count : ℕ) : Type 0 where
   pub fits : Fits (current_database s) (open_batch s number)
 
 -- Why the open changes are refused as the batch with this number and this count: the first of these
--- that applies.
+-- that applies. A run has no journal, and it ends where memory is refused.
 abbrev pub IsBatchRefusal : RunState → ℕ → ℕ → BatchRefusal → Type 0
+IsBatchRefusal s number count refusal.Stopped = ⊥
 IsBatchRefusal s number count refusal.Exhausted = MOST_VERSIONS ≤ current_version s
 IsBatchRefusal s number count (refusal.WrongNumber expected) =
     (current_version s < MOST_VERSIONS) × (number ≢ current_version s + 1) × (expected ≡ current_version s + 1)
@@ -94,6 +95,8 @@ IsBatchRefusal s number count (refusal.WrongCount counted) =
 IsBatchRefusal s number count (refusal.Unfit why) =
     (current_version s < MOST_VERSIONS) × (number ≡ current_version s + 1) × (count ≡ length s.changes)
     × IsRefusal (current_database s) (open_batch s number) why
+IsBatchRefusal s number count refusal.Memory = ⊥
+IsBatchRefusal s number count (refusal.Journal written) = ⊥
 
 -- an end row is answered by the version that its batch makes, or by the refusal of the batch
 abbrev pub IsEndAnswered : RunState → ℕ → ℕ → List ℕ → RunState → Type 0

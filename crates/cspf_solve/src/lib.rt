@@ -10,6 +10,7 @@ mod laws;
 mod solve_run;
 mod solver;
 mod summary;
+mod table_sink;
 
 pub use error::SolveError;
 pub use laws::{rows_have_one_reply, runs_go_on_row_by_row, stops_at_a_prefix};

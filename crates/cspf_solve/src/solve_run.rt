@@ -7,7 +7,7 @@ ghost use Rattle.cspf_rows.specs.Records.{rows_of, rows_left, IsPlain};
 ghost use Rattle.cspf_solve.specs.declared.error.SolveError.TheVariants.{Read as IsRead};
 ghost use Rattle.cspf_solve.specs.Script.{RunState, start, IsSolveRun, IsScript, last_line, summary_of};
 ghost use Rattle.cspf_solve.specs.OutputAtError.{IsOutputAtError};
-ghost use Rattle.cspf_solve.specs.SolverStates.{KeepsRun, AreCounted, IsEndCut};
+ghost use Rattle.cspf_solve.specs.SolverStates.{KeepsRun, AreCounted, IsEndCut, end_after_rows};
 
 use crate::{SolveError, Solver, Summary};
 use cspf_rows::{MOST_ROWS, open_records, put_all};
@@ -60,14 +60,21 @@ fn solve_rows<R: Read, W: Write>(
 {
     let limit = u64::from(MOST_ROWS);
     let (written, ended) = answer_first_rows(&(), alloc, limit, rows, writer, solver);
+    let too_many = end_after_rows(written, ended)?;
+    finish(alloc, solver, writer, written, too_many)
+}
+
+/// How the rows end, after `written` bytes: whether there are more than are read, or why the run
+/// stops there.
+fn end_after_rows(written: u128, ended: Result<(), StreamError>) -> Result<bool, SolveError>
+    ensures { result ≡ end_after_rows written ended }
+{
     match ended {
-        Ok(()) => finish(alloc, solver, writer, written, false),
-        Err(StreamError::TooManyRows) => finish(alloc, solver, writer, written, true),
+        Ok(()) => Ok(false),
+        Err(StreamError::TooManyRows) => Ok(true),
         Err(StreamError::Memory) => Err(SolveError::Memory),
         Err(StreamError::Read) => Err(SolveError::Read),
-        Err(StreamError::Write) => Err(SolveError::Write { written }),
-        // Nothing is flushed.
-        Err(StreamError::Flush) => unreachable!(),
+        Err(StreamError::Write | StreamError::Flush) => Err(SolveError::Write { written }),
     }
 }
 

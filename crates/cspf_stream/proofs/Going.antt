@@ -188,11 +188,10 @@ module _ {S : Type 0} (answers : AnswersOf S) where
             lines = going.lines;
             before = t;
             mid = mid;
-            few = omega (arith, going.count, few);
             split = split;
             answered = going.answered;
             written = going.written;
-            stops = stops;
+            stops = (omega (arith, going.count, few), stops);
           }
 
           go : (error : StreamError) → IsRowStoppedAfter answers fails flush (length going.lines) after error (suc (length going.done)) (row_of fields) t u mid new
@@ -206,14 +205,16 @@ module _ {S : Type 0} (answers : AnswersOf S) where
       -- one row more than the limit allows
       pub too_many : (failed : Bool) → read ≡ limit → Takes left next true fields → HasStoppedAfter answers fails limit flush bytes stream_error.TooManyRows all next failed s t old mid
       too_many failed most takes = record {
-        done = going.done;
-        fields = fields;
-        rest = rest_of next;
-        lines = going.lines;
-        count = going.count ∙ most;
-        split = first_of all next going.done fields (split_rest all next going.done fields (split_next all left next going.done fields going.split takes));
-        answered = going.answered;
-        written = going.written;
+        more = record {
+          done = going.done;
+          fields = fields;
+          rest = rest_of next;
+          lines = going.lines;
+          count = going.count ∙ most;
+          split = first_of all next going.done fields (split_rest all next going.done fields (split_next all left next going.done fields going.split takes));
+          answered = going.answered;
+          written = going.written;
+        };
         size = going.size;
       }
 
@@ -239,7 +240,7 @@ module _ {S : Type 0} (answers : AnswersOf S) (fails : FailsOf S) (bytes : ℕ) 
     split = a.split;
     answered = a.answered;
     written = a.written;
-    stops = row_stopped flush (length a.lines) bytes why (suc (length a.done)) a.fields a.before a.mid a.stops;
+    stops = row_stopped flush (length a.lines) bytes why (suc (length a.done)) a.fields a.before a.mid a.stops.1;
   }
 
   stopped : (flush : Bool) (why : StreamError) → HasStoppedAfter answers fails MOST_STREAM_ROWS flush bytes why all left failed s t old new
@@ -249,16 +250,7 @@ module _ {S : Type 0} (answers : AnswersOf S) (fails : FailsOf S) (bytes : ℕ) 
   stopped flush stream_error.Read a = (a.0, a.1.between)
   stopped flush stream_error.Write a = in_row flush MOST_STREAM_ROWS stream_error.Write a
   stopped flush stream_error.Flush a = in_row flush MOST_STREAM_ROWS stream_error.Flush a
-  stopped flush stream_error.TooManyRows a = record {
-    done = a.done;
-    fields = a.fields;
-    rest = a.rest;
-    lines = a.lines;
-    count = a.count;
-    split = a.split;
-    answered = a.answered;
-    written = a.written;
-  }
+  stopped flush stream_error.TooManyRows a = a.more
 
   pub all_answered : {T : Type 0} (r : Result T StreamError) (limit : ℕ) → OnOk r (AreFirstRowsAnswered answers limit bytes all s t old new) → OnOk r (AreAllAnswered answers all s t old new)
   all_answered (Ok x) limit a = a.whole

@@ -2,3 +2,4 @@
 pub mod Going
 pub mod KeptChanges
 pub mod RowsOfSteps
+pub mod RowSteps

@@ -17,7 +17,10 @@ unfit_words unfit.TooManyMarks = codes "marks"
 
 -- the words of a refusal
 abbrev pub batch_words : BatchRefusal → List ℕ
+batch_words refusal.Stopped = codes "stopped"
 batch_words refusal.Exhausted = codes "exhausted"
 batch_words (refusal.WrongNumber expected) = codes "expected " ++ decimal expected
 batch_words (refusal.WrongCount counted) = codes "counted " ++ decimal counted
 batch_words (refusal.Unfit why) = unfit_words why
+batch_words refusal.Memory = codes "memory"
+batch_words (refusal.Journal written) = codes "journal " ++ decimal written

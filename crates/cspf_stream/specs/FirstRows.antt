@@ -1,13 +1,13 @@
 -- What is answered and written of the first rows of a stream, within a limit, and how many bytes that
 -- is.
-use Rattle.std.specs.Prelude.{◌≡◌, ℕ, suc, ◌+◌, ◌<◌, ◌≤◌, ◌⊎◌, Bool, true, List, ◌∷◌, ◌++◌, take, length, Option, Some, Result, IfSome}
+use Rattle.std.specs.Prelude.{◌≡◌, ℕ, suc, ◌+◌, ◌<◌, ◌≤◌, ◌⊎◌, Bool, true, List, take, length, Option, Result}
 use Rattle.std.specs.Io.KnownBytes.{Appends}
 use Rattle.std.specs.Io.KnownBytes as known
 use Rattle.cspf_rows.specs.Rows.{row_of}
 use Rattle.cspf_rows.specs.declared.row.Row.{Row}
 use Rattle.cspf_rows.specs.declared.row_error.RowError.{RowError}
-use Rattle.cspf_stream.specs.RowAnswers.{AnswersOf, AreAnswered, AreAllAnswered}
-use Rattle.cspf_stream.specs.StreamStops.{FailsOf, StopsBetween}
+use Rattle.cspf_stream.specs.RowAnswers.{AnswersOf, AreAllAnswered}
+use Rattle.cspf_stream.specs.StreamStops.{FailsOf, StopsBetween, StopsAtRow, HasMoreThan}
 use Rattle.cspf_stream.specs.declared.error.StreamError.{StreamError}
 use Rattle.cspf_stream.specs.declared.error.StreamError.TheVariants as error
 
@@ -44,31 +44,16 @@ pub record StopsAfterRows {S : Type 0} (answers : AnswersOf S) (limit bytes : �
   pub few : length between.done ≤ limit
   pub size : length between.lines ≡ bytes
 
--- The stream stops in a row, before which fewer rows than the limit are answered.
-pub record StopsInRowAfter {S : Type 0} (answers : AnswersOf S) (fails : FailsOf S) (limit : ℕ) (flush : Bool) (bytes : ℕ) (error : StreamError) (all left : Option (List (List (List ℕ)))) (s t : S) (old new : Option (List ℕ)) : Type 0 where
-  pub done : List (List (List ℕ))
-  pub fields : List (List ℕ)
-  pub rest : List (List (List ℕ))
-  pub lines : List ℕ
-  pub before : S
-  pub mid : Option (List ℕ)
-  pub few : length done < limit
-  pub split : IfSome all (λ rows. (rows ≡ done ++ (fields ∷ rest)) × (left ≡ Some rest))
-  pub answered : AreAnswered answers 1 s done lines before
-  pub written : Appends old mid lines
-  pub stops : IsRowStoppedAfter answers fails flush (length lines) bytes error (suc (length done)) (row_of fields) before t mid new
+-- the stream stops in a row, before which fewer rows than the limit are answered
+abbrev pub StopsInRowAfter : {S : Type 0} → AnswersOf S → FailsOf S → ℕ → Bool → ℕ → StreamError → Option (List (List (List ℕ))) → Option (List (List (List ℕ))) → S → S → Option (List ℕ) → Option (List ℕ) → Type 0
+StopsInRowAfter answers fails limit flush bytes error all left s t old new =
+    StopsAtRow answers (λ done lines fields before mid. (length done < limit)
+    × IsRowStoppedAfter answers fails flush (length lines) bytes error (suc (length done)) (row_of fields) before t mid new) all left s old
 
--- As many rows as the limit allows are answered. There is one more row.
+-- as many rows as the limit allows are answered, and there is one more
 pub record HasMoreRows {S : Type 0} (answers : AnswersOf S) (limit bytes : ℕ) (all : Option (List (List (List ℕ)))) (s t : S) (old new : Option (List ℕ)) : Type 0 where
-  pub done : List (List (List ℕ))
-  pub fields : List (List ℕ)
-  pub rest : List (List (List ℕ))
-  pub lines : List ℕ
-  pub count : length done ≡ limit
-  pub split : IfSome all (λ rows. rows ≡ done ++ (fields ∷ rest))
-  pub answered : AreAnswered answers 1 s done lines t
-  pub written : Appends old new lines
-  pub size : length lines ≡ bytes
+  pub more : HasMoreThan answers limit all s t old new
+  pub size : length more.lines ≡ bytes
 
 -- the state where the first rows of a stream stop, as in `HasStopped`
 abbrev pub HasStoppedAfter : {S : Type 0} → AnswersOf S → FailsOf S → ℕ → Bool → ℕ → StreamError → Option (List (List (List ℕ))) → Option (List (List (List ℕ))) → Bool → S → S → Option (List ℕ) → Option (List ℕ) → Type 0

@@ -43,9 +43,10 @@ pub record StopsBetween {S : Type 0} (answers : AnswersOf S) (all : Option (List
   pub answered : AreAnswered answers 1 s done lines t
   pub written : Appends old new lines
 
--- The stream stops in a row: a prefix of the rows is answered, and their lines are written. The
--- next row stops the stream, and no row after it was read.
-pub record StopsInRow {S : Type 0} (answers : AnswersOf S) (fails : FailsOf S) (error : StreamError) (all left : Option (List (List (List ℕ)))) (s t : S) (old new : Option (List ℕ)) : Type 0 where
+-- A prefix of the rows is answered, and their lines are written. The next row stops the stream as this
+-- says of those rows, their lines, its fields, and the state and the writer before it. No row after it
+-- was read.
+pub record StopsAtRow {S : Type 0} (answers : AnswersOf S) (Stops : List (List (List ℕ)) → List ℕ → List (List ℕ) → S → Option (List ℕ) → Type 0) (all left : Option (List (List (List ℕ)))) (s : S) (old : Option (List ℕ)) : Type 0 where
   pub done : List (List (List ℕ))
   pub fields : List (List ℕ)
   pub rest : List (List (List ℕ))
@@ -55,15 +56,20 @@ pub record StopsInRow {S : Type 0} (answers : AnswersOf S) (fails : FailsOf S) (
   pub split : IfSome all (λ rows. (rows ≡ done ++ (fields ∷ rest)) × (left ≡ Some rest))
   pub answered : AreAnswered answers 1 s done lines before
   pub written : Appends old mid lines
-  pub stops : IsRowStopped answers fails error (suc (length done)) (row_of fields) before t mid new
+  pub stops : Stops done lines fields before mid
 
--- All rows that can be counted are answered, and their lines are written. There is one more row.
-pub record HasTooMany {S : Type 0} (answers : AnswersOf S) (all : Option (List (List (List ℕ)))) (s t : S) (old new : Option (List ℕ)) : Type 0 where
+-- the stream stops in a row
+abbrev pub StopsInRow : {S : Type 0} → AnswersOf S → FailsOf S → StreamError → Option (List (List (List ℕ))) → Option (List (List (List ℕ))) → S → S → Option (List ℕ) → Option (List ℕ) → Type 0
+StopsInRow answers fails error all left s t old new =
+    StopsAtRow answers (λ done lines fields before mid. IsRowStopped answers fails error (suc (length done)) (row_of fields) before t mid new) all left s old
+
+-- As many rows as this are answered, and their lines are written. There is one more row.
+pub record HasMoreThan {S : Type 0} (answers : AnswersOf S) (limit : ℕ) (all : Option (List (List (List ℕ)))) (s t : S) (old new : Option (List ℕ)) : Type 0 where
   pub done : List (List (List ℕ))
   pub fields : List (List ℕ)
   pub rest : List (List (List ℕ))
   pub lines : List ℕ
-  pub count : length done ≡ MOST_STREAM_ROWS
+  pub count : length done ≡ limit
   pub split : IfSome all (λ rows. rows ≡ done ++ (fields ∷ rest))
   pub answered : AreAnswered answers 1 s done lines t
   pub written : Appends old new lines
@@ -76,4 +82,4 @@ HasStopped answers fails error.Memory all left failed s t old new =
 HasStopped answers fails error.Read all left failed s t old new = (failed ≡ true) × StopsBetween answers all s t old new
 HasStopped answers fails error.Write all left failed s t old new = StopsInRow answers fails error.Write all left s t old new
 HasStopped answers fails error.Flush all left failed s t old new = StopsInRow answers fails error.Flush all left s t old new
-HasStopped answers fails error.TooManyRows all left failed s t old new = HasTooMany answers all s t old new
+HasStopped answers fails error.TooManyRows all left failed s t old new = HasMoreThan answers MOST_STREAM_ROWS all s t old new

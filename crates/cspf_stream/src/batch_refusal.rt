@@ -5,6 +5,8 @@ use std::fmt;
 /// Why a batch is refused.
 #[derive(Clone, Copy, Debug, PartialEq, Eq)]
 pub enum BatchRefusal {
+    /// The journal has failed: no batch is accepted any more.
+    Stopped,
     /// The version is 1,000,000.
     Exhausted,
     /// Another number than the next version.
@@ -19,6 +21,13 @@ pub enum BatchRefusal {
     },
     /// The batch doesn't fit the database.
     Unfit(Refusal),
+    /// Memory was refused.
+    Memory,
+    /// The journal failed in the text of the batch.
+    Journal {
+        /// How many bytes of the text were written.
+        written: usize,
+    },
 }
 
 impl fmt::Display for BatchRefusal {
@@ -29,6 +38,7 @@ impl fmt::Display for BatchRefusal {
 
     fn fmt<W: fmt::Write>(&self, f: &mut fmt::Formatter<W>) -> fmt::Result {
         match self {
+            BatchRefusal::Stopped => f.write_str("stopped"),
             BatchRefusal::Exhausted => f.write_str("exhausted"),
             BatchRefusal::WrongNumber { expected } => write!(f, "expected {expected}"),
             BatchRefusal::WrongCount { counted } => write!(f, "counted {counted}"),
@@ -38,6 +48,8 @@ impl fmt::Display for BatchRefusal {
             BatchRefusal::Unfit(Refusal::Full) => f.write_str("full"),
             BatchRefusal::Unfit(Refusal::TooManyRouters) => f.write_str("routers"),
             BatchRefusal::Unfit(Refusal::TooManyMarks) => f.write_str("marks"),
+            BatchRefusal::Memory => f.write_str("memory"),
+            BatchRefusal::Journal { written } => write!(f, "journal {written}"),
         }
     }
 }

@@ -4,7 +4,8 @@ ghost use Rattle.std.specs.Prelude.{◌≡◌, ◌+◌, ◌<◌, ◌≤◌, ◌�
 ghost use Rattle.cspf_model.specs.Changes.{database_after};
 ghost use Rattle.cspf_publish.specs.declared.limits.TheConstants.{MOST_ASKERS};
 ghost use Rattle.cspf_serve.specs.BatchRun.{AreReplies};
-ghost use Rattle.cspf_serve.specs.EarlyEnds.{Writes, IsErrorOfPart};
+ghost use Rattle.cspf_judge.specs.EarlyEnds.{Writes};
+ghost use Rattle.cspf_serve.specs.EarlyEnds.{IsErrorOfPart};
 ghost use Rattle.cspf_serve.specs.RunFaults.{IsStreamFault, IsAnsweringFault};
 ghost use Rattle.cspf_work.specs.declared.limits.TheConstants.{MOST_REQUESTS};
 
@@ -68,6 +69,7 @@ pub(super) fn answer_in_parts<J: Write, W: Write, G: Gate + Sync, T: Threads + S
 }
 
 /// Answers the requests from this index on, writes their lines, and hands the askers back.
+#[tactic(auto, using(crate::proofs::StreamFaults::judged))]
 fn answer_from<J: Write, W: Write, G: Gate + Sync, T: Threads + Sync>(
     rt: &T,
     alloc: Global,

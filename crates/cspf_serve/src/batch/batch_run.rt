@@ -6,10 +6,12 @@ ghost use Rattle.cspf_model.specs.Numbered.{NumberedChanges};
 ghost use Rattle.cspf_rows.specs.Records.{rows_of};
 ghost use Rattle.cspf_solve.specs.declared.summary.Summary.{Summary as Counts};
 ghost use Rattle.cspf_solve.specs.Script.{IsSolveRun};
-ghost use Rattle.cspf_serve.specs.BatchRun.{AreAccepted, IsOneUnfit, IsBatchRun};
+ghost use Rattle.cspf_judge.specs.EarlyEnds.{IfRefused, Writes};
+ghost use Rattle.cspf_judge.specs.Inputs.{AreBatchesOf, AreRequestsOf};
+ghost use Rattle.cspf_serve.specs.BatchRun.{IsBatchRun};
 ghost use Rattle.cspf_serve.specs.BatchLaws.{IsCleanJournal};
-ghost use Rattle.cspf_serve.specs.EarlyEnds.{IfRefused, IfFailed, Writes, WritesAllBut};
-ghost use Rattle.cspf_serve.specs.PublishedBatches.{ArePublishedOrRefused};
+ghost use Rattle.cspf_serve.specs.EarlyEnds.{AreStreamsRefused};
+ghost use Rattle.cspf_serve.specs.PublishedBatches.{ArePublishedOrRefused, IsAcceptedOrUnfit};
 ghost use Rattle.cspf_serve.specs.RunFaults.{IsStreamFault, IsAnsweringFault, IsBatchFault};
 ghost use Rattle.cspf_publish.specs.declared.limits.TheConstants.{MOST_ASKERS};
 ghost use Rattle.cspf_rows.specs.declared.limits.TheConstants.{MOST_ROWS};
@@ -19,12 +21,10 @@ use crate::batch::answering::answer_in_parts;
 use crate::batch::laws::lines_of_a_script;
 use crate::batch::publishing::publish_journal;
 use crate::batch::versions::write_versions;
-use crate::line::Line;
-use crate::streams::early_end::EarlyEnd;
-use crate::streams::input::requests_of;
 use crate::streams::opening::open_for;
-use crate::streams::output::refuse;
+use crate::streams::refusing::refuse;
 use crate::{Gate, RunError};
+use cspf_judge::{EarlyEnd, JudgeLine, put_line, requests_of};
 use cspf_model::Request;
 use cspf_publish::{Asker, Publisher};
 use std::alloc::Global;
@@ -110,10 +110,7 @@ fn answer<R: Read + Drop, Q: Read + Drop, W: Write, G: Gate + Sync, T: Threads +
             let lent = &mut publisher;
             let done = answer_lent(rt, alloc, lent, askers, streams, writer, gate);
             publisher.close(rt);
-            match done {
-                Ok(()) => Ok(0),
-                Err(end) => refuse(alloc, end, writer),
-            }
+            done
         }
         Err((error, _journal)) => Err(error),
     }
@@ -121,12 +118,12 @@ fn answer<R: Read + Drop, Q: Read + Drop, W: Write, G: Gate + Sync, T: Threads +
 
 /// Publishes the batches of a journal and answers requests, with a borrowed publisher.
 fn answer_lent<
+    T: Threads + Wait + Sync,
     J: Write,
     R: Read + Drop,
     Q: Read + Drop,
     W: Write,
     G: Gate + Sync,
-    T: Threads + Wait + Sync,
 >(
     rt: &T,
     alloc: Global,
@@ -135,20 +132,52 @@ fn answer_lent<
     streams: Streams<R, Q>,
     writer: &mut W,
     gate: &G,
-) -> Result<(), EarlyEnd>
+) -> Result<u8, RunError>
     requires fresh { (publisher.old.batches ≡ []) × (publisher.old.stopped ≡ false) }
     requires askers { (0 < vec_len askers) × (vec_len askers ≤ MOST_ASKERS) }
     requires source { All (λ a. a.source ≡ publisher.old.source) askers.items }
-    ensures ok { OnOk result (IfSome (R.remaining streams.journal) (λ kept.
+    ensures error { IfErr result (IsBatchFault streams.accept_torn
+        (R.remaining streams.journal) (Q.remaining streams.requests)) }
+    ensures whole { IfOk result (λ status. IfSome (R.remaining streams.journal) (λ kept.
         IfSome (Q.remaining streams.requests) (λ asked.
         Writes (W.contents writer.old) (W.contents writer.new) (λ lines.
-        IsBatchRun streams.accept_torn (rows_of kept) (rows_of asked) lines 0)))) }
+        IsBatchRun streams.accept_torn (rows_of kept) (rows_of asked) lines status)))) }
+{
+    match publish_and_read(rt, alloc, streams, publisher) {
+        Ok(ReadStreams { unfit, requests }) => {
+            answer_read(rt, alloc, unfit, publisher, askers, &requests, writer, gate)
+        }
+        Err(end) => refuse(alloc, end, writer),
+    }
+}
+
+/// What was read of the inputs of a run.
+#[derive(Drop)]
+struct ReadStreams {
+    /// The line of the first batch that doesn't fit.
+    unfit: Option<JudgeLine>,
+    requests: Vec<Request>,
+}
+
+/// Publishes the batches of a journal, and then reads the requests.
+fn publish_and_read<J: Write, R: Read + Drop, Q: Read + Drop, T: Wait>(
+    rt: &T,
+    alloc: Global,
+    streams: Streams<R, Q>,
+    publisher: &mut Publisher<J>,
+) -> Result<ReadStreams, EarlyEnd>
+    requires fresh { (publisher.old.batches ≡ []) × (publisher.old.stopped ≡ false) }
+    ensures source { publisher.new.source ≡ publisher.old.source }
+    ensures published { IfOk result (λ read. IfSome (R.remaining streams.journal) (λ bytes.
+        (batches : List NumberedChanges)
+        × AreBatchesOf streams.accept_torn (rows_of bytes) batches
+        × ArePublishedOrRefused batches publisher.new.batches read.unfit)) }
+    ensures requests { IfOk result (λ read. IfSome (Q.remaining streams.requests) (λ bytes.
+        AreRequestsOf (rows_of bytes) read.requests.items)) }
+    ensures most { IfOk result (λ read. length read.requests.items ≤ MOST_REQUESTS) }
     ensures err { IfErr result (λ end. IfRefused end (λ line.
         IfSome (R.remaining streams.journal) (λ kept. IfSome (Q.remaining streams.requests)
-        (λ asked. WritesAllBut line (W.contents writer.old) (W.contents writer.new) (λ lines.
-        IsBatchRun streams.accept_torn (rows_of kept) (rows_of asked) lines 2))))) }
-    ensures failed { IfErr result (λ end. IfFailed end (IsBatchFault streams.accept_torn
-        (R.remaining streams.journal) (Q.remaining streams.requests))) }
+        (λ asked. AreStreamsRefused streams.accept_torn (rows_of kept) (rows_of asked) line)))) }
 {
     let Streams {
         journal,
@@ -156,44 +185,44 @@ fn answer_lent<
         accept_torn,
     } = streams;
     let unfit = publish_journal(rt, alloc, journal, accept_torn, publisher)?;
-    let asked = requests_of(alloc, requests)?;
-    answer_read(rt, alloc, publisher, askers, unfit, &asked, writer, gate)
+    let requests = requests_of(alloc, requests)?;
+    Ok(ReadStreams { unfit, requests })
 }
 
 /// Writes the versions that are published, and then the line of the batch that doesn't fit, or
-/// answers requests where all fit.
+/// answers requests where all fit. Returns the status.
+#[tactic(auto, using(crate::proofs::StreamFaults::judged))]
 fn answer_read<J: Write, W: Write, G: Gate + Sync, T: Threads + Sync>(
     rt: &T,
     alloc: Global,
+    unfit: Option<JudgeLine>,
     publisher: &mut Publisher<J>,
     askers: Vec<Asker>,
-    unfit: Option<Line>,
     requests: &[Request],
     writer: &mut W,
     gate: &G,
-) -> Result<(), EarlyEnd>
+) -> Result<u8, RunError>
+    requires requests { length requests.now ≤ MOST_REQUESTS }
     requires askers { (0 < vec_len askers) × (vec_len askers ≤ MOST_ASKERS) }
     requires source { All (λ a. a.source ≡ publisher.old.source) askers.items }
-    requires requests { length requests.now ≤ MOST_REQUESTS }
-    ensures ok { OnOk result ((batches : List NumberedChanges)
+    ensures whole { IfOk result (λ status. (batches : List NumberedChanges)
         → ArePublishedOrRefused batches publisher.old.batches unfit
-        → Writes (W.contents writer.old) (W.contents writer.new)
-        (AreAccepted batches requests.now)) }
-    ensures err { IfErr result (λ end. IfRefused end (λ line. (batches : List NumberedChanges)
-        → ArePublishedOrRefused batches publisher.old.batches unfit
-        → WritesAllBut line (W.contents writer.old) (W.contents writer.new)
-        (IsOneUnfit batches))) }
-    ensures failed { IfErr result (λ end. IfFailed end (λ e. IsStreamFault e
+        → Writes (W.contents writer.old) (W.contents writer.new) (λ lines.
+        IsAcceptedOrUnfit batches requests.now lines status)) }
+    ensures error { IfErr result (λ e. IsStreamFault e
         ⊎ IsAnsweringFault (λ index version. (index < length requests.now)
         × ((batches : List NumberedChanges) → ArePublishedOrRefused batches publisher.old.batches unfit
-        → length batches < version)) e)) }
+        → length batches < version)) e) }
 {
     write_versions(alloc, publisher.version(), writer)?;
     match unfit {
-        Some(line) => Err(EarlyEnd::Refused(line)),
+        Some(line) => {
+            put_line(alloc, line, writer)?;
+            Ok(2)
+        }
         None => {
             answer_in_parts(rt, alloc, publisher, askers, requests, writer, gate)?;
-            Ok(())
+            Ok(0)
         }
     }
 }

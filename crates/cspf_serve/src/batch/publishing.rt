@@ -5,15 +5,12 @@ ghost use Rattle.cspf_model.specs.Numbered.{NumberedChanges, AreNumberedFrom};
 ghost use Rattle.cspf_model.specs.declared.limits.TheConstants.{MOST_VERSIONS};
 ghost use Rattle.cspf_rows.specs.GivenBatches.{CanRead, HasGiven};
 ghost use Rattle.cspf_rows.specs.Records.{rows_of};
-ghost use Rattle.cspf_serve.specs.BatchRun.{AreBatchesOf, IsJournalRefused};
-ghost use Rattle.cspf_serve.specs.EarlyEnds.{IfRefused, IfFailed, IsOwnFaultLine, IsFaultBeyond, IsPublishingFault};
+ghost use Rattle.cspf_judge.specs.EarlyEnds.{IfRefused, IfFailed};
+ghost use Rattle.cspf_judge.specs.Inputs.{AreBatchesOf, IsJournalRefused};
+ghost use Rattle.cspf_serve.specs.EarlyEnds.{IsOwnFaultLine, IsFaultBeyond, IsPublishingFault};
 ghost use Rattle.cspf_serve.specs.PublishedBatches.{ArePublishedOrRefused};
-ghost use Rattle.cspf_serve.specs.RunFaults.{IsStreamFault};
 
-use crate::RunError;
-use crate::line::Line;
-use crate::streams::early_end::EarlyEnd;
-use crate::streams::input::{accept_rest, journal_end_of};
+use cspf_judge::{EarlyEnd, JudgeError, JudgeLine, accept_rest, journal_end_of};
 use cspf_model::Batch;
 use cspf_publish::{ApplyError, Publisher};
 use cspf_rows::{JournalReader, JournalStep};
@@ -32,7 +29,7 @@ pub(super) fn publish_journal<R: Read + Drop, J: Write, T: Wait>(
     journal: R,
     accept_torn: bool,
     publisher: &mut Publisher<J>,
-) -> Result<Option<Line>, EarlyEnd>
+) -> Result<Option<JudgeLine>, EarlyEnd>
     requires fresh { (publisher.old.batches ≡ []) × (publisher.old.stopped ≡ false) }
     ensures source { publisher.new.source ≡ publisher.old.source }
     ensures ok { IfOk result (λ unfit. IfSome (R.remaining journal) (λ bytes.
@@ -40,7 +37,6 @@ pub(super) fn publish_journal<R: Read + Drop, J: Write, T: Wait>(
         × ArePublishedOrRefused batches publisher.new.batches unfit)) }
     ensures err { IfErr result (λ end. IfRefused end (λ line. IfSome (R.remaining journal)
         (λ bytes. IsJournalRefused accept_torn (rows_of bytes) line))) }
-    ensures failed { IfErr result (λ end. IfFailed end IsStreamFault) }
 {
     let mut journal = JournalReader::new(alloc, journal);
     let mut batch = Batch {
@@ -58,7 +54,7 @@ fn publish_all<R: Read, J: Write, T: Wait>(
     batch: &mut Batch,
     accept_torn: bool,
     publisher: &mut Publisher<J>,
-) -> Result<Option<Line>, EarlyEnd>
+) -> Result<Option<JudgeLine>, EarlyEnd>
     requires can { CanRead journal.old }
     requires fresh { (publisher.old.batches ≡ []) × (publisher.old.stopped ≡ false) }
     ensures source { publisher.new.source ≡ publisher.old.source }
@@ -69,7 +65,6 @@ fn publish_all<R: Read, J: Write, T: Wait>(
     ensures err { IfErr result (λ end. IfRefused end (λ line.
         (all : Option (List (List (List ℕ)))) → HasGiven R.remaining all journal.old []
         → IfSome all (λ rows. IsJournalRefused accept_torn rows line))) }
-    ensures failed { IfErr result (λ end. IfFailed end IsStreamFault) }
 {
     let mut unfit = None;
     let mut count = 0;
@@ -94,9 +89,9 @@ fn publish<J: Write, T: Wait>(
     rt: &T,
     alloc: Global,
     batch: &Batch,
-    unfit: Option<Line>,
+    unfit: Option<JudgeLine>,
     publisher: &mut Publisher<J>,
-) -> Result<Option<Line>, RunError>
+) -> Result<Option<JudgeLine>, JudgeError>
     requires going { unfit ≡ None → publisher.old.stopped ≡ false }
     ensures source { publisher.new.source ≡ publisher.old.source }
     ensures going { result ≡ Ok None → publisher.new.stopped ≡ false }
@@ -128,10 +123,10 @@ fn end_of(number: u32, error: ApplyError) -> EarlyEnd
         ApplyError::Exhausted => BatchRefusal::Exhausted,
         ApplyError::WrongNumber { expected } => BatchRefusal::WrongNumber { expected },
         ApplyError::Refused(why) => BatchRefusal::Unfit(why),
-        ApplyError::Memory => return EarlyEnd::Failed(RunError::Memory),
+        ApplyError::Memory => return EarlyEnd::Failed(JudgeError::Memory),
         ApplyError::Stopped | ApplyError::Journal { .. } => {
-            return EarlyEnd::Failed(RunError::Device);
+            return EarlyEnd::Failed(JudgeError::Device);
         }
     };
-    EarlyEnd::Refused(Line::Stream(StreamLine::RefusedBatch { number, refusal }))
+    EarlyEnd::Refused(JudgeLine::Stream(StreamLine::RefusedBatch { number, refusal }))
 }

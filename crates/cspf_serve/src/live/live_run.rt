@@ -1,13 +1,14 @@
 //! The run of `live`: it publishes updates while workers answer requests, and writes the lines
 //! of both.
 
-ghost use Rattle.std.specs.Prelude.{◌≡◌, ℕ, ◌<◌, ◌≤◌, ◌⊎◌, List, [], length, All, IfOk, IfErr, IfSome, slice_get, vec_len, false};
+ghost use Rattle.std.specs.Prelude.{◌≡◌, ℕ, ◌<◌, ◌≤◌, ◌⊎◌, List, [], length, All, IfOk, IfErr, IfSome, Err, OnOk, slice_get, vec_len, false};
 ghost use Rattle.std.specs.Io.KnownBytes.{Appends};
 ghost use Rattle.cspf_model.specs.Numbered.{AreNumberedFrom};
 ghost use Rattle.cspf_publish.specs.Histories.{IsHistory};
-ghost use Rattle.cspf_rows.specs.Records.{rows_of};
-ghost use Rattle.cspf_serve.specs.EarlyEnds.{Writes};
 ghost use Rattle.cspf_serve.specs.LiveRun.{AreAnsweredLive, IsLiveRun, AreRecordedAtError, IsRecordedAtError};
+ghost use Rattle.cspf_rows.specs.Records.{rows_of};
+ghost use Rattle.cspf_judge.specs.EarlyEnds.{Writes};
+ghost use Rattle.cspf_serve.specs.LineTexts.{line_text};
 ghost use Rattle.cspf_serve.specs.LiveLines.{AreLiveLines, IsFaultShown, last_text, last_status};
 ghost use Rattle.cspf_serve.specs.RunFaults.{IsStreamFault, IsAnsweringFault, IsRunFault, IsLiveFault};
 ghost use Rattle.cspf_model.specs.declared.limits.TheConstants.{MOST_VERSIONS};
@@ -15,11 +16,12 @@ ghost use Rattle.cspf_publish.specs.declared.limits.TheConstants.{MOST_ASKERS};
 ghost use Rattle.cspf_work.specs.declared.limits.TheConstants.{MOST_REQUESTS};
 
 use crate::line::Line;
-use crate::streams::input::{Inputs, inputs_of};
+use crate::live::inputs::{Inputs, inputs_of};
 use crate::streams::opening::open_for;
-use crate::streams::output::{put_line, refuse};
+use crate::streams::refusing::refuse;
 use crate::streams::replies::write_replies;
-use crate::{Gate, Live, RunError, run_live};
+use crate::{Gate, Live, RunError, ServeError, run_live};
+use cspf_judge::{JudgeError, put};
 use cspf_model::{Batch, Request};
 use cspf_publish::{Answer, ApplyError, Asker, Publisher};
 use std::alloc::Global;
@@ -60,7 +62,7 @@ pub fn run_live_rows<
         × IsRecordedAtError (rows_of kept) text
         × Appends (J.contents journal) (J.contents result.1) text)) }
 {
-    let Inputs { batches, requests } = match inputs_of(alloc, updates, requests, false) {
+    let Inputs { batches, requests } = match inputs_of(alloc, updates, requests) {
         Ok(read) => read,
         Err(end) => return (refuse(alloc, end, writer), journal),
     };
@@ -99,41 +101,51 @@ fn answer_opened<J: Write, W: Write, G: Gate + Sync, T: Threads + Wait + Sync>(
         × AreRecordedAtError batches.now text
         × Appends (J.contents publisher.journal) (J.contents result.1) text) }
 {
-    match run_live(rt, alloc, publisher, askers, batches, requests, gate) {
-        Ok(live) => end_live(rt, alloc, live, batches, writer),
+    let ran = run_live(rt, alloc, publisher, askers, batches, requests, gate);
+    end_live(rt, alloc, ran, batches, writer)
+}
+
+/// Writes the lines of the answers and of the applied batches, if there are answers, and closes the
+/// publisher.
+fn end_live<J: Write, W: Write, T: Wait>(
+    rt: &T,
+    alloc: Global,
+    ran: Result<Live<J>, (ServeError, Publisher<J>, Vec<Asker>)>,
+    batches: &[Batch],
+    writer: &mut W,
+) -> (Result<u8, RunError>, J)
+    ensures lines { IfOk ran (λ live. IfOk result.0 (λ status.
+        Writes (W.contents writer.old) (W.contents writer.new)
+        (AreLiveLines live.list.items batches.now (length live.publisher.batches) live.fault
+        status))) }
+    ensures journal { IfOk ran (λ live. result.1 ≡ live.publisher.journal) }
+    ensures history { IfOk ran (λ live. IsHistory live.publisher.batches) }
+    ensures error { IfOk ran (λ live. IfErr result.0 IsStreamFault) }
+    // A worker's fault keeps its name.
+    ensures fault { IfErr ran (λ e. result.0 ≡ Err (RunError.Serve e.0)) }
+    ensures closed { IfErr ran (λ e. result.1 ≡ e.1.journal) }
+{
+    match ran {
+        Ok(
+            Live {
+                publisher,
+                list,
+                drawn: _,
+                askers: _,
+                applied: _,
+                fault,
+            },
+        ) => {
+            let version = publisher.version();
+            let written = write_live(alloc, list.as_slice(), batches, version, fault, writer);
+            (written, publisher.close(rt))
+        }
         Err((error, publisher, _askers)) => (Err(RunError::from(error)), publisher.close(rt)),
     }
 }
 
-/// Writes the lines of the answers and of the applied batches, and closes the publisher.
-fn end_live<J: Write, W: Write, T: Wait>(
-    rt: &T,
-    alloc: Global,
-    live: Live<J>,
-    batches: &[Batch],
-    writer: &mut W,
-) -> (Result<u8, RunError>, J)
-    ensures lines { IfOk result.0 (λ status. Writes (W.contents writer.old) (W.contents writer.new)
-        (AreLiveLines live.list.items batches.now (length live.publisher.batches) live.fault
-        status)) }
-    ensures journal { result.1 ≡ live.publisher.journal }
-    ensures history { IsHistory live.publisher.batches }
-    ensures error { IfErr result.0 IsStreamFault }
-{
-    let Live {
-        publisher,
-        list,
-        drawn: _,
-        askers: _,
-        applied: _,
-        fault,
-    } = live;
-    let version = publisher.version();
-    let written = write_live(alloc, list.as_slice(), batches, version, fault, writer);
-    (written, publisher.close(rt))
-}
-
 /// Writes the lines of a live run, and returns its status.
+#[tactic(auto, using(crate::proofs::StreamFaults::judged))]
 fn write_live<W: Write>(
     alloc: Global,
     answers: &[Answer],
@@ -147,14 +159,23 @@ fn write_live<W: Write>(
     ensures error { IfErr result IsStreamFault }
 {
     write_replies(alloc, answers, writer)?;
-    put_line(alloc, Line::Applied { count: applied }, writer)?;
+    say(alloc, Line::Applied { count: applied }, writer)?;
     match fault_line(batches, applied, fault) {
         Some(line) => {
-            put_line(alloc, line, writer)?;
+            say(alloc, line, writer)?;
             Ok(2)
         }
         None => Ok(0),
     }
+}
+
+/// Writes a line.
+fn say<W: Write>(alloc: Global, line: Line, writer: &mut W) -> Result<(), JudgeError>
+    ensures text { OnOk result (Appends (W.contents writer.old) (W.contents writer.new)
+        (line_text line)) }
+{
+    let bytes = line.bytes(alloc)?;
+    put(&bytes, writer)
 }
 
 /// The line of the batch that wasn't applied, if any.

@@ -1,8 +1,12 @@
+//! Why a run over a publisher stops, and the conversions of the faults that stop it.
+
 ghost use Rattle.std.specs.Prelude.{◌≡◌};
 ghost use Rattle.cspf_serve.specs.ErrorNames.{run_error_of};
+ghost use Rattle.cspf_serve.specs.RunFaults.{judged_error_of};
 ghost use Rattle.cspf_serve.specs.declared.streams.error.RunError.TheVariants as run_error;
 
 use crate::ServeError;
+use cspf_judge::JudgeError;
 use cspf_publish::OpenError;
 use std::alloc::AllocError;
 use thiserror::Error;
@@ -16,7 +20,7 @@ pub enum RunError {
     /// A read failed, or a write failed or took no bytes.
     #[error("a read or a write failed")]
     Device,
-    /// There was no place for a worker's reader.
+    /// There was no place for a worker's reader. No run returns it, since `open` makes a place for each.
     #[error("no place for a reader")]
     Places,
     /// The requests aren't answered.
@@ -32,13 +36,24 @@ impl From<AllocError> for RunError {
     }
 }
 
+impl From<JudgeError> for RunError {
+    ghost from_gives = { λ fault error. error ≡ judged_error_of fault };
+
+    fn from(fault: JudgeError) -> RunError {
+        match fault {
+            JudgeError::Memory => RunError::Memory,
+            JudgeError::Device => RunError::Device,
+        }
+    }
+}
+
 impl From<OpenError> for RunError {
     ghost from_gives = { λ refused error. error ≡ run_error_of refused };
 
     fn from(refused: OpenError) -> RunError {
         match refused {
             OpenError::Memory => RunError::Memory,
-            // A run has 1 to 64 workers, which are as many as may ask.
+            // Never: a run has 1 to 64 workers, as many as may ask, and `open` makes their places.
             OpenError::Askers | OpenError::Places => RunError::Places,
         }
     }

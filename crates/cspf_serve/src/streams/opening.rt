@@ -1,5 +1,4 @@
 ghost use Rattle.std.specs.Prelude.{◌≡◌, ◌<◌, ◌≤◌, [], All, IfOk, IfErr, vec_len, false};
-ghost use Rattle.cspf_serve.specs.RunFaults.{IsOpeningFault};
 ghost use Rattle.cspf_publish.specs.declared.limits.TheConstants.{MOST_ASKERS};
 
 use crate::RunError;
@@ -22,7 +21,8 @@ pub(crate) fn open_for<J: Write, T: Wait>(
     ensures source { IfOk result (λ opened.
         All (λ a. a.source ≡ opened.0.source) opened.1.items) }
     ensures count { IfOk result (λ opened. vec_len opened.1 ≡ workers) }
-    ensures error { IfErr result (λ e. IsOpeningFault e.0) }
+    // As many as that may ask, so only memory can be refused.
+    ensures error { IfErr result (λ e. e.0 ≡ RunError.Memory) }
     ensures journal { IfErr result (λ e. e.1 ≡ journal) }
 {
     match open(rt, alloc, journal, workers) {

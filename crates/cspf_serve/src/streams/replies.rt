@@ -3,12 +3,10 @@ ghost use Rattle.std.specs.Io.KnownBytes.{Keeps as HoldsAsBefore};
 ghost use Rattle.cspf_ero.specs.ReplyLine.{IsReply};
 ghost use Rattle.cspf_model.specs.Outcome.{answer_of};
 ghost use Rattle.cspf_serve.specs.AnswerLines.{AreAnswerLines};
-ghost use Rattle.cspf_serve.specs.EarlyEnds.{Writes};
-ghost use Rattle.cspf_serve.specs.RunFaults.{IsStreamFault};
+ghost use Rattle.cspf_judge.specs.EarlyEnds.{Writes};
 
-use crate::RunError;
-use crate::streams::output::put;
 use cspf_ero::reply_line;
+use cspf_judge::{JudgeError, put};
 use cspf_publish::Answer;
 use std::alloc::Global;
 use std::io::Write;
@@ -18,10 +16,9 @@ pub(crate) fn write_replies<W: Write>(
     alloc: Global,
     answers: &[Answer],
     writer: &mut W,
-) -> Result<(), RunError>
+) -> Result<(), JudgeError>
     ensures text { OnOk result (Writes (W.contents writer.old) (W.contents writer.new)
         (AreAnswerLines answers.now)) }
-    ensures error { IfErr result IsStreamFault }
 {
     for answer in answers {
         write_reply(alloc, answer, writer)?;
@@ -30,12 +27,11 @@ pub(crate) fn write_replies<W: Write>(
 }
 
 /// Writes the line of an answer.
-fn write_reply<W: Write>(alloc: Global, answer: &Answer, writer: &mut W) -> Result<(), RunError>
+fn write_reply<W: Write>(alloc: Global, answer: &Answer, writer: &mut W) -> Result<(), JudgeError>
     ensures text { OnOk result (Writes (W.contents writer.old) (W.contents writer.new)
         (IsReply answer.now.id answer.now.version (answer_of answer.now.outcome))) }
-    ensures error { IfErr result IsStreamFault }
     // Memory is refused before the first byte is written.
-    ensures memory { IfErr result (λ e. e ≡ RunError.Memory
+    ensures memory { IfErr result (λ e. e ≡ JudgeError.Memory
         → HoldsAsBefore (W.contents writer.old) (W.contents writer.new)) }
 {
     let line = reply_line(alloc, answer.id, answer.version, &answer.outcome)?;

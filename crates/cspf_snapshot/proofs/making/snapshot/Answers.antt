@@ -11,10 +11,10 @@ returns c =
       listed = c.links.ensures.listed;
       most = c.links.ensures.most;
       once = c.links.ensures.once;
+      are_marks = record { all = c.marks.ensures.all; rising = c.marks.ensures.rising };
       keyed = c.links.ensures.keyed;
       few = c.links.ensures.few;
       sorted = c.links.ensures.sorted;
-      are_marks = record { all = c.marks.ensures.all; rising = c.marks.ensures.rising };
       few_marks = c.marks.ensures.few;
     } in
     let listed = c.deref.ensures.value ∙ c.in_ok-changes.ensures in

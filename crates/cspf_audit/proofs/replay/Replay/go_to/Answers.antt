@@ -5,7 +5,7 @@ use Rattle.cspf_audit.proofs.BatchSteps.{absorbed}
 use Rattle.cspf_audit.proofs.replay.Replay.go_to.Goals as goal
 
 abbrev none : Plan
-none = record { tally = record { added = 0; brought = 0; alike = false } }
+none = record { tally = record { added = 0; brought = 0; alike = false; apart = false } }
 
 pub absorb_planned-requires : goal.absorb_planned-requires
 absorb_planned-requires c =

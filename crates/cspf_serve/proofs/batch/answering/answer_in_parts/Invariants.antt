@@ -2,7 +2,7 @@ use Rattle.std.proofs.Common.{◌≡◌, ◌-◌, ◌<◌, ◌≤◌, take, leng
 use Rattle.cspf_model.specs.Changes.{database_after}
 use Rattle.cspf_publish.specs.KnownBatches.{KnownBatches}
 use Rattle.cspf_serve.specs.BatchRun.{AreReplies}
-use Rattle.cspf_serve.specs.EarlyEnds.{Writes}
+use Rattle.cspf_judge.specs.EarlyEnds.{Writes}
 use Rattle.cspf_serve.proofs.batch.answering.answer_in_parts.Given as goal
 
 -- the requests before the next part are answered, and all askers are there

@@ -1,35 +1,26 @@
 use Rattle.std.proofs.Common.{rules, ◌≡◌}
-use Rattle.std.proofs.lemmas.Result.{err_from_is_err_and}
-use Rattle.cspf_serve.proofs.BatchLines.{batch_ran, batch_refused, batch_failed, requests_refused}
+use Rattle.cspf_serve.proofs.BatchLines.{batch_ran, batch_failed, run_refused}
 use Rattle.cspf_serve.proofs.batch.batch_run.answer_lent.Goals as goal
 
-pub returns-clause-ok : goal.returns-clause-ok
-returns-clause-ok g c =
-    let same : c.deref.result.now ≡ c.in_ok-asked.asked.items = search rules in
+pub returns-in-Ok-clause-whole : goal.returns-in-Ok-clause-whole
+returns-in-Ok-clause-whole g c =
+    let same : c.deref.result.now ≡ c.in-Ok.field-0.requests.items = search rules in
     batch_ran c.args.streams.accept_torn (g.R.Read.remaining c.args.streams.journal) (g.Q.Read.remaining c.args.streams.requests)
-    c.publish_journal.new.publisher.batches c.in_ok-unfit.unfit c.in_ok-asked.asked.items
-    (g.W.Write.contents c.args.writer.now) (g.W.Write.contents c.answer_read.new.writer) c.in_ok-unfit.ensures.ok c.in_ok-asked.ensures.ok
-    c.answer_read.result (rw same at c.answer_read.ensures.ok)
+    c.publish_and_read.new.publisher.batches c.in-Ok.field-0.unfit c.in-Ok.field-0.requests.items
+    (g.W.Write.contents c.args.writer.now) (g.W.Write.contents c.answer_read.new.writer) c.in-Ok.ensures.published c.in-Ok.ensures.requests
+    c.answer_read.result (rw same at c.answer_read.ensures.whole)
 
-pub returns-clause-err : goal.returns-clause-err
-returns-clause-err g c =
-    batch_refused c.args.streams.accept_torn (g.R.Read.remaining c.args.streams.journal) (g.Q.Read.remaining c.args.streams.requests)
-    c.publish_journal.new.publisher.batches c.in_ok-unfit.unfit c.in_ok-asked.asked.items
-    (g.W.Write.contents c.args.writer.now) (g.W.Write.contents c.answer_read.new.writer) c.in_ok-unfit.ensures.ok c.in_ok-asked.ensures.ok
-    c.answer_read.result c.answer_read.ensures.err
+pub returns-in-Err-clause-whole : goal.returns-in-Err-clause-whole
+returns-in-Err-clause-whole g c =
+    run_refused c.args.streams.accept_torn (g.R.Read.remaining c.args.streams.journal) (g.Q.Read.remaining c.args.streams.requests)
+    c.in-Err.end c.refuse.result (g.W.Write.contents c.args.writer.now) (g.W.Write.contents c.refuse.new.writer)
+    c.in-Err.ensures.err c.refuse.ensures.status c.refuse.ensures.line
 
-pub returns-clause-failed : goal.returns-clause-failed
-returns-clause-failed g c =
-    let same : c.deref.result.now ≡ c.in_ok-asked.asked.items = search rules in
+pub returns-in-Ok-clause-error : goal.returns-in-Ok-clause-error
+returns-in-Ok-clause-error g c =
+    let read = c.in-Ok.field-0 in
+    let same : c.deref.result.now ≡ read.requests.items = search rules in
+    let failed = rw same at c.answer_read.ensures.error in
     batch_failed c.args.streams.accept_torn (g.R.Read.remaining c.args.streams.journal) (g.Q.Read.remaining c.args.streams.requests)
-    c.publish_journal.new.publisher.batches c.in_ok-unfit.unfit c.in_ok-asked.asked.items
-    (g.W.Write.contents c.args.writer.now) (g.W.Write.contents c.answer_read.new.writer) c.in_ok-unfit.ensures.ok c.in_ok-asked.ensures.ok
-    c.answer_read.result (rw same at c.answer_read.ensures.failed)
-
-pub returns-in_err-asked-clause-err : goal.returns-in_err-asked-clause-err
-returns-in_err-asked-clause-err g c =
-    let p = err_from_is_err_and c.from_residual-in_err-asked.result c.from_residual-in_err-asked.ensures.1 in
-    rw (p.1, p.2)
-    (requests_refused c.args.streams.accept_torn (g.R.Read.remaining c.args.streams.journal) (g.Q.Read.remaining c.args.streams.requests)
-    c.publish_journal.new.publisher.batches c.in_ok-unfit.unfit (g.W.Write.contents c.args.writer.now) c.in_err-asked.field-0.0
-    c.in_ok-unfit.ensures.ok c.in_err-asked.ensures.err)
+    c.publish_and_read.new.publisher.batches read.unfit read.requests.items (g.W.Write.contents c.args.writer.now) (g.W.Write.contents c.answer_read.new.writer)
+    c.in-Ok.ensures.published c.in-Ok.ensures.requests c.answer_read.result failed

@@ -1,22 +1,24 @@
 use Rattle.std.proofs.Common.{◌≡◌, List, length, sym, refl, subst}
 use Rattle.cspf_model.specs.Changes.{database_after}
 use Rattle.cspf_model.specs.Numbered.{NumberedChanges}
+use Rattle.cspf_judge.specs.EarlyEnds.{Writes}
+use Rattle.cspf_judge.specs.LineTexts.{judge_line_text}
 use Rattle.cspf_serve.specs.BatchRun.{AreReplies}
-use Rattle.cspf_serve.specs.EarlyEnds.{Writes}
-use Rattle.cspf_serve.specs.LineTexts.{line_text}
 use Rattle.cspf_serve.proofs.BatchLines.{accepted_written, unfit_written}
 use Rattle.cspf_serve.proofs.batch.batch_run.answer_read.Goals as goal
 
-pub returns-in-Some-clause-err : goal.returns-in-Some-clause-err
-returns-in-Some-clause-err g c = λ batches is.
+pub returns-in_ok-put_line-in-Some-clause-whole : goal.returns-in_ok-put_line-in-Some-clause-whole
+returns-in_ok-put_line-in-Some-clause-whole g c = λ batches is.
     let published = c.args.publisher.now.batches in
-    unfit_written batches published (line_text c.in-Some.line) (g.W.Write.contents c.args.writer.now) (g.W.Write.contents c.write_versions.new.writer)
+    unfit_written batches published c.args.requests.now (judge_line_text c.in-Some.line)
+    (g.W.Write.contents c.args.writer.now) (g.W.Write.contents c.write_versions.new.writer) (g.W.Write.contents c.put_line.new.writer)
     (rw c.in-Some.is at is) c.version.ensures.history.lawful
     (c.in_ok-write_versions.ensures.text published c.version.ensures.history.numbers (sym c.version.ensures.version))
+    c.in_ok-put_line-in-Some.ensures.text
 
-pub returns-in_ok-answer_in_parts-in-None-clause-ok :
-    goal.returns-in_ok-answer_in_parts-in-None-clause-ok
-returns-in_ok-answer_in_parts-in-None-clause-ok g c = λ batches is.
+pub returns-in_ok-answer_in_parts-in-None-clause-whole :
+    goal.returns-in_ok-answer_in_parts-in-None-clause-whole
+returns-in_ok-answer_in_parts-in-None-clause-whole g c = λ batches is.
     let published = c.args.publisher.now.batches in
     let same : published ≡ batches = rw c.in-None.is at is in
     accepted_written batches c.args.requests.now (database_after batches)

@@ -15,8 +15,11 @@ loop-made-preserved g c = λ batches numbered count.
     (Appends-trans (g.W.Write.contents c.args.writer.now) (g.W.Write.contents c.loop-made.writer) (g.W.Write.contents c.put_line.new.writer)
     (version_lines (take made batches)) (version_line (made + 1)) (c.loop-made.invariant batches numbered count) c.in_ok-put_line.ensures.text)
 
-pub returns-clause-text : goal.returns-clause-text
-returns-clause-text g c = λ batches numbered count.
-    let done : c.loop-made.made ≡ length batches = omega arith in
-    let written = rw done at (c.loop-made.invariant batches numbered count) in
-    rw take-length at written
+pub returns : goal.returns
+returns g c =
+    record {
+      text = λ batches numbered count.
+          let done : c.loop-made.made ≡ length batches = omega arith in
+          let written = rw done at (c.loop-made.invariant batches numbered count) in
+          rw take-length at written;
+    }

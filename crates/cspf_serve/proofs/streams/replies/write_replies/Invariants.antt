@@ -1,6 +1,6 @@
 use Rattle.std.proofs.Common.{take}
 use Rattle.cspf_serve.specs.AnswerLines.{AreAnswerLines}
-use Rattle.cspf_serve.specs.EarlyEnds.{Writes}
+use Rattle.cspf_judge.specs.EarlyEnds.{Writes}
 use Rattle.cspf_serve.proofs.streams.replies.write_replies.Given as goal
 
 -- the lines of the answers so far are written

@@ -1,0 +1,52 @@
+-- The lines of an audit of a journal, requests and replies, and the status.
+use Rattle.std.specs.Prelude.{◌≡◌, ℕ, ◌⊎◌, ◌++◌, ◌==◌, if◌then◌else◌, List, length, codes, Option, IfSome}
+use Rattle.std.specs.Fmt.{decimal}
+use Rattle.std.specs.List.{flat_map}
+use Rattle.cspf_rows.specs.Records.{rows_of}
+use Rattle.cspf_audit.specs.FaultWords.{fault_words}
+use Rattle.cspf_audit.specs.AuditErrors.{IsAuditOf, IsAuditError}
+use Rattle.cspf_audit.specs.declared.audit_error.AuditError.{AuditError}
+use Rattle.cspf_audit.specs.declared.audit_error.AuditError.TheVariants as error
+use Rattle.cspf_audit.specs.declared.faults.Audit.{Audit}
+use Rattle.cspf_audit.specs.declared.faults.AuditFault.{AuditFault}
+use Rattle.cspf_stream.specs.declared.batch_refusal.BatchRefusal.TheVariants as refusal
+use Rattle.cspf_stream.specs.Lines.{refused_batch_line, too_many_line}
+use Rattle.cspf_judge.specs.Inputs.{torn_line, IsFaultLine}
+
+-- the line of a fault
+abbrev pub fault_line : AuditFault → List ℕ
+fault_line fault = fault_words fault ++ codes "\n"
+
+-- the last line: how many lines are good, and how many faults there are
+abbrev pub audited_line : ℕ → ℕ → List ℕ
+audited_line good faults = codes "good=" ++ decimal good ++ codes " faults=" ++ decimal faults ++ codes "\n"
+
+-- the line of the request row with this number, which has the id of an earlier one
+abbrev pub same_id_line : ℕ → List ℕ
+same_id_line row = codes "request row " ++ decimal row ++ codes " refused: same-id\n"
+
+-- the lines of an audit: one for each fault, and the last one
+abbrev pub audit_lines : Audit → List ℕ
+audit_lines audit = flat_map fault_line audit.faults.items ++ audited_line audit.good (length audit.faults.items)
+
+-- 0 where there is no fault, and else 2
+abbrev pub audit_status : Audit → ℕ
+audit_status audit = if length audit.faults.items == 0 then 0 else 2
+
+-- the line by which streams are refused that aren't audited: memory and a device have none
+abbrev pub IsAuditErrorLine : AuditError → List ℕ → Type 0
+IsAuditErrorLine error.Memory line = ⊥
+IsAuditErrorLine error.Device line = ⊥
+IsAuditErrorLine error.TooManyRows line = line ≡ too_many_line
+IsAuditErrorLine (error.Torn after) line = line ≡ torn_line after
+IsAuditErrorLine (error.Batch number why) line = line ≡ refused_batch_line number (refusal.Unfit why)
+IsAuditErrorLine (error.Requests why) line = IsFaultLine why line
+IsAuditErrorLine (error.SameId row) line = line ≡ same_id_line row
+
+-- The lines of the audit, or the line by which the streams are refused.
+abbrev pub IsAuditRun : Option (List ℕ) → Option (List ℕ) → Option (List ℕ) → List ℕ → ℕ → Type 0
+IsAuditRun journal requests replies lines status =
+    ((audit : Audit) × (lines ≡ audit_lines audit) × (status ≡ audit_status audit)
+    × IfSome journal (λ kept. IfSome requests (λ asked. IfSome replies (λ said.
+    IsAuditOf (rows_of kept) (rows_of asked) said audit))))
+    ⊎ ((why : AuditError) × IsAuditErrorLine why lines × (status ≡ 2) × IsAuditError journal requests replies why)

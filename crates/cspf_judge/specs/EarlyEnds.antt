@@ -1,0 +1,77 @@
+-- What holds where a run over a journal or requests ends early.
+use Rattle.std.specs.Prelude.{◌≡◌, ℕ, Option, List}
+use Rattle.std.specs.Io.KnownBytes.{Appends}
+use Rattle.cspf_audit.specs.declared.audit_error.AuditError.{AuditError}
+use Rattle.cspf_audit.specs.declared.audit_error.AuditError.TheVariants as audit_error
+use Rattle.cspf_db.specs.declared.replay.UnfitBatch.{UnfitBatch}
+use Rattle.cspf_rows.specs.declared.read_error.ReadError.{ReadError}
+use Rattle.cspf_rows.specs.declared.read_error.ReadError.TheVariants as read_error
+use Rattle.cspf_rows.specs.declared.requests_error.RequestsError.{RequestsError}
+use Rattle.cspf_rows.specs.declared.requests_error.RequestsError.TheVariants as requests_error
+use Rattle.cspf_stream.specs.declared.batch_refusal.BatchRefusal.TheVariants as refusal
+use Rattle.cspf_stream.specs.declared.line.StreamLine.TheVariants as stream_line
+use Rattle.cspf_stream.specs.Lines.{too_many_line}
+use Rattle.cspf_judge.specs.declared.early_end.EarlyEnd.{EarlyEnd}
+use Rattle.cspf_judge.specs.declared.early_end.EarlyEnd.TheVariants as early_end
+use Rattle.cspf_judge.specs.declared.early_end.JudgeError.{JudgeError}
+use Rattle.cspf_judge.specs.declared.early_end.JudgeError.TheVariants.{Memory, Device}
+use Rattle.cspf_judge.specs.declared.line.JudgeLine.TheVariants as line
+use Rattle.cspf_judge.specs.LineTexts.{judge_line_text}
+
+-- where something is refused, this holds of the line that says so
+abbrev pub IfRefused : EarlyEnd → (List ℕ → Type 0) → Type 0
+IfRefused (early_end.Refused line) Holds = Holds (judge_line_text line)
+IfRefused (early_end.Failed error) Holds = Unit {0}
+
+-- where memory is refused or a device fails, this holds of the error
+abbrev pub IfFailed : EarlyEnd → (JudgeError → Type 0) → Type 0
+IfFailed (early_end.Refused line) Holds = Unit {0}
+IfFailed (early_end.Failed error) Holds = Holds error
+
+-- the line was written by which something is refused
+abbrev pub IsRefusalWritten : EarlyEnd → Option (List ℕ) → Option (List ℕ) → Type 0
+IsRefusalWritten (early_end.Refused line) old new = Appends old new (judge_line_text line)
+IsRefusalWritten (early_end.Failed error) old new = ⊥
+
+-- the error that ends a run: any where the line of what is refused isn't written, and else the one before
+abbrev pub IsLastError : EarlyEnd → JudgeError → Type 0
+IsLastError (early_end.Refused line) e = Unit {0}
+IsLastError (early_end.Failed error) e = e ≡ error
+
+-- lines were written of which this holds
+abbrev pub Writes : Option (List ℕ) → Option (List ℕ) → (List ℕ → Type 0) → Type 0
+Writes old new Holds = (lines : List ℕ) × Holds lines × Appends old new lines
+
+-- a run ends by the line of a batch that doesn't fit
+abbrev pub unfit_end : UnfitBatch → EarlyEnd
+unfit_end unfit = early_end.Refused (line.Stream (stream_line.RefusedBatch unfit.number (refusal.Unfit unfit.refusal)))
+
+-- the line of a journal that can't be read: memory and a device have none
+abbrev pub IsJournalLine : ReadError → List ℕ → Type 0
+IsJournalLine read_error.Memory line = ⊥
+IsJournalLine read_error.Device line = ⊥
+IsJournalLine read_error.TooManyRows line = line ≡ too_many_line
+
+-- the error of a run whose journal can't be read: a fault with a line has no error
+abbrev pub IsJournalError : ReadError → JudgeError → Type 0
+IsJournalError read_error.Memory e = e ≡ Memory
+IsJournalError read_error.Device e = e ≡ Device
+IsJournalError read_error.TooManyRows e = ⊥
+
+-- the error of a run whose requests can't be read: a fault with a line has no error
+abbrev pub IsRequestsError : RequestsError → JudgeError → Type 0
+IsRequestsError requests_error.Memory e = e ≡ Memory
+IsRequestsError requests_error.Device e = e ≡ Device
+IsRequestsError requests_error.TooManyRows e = ⊥
+IsRequestsError (requests_error.Bad row why) e = ⊥
+IsRequestsError (requests_error.NotAsk row) e = ⊥
+
+-- the error of a run whose streams aren't audited: a fault with a line has no error
+abbrev pub IsAuditFailure : AuditError → JudgeError → Type 0
+IsAuditFailure audit_error.Memory e = e ≡ Memory
+IsAuditFailure audit_error.Device e = e ≡ Device
+IsAuditFailure audit_error.TooManyRows e = ⊥
+IsAuditFailure (audit_error.Torn after) e = ⊥
+IsAuditFailure (audit_error.Batch number why) e = ⊥
+IsAuditFailure (audit_error.Requests why) e = IsRequestsError why e
+IsAuditFailure (audit_error.SameId row) e = ⊥

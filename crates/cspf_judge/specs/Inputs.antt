@@ -1,0 +1,61 @@
+-- How a journal and a stream of requests are read, and the lines by which they are refused.
+use Rattle.std.specs.Prelude.{◌≡◌, ℕ, ◌<◌, ◌≤◌, ◌⊎◌, Bool, true, false, List, ◌++◌, length, codes}
+use Rattle.std.specs.Fmt.{decimal}
+use Rattle.cspf_rows.specs.Records.{Records}
+use Rattle.cspf_model.specs.declared.request.Request.{Request}
+use Rattle.cspf_model.specs.Numbered.{NumberedChanges}
+use Rattle.cspf_rows.specs.declared.limits.TheConstants.{MOST_ROWS}
+use Rattle.cspf_rows.specs.declared.journal.Rest.TheVariants as rest
+use Rattle.cspf_rows.specs.declared.requests_error.RequestsError.{RequestsError}
+use Rattle.cspf_rows.specs.declared.requests_error.RequestsError.TheVariants as fault
+use Rattle.cspf_rows.specs.declared.row_error.RowError.{RowError}
+use Rattle.cspf_rows.specs.declared.row_error.RowError.TheVariants as row_error
+use Rattle.cspf_rows.specs.Journal.{IsJournal}
+use Rattle.cspf_rows.specs.Requests.{AreRequests, IsRequestsFault}
+use Rattle.cspf_rows.specs.Words.{words}
+use Rattle.cspf_stream.specs.Lines.{too_many_line}
+
+-- the line of a journal that has this many batches, and rows after them
+abbrev pub torn_line : ℕ → List ℕ
+torn_line count = codes "journal torn after " ++ decimal count ++ codes "\n"
+
+-- the line of the request row with this number, which is refused
+abbrev pub refused_request_line : ℕ → RowError → List ℕ
+refused_request_line row error =
+    codes "request row " ++ decimal row ++ codes " refused: " ++ words error ++ codes "\n"
+
+-- The records of a journal, of which there are at most 1,000,000, read as these batches; rows after
+-- them are skipped where that is asked for.
+pub record AreBatchesOf (accept_torn : Bool) (records : Records)
+    (batches : List NumberedChanges) : Type 0 where
+  pub few : length records ≤ MOST_ROWS
+  pub journal : IsJournal records batches rest.Clean
+      ⊎ (IsJournal records batches rest.Torn × (accept_torn ≡ true))
+
+-- The records of a journal are refused by this line: there are too many, or some are left after its
+-- batches.
+abbrev pub IsJournalRefused : Bool → Records → List ℕ → Type 0
+IsJournalRefused accept_torn records line =
+    ((MOST_ROWS < length records) × (line ≡ too_many_line))
+    ⊎ ((length records ≤ MOST_ROWS) × (accept_torn ≡ false)
+    × ((batches : List NumberedChanges) × IsJournal records batches rest.Torn
+    × (line ≡ torn_line (length batches))))
+
+-- the records of a stream of requests, of which there are at most 1,000,000, ask for these
+pub record AreRequestsOf (records : Records) (requests : List Request) : Type 0 where
+  pub few : length records ≤ MOST_ROWS
+  pub asked : AreRequests records requests
+
+-- The line that a stream of requests is refused by. A row that is no request is refused with the
+-- words for an unknown kind.
+abbrev pub IsFaultLine : RequestsError → List ℕ → Type 0
+IsFaultLine fault.Memory line = ⊥
+IsFaultLine fault.Device line = ⊥
+IsFaultLine fault.TooManyRows line = line ≡ too_many_line
+IsFaultLine (fault.Bad row error) line = line ≡ refused_request_line row error
+IsFaultLine (fault.NotAsk row) line = line ≡ refused_request_line row row_error.Kind
+
+-- the records of a stream of requests are refused by this line
+abbrev pub AreRequestsRefused : Records → List ℕ → Type 0
+AreRequestsRefused records line =
+    (why : RequestsError) × IsRequestsFault records why × IsFaultLine why line

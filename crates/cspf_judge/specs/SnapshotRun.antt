@@ -1,0 +1,46 @@
+-- The output of a run that makes a journal's last database from nothing.
+use Rattle.std.specs.Prelude.{◌≡◌, ℕ, ◌⊎◌, Bool, List}
+use Rattle.cspf_rows.specs.Records.{Records}
+use Rattle.cspf_model.specs.Refusals.{IsFirstUnfit}
+use Rattle.cspf_model.specs.declared.refusal.Refusal.{Refusal}
+use Rattle.cspf_model.specs.Numbered.{NumberedChanges}
+use Rattle.cspf_model.specs.Changes.{AreLawful, database_after}
+use Rattle.cspf_rows.specs.JournalLaws.{journal_text}
+use Rattle.cspf_snapshot.specs.Snapshots.{IsSnapshot}
+use Rattle.cspf_judge.specs.Inputs.{AreBatchesOf, IsJournalRefused}
+use Rattle.cspf_stream.specs.Lines.{refused_batch_line}
+use Rattle.cspf_stream.specs.declared.batch_refusal.BatchRefusal.TheVariants.{Unfit}
+
+-- The batches make from nothing the database of the journal's own, each of which fits those before it.
+pub record IsSnapshotOf (accept_torn : Bool) (records : Records) (making : List NumberedChanges) : Type 0 where
+  pub batches : List NumberedChanges
+  pub read : AreBatchesOf accept_torn records batches
+  pub lawful : AreLawful batches
+  pub snapshot : IsSnapshot (database_after batches) making
+
+-- a batch of the journal doesn't fit the database of those before it, as the line says
+pub record IsJournalUnfit (accept_torn : Bool) (records : Records) (line : List ℕ) : Type 0 where
+  pub batches : List NumberedChanges
+  pub read : AreBatchesOf accept_torn records batches
+  pub number : ℕ
+  pub why : Refusal
+  pub first : IsFirstUnfit batches number why
+  pub line_is : line ≡ refused_batch_line number (Unfit why)
+
+-- no database comes of the journal, as the line says
+abbrev pub IsSnapshotRefused : Bool → Records → List ℕ → Type 0
+IsSnapshotRefused accept_torn records line =
+    IsJournalRefused accept_torn records line ⊎ IsJournalUnfit accept_torn records line
+
+-- the batches are written, with the status 0
+pub record IsSnapshotWritten (accept_torn : Bool) (records : Records) (lines : List ℕ) (status : ℕ) : Type 0 where
+  pub making : List NumberedChanges
+  pub snapshot : IsSnapshotOf accept_torn records making
+  pub text : lines ≡ journal_text making
+  pub accepted : status ≡ 0
+
+-- the batches are written, or the line by which the journal is refused, with the status 2
+abbrev pub IsSnapshotRun : Bool → Records → List ℕ → ℕ → Type 0
+IsSnapshotRun accept_torn records lines status =
+    IsSnapshotWritten accept_torn records lines status
+    ⊎ (IsSnapshotRefused accept_torn records lines × (status ≡ 2))

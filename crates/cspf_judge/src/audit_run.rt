@@ -1,0 +1,70 @@
+//! The run of `audit`: three streams in, a line for each fault and the count of good lines out.
+
+ghost use Rattle.std.specs.Prelude.{◌≡◌, IfOk, OnOk};
+ghost use Rattle.std.specs.Io.KnownBytes.{Appends};
+ghost use Rattle.cspf_judge.specs.AuditRun.{IsAuditErrorLine, IsAuditRun, audit_lines, audit_status};
+ghost use Rattle.cspf_judge.specs.EarlyEnds.{IfRefused, IfFailed, IsAuditFailure, Writes};
+
+use crate::input::requests_end_of;
+use crate::{EarlyEnd, JudgeError, JudgeLine, put_line, refuse};
+use cspf_audit::{Audit, AuditError, audit};
+use cspf_stream::{BatchRefusal, StreamLine};
+use std::alloc::Global;
+use std::io::{Read, Write};
+
+/// Audits replies to the requests of a stream by a journal, and writes a line for each fault and
+/// then how many lines are good: `IsAuditRun`. Streams that aren't audited are refused by one line.
+/// The status is 0 where no line was written for a fault or a refusal, and else 2. After an error
+/// the contents of the writer are unspecified. The writer isn't flushed.
+pub fn run_audit<W: Write, R: Read + Drop, Q: Read + Drop, P: Read + Drop>(
+    alloc: Global,
+    journal: R,
+    requests: Q,
+    replies: P,
+    writer: &mut W,
+) -> Result<u8, JudgeError>
+    ensures whole { IfOk result (λ status.
+        Writes (W.contents writer.old) (W.contents writer.new) (λ lines.
+        IsAuditRun (R.remaining journal) (Q.remaining requests) (P.remaining replies) lines status)) }
+{
+    match audit(alloc, journal, requests, replies) {
+        Ok(found) => write_audit(alloc, &found, writer),
+        Err(error) => refuse(alloc, audit_end_of(error), writer),
+    }
+}
+
+/// How a run ends if its streams aren't audited.
+fn audit_end_of(error: AuditError) -> EarlyEnd
+    ensures refused { IfRefused result (IsAuditErrorLine error) }
+    ensures failed { IfFailed result (IsAuditFailure error) }
+{
+    let line = match error {
+        AuditError::Memory => return EarlyEnd::Failed(JudgeError::Memory),
+        AuditError::Device => return EarlyEnd::Failed(JudgeError::Device),
+        AuditError::TooManyRows => JudgeLine::Stream(StreamLine::TooManyRows),
+        AuditError::Torn { after } => JudgeLine::Torn {
+            count: after as usize,
+        },
+        AuditError::Batch { number, refusal } => {
+            let refusal = BatchRefusal::Unfit(refusal);
+            JudgeLine::Stream(StreamLine::RefusedBatch { number, refusal })
+        }
+        AuditError::Requests(error) => return requests_end_of(error),
+        AuditError::SameId { row } => JudgeLine::SameId { row },
+    };
+    EarlyEnd::Refused(line)
+}
+
+/// Writes the lines of an audit, and returns the status.
+fn write_audit<W: Write>(alloc: Global, found: &Audit, writer: &mut W) -> Result<u8, JudgeError>
+    ensures status { IfOk result (λ status. status ≡ audit_status found.now) }
+    ensures lines { OnOk result (Appends (W.contents writer.old) (W.contents writer.new)
+        (audit_lines found.now)) }
+{
+    for fault in &found.faults {
+        put_line(alloc, JudgeLine::Fault { fault: *fault }, writer)?;
+    }
+    let (good, faults) = (found.good, found.faults.len());
+    put_line(alloc, JudgeLine::Audited { good, faults }, writer)?;
+    Ok(if faults == 0 { 0 } else { 2 })
+}

@@ -1,0 +1,57 @@
+//! The lines of a run over a journal, requests or replies, all but the replies.
+
+use cspf_audit::AuditFault;
+use cspf_rows::RowError;
+use cspf_stream::StreamLine;
+use std::alloc::{AllocError, Global};
+use std::fmt;
+
+/// A line of a run over a journal, requests or replies, unless it is a reply.
+#[derive(Clone, Copy)]
+pub enum JudgeLine {
+    /// A line that streams of rows have, too.
+    Stream(StreamLine),
+    /// A journal has this many batches, and rows after them.
+    Torn { count: usize },
+    /// The request row with this number is refused.
+    RefusedRequest { row: u32, error: RowError },
+    /// The request row with this number has the id of an earlier one.
+    SameId { row: u32 },
+    /// An audit found this fault.
+    Fault { fault: AuditFault },
+    /// An audit found this many good lines and faults.
+    Audited { good: u32, faults: usize },
+}
+
+impl fmt::Display for JudgeLine {
+    ghost use Rattle.std.specs.Prelude.{Some};
+    ghost use Rattle.cspf_judge.specs.LineTexts.{judge_line_text};
+
+    ghost output = { λ line. Some (judge_line_text line) };
+
+    fn fmt<W: fmt::Write>(&self, f: &mut fmt::Formatter<W>) -> fmt::Result {
+        match *self {
+            JudgeLine::Stream(line) => write!(f, "{line}"),
+            JudgeLine::Torn { count } => write!(f, "journal torn after {count}\n"),
+            JudgeLine::RefusedRequest { row, error } => write!(
+                f,
+                "request row {row} refused: {error}\n"
+            ),
+            JudgeLine::SameId { row } => write!(f, "request row {row} refused: same-id\n"),
+            JudgeLine::Fault { fault } => write!(f, "{fault}\n"),
+            JudgeLine::Audited { good, faults } => write!(f, "good={good} faults={faults}\n"),
+        }
+    }
+}
+
+impl JudgeLine {
+    ghost use Rattle.std.specs.Prelude.{◌≡◌, IfOk};
+    ghost use Rattle.cspf_judge.specs.LineTexts.{judge_line_text};
+
+    /// Its bytes, the line feed too.
+    pub(crate) fn bytes(self, alloc: Global) -> Result<Vec<u8>, AllocError>
+        ensures { IfOk result (λ bytes. bytes.items ≡ judge_line_text self) }
+    {
+        Ok(format!(in alloc; "{self}")?.into_bytes())
+    }
+}

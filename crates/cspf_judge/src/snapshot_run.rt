@@ -1,0 +1,72 @@
+//! The run of `snapshot`: a journal in, the few batches that make its last database out.
+
+ghost use Rattle.std.specs.Prelude.{◌≡◌, IfOk, IfErr, IfSome, OnOk};
+ghost use Rattle.std.specs.Io.KnownBytes.{Appends};
+ghost use Rattle.cspf_rows.specs.JournalLaws.{journal_text};
+ghost use Rattle.cspf_rows.specs.Records.{rows_of};
+ghost use Rattle.cspf_judge.specs.EarlyEnds.{IfRefused, Writes};
+ghost use Rattle.cspf_judge.specs.SnapshotRun.{IsSnapshotOf, IsSnapshotRefused, IsSnapshotRun};
+
+use crate::{EarlyEnd, JudgeError, batches_of, put, refuse};
+use cspf_db::{Table, replay_into};
+use cspf_model::Batch;
+use cspf_rows::batch_text;
+use cspf_snapshot::snapshot;
+use std::alloc::Global;
+use std::io::{Read, Write};
+
+/// Writes the batches that make the last database of a journal from nothing: `IsSnapshotRun`. A
+/// journal that gives no database is refused by one line. The status is 2 where it was refused, and
+/// else 0. After an error the contents of the writer are unspecified. The writer isn't flushed.
+pub fn run_snapshot<R: Read + Drop, W: Write>(
+    alloc: Global,
+    journal: R,
+    accept_torn: bool,
+    writer: &mut W,
+) -> Result<u8, JudgeError>
+    ensures whole { IfOk result (λ status. IfSome (R.remaining journal) (λ bytes.
+        Writes (W.contents writer.old) (W.contents writer.new) (λ lines.
+        IsSnapshotRun accept_torn (rows_of bytes) lines status))) }
+{
+    match snapshot_of(alloc, accept_torn, journal) {
+        Ok(batches) => {
+            write_batches(alloc, &batches, writer)?;
+            Ok(0)
+        }
+        Err(end) => refuse(alloc, end, writer),
+    }
+}
+
+/// The batches that make the last database of a journal.
+fn snapshot_of<R: Read + Drop>(
+    alloc: Global,
+    accept_torn: bool,
+    journal: R,
+) -> Result<Vec<Batch>, EarlyEnd>
+    ensures err { IfErr result (λ end. IfRefused end (λ line.
+        IfSome (R.remaining journal) (λ bytes.
+        IsSnapshotRefused accept_torn (rows_of bytes) line))) }
+    ensures ok { IfOk result (λ batches. IfSome (R.remaining journal) (λ bytes.
+        IsSnapshotOf accept_torn (rows_of bytes) batches.items)) }
+{
+    let batches = batches_of(alloc, journal, accept_torn)?;
+    let mut table = Table::new(alloc)?;
+    replay_into(&mut table, &batches)?;
+    Ok(snapshot(alloc, &table)?)
+}
+
+/// Writes the texts of batches.
+fn write_batches<W: Write>(
+    alloc: Global,
+    batches: &[Batch],
+    writer: &mut W,
+) -> Result<(), JudgeError>
+    ensures text { OnOk result (Appends (W.contents writer.old) (W.contents writer.new)
+        (journal_text batches.now)) }
+{
+    for batch in batches {
+        let text = batch_text(alloc, batch)?;
+        put(&text, writer)?;
+    }
+    Ok(())
+}

@@ -1,0 +1,47 @@
+ghost use Rattle.std.specs.Prelude.{◌≡◌, ℕ, List, IfOk, IfErr, IfSome};
+ghost use Rattle.std.specs.Io.KnownBytes.{Appends};
+ghost use Rattle.cspf_judge.specs.AuditRun.{IsAuditRun};
+ghost use Rattle.cspf_judge.specs.SnapshotRun.{IsSnapshotRun};
+ghost use Rattle.cspf_judge.specs.EarlyEnds.{Writes};
+ghost use Rattle.cspf_serve.specs.RunFaults.{IsStreamFault};
+ghost use Rattle.cspf_rows.specs.Records.{rows_of};
+
+use crate::RunError;
+use std::alloc::Global;
+use std::io::{Read, Write};
+
+/// Audits replies by a journal and requests, as `run_audit` of `cspf_judge` does: `IsAuditRun`. It
+/// returns the same status, and its errors are `Memory` and `Device`.
+#[tactic(auto, using(crate::proofs::StreamFaults::judged))]
+pub fn run_audit<R: Read + Drop, Q: Read + Drop, P: Read + Drop, W: Write>(
+    alloc: Global,
+    journal: R,
+    requests: Q,
+    replies: P,
+    writer: &mut W,
+) -> Result<u8, RunError>
+    ensures whole { IfOk result (λ status. (lines : List ℕ)
+        × IsAuditRun (R.remaining journal) (Q.remaining requests) (P.remaining replies) lines status
+        × Appends (W.contents writer.old) (W.contents writer.new) lines) }
+    ensures error { IfErr result IsStreamFault }
+{
+    Ok(cspf_judge::run_audit(alloc, journal, requests, replies, writer)?)
+}
+
+/// Writes the batches that make the last database of a journal from nothing, as `run_snapshot` of
+/// `cspf_judge` does: `IsSnapshotRun`. It returns the same status, and its errors are `Memory` and
+/// `Device`.
+#[tactic(auto, using(crate::proofs::StreamFaults::judged))]
+pub fn run_snapshot<R: Read + Drop, W: Write>(
+    alloc: Global,
+    journal: R,
+    writer: &mut W,
+    accept_torn: bool,
+) -> Result<u8, RunError>
+    ensures whole { IfOk result (λ status. IfSome (R.remaining journal) (λ bytes.
+        Writes (W.contents writer.old) (W.contents writer.new) (λ lines.
+        IsSnapshotRun accept_torn (rows_of bytes) lines status))) }
+    ensures error { IfErr result IsStreamFault }
+{
+    Ok(cspf_judge::run_snapshot(alloc, journal, accept_torn, writer)?)
+}

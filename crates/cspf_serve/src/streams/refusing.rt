@@ -1,0 +1,19 @@
+ghost use Rattle.std.specs.Prelude.{◌≡◌, IfOk, IfErr};
+ghost use Rattle.cspf_judge.specs.EarlyEnds.{IsRefusalWritten};
+ghost use Rattle.cspf_serve.specs.RunFaults.{IsStreamFault};
+
+use crate::RunError;
+use cspf_judge::EarlyEnd;
+use std::alloc::Global;
+use std::io::Write;
+
+/// Writes the line by which a run is refused, and returns its status.
+#[tactic(auto, using(crate::proofs::StreamFaults::judged))]
+pub(crate) fn refuse<W: Write>(alloc: Global, end: EarlyEnd, writer: &mut W) -> Result<u8, RunError>
+    ensures status { IfOk result (λ status. status ≡ 2) }
+    ensures line { IfOk result (λ status.
+        IsRefusalWritten end (W.contents writer.old) (W.contents writer.new)) }
+    ensures error { IfErr result IsStreamFault }
+{
+    Ok(cspf_judge::refuse(alloc, end, writer)?)
+}

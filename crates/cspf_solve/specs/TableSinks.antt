@@ -1,0 +1,20 @@
+-- Private: how a table with its version takes batches and answers requests.
+use Rattle.std.specs.Prelude.{◌≡◌, ◌+◌, false}
+use Rattle.cspf_model.specs.Best.{Answer, IsBestAnswer}
+use Rattle.cspf_model.specs.Changes.{Fits, after_changes}
+use Rattle.cspf_model.specs.Refusals.{IsRefusal}
+use Rattle.cspf_model.specs.declared.refusal.Refusal.{Refusal}
+use Rattle.cspf_ero.specs.ReplyLine.{IsReply}
+use Rattle.cspf_stream.specs.Sinks.{SinkSpec}
+use Rattle.cspf_stream.specs.declared.batch_refusal.BatchRefusal.TheVariants as refusal
+use Rattle.cspf_solve.specs.declared.table_sink.TableSink.{TableSink}
+
+-- a batch is accepted where it fits
+abbrev pub table_spec : SinkSpec TableSink
+table_spec = record {
+  version = λ sink. sink.version;
+  stopped = λ sink. false;
+  accepts = λ old b new. Fits old.table b × (new ≡ record { table = after_changes old.table b.changes; version = old.version + 1 });
+  refuses = λ old b refused new. (why : Refusal) × (refused ≡ refusal.Unfit why) × IsRefusal old.table b why × (new ≡ old);
+  replies = λ sink q line. (answer : Answer) × IsBestAnswer sink.table q answer × IsReply q.id sink.version answer line;
+}

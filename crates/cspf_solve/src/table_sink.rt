@@ -1,0 +1,44 @@
+ghost use Rattle.std.specs.Prelude.{◌≡◌};
+
+use cspf_db::Table;
+use cspf_ero::reply_line;
+use cspf_model::{Batch, Request};
+use cspf_search::best;
+use cspf_stream::{BatchRefusal, Sink};
+use std::alloc::{AllocError, Global};
+
+/// The database of the batches that were accepted, and their number.
+#[derive(Drop)]
+pub struct TableSink {
+    pub(crate) table: Table,
+    pub(crate) version: u32,
+}
+
+impl Sink<()> for TableSink {
+    ghost use Rattle.cspf_solve.specs.TableSinks.{table_spec};
+
+    ghost spec = { table_spec };
+
+    fn version(&self) -> u32 {
+        self.version
+    }
+
+    fn is_stopped(&self) -> bool {
+        false
+    }
+
+    fn accept(&mut self, _context: &(), _alloc: Global, batch: &Batch) -> Result<(), BatchRefusal> {
+        match self.table.try_absorb(batch) {
+            Ok(()) => {
+                self.version += 1;
+                Ok(())
+            }
+            Err(why) => Err(BatchRefusal::Unfit(why)),
+        }
+    }
+
+    fn reply(&self, alloc: Global, request: &Request) -> Result<Vec<u8>, AllocError> {
+        let outcome = best(alloc, &self.table, request)?;
+        reply_line(alloc, request.id, self.version, &outcome)
+    }
+}

@@ -1,0 +1,193 @@
+//! The rows of a stream, each taken by what it asks for: a change is kept, an `end` row gives the open
+//! changes to a sink as a batch, and the sink answers a request.
+
+ghost use Rattle.std.specs.Prelude.{◌≡◌, ◌+◌, ◌<◌, ◌≤◌, ◌⊎◌, ◌^◌, ℕ, [], List, IfOk, IfErr, IfSome, IfNone, OnOk, OnErr};
+ghost use Rattle.cspf_model.specs.declared.batch.Change.{Change as Changed};
+ghost use Rattle.cspf_stream.specs.EndRows.{IsRightEnd, IsWrongEnd};
+ghost use Rattle.cspf_stream.specs.OpenChanges.{AreOpen};
+
+use crate::{BatchRefusal, OpenChanges, Sink, Step, StreamLine, refused_row};
+use cspf_model::MOST_VERSIONS;
+use cspf_rows::{Row, RowError};
+use std::alloc::{AllocError, Global};
+
+/// The state between two rows. It takes no more memory with the rows.
+#[derive(Drop)]
+pub struct Rows<S> {
+    /// What takes the batches and answers the requests.
+    pub sink: S,
+    /// The open changes.
+    pub changes: OpenChanges,
+    /// The requests that were answered.
+    pub answers: u64,
+    /// The rows and batches that were refused.
+    pub refused: u64,
+}
+
+impl<S> Rows<S> {
+    ghost use Rattle.cspf_stream.specs.RowsTaken.{RowsLead, IsBatchTaken, IsBatchDropped, IsEndAccepted, IsEndRefused, IsStepTaken, IsRowTaken, IsStepLost, IsRowLost};
+
+    /// No change is open, and nothing was answered or refused.
+    pub fn new(alloc: Global, sink: S) -> Rows<S>
+        ensures sink { result.sink ≡ sink }
+        ensures open { AreOpen result.changes [] }
+        ensures none { (result.changes.count ≡ 0) × (result.answers ≡ 0) × (result.refused ≡ 0) }
+    {
+        Rows {
+            sink,
+            changes: OpenChanges::new(alloc),
+            answers: 0,
+            refused: 0,
+        }
+    }
+
+    /// Takes the row at this place, from 1, and returns its line, which is empty for a change. The line
+    /// of an accepted batch is made before the batch is given to the sink.
+    pub fn answer<C>(
+        &mut self,
+        context: &C,
+        alloc: Global,
+        place: u64,
+        row: &Result<Row, RowError>,
+    ) -> Result<Vec<u8>, AllocError>
+    where
+        S: Sink<C>,
+        requires count { self.old.changes.count + 1 < 2 ^ 64 }
+        requires answers { self.old.answers + 1 < 2 ^ 64 }
+        requires refused { self.old.refused + 1 < 2 ^ 64 }
+        ensures answered { IfOk result (λ line. RowsLead self.old self.new
+            (λ s t. IsRowTaken S.spec place s row.now line.items t)) }
+        ensures failed { OnErr result (RowsLead self.old self.new
+            (λ s t. IsRowLost S.spec s row.now t)) }
+        ensures count { self.new.changes.count ≤ self.old.changes.count + 1 }
+        ensures answers { self.new.answers ≤ self.old.answers + 1 }
+        ensures refused { self.new.refused ≤ self.old.refused + 1 }
+    {
+        match row {
+            Ok(row) => self.take(context, alloc, Step::of(row)),
+            Err(error) => {
+                let line = refused_row(alloc, place, *error)?;
+                self.refused += 1;
+                Ok(line)
+            }
+        }
+    }
+
+    /// Takes a row that is read, by what it asks for.
+    fn take<C>(&mut self, context: &C, alloc: Global, step: Step) -> Result<Vec<u8>, AllocError>
+    where
+        S: Sink<C>,
+        requires count { self.old.changes.count + 1 < 2 ^ 64 }
+        requires answers { self.old.answers + 1 < 2 ^ 64 }
+        requires refused { self.old.refused + 1 < 2 ^ 64 }
+        ensures answered { IfOk result (λ line. RowsLead self.old self.new
+            (λ s t. IsStepTaken S.spec s step line.items t)) }
+        ensures failed { OnErr result (RowsLead self.old self.new
+            (λ s t. IsStepLost S.spec s step t)) }
+        ensures count { self.new.changes.count ≤ self.old.changes.count + 1 }
+        ensures answers { self.new.answers ≤ self.old.answers + 1 }
+        ensures refused { self.new.refused ≤ self.old.refused + 1 }
+    {
+        match step {
+            Step::Change(change) => {
+                self.changes.add(change)?;
+                Ok(Vec::new(alloc))
+            }
+            Step::End { number, count } => self.end(context, alloc, number, count),
+            Step::Ask(request) => {
+                let line = self.sink.reply(alloc, &request)?;
+                self.answers += 1;
+                Ok(line)
+            }
+        }
+    }
+
+    /// Gives the open changes to the sink as the batch with this number and this count, or refuses
+    /// them, and returns the line. None are open afterwards. The line of an accepted batch is made
+    /// before the batch is given.
+    fn end<C>(
+        &mut self,
+        context: &C,
+        alloc: Global,
+        number: u32,
+        count: u32,
+    ) -> Result<Vec<u8>, AllocError>
+    where
+        S: Sink<C>,
+        requires { self.old.refused + 1 < 2 ^ 64 }
+        ensures answered { IfOk result (λ line. RowsLead self.old self.new
+            (λ s t. IsEndAccepted S.spec s number count line.items t
+            ⊎ IsEndRefused S.spec s number count line.items t)) }
+        ensures failed { OnErr result (RowsLead self.old self.new
+            (λ s t. (t ≡ s) ⊎ ((line : List ℕ) × IsEndRefused S.spec s number count line t))) }
+        ensures count { self.new.changes.count ≤ self.old.changes.count }
+        ensures answers { self.new.answers ≡ self.old.answers }
+        ensures refused { self.new.refused ≤ self.old.refused + 1 }
+    {
+        let version = StreamLine::Version { version: number }.bytes(alloc)?;
+        let found = self.give(context, alloc, number, count);
+        self.changes.clear();
+        match found {
+            Ok(()) => Ok(version),
+            Err(refusal) => {
+                self.refused += 1;
+                StreamLine::RefusedBatch { number, refusal }.bytes(alloc)
+            }
+        }
+    }
+
+    /// Gives the open changes to the sink as the batch with this number, if the number and this count
+    /// are right. They stay open.
+    fn give<C>(
+        &mut self,
+        context: &C,
+        alloc: Global,
+        number: u32,
+        count: u32,
+    ) -> Result<(), BatchRefusal>
+    where
+        S: Sink<C>,
+        ensures accepted { OnOk result ((all : List Changed) → AreOpen self.old.changes all
+            → IsBatchTaken S.spec self.old.sink number count all self.new.sink) }
+        ensures refused { IfErr result (λ why. (all : List Changed) → AreOpen self.old.changes all
+            → IsBatchDropped S.spec self.old.sink number count all why self.new.sink) }
+        ensures changes { self.new.changes.count ≡ self.old.changes.count }
+        ensures answers { self.new.answers ≡ self.old.answers }
+        ensures refusals { self.new.refused ≡ self.old.refused }
+    {
+        let (stopped, version) = (self.sink.is_stopped(), self.sink.version());
+        if let Some(refusal) = wrong_end(stopped, version, number, count, self.changes.count) {
+            return Err(refusal);
+        }
+        self.changes.batch.number = number;
+        self.sink.accept(context, alloc, &self.changes.batch)
+    }
+}
+
+/// Why an end row is refused before its batch is looked at, if it is.
+fn wrong_end(
+    stopped: bool,
+    version: u32,
+    number: u32,
+    count: u32,
+    changes: u64,
+) -> Option<BatchRefusal>
+    ensures wrong { IfSome result (λ why. IsWrongEnd stopped version number count changes why) }
+    ensures right { IfNone result (IsRightEnd stopped version number count changes) }
+{
+    if stopped {
+        return Some(BatchRefusal::Stopped);
+    }
+    if version >= MOST_VERSIONS {
+        return Some(BatchRefusal::Exhausted);
+    }
+    if number != version + 1 {
+        return Some(BatchRefusal::WrongNumber {
+            expected: version + 1,
+        });
+    }
+    if u64::from(count) != changes {
+        return Some(BatchRefusal::WrongCount { counted: changes });
+    }
+    None
+}

@@ -1,0 +1,36 @@
+ghost use Rattle.std.specs.Prelude.{◌≡◌, ◌+◌, ◌<◌, List, IfOk, IfErr, OnOk};
+ghost use Rattle.cspf_model.specs.declared.batch.Change.{Change as Changed};
+ghost use Rattle.cspf_stream.specs.OpenChanges.{AreKeptChanges};
+ghost use Rattle.cspf_stream.specs.Sinks.{SinkSpec};
+
+use crate::BatchRefusal;
+use cspf_model::{Batch, MOST_VERSIONS, Request};
+use std::alloc::{AllocError, Global};
+
+/// What takes the batches of a stream of rows and answers its requests. The context is what a batch
+/// needs besides but no answer depends on, such as the handle of a runtime.
+pub trait Sink<C> {
+    /// Its version, and how it takes batches and answers requests.
+    ghost spec: { SinkSpec Self };
+
+    /// The version: how many batches were accepted.
+    fn version(&self) -> u32
+        ensures { result ≡ spec.version self.now };
+
+    /// Whether no batch is accepted any more.
+    fn is_stopped(&self) -> bool
+        ensures { result ≡ spec.stopped self.now };
+
+    /// Accepts a batch, or refuses it. It has as many of the open changes as are kept.
+    fn accept(&mut self, context: &C, alloc: Global, batch: &Batch) -> Result<(), BatchRefusal>
+        requires room { spec.version self.old < MOST_VERSIONS }
+        requires next { batch.now.number ≡ spec.version self.old + 1 }
+        ensures accepted { OnOk result ((all : List Changed) → AreKeptChanges batch.now.changes all
+            → spec.accepts self.old (record batch.now { changes = all }) self.new) }
+        ensures refused { IfErr result (λ why. (all : List Changed) → AreKeptChanges batch.now.changes all
+            → spec.refuses self.old (record batch.now { changes = all }) why self.new) };
+
+    /// The line that answers a request at the version.
+    fn reply(&self, alloc: Global, request: &Request) -> Result<Vec<u8>, AllocError>
+        ensures { IfOk result (λ line. spec.replies self.now request.now line.items) };
+}
