@@ -1,5 +1,6 @@
 //! What the tests of clients share: a publisher with its batches, a ring, and a writer that takes so much.
 
+mod closed;
 mod dialogues;
 mod threads;
 

@@ -38,7 +38,7 @@ forward_unanswered place s t (Ok (row.Put link)) a = knows_same s.known t.known 
 forward_unanswered place s t (Ok (row.Remove from local)) a = knows_same s.known t.known (ap (λ (x : SessionState). x.known) a)
 forward_unanswered place s t (Ok (row.Node router transit)) a = knows_same s.known t.known (ap (λ (x : SessionState). x.known) a)
 forward_unanswered place s t (Ok (row.End number count)) a = knows_same s.known t.known (ap (λ (x : SessionState). x.known) a)
-forward_unanswered place s t (Ok (row.Ask q)) a = forward_news s t a.hears
+forward_unanswered place s t (Ok (row.Ask q)) a = forward_news s t a.1.hears
 
 pub forward : ClientsGoForward
 unfolding AreAnswered

@@ -1,5 +1,5 @@
 -- The effect of a request, after the asker took the news.
-use Rattle.std.proofs.Common.{◌≡◌, ℕ, Bool, true, List, Result, Ok, Err, OnErr, inl, inr, refl, sym}
+use Rattle.std.proofs.Common.{◌≡◌, ℕ, Bool, List, refl, sym}
 use Rattle.cspf_model.specs.declared.request.Request.{Request}
 use Rattle.cspf_ero.specs.ReplyLine.{IsReply}
 use Rattle.cspf_publish.specs.Answers.{IsAnswerAfter}
@@ -41,16 +41,12 @@ module _ (a b c : KnownBatches) (old new : ListenerState) (refused : ℕ) (hears
     reply = rw (is.id, is.version) at reply;
   }
 
-  pub memory_refused : (no_entry : Bool) → IsRequestUnanswered (session a old refused no_entry) (session c new refused no_entry)
-  memory_refused no_entry = record { hears = heard_more no_entry no_entry; entry = inl refl }
+  -- memory is refused for the line of an answer
+  pub memory_refused : (no_entry : Bool) (why : AskError) → why ≡ ask_error.Memory
+      → IsRequestUnanswered why (session a old refused no_entry) (session c new refused no_entry)
+  memory_refused no_entry why is = record { hears = heard_more no_entry no_entry; entry = rw is refl }
 
   -- a request isn't answered, and the cause is noted
   pub unanswered : (no_entry : Bool) (why : AskError)
-      → IsRequestUnanswered (session a old refused no_entry) (session c new refused (entry_noted no_entry why))
-  unanswered no_entry ask_error.NoEntry = record { hears = heard_more no_entry true; entry = inr refl }
-  unanswered no_entry ask_error.Memory = memory_refused no_entry
-
--- what always holds also holds at an error
-pub at_error : {T E : Type 0} (P : Type 0) (r : Result T E) → P → OnErr r P
-at_error P (Ok x) holds = tt
-at_error P (Err e) holds = holds
+      → IsRequestUnanswered why (session a old refused no_entry) (session c new refused (entry_noted no_entry why))
+  unanswered no_entry why = record { hears = heard_more no_entry (entry_noted no_entry why); entry = refl }

@@ -1,15 +1,17 @@
 -- The answers to the rows of a client.
-use Rattle.std.specs.Prelude.{◌≡◌, ℕ, ◌+◌, ◌⊎◌, true, List, [], ◌++◌, length, Result, Ok, Err}
+use Rattle.std.specs.Prelude.{◌≡◌, ℕ, ◌+◌, ◌⊎◌, List, [], ◌++◌, length, Result, Ok, Err}
 use Rattle.cspf_model.specs.declared.request.Request.{Request}
 use Rattle.cspf_model.specs.Changes.{database_after}
 use Rattle.cspf_model.specs.Best.{Answer, IsBestAnswer}
 use Rattle.cspf_ero.specs.ReplyLine.{IsReply}
 use Rattle.cspf_publish.specs.KnownBatches.{KnownBatches}
+use Rattle.cspf_publish.specs.declared.errors.AskError.{AskError}
 use Rattle.cspf_rows.specs.declared.row.Row.{Row}
 use Rattle.cspf_rows.specs.declared.row.Row.TheVariants as row
 use Rattle.cspf_rows.specs.declared.row_error.RowError.{RowError}
 use Rattle.cspf_rows.specs.declared.row_error.RowError.TheVariants as error
 use Rattle.cspf_stream.specs.RefusedRows.{refused_row_line}
+use Rattle.cspf_client.specs.ErrorNames.{entry_noted}
 use Rattle.cspf_client.specs.NewsStates.{Learns}
 use Rattle.cspf_client.specs.SessionStates.{SessionState}
 use Rattle.cspf_client.specs.declared.limits.TheConstants.{KEPT_NEWS}
@@ -48,10 +50,11 @@ IsClientAnswered place s (Ok (row.Node router transit)) line t = IsRefusedRow pl
 IsClientAnswered place s (Ok (row.End number count)) line t = IsRefusedRow place error.Kind s line t
 IsClientAnswered place s (Ok (row.Ask q)) line t = IsRequestAnswered q s line t
 
--- a request isn't answered: memory was refused, or an entry, which is noted
-pub record IsRequestUnanswered (s t : SessionState) : Type 0 where
+-- A request isn't answered by this error of its ask. A refused entry is noted, and refused memory
+-- is not.
+pub record IsRequestUnanswered (why : AskError) (s t : SessionState) : Type 0 where
   pub hears : HearsNews s t
-  pub entry : (t.no_entry ≡ s.no_entry) ⊎ (t.no_entry ≡ true)
+  pub entry : t.no_entry ≡ entry_noted s.no_entry why
 
 -- the state where the row at this place isn't answered: only a request changes anything
 abbrev pub IsClientUnanswered : ℕ → SessionState → Result Row RowError → SessionState → Type 0
@@ -60,4 +63,4 @@ IsClientUnanswered place s (Ok (row.Put link)) t = t ≡ s
 IsClientUnanswered place s (Ok (row.Remove from local)) t = t ≡ s
 IsClientUnanswered place s (Ok (row.Node router transit)) t = t ≡ s
 IsClientUnanswered place s (Ok (row.End number count)) t = t ≡ s
-IsClientUnanswered place s (Ok (row.Ask q)) t = IsRequestUnanswered s t
+IsClientUnanswered place s (Ok (row.Ask q)) t = (why : AskError) × IsRequestUnanswered why s t

@@ -29,8 +29,9 @@ abbrev pub reader_rows : {Q : Type 0} → (Q → Option (List ℕ)) → Option (
 reader_rows bytes None = None
 reader_rows bytes (Some reader) = rows_left bytes reader
 
--- A client has learnt all published batches. It knows no more, unless it ends as `Ahead`.
+-- A client has learnt all published batches, and knows no more. Or it knew more than these, learnt
+-- nothing, and ends as `Ahead`.
 abbrev pub HasMet : {Q V : Type 0} → KnownBatches → ServingState Q V → ServingState Q V → Type 0
 HasMet told old new =
     ((new.state.known ≡ told) × (new.end ≡ old.end))
-    ⊎ ((length told.batches < length new.state.known.batches) × (new.end ≡ Err error.Ahead))
+    ⊎ (((new.state.known ≡ old.state.known) × (length told.batches < length old.state.known.batches)) × (new.end ≡ Err error.Ahead))

@@ -1,6 +1,6 @@
 //! How one row of a client is answered, by its asker and the news that it heard.
 
-ghost use Rattle.std.specs.Prelude.{◌≡◌, ◌+◌, ◌<◌, ◌≤◌, Ok, IfOk, OnOk, OnErr, IsTrue, IsFalse, length};
+ghost use Rattle.std.specs.Prelude.{◌≡◌, ◌+◌, ◌<◌, ◌≤◌, Ok, IfOk, IfErr, OnOk, OnErr, IsTrue, IsFalse, length};
 ghost use Rattle.cspf_ero.specs.ReplyLine.{IsReply};
 ghost use Rattle.cspf_model.specs.Outcome.{answer_of};
 ghost use Rattle.cspf_publish.specs.KnownBatches.{AreFirstOf};
@@ -45,11 +45,12 @@ impl Model for Session {
 }
 
 /// The reply line of an answer.
-fn line_of(alloc: Global, answer: Answer) -> Result<Vec<u8>, AllocError>
-    ensures { IfOk result (λ line.
+fn line_of(alloc: Global, answer: Answer) -> Result<Vec<u8>, AskError>
+    ensures line { IfOk result (λ line.
         IsReply answer.id answer.version (answer_of answer.outcome) line.items) }
+    ensures memory { IfErr result (λ why. why ≡ AskError.Memory) }
 {
-    reply_line(alloc, answer.id, answer.version, &answer.outcome)
+    Ok(reply_line(alloc, answer.id, answer.version, &answer.outcome)?)
 }
 
 impl Session {
@@ -94,17 +95,18 @@ impl Session {
         ensures others { self.new ≡ record self.old { known = self.new.known } }
         ensures known { AreFirstOf self.new.known self.old.known }
         ensures met { IsTrue result → self.new.known ≡ told }
-        ensures ahead { IsFalse result → length told.batches < length self.new.known.batches }
+        ensures ahead { IsFalse result → (self.new.known ≡ self.old.known)
+            × (length told.batches < length self.old.known.batches) }
     {
         let published = told.version();
         self.asker.meet(told) == published
     }
 
     /// Takes the news, asks, and returns the reply line.
-    fn ask(&mut self, alloc: Global, request: &Request) -> Result<Vec<u8>, AllocError>
+    fn ask(&mut self, alloc: Global, request: &Request) -> Result<Vec<u8>, AskError>
         ensures answered { IfOk result (λ line.
             IsRequestAnswered request.now self.old line.items self.new) }
-        ensures failed { OnErr result (IsRequestUnanswered self.old self.new) }
+        ensures failed { IfErr result (λ why. IsRequestUnanswered why self.old self.new) }
         ensures refused { self.new.refused ≡ self.old.refused }
     {
         self.listener.catch_up(&mut self.asker);
@@ -112,7 +114,7 @@ impl Session {
             Ok(answer) => line_of(alloc, answer),
             Err(why) => {
                 self.note(why);
-                Err(AllocError)
+                Err(why)
             }
         }
     }
@@ -149,7 +151,7 @@ impl Session {
         ensures refused { self.new.refused ≤ self.old.refused + 1 }
     {
         match row {
-            Row::Ask(request) => self.ask(alloc, request),
+            Row::Ask(request) => self.ask(alloc, request).map_err(|_noted| AllocError),
             Row::Put(_) => self.refuse(alloc, place, RowError::Kind),
             Row::Remove { .. } => self.refuse(alloc, place, RowError::Kind),
             Row::Node { .. } => self.refuse(alloc, place, RowError::Kind),
@@ -170,7 +172,7 @@ impl Answering<()> for Session {
 
     fn answer(
         &mut self,
-        _context: &(),
+        _: &(),
         alloc: Global,
         place: u64,
         row: &Result<Row, RowError>,
