@@ -14,6 +14,7 @@ import tempfile
 
 import reference
 from changes import changed, script
+from large import longest_routes
 from refusal import COMPILER, Refuser, each
 
 HERE = os.path.dirname(os.path.abspath(__file__))
@@ -138,13 +139,21 @@ static int told(routed_handle *handle, uint32_t code, const size_t *size)
     return code == ROUTED_ANSWERED && copied == *size;
 }
 
+/* Both calls answer that no session is open, and write no size. */
+static int stays_closed(routed_handle *handle, const uint8_t *row)
+{
+    size_t given = 12345, ended = 67890;
+    return routed_rows(handle, row, 5, &given) == ROUTED_CLOSED && given == 12345
+        && routed_end(handle, &ended) == ROUTED_CLOSED && ended == 67890 && handle->session == NULL;
+}
+
 int main(void)
 {
     routed_handle handle = ROUTED_CLOSED_HANDLE;
     size_t size = 7;
     const uint8_t *wrong = (const uint8_t *)"wrong";
     const uint8_t *mark = (const uint8_t *)"node,1.1.1.1,0";
-    if (routed_rows(&handle, wrong, 5, &size) != ROUTED_CLOSED || routed_end(&handle, &size) != ROUTED_CLOSED)
+    if (!stays_closed(&handle, wrong))
         return 1;
     if (routed_lines(&handle, buffer, sizeof buffer) != 0)
         return 2;
@@ -167,7 +176,7 @@ int main(void)
     if (!told(&handle, routed_rows(&handle, (const uint8_t *)"\"wro\nng\"\n\"put", 12, &size), &size))
         return 10;
     routed_close(&handle);
-    return routed_rows(&handle, wrong, 5, &size) == ROUTED_CLOSED ? 0 : 9;
+    return stays_closed(&handle, wrong) ? 0 : 9;
 }
 """
 
@@ -195,6 +204,8 @@ def c_library(program, checks):
         checks.true("most streams are given line by line too", by_line * 2 > len(streams), by_line)
         misuse(checks, room)
         many_rows(checks, solve)
+        rows, lines = longest_routes()
+        answers(checks, solve, python, "the longest routes", rows.encode(), lines.encode())
         longest = max(named_scripts(), key=lambda stream: len(stream[1]))
         if shutil.which("valgrind") is None:
             print("c_library: there is no valgrind, so what the library leaves of memory isn't looked at")

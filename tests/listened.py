@@ -23,7 +23,7 @@ import time
 import changes
 from readers import dressed
 from reference import publish, whole_batches
-from served import BATCHES, CLIENTS, PATIENCE, ROUTERS, Lines, batches_of, judged, wait_for
+from served import BATCHES, CLIENTS, PATIENCE, ROUTERS, Lines, batches_of, circuit_at, judged, reply_at, wait_for
 from snapshots import snapshot_of
 from versions import Versions
 
@@ -32,6 +32,7 @@ from routed import listen
 HERE = os.path.dirname(os.path.abspath(__file__))
 TOP = os.path.dirname(HERE)
 LISTEN = os.environ.get("LISTEN", os.path.join(TOP, "tools", "listen"))  # another one, to see these tests fail
+FRESH = ((2, 300), (CLIENTS, 20))  # the connections of a run, and its batches
 CONNECTIONS, LEFT = 200, 20  # connections one after another, and such as go before their replies
 SIGNALS, SOON = 20, 10  # runs that are ended by SIGTERM, and the seconds that they may take on a machine that others use
 MARK = "\xef\xbb\xbf"  # the byte order mark
@@ -46,7 +47,7 @@ def listened(program, checks):
     versions = Versions(updates, asks)
     with tempfile.TemporaryDirectory() as room:
         for part in (listening, stopping, held_up, one_thread, signals, places, ports, modes, posted, marks, idle, begun, connected, snapshot, beside_asks, failed_journal,
-                     failed_snapshots, server_ends, causes):
+                     failed_snapshots, server_ends, causes, fresh):
             inner = os.path.join(room, part.__name__)
             os.mkdir(inner)
             try:
@@ -754,3 +755,19 @@ def causes(program, checks, room, versions):
         ran = subprocess.run([sys.executable, os.path.join(TOP, "bench", words[0]), *given], capture_output=True, text=True)
         found = (ran.returncode, ran.stderr)
         checks.same(f"bench/{' '.join(words)} without a program", found, (1, f"bench/{words[0]}: {absent}: No such file or directory\n"))
+
+
+# ---- freshness
+
+
+def fresh(program, checks, room, versions):
+    """A connection that asks once `version V` was read is answered at V."""
+    for count, batches in FRESH:
+        os.mkdir(inner := os.path.join(room, str(count)))
+        with Front(program, inner, "--clients", str(count)) as front:
+            updating, together, found, wanted = Connection(front.updates), [Connection(front.ask) for _ in range(count)], [], []
+            for version in range(1, batches + 1):
+                found.append(updating.talk(circuit_at(version)))
+                found += [taken.talk(f"ask,{name},1.1.1.1,2.2.2.2,0,5,0x0,0x0,0x0,\n") for name, taken in enumerate(together)]
+                wanted += [f"version {version}\n", *(reply_at(name, version) for name in range(count))]
+            checks.same(f"{count} connections are answered at the version that was read", found, wanted)

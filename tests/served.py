@@ -29,6 +29,7 @@ SILENT = 600  # requests by a client that doesn't read, more than its pipes hold
 NARROW = 4096  # bytes that these hold
 REFUSED, AT_ONCE = 70_000, 500  # rows of one stream that are refused, and those of them that are sent before their lines are read
 STREAMS, STREAM_CLIENTS = 30, 6  # runs over streams of any bytes, and the clients of each
+FRESH = ((2, 1500), (CLIENTS, 100))  # the clients of a run, and its batches
 KILLS, TERMINATED = 100, 10  # runs that are killed, and every so many of them by SIGTERM
 MOMENT, PATIENCE = 0.01, 60  # seconds: between batches and before a kill at most, and that a line is awaited
 AT = re.compile(r"ask \d+ v(\d+) ")
@@ -48,6 +49,8 @@ def served(program, checks):
         dialogue(program, checks, folder("dialogue"))
         patient(program, checks, folder("patient"))
         many(program, checks, folder("many"), versions)
+        for clients, batches in FRESH:
+            fresh(checks, Serving(program, folder(f"fresh{clients}"), clients), clients, batches)
         silent(program, checks, folder("silent"), versions)
         limited(program, checks, folder("limited"), versions)
         devices(program, checks, folder("devices"))
@@ -559,3 +562,40 @@ def update(run, versions, told, draw):
             if line == f"version {told[0] + 1}\n":
                 told[0] += 1
             time.sleep(draw.random() * MOMENT if draw else 0)
+
+
+# ---- freshness
+
+
+def circuit_at(version):
+    """The batch of this number, which gives a circuit that metric from its first end."""
+    near, far, rest = "1.1.1.1,10.0.12.1", "2.2.2.2,10.0.12.2", "0x00000001,5,5,5,5,5,5,5,5"
+    return f"put,{near},{far},{version},{rest}\nput,{far},{near},10,{rest}\nend,{version},2\n"
+
+
+def reply_at(name, version):
+    """The reply to a request over that circuit."""
+    return f"ask {name} v{version} route cost={version} hops=1 again=no ero=000c140101080a000c022000\n"
+
+
+def fresh(checks, serving, clients, batches):
+    """A client that asks once `version V` was read is answered at V, even one that hasn't asked at the 19 versions before."""
+    ask, stale, asked = "ask,{},1.1.1.1,2.2.2.2,0,5,0x0,0x0,0x0,\n", [], 0
+    with serving as run:
+        for version in range(1, batches + 1):
+            told = run.talk(0, circuit_at(version))
+            if told != f"version {version}\n":
+                stale.append((0, version, told))
+                break
+            for number in range(1, clients + 1):
+                if number % 2 and version % 20 != number % 20:
+                    continue
+                asked += 1
+                line = run.talk(number, ask.format(number))
+                if line != reply_at(number, version):
+                    stale.append((number, version, line))
+            if stale:
+                break
+        checks.same(f"{clients} clients are answered at the version that was read", stale, [])
+        checks.true(f"{clients} clients ask", stale or asked > clients * batches // 2, asked)
+        checks.same(f"the end of {clients} fresh clients", run.end(), ([""] * (clients + 1), 0, ""))

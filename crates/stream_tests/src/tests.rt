@@ -88,6 +88,17 @@ struct Rows<'a> {
     events: &'a Events,
 }
 
+/// Gives these rows, of which none is read yet.
+fn rows_of<'a>(rows: &'a [&'a [u8]], fails: bool, events: &'a Events) -> Rows<'a> {
+    Rows {
+        rows,
+        at: 0,
+        rest: &[],
+        fails,
+        events,
+    }
+}
+
 impl<'a> Read for Rows<'a> {
     fn read(&mut self, buf: &mut [u8]) -> io::Result<usize> {
         if self.rest.is_empty() {
@@ -119,6 +130,16 @@ struct Lines<'a> {
     most: usize,
     most_flushes: u32,
     events: &'a Events,
+}
+
+/// Holds nothing yet.
+fn lines_of<'a>(alloc: Global, most: usize, most_flushes: u32, events: &'a Events) -> Lines<'a> {
+    Lines {
+        held: Vec::new(alloc),
+        most,
+        most_flushes,
+        events,
+    }
 }
 
 impl<'a> Write for Lines<'a> {

@@ -5,7 +5,7 @@
 
 use cspf_serve::{
     Client, ClientError, NoGate, RunError, ServeError, Served, ServedClient, SolveError,
-    StreamError, Summary, run_batch, run_serve, run_solve,
+    StreamError, Summary, run_batch, run_serve, run_snapshot, run_solve,
 };
 use std::alloc::Global;
 use std::sync::Wait;
@@ -104,6 +104,16 @@ const UPDATES: &[u8] =
 /// The text of that batch.
 const JOURNAL: &[u8] =
     b"put,1.1.1.1,10.0.12.1,2.2.2.2,10.0.12.2,10,0x00000001,1000,1000,1000,1000,1000,1000,1000,1000\nput,2.2.2.2,10.0.12.2,1.1.1.1,10.0.12.1,10,0x00000001,0,0,0,0,0,0,0,0\nend,1,2\n";
+
+#[test]
+fn makes_a_snapshot(rt: HostRuntime) {
+    let alloc = rt.alloc();
+    if let Ok(mut held) = Vec::with_capacity(alloc, ROOM) {
+        let found = run_snapshot(alloc, TORN, &mut held, true);
+        let whole = found == Ok(0) && held.as_slice() == JOURNAL;
+        assert!(rt; whole || found == Err(RunError::Memory));
+    }
+}
 
 /// The line of the batch that is published, and of one that isn't for want of memory.
 const PUBLISHED: &[u8] = b"version 1\n";

@@ -1,6 +1,6 @@
 //! That each line is out before the next row is read.
 
-use super::{Lines, Refusals, Rows, no_events};
+use super::{Refusals, lines_of, no_events, rows_of};
 use cspf_rows::open_records;
 use cspf_stream::answer_rows;
 use std::alloc::AllocError;
@@ -20,19 +20,8 @@ const ANSWERS: &[u8] = b"row 2 refused: fields\nrow 3 refused: fields\nrow 4 ref
 #[test]
 fn lines_before_the_next_row(rt: HostRuntime) -> Result<(), AllocError> {
     let events = no_events();
-    let reader = Rows {
-        rows: &ROWS,
-        at: 0,
-        rest: &[],
-        fails: false,
-        events: &events,
-    };
-    let mut writer = Lines {
-        held: Vec::new(rt.alloc()),
-        most: 1000,
-        most_flushes: 1000,
-        events: &events,
-    };
+    let reader = rows_of(&ROWS, false, &events);
+    let mut writer = lines_of(rt.alloc(), 1000, 1000, &events);
     let mut answering = Refusals {
         refused: 0,
         no_memory_at: 0,

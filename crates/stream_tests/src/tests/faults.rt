@@ -1,6 +1,6 @@
 //! The state where a read, a row, a write or a flush fails.
 
-use super::{Lines, Refusals, Rows, no_events};
+use super::{Refusals, lines_of, no_events, rows_of};
 use cspf_rows::open_records;
 use cspf_stream::{StreamError, answer_rows};
 use std::alloc::Global;
@@ -97,19 +97,8 @@ const FAULTS: [Fault; 7] = [
 /// and refused.
 fn stopped(alloc: Global, fault: &Fault) -> (Result<(), StreamError>, Vec<u8>, usize, u64) {
     let events = no_events();
-    let mut reader = Rows {
-        rows: &ROWS,
-        at: 0,
-        rest: &[],
-        fails: true,
-        events: &events,
-    };
-    let mut writer = Lines {
-        held: Vec::new(alloc),
-        most: fault.most,
-        most_flushes: fault.most_flushes,
-        events: &events,
-    };
+    let mut reader = rows_of(&ROWS, true, &events);
+    let mut writer = lines_of(alloc, fault.most, fault.most_flushes, &events);
     let mut answering = Refusals {
         refused: 0,
         no_memory_at: fault.no_memory_at,

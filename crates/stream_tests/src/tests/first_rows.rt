@@ -1,6 +1,6 @@
 //! A stream of which only the first rows are answered, without a flush.
 
-use super::{Lines, Refusals, Rows, no_events};
+use super::{Refusals, lines_of, no_events, rows_of};
 use cspf_rows::open_records;
 use cspf_stream::{StreamError, answer_first_rows};
 use std::alloc::AllocError;
@@ -19,19 +19,8 @@ const ENDS: [(u64, Result<(), StreamError>, &[u8]); 4] = [
 fn no_more_rows_than_the_limit(rt: HostRuntime) -> Result<(), AllocError> {
     for (limit, wanted, text) in ENDS {
         let events = no_events();
-        let reader = Rows {
-            rows: &ROWS,
-            at: 0,
-            rest: &[],
-            fails: false,
-            events: &events,
-        };
-        let mut writer = Lines {
-            held: Vec::new(rt.alloc()),
-            most: 1000,
-            most_flushes: 0,
-            events: &events,
-        };
+        let reader = rows_of(&ROWS, false, &events);
+        let mut writer = lines_of(rt.alloc(), 1000, 0, &events);
         let mut answering = Refusals {
             refused: 0,
             no_memory_at: 0,

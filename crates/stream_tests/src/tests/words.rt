@@ -45,7 +45,8 @@ fn lines_of_refused_rows(rt: HostRuntime) -> Result<(), Fail> {
 #[test]
 fn lines_of_streams(rt: HostRuntime) -> Result<(), Fail> {
     let unfit = BatchRefusal::Unfit(Refusal::Absent { at: 3 });
-    let wanted: [(StreamLine, &[u8]); 4] = [
+    let cut = BatchRefusal::Journal { written: 40 };
+    let wanted: [(StreamLine, &[u8]); 5] = [
         (StreamLine::Version { version: 7 }, b"version 7\n"),
         (
             StreamLine::RefusedBatch {
@@ -53,6 +54,13 @@ fn lines_of_streams(rt: HostRuntime) -> Result<(), Fail> {
                 refusal: unfit,
             },
             b"batch 8 refused: absent 3\n",
+        ),
+        (
+            StreamLine::RefusedBatch {
+                number: 9,
+                refusal: cut,
+            },
+            b"batch 9 refused: journal 40\n",
         ),
         (StreamLine::Unended { count: 9 }, b"unended 9\n"),
         (StreamLine::TooManyRows, b"too many rows\n"),
