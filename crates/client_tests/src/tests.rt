@@ -5,11 +5,12 @@ mod dialogues;
 mod threads;
 
 ghost use Rattle.std.specs.Prelude.{◌≡◌};
+ghost use Rattle.cspf_client.specs.ServingStates.{IsReady};
 
 use cspf_addr::{Addr, Mask};
-use cspf_client::{Client, Listener, Replies, ServedClient, ServingClient, Teller, open_news};
+use cspf_client::{Client, Replies, ServedClient, ServingClient, Teller, open_news};
 use cspf_model::{Batch, Change, Link};
-use cspf_publish::{Asker, Publisher, open};
+use cspf_publish::{Publisher, open};
 use std::alloc::Global;
 use std::io;
 use std::io::{ErrorKind, Write};
@@ -30,16 +31,31 @@ fn link_batch(alloc: Global, number: u32) -> Result<Batch, Fail> {
     })
 }
 
-/// A publisher without a batch, its one asker, and a ring for it.
-fn opened<R: Wait + Abort>(rt: &R, alloc: Global) -> (Publisher<Vec<u8>>, Asker, Teller, Listener)
-    ensures asker { result.1.source ≡ result.0.source }
-    ensures teller { result.2.source ≡ result.0.source }
-    ensures listener { result.3.source ≡ result.0.source }
+/// A publisher without a batch, its end of a ring, and a client with these requests whose replies are
+/// taken up to `most` bytes.
+fn seated<'a, R: Wait + Abort>(
+    rt: &R,
+    alloc: Global,
+    requests: &'a [u8],
+    most: usize,
+) -> (Publisher<Vec<u8>>, Teller, ServingClient<&'a [u8], Narrow>)
+    ensures teller { result.1.source ≡ result.0.source }
+    ensures client { result.2.state.known.source ≡ result.0.source }
+    ensures ready { IsReady result.2 }
 {
+    let replies = Narrow {
+        held: Vec::new(alloc),
+        most,
+        ends: 0,
+    };
+    let client = Client { requests, replies };
     match open(rt, alloc, Vec::<u8>::new(alloc), 1) {
         Ok((mut publisher, mut askers)) => {
             match (askers.pop(), open_news(alloc, &mut publisher)) {
-                (Some(asker), Ok((teller, listener))) => (publisher, asker, teller, listener),
+                (Some(asker), Ok((teller, listener))) => {
+                    let serving = ServingClient::new(alloc, asker, listener, client);
+                    (publisher, teller, serving)
+                }
                 _ => panic!(rt; "no asker or no ring"),
             }
         }
@@ -99,14 +115,7 @@ fn served<R: Wait + Abort>(
     requests: &[u8],
     most: usize,
 ) -> ServedClient<Narrow> {
-    let (mut publisher, asker, mut teller, listener) = opened(rt, alloc);
-    let replies = Narrow {
-        held: Vec::new(alloc),
-        most,
-        ends: 0,
-    };
-    let client = Client { requests, replies };
-    let mut serving = ServingClient::new(alloc, asker, listener, client);
+    let (mut publisher, mut teller, mut serving) = seated(rt, alloc, requests, most);
     let _ = publisher.apply(rt, alloc, first);
     tell_often(&mut teller, &mut publisher, words);
     serving.run(alloc);

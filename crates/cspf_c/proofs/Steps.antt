@@ -1,11 +1,9 @@
 -- One more row, and all rows of a stream.
-use Rattle.std.proofs.Common.{◌≡◌, ℕ, suc, ◌+◌, ◌<◌, ◌≤◌, Bool, true, false, List, [], ◌∷◌, ◌++◌, take, length, length-append, Result, refl, sym, ap, subst, ◌∙◌, append_assoc, append-nil, arith}
+use Rattle.std.proofs.Common.{◌≡◌, ℕ, suc, ◌+◌, ◌<◌, ◌≤◌, Bool, true, false, List, [], ◌∷◌, ◌++◌, take, length, length-append, refl, sym, ap, subst, ◌∙◌, append_assoc, append-nil, arith}
 use Rattle.std.proofs.Math.Logic.{∥∥₁_map}
 use Rattle.std.proofs.lemmas.Bool.{lt-ltb, le-ltb}
 use Rattle.std.proofs.lemmas.List.{take_all, take_at}
 use Rattle.cspf_rows.specs.Rows.{row_of}
-use Rattle.cspf_rows.specs.declared.row.Row.{Row}
-use Rattle.cspf_rows.specs.declared.row_error.RowError.{RowError}
 use Rattle.cspf_stream.specs.RowAnswers.{AreAnswered as AreTaken}
 use Rattle.cspf_solve.specs.Script.{RunState, start, at_next_row, IsRowAnswered, AreRowsAnswered, IsSolveRun, is_too_many, last_line, summary_of}
 use Rattle.cspf_solve.specs.SolveLaws.{CountsByOne, GoesOnByOneRow}
@@ -67,12 +65,12 @@ has_more more old new line rows lines fields one same room step has =
       past = rw (same, none.1) (refl, omega (arith, one, room));
     }
 
-pub one_more : GoesOnByOneRow → CountsByOne → (place : ℕ) (old new : TakenRows) (r : Result Row RowError) (line : List ℕ) → new.answered ≡ old.answered + 1 → new.too_many ≡ old.too_many
-    → old.answered < 1000000 → ((s : RunState) → KeepsRun old.solver s → (t : RunState) × KeepsRun new.solver t × IsRowAnswered (at_next_row s) r line t)
-    → IsOneMore place old r line new
-one_more more counts place old new r line one same room step = record {
-  counted = λ counted. ∥∥₁_map counted (counted_more counts old new r line one room step);
-  answered = λ rows lines fields is has. has_more more old new line rows lines fields one same room (rw is step) has;
+pub one_more : GoesOnByOneRow → CountsByOne → (place : ℕ) (old new : TakenRows) (fields : List (List ℕ)) (line : List ℕ) → new.answered ≡ old.answered + 1 → new.too_many ≡ old.too_many
+    → old.answered < 1000000 → ((s : RunState) → KeepsRun old.solver s → (t : RunState) × KeepsRun new.solver t × IsRowAnswered (at_next_row s) (row_of fields) line t)
+    → IsOneMore place old fields line new
+one_more more counts place old new fields line one same room step = record {
+  counted = λ counted. ∥∥₁_map counted (counted_more counts old new (row_of fields) line one room step);
+  answered = λ rows lines has. has_more more old new line rows lines fields one same room step has;
 }
 
 -- ---- a row past the 1,000,000th
@@ -93,10 +91,10 @@ counted_still old counted = record {
   most = counted.most;
 }
 
-pub one_past_all : (place : ℕ) (old new : TakenRows) (r : Result Row RowError) → new ≡ record old { too_many = true } → 1000000 ≤ old.answered → IsOneMore place old r [] new
-one_past_all place old new r is full = rw is (record {
+pub one_past_all : (place : ℕ) (old new : TakenRows) (fields : List (List ℕ)) → new ≡ record old { too_many = true } → 1000000 ≤ old.answered → IsOneMore place old fields [] new
+one_past_all place old new fields is full = rw is (record {
   counted = λ counted. ∥∥₁_map counted (counted_still old);
-  answered = λ rows lines fields is has. record {
+  answered = λ rows lines has. record {
     done = has.done;
     rest = has.rest ++ (fields ∷ []);
     after = has.after;
@@ -120,7 +118,7 @@ pub all_answered : (place : ℕ) (old new : TakenRows) (more : Rows) (out : List
 unfolding AreTaken
 all_answered place old new [] out rows lines a has = rw (a.0, a.1, append-nil rows, append-nil lines) has
 all_answered place old new (fields ∷ more) out rows lines a has =
-    let one = a.3.answered rows lines fields refl has in
+    let one = a.3.answered rows lines has in
     let rest = all_answered (suc place) a.1 new more a.2 (rows ++ (fields ∷ [])) (lines ++ a.0) a.5 one in
     rw a.4 (subst (λ (l : List ℕ). HasAnswered new (rows ++ (fields ∷ more)) l) (append_assoc lines a.0 a.2)
     (subst (λ (r : Rows). HasAnswered new r ((lines ++ a.0) ++ a.2)) (append_assoc rows (fields ∷ []) more) rest))

@@ -1,9 +1,6 @@
 -- The answers of a session.
-use Rattle.std.specs.Prelude.{◌≡◌, ℕ, ◌≤◌, List, [], ◌∷◌, ◌++◌, length, Result}
-use Rattle.cspf_rows.specs.Rows.{row_of}
+use Rattle.std.specs.Prelude.{◌≡◌, ℕ, ◌≤◌, List, [], ◌∷◌, ◌++◌, length}
 use Rattle.cspf_rows.specs.declared.limits.TheConstants.{MOST_ROWS}
-use Rattle.cspf_rows.specs.declared.row.Row.{Row}
-use Rattle.cspf_rows.specs.declared.row_error.RowError.{RowError}
 use Rattle.cspf_solve.specs.Script.{RunState, start, AreRowsAnswered}
 use Rattle.cspf_solve.specs.SolverStates.{KeepsRun, IsPast}
 use Rattle.cspf_c.specs.declared.session.TakenRows.{TakenRows}
@@ -30,7 +27,7 @@ pub record IsCounted (taken : TakenRows) : Type 0 where
   pub most : taken.answered ≤ MOST_ROWS
 
 -- Private: one more row is given, and answered this line.
-pub record IsOneMore (place : ℕ) (old : TakenRows) (row : Result Row RowError) (line : List ℕ) (new : TakenRows) : Type 0 where
+pub record IsOneMore (place : ℕ) (old : TakenRows) (fields : List (List ℕ)) (line : List ℕ) (new : TakenRows) : Type 0 where
   pub counted : ∥ IsCounted old ∥₁ → ∥ IsCounted new ∥₁
-  pub answered : (rows : List (List (List ℕ))) (lines : List ℕ) (fields : List (List ℕ)) → row_of fields ≡ row → HasAnswered old rows lines
+  pub answered : (rows : List (List (List ℕ))) (lines : List ℕ) → HasAnswered old rows lines
       → HasAnswered new (rows ++ (fields ∷ [])) (lines ++ line)

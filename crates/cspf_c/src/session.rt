@@ -7,9 +7,10 @@ ghost use Rattle.cspf_solve.specs.Script.{IsSolveRun};
 ghost use Rattle.cspf_solve.specs.declared.summary.Summary.{Summary};
 ghost use Rattle.cspf_c.specs.History.{HasAnswered, IsCounted, IsOneMore};
 
-use cspf_rows::{MOST_ROWS, Row, RowError, open_records};
+use cspf_rows::{MOST_ROWS, Row, open_records};
 use cspf_solve::{Solver, runs_go_on_row_by_row};
 use cspf_stream::{Answering, answer_rows};
+use csv::ByteRecord;
 use std::alloc::{AllocError, Global};
 
 /// The rows that a session was given.
@@ -26,7 +27,7 @@ pub struct TakenRows {
 impl Answering<()> for TakenRows {
     ghost answers = { IsOneMore };
 
-    ghost fails = { λ place old row new. Unit {0} };
+    ghost fails = { λ place old fields new. Unit {0} };
 
     ghost may_stand = { λ place taken. ∥ IsCounted taken ∥₁ };
 
@@ -35,7 +36,7 @@ impl Answering<()> for TakenRows {
         _context: &(),
         alloc: Global,
         _place: u64,
-        row: &Result<Row, RowError>,
+        fields: &ByteRecord,
     ) -> Result<Vec<u8>, AllocError> {
         // Law: with one more row a run goes on, and no count grows by more than one.
         runs_go_on_row_by_row();
@@ -43,7 +44,7 @@ impl Answering<()> for TakenRows {
             self.too_many = true;
             return Ok(Vec::new(alloc));
         }
-        let line = self.solver.answer(alloc, row)?;
+        let line = self.solver.answer(alloc, &Row::read(fields))?;
         self.answered += 1;
         Ok(line)
     }

@@ -10,7 +10,7 @@ use Rattle.cspf_stream.specs.RowAnswers.{AreAnswered, AreAllAnswered}
 use Rattle.cspf_stream.specs.StreamStops.{StopsBetween, StopsInRow, IsRowStopped, HasStopped}
 use Rattle.cspf_stream.specs.declared.error.StreamError.{StreamError}
 use Rattle.cspf_stream.specs.declared.error.StreamError.TheVariants as stream_error
-use Rattle.cspf_client.specs.ClientRows.{HearsNews, IsRefusedRow, IsClientAnswered, IsClientUnanswered}
+use Rattle.cspf_client.specs.ClientRows.{HearsNews, IsRefusedRow, IsClientRowAnswered, IsClientRowUnanswered, IsClientAnswered, IsClientUnanswered}
 use Rattle.cspf_client.specs.ClientRuns.{ClientsGoForward, IsStreamStopped}
 use Rattle.cspf_client.specs.SessionStates.{SessionState}
 use Rattle.cspf_client.proofs.Learning.{AreFirstOf-self, AreFirstOf-trans}
@@ -24,7 +24,7 @@ forward_news s t hears = hears.learnt.known
 forward_refused : (place : ℕ) (why : RowError) (s t : SessionState) (line : List ℕ) → IsRefusedRow place why s line t → AreFirstOf t.known s.known
 forward_refused place why s t line refused = knows_same s.known t.known (ap (λ (x : SessionState). x.known) refused.after)
 
-forward_row : (place : ℕ) (s t : SessionState) (r : Result Row RowError) (line : List ℕ) → IsClientAnswered place s r line t → AreFirstOf t.known s.known
+forward_row : (place : ℕ) (s t : SessionState) (r : Result Row RowError) (line : List ℕ) → IsClientRowAnswered place s r line t → AreFirstOf t.known s.known
 forward_row place s t (Err why) line a = forward_refused place why s t line a
 forward_row place s t (Ok (row.Put link)) line a = forward_refused place row_error.Kind s t line a
 forward_row place s t (Ok (row.Remove from local)) line a = forward_refused place row_error.Kind s t line a
@@ -32,7 +32,7 @@ forward_row place s t (Ok (row.Node router transit)) line a = forward_refused pl
 forward_row place s t (Ok (row.End number count)) line a = forward_refused place row_error.Kind s t line a
 forward_row place s t (Ok (row.Ask q)) line a = forward_news s t a.hears
 
-pub forward_unanswered : (place : ℕ) (s t : SessionState) (r : Result Row RowError) → IsClientUnanswered place s r t → AreFirstOf t.known s.known
+pub forward_unanswered : (place : ℕ) (s t : SessionState) (r : Result Row RowError) → IsClientRowUnanswered place s r t → AreFirstOf t.known s.known
 forward_unanswered place s t (Err why) a = knows_same s.known t.known (ap (λ (x : SessionState). x.known) a)
 forward_unanswered place s t (Ok (row.Put link)) a = knows_same s.known t.known (ap (λ (x : SessionState). x.known) a)
 forward_unanswered place s t (Ok (row.Remove from local)) a = knows_same s.known t.known (ap (λ (x : SessionState). x.known) a)
@@ -50,13 +50,13 @@ abbrev Rows : Type 0
 Rows = List (List (List ℕ))
 
 -- after a row that stops the stream
-forward_row_stopped : (why : StreamError) (place : ℕ) (r : Result Row RowError) (s t : SessionState) (old new : Option (List ℕ))
-    → IsRowStopped IsClientAnswered IsClientUnanswered why place r s t old new → AreFirstOf t.known s.known
-forward_row_stopped stream_error.Memory place r s t old new a = forward_unanswered place s t r a.0
-forward_row_stopped stream_error.Read place r s t old new a = absurd a
-forward_row_stopped stream_error.Write place r s t old new a = forward_row place s t r a.0 a.1
-forward_row_stopped stream_error.Flush place r s t old new a = forward_row place s t r a.0 a.1
-forward_row_stopped stream_error.TooManyRows place r s t old new a = absurd a
+forward_row_stopped : (why : StreamError) (place : ℕ) (fields : List (List ℕ)) (s t : SessionState) (old new : Option (List ℕ))
+    → IsRowStopped IsClientAnswered IsClientUnanswered why place fields s t old new → AreFirstOf t.known s.known
+forward_row_stopped stream_error.Memory place fields s t old new a = forward_unanswered place s t (row_of fields) a.0
+forward_row_stopped stream_error.Read place fields s t old new a = absurd a
+forward_row_stopped stream_error.Write place fields s t old new a = forward_row place s t (row_of fields) a.0 a.1
+forward_row_stopped stream_error.Flush place fields s t old new a = forward_row place s t (row_of fields) a.0 a.1
+forward_row_stopped stream_error.TooManyRows place fields s t old new a = absurd a
 
 module _ (all left : Option Rows) (failed : Bool) (s t : SessionState) (old new : Option (List ℕ)) where
   between : StopsBetween IsClientAnswered all s t old new → AreFirstOf t.known s.known
@@ -65,7 +65,7 @@ module _ (all left : Option Rows) (failed : Bool) (s t : SessionState) (old new 
   in_row : (why : StreamError) → StopsInRow IsClientAnswered IsClientUnanswered why all left s t old new → AreFirstOf t.known s.known
   in_row why a =
       AreFirstOf-trans s.known a.before.known t.known (forward 1 s a.before a.done a.lines a.answered)
-      (forward_row_stopped why (suc (length a.done)) (row_of a.fields) a.before t a.mid new a.stops)
+      (forward_row_stopped why (suc (length a.done)) a.fields a.before t a.mid new a.stops)
 
   pub forward_stopped : (why : StreamError) → HasStopped IsClientAnswered IsClientUnanswered why all left failed s t old new → AreFirstOf t.known s.known
   forward_stopped stream_error.Memory (inl a) = between a.1

@@ -6,6 +6,7 @@ use Rattle.cspf_model.specs.Best.{Answer, IsBestAnswer}
 use Rattle.cspf_ero.specs.ReplyLine.{IsReply}
 use Rattle.cspf_publish.specs.KnownBatches.{KnownBatches}
 use Rattle.cspf_publish.specs.declared.errors.AskError.{AskError}
+use Rattle.cspf_rows.specs.Rows.{row_of}
 use Rattle.cspf_rows.specs.declared.row.Row.{Row}
 use Rattle.cspf_rows.specs.declared.row.Row.TheVariants as row
 use Rattle.cspf_rows.specs.declared.row_error.RowError.{RowError}
@@ -41,14 +42,18 @@ pub record IsRequestAnswered (q : Request) (s : SessionState) (line : List ℕ) 
   pub best : IsBestAnswer (database_after t.known.batches) q answer
   pub reply : IsReply q.id (length t.known.batches) answer line
 
--- the line that answers the row at this place, from 1, and the states before and after
-abbrev pub IsClientAnswered : ℕ → SessionState → Result Row RowError → List ℕ → SessionState → Type 0
-IsClientAnswered place s (Err why) line t = IsRefusedRow place why s line t
-IsClientAnswered place s (Ok (row.Put link)) line t = IsRefusedRow place error.Kind s line t
-IsClientAnswered place s (Ok (row.Remove from local)) line t = IsRefusedRow place error.Kind s line t
-IsClientAnswered place s (Ok (row.Node router transit)) line t = IsRefusedRow place error.Kind s line t
-IsClientAnswered place s (Ok (row.End number count)) line t = IsRefusedRow place error.Kind s line t
-IsClientAnswered place s (Ok (row.Ask q)) line t = IsRequestAnswered q s line t
+-- the line that answers a row, read or not, at this place, from 1, and the states before and after
+abbrev pub IsClientRowAnswered : ℕ → SessionState → Result Row RowError → List ℕ → SessionState → Type 0
+IsClientRowAnswered place s (Err why) line t = IsRefusedRow place why s line t
+IsClientRowAnswered place s (Ok (row.Put link)) line t = IsRefusedRow place error.Kind s line t
+IsClientRowAnswered place s (Ok (row.Remove from local)) line t = IsRefusedRow place error.Kind s line t
+IsClientRowAnswered place s (Ok (row.Node router transit)) line t = IsRefusedRow place error.Kind s line t
+IsClientRowAnswered place s (Ok (row.End number count)) line t = IsRefusedRow place error.Kind s line t
+IsClientRowAnswered place s (Ok (row.Ask q)) line t = IsRequestAnswered q s line t
+
+-- the line that answers the record with these fields
+abbrev pub IsClientAnswered : ℕ → SessionState → List (List ℕ) → List ℕ → SessionState → Type 0
+IsClientAnswered place s fields line t = IsClientRowAnswered place s (row_of fields) line t
 
 -- A request isn't answered by this error of its ask. A refused entry is noted, and refused memory
 -- is not.
@@ -57,10 +62,14 @@ pub record IsRequestUnanswered (why : AskError) (s t : SessionState) : Type 0 wh
   pub entry : t.no_entry ≡ entry_noted s.no_entry why
 
 -- the state where the row at this place isn't answered: only a request changes anything
-abbrev pub IsClientUnanswered : ℕ → SessionState → Result Row RowError → SessionState → Type 0
-IsClientUnanswered place s (Err why) t = t ≡ s
-IsClientUnanswered place s (Ok (row.Put link)) t = t ≡ s
-IsClientUnanswered place s (Ok (row.Remove from local)) t = t ≡ s
-IsClientUnanswered place s (Ok (row.Node router transit)) t = t ≡ s
-IsClientUnanswered place s (Ok (row.End number count)) t = t ≡ s
-IsClientUnanswered place s (Ok (row.Ask q)) t = (why : AskError) × IsRequestUnanswered why s t
+abbrev pub IsClientRowUnanswered : ℕ → SessionState → Result Row RowError → SessionState → Type 0
+IsClientRowUnanswered place s (Err why) t = t ≡ s
+IsClientRowUnanswered place s (Ok (row.Put link)) t = t ≡ s
+IsClientRowUnanswered place s (Ok (row.Remove from local)) t = t ≡ s
+IsClientRowUnanswered place s (Ok (row.Node router transit)) t = t ≡ s
+IsClientRowUnanswered place s (Ok (row.End number count)) t = t ≡ s
+IsClientRowUnanswered place s (Ok (row.Ask q)) t = (why : AskError) × IsRequestUnanswered why s t
+
+-- the state where the record with these fields isn't answered
+abbrev pub IsClientUnanswered : ℕ → SessionState → List (List ℕ) → SessionState → Type 0
+IsClientUnanswered place s fields t = IsClientRowUnanswered place s (row_of fields) t

@@ -5,7 +5,7 @@ ghost use Rattle.cspf_ero.specs.ReplyLine.{IsReply};
 ghost use Rattle.cspf_model.specs.Outcome.{answer_of};
 ghost use Rattle.cspf_publish.specs.KnownBatches.{AreFirstOf};
 ghost use Rattle.cspf_client.specs.ErrorNames.{entry_noted};
-ghost use Rattle.cspf_client.specs.ClientRows.{IsClientAnswered, IsClientUnanswered, IsRefusedRow, IsRequestAnswered, IsRequestUnanswered};
+ghost use Rattle.cspf_client.specs.ClientRows.{IsClientRowAnswered, IsClientRowUnanswered, IsRefusedRow, IsRequestAnswered, IsRequestUnanswered};
 
 use crate::news::Listener;
 use cspf_ero::reply_line;
@@ -13,6 +13,7 @@ use cspf_model::Request;
 use cspf_publish::{Answer, AskError, Asker, Told};
 use cspf_rows::{Row, RowError};
 use cspf_stream::{Answering, refused_row};
+use csv::ByteRecord;
 use std::alloc::{AllocError, Global};
 use std::marker::Model;
 
@@ -146,8 +147,8 @@ impl Session {
     fn answer_read(&mut self, alloc: Global, place: u64, row: &Row) -> Result<Vec<u8>, AllocError>
         requires { self.old.refused < place }
         ensures answered { IfOk result (λ line.
-            IsClientAnswered place self.old (Ok row.now) line.items self.new) }
-        ensures failed { OnErr result (IsClientUnanswered place self.old (Ok row.now) self.new) }
+            IsClientRowAnswered place self.old (Ok row.now) line.items self.new) }
+        ensures failed { OnErr result (IsClientRowUnanswered place self.old (Ok row.now) self.new) }
         ensures refused { self.new.refused ≤ self.old.refused + 1 }
     {
         match row {
@@ -175,11 +176,11 @@ impl Answering<()> for Session {
         _: &(),
         alloc: Global,
         place: u64,
-        row: &Result<Row, RowError>,
+        fields: &ByteRecord,
     ) -> Result<Vec<u8>, AllocError> {
-        match row {
-            Ok(row) => self.answer_read(alloc, place, row),
-            Err(why) => self.refuse(alloc, place, *why),
+        match Row::read(fields) {
+            Ok(row) => self.answer_read(alloc, place, &row),
+            Err(why) => self.refuse(alloc, place, why),
         }
     }
 }

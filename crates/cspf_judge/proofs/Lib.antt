@@ -1,3 +1,4 @@
 -- The lemmas of this crate's proofs.
 pub mod AuditRunLines
+pub mod Fronts
 pub mod SnapshotRunLines

@@ -1,6 +1,6 @@
 -- What holds where a run over a journal or requests ends early.
-use Rattle.std.specs.Prelude.{◌≡◌, ℕ, Option, List}
-use Rattle.std.specs.Io.KnownBytes.{Appends}
+use Rattle.std.specs.Prelude.{◌≡◌, ◌⊎◌, ℕ, Option, List, ◌++◌}
+use Rattle.std.specs.Io.KnownBytes.{Appends, Keeps}
 use Rattle.cspf_audit.specs.declared.audit_error.AuditError.{AuditError}
 use Rattle.cspf_audit.specs.declared.audit_error.AuditError.TheVariants as audit_error
 use Rattle.cspf_db.specs.declared.replay.UnfitBatch.{UnfitBatch}
@@ -37,6 +37,22 @@ IsRefusalWritten (early_end.Failed error) old new = ⊥
 abbrev pub IsLastError : EarlyEnd → JudgeError → Type 0
 IsLastError (early_end.Refused line) e = Unit {0}
 IsLastError (early_end.Failed error) e = e ≡ error
+
+-- the beginning of a text was written: nothing, a part, or all of it
+pub record WritesFront (old new : Option (List ℕ)) (text : List ℕ) : Type 0 where
+  pub front : List ℕ
+  pub rest : List ℕ
+  pub split : text ≡ front ++ rest
+  pub written : Appends old new front
+
+-- nothing was written, or the beginning of lines of which this holds
+abbrev pub HasBegun : Option (List ℕ) → Option (List ℕ) → (List ℕ → Type 0) → Type 0
+HasBegun old new Holds = Keeps old new ⊎ ((lines : List ℕ) × Holds lines × WritesFront old new lines)
+
+-- the beginning of the line was written by which something is refused, or nothing
+abbrev pub IsRefusalBegun : EarlyEnd → Option (List ℕ) → Option (List ℕ) → Type 0
+IsRefusalBegun (early_end.Refused line) old new = WritesFront old new (judge_line_text line)
+IsRefusalBegun (early_end.Failed error) old new = Keeps old new
 
 -- lines were written of which this holds
 abbrev pub Writes : Option (List ℕ) → Option (List ℕ) → (List ℕ → Type 0) → Type 0

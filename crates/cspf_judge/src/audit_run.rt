@@ -1,9 +1,9 @@
 //! The run of `audit`: three streams in, a line for each fault and the count of good lines out.
 
-ghost use Rattle.std.specs.Prelude.{◌≡◌, IfOk, OnOk};
+ghost use Rattle.std.specs.Prelude.{◌≡◌, ℕ, IfOk, OnOk, OnErr};
 ghost use Rattle.std.specs.Io.KnownBytes.{Appends};
 ghost use Rattle.cspf_judge.specs.AuditRun.{IsAuditErrorLine, IsAuditRun, audit_lines, audit_status};
-ghost use Rattle.cspf_judge.specs.EarlyEnds.{IfRefused, IfFailed, IsAuditFailure, Writes};
+ghost use Rattle.cspf_judge.specs.EarlyEnds.{IfRefused, IfFailed, IsAuditFailure, HasBegun, Writes, WritesFront};
 
 use crate::input::requests_end_of;
 use crate::{EarlyEnd, JudgeError, JudgeLine, put_line, refuse};
@@ -15,7 +15,7 @@ use std::io::{Read, Write};
 /// Audits replies to the requests of a stream by a journal, and writes a line for each fault and
 /// then how many lines are good: `IsAuditRun`. Streams that aren't audited are refused by one line.
 /// The status is 0 where no line was written for a fault or a refusal, and else 2. After an error
-/// the contents of the writer are unspecified. The writer isn't flushed.
+/// the writer has nothing more, or the beginning of those lines. The writer isn't flushed.
 pub fn run_audit<W: Write, R: Read + Drop, Q: Read + Drop, P: Read + Drop>(
     alloc: Global,
     journal: R,
@@ -26,6 +26,9 @@ pub fn run_audit<W: Write, R: Read + Drop, Q: Read + Drop, P: Read + Drop>(
     ensures whole { IfOk result (λ status.
         Writes (W.contents writer.old) (W.contents writer.new) (λ lines.
         IsAuditRun (R.remaining journal) (Q.remaining requests) (P.remaining replies) lines status)) }
+    ensures stopped { OnErr result (HasBegun (W.contents writer.old) (W.contents writer.new)
+        (λ lines. (status : ℕ) × IsAuditRun (R.remaining journal) (Q.remaining requests)
+        (P.remaining replies) lines status)) }
 {
     match audit(alloc, journal, requests, replies) {
         Ok(found) => write_audit(alloc, &found, writer),
@@ -59,6 +62,8 @@ fn audit_end_of(error: AuditError) -> EarlyEnd
 fn write_audit<W: Write>(alloc: Global, found: &Audit, writer: &mut W) -> Result<u8, JudgeError>
     ensures status { IfOk result (λ status. status ≡ audit_status found.now) }
     ensures lines { OnOk result (Appends (W.contents writer.old) (W.contents writer.new)
+        (audit_lines found.now)) }
+    ensures front { OnErr result (WritesFront (W.contents writer.old) (W.contents writer.new)
         (audit_lines found.now)) }
 {
     for fault in &found.faults {

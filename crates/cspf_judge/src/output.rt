@@ -1,7 +1,7 @@
-ghost use Rattle.std.specs.Prelude.{◌≡◌, IfOk, IfErr, OnOk};
+ghost use Rattle.std.specs.Prelude.{◌≡◌, IfOk, IfErr, OnOk, OnErr};
 ghost use Rattle.std.specs.Io.KnownBytes.{Appends};
 ghost use Rattle.std.specs.Io.KnownBytes.{Keeps as HoldsAsBefore};
-ghost use Rattle.cspf_judge.specs.EarlyEnds.{IsRefusalWritten, IsLastError};
+ghost use Rattle.cspf_judge.specs.EarlyEnds.{IsRefusalBegun, IsRefusalWritten, IsLastError, WritesFront};
 ghost use Rattle.cspf_judge.specs.LineTexts.{judge_line_text};
 
 use crate::{EarlyEnd, JudgeError, JudgeLine};
@@ -12,6 +12,8 @@ use std::io::Write;
 /// Writes the bytes of a line.
 pub fn put<W: Write>(line: &[u8], writer: &mut W) -> Result<(), JudgeError>
     ensures text { OnOk result (Appends (W.contents writer.old) (W.contents writer.new) line.now) }
+    ensures front { OnErr result (WritesFront
+        (W.contents writer.old) (W.contents writer.new) line.now) }
     ensures error { IfErr result (λ e. e ≡ JudgeError.Device) }
 {
     match put_all(writer, line) {
@@ -24,6 +26,8 @@ pub fn put<W: Write>(line: &[u8], writer: &mut W) -> Result<(), JudgeError>
 pub fn put_line<W: Write>(alloc: Global, line: JudgeLine, writer: &mut W) -> Result<(), JudgeError>
     ensures text { OnOk result (Appends (W.contents writer.old) (W.contents writer.new)
         (judge_line_text line)) }
+    ensures front { OnErr result (WritesFront
+        (W.contents writer.old) (W.contents writer.new) (judge_line_text line)) }
     // Memory is refused before the first byte is written.
     ensures memory { IfErr result (λ e. e ≡ JudgeError.Memory
         → HoldsAsBefore (W.contents writer.old) (W.contents writer.new)) }
@@ -37,6 +41,8 @@ pub fn refuse<W: Write>(alloc: Global, end: EarlyEnd, writer: &mut W) -> Result<
     ensures status { IfOk result (λ status. status ≡ 2) }
     ensures line { IfOk result (λ status.
         IsRefusalWritten end (W.contents writer.old) (W.contents writer.new)) }
+    ensures begun { OnErr result (IsRefusalBegun end
+        (W.contents writer.old) (W.contents writer.new)) }
     ensures error { IfErr result (IsLastError end) }
 {
     match end {

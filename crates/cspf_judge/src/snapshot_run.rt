@@ -1,10 +1,10 @@
 //! The run of `snapshot`: a journal in, the few batches that make its last database out.
 
-ghost use Rattle.std.specs.Prelude.{◌≡◌, IfOk, IfErr, IfSome, OnOk};
+ghost use Rattle.std.specs.Prelude.{◌≡◌, ℕ, IfOk, IfErr, IfSome, OnOk, OnErr};
 ghost use Rattle.std.specs.Io.KnownBytes.{Appends};
 ghost use Rattle.cspf_rows.specs.JournalLaws.{journal_text};
 ghost use Rattle.cspf_rows.specs.Records.{rows_of};
-ghost use Rattle.cspf_judge.specs.EarlyEnds.{IfRefused, Writes};
+ghost use Rattle.cspf_judge.specs.EarlyEnds.{IfRefused, HasBegun, Writes, WritesFront};
 ghost use Rattle.cspf_judge.specs.SnapshotRun.{IsSnapshotOf, IsSnapshotRefused, IsSnapshotRun};
 
 use crate::{EarlyEnd, JudgeError, batches_of, put, refuse};
@@ -17,7 +17,8 @@ use std::io::{Read, Write};
 
 /// Writes the batches that make the last database of a journal from nothing: `IsSnapshotRun`. A
 /// journal that gives no database is refused by one line. The status is 2 where it was refused, and
-/// else 0. After an error the contents of the writer are unspecified. The writer isn't flushed.
+/// else 0. After an error the writer has nothing more, or the beginning of those lines. The writer
+/// isn't flushed.
 pub fn run_snapshot<R: Read + Drop, W: Write>(
     alloc: Global,
     journal: R,
@@ -27,6 +28,9 @@ pub fn run_snapshot<R: Read + Drop, W: Write>(
     ensures whole { IfOk result (λ status. IfSome (R.remaining journal) (λ bytes.
         Writes (W.contents writer.old) (W.contents writer.new) (λ lines.
         IsSnapshotRun accept_torn (rows_of bytes) lines status))) }
+    ensures stopped { OnErr result (IfSome (R.remaining journal) (λ bytes.
+        HasBegun (W.contents writer.old) (W.contents writer.new) (λ lines. (status : ℕ)
+        × IsSnapshotRun accept_torn (rows_of bytes) lines status))) }
 {
     match snapshot_of(alloc, accept_torn, journal) {
         Ok(batches) => {
@@ -62,6 +66,8 @@ fn write_batches<W: Write>(
     writer: &mut W,
 ) -> Result<(), JudgeError>
     ensures text { OnOk result (Appends (W.contents writer.old) (W.contents writer.new)
+        (journal_text batches.now)) }
+    ensures front { OnErr result (WritesFront (W.contents writer.old) (W.contents writer.new)
         (journal_text batches.now)) }
 {
     for batch in batches {

@@ -1,5 +1,5 @@
 -- Lists whose elements are related place by place.
-use Rattle.std.proofs.Common.{◌≡◌, ℕ, suc, ◌<◌, List, [], ◌∷◌, ◌++◌, length, get_or, All, Some, refl, sym, ap, subst, ◌∙◌, append_assoc, append-nil, take, arith}
+use Rattle.std.proofs.Common.{◌≡◌, ℕ, suc, ◌<◌, ◌≤◌, List, [], ◌∷◌, ◌++◌, length, length-append, get_or, All, Some, refl, sym, ap, subst, ◌∙◌, append_assoc, append-nil, take, arith}
 use Rattle.std.specs.List.{AllZip}
 use Rattle.std.proofs.Math.Seq.{take-append_seam}
 use Rattle.std.proofs.lemmas.List.Elements.{All-cons, All-head, All-nil, All-pop, All-tail}
@@ -72,6 +72,12 @@ left_next P before x left after all whole next holds =
     let same : before ++ x ∷ after ≡ all = ap (λ l. before ++ l) (sym next) ∙ whole in
     let here : All P (before ++ x ∷ after) = subst (All P) (sym same) holds in
     All-head P x after (all_back P before (x ∷ after) here)
+
+-- there is room for the pair of the next element, where there is room for those of all
+pub room_for_next : {A B : Type 0} (R : A → B → Type 0) (before : List A) (ys : List B) (x : A) (left after all : List A) (room : ℕ)
+    → AllZip R before ys → before ++ left ≡ all → left ≡ x ∷ after → length all ≤ room → length ys < room
+room_for_next R before ys x left after all room pairs whole next most =
+    omega (arith, length_pairs R before ys pairs, length-append before left, ap length whole, ap length next, most)
 
 -- nothing is left
 pub left_none : {X : Type 0} (before left all : List X) → before ++ left ≡ all → length left ≡ 0 → before ≡ all

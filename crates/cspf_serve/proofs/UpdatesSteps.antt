@@ -12,6 +12,7 @@ use Rattle.cspf_publish.specs.PublisherStates.{PublisherState}
 use Rattle.cspf_publish.specs.declared.errors.ApplyError.{ApplyError}
 use Rattle.cspf_publish.specs.declared.errors.ApplyError.TheVariants as error
 use Rattle.cspf_rows.specs.BatchText.{batch_text}
+use Rattle.cspf_rows.specs.Rows.{row_of}
 use Rattle.cspf_rows.specs.declared.row.Row.{Row}
 use Rattle.cspf_rows.specs.declared.row.Row.TheVariants as row
 use Rattle.cspf_rows.specs.declared.row_error.RowError.{RowError}
@@ -254,7 +255,7 @@ module _ {J : Type 0} (contents : J → Option (List ℕ)) (first : PublisherSta
 abbrev pub kept_of : {J : Type 0} → Rows (PublisherState J) → KeptUpdates J
 kept_of k = record { publisher = k.sink; changes = k.changes; answers = k.answers; refused = k.refused }
 
-module _ {J : Type 0} (contents : J → Option (List ℕ)) (unfit : RefusedIsUnfit) (k k' : Rows (PublisherState J)) (place : ℕ) (row : Result Row RowError) where
+module _ {J : Type 0} (contents : J → Option (List ℕ)) (unfit : RefusedIsUnfit) (k k' : Rows (PublisherState J)) (place : ℕ) (fields : List (List ℕ)) where
   begun : (first : PublisherState J) (s : UpdatesState) → KeepsUpdates contents first (kept_of k) s
       → IsOfUpdates contents first (record { sink = k.sink; changes = s.run.changes; answers = k.answers; refused = k.refused }) (at_next_update s)
   begun first s kept = record {
@@ -270,14 +271,14 @@ module _ {J : Type 0} (contents : J → Option (List ℕ)) (unfit : RefusedIsUnf
     refused = kept.refused ∙ of.refused;
   }
 
-  pub update_taken : (line : List ℕ) → RowsLead k k' (λ r t. IsRowTaken (publisher_spec contents) place r row line t) → IsUpdateTaken contents place (kept_of k) row line (kept_of k')
+  pub update_taken : (line : List ℕ) → RowsLead k k' (λ r t. IsRowTaken (publisher_spec contents) place r (row_of fields) line t) → IsUpdateTaken contents place (kept_of k) fields line (kept_of k')
   update_taken line lead = λ first s kept here.
       let led = lead (record { sink = k.sink; changes = s.run.changes; answers = k.answers; refused = k.refused }) (record { sink = refl; changes = kept.changes; answers = refl; refused = refl }) in
-      let a = row_taken contents first unfit _ (at_next_update s) (begun first s kept) led.0 row line (rw here at led.2) in
+      let a = row_taken contents first unfit _ (at_next_update s) (begun first s kept) led.0 (row_of fields) line (rw here at led.2) in
       (a.0, kept_again first led.0 a.0 led.1 a.1, a.2)
 
-  pub update_lost : RowsLead k k' (λ r t. IsRowLost (publisher_spec contents) r row t) → IsUpdateFailed contents place (kept_of k) row (kept_of k')
+  pub update_lost : RowsLead k k' (λ r t. IsRowLost (publisher_spec contents) r (row_of fields) t) → IsUpdateFailed contents place (kept_of k) fields (kept_of k')
   update_lost lead = λ first s kept here.
       let led = lead (record { sink = k.sink; changes = s.run.changes; answers = k.answers; refused = k.refused }) (record { sink = refl; changes = kept.changes; answers = refl; refused = refl }) in
-      let a = row_lost contents first unfit _ (at_next_update s) (begun first s kept) led.0 row led.2 in
+      let a = row_lost contents first unfit _ (at_next_update s) (begun first s kept) led.0 (row_of fields) led.2 in
       (a.0, kept_again first led.0 a.0 led.1 a.1, a.2)

@@ -83,20 +83,20 @@ module _ {J : Type 0} (contents : J → Option (List ℕ)) (first : PublisherSta
         let c = carried 1 k k' no_updates a.done a.lines kept refl a.answered in
         (c.0, c.1, record { done = a.done; rest = a.rest; lines = a.lines; split = a.split; answered = c.2; written = a.written })
 
-    carried_row : (why : StreamError) (place : ℕ) (r : Result Row RowError) (b : KeptUpdates J) (s : UpdatesState) (mid : Option (List ℕ)) → KeepsUpdates contents first b s → place ≡ s.run.rows + 1
-        → IsRowStopped (IsUpdateTaken contents) (IsUpdateFailed contents) why place r b k' mid new
-        → (t : UpdatesState) × KeepsUpdates contents first k' t × IsRowStopped IsUpdateAnsweredAt IsUpdateLostAt why place r s t mid new
-    carried_row stream_error.Memory place r b s mid keeps at a = let lost = a.0 first s keeps at in (lost.0, lost.1, ((at, lost.2), a.1))
-    carried_row stream_error.Read place r b s mid keeps at a = absurd a
-    carried_row stream_error.Write place r b s mid keeps at a = let taken = a.1 first s keeps at in (taken.0, taken.1, (a.0, (at, taken.2), a.2))
-    carried_row stream_error.Flush place r b s mid keeps at a = let taken = a.1 first s keeps at in (taken.0, taken.1, (a.0, (at, taken.2), a.2))
-    carried_row stream_error.TooManyRows place r b s mid keeps at a = absurd a
+    carried_row : (why : StreamError) (place : ℕ) (fields : List (List ℕ)) (b : KeptUpdates J) (s : UpdatesState) (mid : Option (List ℕ)) → KeepsUpdates contents first b s → place ≡ s.run.rows + 1
+        → IsRowStopped (IsUpdateTaken contents) (IsUpdateFailed contents) why place fields b k' mid new
+        → (t : UpdatesState) × KeepsUpdates contents first k' t × IsRowStopped IsUpdateAnsweredAt IsUpdateLostAt why place fields s t mid new
+    carried_row stream_error.Memory place fields b s mid keeps at a = let lost = a.0 first s keeps at in (lost.0, lost.1, ((at, lost.2), a.1))
+    carried_row stream_error.Read place fields b s mid keeps at a = absurd a
+    carried_row stream_error.Write place fields b s mid keeps at a = let taken = a.1 first s keeps at in (taken.0, taken.1, (a.0, (at, taken.2), a.2))
+    carried_row stream_error.Flush place fields b s mid keeps at a = let taken = a.1 first s keeps at in (taken.0, taken.1, (a.0, (at, taken.2), a.2))
+    carried_row stream_error.TooManyRows place fields b s mid keeps at a = absurd a
 
     carried_in_row : (why : StreamError) → StopsInRow (IsUpdateTaken contents) (IsUpdateFailed contents) why all left k k' old new
         → (t : UpdatesState) × KeepsUpdates contents first k' t × StopsInRow IsUpdateAnsweredAt IsUpdateLostAt why all left no_updates t old new
     carried_in_row why a =
         let c = carried 1 k a.before no_updates a.done a.lines kept refl a.answered in
-        let r = carried_row why (suc (length a.done)) (row_of a.fields) a.before c.0 a.mid c.1 (omega (arith, c.3)) a.stops in
+        let r = carried_row why (suc (length a.done)) a.fields a.before c.0 a.mid c.1 (omega (arith, c.3)) a.stops in
         (r.0, r.1, record { done = a.done; fields = a.fields; rest = a.rest; lines = a.lines; before = c.0; mid = a.mid; split = a.split; answered = c.2; written = a.written; stops = r.2 })
 
     pub carried_stopped : (why : StreamError) → HasStopped (IsUpdateTaken contents) (IsUpdateFailed contents) why all left failed k k' old new

@@ -5,17 +5,16 @@ use Rattle.std.specs.List.{AllZip}
 use Rattle.std.specs.Option.{option_map}
 use Rattle.std.specs.Io.KnownBytes.{Appends, Keeps}
 use Rattle.cspf_model.specs.Numbered.{NumberedChanges}
-use Rattle.cspf_rows.specs.declared.row.Row.{Row}
-use Rattle.cspf_rows.specs.declared.row_error.RowError.{RowError}
 use Rattle.cspf_rows.specs.Records.{rows_of}
+use Rattle.cspf_rows.specs.Rows.{row_of}
 use Rattle.cspf_publish.specs.Histories.{BeginsWith}
 use Rattle.cspf_client.specs.declared.client.Client.{Client}
 use Rattle.cspf_client.specs.declared.client.ServedClient.{ServedClient}
 use Rattle.cspf_client.specs.declared.error.ClientError.TheVariants.{Ahead}
 use Rattle.cspf_client.specs.ServingStates.{ServingState, IsReady, reader_rows}
 use Rattle.cspf_client.specs.ClientRuns.{IsClientRun}
-use Rattle.cspf_stream.specs.RowAnswers.{AreAllAnswered}
-use Rattle.cspf_stream.specs.StreamStops.{HasStopped, IsLineStopped}
+use Rattle.cspf_stream.specs.RowAnswers.{AnswersOf, AreAllAnswered}
+use Rattle.cspf_stream.specs.StreamStops.{FailsOf, HasStopped, IsLineStopped}
 use Rattle.cspf_stream.specs.declared.error.StreamError.{StreamError}
 use Rattle.cspf_stream.specs.declared.error.StreamError.TheVariants as error
 use Rattle.cspf_stream.specs.Lines.{end_line}
@@ -26,12 +25,12 @@ abbrev Rows : Type 0
 Rows = List (List (List ℕ))
 
 -- the row at this place, from 1, is answered
-abbrev pub IsUpdateAnsweredAt : ℕ → UpdatesState → Result Row RowError → List ℕ → UpdatesState → Type 0
-IsUpdateAnsweredAt place s row line t = (place ≡ s.run.rows + 1) × IsUpdateAnswered (at_next_update s) row line t
+abbrev pub IsUpdateAnsweredAt : AnswersOf UpdatesState
+IsUpdateAnsweredAt place s fields line t = (place ≡ s.run.rows + 1) × IsUpdateAnswered (at_next_update s) (row_of fields) line t
 
 -- memory is refused at the row at this place
-abbrev pub IsUpdateLostAt : ℕ → UpdatesState → Result Row RowError → UpdatesState → Type 0
-IsUpdateLostAt place s row t = (place ≡ s.run.rows + 1) × IsUpdateLost (at_next_update s) row t
+abbrev pub IsUpdateLostAt : FailsOf UpdatesState
+IsUpdateLostAt place s fields t = (place ≡ s.run.rows + 1) × IsUpdateLost (at_next_update s) (row_of fields) t
 
 -- where the line of changes that are still open stops: memory for it is refused, or as any line does
 abbrev pub IsLastLineStopped : StreamError → List ℕ → Option (List ℕ) → Option (List ℕ) → Type 0

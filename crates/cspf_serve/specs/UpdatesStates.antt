@@ -1,5 +1,5 @@
 -- Private: the state of a stream of updates that the code keeps.
-use Rattle.std.specs.Prelude.{◌≡◌, ℕ, ◌+◌, false, Option, List, [], ◌∷◌, ◌++◌, length, Result}
+use Rattle.std.specs.Prelude.{◌≡◌, ℕ, ◌+◌, false, Option, List, [], ◌∷◌, ◌++◌, length}
 use Rattle.std.specs.Io.KnownBytes.{Appends}
 use Rattle.cspf_ero.specs.ReplyLine.{IsReply}
 use Rattle.cspf_model.specs.Best.{Answer, IsBestAnswer}
@@ -9,11 +9,12 @@ use Rattle.cspf_publish.specs.ApplyErrors.{IsApplyError, IsNextBatch}
 use Rattle.cspf_publish.specs.PublisherStates.{PublisherState}
 use Rattle.cspf_publish.specs.declared.errors.ApplyError.{ApplyError}
 use Rattle.cspf_rows.specs.BatchText.{batch_text}
-use Rattle.cspf_rows.specs.declared.row.Row.{Row}
-use Rattle.cspf_rows.specs.declared.row_error.RowError.{RowError}
+use Rattle.cspf_rows.specs.Rows.{row_of}
 use Rattle.cspf_stream.specs.declared.open_changes.OpenChanges.{OpenChanges}
 use Rattle.cspf_stream.specs.OpenChanges.{AreOpen}
+use Rattle.cspf_stream.specs.RowAnswers.{AnswersOf}
 use Rattle.cspf_stream.specs.Sinks.{SinkSpec}
+use Rattle.cspf_stream.specs.StreamStops.{FailsOf}
 use Rattle.cspf_solve.specs.Script.{open_batch, after_batch}
 use Rattle.cspf_serve.specs.LiveWords.{refusal_of}
 use Rattle.cspf_serve.specs.Updates.{UpdatesState, IsUpdateAnswered, IsUpdateLost, at_next_update}
@@ -72,13 +73,13 @@ after_published s number = record {
 }
 
 -- the row at a place is answered
-abbrev pub IsUpdateTaken : {J : Type 0} → (J → Option (List ℕ)) → ℕ → KeptUpdates J → Result Row RowError → List ℕ → KeptUpdates J → Type 0
-IsUpdateTaken {J} contents place k row line k' =
+abbrev pub IsUpdateTaken : {J : Type 0} → (J → Option (List ℕ)) → AnswersOf (KeptUpdates J)
+IsUpdateTaken {J} contents place k fields line k' =
     (first : PublisherState J) (s : UpdatesState) → KeepsUpdates contents first k s → place ≡ s.run.rows + 1
-    → (t : UpdatesState) × KeepsUpdates contents first k' t × IsUpdateAnswered (at_next_update s) row line t
+    → (t : UpdatesState) × KeepsUpdates contents first k' t × IsUpdateAnswered (at_next_update s) (row_of fields) line t
 
 -- memory is refused at the row at a place
-abbrev pub IsUpdateFailed : {J : Type 0} → (J → Option (List ℕ)) → ℕ → KeptUpdates J → Result Row RowError → KeptUpdates J → Type 0
-IsUpdateFailed {J} contents place k row k' =
+abbrev pub IsUpdateFailed : {J : Type 0} → (J → Option (List ℕ)) → FailsOf (KeptUpdates J)
+IsUpdateFailed {J} contents place k fields k' =
     (first : PublisherState J) (s : UpdatesState) → KeepsUpdates contents first k s → place ≡ s.run.rows + 1
-    → (t : UpdatesState) × KeepsUpdates contents first k' t × IsUpdateLost (at_next_update s) row t
+    → (t : UpdatesState) × KeepsUpdates contents first k' t × IsUpdateLost (at_next_update s) (row_of fields) t

@@ -1,5 +1,5 @@
 -- A batch that is refused isn't accepted.
-use Rattle.std.proofs.Common.{◌≡◌, ◌≢◌, ℕ, ◌+◌, ◌≤◌, Bool, true, false, length, sym, ◌∙◌, arith}
+use Rattle.std.proofs.Common.{◌≡◌, ℕ, Bool, false, length, sym, ◌∙◌, arith}
 use Rattle.std.proofs.lemmas.Bool.{false≢true}
 use Rattle.cspf_model.specs.Laws.{RefusedIsUnfit}
 use Rattle.cspf_model.specs.Refusals.{IsRefusal}

@@ -6,10 +6,9 @@ use Rattle.std.proofs.lemmas.List.{take_all, take_at, length-take-le}
 use Rattle.std.specs.Io.KnownBytes.{Appends}
 use Rattle.cspf_rows.specs.Records.{rows_of}
 use Rattle.cspf_rows.specs.Rows.{row_of}
-use Rattle.cspf_rows.specs.declared.row.Row.{Row}
-use Rattle.cspf_rows.specs.declared.row_error.RowError.{RowError}
 use Rattle.cspf_stream.specs.FirstRows.{AreFirstRowsAnswered, HasMoreRows, StopsAfterRows, HasStoppedAfter}
-use Rattle.cspf_stream.specs.RowAnswers.{AreAnswered}
+use Rattle.cspf_stream.specs.RowAnswers.{AnswersOf, AreAnswered}
+use Rattle.cspf_stream.specs.StreamStops.{FailsOf}
 use Rattle.cspf_stream.specs.declared.error.StreamError.{StreamError}
 use Rattle.cspf_stream.specs.declared.error.StreamError.TheVariants as stream_error
 use Rattle.cspf_solve.specs.declared.solver.Solver.{Solver}
@@ -17,7 +16,8 @@ use Rattle.cspf_solve.specs.declared.summary.Summary.{Summary}
 use Rattle.cspf_solve.specs.declared.error.SolveError.{SolveError}
 use Rattle.cspf_solve.specs.declared.error.SolveError.TheVariants as solve_error
 use Rattle.cspf_solve.specs.Script.{RunState, start, at_next_row, IsRowAnswered, AreRowsAnswered, IsSolveRun, is_too_many, last_line, summary_of}
-use Rattle.cspf_solve.specs.OutputAtError.{IsBegunByRows, IsNextText, IsOutputAtError}
+use Rattle.cspf_solve.specs.OutputAtError.{IsBegunByRows, IsNextText}
+use Rattle.cspf_solve.specs.RowsEnds.{HasRun, IsHalted, IsRowsEnd}
 use Rattle.cspf_solve.specs.SolverStates.{KeepsRun, AreCounted, IsAnsweredBySolver, IsPast, IsEndCut, end_after_rows}
 use Rattle.cspf_solve.proofs.RowCounts.{counted_rows}
 
@@ -25,11 +25,11 @@ abbrev Rows : Type 0
 Rows = List (List (List ℕ))
 
 -- how the solver answers the row at a place, and what it does where memory is refused
-abbrev pub SolverAnswers : ℕ → Solver → Result Row RowError → List ℕ → Solver → Type 0
-SolverAnswers place = IsAnsweredBySolver
+abbrev pub SolverAnswers : AnswersOf Solver
+SolverAnswers place old fields = IsAnsweredBySolver old (row_of fields)
 
-abbrev pub SolverFails : ℕ → Solver → Result Row RowError → Solver → Type 0
-SolverFails place old row new = Unit {0}
+abbrev pub SolverFails : FailsOf Solver
+SolverFails place old fields new = Unit {0}
 
 pub none_answered : (s : RunState) → AreRowsAnswered s [] [] s
 unfolding AreRowsAnswered
@@ -62,19 +62,6 @@ carried place k k' s (fields ∷ rows) lines kept a =
     (rest.0, rest.1, (a.0, step.0, a.2, step.2, a.4, rest.2))
 
 -- ---- the end of the rows
-
--- all rows that are read are answered, and there are more of them or not
-pub record HasRun (all : Option (List (List (List ℕ)))) (old new : Option (List ℕ)) (solver : Solver) (bytes : ℕ) (too_many : Bool) : Type 0 where
-  pub done : List (List (List ℕ))
-  pub rest : List (List (List ℕ))
-  pub state : RunState
-  pub out : List ℕ
-  pub answered : AreRowsAnswered start done out state
-  pub kept : KeepsRun solver state
-  pub text : Appends old new out
-  pub size : length out ≡ bytes
-  pub split : IfSome all (λ rows. rows ≡ done ++ rest)
-  pub past : IsPast too_many (length done) rest
 
 whole_split : (all : Option Rows) (done : Rows) → IfSome all (λ rows. rows ≡ done) → IfSome all (λ rows. rows ≡ done ++ [])
 whole_split None done is = tt
@@ -163,10 +150,6 @@ run_ends all old mid new solver bytes too_many (Ok summary) run ended = ends all
 
 -- ---- where the run stops
 
--- the output where the run stops
-abbrev pub IsHalted : Option (List (List (List ℕ))) → Option (List ℕ) → Option (List ℕ) → SolveError → Type 0
-IsHalted all old new error = IfSome all (λ rows. (out : List ℕ) × IsOutputAtError error rows out × Appends old new out)
-
 abbrev IsHaltedByRows : Option Rows → Option (List ℕ) → Option (List ℕ) → Type 0
 IsHaltedByRows all old new = IfSome all (λ rows. (out : List ℕ) × IsBegunByRows rows out × Appends old new out)
 
@@ -237,13 +220,8 @@ module _ (all left : Option (List (List (List ℕ)))) (old new : Option (List �
   no_flush : (failed : Bool) → HasStoppedAfter SolverAnswers SolverFails 1000000 false bytes stream_error.Flush all left failed k k' old new → ⊥
   no_flush failed a = false≢true a.stops.1.2
 
-  -- the end of the rows: all that are read are answered, or the run stops
-  abbrev pub IsRowsEnd : Bool → Result Bool SolveError → Type 0
-  IsRowsEnd failed (Ok too_many) = HasRun all old new k' bytes too_many
-  IsRowsEnd failed (Err error) = IsHalted all old new error × (error ≡ solve_error.Read → failed ≡ true)
-
   rows_end : (failed : Bool) (ended : Result (Unit {0}) StreamError) → OnOk ended (AreFirstRowsAnswered SolverAnswers 1000000 bytes all k k' old new)
-      → IfErr ended (λ e. HasStoppedAfter SolverAnswers SolverFails 1000000 false bytes e all left failed k k' old new) → IsRowsEnd failed (end_after_rows bytes ended)
+      → IfErr ended (λ e. HasStoppedAfter SolverAnswers SolverFails 1000000 false bytes e all left failed k k' old new) → IsRowsEnd all old new k' bytes failed (end_after_rows bytes ended)
   rows_end failed (Ok x) whole stopped = has_run all left old new k k' bytes fresh whole
   rows_end failed (Err stream_error.TooManyRows) whole stopped = has_more all left old new k k' bytes fresh stopped
   rows_end failed (Err stream_error.Memory) whole stopped = (stops_in_memory failed stopped, λ e. absurd (cc e))
@@ -253,9 +231,9 @@ module _ (all left : Option (List (List (List ℕ)))) (old new : Option (List �
 
   pub rows_end_at : (failed : Bool) (limit : ℕ) (ended : Result (Unit {0}) StreamError) (r : Result Bool SolveError) → limit ≡ 1000000
       → OnOk ended (AreFirstRowsAnswered SolverAnswers limit bytes all k k' old new)
-      → IfErr ended (λ e. HasStoppedAfter SolverAnswers SolverFails limit false bytes e all left failed k k' old new) → end_after_rows bytes ended ≡ r → IsRowsEnd failed r
+      → IfErr ended (λ e. HasStoppedAfter SolverAnswers SolverFails limit false bytes e all left failed k k' old new) → end_after_rows bytes ended ≡ r → IsRowsEnd all old new k' bytes failed r
   rows_end_at failed limit ended r most whole stopped is =
-      subst (λ (x : Result Bool SolveError). IsRowsEnd failed x) is (rows_end failed ended (rw most at whole) (rw most at stopped))
+      subst (λ (x : Result Bool SolveError). IsRowsEnd all old new k' bytes failed x) is (rows_end failed ended (rw most at whole) (rw most at stopped))
 
 end_next : (done rest : Rows) (s : RunState) (too_many : Bool) → IsPast too_many (length done) rest → IsNextText done s rest (last_line too_many s.changes)
 end_next done [] s false past = refl

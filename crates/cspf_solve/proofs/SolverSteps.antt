@@ -1,5 +1,5 @@
 -- The state of a run after the answer to a row.
-use Rattle.std.proofs.Common.{◌≡◌, ◌≢◌, ℕ, ◌+◌, false, List, [], ◌∷◌, ◌++◌, length, length-append, Result, Ok, Err, inl, inr, refl, sym, ap, subst, ◌∙◌, arith}
+use Rattle.std.proofs.Common.{◌≡◌, ℕ, ◌+◌, false, List, [], ◌∷◌, ◌++◌, length, length-append, Result, Ok, Err, inl, inr, refl, sym, ap, subst, ◌∙◌, arith}
 use Rattle.cspf_model.specs.Changes.{database_after}
 use Rattle.cspf_model.specs.Laws.{OneMoreBatch, RefusedIsUnfit}
 use Rattle.cspf_model.specs.declared.batch.Change.{Change}
@@ -8,7 +8,7 @@ use Rattle.cspf_rows.specs.declared.row.Row.{Row}
 use Rattle.cspf_rows.specs.declared.row.Row.TheVariants as row
 use Rattle.cspf_rows.specs.declared.row_error.RowError.{RowError}
 use Rattle.cspf_stream.specs.OpenChanges.{AreOpen}
-use Rattle.cspf_stream.specs.RowsTaken.{RowsState, KeepsRows, RowsLead, IsEndAccepted, IsEndRefused, IsBatchDropped, IsRowTaken}
+use Rattle.cspf_stream.specs.RowsTaken.{RowsState, RowsLead, IsEndAccepted, IsEndRefused, IsBatchDropped, IsRowTaken}
 use Rattle.cspf_stream.specs.declared.batch_refusal.BatchRefusal.{BatchRefusal}
 use Rattle.cspf_solve.specs.declared.solver.Solver.{Solver}
 use Rattle.cspf_solve.specs.declared.table_sink.TableSink.{TableSink}

@@ -1,6 +1,7 @@
 -- The words of this crate's contracts.
 pub mod Script
 pub mod OutputAtError
+pub mod RowsEnds
 pub mod SolveLaws
 pub mod SolverStates
 pub mod Status

@@ -7,6 +7,7 @@ ghost use Rattle.cspf_rows.specs.Records.{rows_of, rows_left, IsPlain};
 ghost use Rattle.cspf_solve.specs.declared.error.SolveError.TheVariants.{Read as IsRead};
 ghost use Rattle.cspf_solve.specs.Script.{RunState, start, IsSolveRun, IsScript, last_line, summary_of};
 ghost use Rattle.cspf_solve.specs.OutputAtError.{IsOutputAtError};
+ghost use Rattle.cspf_solve.specs.RowsEnds.{IsRowsEnd};
 ghost use Rattle.cspf_solve.specs.SolverStates.{KeepsRun, AreCounted, IsEndCut, end_after_rows};
 
 use crate::{SolveError, Solver, Summary};
@@ -58,10 +59,27 @@ fn solve_rows<R: Read, W: Write>(
     // Only the reader's own fault is answered `Read`.
     ensures read { IfErr result (λ error. error ≡ IsRead → has_failed rows.new ≡ true) }
 {
+    let (written, ended) = answer_most(alloc, rows, solver, writer);
+    finish(alloc, solver, writer, written, ended?)
+}
+
+/// Answers the first 1,000,000 rows that a reader has left. Returns how many bytes were written, and
+/// whether there are more rows, or why the run stops in them.
+fn answer_most<R: Read, W: Write>(
+    alloc: Global,
+    rows: &mut Reader<R>,
+    solver: &mut Solver,
+    writer: &mut W,
+) -> (u128, Result<bool, SolveError>)
+    requires plain { IsPlain rows.old }
+    requires fresh { KeepsRun solver.old start }
+    ensures ends { IsRowsEnd (rows_left R.remaining rows.old) (W.contents writer.old)
+        (W.contents writer.new) solver.new result.0 (has_failed rows.new) result.1 }
+    ensures small { result.0 ≤ MOST_ROWS * 2 ^ 64 }
+{
     let limit = u64::from(MOST_ROWS);
-    let (written, ended) = answer_first_rows(&(), alloc, limit, rows, writer, solver);
-    let too_many = end_after_rows(written, ended)?;
-    finish(alloc, solver, writer, written, too_many)
+    let (written, ended) = answer_first_rows(&(), alloc, limit, false, rows, writer, solver);
+    (written, end_after_rows(written, ended))
 }
 
 /// How the rows end, after `written` bytes: whether there are more than are read, or why the run

@@ -9,6 +9,7 @@ use cspf_db::Table;
 use cspf_model::{absorbing, one_refusal};
 use cspf_rows::{Row, RowError};
 use cspf_stream::{Answering, Rows, StreamLine};
+use csv::ByteRecord;
 use std::alloc::{AllocError, Global};
 
 /// The state between two rows. A stream of any length takes no more memory than this.
@@ -22,11 +23,12 @@ pub struct Solver {
 
 impl Answering<()> for Solver {
     ghost use Rattle.std.specs.Prelude.{◌<◌};
+    ghost use Rattle.cspf_rows.specs.Rows.{row_of};
     ghost use Rattle.cspf_solve.specs.SolverStates.{IsAnsweredBySolver, AreBelow};
 
-    ghost answers = { λ place. IsAnsweredBySolver };
+    ghost answers = { λ place old fields. IsAnsweredBySolver old (row_of fields) };
 
-    ghost fails = { λ place old row new. Unit {0} };
+    ghost fails = { λ place old fields new. Unit {0} };
 
     // Each row adds one at most.
     ghost may_stand = { λ place solver. AreBelow place solver };
@@ -36,9 +38,9 @@ impl Answering<()> for Solver {
         _context: &(),
         alloc: Global,
         _place: u64,
-        row: &Result<Row, RowError>,
+        fields: &ByteRecord,
     ) -> Result<Vec<u8>, AllocError> {
-        Solver::answer(self, alloc, row)
+        Solver::answer(self, alloc, &Row::read(fields))
     }
 }
 

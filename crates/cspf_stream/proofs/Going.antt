@@ -4,7 +4,6 @@ use Rattle.std.proofs.KnownBytes.{Appends-nil, Appends-trans}
 use Rattle.std.specs.Io.KnownBytes.{Appends}
 use Rattle.cspf_rows.specs.ReadFaults.{stream_fault_of}
 use Rattle.cspf_rows.specs.Records.{Takes}
-use Rattle.cspf_rows.specs.Rows.{row_of}
 use Rattle.cspf_rows.specs.declared.record_error.RecordError.{RecordError}
 use Rattle.cspf_rows.specs.declared.record_error.RecordError.TheVariants as fault
 use Rattle.cspf_stream.specs.RowAnswers.{AnswersOf, AreAnswered, AreAllAnswered}
@@ -92,7 +91,7 @@ module _ {S : Type 0} (answers : AnswersOf S) where
   none_answered place s = (refl, refl)
 
   answered_more : (place : ℕ) (s t u : S) (done : Rows) (fields : List (List ℕ)) (lines line : List ℕ) → AreAnswered answers place s done lines t
-      → answers (place + length done) t (row_of fields) line u → AreAnswered answers place s (done ++ (fields ∷ [])) (lines ++ line) u
+      → answers (place + length done) t fields line u → AreAnswered answers place s (done ++ (fields ∷ [])) (lines ++ line) u
   unfolding AreAnswered
   answered_more place s t u [] fields lines line before step =
       let n : place + 0 ≡ place = omega arith in
@@ -120,7 +119,7 @@ module _ {S : Type 0} (answers : AnswersOf S) where
 
   module _ (all left next : Option (List (List (List ℕ)))) (s t : S) (old mid : Option (List ℕ)) (read bytes : ℕ) (fields : List (List ℕ)) (going : IsGoing answers all left s t old mid read bytes) where
     -- one more row is answered
-    pub steps : (u : S) (new : Option (List ℕ)) (line : List ℕ) (after : ℕ) → Takes left next true fields → answers (read + 1) t (row_of fields) line u → Appends mid new line
+    pub steps : (u : S) (new : Option (List ℕ)) (line : List ℕ) (after : ℕ) → Takes left next true fields → answers (read + 1) t fields line u → Appends mid new line
         → after ≡ bytes + length line → IsGoing answers all next s u old new (read + 1) after
     steps u new line after takes answered written size =
         let place : read + 1 ≡ 1 + length going.done = omega (arith, going.count) in
@@ -171,14 +170,14 @@ module _ {S : Type 0} (answers : AnswersOf S) where
 
       -- the row that was read stops
       pub stops_in_row : (u : S) (new : Option (List ℕ)) (failed : Bool) (error : StreamError) (after : ℕ) → read < limit → Takes left next true fields
-          → IsRowStoppedAfter answers fails flush bytes after error (read + 1) (row_of fields) t u mid new → HasStoppedAfter answers fails limit flush after error all next failed s u old new
+          → IsRowStoppedAfter answers fails flush bytes after error (read + 1) fields t u mid new → HasStoppedAfter answers fails limit flush after error all next failed s u old new
       stops_in_row u new failed error after few takes stops =
           let split = split_rest all next going.done fields (split_next all left next going.done fields going.split takes) in
           let place : read + 1 ≡ suc (length going.done) = omega (arith, going.count) in
           let before : bytes ≡ length going.lines = sym going.size in
           go error (rw (place, before) at stops) split
         where
-          here : (why : StreamError) → IsRowStoppedAfter answers fails flush (length going.lines) after why (suc (length going.done)) (row_of fields) t u mid new
+          here : (why : StreamError) → IsRowStoppedAfter answers fails flush (length going.lines) after why (suc (length going.done)) fields t u mid new
               → IfSome all (λ rows. (rows ≡ going.done ++ (fields ∷ rest_of next)) × (next ≡ Some (rest_of next)))
               → StopsInRowAfter answers fails limit flush after why all next s u old new
           here why stops split = record {
@@ -194,7 +193,7 @@ module _ {S : Type 0} (answers : AnswersOf S) where
             stops = (omega (arith, going.count, few), stops);
           }
 
-          go : (error : StreamError) → IsRowStoppedAfter answers fails flush (length going.lines) after error (suc (length going.done)) (row_of fields) t u mid new
+          go : (error : StreamError) → IsRowStoppedAfter answers fails flush (length going.lines) after error (suc (length going.done)) fields t u mid new
               → IfSome all (λ rows. (rows ≡ going.done ++ (fields ∷ rest_of next)) × (next ≡ Some (rest_of next))) → HasStoppedAfter answers fails limit flush after error all next failed s u old new
           go stream_error.Memory stops split = inr (here stream_error.Memory stops split)
           go stream_error.Read stops split = absurd stops
@@ -222,7 +221,7 @@ module _ {S : Type 0} (answers : AnswersOf S) where
 
 module _ {S : Type 0} (answers : AnswersOf S) (fails : FailsOf S) (bytes : ℕ) (all left : Option (List (List (List ℕ)))) (failed : Bool) (s t : S) (old new : Option (List ℕ)) where
   row_stopped : (flush : Bool) (before after : ℕ) (why : StreamError) (place : ℕ) (fields : List (List ℕ)) (b : S) (mid : Option (List ℕ))
-      → IsRowStoppedAfter answers fails flush before after why place (row_of fields) b t mid new → IsRowStopped answers fails why place (row_of fields) b t mid new
+      → IsRowStoppedAfter answers fails flush before after why place fields b t mid new → IsRowStopped answers fails why place fields b t mid new
   row_stopped flush before after stream_error.Memory place fields b mid a = (a.0, a.1)
   row_stopped flush before after stream_error.Read place fields b mid a = absurd a
   row_stopped flush before after stream_error.Write place fields b mid a = (a.0, a.2, (a.1, a.3, a.4))
@@ -277,8 +276,8 @@ line_stopped (Err why) size flush line old new a = line_cut size flush why line 
 
 -- the answer to a row stops in its line
 row_cut : {S : Type 0} (answers : AnswersOf S) (fails : FailsOf S) (flush : Bool) (before size after : ℕ) (why : StreamError) (place : ℕ) (fields : List (List ℕ)) (s t : S) (line : List ℕ) (old new : Option (List ℕ))
-    → answers place s (row_of fields) line t → after ≡ before + size → IsLineStoppedAfter flush size why line old new
-    → IsRowStoppedAfter answers fails flush before after why place (row_of fields) s t old new
+    → answers place s fields line t → after ≡ before + size → IsLineStoppedAfter flush size why line old new
+    → IsRowStoppedAfter answers fails flush before after why place fields s t old new
 row_cut answers fails flush before size after stream_error.Memory place fields s t line old new answered is a = absurd a
 row_cut answers fails flush before size after stream_error.Read place fields s t line old new answered is a = absurd a
 row_cut answers fails flush before size after stream_error.Write place fields s t line old new answered is a = (line, size, answered, a.0, a.1, is)
@@ -286,8 +285,8 @@ row_cut answers fails flush before size after stream_error.Flush place fields s 
 row_cut answers fails flush before size after stream_error.TooManyRows place fields s t line old new answered is a = absurd a
 
 pub row_stops : {T : Type 0} (r : Result T StreamError) {S : Type 0} (answers : AnswersOf S) (fails : FailsOf S) (flush : Bool) (before size after place : ℕ) (fields : List (List ℕ)) (s t : S) (line : List ℕ) (old new : Option (List ℕ))
-    → answers place s (row_of fields) line t → after ≡ before + size → IfErr r (λ why. IsLineStoppedAfter flush size why line old new)
-    → IfErr r (λ why. IsRowStoppedAfter answers fails flush before after why place (row_of fields) s t old new)
+    → answers place s fields line t → after ≡ before + size → IfErr r (λ why. IsLineStoppedAfter flush size why line old new)
+    → IfErr r (λ why. IsRowStoppedAfter answers fails flush before after why place fields s t old new)
 row_stops (Ok x) answers fails flush before size after place fields s t line old new answered is a = tt
 row_stops (Err why) answers fails flush before size after place fields s t line old new answered is a =
     row_cut answers fails flush before size after why place fields s t line old new answered is a

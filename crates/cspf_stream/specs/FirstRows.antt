@@ -1,11 +1,8 @@
 -- What is answered and written of the first rows of a stream, within a limit, and how many bytes that
 -- is.
-use Rattle.std.specs.Prelude.{◌≡◌, ℕ, suc, ◌+◌, ◌<◌, ◌≤◌, ◌⊎◌, Bool, true, List, take, length, Option, Result}
+use Rattle.std.specs.Prelude.{◌≡◌, ℕ, suc, ◌+◌, ◌<◌, ◌≤◌, ◌⊎◌, Bool, true, List, take, length, Option}
 use Rattle.std.specs.Io.KnownBytes.{Appends}
 use Rattle.std.specs.Io.KnownBytes as known
-use Rattle.cspf_rows.specs.Rows.{row_of}
-use Rattle.cspf_rows.specs.declared.row.Row.{Row}
-use Rattle.cspf_rows.specs.declared.row_error.RowError.{RowError}
 use Rattle.cspf_stream.specs.RowAnswers.{AnswersOf, AreAllAnswered}
 use Rattle.cspf_stream.specs.StreamStops.{FailsOf, StopsBetween, StopsAtRow, HasMoreThan}
 use Rattle.cspf_stream.specs.declared.error.StreamError.{StreamError}
@@ -28,15 +25,15 @@ IsLineStoppedAfter flush size error.TooManyRows line old new = ⊥
 
 -- Where the answer to the row at a place stops, and how many bytes are written before it and at the
 -- stop.
-abbrev pub IsRowStoppedAfter : {S : Type 0} → AnswersOf S → FailsOf S → Bool → ℕ → ℕ → StreamError → ℕ → Result Row RowError → S → S → Option (List ℕ) → Option (List ℕ) → Type 0
-IsRowStoppedAfter answers fails flush before after error.Memory place row s t old new =
-    fails place s row t × known.Keeps old new × (after ≡ before)
-IsRowStoppedAfter answers fails flush before after error.Read place row s t old new = ⊥
-IsRowStoppedAfter answers fails flush before after error.Write place row s t old new =
-    (line : List ℕ) × (size : ℕ) × answers place s row line t × (size < length line) × Appends old new (take size line) × (after ≡ before + size)
-IsRowStoppedAfter answers fails flush before after error.Flush place row s t old new =
-    (line : List ℕ) × answers place s row line t × (flush ≡ true) × Appends old new line × (after ≡ before + length line)
-IsRowStoppedAfter answers fails flush before after error.TooManyRows place row s t old new = ⊥
+abbrev pub IsRowStoppedAfter : {S : Type 0} → AnswersOf S → FailsOf S → Bool → ℕ → ℕ → StreamError → ℕ → List (List ℕ) → S → S → Option (List ℕ) → Option (List ℕ) → Type 0
+IsRowStoppedAfter answers fails flush before after error.Memory place fields s t old new =
+    fails place s fields t × known.Keeps old new × (after ≡ before)
+IsRowStoppedAfter answers fails flush before after error.Read place fields s t old new = ⊥
+IsRowStoppedAfter answers fails flush before after error.Write place fields s t old new =
+    (line : List ℕ) × (size : ℕ) × answers place s fields line t × (size < length line) × Appends old new (take size line) × (after ≡ before + size)
+IsRowStoppedAfter answers fails flush before after error.Flush place fields s t old new =
+    (line : List ℕ) × answers place s fields line t × (flush ≡ true) × Appends old new line × (after ≡ before + length line)
+IsRowStoppedAfter answers fails flush before after error.TooManyRows place fields s t old new = ⊥
 
 -- The stream stops between two rows, within the limit. The lines before have this many bytes.
 pub record StopsAfterRows {S : Type 0} (answers : AnswersOf S) (limit bytes : ℕ) (all : Option (List (List (List ℕ)))) (s t : S) (old new : Option (List ℕ)) : Type 0 where
@@ -48,7 +45,7 @@ pub record StopsAfterRows {S : Type 0} (answers : AnswersOf S) (limit bytes : �
 abbrev pub StopsInRowAfter : {S : Type 0} → AnswersOf S → FailsOf S → ℕ → Bool → ℕ → StreamError → Option (List (List (List ℕ))) → Option (List (List (List ℕ))) → S → S → Option (List ℕ) → Option (List ℕ) → Type 0
 StopsInRowAfter answers fails limit flush bytes error all left s t old new =
     StopsAtRow answers (λ done lines fields before mid. (length done < limit)
-    × IsRowStoppedAfter answers fails flush (length lines) bytes error (suc (length done)) (row_of fields) before t mid new) all left s old
+    × IsRowStoppedAfter answers fails flush (length lines) bytes error (suc (length done)) fields before t mid new) all left s old
 
 -- as many rows as the limit allows are answered, and there is one more
 pub record HasMoreRows {S : Type 0} (answers : AnswersOf S) (limit bytes : ℕ) (all : Option (List (List (List ℕ)))) (s t : S) (old new : Option (List ℕ)) : Type 0 where

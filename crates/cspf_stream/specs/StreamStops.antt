@@ -1,10 +1,7 @@
 -- What was read, answered and written where a stream stops before its end.
-use Rattle.std.specs.Prelude.{◌≡◌, ℕ, suc, ◌<◌, ◌⊎◌, Bool, true, List, ◌∷◌, ◌++◌, take, length, Option, Some, Result, IfSome}
+use Rattle.std.specs.Prelude.{◌≡◌, ℕ, suc, ◌<◌, ◌⊎◌, Bool, true, List, ◌∷◌, ◌++◌, take, length, Option, Some, IfSome}
 use Rattle.std.specs.Io.KnownBytes.{Appends}
 use Rattle.std.specs.Io.KnownBytes as known
-use Rattle.cspf_rows.specs.Rows.{row_of}
-use Rattle.cspf_rows.specs.declared.row.Row.{Row}
-use Rattle.cspf_rows.specs.declared.row_error.RowError.{RowError}
 use Rattle.cspf_stream.specs.RowAnswers.{AnswersOf, AreAnswered}
 use Rattle.cspf_stream.specs.declared.limits.TheConstants.{MOST_STREAM_ROWS}
 use Rattle.cspf_stream.specs.declared.error.StreamError.{StreamError}
@@ -12,7 +9,7 @@ use Rattle.cspf_stream.specs.declared.error.StreamError.TheVariants as error
 
 -- the states before and after refused memory at the row at a place
 abbrev pub FailsOf : Type 0 → Type 1
-FailsOf S = ℕ → S → Result Row RowError → S → Type 0
+FailsOf S = ℕ → S → List (List ℕ) → S → Type 0
 
 -- where the line of a row stops
 abbrev pub IsLineStopped : StreamError → List ℕ → Option (List ℕ) → Option (List ℕ) → Type 0
@@ -25,14 +22,14 @@ IsLineStopped error.TooManyRows line old new = ⊥
 -- Where the answer to the row at a place stops. Where memory was refused nothing is written. Where
 -- a write failed a part of the line is written, but not all of it. Where a flush failed the whole
 -- line is written.
-abbrev pub IsRowStopped : {S : Type 0} → AnswersOf S → FailsOf S → StreamError → ℕ → Result Row RowError → S → S → Option (List ℕ) → Option (List ℕ) → Type 0
-IsRowStopped answers fails error.Memory place row s t old new = fails place s row t × known.Keeps old new
-IsRowStopped answers fails error.Read place row s t old new = ⊥
-IsRowStopped answers fails error.Write place row s t old new =
-    (line : List ℕ) × answers place s row line t × IsLineStopped error.Write line old new
-IsRowStopped answers fails error.Flush place row s t old new =
-    (line : List ℕ) × answers place s row line t × IsLineStopped error.Flush line old new
-IsRowStopped answers fails error.TooManyRows place row s t old new = ⊥
+abbrev pub IsRowStopped : {S : Type 0} → AnswersOf S → FailsOf S → StreamError → ℕ → List (List ℕ) → S → S → Option (List ℕ) → Option (List ℕ) → Type 0
+IsRowStopped answers fails error.Memory place fields s t old new = fails place s fields t × known.Keeps old new
+IsRowStopped answers fails error.Read place fields s t old new = ⊥
+IsRowStopped answers fails error.Write place fields s t old new =
+    (line : List ℕ) × answers place s fields line t × IsLineStopped error.Write line old new
+IsRowStopped answers fails error.Flush place fields s t old new =
+    (line : List ℕ) × answers place s fields line t × IsLineStopped error.Flush line old new
+IsRowStopped answers fails error.TooManyRows place fields s t old new = ⊥
 
 -- The stream stops between two rows: a prefix of the rows is answered, and their lines are written.
 pub record StopsBetween {S : Type 0} (answers : AnswersOf S) (all : Option (List (List (List ℕ)))) (s t : S) (old new : Option (List ℕ)) : Type 0 where
@@ -61,7 +58,7 @@ pub record StopsAtRow {S : Type 0} (answers : AnswersOf S) (Stops : List (List (
 -- the stream stops in a row
 abbrev pub StopsInRow : {S : Type 0} → AnswersOf S → FailsOf S → StreamError → Option (List (List (List ℕ))) → Option (List (List (List ℕ))) → S → S → Option (List ℕ) → Option (List ℕ) → Type 0
 StopsInRow answers fails error all left s t old new =
-    StopsAtRow answers (λ done lines fields before mid. IsRowStopped answers fails error (suc (length done)) (row_of fields) before t mid new) all left s old
+    StopsAtRow answers (λ done lines fields before mid. IsRowStopped answers fails error (suc (length done)) fields before t mid new) all left s old
 
 -- As many rows as this are answered, and their lines are written. There is one more row.
 pub record HasMoreThan {S : Type 0} (answers : AnswersOf S) (limit : ℕ) (all : Option (List (List (List ℕ)))) (s t : S) (old new : Option (List ℕ)) : Type 0 where

@@ -73,8 +73,9 @@ impl<S> Rows<S> {
         }
     }
 
-    /// Takes a row that is read, by what it asks for.
-    fn take<C>(&mut self, context: &C, alloc: Global, step: Step) -> Result<Vec<u8>, AllocError>
+    /// Takes a row that is read, by what it asks for. So a stream can have rows besides these, which
+    /// it answers itself.
+    pub fn take<C>(&mut self, context: &C, alloc: Global, step: Step) -> Result<Vec<u8>, AllocError>
     where
         S: Sink<C>,
         requires count { self.old.changes.count + 1 < 2 ^ 64 }

@@ -6,13 +6,12 @@ ghost use Rattle.std.specs.Io.KnownBytes.{Appends};
 ghost use Rattle.csv.specs.Records.{fields_of};
 ghost use Rattle.csv.specs.Reading.{has_failed};
 ghost use Rattle.cspf_rows.specs.Records.{rows_left, IsPlain};
-ghost use Rattle.cspf_rows.specs.Rows.{row_of};
 ghost use Rattle.cspf_stream.specs.RowAnswers.{AreAllAnswered};
 ghost use Rattle.cspf_stream.specs.StreamStops.{HasStopped, IsLineStopped};
 ghost use Rattle.cspf_stream.specs.FirstRows.{AreFirstRowsAnswered, HasStoppedAfter, IsRowStoppedAfter, IsLineStoppedAfter};
 
 use crate::{Answering, MOST_STREAM_ROWS, StreamError};
-use cspf_rows::{Row, next_record, put_all};
+use cspf_rows::{next_record, put_all};
 use csv::{ByteRecord, Reader};
 use std::alloc::Global;
 use std::io::{Read, Write};
@@ -46,30 +45,18 @@ pub fn answer_rows<R: Read, W: Write, C, A: Answering<C>>(
         (rows_left R.remaining rows.old) (rows_left R.remaining rows.new) (has_failed rows.new)
         answering.old answering.new (W.contents writer.old) (W.contents writer.new)) }
 {
-    let manner = Manner {
-        limit: MOST_STREAM_ROWS,
-        flush: true,
-    };
-    let mut fields = ByteRecord::new(alloc);
-    let mut written = 0;
-    answer_each(
-        context,
-        alloc,
-        manner,
-        rows,
-        &mut fields,
-        writer,
-        &mut written,
-        answering,
-    )
+    let limit = MOST_STREAM_ROWS;
+    answer_first_rows(context, alloc, limit, true, rows, writer, answering).1
 }
 
 /// Answers the rows that a reader has left as `answer_rows` does, but at most as many as the limit
-/// allows, and without a flush. Returns how many bytes were written, and how the stream ended.
+/// allows, and flushes only where that is asked for. Returns how many bytes were written, and how the
+/// stream ended.
 pub fn answer_first_rows<R: Read, W: Write, C, A: Answering<C>>(
     context: &C,
     alloc: Global,
     limit: u64,
+    flush: bool,
     rows: &mut Reader<R>,
     writer: &mut W,
     answering: &mut A,
@@ -79,15 +66,12 @@ pub fn answer_first_rows<R: Read, W: Write, C, A: Answering<C>>(
     ensures whole { OnOk result.1 (AreFirstRowsAnswered A.answers limit result.0
         (rows_left R.remaining rows.old)
         answering.old answering.new (W.contents writer.old) (W.contents writer.new)) }
-    ensures stopped { IfErr result.1 (λ error. HasStoppedAfter A.answers A.fails limit false result.0 error
+    ensures stopped { IfErr result.1 (λ error. HasStoppedAfter A.answers A.fails limit flush result.0 error
         (rows_left R.remaining rows.old) (rows_left R.remaining rows.new) (has_failed rows.new)
         answering.old answering.new (W.contents writer.old) (W.contents writer.new)) }
     ensures small { result.0 ≤ limit * 2 ^ 64 }
 {
-    let manner = Manner {
-        limit,
-        flush: false,
-    };
+    let manner = Manner { limit, flush };
     let mut fields = ByteRecord::new(alloc);
     let mut written = 0;
     let ended = answer_each(
@@ -164,17 +148,17 @@ fn answer_row<W: Write, C, A: Answering<C>>(
     requires state { A.may_stand place answering.old }
     requires room { written.old + 2 ^ 64 ≤ place * 2 ^ 64 }
     ensures answered { OnOk result ((line : List ℕ)
-        × A.answers place answering.old (row_of (fields_of fields.now)) line answering.new
+        × A.answers place answering.old (fields_of fields.now) line answering.new
         × Appends (W.contents writer.old) (W.contents writer.new) line
         × (written.new ≡ written.old + length line)) }
     ensures state { OnOk result (A.may_stand (place + 1) answering.new) }
     ensures stopped { IfErr result (λ error. IsRowStoppedAfter A.answers A.fails
         flush written.old written.new error
-        place (row_of (fields_of fields.now)) answering.old answering.new
+        place (fields_of fields.now) answering.old answering.new
         (W.contents writer.old) (W.contents writer.new)) }
     ensures small { written.new ≤ place * 2 ^ 64 }
 {
-    let line = answering.answer(context, alloc, place, &Row::read(fields))?;
+    let line = answering.answer(context, alloc, place, fields)?;
     let (size, put) = put_counted(line.as_slice(), flush, writer);
     *written += size as u128;
     put

@@ -6,10 +6,12 @@ mod first_rows;
 mod words;
 
 ghost use Rattle.std.specs.Prelude.{◌≡◌, ◌+◌, ◌<◌, [], MatchResult};
+ghost use Rattle.cspf_rows.specs.Rows.{row_of};
 ghost use Rattle.cspf_stream.specs.RefusedRows.{refused_row_line};
 
-use cspf_rows::{Row, RowError};
+use cspf_rows::Row;
 use cspf_stream::{Answering, refused_row};
+use csv::ByteRecord;
 use std::alloc::{AllocError, Global};
 use std::cell::Cell;
 use std::io;
@@ -25,11 +27,11 @@ struct Refusals {
 }
 
 impl Answering<()> for Refusals {
-    ghost answers = { λ place s row line t. MatchResult row (λ _. (line ≡ []) × (t ≡ s))
+    ghost answers = { λ place s fields line t. MatchResult (row_of fields) (λ _. (line ≡ []) × (t ≡ s))
         (λ error. (line ≡ refused_row_line place error)
         × (t ≡ record s { refused = s.refused + 1 })) };
 
-    ghost fails = { λ place s row t. Unit {0} };
+    ghost fails = { λ place s fields t. Unit {0} };
 
     ghost may_stand = { λ place s. s.refused < place };
 
@@ -38,15 +40,15 @@ impl Answering<()> for Refusals {
         _context: &(),
         alloc: Global,
         place: u64,
-        row: &Result<Row, RowError>,
+        fields: &ByteRecord,
     ) -> Result<Vec<u8>, AllocError> {
         if place == self.no_memory_at {
             return Err(AllocError);
         }
-        match row {
+        match Row::read(fields) {
             Ok(_) => Ok(Vec::new(alloc)),
             Err(error) => {
-                let line = refused_row(alloc, place, *error)?;
+                let line = refused_row(alloc, place, error)?;
                 self.refused += 1;
                 Ok(line)
             }

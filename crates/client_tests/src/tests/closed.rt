@@ -1,7 +1,7 @@
 //! A client that asks after its publisher was closed.
 
-use super::{Narrow, link_batch, opened};
-use cspf_client::{Client, ClientError, ServedClient, ServingClient};
+use super::{Narrow, link_batch, seated};
+use cspf_client::{ClientError, ServedClient};
 use cspf_model::Batch;
 use std::alloc::Global;
 use std::process::Abort;
@@ -16,14 +16,7 @@ fn served_late<R: Wait + Abort>(
     first: &Batch,
     requests: &[u8],
 ) -> ServedClient<Narrow> {
-    let (mut publisher, asker, mut teller, listener) = opened(rt, alloc);
-    let replies = Narrow {
-        held: Vec::new(alloc),
-        most: 1000,
-        ends: 0,
-    };
-    let client = Client { requests, replies };
-    let mut serving = ServingClient::new(alloc, asker, listener, client);
+    let (mut publisher, mut teller, mut serving) = seated(rt, alloc, requests, 1000);
     let _ = publisher.apply(rt, alloc, first);
     teller.tell(&mut publisher);
     let told = publisher.tell();

@@ -4,8 +4,8 @@ ghost use Rattle.std.specs.Prelude.{◌≡◌};
 ghost use Rattle.cspf_publish.specs.KnownBatches.{AreFirstOf};
 ghost use Rattle.cspf_client.specs.ServingStates.{IsReady};
 
-use super::{Narrow, link_batch, opened};
-use cspf_client::{Client, ServedClient, ServingClient, Teller};
+use super::{Narrow, link_batch, seated};
+use cspf_client::{ServedClient, ServingClient, Teller};
 use cspf_model::Batch;
 use cspf_publish::Publisher;
 use std::alloc::Global;
@@ -50,14 +50,7 @@ fn served_beside<R: Threads + Wait + Abort + Sync>(
     first: &Batch,
     requests: &[u8],
 ) -> ServedClient<Narrow> {
-    let (mut publisher, asker, mut teller, listener) = opened(rt, alloc);
-    let replies = Narrow {
-        held: Vec::new(alloc),
-        most: 1000,
-        ends: 0,
-    };
-    let client = Client { requests, replies };
-    let mut serving = ServingClient::new(alloc, asker, listener, client);
+    let (mut publisher, mut teller, mut serving) = seated(rt, alloc, requests, 1000);
     run_beside(rt, alloc, first, &mut teller, &mut publisher, &mut serving);
     serving.meet(publisher.tell());
     publisher.close(rt);

@@ -12,8 +12,9 @@ use cspf_client::Teller;
 use cspf_ero::reply_line;
 use cspf_model::{Batch, Request, one_refusal};
 use cspf_publish::{Publisher, Told};
-use cspf_rows::{Row, RowError};
+use cspf_rows::Row;
 use cspf_stream::{Answering, BatchRefusal, Rows, Sink};
+use csv::ByteRecord;
 use std::alloc::{AllocError, Global};
 use std::io::Write;
 use std::marker::Model;
@@ -100,11 +101,11 @@ impl<J: Write, R: Wait> Answering<R> for Updates<J> {
         rt: &R,
         alloc: Global,
         place: u64,
-        row: &Result<Row, RowError>,
+        fields: &ByteRecord,
     ) -> Result<Vec<u8>, AllocError> {
         // Law: a batch that is refused doesn't fit.
         one_refusal();
-        self.rows.answer(rt, alloc, place, row)
+        self.rows.answer(rt, alloc, place, &Row::read(fields))
     }
 }
 

@@ -30,6 +30,7 @@ fn no_more_rows_than_the_limit(rt: HostRuntime) -> Result<(), AllocError> {
             &(),
             rt.alloc(),
             limit,
+            false,
             &mut rows,
             &mut writer,
             &mut answering,

@@ -4,7 +4,7 @@ use Rattle.std.specs.Vec.Iter.{into_iter_items}
 use Rattle.cspf_client.specs.declared.client.Client.{Client}
 use Rattle.cspf_publish.specs.KnownBatches.{KnownBatches}
 use Rattle.cspf_serve.specs.ServedSteps.{IsSeat, IsSeated}
-use Rattle.cspf_serve.proofs.Pairs.{pairs_push, length_pairs, left_none, left_step, last_of, front_of}
+use Rattle.cspf_serve.proofs.Pairs.{pairs_push, room_for_next, left_none, left_step, last_of, front_of}
 use Rattle.cspf_serve.proofs.serving.served_run.begin_all.Goals as goal
 
 pub new-requires : goal.new-requires
@@ -16,13 +16,11 @@ new-requires g c =
 
 pub push_reserved-requires : goal.push_reserved-requires
 push_reserved-requires g c =
-    let begun = length_pairs (IsSeated g.Q.Read.remaining c.requires.ends.0) c.loop-client.yielded c.loop-client.serving.items (c.loop-client.invariant.begun c.requires.ends.0 c.requires.ends.1) in
-    let whole = ap length c.loop-client.invariant.left in
-    let cut = length-append c.loop-client.yielded (into_iter_items c.loop-client.client-iterator) in
-    let next = ap length c.in-Some.ensures.steps.0 in
-    let room = c.loop-client.invariant.room in
     let all : vec_len c.args.clients ≡ length c.args.clients.items = search rules in
-    let now : vec_len c.loop-client.serving ≡ length c.loop-client.serving.items = search rules in omega arith
+    let now : vec_len c.loop-client.serving ≡ length c.loop-client.serving.items = search rules in
+    rw now
+    (room_for_next (IsSeated g.Q.Read.remaining c.requires.ends.0) _ _ _ _ _ _ _ (c.loop-client.invariant.begun c.requires.ends.0 c.requires.ends.1) c.loop-client.invariant.left c.in-Some.ensures.steps.0
+    (rw all at c.loop-client.invariant.room))
 
 pub loop-client-preserved-in-Some-pop : goal.loop-client-preserved-in-Some-pop
 loop-client-preserved-in-Some-pop g c = record {

@@ -4,7 +4,7 @@ use Rattle.std.specs.Vec.Iter.{into_iter_items}
 use Rattle.cspf_client.specs.ServingStates.{ServingState}
 use Rattle.cspf_serve.specs.ServedSteps.{IsServedEnd}
 use Rattle.cspf_serve.specs.UpdatesStates.{KeptUpdates}
-use Rattle.cspf_serve.proofs.Pairs.{pairs_push, length_pairs, left_none, left_step, left_next}
+use Rattle.cspf_serve.proofs.Pairs.{pairs_push, room_for_next, left_none, left_step, left_next}
 use Rattle.cspf_serve.proofs.ServedSteps.{closed_of}
 use Rattle.cspf_serve.proofs.serving.served_run.close_all.Goals as goal
 
@@ -16,13 +16,10 @@ meet-requires g c =
 
 pub push_reserved-requires : goal.push_reserved-requires
 push_reserved-requires g c =
-    let closed = length_pairs (IsServedEnd c.args.updates.now.publisher.batches) c.loop-client.yielded c.loop-client.served.items c.loop-client.invariant.closed in
-    let whole = ap length c.loop-client.invariant.left in
-    let cut = length-append c.loop-client.yielded (into_iter_items c.loop-client.client-iterator) in
-    let next = ap length c.in-Some.ensures.steps.0 in
-    let room = c.loop-client.invariant.room in
     let all : vec_len c.args.serving ≡ length c.args.serving.items = search rules in
-    let now : vec_len c.loop-client.served ≡ length c.loop-client.served.items = search rules in omega arith
+    let now : vec_len c.loop-client.served ≡ length c.loop-client.served.items = search rules in
+    rw now
+    (room_for_next (IsServedEnd c.args.updates.now.publisher.batches) _ _ _ _ _ _ _ c.loop-client.invariant.closed c.loop-client.invariant.left c.in-Some.ensures.steps.0 (rw all at c.loop-client.invariant.room))
 
 pub loop-client-preserved : goal.loop-client-preserved
 loop-client-preserved g c =

@@ -1,0 +1,43 @@
+-- The beginning of a text that was written before an error.
+use Rattle.std.proofs.Common.{◌≡◌, ℕ, ◌+◌, ◌<◌, Option, List, [], ◌∷◌, ◌++◌, length, take, drop, get_or, refl, sym, ap, subst, ◌∙◌, append_assoc}
+use Rattle.std.proofs.KnownBytes.{Appends-nil, Appends-trans}
+use Rattle.std.proofs.lemmas.List.{take-append-drop, drop_more}
+use Rattle.std.proofs.lemmas.Grind.{flat_map-append}
+use Rattle.std.specs.Io.KnownBytes.{Appends}
+use Rattle.std.specs.List.{flat_map}
+use Rattle.cspf_judge.specs.EarlyEnds.{WritesFront}
+
+pub no_front : (old : Option (List ℕ)) (text : List ℕ) → WritesFront old old text
+no_front old text = record { front = []; rest = text; split = refl; written = Appends-nil old }
+
+pub cut_front : (old new : Option (List ℕ)) (text : List ℕ) (n : ℕ) → Appends old new (take n text) → WritesFront old new text
+cut_front old new text n written = record { front = take n text; rest = drop n text; split = sym (take-append-drop n text); written = written }
+
+-- more text was to come
+pub front_before : (old new : Option (List ℕ)) (text more : List ℕ) → WritesFront old new text → WritesFront old new (text ++ more)
+front_before old new text more begun = record {
+  front = begun.front;
+  rest = begun.rest ++ more;
+  split = ap (λ t. t ++ more) begun.split ∙ append_assoc begun.front begun.rest more;
+  written = begun.written;
+}
+
+-- a text was written before it
+pub front_behind : (old mid new : Option (List ℕ)) (whole text : List ℕ) → Appends old mid whole → WritesFront mid new text → WritesFront old new (whole ++ text)
+front_behind old mid new whole text before begun = record {
+  front = whole ++ begun.front;
+  rest = begun.rest;
+  split = ap (λ t. whole ++ t) begun.split ∙ sym (append_assoc whole begun.front begun.rest);
+  written = Appends-trans old mid new whole begun.front before begun.written;
+}
+
+-- of the texts of a list those of its first elements were written, and the beginning of the next one
+pub front_in_list : {X : Type 0} (f : X → List ℕ) (xs : List X) (i : ℕ) (x : X) (old mid new : Option (List ℕ)) → i < length xs → x ≡ get_or xs i x
+    → Appends old mid (flat_map f (take i xs)) → WritesFront mid new (f x) → WritesFront old new (flat_map f xs)
+front_in_list f xs i x old mid new within is_next before begun =
+    let after = drop (i + 1) xs in
+    let next : drop i xs ≡ x ∷ after = drop_more xs i x within ∙ ap (λ n. n ∷ after) (sym is_next) in
+    let whole : flat_map f xs ≡ flat_map f (take i xs) ++ (f x ++ flat_map f after) =
+    ap (flat_map f) (sym (take-append-drop i xs)) ∙ flat_map-append f (take i xs) (drop i xs) ∙ ap (λ r. flat_map f (take i xs) ++ flat_map f r) next in
+    subst (WritesFront old new) (sym whole)
+    (front_behind old mid new (flat_map f (take i xs)) (f x ++ flat_map f after) before (front_before mid new (f x) (flat_map f after) begun))
