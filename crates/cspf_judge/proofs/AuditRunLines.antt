@@ -1,12 +1,12 @@
 -- The output for an audit, or for streams that aren't audited, is that of an audit run.
-use Rattle.std.proofs.Common.{◌≡◌, ℕ, Option, List, Result, Ok, Err, IfOk, OnOk, IfSome, inl, inr, refl}
+use Rattle.std.proofs.Common.{◌≡◌, ℕ, Option, List, Result, Ok, Err, IfOk, OnOk, OnErr, IfSome, inl, inr, refl}
 use Rattle.std.specs.Io.KnownBytes.{Appends}
 use Rattle.cspf_rows.specs.Records.{rows_of}
 use Rattle.cspf_audit.specs.AuditErrors.{IsAuditOf, IsAuditError}
 use Rattle.cspf_audit.specs.declared.audit_error.AuditError.{AuditError}
 use Rattle.cspf_audit.specs.declared.faults.Audit.{Audit}
 use Rattle.cspf_judge.specs.AuditRun.{IsAuditErrorLine, IsAuditRun, audit_lines, audit_status}
-use Rattle.cspf_judge.specs.EarlyEnds.{IfRefused, IsRefusalWritten, Writes}
+use Rattle.cspf_judge.specs.EarlyEnds.{IfRefused, HasBegun, IsRefusalBegun, IsRefusalWritten, Writes}
 use Rattle.cspf_judge.specs.LineTexts.{judge_line_text}
 use Rattle.cspf_judge.specs.declared.early_end.EarlyEnd.{EarlyEnd}
 use Rattle.cspf_judge.specs.declared.early_end.EarlyEnd.TheVariants as early_end
@@ -25,3 +25,10 @@ module _ (old new journal requests replies : Option (List ℕ)) where
   unaudited (Ok status) (early_end.Refused line) why is_line because is_status text = (judge_line_text line, inr (why, is_line, is_status, because), text)
   unaudited (Ok status) (early_end.Failed error) why is_line because is_status text = absurd text
   unaudited (Err e) end why is_line because is_status text = tt
+
+  pub unaudited_begun : {T : Type 0} (result : Result T JudgeError) (end : EarlyEnd) (why : AuditError) → IfRefused end (IsAuditErrorLine why) → IsAuditError journal requests replies why
+      → OnErr result (IsRefusalBegun end old new)
+      → OnErr result (HasBegun old new (λ lines. (status : ℕ) × IsAuditRun journal requests replies lines status))
+  unaudited_begun (Ok x) end why is_line because begun = tt
+  unaudited_begun (Err e) (early_end.Refused line) why is_line because begun = inr (judge_line_text line, (2, inr (why, is_line, refl, because)), begun)
+  unaudited_begun (Err e) (early_end.Failed error) why is_line because begun = inl begun

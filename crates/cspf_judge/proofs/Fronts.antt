@@ -1,11 +1,16 @@
 -- The beginning of a text that was written before an error.
-use Rattle.std.proofs.Common.{◌≡◌, ℕ, ◌+◌, ◌<◌, Option, List, [], ◌∷◌, ◌++◌, length, take, drop, get_or, refl, sym, ap, subst, ◌∙◌, append_assoc}
+use Rattle.std.proofs.Common.{◌≡◌, ℕ, ◌+◌, ◌<◌, Option, List, Result, Ok, Err, OnErr, [], ◌∷◌, ◌++◌, length, take, drop, get_or, refl, sym, ap, subst, ◌∙◌, append_assoc}
 use Rattle.std.proofs.KnownBytes.{Appends-nil, Appends-trans}
 use Rattle.std.proofs.lemmas.List.{take-append-drop, drop_more}
 use Rattle.std.proofs.lemmas.Grind.{flat_map-append}
 use Rattle.std.specs.Io.KnownBytes.{Appends}
 use Rattle.std.specs.List.{flat_map}
 use Rattle.cspf_judge.specs.EarlyEnds.{WritesFront}
+
+-- what always holds also holds at an error
+pub at_error : {T E : Type 0} (P : Type 0) (r : Result T E) → P → OnErr r P
+at_error P (Ok x) holds = tt
+at_error P (Err e) holds = holds
 
 pub no_front : (old : Option (List ℕ)) (text : List ℕ) → WritesFront old old text
 no_front old text = record { front = []; rest = text; split = refl; written = Appends-nil old }
@@ -32,11 +37,11 @@ front_behind old mid new whole text before begun = record {
 }
 
 -- of the texts of a list those of its first elements were written, and the beginning of the next one
-pub front_in_list : {X : Type 0} (f : X → List ℕ) (xs : List X) (i : ℕ) (x : X) (old mid new : Option (List ℕ)) → i < length xs → x ≡ get_or xs i x
+pub front_in_list : {X : Type 0} (f : X → List ℕ) (xs : List X) (i : ℕ) (x d : X) (old mid new : Option (List ℕ)) → i < length xs → x ≡ get_or xs i d
     → Appends old mid (flat_map f (take i xs)) → WritesFront mid new (f x) → WritesFront old new (flat_map f xs)
-front_in_list f xs i x old mid new within is_next before begun =
+front_in_list f xs i x d old mid new within is_next before begun =
     let after = drop (i + 1) xs in
-    let next : drop i xs ≡ x ∷ after = drop_more xs i x within ∙ ap (λ n. n ∷ after) (sym is_next) in
+    let next : drop i xs ≡ x ∷ after = drop_more xs i d within ∙ ap (λ n. n ∷ after) (sym is_next) in
     let whole : flat_map f xs ≡ flat_map f (take i xs) ++ (f x ++ flat_map f after) =
     ap (flat_map f) (sym (take-append-drop i xs)) ∙ flat_map-append f (take i xs) (drop i xs) ∙ ap (λ r. flat_map f (take i xs) ++ flat_map f r) next in
     subst (WritesFront old new) (sym whole)

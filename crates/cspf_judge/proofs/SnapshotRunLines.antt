@@ -1,13 +1,14 @@
 -- The line by which a journal is refused is its run, and that of a batch that doesn't fit one of those.
-use Rattle.std.proofs.Common.{◌≡◌, ℕ, Bool, Option, Some, None, List, Result, Ok, Err, IfOk, IfSome, inr, refl}
+use Rattle.std.proofs.Common.{◌≡◌, ℕ, Bool, Option, Some, None, List, Result, Ok, Err, IfOk, IfSome, OnErr, inl, inr, refl}
+use Rattle.cspf_rows.specs.JournalLaws.{journal_text}
 use Rattle.cspf_rows.specs.Records.{rows_of}
 use Rattle.cspf_db.specs.declared.replay.UnfitBatch.{UnfitBatch}
 use Rattle.cspf_model.specs.Numbered.{NumberedChanges}
 use Rattle.cspf_model.specs.Refusals.{IsFirstUnfit}
-use Rattle.cspf_judge.specs.EarlyEnds.{IfRefused, IsRefusalWritten, Writes, unfit_end}
+use Rattle.cspf_judge.specs.EarlyEnds.{IfRefused, HasBegun, IsRefusalBegun, IsRefusalWritten, Writes, WritesFront, unfit_end}
 use Rattle.cspf_judge.specs.Inputs.{AreBatchesOf}
 use Rattle.cspf_judge.specs.LineTexts.{judge_line_text}
-use Rattle.cspf_judge.specs.SnapshotRun.{IsSnapshotRefused, IsSnapshotRun}
+use Rattle.cspf_judge.specs.SnapshotRun.{IsSnapshotOf, IsSnapshotRefused, IsSnapshotRun}
 use Rattle.cspf_judge.specs.declared.early_end.EarlyEnd.{EarlyEnd}
 use Rattle.cspf_judge.specs.declared.early_end.EarlyEnd.TheVariants as early_end
 use Rattle.cspf_judge.specs.declared.early_end.JudgeError.{JudgeError}
@@ -22,6 +23,22 @@ refusal_written accept_torn (Ok status) None old new end is is_status text = tt
 refusal_written accept_torn (Ok status) (Some bytes) old new (early_end.Refused line) is is_status text =
     (judge_line_text line, inr (is, is_status), text)
 refusal_written accept_torn (Ok status) (Some bytes) old new (early_end.Failed error) is is_status text = absurd text
+
+pub refusal_begun : {T : Type 0} (accept_torn : Bool) (result : Result T JudgeError) (journal old new : Option (List ℕ)) (end : EarlyEnd)
+    → IfRefused end (λ line. IfSome journal (λ bytes. IsSnapshotRefused accept_torn (rows_of bytes) line))
+    → OnErr result (IsRefusalBegun end old new)
+    → OnErr result (IfSome journal (λ bytes. HasBegun old new (λ lines. (status : ℕ) × IsSnapshotRun accept_torn (rows_of bytes) lines status)))
+refusal_begun accept_torn (Ok x) journal old new end is begun = tt
+refusal_begun accept_torn (Err e) None old new end is begun = tt
+refusal_begun accept_torn (Err e) (Some bytes) old new (early_end.Refused line) is begun = inr (judge_line_text line, (2, inr (is, refl)), begun)
+refusal_begun accept_torn (Err e) (Some bytes) old new (early_end.Failed error) is begun = inl begun
+
+pub snapshot_begun : (accept_torn : Bool) (journal old new : Option (List ℕ)) (making : List NumberedChanges)
+    → IfSome journal (λ bytes. IsSnapshotOf accept_torn (rows_of bytes) making) → WritesFront old new (journal_text making)
+    → IfSome journal (λ bytes. HasBegun old new (λ lines. (status : ℕ) × IsSnapshotRun accept_torn (rows_of bytes) lines status))
+snapshot_begun accept_torn None old new making is begun = tt
+snapshot_begun accept_torn (Some bytes) old new making is begun =
+    inr (journal_text making, (0, inl (record { making = making; snapshot = is; text = refl; accepted = refl })), begun)
 
 -- a batch that doesn't fit refuses the journal that it was read from
 pub unfit_refused : (accept_torn : Bool) (journal : Option (List ℕ)) (batches : List NumberedChanges) (unfit : UnfitBatch) (end : EarlyEnd)
