@@ -2,13 +2,4 @@ use Rattle.cspf_model.proofs.Routes.ExampleRoutes.{six_links_found, three_links_
 use Rattle.cspf_model.proofs.laws.hop_laws.worked_routes.Goals as goal
 
 pub returns : goal.returns
-returns c = record {
-  six_links = six_links_found;
-  three_links = three_links_found;
-  strict = may_stand_at_owners;
-  strict_alone = may_not_stand_elsewhere;
-  loose = may_stand_anywhere;
-  before = is_outside_before_inside;
-  empty = may_be_empty;
-  inadmissible = may_be_met_by_any_link;
-}
+returns c = assumption (six_links_found, three_links_found, may_stand_at_owners, may_not_stand_elsewhere, may_stand_anywhere, is_outside_before_inside, may_be_empty, may_be_met_by_any_link)

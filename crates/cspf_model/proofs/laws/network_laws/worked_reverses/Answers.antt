@@ -2,12 +2,4 @@ use Rattle.cspf_model.proofs.Networks.Reverses.{may_be_admitted, one_way, other_
 use Rattle.cspf_model.proofs.laws.network_laws.worked_reverses.Goals as goal
 
 pub returns : goal.returns
-returns c = record {
-  admitted = may_be_admitted;
-  one_way = one_way;
-  other_remote = other_remote;
-  other_local = other_local;
-  other_to = other_to;
-  other_from = other_from;
-  reverse = with_reverse;
-}
+returns c = assumption (may_be_admitted, one_way, other_remote, other_local, other_to, other_from, with_reverse)
