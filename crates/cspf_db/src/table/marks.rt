@@ -1,5 +1,5 @@
 //! The marks of routers without transit, which rise, and how changes change them.
-ghost use Rattle.std.specs.Prelude.{count_by, ◌≡◌, ◌+◌, ◌<◌, ◌≤◌, ◌↔◌, IsTrue, length, vec_len};
+ghost use Rattle.std.specs.Prelude.{◌≡◌, ◌+◌, ◌<◌, ◌≤◌, ◌↔◌, IsTrue, length, vec_len};
 ghost use Rattle.std.specs.Vec.{vec_capacity};
 ghost use Rattle.std.specs.FinSet as set;
 ghost use Rattle.cspf_model.specs.Changes.{marks_after};
@@ -44,28 +44,6 @@ fn removes_mark(marks: &[Addr], change: &Change) -> bool
     }
 }
 
-/// How many of the changes mark a router that isn't marked.
-fn count_added(marks: &[Addr], changes: &[Change]) -> usize
-    requires { AreRising marks.now }
-    ensures { result ≡ count_by (adds_mark (marks_in marks.now)) changes.now }
-{
-    changes
-        .iter()
-        .filter(|change| adds_mark(marks, change))
-        .count()
-}
-
-/// How many of the changes take a mark away that is there.
-fn count_removed(marks: &[Addr], changes: &[Change]) -> usize
-    requires { AreRising marks.now }
-    ensures { result ≡ count_by (removes_mark (marks_in marks.now)) changes.now }
-{
-    changes
-        .iter()
-        .filter(|change| removes_mark(marks, change))
-        .count()
-}
-
 /// Whether there are more than 1,024 marks after the changes.
 pub(super) fn has_too_many_marks(marks: &[Addr], changes: &[Change]) -> bool
     requires rising { AreRising marks.now }
@@ -74,7 +52,15 @@ pub(super) fn has_too_many_marks(marks: &[Addr], changes: &[Change]) -> bool
     requires once { AreOnceEach changes.now }
     ensures { IsTrue result ↔ MOST_MARKS < set.len (all_marked (marks_in marks.now) changes.now) }
 {
-    let after = marks.len() + count_added(marks, changes) - count_removed(marks, changes);
+    let added = changes
+        .iter()
+        .filter(|change| adds_mark(marks, change))
+        .count();
+    let removed = changes
+        .iter()
+        .filter(|change| removes_mark(marks, change))
+        .count();
+    let after = marks.len() + added - removed;
     after > MOST_MARKS
 }
 

@@ -14,7 +14,7 @@ parted batches i b within is_next =
     ∙ ap (λ rest. take i batches ++ rest) (drop_more batches i b within ∙ ap (λ next. next ∷ drop (i + 1) batches) (sym is_next))
 
 -- a batch that doesn't fit after lawful ones is the first that doesn't fit
-pub first_unfit : (batches : List NumberedChanges) (i : ℕ) (b : NumberedChanges) → i < length batches
+abbrev pub first_unfit : (batches : List NumberedChanges) (i : ℕ) (b : NumberedChanges) → i < length batches
     → b ≡ get_or batches i b → (number : ℕ) (why : Refusal) → number ≡ b.number
     → AreLawful (take i batches) → IsRefusal (database_after (take i batches)) b why
     → IsFirstUnfit batches number why

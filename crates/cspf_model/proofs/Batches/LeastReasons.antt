@@ -1,7 +1,7 @@
 -- The first reason why a batch does not fit, and that there is one at most.
 use Rattle.cspf_model.specs.Laws.{OneRefusal}
 use mathlib.Core.Bool.{true≢false}
-use Rattle.std.proofs.Common.{◌≡◌, ℕ, zero, suc, ◌+◌, ◌<◌, ◌≤◌, inl, inr, ◌||◌, true, false, Option, Some, None, option_map, List, [], ◌∷◌, length, map, take, refl, sym, ap, subst, ◌∙◌, add-one, arith, length-take-le, is_some, IfNone, IsTrue}
+use Rattle.std.proofs.Common.{◌≡◌, ℕ, zero, suc, ◌+◌, ◌<◌, ◌≤◌, inl, inr, ◌||◌, true, Option, Some, None, option_map, List, [], ◌∷◌, length, map, take, refl, sym, ap, subst, ◌∙◌, add-one, arith, length-take-le, is_some, IfNone}
 use Rattle.std.specs.Ordering.{eq_by_cmp}
 use Rattle.std.specs.List.{IsDistinct, AllWithin, HoldsAt, list_any, slice_get, slice_index_or}
 use Rattle.std.proofs.lemmas.Bool.{cases_lt}
@@ -187,24 +187,6 @@ refused_unfit d b (Absent at) why fits = removes_not_present d b.changes at why.
 refused_unfit d b Full why fits = absurd (omega (arith, why.1, fits.links))
 refused_unfit d b TooManyRouters why fits = absurd (omega (arith, why.2, fits.routers))
 refused_unfit d b TooManyMarks why fits = absurd (omega (arith, why.3, fits.marks))
-
--- a number that isn't above a limit is within it
-not_above : (limit : ℕ) {n : ℕ} → (limit < n → IsTrue false) → n ≤ limit
-not_above limit {n} above = within n (λ h. false_not_true (above h))
-  where
-    false_not_true : IsTrue false → ⊥
-    false_not_true e = cc
-
-    within : (n : ℕ) → (limit < n → ⊥) → n ≤ limit
-    within n h = omega (arith, h)
-
--- links that aren't too many are within the limit
-pub not_full : {n : ℕ} → (16384 < n → IsTrue false) → n ≤ 16384
-not_full above = not_above 16384 above
-
--- routers that aren't too many are within the limit
-pub not_many : {n : ℕ} → (1024 < n → IsTrue false) → n ≤ 1024
-not_many above = not_above 1024 above
 
 -- there is at most one least place
 one_least : (P : ℕ → Type 0) (m n : ℕ) → IsLeastPlace P m → IsLeastPlace P n → m ≡ n

@@ -1,5 +1,5 @@
-use Rattle.std.proofs.Common.{◌<◌, ◌≤◌, refl, subst}
-use Rattle.cspf_model.proofs.Batches.LeastReasons.{least_repeat, least_absent, not_full, not_many}
+use Rattle.std.proofs.Common.{rules}
+use Rattle.cspf_model.proofs.Batches.LeastReasons.{least_repeat, least_absent}
 use Rattle.cspf_model.proofs.Databases.MarkedLinks.{links_counted, routers_counted, marks_counted}
 use Rattle.cspf_db.proofs.Tables.SeenRows.{told_apart}
 use Rattle.cspf_db.proofs.table.fit.fits.Goals as goal
@@ -18,46 +18,23 @@ returns-in-Err-clause-err c =
 
 pub returns-then-has_too_many_links-clause-err : goal.returns-then-has_too_many_links-clause-err
 returns-then-has_too_many_links-clause-err c =
-    let changes = c.as_slice-changes.result.now in
     let tally = rw c.in-Ok.is at c.tally_all-tally.ensures.tally in
-    rw (← c.batch.view_is, ← c.as_slice-changes.ensures.value) (
-      record { short = c.if-changes-gt-MOST_CHANGES.false; once = c.in_default.ensures.none; present = tally.present },
-      subst (λ n. 16384 < n) (links_counted c.args.columns.now.rows.items c.args.marks.now changes) (c.if-has_too_many_links.ensures.0 refl),
-    )
+    rw (← c.batch.view_is, ← c.as_slice-changes.ensures.value, ← links_counted) (search (rules, tally.present))
 
 pub returns-then-has_too_many_routers-clause-err : goal.returns-then-has_too_many_routers-clause-err
 returns-then-has_too_many_routers-clause-err c =
-    let changes = c.as_slice-changes.result.now in
     let tally = rw c.in-Ok.is at c.tally_all-tally.ensures.tally in
-    rw (← c.batch.view_is, ← c.as_slice-changes.ensures.value) (
-      record { short = c.if-changes-gt-MOST_CHANGES.false; once = c.in_default.ensures.none; present = tally.present },
-      subst (λ n. n ≤ 16384) (links_counted c.args.columns.now.rows.items c.args.marks.now changes) (not_full c.if-has_too_many_links.ensures.1),
-      subst (λ n. 1024 < n) (routers_counted c.args.columns.now.rows.items c.args.marks.now changes) (c.if-has_too_many_routers.ensures.0 refl),
-    )
+    rw (← c.batch.view_is, ← c.as_slice-changes.ensures.value, ← links_counted, ← routers_counted) (search (rules, tally.present))
 
 pub returns-then-has_too_many_marks-clause-err : goal.returns-then-has_too_many_marks-clause-err
 returns-then-has_too_many_marks-clause-err c =
-    let changes = c.as_slice-changes.result.now in
     let tally = rw c.in-Ok.is at c.tally_all-tally.ensures.tally in
-    rw (← c.batch.view_is, ← c.as_slice-changes.ensures.value) (
-      record { short = c.if-changes-gt-MOST_CHANGES.false; once = c.in_default.ensures.none; present = tally.present },
-      subst (λ n. n ≤ 16384) (links_counted c.args.columns.now.rows.items c.args.marks.now changes) (not_full c.if-has_too_many_links.ensures.1),
-      subst (λ n. n ≤ 1024) (routers_counted c.args.columns.now.rows.items c.args.marks.now changes) (not_many c.if-has_too_many_routers.ensures.1),
-      subst (λ n. 1024 < n) (marks_counted c.args.columns.now.rows.items c.args.marks.now changes) (c.if-has_too_many_marks.ensures.0 refl),
-    )
+    rw (← c.batch.view_is, ← c.as_slice-changes.ensures.value, ← links_counted, ← routers_counted, ← marks_counted) (search (rules, tally.present))
 
 pub returns-else-has_too_many_marks-clause-ok : goal.returns-else-has_too_many_marks-clause-ok
 returns-else-has_too_many_marks-clause-ok c =
-    let changes = c.as_slice-changes.result.now in
     let tally = rw c.in-Ok.is at c.tally_all-tally.ensures.tally in
-    rw (← c.batch.view_is, ← c.as_slice-changes.ensures.value) (record {
-      short = c.if-changes-gt-MOST_CHANGES.false;
-      once = c.in_default.ensures.none;
-      present = tally.present;
-      links = subst (λ n. n ≤ 16384) (links_counted c.args.columns.now.rows.items c.args.marks.now changes) (not_full c.if-has_too_many_links.ensures.1);
-      routers = subst (λ n. n ≤ 1024) (routers_counted c.args.columns.now.rows.items c.args.marks.now changes) (not_many c.if-has_too_many_routers.ensures.1);
-      marks = subst (λ n. n ≤ 1024) (marks_counted c.args.columns.now.rows.items c.args.marks.now changes) (not_many c.if-has_too_many_marks.ensures.1);
-    })
+    rw (← c.batch.view_is, ← c.as_slice-changes.ensures.value) (search (rules, tally.present, ← links_counted, ← routers_counted, ← marks_counted))
 
 pub repeat-requires-clause-known : goal.repeat-requires-clause-known
 repeat-requires-clause-known c on = told_apart _ _ _ c.tally_all-tally.ensures.tally (c.tells_apart.ensures on)
