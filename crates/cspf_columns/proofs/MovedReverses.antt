@@ -1,5 +1,5 @@
 -- The column of reverses as a row that is left out is put over another, put between others or taken out.
-use Rattle.std.proofs.Common.{◌≡◌, ◌≢◌, ℕ, ◌+◌, ◌-◌, ◌<◌, ◌≤◌, ◌⊎◌, List, length, map, cond, leb, slice_index_or, slice_set, sym, ap, subst, ◌∙◌, inl, inr, arith}
+use Rattle.std.proofs.Common.{◌≡◌, ◌≢◌, ℕ, ◌+◌, ◌-◌, ◌<◌, ◌≤◌, ◌⊎◌, List, length, map, cond, eqb, leb, slice_index_or, slice_set, sym, ap, subst, ◌∙◌, inl, inr, arith}
 use Rattle.std.specs.List.{HoldsAt, insert, remove as without}
 use Rattle.std.proofs.lemmas.Bool.{cases_eq, cases_lt, eq-eqb, ne_eqb, le-leb, lt-leb}
 use Rattle.std.proofs.lemmas.List.{length-set, length-map, get_or-set_same, get_or-set_other, get_or-map}
@@ -15,44 +15,41 @@ use Rattle.cspf_columns.proofs.PairedRows.{IsPair, here, paired, column_of, open
 abbrev IsFrom : (out : Key → Type 0) (rows new : List Link) (d : Link) (j : ℕ) → Type 0
 IsFrom out rows new d j = out (key_of (slice_index_or new j d)) ⊎ ((k : ℕ) × (k < length rows) × (slice_index_or new j d ≡ slice_index_or rows k d))
 
--- a pair that is found at other indices
-moved : (out : Key → Type 0) (rows new : List Link) (d : Link) (i n j m : ℕ) → IsPair out rows d i n → slice_index_or new j d ≡ slice_index_or rows i d
-    → (n ≢ NO_LINK → (m ≢ NO_LINK) × (m < length new) × (slice_index_or new m d ≡ slice_index_or rows n d)) → (n ≡ NO_LINK → m ≡ NO_LINK)
-    → ((k : ℕ) → k < length new → IsFrom out rows new d k) → IsPair out new d j m
-moved out rows new d i n j m is same to open_to from = elim (cases_eq n NO_LINK) [
-  | inl z ↦ subst (IsPair out new d j) (sym (open_to z)) (open_pair out new d j (λ k inside back. elim (from k inside) [
-    | inl left ↦ inr left
-    | inr old ↦ rw (same, old.2) (is.none z old.0 old.1 (rw (same, old.2) at back))
-  ]))
-  | inr some ↦ record {
-    within = λ _. (to some).1;
-    found = λ _. rw (same, (to some).2) (is.found some);
-    kept = λ _. rw (same, (to some).2) (is.kept some);
-    none = λ z. absurd ((to some).0 z);
-  }
-]
+-- what becomes of an index: of none, of one from a place on, and of one below it
+still_none : (at n m : ℕ) → n ≡ NO_LINK → cond (eqb n NO_LINK) n (cond (leb at n) m n) ≡ NO_LINK
+still_none at n m z = ap (λ b. cond b n (cond (leb at n) m n)) (eq-eqb n NO_LINK z) ∙ z
 
--- the index after a gap, and before one
-behind_none : (at n : ℕ) → n ≡ NO_LINK → index_behind at n ≡ NO_LINK
-behind_none at n z = ap (λ b. cond b n (cond (leb at n) (n + 1) n)) (eq-eqb n NO_LINK z) ∙ z
+moved_from : (at n m : ℕ) → n ≢ NO_LINK → at ≤ n → cond (eqb n NO_LINK) n (cond (leb at n) m n) ≡ m
+moved_from at n m some h = ap (λ b. cond b n (cond (leb at n) m n)) (ne_eqb n NO_LINK some) ∙ ap (λ b. cond b m n) (le-leb at n h)
 
-before_none : (at n : ℕ) → n ≡ NO_LINK → index_before at n ≡ NO_LINK
-before_none at n z = ap (λ b. cond b n (cond (leb at n) (n - 1) n)) (eq-eqb n NO_LINK z) ∙ z
-
-behind_from : (at n : ℕ) → n ≢ NO_LINK → at ≤ n → index_behind at n ≡ n + 1
-behind_from at n some h = ap (λ b. cond b n (cond (leb at n) (n + 1) n)) (ne_eqb n NO_LINK some) ∙ ap (λ b. cond b (n + 1) n) (le-leb at n h)
-
-behind_below : (at n : ℕ) → n ≢ NO_LINK → n < at → index_behind at n ≡ n
-behind_below at n some h = ap (λ b. cond b n (cond (leb at n) (n + 1) n)) (ne_eqb n NO_LINK some) ∙ ap (λ b. cond b (n + 1) n) (lt-leb at n h)
-
-before_from : (at n : ℕ) → n ≢ NO_LINK → at ≤ n → index_before at n ≡ n - 1
-before_from at n some h = ap (λ b. cond b n (cond (leb at n) (n - 1) n)) (ne_eqb n NO_LINK some) ∙ ap (λ b. cond b (n - 1) n) (le-leb at n h)
-
-before_below : (at n : ℕ) → n ≢ NO_LINK → n < at → index_before at n ≡ n
-before_below at n some h = ap (λ b. cond b n (cond (leb at n) (n - 1) n)) (ne_eqb n NO_LINK some) ∙ ap (λ b. cond b (n - 1) n) (lt-leb at n h)
+kept_below : (at n m : ℕ) → n ≢ NO_LINK → n < at → cond (eqb n NO_LINK) n (cond (leb at n) m n) ≡ n
+kept_below at n m some h = ap (λ b. cond b n (cond (leb at n) m n)) (ne_eqb n NO_LINK some) ∙ ap (λ b. cond b m n) (lt-leb at n h)
 
 -- rows with a column that leaves a key out
 module _ (rows : List Link) (column : List ℕ) (k : Key) (few : length rows ≤ ROOM_FOR_LINKS) (are : AreReversesBut (same_key k) rows column) where
+  -- what a row's own pair becomes where indices move
+  pair_moved : (new : List Link) (move : ℕ → ℕ) (d : Link) (i j : ℕ) → i < length rows → slice_index_or new j d ≡ slice_index_or rows i d
+      → ((n : ℕ) → n < length rows → n ≢ NO_LINK → (¬ same_key k (key_of (slice_index_or rows n d))) → (move n ≢ NO_LINK) × (move n < length new) × (slice_index_or new (move n) d ≡ slice_index_or rows n d))
+      → ((n : ℕ) → n ≡ NO_LINK → move n ≡ NO_LINK) → ((x : ℕ) → x < length new → IsFrom (same_key k) rows new d x)
+      → IsPair (same_key k) new d j (move (slice_index_or column i 0))
+  pair_moved new move d i j old same moves none from =
+      let n = slice_index_or column i 0 in
+      let is = paired (same_key k) rows column are i d old in
+      elim (cases_eq n NO_LINK) [
+        | inl z ↦ subst (IsPair (same_key k) new d j) (sym (none n z)) (open_pair (same_key k) new d j (λ x inside back. elim (from x inside) [
+          | inl left ↦ inr left
+          | inr old ↦ rw (same, old.2) (is.none z old.0 old.1 (rw (same, old.2) at back))
+        ]))
+        | inr some ↦
+            let to = moves n (is.within some) some (is.kept some).1 in
+            record {
+              within = λ _. to.1;
+              found = λ _. rw (same, to.2) (is.found some);
+              kept = λ _. rw (same, to.2) (is.kept some);
+              none = λ z. absurd (to.0 z);
+            }
+      ]
+
   -- a link with that key
   module _ (l : Link) (has_key : key_of l ≡ k) (at : ℕ) where
     -- is put over the row with it
@@ -76,13 +73,13 @@ module _ (rows : List Link) (column : List ℕ) (k : Key) (few : length rows ≤
                 let unpaired : n ≡ NO_LINK = elim (cases_eq n NO_LINK) [ inl z ↦ z | inr some ↦ absurd ((is.kept some).0 (ap (λ a. key_of (slice_index_or rows a d)) same ∙ has d)) ] in
                 subst (IsPair (same_key k) over d i) (sym unpaired)
                 (open_pair (same_key k) over d i (λ j inside back. inl (ap (λ a. key_of (slice_index_or over a d)) same ∙ ap key_of (get_or-set_same rows at l d within) ∙ has_key)))
-            | inr apart ↦ moved (same_key k) rows over d i n i n is (get_or-set_other rows at i l d apart)
-                (λ some. (
+            | inr apart ↦ pair_moved over (λ n. n) d i i old (get_or-set_other rows at i l d apart)
+                (λ n inside some kept. (
                   some,
-                  omega (arith, is.within some, length-set rows at l),
-                  get_or-set_other rows at n l d (λ same. (is.kept some).1 (ap (λ a. key_of (slice_index_or rows a d)) same ∙ has d)),
+                  omega (arith, inside, length-set rows at l),
+                  get_or-set_other rows at n l d (λ same. kept (ap (λ a. key_of (slice_index_or rows a d)) same ∙ has d)),
                 ))
-                (λ z. z) (over_from d)
+                (λ n z. z) (over_from d)
           ])
 
     -- is put between others
@@ -119,17 +116,10 @@ module _ (rows : List Link) (column : List ℕ) (k : Key) (few : length rows ≤
       -- what a row's own pair becomes
       pair_behind : (d : Link) (i j : ℕ) → i < length rows → slice_index_or wider j d ≡ slice_index_or rows i d → IsPair (same_key k) wider d j (index_behind at (slice_index_or column i 0))
       pair_behind d i j old same =
-          let n = slice_index_or column i 0 in
-          let is = paired (same_key k) rows column are i d old in
-          moved (same_key k) rows wider d i n j (index_behind at n) is same
-          (λ some. elim (cases_lt n at) [
-            | inl below ↦
-                let here : index_behind at n ≡ n = behind_below at n some below in
-                rw here (some, omega (arith, is.within some, long), row_below d n below)
-            | inr from ↦
-                let here : index_behind at n ≡ n + 1 = behind_from at n some from in
-                rw here (λ e. absurd (omega (arith, e, is.within some, few)), omega (arith, is.within some, long), row_above d n from)
-          ]) (behind_none at n) (wider_from d)
+          pair_moved wider (index_behind at) d i j old same (λ n inside some _. elim (cases_lt n at) [
+            | inl below ↦ rw (kept_below at n (n + 1) some below) (some, omega (arith, inside, long), row_below d n below)
+            | inr from ↦ rw (moved_from at n (n + 1) some from) (λ e. absurd (omega (arith, e, inside, few)), omega (arith, inside, long), row_above d n from)
+          ]) (λ n. still_none at n (n + 1)) (wider_from d)
 
       read : (i : ℕ) → i < length column → slice_index_or (map (index_behind at) column) i 0 ≡ index_behind at (slice_index_or column i 0)
       read i h = get_or-map (index_behind at) column i 0 0 h
@@ -165,33 +155,27 @@ module _ (rows : List Link) (column : List ℕ) (k : Key) (few : length rows ≤
     short : length fewer + 1 ≡ length rows
     short = length-remove rows at within
 
-    kept_below : (d : Link) (i : ℕ) → i < at → slice_index_or fewer i d ≡ slice_index_or rows i d
-    kept_below d i h = get_or-remove_below rows at d i h within
+    fewer_below : (d : Link) (i : ℕ) → i < at → slice_index_or fewer i d ≡ slice_index_or rows i d
+    fewer_below d i h = get_or-remove_below rows at d i h within
 
-    kept_above : (d : Link) (i : ℕ) → at ≤ i → slice_index_or fewer i d ≡ slice_index_or rows (i + 1) d
-    kept_above d i h = get_or-remove_above rows at d i h within
+    fewer_above : (d : Link) (i : ℕ) → at ≤ i → slice_index_or fewer i d ≡ slice_index_or rows (i + 1) d
+    fewer_above d i h = get_or-remove_above rows at d i h within
 
     fewer_from : (d : Link) (j : ℕ) → j < length fewer → (i : ℕ) × (i < length rows) × (i ≢ at) × (slice_index_or fewer j d ≡ slice_index_or rows i d)
     fewer_from d j inside = elim (cases_lt j at) [
-      | inl below ↦ (j, omega (arith, inside, short), λ e. absurd (omega (arith, e, below)), kept_below d j below)
-      | inr from ↦ (j + 1, omega (arith, inside, short), λ e. absurd (omega (arith, e, from)), kept_above d j from)
+      | inl below ↦ (j, omega (arith, inside, short), λ e. absurd (omega (arith, e, below)), fewer_below d j below)
+      | inr from ↦ (j + 1, omega (arith, inside, short), λ e. absurd (omega (arith, e, from)), fewer_above d j from)
     ]
 
     pair_before : (d : Link) (i j : ℕ) → i < length rows → slice_index_or fewer j d ≡ slice_index_or rows i d → IsPair (same_key k) fewer d j (index_before at (slice_index_or column i 0))
     pair_before d i j old same =
-        let n = slice_index_or column i 0 in
-        let is = paired (same_key k) rows column are i d old in
-        moved (same_key k) rows fewer d i n j (index_before at n) is same
-        (λ some. elim (cases_lt n at) [
-          | inl below ↦
-              let here : index_before at n ≡ n = before_below at n some below in
-              rw here (some, omega (arith, below, within, short), kept_below d n below)
+        pair_moved fewer (index_before at) d i j old same (λ n inside some kept. elim (cases_lt n at) [
+          | inl below ↦ rw (kept_below at n (n - 1) some below) (some, omega (arith, below, within, short), fewer_below d n below)
           | inr from ↦
-              let apart : n ≢ at = λ e. (is.kept some).1 (ap (λ a. key_of (slice_index_or rows a d)) e ∙ has d) in
+              let apart : n ≢ at = λ e. kept (ap (λ a. key_of (slice_index_or rows a d)) e ∙ has d) in
               let one : n - 1 + 1 ≡ n = omega (arith, from, apart) in
-              let here : index_before at n ≡ n - 1 = before_from at n some from in
-              rw here (λ e. absurd (omega (arith, e, is.within some, few)), omega (arith, is.within some, short, one), kept_above d (n - 1) (omega (arith, from, apart, one)) ∙ ap (λ a. slice_index_or rows a d) one)
-        ]) (before_none at n) (λ x inside. let from = fewer_from d x inside in inr (from.0, from.1, from.3))
+              rw (moved_from at n (n - 1) some from) (λ e. absurd (omega (arith, e, inside, few)), omega (arith, inside, short, one), fewer_above d (n - 1) (omega (arith, from, apart, one)) ∙ ap (λ a. slice_index_or rows a d) one)
+        ]) (λ n. still_none at n (n - 1)) (λ x inside. let from = fewer_from d x inside in inr (from.0, from.1, from.3))
 
     read_before : (i : ℕ) → i < length (without column at) → slice_index_or closed i 0 ≡ index_before at (slice_index_or (without column at) i 0)
     read_before i h = get_or-map (index_before at) (without column at) i 0 0 h
@@ -203,10 +187,10 @@ module _ (rows : List Link) (column : List ℕ) (k : Key) (few : length rows ≤
         column_of (same_key k) fewer closed (omega (arith, length-map (without column at) (index_before at), short_column, short, are.many)) (λ i d h. elim (cases_lt i at) [
           | inl below ↦
               let is : slice_index_or closed i 0 ≡ index_before at (slice_index_or column i 0) = read_before i (omega (arith, h, short, short_column, are.many)) ∙ ap (index_before at) (get_or-remove_below column at 0 i below in_column) in
-              subst (IsPair (same_key k) fewer d i) (sym is) (pair_before d i i (omega (arith, h, short)) (kept_below d i below))
+              subst (IsPair (same_key k) fewer d i) (sym is) (pair_before d i i (omega (arith, h, short)) (fewer_below d i below))
           | inr from ↦
               let is : slice_index_or closed i 0 ≡ index_before at (slice_index_or column (i + 1) 0) = read_before i (omega (arith, h, short, short_column, are.many)) ∙ ap (index_before at) (get_or-remove_above column at 0 i from in_column) in
-              subst (IsPair (same_key k) fewer d i) (sym is) (pair_before d (i + 1) i (omega (arith, h, short)) (kept_above d i from))
+              subst (IsPair (same_key k) fewer d i) (sym is) (pair_before d (i + 1) i (omega (arith, h, short)) (fewer_above d i from))
         ])
 
     pub taken_out : AreReversesBut no_key fewer closed

@@ -104,12 +104,12 @@ module _ (rows : List Link) (routers ends : List ℕ) (are : IsEndColumn rows ro
   tos_kept k d h = Contains-filter (is_end_of rows) routers (get_or rows k d).to (to_router rows routers ends are.ends k d h) (to_passes rows k d h)
 
   -- the column of ends in a list of them
-  pub column_kept : (places : List ℕ) → ArePlacesIn (filter (is_end_of rows) routers) routers places → IsEndColumn rows (filter (is_end_of rows) routers) (map (λ e. get_or places e 0) ends)
-  column_kept places placed =
+  pub column_kept : (kept places : List ℕ) → kept ≡ filter (is_end_of rows) routers → ArePlacesIn kept routers places → IsEndColumn rows kept (map (λ e. get_or places e 0) ends)
+  column_kept kept places is placed =
       let among : All (Contains (filter (is_end_of rows) routers)) (map (λ e. get_or routers e 0) ends) =
       subst (All (Contains (filter (is_end_of rows) routers))) (sym are.ends.each) (All-map (Contains (filter (is_end_of rows) routers)) (λ (l : Link). l.to) rows tos_kept) in
-      let moved = moved_ends (filter (is_end_of rows) routers) routers places ends are.ends.within among placed in
-      record { froms = froms_kept; ends = record { within = moved.0; each = moved.1 ∙ are.ends.each } }
+      let moved = moved_ends (filter (is_end_of rows) routers) routers places ends are.ends.within among (rw is at placed) in
+      rw is (record { froms = froms_kept; ends = record { within = moved.0; each = moved.1 ∙ are.ends.each } })
 
   -- where a column of ends is in a list of them, they are the list of routers
   pub router_list-kept : (kept moved : List ℕ) → AreByKey rows → AreRising routers → kept ≡ filter (is_end_of rows) routers → IsEndColumn rows kept moved → kept ≡ router_list (database_of rows)

@@ -1,4 +1,4 @@
-use Rattle.std.proofs.Common.{length, map, slice_index, arith, sym, ap}
+use Rattle.std.proofs.Common.{length, arith, sym, ap}
 use Rattle.cspf_columns.proofs.RemainingRouters.{filter_whole, column_kept, router_list-kept}
 use Rattle.cspf_columns.proofs.scratch.Scratch.drop_routers.Goals as goal
 
@@ -11,16 +11,10 @@ returns-then-len-clause-all c =
 pub returns-clause-all : goal.returns-clause-all
 returns-clause-all c =
     let old = c.requires.tied in
-    let kept = rw (c.deref.ensures.value, c.deref-3.ensures.value) at c.keep_ends.ensures.kept in
-    let placed = rw (c.deref.ensures.value, kept) at c.keep_ends.ensures.placed in
-    let column = column_kept _ _ _ old.column _ placed in
-    rw c.swap.ensures.x_after
-    (router_list-kept _ _ _ old.column c.keep_ends.new.kept.items (map (λ e. slice_index c.keep_ends.new.places.items e) c.args.columns.now.ends.items) old.by_key old.rising kept (rw kept column))
+    let new = rw (c.deref.ensures.value, c.deref-3.ensures.value) at c.keep_ends.ensures in
+    rw c.swap.ensures.x_after (router_list-kept _ _ _ old.column _ _ old.by_key old.rising new.kept (column_kept _ _ _ old.column _ _ new.kept new.placed))
 
 pub returns-clause-ends : goal.returns-clause-ends
 returns-clause-ends c =
-    let old = c.requires.tied in
-    let kept = rw (c.deref.ensures.value, c.deref-3.ensures.value) at c.keep_ends.ensures.kept in
-    let placed = rw (c.deref.ensures.value, kept) at c.keep_ends.ensures.placed in
-    let column = column_kept _ _ _ old.column _ placed in
-    rw (c.swap.ensures.x_after, c.move_ends.ensures.moved, c.deref-4.ensures.value, kept) column.ends
+    let new = rw (c.deref.ensures.value, c.deref-3.ensures.value) at c.keep_ends.ensures in
+    rw (c.swap.ensures.x_after, c.move_ends.ensures.moved, c.deref-4.ensures.value) (column_kept _ _ _ c.requires.tied.column _ _ new.kept new.placed).ends
