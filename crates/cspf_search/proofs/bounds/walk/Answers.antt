@@ -17,11 +17,9 @@ pub returns-clause-passed : goal.returns-clause-passed
 returns-clause-passed c u l leads from end =
     let d = c.args.query.table.now in
     let q = c.args.query.request.now in
-    let ends = c.ends_at-ends.result.now in
-    let reverses = c.reverses_at-reverses.result.now in
-    let many = as_many d c.args.to ends c.ends_at-ends.ensures.each in
+    let many = as_many _ _ _ c.ends_at-ends.ensures.each in
     let x =
-    found_back d c.requires.query.links c.requires.query.listed c.args.to ends reverses c.ends_at-ends.ensures.within c.ends_at-ends.ensures.each c.reverses_at-reverses.ensures.each l
+    found_back _ c.requires.query.links c.requires.query.listed _ _ _ c.ends_at-ends.ensures.within c.ends_at-ends.ensures.each c.reverses_at-reverses.ensures.each l
     leads.admissible.link leads.admissible.usable.reverse u from end in
     let passed = c.loop-row.invariant.passed x.0 (omega (arith, x.1, many, c.loop-row-test.false)) in
     subst (λ i. IsPassed d q c.args.base c.loop-row.ring i (slice_index c.reverses_at-reverses.result.now x.0)) x.2 passed l x.3 leads.admissible.usable.admitted (subst (MayBeLeft d q) (sym from.is) leads.left)

@@ -21,17 +21,7 @@ use Rattle.cspf_search.proofs.search.reached.Goals as goal
 -- what the search is asked
 asked_of : (query : Query) (from to : ℕ) (goal : Goal) → IsQuery query → IsIndexOf query.table.now query.request.now.from from → IsIndexOf query.table.now query.request.now.to to
     → goal.at ≡ (query.legs - 1) * 1024 + to → AreBounds query.table.now query.request.now goal.bounds.now → IsAsked query.table.now query.request.now query.legs from to goal
-asked_of query from to goal is start end at bounds = record {
-  links = is.links;
-  listed = is.listed;
-  few = is.few;
-  count = is.count;
-  most = is.most;
-  start = start;
-  end = end;
-  at = at;
-  bounds = bounds;
-}
+asked_of query from to goal is start end at bounds = assumption
 
 pub expand-requires-clause-before : goal.expand-requires-clause-before
 expand-requires-clause-before c =
@@ -137,17 +127,7 @@ loop-at-preserved c =
     c.loop-at.goal (with_items (with_item c.loop-at.labels c.in-Some.at (record { rank = 0; parent = 0; place = 0; row = 0 })) c.expand-in-Some.new.labels).items (heap_items c.expand-in-Some.new.heap) =
     rw (put, length_push nodes node) after in
     rw c.in_ok-extend_from_slice.ensures.items (record {
-      asked = record {
-        links = t.asked.links;
-        listed = t.asked.listed;
-        few = t.asked.few;
-        count = t.asked.count;
-        most = t.asked.most;
-        start = t.asked.start;
-        end = t.asked.end;
-        at = t.asked.at;
-        bounds = t.asked.bounds;
-      };
+      asked = assumption t.asked;
       few = stepped_few _ _ _ _ _ _ t.asked _ _ _ t.before _ _ t.least _ t.is;
       under_way = record {
         arena = new.0;

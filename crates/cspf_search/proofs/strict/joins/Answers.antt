@@ -13,9 +13,6 @@ use Rattle.cspf_search.proofs.strict.joins.Goals.{else-query-first-2-via-then-qu
 
 pub loop-row-preserved : goal.loop-row-preserved
 loop-row-preserved c k e low on usable =
-    let d = c.args.query.table.now in
-    let q = c.args.query.request.now in
-    let ends = c.ends_at-ends.result.now in
     let links = c.out_at-links.result.now in
     elim (cases_lt k c.loop-row.row) [
       | inl less ↦ c.loop-row.invariant k e less on usable
@@ -25,9 +22,9 @@ loop-row-preserved c k e low on usable =
             | else-query-first-2-via-then-query-first-2+else-admissible w ↦
                 let link = w.index-links-row.result in
                 let same : slice_index_or links k e ≡ link = ap (λ n. slice_index_or links n e) here ∙ get_or_default links c.loop-row.row e link c.loop-row-test.true ∙ sym w.index-links-row.is in
-                absurd (false≢true (w.if-admissible.ensures.1 (subst (IsUsable d q) same usable)))
+                absurd (false≢true (w.if-admissible.ensures.1 (subst (IsUsable c.args.query.table.now c.args.query.request.now) same usable)))
             | else-query-first-2-via-else-query-first-2 w ↦
-                let same : slice_index ends k ≡ c.from-end.result = ap (slice_index ends) here ∙ sym c.from-end.ensures in
+                let same : slice_index c.ends_at-ends.result.now k ≡ c.from-end.result = ap (slice_index c.ends_at-ends.result.now) here ∙ sym c.from-end.ensures in
                 let role = subst (λ n. IsTrue (slice_index_or c.args.query.roles.now (c.args.leg_index * 1024 + n) nothing).target) same on in
                 absurd (false≢true (sym w.if-query-first-2.false ∙ role))
           ]
