@@ -39,25 +39,15 @@ returns-else-has_too_many_marks-clause-ok c =
 pub repeat-requires-clause-known : goal.repeat-requires-clause-known
 repeat-requires-clause-known c on = told_apart _ _ _ c.tally_all-tally.ensures.tally (c.tells_apart.ensures on)
 
-pub has_too_many_links-requires-clause-present : goal.has_too_many_links-requires-clause-present
-has_too_many_links-requires-clause-present c =
+pub has_too_many_links-requires : goal.has_too_many_links-requires
+has_too_many_links-requires c =
     let tally = rw c.in-Ok.is at c.tally_all-tally.ensures.tally in
-    tally.present
+    assumption (tally, c.in_default.ensures.none)
 
-pub has_too_many_links-requires-clause-added : goal.has_too_many_links-requires-clause-added
-has_too_many_links-requires-clause-added c =
+pub has_too_many_routers-requires : goal.has_too_many_routers-requires
+has_too_many_routers-requires c =
     let tally = rw c.in-Ok.is at c.tally_all-tally.ensures.tally in
-    tally.added
-
-pub has_too_many_routers-requires-clause-few_brought : goal.has_too_many_routers-requires-clause-few_brought
-has_too_many_routers-requires-clause-few_brought c =
-    let tally = rw c.in-Ok.is at c.tally_all-tally.ensures.tally in
-    tally.few
-
-pub has_too_many_routers-requires-clause-brought : goal.has_too_many_routers-requires-clause-brought
-has_too_many_routers-requires-clause-brought c =
-    let tally = rw c.in-Ok.is at c.tally_all-tally.ensures.tally in
-    tally.most
+    assumption (tally, c.in_default.ensures.none)
 
 pub returns-else-has_too_many_marks-clause-tally : goal.returns-else-has_too_many_marks-clause-tally
 returns-else-has_too_many_marks-clause-tally c =
