@@ -1,22 +1,28 @@
 //! `routed audit` checks a file of replies against a journal and a file of requests.
 
 use crate::devices::{flush, opened, output};
-use crate::ends::end;
-use crate::noted::Name;
-use crate::options::{JOURNAL, REQUESTS, explain, file};
-use crate::refused_rows::RowFiles;
-use crate::stopped::{Stopped, ended};
-use clap::{ArgMatches, Command};
+use crate::noted::FileName;
+use crate::options::{CommandOption, CommandText, JOURNAL, REPLIES, REQUESTS};
+use crate::stopped::{Ran, ended};
+use clap::ArgMatches;
 use cspf_serve::run_audit;
-use std::alloc::{AllocError, Global};
 
 /// The word of the command.
 pub const NAME: &str = "audit";
 
-/// What help says of it.
-const ABOUT: &str = "Checks a file of replies against a journal and a file of requests";
+/// The command with its options.
+pub const COMMAND: CommandText = CommandText {
+    name: NAME,
+    about: "Checks a file of replies against a journal and a file of requests",
+    help: HELP,
+    options: &[
+        CommandOption::File(JOURNAL, "The file of batches"),
+        CommandOption::File(REQUESTS, "The file of requests"),
+        CommandOption::File(REPLIES, "The file of replies"),
+    ],
+};
 
-/// What help says below its options.
+/// What help says below the options.
 const HELP: &str = "\
 The journal and the requests are files as in batch, and each request has an id of its own. The replies
 are lines as batch and live write them. Lines that begin with version, applied or batch are
@@ -51,53 +57,33 @@ Status:
   3  out of memory, or a file or another device failed; the last line of standard error is
      routed: stopped, and with --explain the line before it says why";
 
-/// The option that names the file of replies.
-const REPLIES: &str = "replies";
-
-/// The command with its options.
-pub(crate) fn command<'a>(alloc: Global) -> Result<Command<'a>, AllocError> {
-    Command::new(alloc, NAME)
-        .about(ABOUT)
-        .after_help(HELP)
-        .arg(file(alloc, JOURNAL, "The file of batches"))?
-        .arg(file(alloc, REQUESTS, "The file of requests"))?
-        .arg(file(alloc, REPLIES, "The file of replies"))?
-        .arg(explain(alloc))
-}
-
 /// What the words of the command say.
 #[derive(Clone, Copy)]
 pub struct AuditWords<'a> {
-    journal: &'a str,
-    requests: &'a str,
-    replies: &'a str,
+    /// The file of batches.
+    pub journal: FileName<'a>,
+    /// The file of requests.
+    pub requests: FileName<'a>,
+    replies: FileName<'a>,
 }
 
 impl<'a> AuditWords<'a> {
     /// The words that `clap` found.
     pub(crate) fn read(words: &ArgMatches<'a>) -> Option<AuditWords<'a>> {
         Some(AuditWords {
-            journal: words.get_str(JOURNAL)?,
-            requests: words.get_str(REQUESTS)?,
-            replies: words.get_str(REPLIES)?,
+            journal: FileName::read(words, JOURNAL)?,
+            requests: FileName::read(words, REQUESTS)?,
+            replies: FileName::read(words, REPLIES)?,
         })
-    }
-
-    /// The files whose rows may be refused.
-    fn row_files(self) -> RowFiles<'a> {
-        RowFiles {
-            journal: Some(Name::of_file(JOURNAL, self.journal)),
-            requests: Some(Name::of_file(REQUESTS, self.requests)),
-        }
     }
 
     /// Checks the replies, and writes each fault on standard output. All files are opened before a row
     /// is read.
-    fn judge(self, rt: &HostRuntime) -> Result<u8, Stopped<'a>> {
+    pub(crate) fn judge(self, rt: &HostRuntime) -> Ran<'a> {
         let mut out = output(rt)?;
-        let mut journal = opened(rt, JOURNAL, self.journal)?;
-        let mut requests = opened(rt, REQUESTS, self.requests)?;
-        let mut replies = opened(rt, REPLIES, self.replies)?;
+        let mut journal = opened(rt, self.journal)?;
+        let mut requests = opened(rt, self.requests)?;
+        let mut replies = opened(rt, self.replies)?;
         let ran = run_audit(
             rt.alloc(),
             &mut journal,
@@ -108,11 +94,5 @@ impl<'a> AuditWords<'a> {
         flush(&mut out)?;
         let read = journal.fault().or(requests.fault()).or(replies.fault());
         ended(ran, read.or(out.fault()))
-    }
-
-    /// Runs the command, and returns the status.
-    pub(crate) fn run(self, rt: &HostRuntime, explain: bool) -> u8 {
-        let ran = self.judge(rt);
-        end(rt, ran, self.row_files(), explain)
     }
 }

@@ -1,26 +1,31 @@
 //! `routed batch` applies the batches of a journal, and answers a file of requests.
 
 use crate::devices::{flush, opened, output};
-use crate::ends::end;
-use crate::noted::Name;
-use crate::options::{
-    ACCEPT_TORN, JOURNAL, REQUESTS, WorkerCount, accept_torn, explain, file, workers,
-};
-use crate::refused_rows::RowFiles;
-use crate::stopped::{Stopped, ended};
-use clap::{ArgMatches, Command};
+use crate::noted::FileName;
+use crate::options::{ACCEPT_TORN, CommandOption, CommandText, JOURNAL, REQUESTS, WorkerCount};
+use crate::stopped::{Ran, ended};
+use clap::ArgMatches;
 use cspf_serve::{NoGate, run_batch};
-use std::alloc::{AllocError, Global};
 use std::sync::Wait;
 use std::thread::Threads;
 
 /// The word of the command.
 pub const NAME: &str = "batch";
 
-/// What help says of it.
-const ABOUT: &str = "Applies the batches of a journal, and answers requests on standard output";
+/// The command with its options.
+pub const COMMAND: CommandText = CommandText {
+    name: NAME,
+    about: "Applies the batches of a journal, and answers requests on standard output",
+    help: HELP,
+    options: &[
+        CommandOption::File(JOURNAL, "The file of batches"),
+        CommandOption::File(REQUESTS, "The file of requests"),
+        CommandOption::Workers,
+        CommandOption::AcceptTorn,
+    ],
+};
 
-/// What help says below its options.
+/// What help says below the options.
 const HELP: &str = "\
 The journal is a file of put, drop, node and end rows: batches with the numbers 1, 2, 3 and so on.
 The requests are a file of ask rows, which are answered at the last version. Both files are read
@@ -45,57 +50,35 @@ Status:
   3  out of memory, or a file or another device failed; the last line of standard error is
      routed: stopped, and with --explain the line before it says why";
 
-/// The command with its options.
-pub(crate) fn command<'a>(alloc: Global) -> Result<Command<'a>, AllocError> {
-    Command::new(alloc, NAME)
-        .about(ABOUT)
-        .after_help(HELP)
-        .arg(file(alloc, JOURNAL, "The file of batches"))?
-        .arg(file(alloc, REQUESTS, "The file of requests"))?
-        .arg(workers(alloc))?
-        .arg(accept_torn(alloc))?
-        .arg(explain(alloc))
-}
-
 /// What the words of the command say.
 #[derive(Clone, Copy)]
 pub struct BatchWords<'a> {
-    journal: &'a str,
-    requests: &'a str,
+    /// The file of batches.
+    pub journal: FileName<'a>,
+    /// The file of requests.
+    pub requests: FileName<'a>,
     workers: WorkerCount,
-    accept_torn: bool,
+    /// Whether torn rows of the journal are left out.
+    pub accept_torn: bool,
 }
 
 impl<'a> BatchWords<'a> {
     /// The words that `clap` found.
     pub(crate) fn read(words: &ArgMatches<'a>) -> Option<BatchWords<'a>> {
         Some(BatchWords {
-            journal: words.get_str(JOURNAL)?,
-            requests: words.get_str(REQUESTS)?,
+            journal: FileName::read(words, JOURNAL)?,
+            requests: FileName::read(words, REQUESTS)?,
             workers: WorkerCount::read(words)?,
             accept_torn: words.get_flag(ACCEPT_TORN),
         })
     }
 
-    /// The files whose rows may be refused.
-    fn row_files(self) -> RowFiles<'a> {
-        let journal = Name::of_file(JOURNAL, self.journal);
-        RowFiles {
-            journal: (!self.accept_torn).then_some(journal),
-            requests: Some(Name::of_file(REQUESTS, self.requests)),
-        }
-    }
-
     /// Applies the batches and answers the requests on standard output. The files are opened before a
     /// row is read.
-    fn answer<T: Threads + Wait + Sync>(
-        self,
-        rt: &HostRuntime,
-        handle: &T,
-    ) -> Result<u8, Stopped<'a>> {
+    pub(crate) fn answer<T: Threads + Wait + Sync>(self, rt: &HostRuntime, handle: &T) -> Ran<'a> {
         let mut out = output(rt)?;
-        let mut journal = opened(rt, JOURNAL, self.journal)?;
-        let mut requests = opened(rt, REQUESTS, self.requests)?;
+        let mut journal = opened(rt, self.journal)?;
+        let mut requests = opened(rt, self.requests)?;
         let ran = run_batch(
             handle,
             rt.alloc(),
@@ -109,16 +92,5 @@ impl<'a> BatchWords<'a> {
         flush(&mut out)?;
         let noted = journal.fault().or(requests.fault()).or(out.fault());
         ended(ran, noted)
-    }
-
-    /// Runs the command, and returns the status.
-    pub(crate) fn run<T: Threads + Wait + Sync>(
-        self,
-        rt: &HostRuntime,
-        handle: &T,
-        explain: bool,
-    ) -> u8 {
-        let ran = self.answer(rt, handle);
-        end(rt, ran, self.row_files(), explain)
     }
 }

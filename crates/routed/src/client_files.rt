@@ -2,7 +2,7 @@
 //! they are opened.
 ghost use Rattle.std.specs.Prelude.{◌≡◌, ◌<◌, ◌≤◌, length, IfOk, vec_len};
 
-use crate::noted::{Action, Name};
+use crate::noted::{Action, FileName, Name};
 use crate::stopped::Stopped;
 use cspf_serve::{Client, MOST_ASKERS, Replies};
 use std::alloc::{AllocError, Global};
@@ -235,7 +235,10 @@ fn open_client<'a>(
     let requests = match File::open(rt, names.requests) {
         Ok(file) => file,
         Err(error) => {
-            let name = Name::of_file(REQUESTS, names.requests);
+            let name = Name::File(FileName {
+                word: REQUESTS,
+                path: names.requests,
+            });
             return Err(Stopped::by(name, Action::Open, error));
         }
     };
@@ -249,7 +252,10 @@ fn open_client<'a>(
             replies: Closing { file: Some(file) },
         }),
         Err(error) => {
-            let name = Name::of_file(REPLIES, names.replies);
+            let name = Name::File(FileName {
+                word: REPLIES,
+                path: names.replies,
+            });
             Err(Stopped::by(name, Action::Open, error))
         }
     }

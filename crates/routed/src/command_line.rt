@@ -2,7 +2,9 @@
 
 use crate::audit::AuditWords;
 use crate::batch::BatchWords;
+use crate::ends::end;
 use crate::live::LiveWords;
+use crate::refused_rows::RowFiles;
 use crate::serve::ServeWords;
 use crate::snapshot::SnapshotWords;
 use crate::{audit, batch, live, serve, snapshot, solve};
@@ -24,12 +26,12 @@ pub(crate) fn parse<'a>(alloc: Global, words: &'a [String]) -> Result<ArgMatches
         .version(VERSION)
         .after_help(solve::HELP)
         .subcommand_required(true)
-        .subcommand(solve::command(alloc)?)?
-        .subcommand(batch::command(alloc)?)?
-        .subcommand(live::command(alloc)?)?
-        .subcommand(serve::command(alloc)?)?
-        .subcommand(snapshot::command(alloc)?)?
-        .subcommand(audit::command(alloc)?)?
+        .subcommand(solve::COMMAND.command(alloc)?)?
+        .subcommand(batch::COMMAND.command(alloc)?)?
+        .subcommand(live::COMMAND.command(alloc)?)?
+        .subcommand(serve::COMMAND.command(alloc)?)?
+        .subcommand(snapshot::COMMAND.command(alloc)?)?
+        .subcommand(audit::COMMAND.command(alloc)?)?
         .try_get_matches_from(words)
 }
 
@@ -66,13 +68,29 @@ impl<'m, 'a> Asked<'m, 'a> {
         handle: &T,
         explain: bool,
     ) -> u8 {
-        match self {
-            Asked::Solve => solve::run(rt, explain),
-            Asked::Batch(words) => words.run(rt, handle, explain),
-            Asked::Live(words) => words.run(rt, handle, explain),
-            Asked::Serve(words) => words.run(rt, handle, explain),
-            Asked::Snapshot(words) => words.run(rt, explain),
-            Asked::Audit(words) => words.run(rt, explain),
-        }
+        let ran = match self {
+            Asked::Solve => solve::answer(rt),
+            Asked::Batch(words) => words.answer(rt, handle),
+            Asked::Live(words) => words.answer(rt, handle),
+            Asked::Serve(words) => words.serve(rt, handle, explain),
+            Asked::Snapshot(words) => words.write(rt),
+            Asked::Audit(words) => words.judge(rt),
+        };
+        end(rt, ran, self.row_files(), explain)
+    }
+
+    /// The files whose rows may be refused. Where torn rows are accepted, a journal is none of them.
+    fn row_files(self) -> RowFiles<'a> {
+        let (journal, requests) = match self {
+            Asked::Solve | Asked::Serve(_) => (None, None),
+            Asked::Batch(words) => {
+                let journal = (!words.accept_torn).then_some(words.journal);
+                (journal, Some(words.requests))
+            }
+            Asked::Live(words) => (Some(words.updates), Some(words.requests)),
+            Asked::Snapshot(words) => ((!words.accept_torn).then_some(words.journal), None),
+            Asked::Audit(words) => (Some(words.journal), Some(words.requests)),
+        };
+        RowFiles { journal, requests }
     }
 }

@@ -1,8 +1,7 @@
 //! The files and the standard streams of a run, each with its name.
 
 use crate::limited::Limited;
-use crate::noted::{Action, Name, Noted};
-use crate::options::JOURNAL;
+use crate::noted::{Action, FileName, Name, Noted};
 use crate::stopped::Stopped;
 use std::fs::{File, OpenOptions};
 use std::io;
@@ -23,7 +22,7 @@ pub type Output<'a, 'r> = Noted<'a, BufWriter<Printer<'r, HostRuntime>>>;
 /// Standard output with a buffer.
 pub(crate) fn output<'a, 'r>(rt: &'r HostRuntime) -> Result<Output<'a, 'r>, Stopped<'a>> {
     match BufWriter::new(rt.alloc(), io::writer(rt)) {
-        Ok(writer) => Ok(Noted::new(Name::of_stream(OUTPUT), writer)),
+        Ok(writer) => Ok(Noted::new(Name::Stream(OUTPUT), writer)),
         Err(_) => Err(Stopped::Memory),
     }
 }
@@ -54,14 +53,13 @@ pub(crate) fn held_places(rt: &HostRuntime) -> HeldPlaces {
     }
 }
 
-/// A file to read, which the option of this name gives.
+/// A file to read.
 pub(crate) fn opened<'a>(
     rt: &HostRuntime,
-    option: &'static str,
-    path: &'a str,
+    file: FileName<'a>,
 ) -> Result<Noted<'a, File>, Stopped<'a>> {
-    let name = Name::of_file(option, path);
-    match File::open(rt, path) {
+    let name = Name::File(file);
+    match File::open(rt, file.path) {
         Ok(file) => Ok(Noted::new(name, file)),
         Err(error) => Err(Stopped::by(name, Action::Open, error)),
     }
@@ -70,13 +68,13 @@ pub(crate) fn opened<'a>(
 /// A journal to write, which isn't there yet.
 pub(crate) fn created<'a>(
     rt: &HostRuntime,
-    path: &'a str,
+    file: FileName<'a>,
 ) -> Result<Noted<'a, Limited<File>>, Stopped<'a>> {
-    let name = Name::of_file(JOURNAL, path);
+    let name = Name::File(file);
     let made = OpenOptions::new()
         .write(true)
         .create_new(true)
-        .open(rt, path);
+        .open(rt, file.path);
     match made {
         Ok(file) => Ok(Noted::new(name, Limited::new(rt, file))),
         Err(error) => Err(Stopped::by(name, Action::Open, error)),

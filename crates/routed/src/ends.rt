@@ -2,7 +2,7 @@
 
 use crate::refused_rows::RowFiles;
 use crate::statuses::{STOPPED, UNFIT};
-use crate::stopped::Stopped;
+use crate::stopped::Ran;
 
 /// Says that a run stops, and answers its status.
 pub(crate) fn stop(rt: &HostRuntime) -> u8 {
@@ -12,12 +12,7 @@ pub(crate) fn stop(rt: &HostRuntime) -> u8 {
 
 /// The status of a run. With `explain` it says why the run stopped, or which row its files are refused
 /// for.
-pub(crate) fn end<'a>(
-    rt: &HostRuntime,
-    ran: Result<u8, Stopped<'a>>,
-    files: RowFiles<'a>,
-    explain: bool,
-) -> u8 {
+pub(crate) fn end<'a>(rt: &HostRuntime, ran: Ran<'a>, files: RowFiles<'a>, explain: bool) -> u8 {
     match ran {
         Ok(status) => {
             if status == UNFIT && explain {

@@ -1,25 +1,31 @@
 //! `routed live` applies batches to a new journal while it answers a file of requests.
 
 use crate::devices::{created, flush, held_places, opened, output};
-use crate::ends::end;
-use crate::noted::Name;
-use crate::options::{JOURNAL, REQUESTS, WorkerCount, explain, file, workers};
-use crate::refused_rows::RowFiles;
-use crate::stopped::{Stopped, ended};
-use clap::{ArgMatches, Command};
+use crate::noted::FileName;
+use crate::options::{CommandOption, CommandText, JOURNAL, REQUESTS, UPDATES, WorkerCount};
+use crate::stopped::{Ran, ended};
+use clap::ArgMatches;
 use cspf_serve::{NoGate, run_live_rows};
-use std::alloc::{AllocError, Global};
 use std::sync::Wait;
 use std::thread::Threads;
 
 /// The word of the command.
 pub const NAME: &str = "live";
 
-/// What help says of it.
-const ABOUT: &str =
-    "Applies batches to a new journal while requests are answered on standard output";
+/// The command with its options.
+pub const COMMAND: CommandText = CommandText {
+    name: NAME,
+    about: "Applies batches to a new journal while requests are answered on standard output",
+    help: HELP,
+    options: &[
+        CommandOption::File(UPDATES, "The file of batches to apply"),
+        CommandOption::File(REQUESTS, "The file of requests"),
+        CommandOption::File(JOURNAL, "The file of batches to make"),
+        CommandOption::Workers,
+    ],
+};
 
-/// What help says below its options.
+/// What help says below the options.
 const HELP: &str = "\
 The updates are a file of put, drop, node and end rows, and the requests a file of ask rows, both
 as in batch. Both are read before the first batch is applied. Each batch is written whole to the new
@@ -50,27 +56,14 @@ Status:
   3  out of memory, a file or another device failed, or the journal exists already; the last line of
      standard error is routed: stopped, and with --explain the line before it says why";
 
-/// The option that names the file of batches to apply.
-const UPDATES: &str = "updates";
-
-/// The command with its options.
-pub(crate) fn command<'a>(alloc: Global) -> Result<Command<'a>, AllocError> {
-    Command::new(alloc, NAME)
-        .about(ABOUT)
-        .after_help(HELP)
-        .arg(file(alloc, UPDATES, "The file of batches to apply"))?
-        .arg(file(alloc, REQUESTS, "The file of requests"))?
-        .arg(file(alloc, JOURNAL, "The file of batches to make"))?
-        .arg(workers(alloc))?
-        .arg(explain(alloc))
-}
-
 /// What the words of the command say.
 #[derive(Clone, Copy)]
 pub struct LiveWords<'a> {
-    updates: &'a str,
-    requests: &'a str,
-    journal: &'a str,
+    /// The file of batches to apply.
+    pub updates: FileName<'a>,
+    /// The file of requests.
+    pub requests: FileName<'a>,
+    journal: FileName<'a>,
     workers: WorkerCount,
 }
 
@@ -78,32 +71,20 @@ impl<'a> LiveWords<'a> {
     /// The words that `clap` found.
     pub(crate) fn read(words: &ArgMatches<'a>) -> Option<LiveWords<'a>> {
         Some(LiveWords {
-            updates: words.get_str(UPDATES)?,
-            requests: words.get_str(REQUESTS)?,
-            journal: words.get_str(JOURNAL)?,
+            updates: FileName::read(words, UPDATES)?,
+            requests: FileName::read(words, REQUESTS)?,
+            journal: FileName::read(words, JOURNAL)?,
             workers: WorkerCount::read(words)?,
         })
     }
 
-    /// The files whose rows may be refused.
-    fn row_files(self) -> RowFiles<'a> {
-        RowFiles {
-            journal: Some(Name::of_file(UPDATES, self.updates)),
-            requests: Some(Name::of_file(REQUESTS, self.requests)),
-        }
-    }
-
     /// Applies the batches and answers the requests on standard output. The files are opened before a
     /// row is read, the journal last. A journal that is there already is left as it is.
-    fn answer<T: Threads + Wait + Sync>(
-        self,
-        rt: &HostRuntime,
-        handle: &T,
-    ) -> Result<u8, Stopped<'a>> {
+    pub(crate) fn answer<T: Threads + Wait + Sync>(self, rt: &HostRuntime, handle: &T) -> Ran<'a> {
         let mut out = output(rt)?;
         let _held = held_places(rt);
-        let mut updates = opened(rt, UPDATES, self.updates)?;
-        let mut requests = opened(rt, REQUESTS, self.requests)?;
+        let mut updates = opened(rt, self.updates)?;
+        let mut requests = opened(rt, self.requests)?;
         let mut journal = created(rt, self.journal)?;
         let (ran, _journal) = run_live_rows(
             handle,
@@ -121,16 +102,5 @@ impl<'a> LiveWords<'a> {
         // A write to the journal that fails refuses a batch, and stops nothing.
         let noted = updates.fault().or(requests.fault()).or(out.fault());
         ended(ran, noted)
-    }
-
-    /// Runs the command, and returns the status.
-    pub(crate) fn run<T: Threads + Wait + Sync>(
-        self,
-        rt: &HostRuntime,
-        handle: &T,
-        explain: bool,
-    ) -> u8 {
-        let ran = self.answer(rt, handle);
-        end(rt, ran, self.row_files(), explain)
     }
 }

@@ -1,42 +1,37 @@
 //! A device that fails is remembered, so that it can be named.
 ghost use Rattle.std.specs.Prelude.{◌≡◌};
 
+use clap::ArgMatches;
 use std::io::{Read, Write};
 use std::{fmt, io};
 
-/// What a device is called: a standard stream, or an option and the path that it gives.
+/// A file: the option that gives it or what it is for, and its path.
 #[derive(Clone, Copy)]
-pub struct Name<'a> {
-    word: &'static str,
-    path: Option<&'a str>,
+pub struct FileName<'a> {
+    pub word: &'static str,
+    pub path: &'a str,
 }
 
-impl<'a> Name<'a> {
-    /// A standard stream.
-    pub(crate) fn of_stream(word: &'static str) -> Name<'a> {
-        Name { word, path: None }
+impl<'a> FileName<'a> {
+    /// The file that an option gives, if the words have it.
+    pub(crate) fn read(words: &ArgMatches<'a>, option: &'static str) -> Option<FileName<'a>> {
+        let path = words.get_str(option)?;
+        Some(FileName { word: option, path })
     }
+}
 
-    /// The file at the path that an option gives.
-    pub(crate) fn of_file(word: &'static str, path: &'a str) -> Name<'a> {
-        Name {
-            word,
-            path: Some(path),
-        }
-    }
-
-    /// The path of a file.
-    pub(crate) fn path(self) -> Option<&'a str> {
-        self.path
-    }
+/// What a device is called: a standard stream, or a file.
+#[derive(Clone, Copy)]
+pub enum Name<'a> {
+    Stream(&'static str),
+    File(FileName<'a>),
 }
 
 impl<'a> fmt::Display for Name<'a> {
     fn fmt<W: fmt::Write>(&self, f: &mut fmt::Formatter<W>) -> fmt::Result {
-        f.write_str(self.word)?;
-        match self.path {
-            Some(path) => write!(f, " {path}"),
-            None => Ok(()),
+        match self {
+            Name::Stream(word) => f.write_str(word),
+            Name::File(file) => write!(f, "{} {}", file.word, file.path),
         }
     }
 }

@@ -1,10 +1,10 @@
-//! The options that several commands have.
+//! The options of the commands.
 ghost use Rattle.std.specs.Prelude.{◌<◌, ◌≤◌};
 ghost use Rattle.cspf_publish.specs.declared.limits.TheConstants.{MOST_ASKERS};
 
-use clap::{Arg, ArgAction, ArgMatches, value_parser};
+use clap::{Arg, ArgAction, ArgMatches, Command, value_parser};
 use cspf_serve::MOST_ASKERS;
-use std::alloc::Global;
+use std::alloc::{AllocError, Global};
 
 /// The option that names the file of batches, which `live` and `serve` make.
 pub const JOURNAL: &str = "journal";
@@ -12,50 +12,94 @@ pub const JOURNAL: &str = "journal";
 /// The option that names the file of requests.
 pub const REQUESTS: &str = "requests";
 
+/// The option that names the file of batches to apply.
+pub const UPDATES: &str = "updates";
+
+/// The option that names the file of replies.
+pub const REPLIES: &str = "replies";
+
 /// The flag that leaves out the rows after the last whole batch.
 pub const ACCEPT_TORN: &str = "accept-torn";
 
 /// The flag that has a run that stops say why.
 pub const EXPLAIN: &str = "explain";
 
+/// The option that names the two files of a client.
+pub const CLIENT: &str = "client";
+
 /// The option that says how many workers answer.
 const WORKERS: &str = "workers";
 
-/// An option that has to name a file.
-pub(crate) fn file<'a>(alloc: Global, name: &'a str, help: &'a str) -> Arg<'a> {
-    Arg::new(alloc, name)
-        .long(name)
-        .value_name("FILE")
-        .required(true)
-        .action(ArgAction::Set)
-        .help(help)
+/// An option of a command.
+#[derive(Clone, Copy)]
+pub enum CommandOption {
+    /// Its name, which has to name a file, and what help says of it.
+    File(&'static str, &'static str),
+    /// The two files of each client.
+    Clients,
+    /// How many workers answer.
+    Workers,
+    /// Whether the rows after the last whole batch of a journal are left out.
+    AcceptTorn,
+    /// Whether a run that stops says why.
+    Explain,
 }
 
-/// The flag that leaves out the rows after the last whole batch of a journal.
-pub(crate) fn accept_torn<'a>(alloc: Global) -> Arg<'a> {
-    Arg::new(alloc, ACCEPT_TORN)
-        .long(ACCEPT_TORN)
-        .action(ArgAction::SetTrue)
-        .help("Leave out the rows after the last whole batch")
+impl CommandOption {
+    /// The option as `clap` takes it.
+    fn arg<'a>(self, alloc: Global) -> Arg<'a> {
+        match self {
+            CommandOption::File(name, help) => Arg::new(alloc, name)
+                .long(name)
+                .value_name("FILE")
+                .required(true)
+                .action(ArgAction::Set)
+                .help(help),
+            CommandOption::Clients => Arg::new(alloc, CLIENT)
+                .long(CLIENT)
+                .value_name("IN=OUT")
+                .required(true)
+                .action(ArgAction::Append)
+                .help("The files of a client's requests and replies; once for each client"),
+            CommandOption::Workers => Arg::new(alloc, WORKERS)
+                .long(WORKERS)
+                .value_name("N")
+                .value_parser(value_parser!(u8).range(1..=MOST_ASKERS as i64))
+                .default_value("1")
+                .action(ArgAction::Set)
+                .help("How many workers answer, 1 to 64"),
+            CommandOption::AcceptTorn => Arg::new(alloc, ACCEPT_TORN)
+                .long(ACCEPT_TORN)
+                .action(ArgAction::SetTrue)
+                .help("Leave out the rows after the last whole batch"),
+            CommandOption::Explain => Arg::new(alloc, EXPLAIN)
+                .long(EXPLAIN)
+                .action(ArgAction::SetTrue)
+                .help("Say on standard error why a run stops, or which row a file is refused for"),
+        }
+    }
 }
 
-/// The flag that has a run that stops say why.
-pub(crate) fn explain<'a>(alloc: Global) -> Arg<'a> {
-    Arg::new(alloc, EXPLAIN)
-        .long(EXPLAIN)
-        .action(ArgAction::SetTrue)
-        .help("Say on standard error why a run stops, or which row a file is refused for")
+/// What help says of a command, and its options beside `--explain`, which each has as the last.
+#[derive(Clone, Copy)]
+pub struct CommandText {
+    pub name: &'static str,
+    pub about: &'static str,
+    pub help: &'static str,
+    pub options: &'static [CommandOption],
 }
 
-/// The option that says how many workers answer.
-pub(crate) fn workers<'a>(alloc: Global) -> Arg<'a> {
-    Arg::new(alloc, WORKERS)
-        .long(WORKERS)
-        .value_name("N")
-        .value_parser(value_parser!(u8).range(1..=MOST_ASKERS as i64))
-        .default_value("1")
-        .action(ArgAction::Set)
-        .help("How many workers answer, 1 to 64")
+impl CommandText {
+    /// The command as `clap` takes it.
+    pub(crate) fn command<'a>(&self, alloc: Global) -> Result<Command<'a>, AllocError> {
+        let mut command = Command::new(alloc, self.name)
+            .about(self.about)
+            .after_help(self.help);
+        for option in self.options {
+            command = command.arg(option.arg(alloc))?;
+        }
+        command.arg(CommandOption::Explain.arg(alloc))
+    }
 }
 
 /// How many workers answer: 1 to 64.

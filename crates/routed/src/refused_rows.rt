@@ -1,6 +1,6 @@
 //! Which row a file of rows is refused for, as `--explain` says it. The file is read once more for it.
 
-use crate::noted::Name;
+use crate::noted::{FileName, Name};
 use cspf_rows::{MOST_ROWS, Row, RowError, open_records};
 use csv::{ByteRecord, Reader};
 use std::alloc::Global;
@@ -159,37 +159,30 @@ fn again(rt: &HostRuntime, path: &str) -> Option<File> {
 #[derive(Clone, Copy)]
 pub struct RowFiles<'a> {
     /// That of batches.
-    pub journal: Option<Name<'a>>,
+    pub journal: Option<FileName<'a>>,
     /// That of requests.
-    pub requests: Option<Name<'a>>,
+    pub requests: Option<FileName<'a>>,
 }
 
 impl<'a> RowFiles<'a> {
-    /// No such files.
-    pub(crate) fn none() -> RowFiles<'a> {
-        RowFiles {
-            journal: None,
-            requests: None,
-        }
-    }
-
     /// Says which row the first of the files that are refused is refused for.
     pub(crate) fn explain(self, rt: &HostRuntime) {
-        if let Some((name, row)) = self.refused(rt) {
+        if let Some((file, row)) = self.refused(rt) {
+            let name = Name::File(file);
             let _ = eprintln!(rt; "routed: {name}: {row}");
         }
     }
 
     /// The first file that is refused, and the row.
-    fn refused(self, rt: &HostRuntime) -> Option<(Name<'a>, RefusedRow)> {
+    fn refused(self, rt: &HostRuntime) -> Option<(FileName<'a>, RefusedRow)> {
         if let Some(name) = self.journal {
-            let file = again(rt, name.path()?)?;
+            let file = again(rt, name.path)?;
             if let Some(row) = of_journal(rt.alloc(), file) {
                 return Some((name, row));
             }
         }
         let name = self.requests?;
-        let file = again(rt, name.path()?)?;
+        let file = again(rt, name.path)?;
         let row = of_requests(rt.alloc(), file)?;
         Some((name, row))
     }

@@ -4,15 +4,12 @@ ghost use Rattle.std.specs.Prelude.{◌<◌, ◌≤◌, length};
 
 use crate::client_files::{ClientNames, Closing, NamesError, client_names, open_clients};
 use crate::devices::{INPUT, OUTPUT, created, flush, held_places};
-use crate::ends::end;
-use crate::noted::{Name, Noted};
-use crate::options::{JOURNAL, explain, file};
-use crate::refused_rows::RowFiles;
+use crate::noted::{FileName, Name, Noted};
+use crate::options::{CLIENT, CommandOption, CommandText, JOURNAL};
 use crate::statuses::REFUSED;
-use crate::stopped::Stopped;
-use clap::{Arg, ArgAction, ArgMatches, Command};
+use crate::stopped::{Ran, Stopped};
+use clap::ArgMatches;
 use cspf_serve::{ClientError, MOST_ASKERS, Served, ServedClient, StreamError, run_serve};
-use std::alloc::{AllocError, Global};
 use std::io;
 use std::sync::Wait;
 use std::thread::Threads;
@@ -20,11 +17,18 @@ use std::thread::Threads;
 /// The word of the command.
 pub const NAME: &str = "serve";
 
-/// What help says of it.
-const ABOUT: &str =
-    "Publishes the updates of standard input as they come in, and answers clients meanwhile";
+/// The command with its options.
+pub const COMMAND: CommandText = CommandText {
+    name: NAME,
+    about: "Publishes the updates of standard input as they come in, and answers clients meanwhile",
+    help: HELP,
+    options: &[
+        CommandOption::File(JOURNAL, "The file of batches to make"),
+        CommandOption::Clients,
+    ],
+};
 
-/// What help says below its options.
+/// What help says below the options.
 const HELP: &str = "\
 Standard input has put, drop, node, end and ask rows as in solve, and any number of them. Each batch is
 written whole to the new journal, then it takes effect, and then its line is written. There are 1 to
@@ -58,29 +62,10 @@ Status:
      the line before it says why
 With --explain a line says of each client that ended before its rows did why it ended.";
 
-/// The option that names the two files of a client.
-const CLIENT: &str = "client";
-
-/// The command with its options.
-pub(crate) fn command<'a>(alloc: Global) -> Result<Command<'a>, AllocError> {
-    let client = Arg::new(alloc, CLIENT)
-        .long(CLIENT)
-        .value_name("IN=OUT")
-        .required(true)
-        .action(ArgAction::Append)
-        .help("The files of a client's requests and replies; once for each client");
-    Command::new(alloc, NAME)
-        .about(ABOUT)
-        .after_help(HELP)
-        .arg(file(alloc, JOURNAL, "The file of batches to make"))?
-        .arg(client)?
-        .arg(explain(alloc))
-}
-
 /// What the words of the command say.
 #[derive(Clone, Copy)]
 pub struct ServeWords<'m, 'a> {
-    journal: &'a str,
+    journal: FileName<'a>,
     clients: &'m [&'a str],
 }
 
@@ -88,27 +73,24 @@ impl<'m, 'a> ServeWords<'m, 'a> {
     /// The words that `clap` found.
     pub(crate) fn read(words: &'m ArgMatches<'a>) -> Option<ServeWords<'m, 'a>> {
         Some(ServeWords {
-            journal: words.get_str(JOURNAL)?,
+            journal: FileName::read(words, JOURNAL)?,
             clients: words.get_strs(CLIENT)?,
         })
     }
 
-    /// Runs the command if its files can be used, and returns the status.
-    pub(crate) fn run<T: Threads + Wait + Sync>(
+    /// Serves if the files can be used.
+    pub(crate) fn serve<T: Threads + Wait + Sync>(
         self,
         rt: &HostRuntime,
         handle: &T,
         explain: bool,
-    ) -> u8 {
-        match client_names(rt, self.journal, self.clients) {
-            Ok(names) => {
-                let ran = serve(rt, handle, self.journal, &names, explain);
-                end(rt, ran, RowFiles::none(), explain)
-            }
-            Err(NamesError::Memory) => end(rt, Err(Stopped::Memory), RowFiles::none(), explain),
+    ) -> Ran<'a> {
+        match client_names(rt, self.journal.path, self.clients) {
+            Ok(names) => serve(rt, handle, self.journal, &names, explain),
+            Err(NamesError::Memory) => Err(Stopped::Memory),
             Err(why) => {
                 let _ = eprintln!(rt; "routed: {why}");
-                REFUSED
+                Ok(REFUSED)
             }
         }
     }
@@ -119,16 +101,16 @@ impl<'m, 'a> ServeWords<'m, 'a> {
 fn serve<'a, T: Threads + Wait + Sync>(
     rt: &HostRuntime,
     handle: &T,
-    journal: &'a str,
+    journal: FileName<'a>,
     names: &[ClientNames<'a>],
     explain: bool,
-) -> Result<u8, Stopped<'a>>
+) -> Ran<'a>
     requires { (0 < length names.now) × (length names.now ≤ MOST_ASKERS) }
 {
     let _held = held_places(rt);
     let clients = open_clients(rt, names)?;
-    let mut updates = Noted::new(Name::of_stream(INPUT), rt.reader());
-    let mut said = Noted::new(Name::of_stream(OUTPUT), io::writer(rt));
+    let mut updates = Noted::new(Name::Stream(INPUT), rt.reader());
+    let mut said = Noted::new(Name::Stream(OUTPUT), io::writer(rt));
     let mut journal = created(rt, journal)?;
     let ran = run_serve(
         handle,

@@ -1,21 +1,22 @@
 //! `routed solve` answers the rows of standard input, each line when it is known.
 
 use crate::devices::{INPUT, OUTPUT, flush};
-use crate::ends::end;
 use crate::noted::{Name, Noted};
-use crate::options::explain;
-use crate::refused_rows::RowFiles;
-use crate::stopped::Stopped;
-use clap::Command;
+use crate::options::CommandText;
+use crate::stopped::{Ran, Stopped};
 use cspf_serve::run_solve;
-use std::alloc::{AllocError, Global};
 use std::io;
 
 /// The word of the command.
 pub const NAME: &str = "solve";
 
-/// What help says of it.
-const ABOUT: &str = "Answers the rows of standard input on standard output";
+/// The command with its options.
+pub const COMMAND: CommandText = CommandText {
+    name: NAME,
+    about: "Answers the rows of standard input on standard output",
+    help: HELP,
+    options: &[],
+};
 
 /// What help says below its options, and below those of the program.
 pub const HELP: &str = "\
@@ -58,19 +59,11 @@ are answered by
   version 1
   ask 7 v1 route cost=10 hops=1 again=no ero=000c140101080a000c022000";
 
-/// The command with its options.
-pub(crate) fn command<'a>(alloc: Global) -> Result<Command<'a>, AllocError> {
-    Command::new(alloc, NAME)
-        .about(ABOUT)
-        .after_help(HELP)
-        .arg(explain(alloc))
-}
-
 /// Answers the rows of standard input on standard output. Lines that were written before a fault stay
 /// written.
-fn answer<'a>(rt: &HostRuntime) -> Result<u8, Stopped<'a>> {
-    let mut reader = Noted::new(Name::of_stream(INPUT), rt.reader());
-    let mut out = Noted::new(Name::of_stream(OUTPUT), io::writer(rt));
+pub(crate) fn answer<'a>(rt: &HostRuntime) -> Ran<'a> {
+    let mut reader = Noted::new(Name::Stream(INPUT), rt.reader());
+    let mut out = Noted::new(Name::Stream(OUTPUT), io::writer(rt));
     match run_solve(rt.alloc(), &mut reader, &mut out) {
         Ok(summary) => {
             flush(&mut out)?;
@@ -78,9 +71,4 @@ fn answer<'a>(rt: &HostRuntime) -> Result<u8, Stopped<'a>> {
         }
         Err(error) => Err(Stopped::solving(error, reader.fault(), out.fault())),
     }
-}
-
-/// Runs the command, and returns the status.
-pub(crate) fn run(rt: &HostRuntime, explain: bool) -> u8 {
-    end(rt, answer(rt), RowFiles::none(), explain)
 }

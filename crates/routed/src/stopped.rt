@@ -20,6 +20,9 @@ pub enum Stopped<'a> {
     Run(RunError),
 }
 
+/// What a run answers: a status, or why the program stops.
+pub type Ran<'a> = Result<u8, Stopped<'a>>;
+
 impl<'a> Stopped<'a> {
     /// This call on this device failed.
     pub(crate) fn by(name: Name<'a>, action: Action, error: io::Error) -> Stopped<'a> {
@@ -74,10 +77,7 @@ impl<'a> Stopped<'a> {
 
 /// What a run of `batch`, `live`, `snapshot` or `audit` answered, where this is the call on a device
 /// that failed, if any.
-pub(crate) fn ended<'a>(
-    ran: Result<u8, RunError>,
-    noted: Option<Fault<'a>>,
-) -> Result<u8, Stopped<'a>> {
+pub(crate) fn ended<'a>(ran: Result<u8, RunError>, noted: Option<Fault<'a>>) -> Ran<'a> {
     match ran {
         Ok(status) => Ok(status),
         Err(error) => Err(Stopped::running(error, noted)),

@@ -54,35 +54,23 @@ impl<'a> Read for RowByRow<'a> {
 
 const ASK: &[u8] = b"ask,8,1.1.1.1,2.2.2.2,0,0,0x0,0x0,0x0,\n";
 
-/// The kinds of rows at which the reading of requests ends, by the error of the first row.
-const LAST: [(&[u8], RequestsError); 4] = [
-    (
-        b"foo\n",
-        RequestsError::Bad {
-            row: 1,
-            error: RowError::Kind,
-        },
-    ),
+/// The rows at which the reading of requests ends, each with its error, or none where it is another
+/// kind than ask.
+const LAST: [(&[u8], Option<RowError>); 4] = [
+    (b"foo\n", Some(RowError::Kind)),
     (
         b"ask,08,1.1.1.1,2.2.2.2,0,0,0x0,0x0,0x0,\n",
-        RequestsError::Bad {
-            row: 1,
-            error: RowError::Number { field: 2 },
-        },
+        Some(RowError::Number { field: 2 }),
     ),
-    (
-        b"drop,1.1.1.1,10.0.12.1\n",
-        RequestsError::NotAsk { row: 1 },
-    ),
-    (b"end,1,0\n", RequestsError::NotAsk { row: 1 }),
+    (b"drop,1.1.1.1,10.0.12.1\n", None),
+    (b"end,1,0\n", None),
 ];
 
-/// The error of a later row.
-fn at_row(error: RequestsError, row: u32) -> RequestsError {
+/// The error of requests that end at such a row.
+fn at_row(error: Option<RowError>, row: u32) -> RequestsError {
     match error {
-        RequestsError::Bad { row: _, error } => RequestsError::Bad { row, error },
-        RequestsError::NotAsk { row: _ } => RequestsError::NotAsk { row },
-        _ => error,
+        Some(error) => RequestsError::Bad { row, error },
+        None => RequestsError::NotAsk { row },
     }
 }
 

@@ -40,18 +40,11 @@ fn requests_in_pieces(rt: HostRuntime) -> Result<(), Fail> {
 }
 
 /// Streams of requests, and how they are refused.
-const REFUSED: [(&[u8], RequestsError); 8] = [
+const REFUSED: [(&[u8], RequestsError); 6] = [
     (
         b"put,1.1.1.1,10.0.12.1,2.2.2.2,10.0.12.2,10,0x1,\
 1000,1000,1000,1000,1000,1000,1000,1000",
         RequestsError::NotAsk { row: 1 },
-    ),
-    (
-        b"ask,07,1.1.1.1,2.2.2.2,0,1000,0x0,0x0,0x0,",
-        RequestsError::Bad {
-            row: 1,
-            error: RowError::Number { field: 2 },
-        },
     ),
     (
         b"ask,8,1.1.1.1,2.2.2.2,0,0,0x0,0x0,0x0,\nfoo\nend,1,0\n",
@@ -59,10 +52,6 @@ const REFUSED: [(&[u8], RequestsError); 8] = [
             row: 2,
             error: RowError::Kind,
         },
-    ),
-    (
-        b"drop,1.1.1.1,10.0.12.1\nfoo\n",
-        RequestsError::NotAsk { row: 1 },
     ),
     (b"node,1.1.1.1,0\n", RequestsError::NotAsk { row: 1 }),
     (
