@@ -2,6 +2,7 @@
 //! they are opened.
 ghost use Rattle.std.specs.Prelude.{◌≡◌, ◌<◌, ◌≤◌, length, IfOk, vec_len};
 
+use crate::bounded::{Bounded, Cause};
 use crate::noted::{Action, FileName, Name};
 use crate::stopped::Stopped;
 use cspf_serve::{Client, MOST_ASKERS, Replies};
@@ -21,9 +22,9 @@ const REPLIES: &str = "a client's replies";
 #[derive(Clone, Copy)]
 pub struct ClientNames<'a> {
     /// The file of its requests.
-    pub requests: &'a str,
+    pub requests: FileName<'a>,
     /// The file of its replies.
-    pub replies: &'a str,
+    pub replies: FileName<'a>,
 }
 
 /// Why the names of files are refused.
@@ -65,7 +66,16 @@ fn read_names<'a>(word: &'a str) -> Option<ClientNames<'a>> {
     if requests.is_empty() || replies.is_empty() {
         return None;
     }
-    Some(ClientNames { requests, replies })
+    Some(ClientNames {
+        requests: FileName {
+            word: REQUESTS,
+            path: requests,
+        },
+        replies: FileName {
+            word: REPLIES,
+            path: replies,
+        },
+    })
 }
 
 /// The files of all clients, where each has two names.
@@ -101,8 +111,11 @@ pub(crate) fn client_names<'a>(
     if let Some(path) = shared(&named) {
         return Err(NamesError::Twice(path));
     }
-    match clients.iter().find(|client| has_bytes(rt, client.replies)) {
-        Some(client) => Err(NamesError::Full(client.replies)),
+    match clients
+        .iter()
+        .find(|client| has_bytes(rt, client.replies.path))
+    {
+        Some(client) => Err(NamesError::Full(client.replies.path)),
         None => Ok(clients),
     }
 }
@@ -174,8 +187,8 @@ fn named_by<'a>(
     let mut all = Vec::new(rt.alloc());
     all.push(Named::new(rt, journal, true))?;
     for client in clients {
-        all.push(Named::new(rt, client.requests, false))?;
-        all.push(Named::new(rt, client.replies, true))?;
+        all.push(Named::new(rt, client.requests.path, false))?;
+        all.push(Named::new(rt, client.replies.path, true))?;
     }
     Ok(all)
 }
@@ -203,6 +216,8 @@ fn has_bytes(rt: &HostRuntime, path: &str) -> bool {
 #[derive(Drop)]
 pub struct Closing {
     file: Option<File>,
+    /// Why the client's requests were read no further.
+    pub cause: Cause,
 }
 
 impl Write for Closing {
@@ -227,37 +242,28 @@ impl Replies for Closing {
     }
 }
 
+/// What `serve` takes of a client: its files, opened.
+pub type OpenClient = Client<Bounded<File>, Closing>;
+
 /// The files of a client, opened: that of its requests first.
-fn open_client<'a>(
-    rt: &HostRuntime,
-    names: ClientNames<'a>,
-) -> Result<Client<File, Closing>, Stopped<'a>> {
-    let requests = match File::open(rt, names.requests) {
-        Ok(file) => file,
-        Err(error) => {
-            let name = Name::File(FileName {
-                word: REQUESTS,
-                path: names.requests,
-            });
-            return Err(Stopped::by(name, Action::Open, error));
-        }
+fn open_client<'a>(rt: &HostRuntime, names: ClientNames<'a>) -> Result<OpenClient, Stopped<'a>> {
+    let (requests, cause) = match File::open(rt, names.requests.path) {
+        Ok(file) => Bounded::new(rt.alloc(), file)?,
+        Err(error) => return Err(Stopped::by(Name::File(names.requests), Action::Open, error)),
     };
     let made = OpenOptions::new()
         .write(true)
         .create(true)
-        .open(rt, names.replies);
+        .open(rt, names.replies.path);
     match made {
         Ok(file) => Ok(Client {
             requests,
-            replies: Closing { file: Some(file) },
+            replies: Closing {
+                file: Some(file),
+                cause,
+            },
         }),
-        Err(error) => {
-            let name = Name::File(FileName {
-                word: REPLIES,
-                path: names.replies,
-            });
-            Err(Stopped::by(name, Action::Open, error))
-        }
+        Err(error) => Err(Stopped::by(Name::File(names.replies), Action::Open, error)),
     }
 }
 
@@ -265,7 +271,7 @@ fn open_client<'a>(
 pub(crate) fn open_clients<'a>(
     rt: &HostRuntime,
     names: &[ClientNames<'a>],
-) -> Result<Vec<Client<File, Closing>>, Stopped<'a>>
+) -> Result<Vec<OpenClient>, Stopped<'a>>
     ensures { IfOk result (λ clients. vec_len clients ≡ length names.now) }
 {
     let mut clients = Vec::with_capacity(rt.alloc(), names.len())?;

@@ -8,6 +8,7 @@
 
 mod audit;
 mod batch;
+mod bounded;
 mod client_files;
 mod command_line;
 mod devices;

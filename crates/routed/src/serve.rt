@@ -2,6 +2,7 @@
 //! Each client has two files: one for its requests and one for its replies.
 ghost use Rattle.std.specs.Prelude.{◌<◌, ◌≤◌, length};
 
+use crate::bounded::{Unfit, unfit_of};
 use crate::client_files::{ClientNames, Closing, NamesError, client_names, open_clients};
 use crate::devices::{INPUT, OUTPUT, created, flush, held_places};
 use crate::noted::{FileName, Name, Noted};
@@ -147,25 +148,33 @@ fn explain_ends(rt: &HostRuntime, names: &[ClientNames<'_>], clients: &[ServedCl
     let mut number: usize = 1;
     for (client, names) in clients.iter().zip(names) {
         if let Err(error) = client.end {
-            explain_end(rt, number, names, error);
+            explain_end(rt, number, names, unfit_of(&client.replies.cause), error);
         }
         number = number.saturating_add(1);
     }
 }
 
-/// Says why a client ended before its rows did, and which of its files failed, if one did.
-fn explain_end(rt: &HostRuntime, number: usize, names: &ClientNames<'_>, error: ClientError) {
-    let _ = match failed_file(names, error) {
-        Some(file) => eprintln!(rt; "routed: client {number}: {file}: {error}"),
-        None => eprintln!(rt; "routed: client {number}: {error}"),
+/// Says why a client ended before its rows did: its rows aren't fit, or this error came. The file is
+/// said too, if it is of one.
+fn explain_end(
+    rt: &HostRuntime,
+    number: usize,
+    names: &ClientNames<'_>,
+    unfit: Option<Unfit>,
+    error: ClientError,
+) {
+    let requests = names.requests.path;
+    let _ = match (error, unfit) {
+        (ClientError::Stream(StreamError::Read), Some(unfit)) => {
+            eprintln!(rt; "routed: client {number}: {requests}: {unfit}")
+        }
+        (ClientError::Stream(StreamError::Read), None) => {
+            eprintln!(rt; "routed: client {number}: {requests}: {error}")
+        }
+        (ClientError::Stream(StreamError::Write | StreamError::Flush), _) => {
+            let replies = names.replies.path;
+            eprintln!(rt; "routed: client {number}: {replies}: {error}")
+        }
+        _ => eprintln!(rt; "routed: client {number}: {error}"),
     };
-}
-
-/// The file of the client that this error is of.
-fn failed_file<'a>(names: &ClientNames<'a>, error: ClientError) -> Option<&'a str> {
-    match error {
-        ClientError::Stream(StreamError::Read) => Some(names.requests),
-        ClientError::Stream(StreamError::Write | StreamError::Flush) => Some(names.replies),
-        _ => None,
-    }
 }

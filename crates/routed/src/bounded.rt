@@ -1,0 +1,114 @@
+//! A client's rows with bounds: no line is too long, and none has a quotation mark, after which no line
+//! feed would end a row.
+ghost use Rattle.std.specs.Prelude.{◌≤◌, length};
+
+use std::alloc::{AllocError, Global};
+use std::io::{ErrorKind, Read};
+use std::sync::Arc;
+use std::sync::atomic::{AtomicU8, Ordering};
+use std::{fmt, io};
+
+/// The most bytes of a line, without the line feed or the carriage return that ends it.
+const MOST_LINE_BYTES: usize = 1_048_576;
+
+/// Why a client's rows are read no further.
+#[derive(Clone, Copy)]
+pub enum Unfit {
+    /// A line has more than `MOST_LINE_BYTES` bytes.
+    Line,
+    /// There is a quotation mark.
+    Quote,
+}
+
+impl fmt::Display for Unfit {
+    fn fmt<W: fmt::Write>(&self, f: &mut fmt::Formatter<W>) -> fmt::Result {
+        match self {
+            Unfit::Line => write!(f, "a line of more than {MOST_LINE_BYTES} bytes"),
+            Unfit::Quote => f.write_str("a quotation mark"),
+        }
+    }
+}
+
+/// Why a reader stopped, if it did. The thread that reads sets it, and another one reads it.
+pub type Cause = Arc<AtomicU8, Global>;
+
+/// No cause.
+const NO_CAUSE: u8 = 0;
+
+/// That of a line which is too long.
+const LINE: u8 = 1;
+
+/// That of a quotation mark.
+const QUOTE: u8 = 2;
+
+/// Why a reader stopped, if it did.
+pub(crate) fn unfit_of(cause: &Cause) -> Option<Unfit> {
+    match cause.load(Ordering::SeqCst) {
+        LINE => Some(Unfit::Line),
+        QUOTE => Some(Unfit::Quote),
+        _ => None,
+    }
+}
+
+/// A reader of rows that fails before a quotation mark or a byte too many of a line. It passes on what
+/// comes before.
+#[derive(Drop)]
+pub struct Bounded<R> {
+    rows: R,
+    /// How many bytes of the last line have been passed on.
+    length: usize,
+    cause: Cause,
+}
+
+impl<R: Drop> Bounded<R> {
+    /// Nothing has been read yet. The cause is for whoever asks why the rows end.
+    pub(crate) fn new(alloc: Global, rows: R) -> Result<(Bounded<R>, Cause), AllocError> {
+        let cause = Arc::new(alloc, AtomicU8::new(NO_CAUSE))?;
+        let bounded = Bounded {
+            rows,
+            length: 0,
+            cause: Arc::try_clone(&cause)?,
+        };
+        Ok((bounded, cause))
+    }
+}
+
+impl<R> Bounded<R> {
+    /// Counts a byte and passes it on, or answers why it doesn't.
+    fn take(&mut self, byte: u8) -> u8 {
+        match byte {
+            b'"' => return QUOTE,
+            b'\n' | b'\r' => self.length = 0,
+            _ if self.length >= MOST_LINE_BYTES => return LINE,
+            _ => self.length = self.length.saturating_add(1),
+        }
+        NO_CAUSE
+    }
+
+    /// How many of these bytes are passed on.
+    fn take_all(&mut self, bytes: &[u8]) -> usize
+        ensures { result ≤ length bytes.now }
+    {
+        for index in 0..bytes.len() {
+            let cause = self.take(bytes[index]);
+            if cause != NO_CAUSE {
+                self.cause.store(cause, Ordering::SeqCst);
+                return index;
+            }
+        }
+        bytes.len()
+    }
+}
+
+impl<R: Read> Read for Bounded<R> {
+    fn read(&mut self, buf: &mut [u8]) -> io::Result<usize> {
+        if unfit_of(&self.cause).is_none() {
+            let got = self.rows.read(buf)?;
+            let taken = self.take_all(&buf[..got]);
+            if taken > 0 || got == 0 {
+                return Ok(taken);
+            }
+        }
+        Err(io::Error::from(ErrorKind::InvalidData))
+    }
+}
