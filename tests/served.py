@@ -27,6 +27,7 @@ ROUTERS, BATCHES = 12, 60
 CLIENTS = 64  # the most of one run
 SILENT = 600  # requests by a client that doesn't read, more than its pipes hold
 NARROW = 4096  # bytes that these hold
+LONGEST = 1 << 20  # the most bytes of a client's line
 REFUSED, AT_ONCE = 70_000, 500  # rows of one stream that are refused, and those of them that are sent before their lines are read
 STREAMS, STREAM_CLIENTS = 30, 6  # runs over streams of any bytes, and the clients of each
 FRESH = ((2, 1500), (CLIENTS, 100))  # the clients of a run, and its batches
@@ -48,6 +49,8 @@ def served(program, checks):
 
         dialogue(program, checks, folder("dialogue"))
         patient(program, checks, folder("patient"))
+        unfit(program, checks, folder("unfit"))
+        longest(program, checks, folder("longest"))
         many(program, checks, folder("many"), versions)
         for clients, batches in FRESH:
             fresh(checks, Serving(program, folder(f"fresh{clients}"), clients), clients, batches)
@@ -239,6 +242,28 @@ def patient(program, checks, room):
         checks.same("the end after refused rows", run.end(), (["", ""], 2, ""))
 
 
+def unfit(program, checks, room):
+    """A line that is too long or a quotation mark ends its client alone, behind the lines of the rows before it, and changes no status."""
+    ask, reply, said = "ask,7,1.1.1.1,2.2.2.2,0,5,0x0,0x0,0x0,\n", "ask 7 v0 unknown-from\n", ""
+    cases = [("9" * (LONGEST + 1), f"a line of more than {LONGEST} bytes"), ('"', "a quotation mark"), ('ask,7"\n', "a quotation mark")]
+    with Serving(program, room, len(cases) + 1, "--explain") as run:
+        for number, (rows, why) in enumerate(cases, 1):
+            run.say(number, ask * 2 + rows)
+            checks.same(f"a client with {rows[-9:]!r}", "".join(run.lines[number].rest()), reply * 2)
+            checks.same(f"another client after {rows[-9:]!r}", run.talk(len(cases) + 1, ask), reply)
+            said += f"routed: client {number}: {room}/rows{number}: {why}\n"
+        checks.same("the updates go on", run.talk(0, "end,1,0\n"), "version 1\n")
+        checks.same("the end beside clients that aren't fit", run.end(), ([""] * (len(cases) + 2), 0, said))
+
+
+def longest(program, checks, room):
+    """A client's line of the most bytes is answered, and so are the rows after it."""
+    with Serving(program, room, 1, "--explain") as run:
+        for number, end in enumerate(["\n", "\r", "\r\n"], 1):
+            checks.same(f"a line of {LONGEST} bytes before {end!r}", run.talk(1, "9" * LONGEST + end), f"row {number} refused: kind\n")
+        checks.same("the end after the longest lines", run.end(), (["", ""], 2, ""))
+
+
 def many(program, checks, room, versions):
     """64 clients ask at once while batches are published."""
     told, done, found = [0], threading.Event(), [[] for _ in range(CLIENTS)]
@@ -420,7 +445,7 @@ def refusals(program, checks, room):
     status, out, errors = serve(["@a=@b"])
     checks.same("serve without a journal", (status, out, errors.decode()[:len(missing)]), (1, b"", missing))
     _, _, text = program.run(["serve", "--help"])
-    for word in [b"--journal", b"--client", b"in=out", b"mkfifo", b"/dev/fd/n", b"stopped", b"status", b"--explain", b"1 to 64"]:
+    for word in [b"--journal", b"--client", b"in=out", b"mkfifo", b"/dev/fd/n", b"stopped", b"status", b"--explain", b"1 to 64", b"1,048,576"]:
         checks.true(f"help of serve names {word.decode()}", word in b" ".join(text.lower().split()), text)
     absent = "open: No such file or directory (os error 2)\n"
     for name, journal, client, why in [
@@ -481,26 +506,33 @@ def drawn_rows(draw):
     return changes.changed(draw, changes.script(draw) if kind < 4 else changes.requests(draw))[0]
 
 
+def fit(rows):
+    """The rows of a client that are whole before a quotation mark."""
+    before, mark, _ = rows.partition('"')
+    return before[:max(before.rfind("\n"), before.rfind("\r")) + 1] if mark else rows
+
+
 def streams(program, checks, room, draw):
     """Rows of any bytes on all streams at once: lines, journal and status are those of the formats."""
     refused = 0
     for run in range(STREAMS):
         updates = changes.changed(draw, changes.script(draw))[0]
         given, journal = [drawn_rows(draw) for _ in range(STREAM_CLIENTS)], os.path.join(room, f"journal{run}")
-        words, outs = ["serve", "--explain", "--journal", journal], []
-        for number, rows in enumerate(given):
+        words, outs, ends = ["serve", "--explain", "--journal", journal], [], ""
+        for number, rows in enumerate(given, 1):
             name = os.path.join(room, f"{run}.{number}")
             with open(name, "wb") as file:
                 file.write(rows.encode("latin-1"))
             outs.append(f"{name}.out")
             words += ["--client", f"{name}={name}.out"]
+            ends += f"routed: client {number}: {name}: a quotation mark\n" if '"' in rows else ""
         status, out, errors = program.run(words, updates.encode("latin-1"))
         (own, lines), (networks, text) = solve(updates), published(updates)
         found = [open(name, encoding="latin-1").read().splitlines() for name in outs]
-        wanted = [client_lines(networks, rows, told) for rows, told in zip(given, found)]
+        wanted = [client_lines(networks, fit(rows), told) for rows, told in zip(given, found)]
         bad = any(line.startswith("row ") for told in wanted for line in told)
         checks.same(f"clients of any bytes {run}", found, wanted)
-        checks.same(f"updates of any bytes {run}", (status, out.decode("latin-1").splitlines(), errors), (2 if bad else own, lines, b""))
+        checks.same(f"updates of any bytes {run}", (status, out.decode("latin-1").splitlines(), errors.decode()), (2 if bad else own, lines, ends))
         checks.same(f"the journal of any bytes {run}", open(journal, encoding="latin-1").read(), text)
         refused += bad + own
     checks.true("rows of any bytes are refused", refused > STREAMS, refused)

@@ -50,9 +50,10 @@ IN and OUT are files, named pipes (mkfifo) or /dev/fd/N, no name twice. IN can't
 No OUT is overwritten: a file that has bytes already, or that two names lead to, is refused before
 anything is opened. Files are opened in the order given, IN before OUT, and the journal last. Opening a
 pipe waits for its other end, so a client opens IN for writing first, then OUT for reading. A client
-ends when its rows end. It also ends if its rows can't be read or its lines can't be written, which
-disturbs nobody else. Its IN and OUT are closed then, but the other end of a /dev/fd/N sees that only
-when the run ends. The run ends when standard input and all clients have ended.
+ends when its rows end. It also ends if its rows can't be read or its lines can't be written, and at a
+line of more than 1,048,576 bytes or a quotation mark, which disturbs nobody else. Its IN and OUT are
+closed then, but the other end of a /dev/fd/N sees that only when the run ends. The run ends when
+standard input and all clients have ended.
 
 Status:
   0  everything was accepted
