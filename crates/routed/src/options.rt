@@ -33,7 +33,7 @@ const WORKERS: &str = "workers";
 /// An option of a command.
 #[derive(Clone, Copy)]
 pub enum CommandOption {
-    /// Its name, which has to name a file, and what help says of it.
+    /// A required file: the option's name, and what help says of it.
     File(&'static str, &'static str),
     /// The two files of each client.
     Clients,
