@@ -1,5 +1,5 @@
 -- The state after an end row.
-use Rattle.std.proofs.Common.{◌≡◌, ℕ, ◌+◌, List, [], Result, Ok, Err, OnErr, refl, ap, subst, ◌∙◌}
+use Rattle.std.proofs.Common.{◌≡◌, ℕ, ◌+◌, ◌⊎◌, List, [], Result, Ok, Err, IfOk, OnErr, inr, refl, ap, subst, ◌∙◌}
 use Rattle.cspf_model.specs.declared.batch.Change.{Change}
 use Rattle.cspf_stream.specs.Lines.{version_line, refused_batch_line}
 use Rattle.cspf_stream.specs.OpenChanges.{AreOpen}
@@ -28,7 +28,7 @@ module _ {S : Type 0} (spec : SinkSpec S) (k k' : Rows S) (number count : ℕ) (
   )
 
   -- and one whose batch is refused
-  pub dropped : (why : BatchRefusal) → k'.refused ≡ k.refused + 1 → ((all : List Change) → AreOpen k.changes all → IsBatchDropped spec k.sink number count all why k'.sink)
+  dropped : (why : BatchRefusal) → k'.refused ≡ k.refused + 1 → ((all : List Change) → AreOpen k.changes all → IsBatchDropped spec k.sink number count all why k'.sink)
       → RowsLead k k' (λ s t. IsEndRefused spec s number count (refused_batch_line number why) t)
   dropped why refused is = λ s kept. (
     record { sink = k'.sink; changes = []; answers = s.answers; refused = s.refused + 1 },
@@ -40,3 +40,11 @@ module _ {S : Type 0} (spec : SinkSpec S) (k k' : Rows S) (number count : ℕ) (
       after = refl;
     },
   )
+
+  -- its line is made, or memory for the line is refused
+  pub refused_said : {T E : Type 0} (r : Result T E) (text : T → List ℕ) (why : BatchRefusal) → k'.refused ≡ k.refused + 1
+      → ((all : List Change) → AreOpen k.changes all → IsBatchDropped spec k.sink number count all why k'.sink) → IfOk r (λ line. text line ≡ refused_batch_line number why)
+      → IfOk r (λ line. RowsLead k k' (λ s t. IsEndAccepted spec s number count (text line) t ⊎ IsEndRefused spec s number count (text line) t))
+      × OnErr r (RowsLead k k' (λ s t. (t ≡ s) ⊎ ((line : List ℕ) × IsEndRefused spec s number count line t)))
+  refused_said (Ok line) text why refused is said = ((λ s kept. let led = dropped why refused is s kept in (led.0, led.1, inr (rw said led.2))), tt)
+  refused_said (Err e) text why refused is said = (tt, λ s kept. let led = dropped why refused is s kept in (led.0, led.1, inr (refused_batch_line number why, led.2)))

@@ -1,30 +1,8 @@
 //! A client that asks after its publisher was closed.
 
-use super::{Narrow, link_batch, seated};
-use cspf_client::{ClientError, ServedClient};
-use cspf_model::Batch;
-use std::alloc::Global;
-use std::process::Abort;
-use std::sync::Wait;
+use super::{link_batch, seated};
+use cspf_client::ClientError;
 use std::test::Fail;
-
-/// The result of a client that runs once batch 1 is published, news of it waits, and the publisher
-/// is closed.
-fn served_late<R: Wait + Abort>(
-    rt: &R,
-    alloc: Global,
-    first: &Batch,
-    requests: &[u8],
-) -> ServedClient<Narrow> {
-    let (mut publisher, mut teller, mut serving) = seated(rt, alloc, requests, 1000);
-    let _ = publisher.apply(rt, alloc, first);
-    teller.tell(&mut publisher);
-    let told = publisher.tell();
-    publisher.close(rt);
-    serving.run(alloc);
-    serving.meet(told);
-    serving.close()
-}
 
 /// Rows are refused up to the first request, which has no entry: the client ends there, by that
 /// name.
@@ -32,7 +10,15 @@ fn served_late<R: Wait + Abort>(
 fn client_of_a_closed_publisher(rt: HostRuntime) -> Result<(), Fail> {
     let first = link_batch(rt.alloc(), 1)?;
     let requests = b"end,2,0\nask,7,1.1.1.1,2.2.2.2,0,1000,0x0,0x0,0x0,\nend,2,0\n";
-    let left = served_late(&rt, rt.alloc(), &first, requests);
+    let (mut publisher, mut teller, mut serving) = seated(&rt, rt.alloc(), requests, 1000);
+    // Batch 1 is published, news of it waits, and the publisher is closed.
+    let _ = publisher.apply(&rt, rt.alloc(), &first);
+    teller.tell(&mut publisher);
+    let told = publisher.tell();
+    publisher.close(&rt);
+    serving.run(rt.alloc());
+    serving.meet(told);
+    let left = serving.close();
     assert!(rt; left.replies.held.as_slice() == b"row 1 refused: kind\n".as_slice());
     assert!(rt; left.end == Err(ClientError::NoEntry));
     assert!(rt; left.refused == 1 && left.replies.ends == 1);

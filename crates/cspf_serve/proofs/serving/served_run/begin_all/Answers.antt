@@ -24,9 +24,7 @@ push_reserved-requires g c =
 
 pub loop-client-preserved-in-Some-pop : goal.loop-client-preserved-in-Some-pop
 loop-client-preserved-in-Some-pop g c = record {
-  left =
-      left_step c.loop-client.yielded c.in-Some.client (into_iter_items c.loop-client.client-iterator) (into_iter_items c.next.new.self) c.args.clients.items c.loop-client.invariant.left
-      c.in-Some.ensures.steps.0;
+  left = left_step _ _ _ _ _ c.loop-client.invariant.left c.in-Some.ensures.steps.0;
   ends = λ source seats.
       front_of (IsSeat source) c.loop-client.ends.items c.pop.new.self.items (c.in-Some-pop.asker, c.in-Some-pop.listener) c.in-Some-pop.ensures.items (c.loop-client.invariant.ends source seats);
   many = (

@@ -25,9 +25,7 @@ pub loop-client-preserved : goal.loop-client-preserved
 loop-client-preserved g c =
     let batches : c.tell.result.batches ≡ c.args.updates.now.publisher.batches = c.tell.ensures.batches ∙ ap (λ (k : KeptUpdates g.row.J.Denot). k.publisher.batches) c.loop-client.invariant.same in
     record {
-      left =
-          left_step c.loop-client.yielded c.in-Some.client (into_iter_items c.loop-client.client-iterator) (into_iter_items c.next.new.self) c.args.serving.items c.loop-client.invariant.left
-          c.in-Some.ensures.steps.0;
+      left = left_step _ _ _ _ _ c.loop-client.invariant.left c.in-Some.ensures.steps.0;
       same = c.tell.ensures.same ∙ c.loop-client.invariant.same;
       closed =
           subst (AllZip (IsServedEnd c.args.updates.now.publisher.batches) (c.loop-client.yielded ++ c.in-Some.client ∷ [])) (sym c.push_reserved.ensures.items)

@@ -13,9 +13,7 @@ loop-asker-preserved g c =
     let source = c.args.publisher.now.source in
     let same = ap (λ (p : PublisherState g.row.J.Denot). p.source) c.loop-asker.invariant.same in
     record {
-      left =
-          left_step c.loop-asker.yielded c.in-Some.asker (into_iter_items c.loop-asker.asker-iterator) (into_iter_items c.next.new.self) c.args.askers.items c.loop-asker.invariant.left
-          c.in-Some.ensures.steps.0;
+      left = left_step _ _ _ _ _ c.loop-asker.invariant.left c.in-Some.ensures.steps.0;
       same = c.open_news.ensures.same ∙ c.loop-asker.invariant.same;
       tellers =
           subst (All (λ (t : TellerState). t.source ≡ source)) (sym c.in_ok-push.ensures.items)

@@ -1,8 +1,6 @@
-use Rattle.std.proofs.Common.{◌+◌, refl, ap, inl, inr}
-use Rattle.std.proofs.lemmas.Result.{IfOk-weaker}
-use Rattle.cspf_stream.specs.Lines.{refused_batch_line}
+use Rattle.std.proofs.Common.{◌+◌, refl, ap, inl}
 use Rattle.cspf_stream.specs.declared.rows.Rows.{Rows}
-use Rattle.cspf_stream.proofs.RowSteps.{accepted, dropped, at_error}
+use Rattle.cspf_stream.proofs.RowSteps.{accepted, refused_said, at_error}
 use Rattle.cspf_stream.proofs.rows.Rows.end.Goals as goal
 
 pub returns-in_err-version-clause-failed : goal.returns-in_err-version-clause-failed
@@ -18,15 +16,11 @@ returns-in-Ok-clause-answered g c = λ s kept.
 pub returns-in-Err-clause-answered : goal.returns-in-Err-clause-answered
 returns-in-Err-clause-answered g c =
     let new : Rows g.row.S.Denot = record { sink = c.give-found.new.self.sink; changes = c.clear.new.self; answers = c.give-found.new.self.answers; refused = c.give-found.new.self.refused + 1 } in
-    let lead =
-    dropped g.S.Sink.spec c.args.self.now new c.args.number c.args.count c.clear.ensures.open c.give-found.ensures.answers c.in-Err.refusal
-    (ap (λ n. n + 1) c.give-found.ensures.refusals) c.in-Err.ensures.refused in
-    IfOk-weaker c.bytes-in-Err.result _ _ (λ line is. λ s kept. let led = lead s kept in (led.0, led.1, inr (rw is led.2))) c.bytes-in-Err.ensures
+    (refused_said g.S.Sink.spec c.args.self.now new c.args.number c.args.count c.clear.ensures.open c.give-found.ensures.answers c.bytes-in-Err.result (λ line. line.items) c.in-Err.refusal
+    (ap (λ n. n + 1) c.give-found.ensures.refusals) c.in-Err.ensures.refused c.bytes-in-Err.ensures).0
 
 pub returns-in-Err-clause-failed : goal.returns-in-Err-clause-failed
 returns-in-Err-clause-failed g c =
     let new : Rows g.row.S.Denot = record { sink = c.give-found.new.self.sink; changes = c.clear.new.self; answers = c.give-found.new.self.answers; refused = c.give-found.new.self.refused + 1 } in
-    let lead =
-    dropped g.S.Sink.spec c.args.self.now new c.args.number c.args.count c.clear.ensures.open c.give-found.ensures.answers c.in-Err.refusal
-    (ap (λ n. n + 1) c.give-found.ensures.refusals) c.in-Err.ensures.refused in
-    at_error _ c.bytes-in-Err.result (λ s kept. let led = lead s kept in (led.0, led.1, inr (refused_batch_line c.args.number c.in-Err.refusal, led.2)))
+    (refused_said g.S.Sink.spec c.args.self.now new c.args.number c.args.count c.clear.ensures.open c.give-found.ensures.answers c.bytes-in-Err.result (λ line. line.items) c.in-Err.refusal
+    (ap (λ n. n + 1) c.give-found.ensures.refusals) c.in-Err.ensures.refused c.bytes-in-Err.ensures).1
