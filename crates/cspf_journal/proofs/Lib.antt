@@ -1,2 +1,5 @@
 pub mod Prefixes
+pub mod JournalSteps
 pub mod BatchAddition
+pub mod Counting
+pub mod Knowing

@@ -1,20 +1,26 @@
 -- Prefixes of one list of batches.
-use Rattle.std.proofs.Common.{◌≡◌, ℕ, ◌+◌, ◌≤◌, List, [], ◌∷◌, ◌++◌, length, refl, sym, ap, ◌∙◌, arith, append_assoc, length-append}
+use Rattle.std.proofs.Common.{◌≡◌, ℕ, ◌+◌, ◌≤◌, List, [], ◌∷◌, ◌++◌, length, take, drop, refl, sym, ap, subst, ◌∙◌, arith, append_assoc, length-append, take-append-drop}
 use Rattle.std.proofs.lemmas.List.{append-nil}
-use mathlib.Core.List.{IsPrefix}
 use Rattle.cspf_model.specs.Numbered.{NumberedChanges, AreNumberedFrom}
-use Rattle.cspf_model.specs.Laws.{LawfulByOneMore}
+use Rattle.cspf_model.specs.Changes.{AreLawful}
+use Rattle.cspf_model.specs.Laws.{LawfulByOneMore, FirstBatchesAreLawful}
 use Rattle.cspf_journal.specs.Histories.{BeginsWith, IsHistory, MayFollow}
-
--- a prefix, as a book has it
-pub begins : (first all : List NumberedChanges) → IsPrefix first all → BeginsWith all first
-begins first all p = (p.0, sym p.1)
 
 pub BeginsWith-self : (bs : List NumberedChanges) → BeginsWith bs bs
 BeginsWith-self bs = ([], sym (append-nil bs))
 
 pub BeginsWith-snoc : (all first : List NumberedChanges) (b : NumberedChanges) → BeginsWith all first → BeginsWith (all ++ b ∷ []) first
 BeginsWith-snoc all first b p = (p.0 ++ b ∷ [], ap (λ (w : List NumberedChanges). w ++ b ∷ []) p.1 ∙ append_assoc first p.0 (b ∷ []))
+
+pub BeginsWith-trans : (all some first : List NumberedChanges) → BeginsWith all some → BeginsWith some first → BeginsWith all first
+BeginsWith-trans all some first p q = (q.0 ++ p.0, p.1 ∙ (ap (λ (w : List NumberedChanges). w ++ p.0) q.1 ∙ append_assoc first q.0 p.0))
+
+-- as many of a list as are taken begin it
+pub BeginsWith-take : (n : ℕ) (all : List NumberedChanges) → BeginsWith all (take n all)
+BeginsWith-take n all = (drop n all, sym (take-append-drop n all))
+
+pub length-prefix : (all first : List NumberedChanges) → BeginsWith all first → length first ≤ length all
+length-prefix all first p = omega (arith, ap length p.1, length-append first p.0)
 
 -- of two prefixes of one list the shorter is a prefix of the longer
 pub shorter : (xs ys all : List NumberedChanges) → BeginsWith all xs → BeginsWith all ys → length xs ≤ length ys → BeginsWith ys xs
@@ -45,4 +51,16 @@ IsHistory-snoc law bs b h f = record {
   lawful = (law bs b).1 (h.lawful, f.fits);
   numbers = AreNumberedFrom-snoc 1 bs b h.numbers f.number;
   most = omega (arith, f.room, length-append bs (b ∷ []));
+}
+
+AreNumberedFrom-prefix : (n : ℕ) (bs more : List NumberedChanges) → AreNumberedFrom n (bs ++ more) → AreNumberedFrom n bs
+AreNumberedFrom-prefix n [] more all = tt
+AreNumberedFrom-prefix n (b ∷ bs) more all = (all.0, AreNumberedFrom-prefix (n + 1) bs more all.1)
+
+-- a prefix of a history is one
+pub IsHistory-prefix : FirstBatchesAreLawful → (all first : List NumberedChanges) → BeginsWith all first → IsHistory all → IsHistory first
+IsHistory-prefix law all first p h = record {
+  lawful = law first p.0 (subst AreLawful p.1 h.lawful);
+  numbers = AreNumberedFrom-prefix 1 first p.0 (subst (AreNumberedFrom 1) p.1 h.numbers);
+  most = omega (arith, h.most, length-prefix all first p);
 }

@@ -1,4 +1,5 @@
 pub mod Histories
 pub mod KnownBatches
+pub mod JournalSteps
 pub mod HistoryRule
 pub mod JournalStates

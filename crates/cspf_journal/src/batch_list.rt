@@ -5,13 +5,17 @@ ghost use Rattle.cspf_journal.specs.HistoryRule.{length_word};
 ghost use Rattle.cspf_journal.specs.KnownBatches.{known_with};
 
 use crate::history::{AddBatch, History, NoGain};
+use crate::journal_step::JournalStep;
 use crate::known::Known;
+use crate::published_count::PublishedCount;
+use crate::rights::{RightToCount, RightToShow};
+use crate::seen_steps::SeenSteps;
 use cspf_model::{Batch, lawful_batches};
 use logbook::{Offer, Seen, Start, Word};
 use std::marker::Model;
 
 /// The word that the journal moves: the length of the list.
-type LengthWord = Word<Batch, u64, History>;
+type LengthWord = Word<JournalStep, u64, History>;
 
 /// The batches of a list that are kept. Batches are added only through this value.
 #[derive(Drop)]
@@ -33,23 +37,18 @@ impl Model for BatchList {
 }
 
 impl BatchList {
-    /// A new list, with no batch.
-    pub(crate) fn new() -> BatchList
-        ensures { result.batches ≡ [] }
+    /// A new list, with no batch, and the right to show its batches.
+    pub(crate) fn new() -> (BatchList, RightToShow)
+        ensures list { result.0.batches ≡ [] }
+        ensures right { result.1 ≡ record { batches = []; source = result.0.source } }
     {
-        let (seen, mut first, _second) = Seen::open(Start::alone(), 0, 0);
+        let (seen, mut first, mut second) = Seen::open(Start::alone(), 0, 0);
         let word = Word::tracked(0, &mut first);
-        BatchList {
-            word,
-            kept: Known::new(0, seen),
-        }
-    }
-
-    /// The batches that are kept.
-    pub(crate) fn known(&self) -> Known
-        ensures { result ≡ self.now }
-    {
-        self.kept.copy()
+        let count = PublishedCount::new(Word::tracked(0, &mut second));
+        let steps = SeenSteps::new(seen.again());
+        let kept = Known::new(0, seen);
+        let right = RightToCount::new(kept.copy(), steps);
+        (BatchList { word, kept }, RightToShow::new(right, count))
     }
 
     /// Adds a batch, by one step. The result knows the longer list; it isn't kept yet. None if the
@@ -62,9 +61,11 @@ impl BatchList {
         // A law: one more batch that fits keeps the list lawful.
         lawful_batches();
         let mut seen = self.kept.seen();
-        let mut offer: Offer<Batch, u64, History, NoGain> = seen.plain::<NoGain, Batch, AddBatch>(
-            batch,
-        );
+        let mut offer: Offer<JournalStep, u64, History, NoGain> = seen.plain::<
+            NoGain,
+            Batch,
+            AddBatch,
+        >(batch);
         let mut pen = seen.no_pen();
         let old = self.kept.version() as u64;
         let found = self

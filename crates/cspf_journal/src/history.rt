@@ -1,11 +1,14 @@
-//! The list of all batches, which exists in proofs alone. What is shared is its length.
+//! The steps of a journal, which exist in proofs alone. What is shared is how many batches are
+//! recorded, and how many are published.
+use crate::journal_step::JournalStep;
 use cspf_model::Batch;
 use logbook::{Gain, Plain, Play, Rule};
 
-/// The rule of the list: it is a history, of the length in the word.
+/// The rule of the steps: they are in order, the recorded batches are a history, and both words say
+/// how many there are.
 pub struct History;
 
-impl Rule<Batch, u64> for History {
+impl Rule<JournalStep, u64> for History {
     ghost use Rattle.std.specs.Prelude.{[]};
     ghost use base.Fml.{ftrue};
     ghost use Rattle.cspf_journal.specs.HistoryRule.{IsKeptHistory};
@@ -23,10 +26,10 @@ impl Rule<Batch, u64> for History {
     ghost moves = { λ ask before after answer. Unit {0} };
 }
 
-/// Callers keep only the list.
+/// Callers keep only the steps.
 pub struct NoGain;
 
-impl Gain<Batch, u64> for NoGain {
+impl Gain<JournalStep, u64> for NoGain {
     ghost use base.Fml.{ftrue};
 
     ghost after = { λ names about answer. ftrue };
@@ -35,17 +38,56 @@ impl Gain<Batch, u64> for NoGain {
 /// The step that adds a batch.
 pub struct AddBatch;
 
-impl Play<Batch, u64> for AddBatch {
+impl Play<JournalStep, u64> for AddBatch {
     ghost use Rattle.cspf_journal.specs.HistoryRule.{Adds};
 
     ghost then = { Adds };
 }
 
 /// The step takes the batch.
-impl Plain<Batch, Batch, u64> for AddBatch {
+impl Plain<Batch, JournalStep, u64> for AddBatch {
     ghost use Rattle.std.specs.Prelude.{None};
+    ghost use Rattle.cspf_journal.specs.declared.journal_step.JournalStep.TheVariants.{Recorded};
 
-    ghost ask = { λ batch. batch };
+    ghost ask = { λ batch. Recorded batch };
 
     ghost state = { λ batch. None };
+}
+
+/// The step that counts one more batch as published.
+pub struct CountBatch;
+
+impl Play<JournalStep, u64> for CountBatch {
+    ghost use Rattle.cspf_journal.specs.HistoryRule.{CountsOneMore};
+
+    ghost then = { CountsOneMore };
+}
+
+/// The step takes the count.
+impl Plain<u32, JournalStep, u64> for CountBatch {
+    ghost use Rattle.std.specs.Prelude.{None};
+    ghost use Rattle.cspf_journal.specs.declared.journal_step.JournalStep.TheVariants.{Published};
+
+    ghost ask = { λ count. Published count };
+
+    ghost state = { λ count. None };
+}
+
+/// The step that reads the count.
+pub struct ReadCount;
+
+impl Play<JournalStep, u64> for ReadCount {
+    ghost use Rattle.cspf_journal.specs.HistoryRule.{Reads};
+
+    ghost then = { Reads };
+}
+
+/// The step takes a number that it doesn't use: the count is the one that it finds.
+impl Plain<u32, JournalStep, u64> for ReadCount {
+    ghost use Rattle.std.specs.Prelude.{None};
+    ghost use Rattle.cspf_journal.specs.declared.journal_step.JournalStep.TheVariants.{Read};
+
+    ghost ask = { λ count. Read count };
+
+    ghost state = { λ count. None };
 }

@@ -1,43 +1,56 @@
 //! The known prefix of the list of all batches of a journal.
 ghost use Rattle.std.specs.Prelude.{◌≡◌, ◌<◌, length, MatchBool};
 ghost use Rattle.cspf_journal.specs.Histories.{BeginsWith, IsHistory};
+ghost use Rattle.cspf_journal.specs.JournalSteps.{batches_of};
+ghost use Rattle.cspf_journal.specs.KnownBatches.{CatchesUp};
 
 use crate::history::History;
-use cspf_model::Batch;
+use crate::journal_step::JournalStep;
+use crate::published_count::PublishedCount;
+use crate::seen_steps::SeenSteps;
+use cspf_model::lawful_batches;
 use logbook::Seen;
 use std::marker::Model;
 
-/// A prefix of a journal's list of batches. The code keeps its length alone.
+/// A prefix of a journal's list of batches. The code keeps its length alone. More batches may be
+/// recorded by the steps that were seen.
 #[derive(Drop)]
 pub struct Known {
     version: u32,
-    seen: Seen<Batch, u64, History>,
+    seen: Seen<JournalStep, u64, History>,
 }
 
 impl Model for Known {
-    ghost use Rattle.std.specs.Prelude.{◌≡◌, length};
+    ghost use Rattle.std.specs.Prelude.{◌≤◌, length, take};
     ghost use Rattle.cspf_journal.specs.Histories.{IsHistory};
+    ghost use Rattle.cspf_journal.specs.JournalSteps.{batches_of};
     ghost use Rattle.cspf_journal.specs.KnownBatches.{KnownBatches};
 
     ghost Value = { KnownBatches };
 
-    ghost view = { λ k. record { batches = k.seen.log; source = k.seen.book } };
+    ghost view = { λ k. record {
+      batches = take k.version (batches_of k.seen.log);
+      source = k.seen.book;
+    } };
 
-    ghost invariant = { λ k. (k.version ≡ length k.seen.log) × IsHistory k.seen.log };
+    ghost invariant = { λ k. (k.version ≤ length (batches_of k.seen.log))
+        × IsHistory (take k.version (batches_of k.seen.log)) };
 }
 
 impl Known {
-    /// The batches that are seen, with how many they are.
-    pub(crate) fn new(version: u32, seen: Seen<Batch, u64, History>) -> Known
-        requires { (version ≡ length seen.log) × IsHistory seen.log }
-        ensures { result ≡ record { batches = seen.log; source = seen.book } }
+    /// All batches that the seen steps record, with how many they are.
+    pub(crate) fn new(version: u32, seen: Seen<JournalStep, u64, History>) -> Known
+        requires version { version ≡ length (batches_of seen.log) }
+        requires history { IsHistory (batches_of seen.log) }
+        ensures { result ≡ record { batches = batches_of seen.log; source = seen.book } }
     {
         Known { version, seen }
     }
 
-    /// The seen prefix of the list.
-    pub(crate) fn seen(&self) -> Seen<Batch, u64, History>
-        ensures { (result.log ≡ self.now.batches) × (result.book ≡ self.now.source) }
+    /// The seen steps, which record the batches.
+    pub(crate) fn seen(&self) -> Seen<JournalStep, u64, History>
+        ensures recorded { BeginsWith (batches_of result.log) self.now.batches }
+        ensures source { result.book ≡ self.now.source }
     {
         self.seen.again()
     }
@@ -76,5 +89,35 @@ impl Known {
         }
         *self = other.copy();
         true
+    }
+
+    /// Reads the count of published batches, and knows at least as many from now on. The steps end
+    /// in the reading.
+    pub fn catch_up(&mut self, count: &PublishedCount, steps: &mut SeenSteps) -> u32
+        requires count { count.now ≡ self.old.source }
+        requires steps { steps.old.source ≡ self.old.source }
+        ensures { CatchesUp self.old self.new steps.old steps.new result }
+    {
+        // A law: a prefix of a lawful list is lawful.
+        lawful_batches();
+        let mut seen = steps.seen();
+        seen.learn(&self.seen);
+        let published = count.read(&mut seen);
+        if published > self.version {
+            self.version = published;
+        }
+        self.seen = seen.again();
+        *steps = SeenSteps::new(seen);
+        published
+    }
+
+    /// Steps that record the batches.
+    pub fn steps(&self) -> SeenSteps
+        ensures source { result.source ≡ self.now.source }
+        ensures recorded { BeginsWith (batches_of result.steps) self.now.batches }
+    {
+        let mut seen = self.seen.again();
+        seen.learn(&self.seen);
+        SeenSteps::new(seen)
     }
 }

@@ -12,12 +12,22 @@
 
 mod batch_list;
 mod history;
+mod journal_step;
 mod journal_writer;
 mod known;
+mod laws;
 mod new_journal;
 mod not_recorded;
+mod published_count;
+mod rights;
+mod seen_steps;
 
+pub use journal_step::JournalStep;
 pub use journal_writer::JournalWriter;
 pub use known::Known;
-pub use new_journal::{NewJournal, RightToShow};
+pub use laws::readings_find_what_was_counted;
+pub use new_journal::NewJournal;
 pub use not_recorded::NotRecorded;
+pub use published_count::PublishedCount;
+pub use rights::{RightToCount, RightToShow};
+pub use seen_steps::SeenSteps;

@@ -1,16 +1,17 @@
-//! A new journal, and the right to show its batches.
+//! A new journal.
 ghost use Rattle.std.specs.Prelude.{◌≡◌, [], false};
 
 use crate::batch_list::BatchList;
 use crate::journal_writer::JournalWriter;
-use crate::known::Known;
+use crate::rights::RightToShow;
 use std::marker::Model;
 
-/// A writer, and a list to which no batch was added.
+/// A writer, a list to which no batch was added, and the right to show its batches.
 #[derive(Drop)]
 pub struct NewJournal<W> {
     writer: W,
     list: BatchList,
+    right: RightToShow,
 }
 
 impl<W> Model for NewJournal<W> {
@@ -21,7 +22,8 @@ impl<W> Model for NewJournal<W> {
 
     ghost view = { λ j. record { source = j.list.source; writer = j.writer } };
 
-    ghost invariant = { λ j. j.list.batches ≡ [] };
+    ghost invariant = { λ j. (j.list.batches ≡ [])
+        × (j.right ≡ record { batches = []; source = j.list.source }) };
 }
 
 impl<W> NewJournal<W> {
@@ -29,9 +31,11 @@ impl<W> NewJournal<W> {
     pub fn new(writer: W) -> NewJournal<W>
         ensures { result.writer ≡ writer }
     {
+        let (list, right) = BatchList::new();
         NewJournal {
             writer,
-            list: BatchList::new(),
+            list,
+            right,
         }
     }
 
@@ -45,31 +49,11 @@ impl<W> NewJournal<W> {
         } }
         ensures right { result.1 ≡ record { batches = []; source = self.source } }
     {
-        let NewJournal { writer, list } = self;
-        let known = list.known();
-        (JournalWriter::new(writer, list), RightToShow { known })
-    }
-}
-
-/// The right to show the batches of a journal. Each journal gives one, and it can't be copied.
-#[derive(Drop)]
-pub struct RightToShow {
-    known: Known,
-}
-
-impl Model for RightToShow {
-    ghost use Rattle.cspf_journal.specs.KnownBatches.{KnownBatches};
-
-    ghost Value = { KnownBatches };
-
-    ghost view = { λ r. r.known };
-}
-
-impl RightToShow {
-    /// What is known of the journal's list when it is new: no batch.
-    pub fn known(&self) -> Known
-        ensures { result ≡ self.now }
-    {
-        self.known.copy()
+        let NewJournal {
+            writer,
+            list,
+            right,
+        } = self;
+        (JournalWriter::new(writer, list), right)
     }
 }

@@ -1,0 +1,85 @@
+-- The exchange that counts a batch as published, and the reading of the count, keep the rule of the journal's steps.
+use Rattle.std.proofs.Common.{◌≡◌, ℕ, ◌+◌, ◌<◌, ◌≤◌, ◌==◌, Bool, true, false, List, [], ◌∷◌, ◌++◌, length, refl, ap, sym, ◌∙◌, subst, arith, inl, None}
+use Rattle.std.proofs.lemmas.List.{append-nil}
+use Rattle.std.proofs.lemmas.Bool.Decides.{nat_tests}
+use mathlib.Core.List.{IsPrefix}
+use prog.Atomic.{either}
+use Rattle.logbook.specs.Pages.{Cell, cell, keeps, no_nib, step, Moves, Goes}
+use Rattle.cspf_model.specs.Numbered.{NumberedChanges}
+use Rattle.cspf_journal.specs.HistoryRule.{IsKeptHistory, CountsOneMore, Reads}
+use Rattle.cspf_journal.specs.JournalSteps.{batches_of, count_of, AreJournalSteps, AreStepsUpTo}
+use Rattle.cspf_journal.specs.declared.journal_step.JournalStep.{JournalStep}
+use Rattle.cspf_journal.specs.declared.journal_step.JournalStep.TheVariants.{Published, Read}
+use Rattle.cspf_journal.proofs.BatchAddition.{shown, moved, IsKeptHistory-same}
+use Rattle.cspf_journal.proofs.Prefixes.{length-prefix}
+use Rattle.cspf_journal.proofs.JournalSteps.{batches_of-append, batches_of-prefix, count_from-append, count_from-le, AreJournalSteps-same}
+
+-- a step after all that were seen
+up_to : (v log : List JournalStep) (e : JournalStep) → IsPrefix v log → AreStepsUpTo v (log ++ e ∷ []) e
+up_to v log e pre = (pre.0, ap (λ (w : List JournalStep). w ++ e ∷ []) (sym pre.1))
+
+-- as many batches are recorded after a step that records none
+recorded-same : (log : List JournalStep) (e : JournalStep) → batches_of (e ∷ []) ≡ [] → batches_of (log ++ e ∷ []) ≡ batches_of log
+recorded-same log e none = batches_of-append log (e ∷ []) ∙ (ap (λ (w : List NumberedChanges). batches_of log ++ w) none ∙ append-nil (batches_of log))
+
+counts_goes : (log v : List JournalStep) (old new : ℕ) → new ≡ old + 1 → new ≤ length (batches_of v) → AreJournalSteps log → IsPrefix v log → (b : Bool) → (count_of log == old) ≡ b
+    → Goes IsKeptHistory shown moved 1 (v, (no_nib, None)) (λ n. either (n == old) new n) (CountsOneMore (step 1 old new (Published new)) (v, (no_nib, None))) ((length (batches_of log), true) ∷ (count_of log, true) ∷ []) log
+counts_goes log v old new one within journal pre true is =
+    let e : JournalStep = Published new in
+    let here : count_of log ≡ old = grind (arith, nat_tests) in
+    let room : new ≤ length (batches_of log) = omega (arith, within, length-prefix (batches_of log) (batches_of v) (batches_of-prefix v log pre)) in
+    let same : batches_of log ≡ batches_of (log ++ e ∷ []) = sym (recorded-same log e refl) in
+    let journal' : AreJournalSteps (log ++ e ∷ []) = AreJournalSteps-same log e refl journal (omega (arith, here, one), room, tt) in
+    let count : count_of (log ++ e ∷ []) ≡ new = count_from-append 0 log (e ∷ []) in
+    let n : either (count_of log == old) new (count_of log) ≡ count_of (log ++ e ∷ []) = rw is (sym count) in
+    let length_is : length (batches_of log) ≡ length (batches_of (log ++ e ∷ [])) = ap length same in (
+      keeps,
+      e ∷ [],
+      None,
+      tt,
+      record { words = cc (n, length_is); journal = journal' },
+      inl (refl, refl),
+      rw is (up_to v log e pre, count, journal'),
+    )
+counts_goes log v old new one within journal pre false is =
+    let n : either (count_of log == old) new (count_of log) ≡ count_of log = rw is refl in (
+      keeps,
+      [],
+      None,
+      tt,
+      IsKeptHistory-same _ log (record { words = ap (λ (k : ℕ). (length (batches_of log), true) ∷ (k, true) ∷ []) n; journal = journal }),
+      inl (refl, refl),
+      rw is tt,
+    )
+
+-- whatever the steps are, the exchange counts a batch that was seen recorded, or finds another count
+pub counts_moves : (v : List JournalStep) (old new : ℕ) → new ≡ old + 1 → new ≤ length (batches_of v)
+    → Moves IsKeptHistory shown moved 1 (v, (no_nib, None)) (λ n. either (n == old) new n) (CountsOneMore (step 1 old new (Published new)) (v, (no_nib, None)))
+counts_moves v old new one within cs log kept pre away =
+    let P : List Cell → Type 0 = λ c. (1 < length c) × ((cell c 1).1 ≡ true) × Goes IsKeptHistory shown moved 1 (v, (no_nib, None)) (λ n. either (n == old) new n) (CountsOneMore (step 1 old new (Published new)) (v, (no_nib, None))) c log in
+    subst P (sym kept.words) (omega arith, refl, counts_goes log v old new one within kept.journal pre (count_of log == old) refl)
+
+reads_goes : (log v : List JournalStep) (ask : JournalStep) → AreJournalSteps log → IsPrefix v log
+    → Goes IsKeptHistory shown moved 1 (v, (no_nib, None)) (λ n. n) (Reads (step 1 0 0 ask) (v, (no_nib, None))) ((length (batches_of log), true) ∷ (count_of log, true) ∷ []) log
+reads_goes log v ask journal pre =
+    let e : JournalStep = Read (count_of log) in
+    let same : batches_of (log ++ e ∷ []) ≡ batches_of log = recorded-same log e refl in
+    let length_is : length (batches_of log) ≡ length (batches_of (log ++ e ∷ [])) = ap length (sym same) in
+    let journal' : AreJournalSteps (log ++ e ∷ []) = AreJournalSteps-same log e refl journal (refl, tt) in
+    let count : count_of log ≡ count_of (log ++ e ∷ []) = sym (count_from-append 0 log (e ∷ [])) in
+    let within : count_of log ≤ length (batches_of log) = omega (arith, count_from-le 0 0 log (omega arith) journal.order) in (
+      keeps,
+      e ∷ [],
+      None,
+      tt,
+      record { words = cc (count, length_is); journal = journal' },
+      inl (refl, refl),
+      (up_to v log e pre, omega (arith, within, length_is), journal'),
+    )
+
+-- whatever the steps are, the reading finds the last count
+pub reads_moves : (v : List JournalStep) (ask : JournalStep)
+    → Moves IsKeptHistory shown moved 1 (v, (no_nib, None)) (λ n. n) (Reads (step 1 0 0 ask) (v, (no_nib, None)))
+reads_moves v ask cs log kept pre away =
+    let P : List Cell → Type 0 = λ c. (1 < length c) × ((cell c 1).1 ≡ true) × Goes IsKeptHistory shown moved 1 (v, (no_nib, None)) (λ n. n) (Reads (step 1 0 0 ask) (v, (no_nib, None))) c log in
+    subst P (sym kept.words) (omega arith, refl, reads_goes log v ask kept.journal pre)

@@ -1,0 +1,87 @@
+//! The count of published batches, a word that threads share.
+ghost use Rattle.std.specs.Prelude.{◌≡◌, ◌<◌, ◌≤◌, length, MatchBool};
+ghost use Rattle.cspf_journal.specs.HistoryRule.{count_word};
+ghost use Rattle.cspf_journal.specs.JournalSteps.{batches_of, count_of, AreJournalSteps, AreStepsUpTo};
+ghost use Rattle.cspf_journal.specs.declared.journal_step.JournalStep.TheVariants.{Published, Read};
+
+use crate::history::{CountBatch, History, NoGain, ReadCount};
+use crate::journal_step::JournalStep;
+use logbook::{Offer, Seen, Word};
+use std::marker::Model;
+
+/// How many batches of a journal are published. Only the holder of its `RightToCount` moves it, by
+/// one for each batch. In clauses it is its journal's source: its value is known at steps alone.
+#[derive(Drop)]
+pub struct PublishedCount {
+    word: Word<JournalStep, u64, History>,
+}
+
+impl Model for PublishedCount {
+    ghost use Rattle.std.specs.Prelude.{◌≡◌};
+    ghost use Rattle.logbook.specs.Pages.{Book, book_coded};
+    ghost use Rattle.cspf_journal.specs.HistoryRule.{count_word};
+
+    ghost Value = { Book };
+
+    ghost coded = { book_coded };
+
+    ghost view = { λ c. c.word.book };
+
+    ghost invariant = { λ c. c.word ≡ count_word c.word.book };
+}
+
+impl PublishedCount {
+    /// The count that the word has.
+    pub(crate) fn new(word: Word<JournalStep, u64, History>) -> PublishedCount
+        requires { word ≡ count_word word.book }
+        ensures { result ≡ word.book }
+    {
+        PublishedCount { word }
+    }
+
+    /// Counts one more batch as published, by one step. Returns whether it did: the count was not
+    /// one less where it did not.
+    pub(crate) fn move_to(&self, count: u32, seen: &mut Seen<JournalStep, u64, History>) -> bool
+        requires source { seen.old.book ≡ self.now }
+        requires recorded { (0 < count) × (count ≤ length (batches_of seen.old.log)) }
+        ensures source { seen.new.book ≡ seen.old.book }
+        ensures counted { MatchBool result
+            (AreStepsUpTo seen.old.log seen.new.log (Published count)
+            × (count_of seen.new.log ≡ count) × AreJournalSteps seen.new.log)
+            (Unit {0}) }
+    {
+        let mut offer: Offer<JournalStep, u64, History, NoGain> = seen.plain::<
+            NoGain,
+            u32,
+            CountBatch,
+        >(&count);
+        let mut pen = seen.no_pen();
+        let old = u64::from(count - 1);
+        let found = self
+            .word
+            .compare_exchange::<CountBatch, NoGain>(
+                old,
+                u64::from(count),
+                seen,
+                &mut offer,
+                &mut pen,
+            );
+        found == old
+    }
+
+    /// Reads the count, by one step.
+    pub(crate) fn read(&self, seen: &mut Seen<JournalStep, u64, History>) -> u32
+        requires { seen.old.book ≡ self.now }
+        ensures source { seen.new.book ≡ seen.old.book }
+        ensures read { AreStepsUpTo seen.old.log seen.new.log (Read result) }
+        ensures recorded { result ≤ length (batches_of seen.new.log) }
+        ensures journal { AreJournalSteps seen.new.log }
+    {
+        let mut offer: Offer<JournalStep, u64, History, NoGain> = seen.plain::<
+            NoGain,
+            u32,
+            ReadCount,
+        >(&0);
+        self.word.load::<ReadCount, NoGain>(seen, &mut offer) as u32
+    }
+}

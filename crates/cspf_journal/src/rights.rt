@@ -1,0 +1,120 @@
+//! The rights to show the batches of a journal, and to count them as published.
+ghost use Rattle.std.specs.Prelude.{◌≡◌, length, MatchBool};
+ghost use Rattle.cspf_model.specs.Numbered.{NumberedChanges};
+ghost use Rattle.cspf_journal.specs.JournalSteps.{count_of};
+ghost use Rattle.cspf_journal.specs.KnownBatches.{known_with};
+
+use crate::known::Known;
+use crate::published_count::PublishedCount;
+use crate::seen_steps::SeenSteps;
+use std::marker::Model;
+
+/// The right to count the batches of a journal as published, one by one. Each journal gives one, and
+/// it can't be copied. Contracts see it as the batches that are counted.
+#[derive(Drop)]
+pub struct RightToCount {
+    known: Known,
+    steps: SeenSteps,
+}
+
+impl Model for RightToCount {
+    ghost use Rattle.std.specs.Prelude.{◌≡◌, length};
+    ghost use Rattle.cspf_journal.specs.JournalSteps.{count_of};
+    ghost use Rattle.cspf_journal.specs.KnownBatches.{KnownBatches};
+
+    ghost Value = { KnownBatches };
+
+    ghost view = { λ r. r.known };
+
+    ghost invariant = { λ r. (r.steps.source ≡ r.known.source)
+        × (count_of r.steps.steps ≡ length r.known.batches) };
+}
+
+impl RightToCount {
+    /// The right to count what comes after these batches.
+    pub(crate) fn new(known: Known, steps: SeenSteps) -> RightToCount
+        requires source { steps.source ≡ known.source }
+        requires count { count_of steps.steps ≡ length known.batches }
+        ensures { result ≡ known }
+    {
+        RightToCount { known, steps }
+    }
+
+    /// The batches that are counted.
+    pub(crate) fn known(&self) -> Known
+        ensures { result ≡ self.now }
+    {
+        self.known.copy()
+    }
+
+    /// Counts one more batch as published: the last of these, which is recorded. Returns whether it
+    /// did. It did not where the word has another count than this right has, which no run shows.
+    pub fn count(&mut self, word: &PublishedCount, published: &Known) -> bool
+        requires word { word.now ≡ self.old.source }
+        requires next { (b : NumberedChanges)
+            × (published.now ≡ known_with self.old.batches self.old.source b) }
+        ensures { MatchBool result (self.new ≡ published.now) (self.new ≡ self.old) }
+    {
+        let mut seen = self.steps.seen();
+        seen.learn(&published.seen());
+        if !word.move_to(published.version(), &mut seen) {
+            return false;
+        }
+        self.known = published.copy();
+        self.steps = SeenSteps::new(seen);
+        true
+    }
+
+    /// The steps up to the last count, after which the word had this count: that of the published
+    /// batches.
+    pub fn steps(&self) -> SeenSteps
+        ensures source { result.source ≡ self.now.source }
+        ensures count { count_of result.steps ≡ length self.now.batches }
+    {
+        self.steps.copy()
+    }
+}
+
+/// The right to show the batches of a journal. Each journal gives one, and it can't be copied.
+#[derive(Drop)]
+pub struct RightToShow {
+    right: RightToCount,
+    count: PublishedCount,
+}
+
+impl Model for RightToShow {
+    ghost use Rattle.std.specs.Prelude.{◌≡◌};
+    ghost use Rattle.cspf_journal.specs.KnownBatches.{KnownBatches};
+
+    ghost Value = { KnownBatches };
+
+    ghost view = { λ r. r.right };
+
+    ghost invariant = { λ r. r.count ≡ r.right.source };
+}
+
+impl RightToShow {
+    /// The right, and the count that it moves.
+    pub(crate) fn new(right: RightToCount, count: PublishedCount) -> RightToShow
+        requires { count ≡ right.source }
+        ensures { result ≡ right }
+    {
+        RightToShow { right, count }
+    }
+
+    /// What is known of the journal's list when it is new: no batch.
+    pub fn known(&self) -> Known
+        ensures { result ≡ self.now }
+    {
+        self.right.known()
+    }
+
+    /// The right to count what is shown, and the count that it moves.
+    pub fn split(self) -> (RightToCount, PublishedCount)
+        ensures right { result.0 ≡ self }
+        ensures count { result.1 ≡ self.source }
+    {
+        let RightToShow { right, count } = self;
+        (right, count)
+    }
+}

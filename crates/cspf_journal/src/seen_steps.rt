@@ -1,0 +1,63 @@
+//! The known first steps of a journal.
+ghost use Rattle.std.specs.Prelude.{◌≡◌};
+ghost use mathlib.Core.List.{IsPrefix};
+ghost use Rattle.cspf_journal.specs.JournalSteps.{AreJournalSteps};
+
+use crate::history::History;
+use crate::journal_step::JournalStep;
+use logbook::Seen;
+use std::marker::Model;
+
+/// The steps of a journal, from the first one up to one that was seen. It takes no room.
+#[derive(Drop)]
+pub struct SeenSteps {
+    seen: Seen<JournalStep, u64, History>,
+}
+
+impl Model for SeenSteps {
+    ghost use Rattle.cspf_journal.specs.JournalSteps.{KnownSteps, AreJournalSteps};
+
+    ghost Value = { KnownSteps };
+
+    ghost view = { λ s. record { steps = s.seen.log; source = s.seen.book } };
+
+    ghost invariant = { λ s. AreJournalSteps s.seen.log };
+}
+
+impl SeenSteps {
+    /// The steps that are seen.
+    pub(crate) fn new(seen: Seen<JournalStep, u64, History>) -> SeenSteps
+        requires { AreJournalSteps seen.log }
+        ensures { result ≡ record { steps = seen.log; source = seen.book } }
+    {
+        SeenSteps { seen }
+    }
+
+    /// The seen steps, for the next one.
+    pub(crate) fn seen(&self) -> Seen<JournalStep, u64, History>
+        ensures { (result.log ≡ self.now.steps) × (result.book ≡ self.now.source) }
+    {
+        self.seen.again()
+    }
+
+    /// A copy.
+    pub fn copy(&self) -> SeenSteps
+        ensures copy { result ≡ self.now }
+        ensures journal { AreJournalSteps self.now.steps }
+    {
+        SeenSteps {
+            seen: self.seen.again(),
+        }
+    }
+
+    /// Knows both its own steps and the other's from now on. One of them are a prefix of the
+    /// other.
+    pub fn learn(&mut self, other: &SeenSteps)
+        requires { other.now.source ≡ self.old.source }
+        ensures source { self.new.source ≡ self.old.source }
+        ensures own { IsPrefix self.old.steps self.new.steps }
+        ensures other { IsPrefix other.now.steps self.new.steps }
+    {
+        self.seen.learn(&other.seen);
+    }
+}
