@@ -1,10 +1,12 @@
 //! Askers, which answer requests from the published replica without waiting.
 
 ghost use Rattle.std.specs.Prelude.{◌≡◌, ◌⊎◌, length, IfOk, IfSome, IfNone, IfErr};
+ghost use Rattle.std.specs.Arc.{arc_value};
 ghost use Rattle.left_right.specs.Sides.{view};
 ghost use Rattle.cspf_publish.specs.Answers.{IsAnswerAfter, IsBestAfter};
 ghost use Rattle.cspf_journal.specs.Histories.{BeginsWith, IsHistory};
-ghost use Rattle.cspf_journal.specs.KnownBatches.{KnownBatches, AreFirstOf};
+ghost use Rattle.cspf_journal.specs.JournalSteps.{batches_of};
+ghost use Rattle.cspf_journal.specs.KnownBatches.{KnownBatches, AreFirstOf, CatchesUp};
 ghost use Rattle.cspf_publish.specs.ReplicaRule.{KnowsItsEntry};
 ghost use Rattle.cspf_publish.specs.declared.seat_view.SeatView.TheVariants.{Asker as IsAsker};
 
@@ -13,12 +15,13 @@ use crate::replica_rule::{Entry, ReplicaRule};
 use crate::seat_view::SeatView;
 use crate::{Answer, AskError, Told};
 use core::mem::replace_with;
-use cspf_journal::Known;
+use cspf_journal::{Known, PublishedCount, SeenSteps};
 use cspf_model::{Outcome, Request};
 use cspf_search::best;
 use left_right::reader::Reader;
 use std::alloc::{AllocError, Global};
 use std::marker::Model;
+use std::sync::Arc;
 
 /// A reader of the published replica.
 pub(crate) type ReplicaReader = Reader<Replica, SeatView, ReplicaRule>;
@@ -29,9 +32,12 @@ pub(crate) type ReplicaReader = Reader<Replica, SeatView, ReplicaRule>;
 pub struct Asker {
     reader: ReplicaReader,
     known: Known,
+    count: Arc<PublishedCount>,
 }
 
 impl Model for Asker {
+    ghost use Rattle.std.specs.Prelude.{◌≡◌};
+    ghost use Rattle.std.specs.Arc.{arc_value};
     ghost use Rattle.left_right.specs.Sides.{view as seen_by};
     ghost use Rattle.cspf_journal.specs.KnownBatches.{KnownBatches};
     ghost use Rattle.cspf_publish.specs.ReplicaRule.{KnowsItsEntry};
@@ -40,7 +46,8 @@ impl Model for Asker {
 
     ghost view = { λ a. a.known };
 
-    ghost invariant = { λ a. KnowsItsEntry (seen_by a.reader.place) a.known };
+    ghost invariant = { λ a. KnowsItsEntry (seen_by a.reader.place) a.known
+        × (arc_value a.count ≡ a.known.source) };
 }
 
 // One entry: the batches of the replica that was entered, and the result of the search in its
@@ -68,11 +75,16 @@ fn enter_and_search(
 }
 
 impl Asker {
-    pub(crate) fn new(reader: ReplicaReader, known: Known) -> Asker
-        requires { KnowsItsEntry (view reader.place) known }
+    pub(crate) fn new(reader: ReplicaReader, known: Known, count: Arc<PublishedCount>) -> Asker
+        requires entry { KnowsItsEntry (view reader.place) known }
+        requires count { arc_value count ≡ known.source }
         ensures { result ≡ known }
     {
-        Asker { reader, known }
+        Asker {
+            reader,
+            known,
+            count,
+        }
     }
 
     /// The best answer in the database of the last published version. After it the batches of that
@@ -140,5 +152,23 @@ impl Asker {
     {
         self.learn(told);
         self.seen()
+    }
+
+    /// Reads the count of published batches, by one step, and knows at least as many from now on.
+    /// The publisher moves the count once a batch is published. The steps end in the reading. It
+    /// takes no memory, and never blocks.
+    pub fn catch_up(&mut self, steps: &mut SeenSteps) -> u32
+        requires { steps.old.source ≡ self.old.source }
+        ensures { CatchesUp self.old self.new steps.old steps.new result }
+    {
+        self.known.catch_up(&self.count, steps)
+    }
+
+    /// Steps of the journal that record the known batches.
+    pub fn steps(&self) -> SeenSteps
+        ensures source { result.source ≡ self.now.source }
+        ensures recorded { BeginsWith (batches_of result.steps) self.now.batches }
+    {
+        self.known.steps()
     }
 }

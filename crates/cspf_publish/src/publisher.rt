@@ -7,11 +7,12 @@ ghost use Rattle.cspf_publish.specs.Answers.{IsAnswerAfter};
 ghost use Rattle.cspf_publish.specs.ApplyErrors.{IsApplyError, IsNextBatch};
 ghost use Rattle.cspf_rows.specs.BatchText.{batch_text};
 ghost use Rattle.cspf_journal.specs.Histories.{IsHistory, MayFollow};
+ghost use Rattle.cspf_journal.specs.JournalSteps.{count_of};
 ghost use Rattle.cspf_journal.specs.KnownBatches.{known_with};
 
 use crate::replicas::Replicas;
 use crate::{Answer, ApplyError, Asker, MOST_ASKERS, OpenError, Told};
-use cspf_journal::{JournalWriter, Known, NewJournal, NotRecorded};
+use cspf_journal::{JournalWriter, Known, NewJournal, NotRecorded, SeenSteps};
 use cspf_model::{Batch, MOST_VERSIONS, Request};
 use cspf_rows::batch_text;
 use std::alloc::{AllocError, Global};
@@ -104,40 +105,6 @@ pub fn open_over<W: Write, R: Wait>(
     Ok((Publisher { replicas, journal }, all))
 }
 
-// Records a batch. The error is how many bytes of its text were written. Nothing but the publisher
-// takes a step on the journal's list, so the first turn of the loop is the last one.
-fn record<W: Write, R: Wait>(
-    journal: &mut JournalWriter<W>,
-    rt: &R,
-    batch: &Batch,
-    text: &[u8],
-) -> Result<Known, usize>
-    requires going { journal.old.stopped ≡ false }
-    requires next { MayFollow journal.old.batches batch.now }
-    requires text { text.now ≡ batch_text batch.now }
-    ensures source { journal.new.source ≡ journal.old.source }
-    ensures going { OnOk result (journal.new.stopped ≡ false) }
-    ensures list { OnOk result (journal.new.batches ≡ journal.old.batches ++ batch.now ∷ []) }
-    ensures known { IfOk result (λ known.
-        known ≡ known_with journal.old.batches journal.old.source batch.now) }
-    ensures written { OnOk result (Appends
-        (W.contents journal.old.writer) (W.contents journal.new.writer) (batch_text batch.now)) }
-    ensures same { OnErr result (journal.new.batches ≡ journal.old.batches) }
-    ensures stopped { OnErr result (journal.new.stopped ≡ true) }
-    ensures cut { IfErr result (λ written. (written < length (batch_text batch.now)) × Appends
-        (W.contents journal.old.writer) (W.contents journal.new.writer)
-        (take written (batch_text batch.now))) }
-{
-    for _ in rt.forever() {
-        match journal.record(batch, text) {
-            Ok(known) => return Ok(known),
-            Err(NotRecorded::Writer { written }) => return Err(written),
-            Err(NotRecorded::Lost) => (),
-        }
-    }
-    unreachable!()
-}
-
 impl<W: Write> Publisher<W> {
     /// The published version: how many batches are published.
     pub fn version(&self) -> u32
@@ -175,8 +142,17 @@ impl<W: Write> Publisher<W> {
         self.replicas.tell()
     }
 
+    /// Returns the steps of the journal up to the last count of published batches. The count was
+    /// then this publisher's version, so an asker that reads it later reads no less.
+    pub fn steps(&self) -> SeenSteps
+        ensures source { result.source ≡ self.now.source }
+        ensures count { count_of result.steps ≡ length self.now.batches }
+    {
+        self.replicas.steps()
+    }
+
     /// Publishes a batch and returns the new version. The batch's text is first written whole to
-    /// the journal. May wait for askers that are inside a call. The errors are checked in their
+    /// the journal. Once the batch is published, the count that askers read is the new version. May wait for askers that are inside a call. The errors are checked in their
     /// order.
     pub fn apply<R: Wait>(
         &mut self,
@@ -215,9 +191,11 @@ impl<W: Write> Publisher<W> {
         let Ok(copy) = batch.copy(alloc) else {
             return Err(ApplyError::Memory);
         };
-        match record(&mut self.journal, rt, batch, text.as_slice()) {
+        // Nothing but the publisher takes a step on the journal's list, so no run shows `Lost`.
+        match self.journal.record(batch, text.as_slice()) {
             Ok(recorded) => Ok(self.replicas.publish(rt, copy, recorded)),
-            Err(written) => Err(ApplyError::Journal { written }),
+            Err(NotRecorded::Writer { written }) => Err(ApplyError::Journal { written }),
+            Err(NotRecorded::Lost) => Err(ApplyError::Memory),
         }
     }
 

@@ -1,6 +1,8 @@
 //! Both replicas of the table.
 ghost use Rattle.std.specs.Prelude.{◌≡◌, ◌<◌, ◌≤◌, ◌++◌, [], ◌∷◌, true, false, length, drop, All, IfOk, OnOk, IfErr, vec_len, vec_capacity};
+ghost use Rattle.std.specs.Arc.{arc_value};
 ghost use Rattle.left_right.specs.Sides.{view};
+ghost use Rattle.cspf_journal.specs.JournalSteps.{count_of};
 ghost use Rattle.cspf_model.specs.Numbered.{NumberedChanges};
 ghost use Rattle.cspf_model.specs.Changes.{no_links, database_after, Fits};
 ghost use Rattle.cspf_model.specs.Refusals.{IsRefusal};
@@ -19,25 +21,27 @@ use crate::seat_view::SeatView;
 use crate::{Asker, Told};
 use core::mem::replace_with;
 use cspf_db::Table;
-use cspf_journal::{Known, RightToShow};
+use cspf_journal::{Known, PublishedCount, RightToCount, RightToShow, SeenSteps};
 use cspf_model::{Batch, Outcome, Refusal, Request, absorbing, lawful_batches};
 use cspf_search::best;
 use left_right::writer::Writer;
 use std::alloc::{AllocError, Global};
 use std::marker::Model;
-use std::sync::Wait;
+use std::sync::{Arc, Wait};
 
 type ReplicaWriter = Writer<Replica, PendingBatch, SeatView, ReplicaRule>;
 
-/// A pair of replicas. It holds the one right to show its source's batches, so a source has one
-/// pair. It is not `Drop`: end it by `close`.
+/// A pair of replicas, and the count of the batches that they show. It holds the one right to count
+/// its source's batches, so a source has one pair. It is not `Drop`: end it by `close`.
 pub(crate) struct Replicas {
     writer: ReplicaWriter,
-    right: RightToShow,
+    right: RightToCount,
+    count: Arc<PublishedCount>,
 }
 
 impl Model for Replicas {
     ghost use Rattle.std.specs.Prelude.{◌≡◌, [], drop};
+    ghost use Rattle.std.specs.Arc.{arc_value};
     ghost use Rattle.left_right.specs.Sides.{view as seen_by};
     ghost use Rattle.cspf_journal.specs.KnownBatches.{KnownBatches};
     ghost use Rattle.cspf_publish.specs.ReplicaStates.{published_state};
@@ -51,7 +55,8 @@ impl Model for Replicas {
         ≡ published_state r.writer.desk.shown.value.known)
         × (seen_by r.writer.desk.place ≡ Publisher r.writer.desk.shown.value.known)
         × (drop r.writer.behind r.writer.log.items ≡ [])
-        × (r.right.source ≡ r.writer.desk.shown.value.known.source) };
+        × (r.right ≡ r.writer.desk.shown.value.known)
+        × (arc_value r.count ≡ r.writer.desk.shown.value.known.source) };
 }
 
 // The first step, which changes no table. From now on the writer's seat knows the published
@@ -160,6 +165,40 @@ fn new_reader<R: Wait>(writer: &ReplicaWriter, rt: &R) -> ReplicaReader
     unreachable!()
 }
 
+// A reference to the count for one more asker. There are far fewer than an `Arc` may have, so the
+// first turn of the loop is the last one.
+fn share<R: Wait>(count: &Arc<PublishedCount>, rt: &R) -> Arc<PublishedCount>
+    ensures { arc_value result ≡ arc_value count.now }
+{
+    for _ in rt.forever() {
+        if let Ok(shared) = Arc::try_clone(count) {
+            return shared;
+        }
+    }
+    unreachable!()
+}
+
+// Counts a batch as published: the last one of the replica that askers enter. Nothing else moves
+// the count, so the first turn of the loop is the last one.
+fn count_shown<R: Wait>(
+    right: &mut RightToCount,
+    rt: &R,
+    count: &PublishedCount,
+    writer: &ReplicaWriter,
+)
+    requires count { count.now ≡ right.old.source }
+    requires next { (b : NumberedChanges) × (writer.now.desk.shown.value.known
+        ≡ known_with right.old.batches right.old.source b) }
+    ensures { right.new ≡ writer.now.desk.shown.value.known }
+{
+    for _ in rt.forever() {
+        if right.count(count, &writer.published().known) {
+            return;
+        }
+    }
+    unreachable!()
+}
+
 impl Replicas {
     /// Two empty replicas. The writer's log grows only here. Later it never has more than two
     /// operations.
@@ -174,6 +213,8 @@ impl Replicas {
         ensures { IfOk result (λ r. r ≡ right) }
     {
         let known = right.known();
+        let (right, count) = right.split();
+        let count = Arc::new(alloc, count)?;
         let first = empty_replica(alloc, &known)?;
         let second = empty_replica(alloc, &known)?;
         let mut writer: ReplicaWriter = Writer::new(alloc, first, second, readers)?;
@@ -188,6 +229,7 @@ impl Replicas {
         Ok(Replicas {
             writer: open_writer(writer, rt),
             right,
+            count,
         })
     }
 
@@ -211,7 +253,7 @@ impl Replicas {
     {
         let mut reader = new_reader(&self.writer, rt);
         reader.learn::<FirstNote>(self.writer.tell::<FirstNote>());
-        Asker::new(reader, self.known())
+        Asker::new(reader, self.known(), share(&self.count, rt))
     }
 
     // The batches that are published.
@@ -245,7 +287,7 @@ impl Replicas {
         best(alloc, &self.writer.published().table, request)
     }
 
-    /// Publishes a batch that is recorded, and returns the new version.
+    /// Publishes a batch that is recorded, counts it as published, and returns the new version.
     pub(crate) fn publish<R: Wait>(&mut self, rt: &R, batch: Batch, recorded: Known) -> u32
         requires next { MayFollow self.old.batches batch }
         requires recorded { recorded ≡ known_with self.old.batches self.old.source batch }
@@ -257,7 +299,17 @@ impl Replicas {
             known: recorded,
         };
         append(&mut self.writer, rt, next);
-        replace_with(&mut self.writer, rt, swap_replicas::<R>)
+        let version = replace_with(&mut self.writer, rt, swap_replicas::<R>);
+        count_shown(&mut self.right, rt, &self.count, &self.writer);
+        version
+    }
+
+    /// The steps of the journal up to the last count, which is that of the published batches.
+    pub(crate) fn steps(&self) -> SeenSteps
+        ensures source { result.source ≡ self.now.source }
+        ensures count { count_of result.steps ≡ length self.now.batches }
+    {
+        self.right.steps()
     }
 
     /// A token of the published batches.
@@ -274,6 +326,7 @@ impl Replicas {
         let Replicas {
             writer,
             right: _right,
+            count: _count,
         } = self;
         let shown = writer.take(rt);
         shown.known.copy()

@@ -8,5 +8,5 @@ tell-requires g c = forks _ _
 pub learn-requires-clause-rule : goal.learn-requires-clause-rule
 learn-requires-clause-rule g c = merges _ _ _ _
 
-pub new-requires : goal.new-requires
-new-requires g c = record { entered = c.known.result; seat = search rules; first = AreFirstOf-self c.known.result }
+pub new-requires-clause-entry : goal.new-requires-clause-entry
+new-requires-clause-entry g c = record { entered = c.known.result; seat = search rules; first = AreFirstOf-self c.known.result }

@@ -1,8 +1,8 @@
 use Rattle.std.proofs.Common.{◌≡◌}
-use Rattle.cspf_publish.proofs.publisher.record.Given as goal
+use Rattle.cspf_publish.proofs.replicas.count_shown.Given as goal
 
 -- nothing changed
 abbrev pub invariant-loop : goal.invariant-loop
 invariant-loop g l =
     (goal.iterator-loop g).can_next l.iterator' × (goal.iterator-loop g).is_finite l.iterator'
-    × (l.journal ≡ l.fn.journal)
+    × (l.right ≡ l.fn.right)
