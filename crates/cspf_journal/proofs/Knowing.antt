@@ -1,5 +1,5 @@
 -- What is known of a list of batches by the steps that record them.
-use Rattle.std.proofs.Common.{◌≡◌, ◌≤◌, ◌⊎◌, ℕ, List, [], ◌∷◌, ◌++◌, length, take, inl, inr, refl, sym, ap, subst, ◌∙◌, arith, append_assoc, ⊎_elim}
+use Rattle.std.proofs.Common.{◌≡◌, ◌≤◌, ◌⊎◌, ℕ, zero, suc, max, List, [], ◌∷◌, ◌++◌, length, take, inl, inr, refl, sym, ap, subst, ◌∙◌, arith, append_assoc, ⊎_elim}
 use Rattle.std.proofs.lemmas.List.{length-take-le}
 use mathlib.Core.List.{IsPrefix}
 use Rattle.cspf_model.specs.Laws.{FirstBatchesAreLawful}
@@ -25,6 +25,12 @@ IsPrefix-up_to first seen steps e pre up =
 -- a version that a count raised where the count was larger
 abbrev pub IsRaised : ℕ → ℕ → ℕ → Type 0
 IsRaised version count raised = ((raised ≡ version) × (count ≤ version)) ⊎ ((raised ≡ count) × (version ≤ count))
+
+pub IsRaised-max : (version count : ℕ) → IsRaised version count (max version count)
+IsRaised-max zero count = inr (omega arith, omega arith)
+IsRaised-max (suc version) zero = inl (omega arith, omega arith)
+IsRaised-max (suc version) (suc count) =
+    ⊎_elim (λ (t : (max version count ≡ version) × (count ≤ version)). inl (omega (arith, t.0), omega (arith, t.1))) (λ (t : (max version count ≡ count) × (version ≤ count)). inr (omega (arith, t.0), omega (arith, t.1))) (IsRaised-max version count)
 
 pub raised-within : (version count raised : ℕ) (own steps : List JournalStep) → IsRaised version count raised → version ≤ length (batches_of own) → IsPrefix own steps → count ≤ length (batches_of steps)
     → raised ≤ length (batches_of steps)

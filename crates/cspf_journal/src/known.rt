@@ -103,9 +103,7 @@ impl Known {
         let mut seen = steps.seen();
         seen.learn(&self.seen);
         let published = count.read(&mut seen);
-        if published > self.version {
-            self.version = published;
-        }
+        self.version = self.version.max(published);
         self.seen = seen.again();
         *steps = SeenSteps::new(seen);
         published
