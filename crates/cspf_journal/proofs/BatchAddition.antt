@@ -10,24 +10,24 @@ use Rattle.cspf_model.specs.Laws.{LawfulByOneMore}
 use Rattle.cspf_journal.specs.Histories.{BeginsWith, IsHistory, MayFollow}
 use Rattle.cspf_journal.specs.HistoryRule.{IsKeptHistory, Adds}
 use Rattle.cspf_journal.specs.JournalSteps.{batches_of, count_of, AreJournalSteps}
-use Rattle.cspf_journal.specs.declared.journal_step.JournalStep.{JournalStep}
-use Rattle.cspf_journal.specs.declared.journal_step.JournalStep.TheVariants.{Recorded}
+use Rattle.cspf_journal.specs.declared.log_step.LogStep.{LogStep}
+use Rattle.cspf_journal.specs.declared.log_step.LogStep.TheVariants.{Recorded}
 use Rattle.cspf_journal.proofs.Prefixes.{BeginsWith-trans, length-prefix, all_of, IsHistory-snoc}
 use Rattle.cspf_journal.proofs.JournalSteps.{batches_of-append, batches_of-prefix, count_from-append, AreOrderedFrom-append}
 
 -- what clients see of the steps: nothing
-abbrev pub shown : List JournalStep → List JournalStep
+abbrev pub shown : List LogStep → List LogStep
 shown log = []
 
 -- what a step shows them: nothing
-abbrev pub moved : List JournalStep → List JournalStep → ℕ → Type 0
+abbrev pub moved : List LogStep → List LogStep → ℕ → Type 0
 moved xs ys n = Unit {0}
 
 -- the rule where a step changes nothing
-pub IsKeptHistory-same : (cells : List Cell) (log : List JournalStep) → IsKeptHistory cells log → IsKeptHistory cells (log ++ [])
+pub IsKeptHistory-same : (cells : List Cell) (log : List LogStep) → IsKeptHistory cells log → IsKeptHistory cells (log ++ [])
 IsKeptHistory-same cells log = subst (IsKeptHistory cells) (sym (append-nil log))
 
-adds_goes : LawfulByOneMore → (log v : List JournalStep) (first : List NumberedChanges) (e : NumberedChanges) (old : ℕ) → length first ≡ old → BeginsWith (batches_of v) first → MayFollow first e → AreJournalSteps log → IsPrefix v log → (b : Bool) → (length (batches_of log) == old) ≡ b
+adds_goes : LawfulByOneMore → (log v : List LogStep) (first : List NumberedChanges) (e : NumberedChanges) (old : ℕ) → length first ≡ old → BeginsWith (batches_of v) first → MayFollow first e → AreJournalSteps log → IsPrefix v log → (b : Bool) → (length (batches_of log) == old) ≡ b
     → Goes IsKeptHistory shown moved 0 (v, (no_nib, None)) (λ n. either (n == old) (old + 1) n) (Adds (step 0 old (old + 1) (Recorded e)) (v, (no_nib, None))) ((length (batches_of log), true) ∷ (count_of log, true) ∷ []) log
 adds_goes law log v first e old len known next journal pre true is =
     let here : length (batches_of log) ≡ old = grind (arith, nat_tests) in
@@ -59,7 +59,7 @@ adds_goes law log v first e old len known next journal pre false is =
     )
 
 -- whatever the steps are, the exchange adds the batch to all that was recorded, or finds a longer list
-pub adds_moves : LawfulByOneMore → (v : List JournalStep) (first : List NumberedChanges) (e : NumberedChanges) (old : ℕ) → length first ≡ old → BeginsWith (batches_of v) first → MayFollow first e
+pub adds_moves : LawfulByOneMore → (v : List LogStep) (first : List NumberedChanges) (e : NumberedChanges) (old : ℕ) → length first ≡ old → BeginsWith (batches_of v) first → MayFollow first e
     → Moves IsKeptHistory shown moved 0 (v, (no_nib, None)) (λ n. either (n == old) (old + 1) n) (Adds (step 0 old (old + 1) (Recorded e)) (v, (no_nib, None)))
 adds_moves law v first e old len known next cs log kept pre away =
     let P : List Cell → Type 0 = λ c. (0 < length c) × ((cell c 0).1 ≡ true) × Goes IsKeptHistory shown moved 0 (v, (no_nib, None)) (λ n. either (n == old) (old + 1) n) (Adds (step 0 old (old + 1) (Recorded e)) (v, (no_nib, None))) c log in

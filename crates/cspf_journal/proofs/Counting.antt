@@ -8,24 +8,24 @@ use Rattle.logbook.specs.Pages.{Cell, cell, keeps, no_nib, step, Moves, Goes}
 use Rattle.cspf_model.specs.Numbered.{NumberedChanges}
 use Rattle.cspf_journal.specs.HistoryRule.{IsKeptHistory, CountsOneMore, Reads}
 use Rattle.cspf_journal.specs.JournalSteps.{batches_of, count_of, AreJournalSteps, AreStepsUpTo}
-use Rattle.cspf_journal.specs.declared.journal_step.JournalStep.{JournalStep}
-use Rattle.cspf_journal.specs.declared.journal_step.JournalStep.TheVariants.{Published, Read}
+use Rattle.cspf_journal.specs.declared.log_step.LogStep.{LogStep}
+use Rattle.cspf_journal.specs.declared.log_step.LogStep.TheVariants.{Published, Read}
 use Rattle.cspf_journal.proofs.BatchAddition.{shown, moved, IsKeptHistory-same}
 use Rattle.cspf_journal.proofs.Prefixes.{length-prefix}
 use Rattle.cspf_journal.proofs.JournalSteps.{batches_of-append, batches_of-prefix, count_from-append, count_from-le, AreJournalSteps-same}
 
 -- a step after all that were seen
-up_to : (v log : List JournalStep) (e : JournalStep) → IsPrefix v log → AreStepsUpTo v (log ++ e ∷ []) e
-up_to v log e pre = (pre.0, ap (λ (w : List JournalStep). w ++ e ∷ []) (sym pre.1))
+up_to : (v log : List LogStep) (e : LogStep) → IsPrefix v log → AreStepsUpTo v (log ++ e ∷ []) e
+up_to v log e pre = (pre.0, ap (λ (w : List LogStep). w ++ e ∷ []) (sym pre.1))
 
 -- as many batches are recorded after a step that records none
-recorded-same : (log : List JournalStep) (e : JournalStep) → batches_of (e ∷ []) ≡ [] → batches_of (log ++ e ∷ []) ≡ batches_of log
+recorded-same : (log : List LogStep) (e : LogStep) → batches_of (e ∷ []) ≡ [] → batches_of (log ++ e ∷ []) ≡ batches_of log
 recorded-same log e none = batches_of-append log (e ∷ []) ∙ (ap (λ (w : List NumberedChanges). batches_of log ++ w) none ∙ append-nil (batches_of log))
 
-counts_goes : (log v : List JournalStep) (old new : ℕ) → new ≡ old + 1 → new ≤ length (batches_of v) → AreJournalSteps log → IsPrefix v log → (b : Bool) → (count_of log == old) ≡ b
+counts_goes : (log v : List LogStep) (old new : ℕ) → new ≡ old + 1 → new ≤ length (batches_of v) → AreJournalSteps log → IsPrefix v log → (b : Bool) → (count_of log == old) ≡ b
     → Goes IsKeptHistory shown moved 1 (v, (no_nib, None)) (λ n. either (n == old) new n) (CountsOneMore (step 1 old new (Published new)) (v, (no_nib, None))) ((length (batches_of log), true) ∷ (count_of log, true) ∷ []) log
 counts_goes log v old new one within journal pre true is =
-    let e : JournalStep = Published new in
+    let e : LogStep = Published new in
     let here : count_of log ≡ old = grind (arith, nat_tests) in
     let room : new ≤ length (batches_of log) = omega (arith, within, length-prefix (batches_of log) (batches_of v) (batches_of-prefix v log pre)) in
     let same : batches_of log ≡ batches_of (log ++ e ∷ []) = sym (recorded-same log e refl) in
@@ -53,16 +53,16 @@ counts_goes log v old new one within journal pre false is =
     )
 
 -- whatever the steps are, the exchange counts a batch that was seen recorded, or finds another count
-pub counts_moves : (v : List JournalStep) (old new : ℕ) → new ≡ old + 1 → new ≤ length (batches_of v)
+pub counts_moves : (v : List LogStep) (old new : ℕ) → new ≡ old + 1 → new ≤ length (batches_of v)
     → Moves IsKeptHistory shown moved 1 (v, (no_nib, None)) (λ n. either (n == old) new n) (CountsOneMore (step 1 old new (Published new)) (v, (no_nib, None)))
 counts_moves v old new one within cs log kept pre away =
     let P : List Cell → Type 0 = λ c. (1 < length c) × ((cell c 1).1 ≡ true) × Goes IsKeptHistory shown moved 1 (v, (no_nib, None)) (λ n. either (n == old) new n) (CountsOneMore (step 1 old new (Published new)) (v, (no_nib, None))) c log in
     subst P (sym kept.words) (omega arith, refl, counts_goes log v old new one within kept.journal pre (count_of log == old) refl)
 
-reads_goes : (log v : List JournalStep) (ask : JournalStep) → AreJournalSteps log → IsPrefix v log
+reads_goes : (log v : List LogStep) (ask : LogStep) → AreJournalSteps log → IsPrefix v log
     → Goes IsKeptHistory shown moved 1 (v, (no_nib, None)) (λ n. n) (Reads (step 1 0 0 ask) (v, (no_nib, None))) ((length (batches_of log), true) ∷ (count_of log, true) ∷ []) log
 reads_goes log v ask journal pre =
-    let e : JournalStep = Read (count_of log) in
+    let e : LogStep = Read (count_of log) in
     let same : batches_of (log ++ e ∷ []) ≡ batches_of log = recorded-same log e refl in
     let length_is : length (batches_of log) ≡ length (batches_of (log ++ e ∷ [])) = ap length (sym same) in
     let journal' : AreJournalSteps (log ++ e ∷ []) = AreJournalSteps-same log e refl journal (refl, tt) in
@@ -78,7 +78,7 @@ reads_goes log v ask journal pre =
     )
 
 -- whatever the steps are, the reading finds the last count
-pub reads_moves : (v : List JournalStep) (ask : JournalStep)
+pub reads_moves : (v : List LogStep) (ask : LogStep)
     → Moves IsKeptHistory shown moved 1 (v, (no_nib, None)) (λ n. n) (Reads (step 1 0 0 ask) (v, (no_nib, None)))
 reads_moves v ask cs log kept pre away =
     let P : List Cell → Type 0 = λ c. (1 < length c) × ((cell c 1).1 ≡ true) × Goes IsKeptHistory shown moved 1 (v, (no_nib, None)) (λ n. n) (Reads (step 1 0 0 ask) (v, (no_nib, None))) c log in

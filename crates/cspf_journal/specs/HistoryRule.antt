@@ -3,12 +3,12 @@ use Rattle.std.specs.Prelude.{ℕ, ◌≡◌, ◌==◌, ◌≤◌, true, List, [
 use Rattle.logbook.specs.Pages.{Cell, Step, View, Book, Named}
 use Rattle.cspf_journal.specs.Histories.{IsHistory}
 use Rattle.cspf_journal.specs.JournalSteps.{batches_of, count_of, AreOrderedFrom, AreJournalSteps, AreStepsUpTo}
-use Rattle.cspf_journal.specs.declared.journal_step.JournalStep.{JournalStep}
-use Rattle.cspf_journal.specs.declared.journal_step.JournalStep.TheVariants.{Read}
+use Rattle.cspf_journal.specs.declared.log_step.LogStep.{LogStep}
+use Rattle.cspf_journal.specs.declared.log_step.LogStep.TheVariants.{Read}
 
 -- The first word is how many batches are recorded, and the second how many are published. The steps
 -- are those of one journal.
-pub record IsKeptHistory (cells : List Cell) (steps : List JournalStep) : Type 0 where
+pub record IsKeptHistory (cells : List Cell) (steps : List LogStep) : Type 0 where
   pub words : cells ≡ (length (batches_of steps), true) ∷ (count_of steps, true) ∷ []
   pub journal : AreJournalSteps steps
 
@@ -21,17 +21,17 @@ abbrev pub count_word : Book → Named
 count_word source = record { tracked = true; key = 1; book = source }
 
 -- where the length was as expected, the batch was added to all that had been recorded
-abbrev pub Adds : Step JournalStep → View JournalStep ℕ → ℕ → View JournalStep ℕ → Type 0
+abbrev pub Adds : Step LogStep → View LogStep ℕ → ℕ → View LogStep ℕ → Type 0
 Adds s v found w = MatchBool (found == s.old)
     ((length (batches_of v.0) ≡ found) × (batches_of w.0 ≡ batches_of v.0 ++ batches_of (s.ask ∷ [])) × AreJournalSteps w.0)
     (Unit {0})
 
 -- where the count was as expected, one more batch is published
-abbrev pub CountsOneMore : Step JournalStep → View JournalStep ℕ → ℕ → View JournalStep ℕ → Type 0
+abbrev pub CountsOneMore : Step LogStep → View LogStep ℕ → ℕ → View LogStep ℕ → Type 0
 CountsOneMore s v found w = MatchBool (found == s.old)
     (AreStepsUpTo v.0 w.0 s.ask × (count_of w.0 ≡ s.new) × AreJournalSteps w.0)
     (Unit {0})
 
 -- the reading is a step of its own, and as many batches are recorded as it finds published
-abbrev pub Reads : Step JournalStep → View JournalStep ℕ → ℕ → View JournalStep ℕ → Type 0
+abbrev pub Reads : Step LogStep → View LogStep ℕ → ℕ → View LogStep ℕ → Type 0
 Reads s v found w = AreStepsUpTo v.0 w.0 (Read found) × (found ≤ length (batches_of w.0)) × AreJournalSteps w.0

@@ -3,30 +3,30 @@ use Rattle.std.specs.Prelude.{◌≡◌, ℕ, ◌+◌, ◌≤◌, List, [], ◌�
 use Rattle.cspf_model.specs.Numbered.{NumberedChanges}
 use Rattle.logbook.specs.Pages.{Book}
 use Rattle.cspf_journal.specs.Histories.{IsHistory}
-use Rattle.cspf_journal.specs.declared.journal_step.JournalStep.{JournalStep}
-use Rattle.cspf_journal.specs.declared.journal_step.JournalStep.TheVariants.{Recorded, Published, Read}
+use Rattle.cspf_journal.specs.declared.log_step.LogStep.{LogStep}
+use Rattle.cspf_journal.specs.declared.log_step.LogStep.TheVariants.{Recorded, Published, Read}
 
 -- the batches that the steps record, in order
-abbrev pub batches_of : List JournalStep → List NumberedChanges
+abbrev pub batches_of : List LogStep → List NumberedChanges
 batches_of [] = []
 batches_of (Recorded b ∷ steps) = b ∷ batches_of steps
 batches_of (Published count ∷ steps) = batches_of steps
 batches_of (Read count ∷ steps) = batches_of steps
 
 -- how many batches are published after the steps, where this many were before
-abbrev pub count_from : ℕ → List JournalStep → ℕ
+abbrev pub count_from : ℕ → List LogStep → ℕ
 count_from before [] = before
 count_from before (Recorded b ∷ steps) = count_from before steps
 count_from before (Published count ∷ steps) = count_from count steps
 count_from before (Read count ∷ steps) = count_from before steps
 
 -- how many batches the steps publish
-abbrev pub count_of : List JournalStep → ℕ
+abbrev pub count_of : List LogStep → ℕ
 count_of steps = count_from 0 steps
 
 -- Where this many batches are recorded and published before the steps: each count is one more than the
 -- last one, and a batch is recorded before it is counted. Each reading finds the last count.
-abbrev pub AreOrderedFrom : ℕ → ℕ → List JournalStep → Type 0
+abbrev pub AreOrderedFrom : ℕ → ℕ → List LogStep → Type 0
 AreOrderedFrom recorded published [] = Unit {0}
 AreOrderedFrom recorded published (Recorded b ∷ steps) = AreOrderedFrom (recorded + 1) published steps
 AreOrderedFrom recorded published (Published count ∷ steps) =
@@ -35,23 +35,15 @@ AreOrderedFrom recorded published (Read count ∷ steps) =
     (count ≡ published) × AreOrderedFrom recorded published steps
 
 -- The steps of one journal from its first on.
-pub record AreJournalSteps (steps : List JournalStep) : Type 0 where
+pub record AreJournalSteps (steps : List LogStep) : Type 0 where
   pub history : IsHistory (batches_of steps)
   pub order : AreOrderedFrom 0 0 steps
 
 -- steps that were seen, from the first on, and whose journal's they are
 pub record KnownSteps : Type 0 where
-  pub steps : List JournalStep
+  pub steps : List LogStep
   pub source : Book
 
 -- the steps after are those before, perhaps others, and then this one
-abbrev pub AreStepsUpTo : List JournalStep → List JournalStep → JournalStep → Type 0
-AreStepsUpTo before after step = (others : List JournalStep) × (after ≡ (before ++ others) ++ step ∷ [])
-
--- A reading that comes after a count finds at least that count. The batches up to the number that it
--- finds were recorded before it.
-abbrev pub ReadingsFindCounts : Type 0
-ReadingsFindCounts =
-    (before between : List JournalStep) (count found : ℕ)
-    → AreJournalSteps (before ++ Published count ∷ between ++ Read found ∷ [])
-    → (count ≤ found) × (found ≤ length (batches_of (before ++ Published count ∷ between)))
+abbrev pub AreStepsUpTo : List LogStep → List LogStep → LogStep → Type 0
+AreStepsUpTo before after step = (others : List LogStep) × (after ≡ (before ++ others) ++ step ∷ [])

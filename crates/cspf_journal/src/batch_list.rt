@@ -5,8 +5,8 @@ ghost use Rattle.cspf_journal.specs.HistoryRule.{length_word};
 ghost use Rattle.cspf_journal.specs.KnownBatches.{known_with};
 
 use crate::history::{AddBatch, History, NoGain};
-use crate::journal_step::JournalStep;
 use crate::known::Known;
+use crate::log_step::LogStep;
 use crate::published_count::PublishedCount;
 use crate::rights::{RightToCount, RightToShow};
 use crate::seen_steps::SeenSteps;
@@ -15,7 +15,7 @@ use logbook::{Offer, Seen, Start, Word};
 use std::marker::Model;
 
 /// The word that the journal moves: the length of the list.
-type LengthWord = Word<JournalStep, u64, History>;
+type LengthWord = Word<LogStep, u64, History>;
 
 /// The batches of a list that are kept. Batches are added only through this value.
 #[derive(Drop)]
@@ -61,11 +61,9 @@ impl BatchList {
         // A law: one more batch that fits keeps the list lawful.
         lawful_batches();
         let mut seen = self.kept.seen();
-        let mut offer: Offer<JournalStep, u64, History, NoGain> = seen.plain::<
-            NoGain,
-            Batch,
-            AddBatch,
-        >(batch);
+        let mut offer: Offer<LogStep, u64, History, NoGain> = seen.plain::<NoGain, Batch, AddBatch>(
+            batch,
+        );
         let mut pen = seen.no_pen();
         let old = self.kept.version() as u64;
         let found = self

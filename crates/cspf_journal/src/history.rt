@@ -1,6 +1,6 @@
 //! The steps of a journal, which exist in proofs alone. What is shared is how many batches are
 //! recorded, and how many are published.
-use crate::journal_step::JournalStep;
+use crate::log_step::LogStep;
 use cspf_model::Batch;
 use logbook::{Gain, Plain, Play, Rule};
 
@@ -8,7 +8,7 @@ use logbook::{Gain, Plain, Play, Rule};
 /// how many there are.
 pub struct History;
 
-impl Rule<JournalStep, u64> for History {
+impl Rule<LogStep, u64> for History {
     ghost use Rattle.std.specs.Prelude.{[]};
     ghost use base.Fml.{ftrue};
     ghost use Rattle.cspf_journal.specs.HistoryRule.{IsKeptHistory};
@@ -29,7 +29,7 @@ impl Rule<JournalStep, u64> for History {
 /// Callers keep only the steps.
 pub struct NoGain;
 
-impl Gain<JournalStep, u64> for NoGain {
+impl Gain<LogStep, u64> for NoGain {
     ghost use base.Fml.{ftrue};
 
     ghost after = { λ names about answer. ftrue };
@@ -38,16 +38,16 @@ impl Gain<JournalStep, u64> for NoGain {
 /// The step that adds a batch.
 pub struct AddBatch;
 
-impl Play<JournalStep, u64> for AddBatch {
+impl Play<LogStep, u64> for AddBatch {
     ghost use Rattle.cspf_journal.specs.HistoryRule.{Adds};
 
     ghost then = { Adds };
 }
 
 /// The step takes the batch.
-impl Plain<Batch, JournalStep, u64> for AddBatch {
+impl Plain<Batch, LogStep, u64> for AddBatch {
     ghost use Rattle.std.specs.Prelude.{None};
-    ghost use Rattle.cspf_journal.specs.declared.journal_step.JournalStep.TheVariants.{Recorded};
+    ghost use Rattle.cspf_journal.specs.declared.log_step.LogStep.TheVariants.{Recorded};
 
     ghost ask = { λ batch. Recorded batch };
 
@@ -57,16 +57,16 @@ impl Plain<Batch, JournalStep, u64> for AddBatch {
 /// The step that counts one more batch as published.
 pub struct CountBatch;
 
-impl Play<JournalStep, u64> for CountBatch {
+impl Play<LogStep, u64> for CountBatch {
     ghost use Rattle.cspf_journal.specs.HistoryRule.{CountsOneMore};
 
     ghost then = { CountsOneMore };
 }
 
 /// The step takes the count.
-impl Plain<u32, JournalStep, u64> for CountBatch {
+impl Plain<u32, LogStep, u64> for CountBatch {
     ghost use Rattle.std.specs.Prelude.{None};
-    ghost use Rattle.cspf_journal.specs.declared.journal_step.JournalStep.TheVariants.{Published};
+    ghost use Rattle.cspf_journal.specs.declared.log_step.LogStep.TheVariants.{Published};
 
     ghost ask = { λ count. Published count };
 
@@ -76,16 +76,16 @@ impl Plain<u32, JournalStep, u64> for CountBatch {
 /// The step that reads the count.
 pub struct ReadCount;
 
-impl Play<JournalStep, u64> for ReadCount {
+impl Play<LogStep, u64> for ReadCount {
     ghost use Rattle.cspf_journal.specs.HistoryRule.{Reads};
 
     ghost then = { Reads };
 }
 
 /// The step takes a number that it doesn't use: the count is the one that it finds.
-impl Plain<u32, JournalStep, u64> for ReadCount {
+impl Plain<u32, LogStep, u64> for ReadCount {
     ghost use Rattle.std.specs.Prelude.{None};
-    ghost use Rattle.cspf_journal.specs.declared.journal_step.JournalStep.TheVariants.{Read};
+    ghost use Rattle.cspf_journal.specs.declared.log_step.LogStep.TheVariants.{Read};
 
     ghost ask = { λ count. Read count };
 

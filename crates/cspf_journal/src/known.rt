@@ -2,10 +2,10 @@
 ghost use Rattle.std.specs.Prelude.{◌≡◌, ◌<◌, length, MatchBool};
 ghost use Rattle.cspf_journal.specs.Histories.{BeginsWith, IsHistory};
 ghost use Rattle.cspf_journal.specs.JournalSteps.{batches_of};
-ghost use Rattle.cspf_journal.specs.KnownBatches.{CatchesUp};
+ghost use Rattle.cspf_journal.specs.Readings.{CatchesUp};
 
 use crate::history::History;
-use crate::journal_step::JournalStep;
+use crate::log_step::LogStep;
 use crate::published_count::PublishedCount;
 use crate::seen_steps::SeenSteps;
 use cspf_model::lawful_batches;
@@ -17,7 +17,7 @@ use std::marker::Model;
 #[derive(Drop)]
 pub struct Known {
     version: u32,
-    seen: Seen<JournalStep, u64, History>,
+    seen: Seen<LogStep, u64, History>,
 }
 
 impl Model for Known {
@@ -39,7 +39,7 @@ impl Model for Known {
 
 impl Known {
     /// All batches that the seen steps record, with how many they are.
-    pub(crate) fn new(version: u32, seen: Seen<JournalStep, u64, History>) -> Known
+    pub(crate) fn new(version: u32, seen: Seen<LogStep, u64, History>) -> Known
         requires version { version ≡ length (batches_of seen.log) }
         requires history { IsHistory (batches_of seen.log) }
         ensures { result ≡ record { batches = batches_of seen.log; source = seen.book } }
@@ -48,7 +48,7 @@ impl Known {
     }
 
     /// The seen steps, which record the batches.
-    pub(crate) fn seen(&self) -> Seen<JournalStep, u64, History>
+    pub(crate) fn seen(&self) -> Seen<LogStep, u64, History>
         ensures recorded { BeginsWith (batches_of result.log) self.now.batches }
         ensures source { result.book ≡ self.now.source }
     {

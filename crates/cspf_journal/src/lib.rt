@@ -6,26 +6,31 @@
 //! have no other maker. So no other crate can show a batch before its text is written, not even in a
 //! call that never returns.
 //!
+//! One word is the count of published batches. The holder of a journal's `RightToCount` moves it, by
+//! one for each batch that it shows. A `Known` that reads it knows as many batches from then on. Each
+//! count and each reading is a step of the journal, so a later reading finds no less.
+//!
 //! `specs/Histories.antt` says which lists may be published, `specs/KnownBatches.antt` what is known
-//! of one, and `specs/JournalStates.antt` what a journal is in clauses.
+//! of one, and `specs/JournalStates.antt` what a journal is in clauses. `specs/JournalSteps.antt` has
+//! the steps, and `specs/Readings.antt` what a reading finds.
 #![tactic(auto)]
 
 mod batch_list;
 mod history;
-mod journal_step;
 mod journal_writer;
 mod known;
 mod laws;
+mod log_step;
 mod new_journal;
 mod not_recorded;
 mod published_count;
 mod rights;
 mod seen_steps;
 
-pub use journal_step::JournalStep;
 pub use journal_writer::JournalWriter;
 pub use known::Known;
 pub use laws::readings_find_what_was_counted;
+pub use log_step::LogStep;
 pub use new_journal::NewJournal;
 pub use not_recorded::NotRecorded;
 pub use published_count::PublishedCount;

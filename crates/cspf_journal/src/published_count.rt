@@ -2,10 +2,10 @@
 ghost use Rattle.std.specs.Prelude.{◌≡◌, ◌<◌, ◌≤◌, length, MatchBool};
 ghost use Rattle.cspf_journal.specs.HistoryRule.{count_word};
 ghost use Rattle.cspf_journal.specs.JournalSteps.{batches_of, count_of, AreJournalSteps, AreStepsUpTo};
-ghost use Rattle.cspf_journal.specs.declared.journal_step.JournalStep.TheVariants.{Published, Read};
+ghost use Rattle.cspf_journal.specs.declared.log_step.LogStep.TheVariants.{Published, Read};
 
 use crate::history::{CountBatch, History, NoGain, ReadCount};
-use crate::journal_step::JournalStep;
+use crate::log_step::LogStep;
 use logbook::{Offer, Seen, Word};
 use std::marker::Model;
 
@@ -13,7 +13,7 @@ use std::marker::Model;
 /// one for each batch. In clauses it is its journal's source: its value is known at steps alone.
 #[derive(Drop)]
 pub struct PublishedCount {
-    word: Word<JournalStep, u64, History>,
+    word: Word<LogStep, u64, History>,
 }
 
 impl Model for PublishedCount {
@@ -32,7 +32,7 @@ impl Model for PublishedCount {
 
 impl PublishedCount {
     /// The count that the word has.
-    pub(crate) fn new(word: Word<JournalStep, u64, History>) -> PublishedCount
+    pub(crate) fn new(word: Word<LogStep, u64, History>) -> PublishedCount
         requires { word ≡ count_word word.book }
         ensures { result ≡ word.book }
     {
@@ -41,7 +41,7 @@ impl PublishedCount {
 
     /// Counts one more batch as published, by one step. Returns whether it did: the count was not
     /// one less where it did not.
-    pub(crate) fn move_to(&self, count: u32, seen: &mut Seen<JournalStep, u64, History>) -> bool
+    pub(crate) fn move_to(&self, count: u32, seen: &mut Seen<LogStep, u64, History>) -> bool
         requires source { seen.old.book ≡ self.now }
         requires recorded { (0 < count) × (count ≤ length (batches_of seen.old.log)) }
         ensures source { seen.new.book ≡ seen.old.book }
@@ -50,11 +50,9 @@ impl PublishedCount {
             × (count_of seen.new.log ≡ count) × AreJournalSteps seen.new.log)
             (Unit {0}) }
     {
-        let mut offer: Offer<JournalStep, u64, History, NoGain> = seen.plain::<
-            NoGain,
-            u32,
-            CountBatch,
-        >(&count);
+        let mut offer: Offer<LogStep, u64, History, NoGain> = seen.plain::<NoGain, u32, CountBatch>(
+            &count,
+        );
         let mut pen = seen.no_pen();
         let old = u64::from(count - 1);
         let found = self
@@ -70,18 +68,16 @@ impl PublishedCount {
     }
 
     /// Reads the count, by one step.
-    pub(crate) fn read(&self, seen: &mut Seen<JournalStep, u64, History>) -> u32
+    pub(crate) fn read(&self, seen: &mut Seen<LogStep, u64, History>) -> u32
         requires { seen.old.book ≡ self.now }
         ensures source { seen.new.book ≡ seen.old.book }
         ensures read { AreStepsUpTo seen.old.log seen.new.log (Read result) }
         ensures recorded { result ≤ length (batches_of seen.new.log) }
         ensures journal { AreJournalSteps seen.new.log }
     {
-        let mut offer: Offer<JournalStep, u64, History, NoGain> = seen.plain::<
-            NoGain,
-            u32,
-            ReadCount,
-        >(&0);
+        let mut offer: Offer<LogStep, u64, History, NoGain> = seen.plain::<NoGain, u32, ReadCount>(
+            &0,
+        );
         self.word.load::<ReadCount, NoGain>(seen, &mut offer) as u32
     }
 }

@@ -1,17 +1,17 @@
 //! The known first steps of a journal.
-ghost use Rattle.std.specs.Prelude.{◌≡◌};
+ghost use Rattle.std.specs.Prelude.{◌≡◌, ◌≤◌};
 ghost use mathlib.Core.List.{IsPrefix};
-ghost use Rattle.cspf_journal.specs.JournalSteps.{AreJournalSteps};
+ghost use Rattle.cspf_journal.specs.JournalSteps.{AreJournalSteps, count_of};
 
 use crate::history::History;
-use crate::journal_step::JournalStep;
+use crate::log_step::LogStep;
 use logbook::Seen;
 use std::marker::Model;
 
 /// The steps of a journal, from the first one up to one that was seen. It takes no room.
 #[derive(Drop)]
 pub struct SeenSteps {
-    seen: Seen<JournalStep, u64, History>,
+    seen: Seen<LogStep, u64, History>,
 }
 
 impl Model for SeenSteps {
@@ -26,7 +26,7 @@ impl Model for SeenSteps {
 
 impl SeenSteps {
     /// The steps that are seen.
-    pub(crate) fn new(seen: Seen<JournalStep, u64, History>) -> SeenSteps
+    pub(crate) fn new(seen: Seen<LogStep, u64, History>) -> SeenSteps
         requires { AreJournalSteps seen.log }
         ensures { result ≡ record { steps = seen.log; source = seen.book } }
     {
@@ -34,7 +34,7 @@ impl SeenSteps {
     }
 
     /// The seen steps, for the next one.
-    pub(crate) fn seen(&self) -> Seen<JournalStep, u64, History>
+    pub(crate) fn seen(&self) -> Seen<LogStep, u64, History>
         ensures { (result.log ≡ self.now.steps) × (result.book ≡ self.now.source) }
     {
         self.seen.again()
@@ -50,13 +50,15 @@ impl SeenSteps {
         }
     }
 
-    /// Knows both its own steps and the other's from now on. One of them are a prefix of the
-    /// other.
+    /// Knows both its own steps and the other's from now on. A reading after them finds no less than
+    /// was counted by either.
     pub fn learn(&mut self, other: &SeenSteps)
         requires { other.now.source ≡ self.old.source }
         ensures source { self.new.source ≡ self.old.source }
         ensures own { IsPrefix self.old.steps self.new.steps }
         ensures other { IsPrefix other.now.steps self.new.steps }
+        ensures own_count { count_of self.old.steps ≤ count_of self.new.steps }
+        ensures other_count { count_of other.now.steps ≤ count_of self.new.steps }
     {
         self.seen.learn(&other.seen);
     }

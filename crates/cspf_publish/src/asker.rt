@@ -6,7 +6,8 @@ ghost use Rattle.left_right.specs.Sides.{view};
 ghost use Rattle.cspf_publish.specs.Answers.{IsAnswerAfter, IsBestAfter};
 ghost use Rattle.cspf_journal.specs.Histories.{BeginsWith, IsHistory};
 ghost use Rattle.cspf_journal.specs.JournalSteps.{batches_of};
-ghost use Rattle.cspf_journal.specs.KnownBatches.{KnownBatches, AreFirstOf, CatchesUp};
+ghost use Rattle.cspf_journal.specs.KnownBatches.{KnownBatches, AreFirstOf};
+ghost use Rattle.cspf_journal.specs.Readings.{CatchesUp};
 ghost use Rattle.cspf_publish.specs.ReplicaRule.{KnowsItsEntry};
 ghost use Rattle.cspf_publish.specs.declared.seat_view.SeatView.TheVariants.{Asker as IsAsker};
 

@@ -1,5 +1,5 @@
 //! Askers that hear of versions, that do not, and that go to another thread.
-ghost use Rattle.std.specs.Prelude.{◌≡◌};
+ghost use Rattle.std.specs.Prelude.{◌≡◌, ◌≤◌, length};
 
 use super::fixtures::{
     ONE, TWO, apply_empty, back, batch, batch_and_request, first_batch, opened, request, route_of,
@@ -87,6 +87,38 @@ fn told_and_untold(rt: HostRuntime) -> Result<(), Fail> {
     let first = first_batch(rt.alloc())?;
     let back = request(8, TWO, ONE, 1)?;
     tells_and_asks(&rt, rt.alloc(), &first, &back);
+    Ok(())
+}
+
+/// Reads the count of published batches, after all that the publisher counted.
+fn read_after<W: Write>(publisher: &Publisher<W>, asker: &mut Asker) -> u32
+    requires { asker.old.source ≡ publisher.now.source }
+    ensures source { asker.new.source ≡ asker.old.source }
+    ensures read { length publisher.now.batches ≤ result }
+    ensures known { length publisher.now.batches ≤ length asker.new.batches }
+{
+    let mut steps = asker.steps();
+    steps.learn(&publisher.steps());
+    asker.catch_up(&mut steps)
+}
+
+/// An asker that is told nothing reads the count at versions 0, 1 and 2: what it reads, and the version
+/// that it knows then.
+fn reads_each_count<R: Wait + Abort>(rt: &R, alloc: Global, first: &Batch) {
+    let (mut publisher, mut asker) = opened(rt, alloc, Vec::<u8>::new(alloc));
+    let none = (read_after(&publisher, &mut asker), asker.seen());
+    let _ = publisher.apply(rt, alloc, first);
+    let one = (read_after(&publisher, &mut asker), asker.seen());
+    let _ = apply_empty(rt, alloc, &mut publisher, 2);
+    let two = (read_after(&publisher, &mut asker), asker.seen());
+    publisher.close(rt);
+    assert!(rt; none == (0, 0) && one == (1, 1) && two == (2, 2));
+}
+
+#[test]
+fn caught_up_untold(rt: HostRuntime) -> Result<(), Fail> {
+    let first = first_batch(rt.alloc())?;
+    reads_each_count(&rt, rt.alloc(), &first);
     Ok(())
 }
 

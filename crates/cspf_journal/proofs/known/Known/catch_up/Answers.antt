@@ -32,3 +32,4 @@ returns c =
     c.learn.ensures.3
     (rw new_steps read.read)
     (rw new_steps read.recorded)
+    (rw new_steps read.journal)

@@ -2,7 +2,7 @@
 use cspf_model::Batch;
 
 /// A step. No value of this type is made at run time.
-pub enum JournalStep {
+pub enum LogStep {
     /// A batch is added to the list.
     Recorded(Batch),
     /// One more batch is published: this many are from now on.

@@ -1,0 +1,28 @@
+-- Readings of the count of published batches: what they find, and what is known after them.
+use Rattle.std.specs.Prelude.{◌≡◌, ◌≤◌, ◌⊎◌, ℕ, List, [], ◌∷◌, ◌++◌, length}
+use Rattle.cspf_journal.specs.Histories.{BeginsWith}
+use Rattle.cspf_journal.specs.KnownBatches.{KnownBatches}
+use Rattle.cspf_journal.specs.JournalSteps.{KnownSteps, batches_of, count_of, AreJournalSteps, AreStepsUpTo}
+use Rattle.cspf_journal.specs.declared.log_step.LogStep.{LogStep}
+use Rattle.cspf_journal.specs.declared.log_step.LogStep.TheVariants.{Read}
+
+-- The count of published batches is read, by a step after all that were seen. It finds no less than was
+-- counted by those. From then on at least as many batches are known as it finds. All of them are recorded,
+-- and no others are new.
+pub record CatchesUp (before after : KnownBatches) (seen steps : KnownSteps) (count : ℕ) : Type 0 where
+  pub source : after.source ≡ before.source
+  pub journal : steps.source ≡ seen.source
+  pub read : AreStepsUpTo seen.steps steps.steps (Read count)
+  pub fresh : count_of seen.steps ≤ count
+  pub later : BeginsWith after.batches before.batches
+  pub known : count ≤ length after.batches
+  pub recorded : BeginsWith (batches_of steps.steps) after.batches
+  pub only : (after ≡ before) ⊎ (length after.batches ≡ count)
+
+-- A reading that comes after other steps finds no less than was counted by them. As many batches as it
+-- finds were recorded before it.
+abbrev pub ReadingsFindCounts : Type 0
+ReadingsFindCounts =
+    (before after : List LogStep) (found : ℕ)
+    → AreStepsUpTo before after (Read found) → AreJournalSteps after
+    → (count_of before ≤ found) × (found ≤ length (batches_of after))
