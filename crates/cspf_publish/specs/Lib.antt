@@ -1,5 +1,7 @@
 pub use Rattle.cspf_journal.specs.Histories
 pub use Rattle.cspf_journal.specs.KnownBatches
+pub use Rattle.cspf_journal.specs.JournalSteps
+pub use Rattle.cspf_journal.specs.Readings
 pub mod BatchAbsorption
 pub mod ReplicaStates
 pub mod ReplicaRule
