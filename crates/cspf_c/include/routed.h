@@ -45,9 +45,9 @@ enum {
     /* It did what it says. */
     ROUTED_ANSWERED = 0,
     /* Memory was refused. The session is closed and its memory free, and the call has no lines.
-     * `*size` may have been written and means nothing. */
+     * `*size` stays as it was. */
     ROUTED_MEMORY = 1,
-    /* The handle held no session and holds none. What `*size` then is isn't said. */
+    /* The handle held no session and holds none. `*size` stays as it was. */
     ROUTED_CLOSED = 2
 };
 

@@ -1,9 +1,10 @@
 -- The effect of a call that gives rows on the session of a handle.
-use Rattle.std.proofs.Common.{◌≡◌, ℕ, List, length, Result, Ok, Err, IfOk, subst}
+use Rattle.std.proofs.Common.{◌≡◌, ◌≢◌, ℕ, List, length, Result, Ok, Err, IfOk, subst}
 use Rattle.std.specs.declared.option.Option.{Option}
 use Rattle.std.specs.declared.option.Option.TheVariants.{None, Some}
 use Rattle.std.specs.declared.alloc.AllocError.{AllocError}
 use Rattle.cspf_c.specs.Calls.{AreGiven, IsCalled, IsHeld, size_of_lines}
+use Rattle.cspf_c.specs.declared.codes.TheConstants.{ANSWERED}
 use Rattle.cspf_c.specs.declared.opened.Opened.{Opened}
 
 pub given_called : (bytes : List ℕ) (size code : ℕ) (held : Opened) (made : Result Opened AllocError) (old new : Option Opened) → old ≡ Some held
@@ -13,3 +14,9 @@ given_called bytes size code held made old None is given same kept = rw is kept
 given_called bytes size code held (Ok opened) old (Some new) is given same kept =
     rw is (kept.0, subst (λ (m : Result Opened AllocError). IfOk m (λ o. AreGiven bytes size held o)) kept.1 (rw same given))
 given_called bytes size code held (Err refused) old (Some new) is given same kept = let wrong : ⊥ = cc kept.1 in absurd wrong
+
+-- with another code than that of an answer memory was refused
+pub not_called : (does : Opened → Opened → Type 0) (code : ℕ) (held : Opened) (made : Result Opened AllocError) (old new : Option Opened) → old ≡ Some held
+    → code ≢ ANSWERED → IsHeld code made new → IsCalled does code old new
+not_called does code held made old None is other kept = rw is kept
+not_called does code held made old (Some new) is other kept = absurd (other kept.0)

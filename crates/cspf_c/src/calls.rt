@@ -1,7 +1,7 @@
 //! The functions that C calls. Each takes the session out of its handle, uses it once, and puts
 //! it back.
 
-ghost use Rattle.std.specs.Prelude.{◌≡◌, MatchOption};
+ghost use Rattle.std.specs.Prelude.{◌≡◌, ◌≢◌, MatchOption};
 ghost use Rattle.std.specs.declared.option.Option.TheVariants.{None, Some};
 ghost use Rattle.cspf_c.specs.Calls.{IsOpened, IsCalled, IsHeld, AreGiven, IsEnded, AreCopied, size_of_lines};
 
@@ -63,7 +63,8 @@ pub extern "C" fn routed_open(alloc: Global, handle: &mut Handle) -> u32
     keep_session(alloc, handle, Opened::new(alloc))
 }
 
-/// Gives rows to the session, and returns how many bytes their lines have.
+/// Gives rows to the session, and returns how many bytes their lines have. The size stays as it was
+/// where they aren't answered.
 #[unsafe(no_mangle)]
 pub extern "C" fn routed_rows(
     alloc: Global,
@@ -71,27 +72,38 @@ pub extern "C" fn routed_rows(
     bytes: &[u8],
     size: &mut usize,
 ) -> u32
-    ensures { IsCalled (AreGiven bytes.now size.new) result handle.old.value handle.new.value }
+    ensures called { IsCalled (AreGiven bytes.now size.new) result handle.old.value handle.new.value }
+    ensures kept { result ≢ ANSWERED → size.new ≡ size.old }
 {
     let Some(held) = take_session(alloc, handle) else {
         return CLOSED;
     };
     let made = Box::into_inner(held).answer(alloc, bytes);
-    *size = lines_size(&made);
-    keep_session(alloc, handle, made)
+    let lines = lines_size(&made);
+    let code = keep_session(alloc, handle, made);
+    if code == ANSWERED {
+        *size = lines;
+    }
+    code
 }
 
-/// Ends the rows that were given, and returns how many bytes the last line has.
+/// Ends the rows that were given, and returns how many bytes the last line has. The size stays as it
+/// was where there is no answer.
 #[unsafe(no_mangle)]
 pub extern "C" fn routed_end(alloc: Global, handle: &mut Handle, size: &mut usize) -> u32
-    ensures { IsCalled (IsEnded size.new) result handle.old.value handle.new.value }
+    ensures called { IsCalled (IsEnded size.new) result handle.old.value handle.new.value }
+    ensures kept { result ≢ ANSWERED → size.new ≡ size.old }
 {
     let Some(held) = take_session(alloc, handle) else {
         return CLOSED;
     };
     let made = Box::into_inner(held).end(alloc);
-    *size = lines_size(&made);
-    keep_session(alloc, handle, made)
+    let lines = lines_size(&made);
+    let code = keep_session(alloc, handle, made);
+    if code == ANSWERED {
+        *size = lines;
+    }
+    code
 }
 
 /// Copies the lines of the call before to the start of a buffer, as many bytes as it takes. Returns
