@@ -7,6 +7,7 @@ use crate::live::LiveWords;
 use crate::refused_rows::RowFiles;
 use crate::serve::ServeWords;
 use crate::snapshot::SnapshotWords;
+use crate::stopped::Ran;
 use crate::{audit, batch, live, serve, snapshot, solve};
 use clap::{ArgMatches, Command, Error};
 use std::alloc::Global;
@@ -60,6 +61,23 @@ impl<'m, 'a> Asked<'m, 'a> {
         })
     }
 
+    /// What the command answers. With `explain` it says why clients end early.
+    fn answer<T: Threads + Wait + Sync>(
+        self,
+        rt: &HostRuntime,
+        handle: &T,
+        explain: bool,
+    ) -> Ran<'a> {
+        match self {
+            Asked::Solve => solve::answer(rt),
+            Asked::Batch(words) => words.answer(rt, handle),
+            Asked::Live(words) => words.answer(rt, handle),
+            Asked::Serve(words) => words.serve(rt, handle, explain),
+            Asked::Snapshot(words) => words.write(rt),
+            Asked::Audit(words) => words.judge(rt),
+        }
+    }
+
     /// Runs the command, and returns the status. With `explain` it says why a run stops, or which row
     /// a file is refused for.
     pub(crate) fn run<T: Threads + Wait + Sync>(
@@ -68,14 +86,7 @@ impl<'m, 'a> Asked<'m, 'a> {
         handle: &T,
         explain: bool,
     ) -> u8 {
-        let ran = match self {
-            Asked::Solve => solve::answer(rt),
-            Asked::Batch(words) => words.answer(rt, handle),
-            Asked::Live(words) => words.answer(rt, handle),
-            Asked::Serve(words) => words.serve(rt, handle, explain),
-            Asked::Snapshot(words) => words.write(rt),
-            Asked::Audit(words) => words.judge(rt),
-        };
+        let ran = self.answer(rt, handle, explain);
         end(rt, ran, self.row_files(), explain)
     }
 
