@@ -7,7 +7,6 @@ use crate::live::LiveWords;
 use crate::refused_rows::RowFiles;
 use crate::serve::ServeWords;
 use crate::snapshot::SnapshotWords;
-use crate::stopped::Ran;
 use crate::{audit, batch, live, serve, snapshot, solve};
 use clap::{ArgMatches, Command, Error};
 use std::alloc::Global;
@@ -61,23 +60,6 @@ impl<'m, 'a> Asked<'m, 'a> {
         })
     }
 
-    /// What the command answers. With `explain` it says why clients end early.
-    fn answer<T: Threads + Wait + Sync>(
-        self,
-        rt: &HostRuntime,
-        handle: &T,
-        explain: bool,
-    ) -> Ran<'a> {
-        match self {
-            Asked::Solve => solve::answer(rt),
-            Asked::Batch(words) => words.answer(rt, handle),
-            Asked::Live(words) => words.answer(rt, handle),
-            Asked::Serve(words) => words.serve(rt, handle, explain),
-            Asked::Snapshot(words) => words.write(rt),
-            Asked::Audit(words) => words.judge(rt),
-        }
-    }
-
     /// Runs the command, and returns the status. With `explain` it says why a run stops, or which row
     /// a file is refused for.
     pub(crate) fn run<T: Threads + Wait + Sync>(
@@ -86,8 +68,16 @@ impl<'m, 'a> Asked<'m, 'a> {
         handle: &T,
         explain: bool,
     ) -> u8 {
-        let ran = self.answer(rt, handle, explain);
-        end(rt, ran, self.row_files(), explain)
+        let files = self.row_files();
+        // Each run ends in its branch: what the branches answer has unlike lifetimes.
+        match self {
+            Asked::Solve => end(rt, solve::answer(rt), files, explain),
+            Asked::Batch(words) => end(rt, words.answer(rt, handle), files, explain),
+            Asked::Live(words) => end(rt, words.answer(rt, handle), files, explain),
+            Asked::Serve(words) => end(rt, words.serve(rt, handle, explain), files, explain),
+            Asked::Snapshot(words) => end(rt, words.write(rt), files, explain),
+            Asked::Audit(words) => end(rt, words.judge(rt), files, explain),
+        }
     }
 
     /// The files whose rows may be refused. Where torn rows are accepted, a journal is none of them.
