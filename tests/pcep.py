@@ -464,6 +464,33 @@ def places(checks, room):
         asks.close()
 
 
+def moved(checks, room):
+    """An ask whose connection ends goes to another, at most as often as there are connections."""
+    path, loop, found = os.path.join(room, "moved"), Loop(), []
+    with socket.socket(socket.AF_UNIX) as server:
+        server.bind(path)
+        server.listen()
+        asks = Asks(loop, Place(path), 2, lambda: None)
+        asks.open()
+        for is_answered in (True, False):
+            there = [server.accept()[0] for _ in range(2)]
+            asks.ask("row", lambda row, line: found.append((row, line)))
+            there[0].recv(100)
+            there[0].close()
+            loop.turn()
+            if is_answered:
+                there[1].sendall(b"line of " + there[1].recv(100))
+            else:
+                there[1].close()
+            while len(found) < (1 if is_answered else 2):
+                loop.turn()
+            there[1].close()
+            asks.close()
+            asks.open()
+        checks.same("asks whose connection ends", found, [("ask,1,row", "line of ask,1,row"), (None, None)])
+        asks.close()
+
+
 def lost(pcc):
     return sum(lsp.is_lost for lsp in pcc.session.lsps.all.values())
 
@@ -929,7 +956,7 @@ def documented(checks, _):
 
 def pcep(_, checks):
     with tempfile.TemporaryDirectory() as room:
-        for part in (mapping, malformed, timers, deaf, places, delegated, followed, races, updated, initiated, making, segments,
+        for part in (mapping, malformed, timers, deaf, places, moved, delegated, followed, races, updated, initiated, making, segments,
                      documented):
             inner = os.path.join(room, part.__name__)
             os.mkdir(inner)

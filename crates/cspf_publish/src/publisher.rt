@@ -152,8 +152,8 @@ impl<W: Write> Publisher<W> {
     }
 
     /// Publishes a batch and returns the new version. The batch's text is first written whole to
-    /// the journal. Once the batch is published, the count that askers read is the new version. May wait for askers that are inside a call. The errors are checked in their
-    /// order.
+    /// the journal. Once the batch is published, the count that askers read is the new version. May
+    /// wait for askers that are inside a call. The errors are checked in their order.
     pub fn apply<R: Wait>(
         &mut self,
         rt: &R,

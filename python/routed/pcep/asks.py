@@ -7,8 +7,8 @@ AGAIN, FREE_AGAIN = 0.2, 1  # seconds from one try to connect to the next, and t
 
 
 class Asks:
-    """Rows go to the connection that has the fewest unanswered ones. `call` gets the row and its line; None where no
-    connection can answer it."""
+    """Rows go to the connection that has the fewest unanswered ones. One whose connection ends goes to another, at most as often
+    as there are connections. `call` gets the row and its line; None where no connection can answer it."""
 
     def __init__(self, loop, place, count, lost):
         self.loop, self.place, self.lost, self.number, self.is_open = loop, place, lost, 0, False
@@ -32,29 +32,26 @@ class Asks:
 
     def ask(self, row, call):
         self.number += 1
-        self.give(f"ask,{self.number},{row}", call, lambda one: len(one.calls))
+        self.give(f"ask,{self.number},{row}", call, self.wanted, lambda one: len(one.calls))
 
-    def give(self, row, call, rank):
-        if self.connections:
-            min(self.connections, key=rank).ask(row, call)
+    def give(self, row, call, tries, rank):
+        if tries and self.connections:
+            min(self.connections, key=rank).ask(row, call, tries)
         else:
             call(None, None)
 
     def gone(self, connection):
-        """A connection has ended. Asks of one that was busy go to another one, first to one that has answered."""
+        """A connection has ended. Its asks go to another one, first to one that has answered."""
         if connection in self.connections:
             self.connections.remove(connection)
             if self.is_open:
-                seconds = FREE_AGAIN if connection.is_busy else 0 if connection.is_served else AGAIN
+                seconds = FREE_AGAIN if connection.is_busy else 0 if connection.is_served or connection.is_settled else AGAIN
                 self.loop.after(seconds, lambda: self.is_open and self.open())
             if not connection.is_busy:
                 self.lost()
         while connection.calls:
-            row, call = connection.calls.popleft()
-            if connection.is_busy:
-                self.give(row, call, lambda one: (not one.is_served, len(one.calls)))
-            else:
-                call(None, None)
+            row, call, tries = connection.calls.popleft()
+            self.give(row, call, tries if connection.is_busy else tries - 1, lambda one: (not one.is_served, len(one.calls)))
 
 
 class Connection:
@@ -62,13 +59,18 @@ class Connection:
 
     def __init__(self, asks):
         self.asks, self.calls, self.unsent, self.unread = asks, collections.deque(), b"", b""
-        self.is_busy, self.is_served = False, False
+        self.is_busy, self.is_served, self.is_settled = False, False, False
         self.socket = asks.place.connect()
         self.socket.setblocking(False)
         asks.loop.want(self.socket.fileno(), READ, self.go_on)
+        asks.loop.after(AGAIN, self.settle)
 
-    def ask(self, row, call):
-        self.calls.append((row, call))
+    def settle(self):
+        """It was kept for a while, so its end is no reason to wait before the next."""
+        self.is_settled = True
+
+    def ask(self, row, call, tries):
+        self.calls.append((row, call, tries))
         had, self.unsent = self.unsent, self.unsent + f"{row}\n".encode()
         if not had:
             self.send()
@@ -102,7 +104,7 @@ class Connection:
                 self.is_busy = text == "busy"
                 continue
             self.is_served = True
-            row, call = self.calls.popleft()
+            row, call, _ = self.calls.popleft()
             call(row, text)
         if not data:
             self.close()
