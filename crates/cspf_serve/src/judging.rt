@@ -1,8 +1,8 @@
-ghost use Rattle.std.specs.Prelude.{◌≡◌, ℕ, List, IfOk, IfErr, IfSome};
+ghost use Rattle.std.specs.Prelude.{◌≡◌, ℕ, List, IfOk, IfErr, IfSome, OnErr};
 ghost use Rattle.std.specs.Io.KnownBytes.{Appends};
 ghost use Rattle.cspf_judge.specs.AuditRun.{IsAuditRun};
 ghost use Rattle.cspf_judge.specs.SnapshotRun.{IsSnapshotRun};
-ghost use Rattle.cspf_judge.specs.EarlyEnds.{Writes};
+ghost use Rattle.cspf_judge.specs.EarlyEnds.{HasBegun, Writes};
 ghost use Rattle.cspf_serve.specs.RunFaults.{IsStreamFault};
 ghost use Rattle.cspf_rows.specs.Records.{rows_of};
 
@@ -23,6 +23,9 @@ pub fn run_audit<R: Read + Drop, Q: Read + Drop, P: Read + Drop, W: Write>(
     ensures whole { IfOk result (λ status. (lines : List ℕ)
         × IsAuditRun (R.remaining journal) (Q.remaining requests) (P.remaining replies) lines status
         × Appends (W.contents writer.old) (W.contents writer.new) lines) }
+    ensures stopped { OnErr result (HasBegun (W.contents writer.old) (W.contents writer.new)
+        (λ lines. (status : ℕ) × IsAuditRun (R.remaining journal) (Q.remaining requests)
+        (P.remaining replies) lines status)) }
     ensures error { IfErr result IsStreamFault }
 {
     Ok(cspf_judge::run_audit(alloc, journal, requests, replies, writer)?)
@@ -41,6 +44,9 @@ pub fn run_snapshot<R: Read + Drop, W: Write>(
     ensures whole { IfOk result (λ status. IfSome (R.remaining journal) (λ bytes.
         Writes (W.contents writer.old) (W.contents writer.new) (λ lines.
         IsSnapshotRun accept_torn (rows_of bytes) lines status))) }
+    ensures stopped { OnErr result (IfSome (R.remaining journal) (λ bytes.
+        HasBegun (W.contents writer.old) (W.contents writer.new) (λ lines. (status : ℕ)
+        × IsSnapshotRun accept_torn (rows_of bytes) lines status))) }
     ensures error { IfErr result IsStreamFault }
 {
     Ok(cspf_judge::run_snapshot(alloc, journal, accept_torn, writer)?)
