@@ -2,6 +2,7 @@
 use Rattle.std.proofs.Common.{◌≡◌, ◌<◌, ◌⊎◌, ℕ, false, Option, List, [], ◌∷◌, All, length, Result, Ok, Err, inl, inr, refl, sym, ap, subst, ◌∙◌, arith}
 use Rattle.std.proofs.lemmas.Bool.{cases_lt}
 use Rattle.std.specs.List.{AllZip}
+use Rattle.std.proofs.lemmas.List.Elements.{All-head, All-tail}
 use Rattle.logbook.specs.Pages.{Book}
 use Rattle.cspf_model.specs.Numbered.{NumberedChanges}
 use Rattle.cspf_publish.specs.PublisherStates.{PublisherState}
@@ -9,12 +10,14 @@ use Rattle.cspf_client.specs.declared.client.Client.{Client}
 use Rattle.cspf_client.specs.declared.client.ServedClient.{ServedClient}
 use Rattle.cspf_publish.specs.Histories.{BeginsWith}
 use Rattle.cspf_publish.specs.KnownBatches.{KnownBatches, AreFirstOf}
-use Rattle.cspf_client.specs.ServingStates.{ServingState, IsReady, HasMet}
+use Rattle.cspf_client.specs.ServingStates.{ServingState, HasMet}
 use Rattle.cspf_stream.specs.RowAnswers.{AreAllAnswered}
 use Rattle.cspf_stream.specs.declared.error.StreamError.{StreamError}
 use Rattle.cspf_stream.specs.Lines.{end_line}
 use Rattle.cspf_serve.specs.ServedRun.{IsServedClient, IsServedStatus, IsUpdateAnsweredAt, IsLastLineSaid, IsUpdatesRun}
-use Rattle.cspf_serve.specs.ServedSteps.{IsSeated, IsRunOn, IsServedEnd}
+use Rattle.cspf_jobs.specs.Jobs.{AreDone}
+use Rattle.cspf_serve.specs.ServedSteps.{IsSeat, IsAnswered, IsServedEnd}
+use Rattle.cspf_serve.specs.declared.serving.served_run.ClientSeat.{ClientSeat}
 use Rattle.cspf_serve.specs.Updates.{UpdatesState, no_updates}
 use Rattle.cspf_stream.specs.OpenChanges.{AreOpen}
 use Rattle.cspf_serve.specs.UpdatesStates.{KeptUpdates, KeepsUpdates, IsFresh}
@@ -25,40 +28,53 @@ abbrev Rows : Type 0
 Rows = List (List (List ℕ))
 
 module _ {Q V : Type 0} (bytes : Q → Option (List ℕ)) (contents : V → Option (List ℕ)) (source : Book) where
-  -- clients that have seats are ready
-  pub ready_of : (clients : List (Client Q V)) (begun : List (ServingState Q V)) → AllZip (IsSeated bytes source) clients begun → All IsReady begun
-  ready_of clients begun seated = pairs_second (IsSeated bytes source) IsReady (λ c s is. is.ready) clients begun seated
+  -- both ends of a seat are of one publisher
+  pub ready_of : (seats : List ClientSeat) (clients : List (Client Q V)) → length seats ≡ length clients → All (IsSeat source) seats
+      → AllZip (λ (s : ClientSeat) (c : Client Q V). s.listener.source ≡ s.asker.source) seats clients
+  ready_of [] [] long each = tt
+  ready_of [] (c ∷ clients) long each = absurd (omega (arith, long))
+  ready_of (s ∷ seats) [] long each = absurd (omega (arith, long))
+  ready_of (s ∷ seats) (c ∷ clients) long each =
+      let seat = All-head (IsSeat source) s seats each in
+      (seat.listener ∙ sym seat.asker, ready_of seats clients (omega (arith, long)) (All-tail (IsSeat source) s seats each))
 
-  abbrev IsSeatedAndRun : Client Q V → ServingState Q V → Type 0
-  IsSeatedAndRun c s = (b : ServingState Q V) × IsSeated bytes source c b × IsRunOn bytes contents b s
+  -- clients whose seats are of the publisher are answered from it
+  pub answered_of : (seats : List ClientSeat) (clients : List (Client Q V)) (ran : List (ServingState Q V)) → All (IsSeat source) seats
+      → AreDone (λ (s : ClientSeat) (client : Client Q V) (c : ServingState Q V). IsAnswered bytes contents s.asker.source client c) seats clients ran
+      → AllZip (IsAnswered bytes contents source) clients ran
+  answered_of [] [] [] each done = tt
+  answered_of [] [] (r ∷ ran) each done = absurd done
+  answered_of [] (c ∷ clients) ran each done = absurd done
+  answered_of (s ∷ seats) [] ran each done = absurd done
+  answered_of (s ∷ seats) (c ∷ clients) [] each done = absurd done
+  answered_of (s ∷ seats) (c ∷ clients) (r ∷ ran) each done = (
+    subst (λ book. IsAnswered bytes contents book c r) (All-head (IsSeat source) s seats each).asker done.0,
+    answered_of seats clients ran (All-tail (IsSeat source) s seats each) done.1,
+  )
 
   -- and once they were run they are still of the publisher
-  pub sources_of_run : (clients : List (Client Q V)) (begun ran : List (ServingState Q V)) → AllZip (IsSeated bytes source) clients begun
-      → AllZip (IsRunOn bytes contents) begun ran → All (λ (c : ServingState Q V). c.state.known.source ≡ source) ran
-  sources_of_run clients begun ran seated on =
-      pairs_second IsSeatedAndRun (λ (c : ServingState Q V). c.state.known.source ≡ source)
-      (λ c s is. sym is.2.known.source ∙ is.1.source_is) clients ran
-      (pairs_through (IsSeated bytes source) (IsRunOn bytes contents) clients begun ran seated on)
+  pub sources_of_run : (clients : List (Client Q V)) (ran : List (ServingState Q V)) → AllZip (IsAnswered bytes contents source) clients ran
+      → All (λ (c : ServingState Q V). c.state.known.source ≡ source) ran
+  sources_of_run clients ran answered =
+      pairs_second (IsAnswered bytes contents source) (λ (c : ServingState Q V). c.state.known.source ≡ source) (λ c s is. sym is.known.source ∙ is.source_is) clients ran answered
 
   -- the results of all clients
-  pub served_of : (published : List NumberedChanges) (clients : List (Client Q V)) (begun ran : List (ServingState Q V)) (served : List (ServedClient V))
-      → AllZip (IsSeated bytes source) clients begun → AllZip (IsRunOn bytes contents) begun ran → AllZip (IsServedEnd published) ran served
-      → AllZip (IsServedClient bytes contents published) clients served
-  served_of published clients begun ran served seated on closed =
-      pairs_weaker (λ c s. (a : ServingState Q V) × IsSeatedAndRun c a × IsServedEnd published a s) (IsServedClient bytes contents published)
+  pub served_of : (published : List NumberedChanges) (clients : List (Client Q V)) (ran : List (ServingState Q V)) (served : List (ServedClient V))
+      → AllZip (IsAnswered bytes contents source) clients ran → AllZip (IsServedEnd published) ran served → AllZip (IsServedClient bytes contents published) clients served
+  served_of published clients ran served answered closed =
+      pairs_weaker (λ c s. (a : ServingState Q V) × IsAnswered bytes contents source c a × IsServedEnd published a s) (IsServedClient bytes contents published)
       (λ c s is. record {
-        before = is.1.0;
+        before = is.1.before;
         after = is.0;
-        ready = is.1.1.ready;
-        requests = is.1.1.requests;
-        empty = is.1.1.replies;
-        run = is.1.2.run;
+        ready = is.1.ready;
+        requests = is.1.requests;
+        empty = is.1.replies;
+        run = is.1.run;
         replies = is.2.replies;
         refused = is.2.refused;
         end = is.2.end;
       }) clients served
-      (pairs_through IsSeatedAndRun (IsServedEnd published) clients ran served
-      (pairs_through (IsSeated bytes source) (IsRunOn bytes contents) clients begun ran seated on) closed)
+      (pairs_through (IsAnswered bytes contents source) (IsServedEnd published) clients ran served answered closed)
 
 -- the lines of the updates once all their rows are answered, by the result of their last line
 pub updates_run : (said : Result (Unit {0}) StreamError) (all : Option Rows) (t : UpdatesState) (old mid new : Option (List ℕ))

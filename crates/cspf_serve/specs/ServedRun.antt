@@ -1,6 +1,6 @@
 -- The result of a run over updates and clients: one list of published batches. The updates make it,
 -- the journal has it, and every client is answered from it.
-use Rattle.std.specs.Prelude.{◌≡◌, ℕ, ◌+◌, ◌<◌, ◌⊎◌, Bool, Option, List, [], length, All, Result, Err, MatchResult}
+use Rattle.std.specs.Prelude.{◌≡◌, ℕ, ◌+◌, ◌<◌, ◌≤◌, ◌⊎◌, Bool, Option, List, [], length, All, Result, Err, MatchResult}
 use Rattle.std.specs.List.{AllZip}
 use Rattle.std.specs.Option.{option_map}
 use Rattle.std.specs.Io.KnownBytes.{Appends, Keeps}
@@ -19,7 +19,10 @@ use Rattle.cspf_stream.specs.declared.error.StreamError.{StreamError}
 use Rattle.cspf_stream.specs.declared.error.StreamError.TheVariants as error
 use Rattle.cspf_stream.specs.Lines.{end_line}
 use Rattle.cspf_serve.specs.Updates.{UpdatesState, IsUpdateAnswered, IsUpdateLost, at_next_update, no_updates}
+use Rattle.cspf_serve.specs.RunFaults.{IsOpeningFault}
 use Rattle.cspf_serve.specs.declared.serving.served_run.Served.{Served}
+use Rattle.cspf_serve.specs.declared.serving.served_run.ServedError.{ServedError}
+use Rattle.cspf_serve.specs.declared.serving.served_run.ServedError.TheVariants as served_error
 
 abbrev Rows : Type 0
 Rows = List (List (List ℕ))
@@ -101,3 +104,8 @@ pub record IsServedRun {W J Q V : Type 0} (updates : Option (List ℕ)) (said : 
   pub journal_grown : Appends (recorded journal) (recorded served.journal) state.text
   pub clients_served : AllZip (IsServedClient bytes contents state.run.accepted) clients served.clients.items
   pub status_is : IsServedStatus state served.clients.items served.status
+
+-- Why no run began: its publisher wasn't opened, or one of this many clients has no thread.
+abbrev pub IsServedFault : ℕ → ServedError → Type 0
+IsServedFault count (served_error.Run error) = IsOpeningFault error
+IsServedFault count (served_error.NoThread client) = (0 < client) × (client ≤ count)

@@ -3,4 +3,4 @@
 mod served_run;
 mod updates;
 
-pub use served_run::{Served, run_serve};
+pub use served_run::{Served, ServedError, run_serve};

@@ -59,9 +59,9 @@ Status:
   0  everything was accepted
   1  the command line was refused
   2  a row or a batch was refused, or changes were left open
-  3  out of memory for the updates, standard input or output failed, a file can't be opened, or the
-     journal exists already; the last line of standard error is routed: stopped, and with --explain
-     the line before it says why
+  3  out of memory for the updates, standard input or output failed, a file can't be opened, the
+     journal exists already, or a client has no thread: then nothing is read; the last line of standard
+     error is routed: stopped, and with --explain the line before it says why
 With --explain a line says of each client that ended before its rows did why it ended.";
 
 /// What the words of the command say.
@@ -140,7 +140,7 @@ fn serve<'a, T: Threads + Wait + Sync>(
                 Err(error) => Err(Stopped::streaming(error, updates.fault(), said.fault())),
             }
         }
-        Err((error, _said, _journal, _clients)) => Err(Stopped::running(error, None)),
+        Err((error, _said, _journal, _clients)) => Err(Stopped::serving(error)),
     }
 }
 

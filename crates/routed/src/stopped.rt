@@ -1,7 +1,7 @@
 //! Why the program stops: what `--explain` says before its last line.
 
 use crate::noted::{Action, Fault, Name};
-use cspf_serve::{RunError, SolveError, StreamError};
+use cspf_serve::{RunError, ServedError, SolveError, StreamError};
 use std::alloc::AllocError;
 use std::{fmt, io};
 
@@ -16,8 +16,10 @@ pub enum Stopped<'a> {
     Solve(SolveError),
     /// Another error of the updates of `serve`.
     Stream(StreamError),
-    /// Another error of `batch`, `live`, `serve`, `snapshot` or `audit`.
+    /// Another error of `batch`, `live`, `snapshot` or `audit`.
     Run(RunError),
+    /// An error of `serve` before it began.
+    Serve(ServedError),
 }
 
 /// What a run answers: a status, or why the program stops.
@@ -64,8 +66,16 @@ impl<'a> Stopped<'a> {
         }
     }
 
-    /// The error of `batch`, `live`, `serve`, `snapshot` or `audit`, where this is the call on a device
-    /// that failed, if any.
+    /// The error of `serve` before it began.
+    pub(crate) fn serving(error: ServedError) -> Stopped<'a> {
+        match error {
+            ServedError::Run(error) => Stopped::running(error, None),
+            error => Stopped::Serve(error),
+        }
+    }
+
+    /// The error of `batch`, `live`, `snapshot` or `audit`, where this is the call on a device that
+    /// failed, if any.
     pub(crate) fn running(error: RunError, noted: Option<Fault<'a>>) -> Stopped<'a> {
         match (error, noted) {
             (RunError::Memory, _) => Stopped::Memory,
@@ -98,6 +108,7 @@ impl<'a> fmt::Display for Stopped<'a> {
             Stopped::Solve(error) => write!(f, "{error}"),
             Stopped::Stream(error) => write!(f, "{error}"),
             Stopped::Run(error) => write!(f, "{error}"),
+            Stopped::Serve(error) => write!(f, "{error}"),
         }
     }
 }

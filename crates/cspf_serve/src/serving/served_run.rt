@@ -1,18 +1,15 @@
 //! The run of `serve`: this thread answers the updates, and a thread for each client answers
 //! its requests.
 
-ghost use Rattle.std.specs.Prelude.{◌≡◌, ◌<◌, ◌≤◌, ◌↔◌, [], false, All, IfOk, IfErr, IsTrue, List, vec_len, vec_capacity};
+ghost use Rattle.std.specs.Prelude.{◌≡◌, ◌≤◌, ◌<◌, ◌↔◌, [], false, All, IfOk, IfErr, IsTrue, List, vec_len, vec_capacity};
 ghost use Rattle.std.specs.List.{AllZip};
-ghost use Rattle.logbook.specs.Pages.{Book};
 ghost use Rattle.cspf_rows.specs.Records.{IsPlain, rows_left};
 ghost use Rattle.cspf_publish.specs.PublisherStates.{PublisherState};
-ghost use Rattle.cspf_client.specs.ServingStates.{IsReady};
 ghost use Rattle.cspf_model.specs.declared.batch.Change.{Change as Changed};
 ghost use Rattle.cspf_stream.specs.OpenChanges.{AreOpen};
-ghost use Rattle.cspf_serve.specs.RunFaults.{IsOpeningFault};
 ghost use Rattle.cspf_stream.specs.Lines.{end_line};
-ghost use Rattle.cspf_serve.specs.ServedRun.{IsLastLineSaid, IsServedRun, IsServedStatus, IsUpdatesRun};
-ghost use Rattle.cspf_serve.specs.ServedSteps.{AreClientsReady, AreSeats, IsServedEnd, IsRunOn, IsSeat, IsSeated};
+ghost use Rattle.cspf_serve.specs.ServedRun.{IsLastLineSaid, IsServedFault, IsServedRun, IsServedStatus, IsUpdatesRun};
+ghost use Rattle.cspf_serve.specs.ServedSteps.{AreSeats, IsAnswered, IsRunOfUpdates, IsServedEnd};
 ghost use Rattle.cspf_serve.specs.Updates.{UpdatesState, no_updates};
 ghost use Rattle.cspf_serve.specs.UpdatesStates.{IsFresh, KeepsUpdates};
 
@@ -20,6 +17,7 @@ use crate::RunError;
 use crate::serving::updates::Updates;
 use crate::streams::opening::open_for;
 use cspf_client::{Client, Listener, Replies, ServedClient, ServingClient, Teller, open_news};
+use cspf_jobs::{Doer, Meanwhile, NoThread, run_all};
 use cspf_publish::{Asker, MOST_ASKERS, Publisher};
 use cspf_rows::open_records;
 use cspf_stream::{StreamError, answer_rows, put_line};
@@ -27,8 +25,22 @@ use csv::Reader;
 use std::alloc::{AllocError, Global};
 use std::io::{Read, Write};
 use std::sync::Wait;
-use std::thread;
 use std::thread::Threads;
+use thiserror::Error;
+
+/// Why no run over updates and clients began.
+#[derive(Clone, Copy, Debug, PartialEq, Eq, Error)]
+pub enum ServedError {
+    /// Its publisher wasn't opened, or memory was refused.
+    #[error("{0}")]
+    Run(RunError),
+    /// No thread could be had for a client.
+    #[error("client {client}: no thread")]
+    NoThread {
+        /// The number of the client, from 1.
+        client: usize,
+    },
+}
 
 /// The result of a run over updates and clients.
 pub struct Served<W, J, V> {
@@ -45,12 +57,39 @@ pub struct Served<W, J, V> {
     pub clients: Vec<ServedClient<V>>,
 }
 
-/// What is allocated for each client before any is started: both ends of its news ring, its asker,
-/// and a slot for its state and for its result.
+/// What answers a client, in a thread of its own.
+#[derive(Drop)]
+struct ClientSeat {
+    alloc: Global,
+    asker: Asker,
+    listener: Listener,
+}
+
+impl<Q: Read + Drop, V: Replies> Doer<Client<Q, V>> for ClientSeat {
+    type Output = ServingClient<Q, V>;
+
+    ghost ready = { λ s _. s.listener.source ≡ s.asker.source };
+
+    ghost done = { λ s client c. IsAnswered Q.remaining V.contents s.asker.source client c };
+
+    fn work(self, client: Client<Q, V>) -> ServingClient<Q, V> {
+        let ClientSeat {
+            alloc,
+            asker,
+            listener,
+        } = self;
+        let mut client = ServingClient::new(alloc, asker, listener, client);
+        client.run(alloc);
+        client
+    }
+}
+
+/// What is allocated for each client before any is started: the publisher's end of its news ring, its
+/// seat, and a slot for its state and for its result.
 #[derive(Drop)]
 struct Seats<Q, V> {
     tellers: Vec<Teller>,
-    ends: Vec<(Asker, Listener)>,
+    seats: Vec<ClientSeat>,
     serving: Vec<ServingClient<Q, V>>,
     served: Vec<ServedClient<V>>,
 }
@@ -68,42 +107,22 @@ fn seat_all<J: Write, Q: Drop, V: Drop>(
     let count = askers.len();
     let serving = Vec::with_capacity(alloc, count)?;
     let served = Vec::with_capacity(alloc, count)?;
-    let (mut tellers, mut ends) = (Vec::new(alloc), Vec::new(alloc));
+    let (mut tellers, mut seats) = (Vec::new(alloc), Vec::new(alloc));
     for asker in askers {
         let (teller, listener) = open_news(alloc, publisher)?;
         tellers.push(teller)?;
-        ends.push((asker, listener))?;
+        seats.push(ClientSeat {
+            alloc,
+            asker,
+            listener,
+        })?;
     }
     Ok(Seats {
         tellers,
-        ends,
+        seats,
         serving,
         served,
     })
-}
-
-/// Gives each client a seat.
-fn begin_all<Q: Read + Drop, V: Replies + Drop>(
-    alloc: Global,
-    clients: Vec<Client<Q, V>>,
-    ends: Vec<(Asker, Listener)>,
-    room: Vec<ServingClient<Q, V>>,
-) -> Vec<ServingClient<Q, V>>
-    requires count { vec_len ends ≡ vec_len clients }
-    requires ends { (source : Book) × All (IsSeat source) ends.items }
-    requires none { room.items ≡ [] }
-    requires room { vec_len clients ≤ vec_capacity room }
-    ensures { (source : Book) → All (IsSeat source) ends.items
-        → AllZip (IsSeated Q.remaining source) clients.items result.items }
-{
-    let (mut ends, mut serving) = (ends, room);
-    for client in clients {
-        // There is one for each client.
-        if let Some((asker, listener)) = ends.pop() {
-            serving.push_reserved(ServingClient::new(alloc, asker, listener, client));
-        }
-    }
-    serving
 }
 
 /// The result of each client once it has learnt all published batches.
@@ -160,6 +179,33 @@ fn say_last<W: Write, J: Write>(
     }
 }
 
+/// The updates of a run, which this thread answers.
+struct Publishing<'a, R, W, J, T> {
+    rt: &'a T,
+    alloc: Global,
+    rows: Reader<R>,
+    said: W,
+    updates: Updates<J>,
+}
+
+impl<'a, R: Read, W: Write, J: Write, T: Wait> Meanwhile for Publishing<'a, R, W, J, T> {
+    type Output = Result<(), StreamError>;
+
+    ghost ready = { λ p. IsPlain p.rows × IsFresh p.updates };
+
+    ghost ran = { λ p ended q. IsRunOfUpdates W.contents J.contents (rows_left R.remaining p.rows) p.said p.updates ended q.said q.updates };
+
+    fn run(&mut self) -> Result<(), StreamError> {
+        answer_updates(
+            self.rt,
+            self.alloc,
+            &mut self.rows,
+            &mut self.said,
+            &mut self.updates,
+        )
+    }
+}
+
 /// Answers all rows of the updates, and says at their end how many changes are still open.
 fn answer_updates<R: Read, W: Write, J: Write, T: Wait>(
     rt: &T,
@@ -170,10 +216,8 @@ fn answer_updates<R: Read, W: Write, J: Write, T: Wait>(
 ) -> Result<(), StreamError>
     requires plain { IsPlain rows.old }
     requires fresh { IsFresh updates.old }
-    ensures { (first : PublisherState J) → KeepsUpdates J.contents first updates.old no_updates
-        → (t : UpdatesState) × KeepsUpdates J.contents first updates.new t
-        × IsUpdatesRun result (rows_left R.remaining rows.old) t
-        (W.contents said.old) (W.contents said.new) }
+    ensures { IsRunOfUpdates W.contents J.contents (rows_left R.remaining rows.old) said.old updates.old
+        result said.new updates.new }
 {
     match answer_rows(rt, alloc, rows, said, updates) {
         Ok(()) => say_last(alloc, said, updates),
@@ -181,72 +225,9 @@ fn answer_updates<R: Read, W: Write, J: Write, T: Wait>(
     }
 }
 
-/// Answers all clients at once, one thread for each, where threads can be made.
-fn ask_all<Q: Read + Drop + Send, V: Replies + Send, T: Threads + Sync>(
-    rt: &T,
-    alloc: Global,
-    serving: &mut [ServingClient<Q, V>],
-)
-    requires ready { AreClientsReady serving.old }
-    ensures { AllZip (IsRunOn Q.remaining V.contents) serving.old serving.new }
-{
-    let count = serving.len();
-    thread::for_each_mut(
-        rt,
-        serving,
-        count,
-        &|_number, client: &mut ServingClient<Q, V>|
-            requires { IsReady client.now }
-            ensures { IsRunOn Q.remaining V.contents client.entry.now client.exit.now }
-        { client.run(alloc) },
-    );
-}
-
-/// Answers all clients while this thread answers the updates.
-fn serve_all<
-    R: Read,
-    W: Write,
-    J: Write,
-    Q: Read + Drop + Send,
-    V: Replies + Send,
-    T: Threads + Wait + Sync,
->(
-    rt: &T,
-    alloc: Global,
-    serving: &mut [ServingClient<Q, V>],
-    rows: &mut Reader<R>,
-    said: &mut W,
-    updates: &mut Updates<J>,
-) -> Result<(), StreamError>
-    requires ready { AreClientsReady serving.old }
-    requires plain { IsPlain rows.old }
-    requires fresh { IsFresh updates.old }
-    ensures clients { AllZip (IsRunOn Q.remaining V.contents) serving.old serving.new }
-    ensures updates { (first : PublisherState J) → KeepsUpdates J.contents first updates.old no_updates
-        → (t : UpdatesState) × KeepsUpdates J.contents first updates.new t
-        × IsUpdatesRun result (rows_left R.remaining rows.old) t
-        (W.contents said.old) (W.contents said.new) }
-{
-    // Each closure has its copy of the handle: sharing one would be a borrow too many.
-    let room = alloc;
-    let mut ask = ||
-        requires ready { AreClientsReady serving.now }
-        ensures { AllZip (IsRunOn Q.remaining V.contents) serving.entry.now serving.exit.now }
-    { ask_all(rt, room, serving) };
-    let mut publish = || -> Result<(), StreamError>
-        requires plain { IsPlain rows.now }
-        requires fresh { IsFresh updates.now }
-        ensures { (first : PublisherState J) → KeepsUpdates J.contents first updates.entry.now no_updates
-            → (t : UpdatesState) × KeepsUpdates J.contents first updates.exit.now t
-            × IsUpdatesRun result (rows_left R.remaining rows.entry.now) t
-            (W.contents said.entry.now) (W.contents said.exit.now) }
-    { answer_updates(rt, alloc, rows, said, updates) };
-    thread::join_mut(rt, &mut ask, &mut publish).1
-}
-
 /// Publishes updates as they come in, each batch in the journal first, while one asker answers each
-/// client. No client waits for another, nor for the publisher. It ends when the updates and all
-/// clients have ended: `IsServedRun`.
+/// client, in a thread of its own. No client waits for another, nor for the publisher. It ends when
+/// the updates and all clients have ended: `IsServedRun`.
 ///
 /// An error comes before anything is read, and gives back all inputs except the updates.
 pub fn run_serve<
@@ -263,25 +244,26 @@ pub fn run_serve<
     said: W,
     journal: J,
     clients: Vec<Client<Q, V>>,
-) -> Result<Served<W, J, V>, (RunError, W, J, Vec<Client<Q, V>>)>
+) -> Result<Served<W, J, V>, (ServedError, W, J, Vec<Client<Q, V>>)>
     requires { (0 < vec_len clients) × (vec_len clients ≤ MOST_ASKERS) }
     ensures served { IfOk result (IsServedRun (R.remaining updates) W.contents J.contents
         Q.remaining V.contents said journal clients.items) }
-    ensures error { IfErr result (λ e. IsOpeningFault e.0) }
+    ensures error { IfErr result (λ e. IsServedFault (vec_len clients) e.0) }
     ensures back { IfErr result (λ e. (e.1 ≡ said) × (e.2 ≡ journal) × (e.3 ≡ clients)) }
 {
     let (mut publisher, askers) = match open_for(rt, alloc, journal, clients.len()) {
         Ok(opened) => opened,
-        Err((error, journal)) => return Err((error, said, journal, clients)),
+        Err((error, journal)) => return Err((ServedError::Run(error), said, journal, clients)),
     };
     let Ok(seats) = seat_all(alloc, &mut publisher, askers) else {
-        return Err((RunError::Memory, said, publisher.close(rt), clients));
+        let error = ServedError::Run(RunError::Memory);
+        return Err((error, said, publisher.close(rt), clients));
     };
-    Ok(serve_seated(rt, alloc, updates, said, publisher, seats, clients))
+    serve_seated(rt, alloc, updates, said, publisher, seats, clients)
 }
 
 /// The result of a run whose clients all have seats, once the updates are published and the clients
-/// answered.
+/// answered. Without a thread for each client nothing is, and all inputs but the updates come back.
 fn serve_seated<
     R: Read + Drop,
     W: Write,
@@ -297,37 +279,50 @@ fn serve_seated<
     publisher: Publisher<J>,
     seats: Seats<Q, V>,
     clients: Vec<Client<Q, V>>,
-) -> Served<W, J, V>
+) -> Result<Served<W, J, V>, (ServedError, W, J, Vec<Client<Q, V>>)>
     requires publisher { (publisher.batches ≡ []) × (publisher.stopped ≡ false) }
     requires seats { AreSeats publisher.source (vec_len clients) seats }
     requires some { 0 < vec_len clients }
-    ensures { IsServedRun (R.remaining updates) W.contents J.contents
-        Q.remaining V.contents said publisher.journal clients.items result }
+    ensures served { IfOk result (IsServedRun (R.remaining updates) W.contents J.contents
+        Q.remaining V.contents said publisher.journal clients.items) }
+    ensures error { IfErr result (λ e. IsServedFault (vec_len clients) e.0) }
+    ensures back { IfErr result (λ e. (e.1 ≡ said) × (e.2 ≡ publisher.journal) × (e.3 ≡ clients)) }
 {
     let Seats {
         tellers,
-        ends,
+        seats,
         serving,
         served,
     } = seats;
-    let mut said = said;
-    let mut updating = Updates::new(alloc, publisher, tellers);
-    let mut serving = begin_all(alloc, clients, ends, serving);
-    let mut rows = open_records(alloc, updates);
-    let ended = serve_all(
+    let mut own = Publishing {
         rt,
         alloc,
-        serving.as_mut_slice(),
-        &mut rows,
-        &mut said,
-        &mut updating,
-    );
-    let clients = close_all(&mut updating, serving, served);
-    Served {
-        status: status_of(&updating, clients.as_slice()),
-        updates: ended,
+        rows: open_records(alloc, updates),
         said,
-        journal: updating.close(rt),
-        clients,
+        updates: Updates::new(alloc, publisher, tellers),
+    };
+    let ran = run_all(rt, seats, clients, serving, &mut own);
+    let Publishing {
+        rt: _,
+        alloc: _,
+        rows: _,
+        said,
+        mut updates,
+    } = own;
+    match ran {
+        Ok((serving, ended)) => {
+            let clients = close_all(&mut updates, serving, served);
+            Ok(Served {
+                status: status_of(&updates, clients.as_slice()),
+                updates: ended,
+                said,
+                journal: updates.close(rt),
+                clients,
+            })
+        }
+        Err((NoThread { job }, clients)) => {
+            let error = ServedError::NoThread { client: job };
+            Err((error, said, updates.close(rt), clients))
+        }
     }
 }

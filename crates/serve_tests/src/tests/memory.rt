@@ -4,8 +4,8 @@
 //! it.
 
 use cspf_serve::{
-    Client, ClientError, NoGate, RunError, ServeError, Served, ServedClient, SolveError,
-    StreamError, Summary, run_batch, run_serve, run_snapshot, run_solve,
+    Client, ClientError, NoGate, RunError, ServeError, Served, ServedClient, ServedError,
+    SolveError, StreamError, Summary, run_batch, run_serve, run_snapshot, run_solve,
 };
 use std::alloc::Global;
 use std::sync::Wait;
@@ -151,7 +151,7 @@ fn is_answered_or_refused(client: &ServedClient<Vec<u8>>) -> bool {
 fn serve_one<T: Threads + Wait + Sync>(
     rt: &T,
     alloc: Global,
-) -> Option<Result<Served<Vec<u8>, Vec<u8>, Vec<u8>>, (RunError, bool)>> {
+) -> Option<Result<Served<Vec<u8>, Vec<u8>, Vec<u8>>, (ServedError, bool)>> {
     let said = Vec::with_capacity(alloc, ROOM).ok()?;
     let journal = Vec::with_capacity(alloc, 2 * ROOM).ok()?;
     let replies = Vec::with_capacity(alloc, ROOM).ok()?;
@@ -172,7 +172,7 @@ fn serves_one_client(rt: HostRuntime) {
     match serve_one(&rt, rt.alloc()) {
         None => {}
         Some(Err((error, untouched))) => {
-            assert!(rt; error == RunError::Memory && untouched);
+            assert!(rt; error == ServedError::Run(RunError::Memory) && untouched);
         }
         Some(Ok(served)) => {
             let Served {

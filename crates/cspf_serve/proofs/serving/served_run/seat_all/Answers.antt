@@ -18,9 +18,9 @@ loop-asker-preserved g c =
       tellers =
           subst (All (λ (t : TellerState). t.source ≡ source)) (sym c.in_ok-push.ensures.items)
           (All-push (λ (t : TellerState). t.source ≡ source) c.loop-asker.tellers.items c.in_ok-teller.teller c.loop-asker.invariant.tellers (c.in_ok-teller.ensures.source.0 ∙ same));
-      ends =
+      seats =
           subst (All (IsSeat source)) (sym c.in_ok-push-2.ensures.items)
-          (All-push (IsSeat source) c.loop-asker.ends.items (c.in-Some.asker, c.in_ok-teller.listener) c.loop-asker.invariant.ends
+          (All-push (IsSeat source) c.loop-asker.seats.items (record { alloc = c.args.alloc; asker = c.in-Some.asker; listener = c.in_ok-teller.listener }) c.loop-asker.invariant.seats
           (record {
             asker =
                 left_next (λ (a : KnownBatches). a.source ≡ source) c.loop-asker.yielded c.in-Some.asker (into_iter_items c.loop-asker.asker-iterator) (into_iter_items c.next.new.self)
@@ -30,7 +30,7 @@ loop-asker-preserved g c =
       many = (
           let more = ap length c.in_ok-push-2.ensures.items in
           let was = c.loop-asker.invariant.many in
-          let pushed = length-append c.loop-asker.ends.items ((c.in-Some.asker, c.in_ok-teller.listener) ∷ []) in
+          let pushed = length-append c.loop-asker.seats.items ((record { alloc = c.args.alloc; asker = c.in-Some.asker; listener = c.in_ok-teller.listener }) ∷ []) in
           let one = length-append c.loop-asker.yielded (c.in-Some.asker ∷ []) in omega arith
           );
     }
@@ -40,11 +40,11 @@ returns-clause-seats g c =
     let all = left_none c.loop-asker.yielded (into_iter_items c.loop-asker.asker-iterator) c.args.askers.items c.loop-asker.invariant.left (let zero = c.in-None.ensures.steps.0 in search rules) in
     let long = ap length all in
     let many = c.loop-asker.invariant.many in
-    let ends : vec_len c.loop-asker.ends ≡ length c.loop-asker.ends.items = search rules in
+    let seats : vec_len c.loop-asker.seats ≡ length c.loop-asker.seats.items = search rules in
     let askers : vec_len c.args.askers ≡ length c.args.askers.items = search rules in
     record {
       tellers = c.loop-asker.invariant.tellers;
-      ends = c.loop-asker.invariant.ends;
+      seats = c.loop-asker.invariant.seats;
       many = omega arith;
       serving = c.in_ok-serving.ensures.items;
       served = c.in_ok-served.ensures.items;

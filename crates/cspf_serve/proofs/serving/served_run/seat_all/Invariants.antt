@@ -8,6 +8,6 @@ invariant-loop-asker g l = record {
   left : l.yielded ++ into_iter_items l.asker-iterator ≡ l.fn.askers.items;
   same : l.publisher ≡ l.fn.publisher;
   tellers : All (λ t. t.source ≡ l.fn.publisher.source) l.tellers.items;
-  ends : All (IsSeat l.fn.publisher.source) l.ends.items;
-  many : length l.ends.items ≡ length l.yielded;
+  seats : All (IsSeat l.fn.publisher.source) l.seats.items;
+  many : length l.seats.items ≡ length l.yielded;
 }

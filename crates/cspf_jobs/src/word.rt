@@ -1,0 +1,33 @@
+//! The word that all threads wait for.
+
+ghost use Rattle.std.specs.Prelude.{◌≡◌};
+
+use std::sync::{OnceLock, OnceToken, Wait};
+
+/// No thread could be had for a job.
+#[derive(Clone, Copy, Debug, Drop, thiserror::Error)]
+#[error("no thread for job {job}")]
+pub struct NoThread {
+    /// The number of the job, from 1.
+    pub job: usize,
+}
+
+/// Whether the jobs begin. It is said once.
+pub(crate) type StartWord = OnceLock<Result<(), NoThread>>;
+
+/// What was said.
+pub(crate) type Said<'a> = OnceToken<'a, Result<(), NoThread>>;
+
+/// Waits until the word is said.
+pub(crate) fn heard<'a, R: Wait>(rt: &R, word: &'a StartWord) -> Said<'a>
+    ensures { result.of ≡ word.now.id }
+{
+    // The first turn ends it.
+    for _ in rt.forever() {
+        word.wait(rt);
+        if let Some(said) = word.witness() {
+            return said;
+        }
+    }
+    unreachable!()
+}

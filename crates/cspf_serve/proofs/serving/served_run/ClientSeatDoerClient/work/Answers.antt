@@ -1,0 +1,14 @@
+use Rattle.std.proofs.Common.{ap}
+use Rattle.cspf_publish.specs.KnownBatches.{KnownBatches}
+use Rattle.cspf_serve.proofs.serving.served_run.ClientSeatDoerClient.work.Goals as goal
+
+pub returns : goal.returns
+returns g c = record {
+  before = c.new-client.result;
+  ready = c.new-client.ensures.ready;
+  source_is = ap (λ (k : KnownBatches). k.source) c.new-client.ensures.state.0;
+  requests = c.new-client.ensures.requests;
+  replies = c.new-client.ensures.replies;
+  run = c.run.ensures.run;
+  known = c.run.ensures.known;
+}
