@@ -1,5 +1,5 @@
 -- One job more: what its thread ended with, beside what is known of the jobs before it.
-use Rattle.std.proofs.Common.{◌≡◌, ℕ, suc, ◌<◌, ◌≤◌, ◌^◌, List, [], ◌∷◌, ◌++◌, length, Result, Ok, Err, MatchResult, IsOkAnd, refl, sym, ap, subst, ◌∙◌, arith, Global}
+use Rattle.std.proofs.Common.{◌≡◌, suc, ◌<◌, ◌≤◌, ◌^◌, List, [], ◌∷◌, ◌++◌, length, Result, Ok, Err, MatchResult, IsOkAnd, refl, sym, ap, subst, ◌∙◌, arith, Global}
 use Rattle.std.proofs.Math.Nat.{ℕ_set}
 use Rattle.std.specs.Global.{Vec}
 use Rattle.std.specs.List.{AllZip}

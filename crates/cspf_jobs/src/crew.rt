@@ -151,6 +151,8 @@ fn call_all<
     if jobs.is_empty() {
         return finish(rt, word, last);
     }
+    // The number of the last job, from 1.
+    let number = jobs.len();
     let job = jobs.take_last();
     let worker = workers.take_last();
     let given = Given {
@@ -158,7 +160,6 @@ fn call_all<
         worker: Snapshot::of(&worker),
         job: Snapshot::of(&job),
     };
-    let number = jobs.len();
     let wait = move || -> Came<'_, J, O>
         requires { W.Doer.ready worker job }
         ensures { HasCome W.Doer.done word.entry.now.id worker job result }
