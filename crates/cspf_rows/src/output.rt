@@ -2,7 +2,7 @@
 
 mod open_writer;
 
-ghost use Rattle.std.specs.Prelude.{◌<◌, length, take, OnOk, IfErr};
+ghost use Rattle.std.specs.Prelude.{◌≡◌, ◌<◌, false, length, take, OnOk, IfErr};
 ghost use Rattle.std.specs.Io.KnownBytes.{Appends};
 
 use crate::output::open_writer::OpenWriter;
@@ -16,7 +16,20 @@ pub fn put_all<W: Write>(to: &mut W, text: &[u8]) -> Result<(), usize>
         Appends (W.contents to.old) (W.contents to.new) (take n text.now)) }
     ensures less { IfErr result (λ n. n < length text.now) }
 {
-    let mut to = OpenWriter::new(to);
+    put_through(&mut OpenWriter::new(to), text)
+}
+
+/// Writes the whole text, or returns how many bytes of it were taken. It can do nothing else with
+/// the writer, and nothing at all after a write that takes nothing.
+fn put_through<W: Write>(to: &mut OpenWriter<W>, text: &[u8]) -> Result<(), usize>
+    requires { to.old.has_failed ≡ false }
+    ensures writer { to.new.to.ghost_name ≡ to.old.to.ghost_name }
+    ensures all { OnOk result
+        (Appends (W.contents to.old.to.now) (W.contents to.new.to.now) text.now) }
+    ensures front { IfErr result (λ n.
+        Appends (W.contents to.old.to.now) (W.contents to.new.to.now) (take n text.now)) }
+    ensures less { IfErr result (λ n. n < length text.now) }
+{
     let mut sent = 0;
     while sent < text.len() {
         match to.write_some(&text[sent..]) {

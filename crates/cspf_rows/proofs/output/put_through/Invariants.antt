@@ -1,6 +1,6 @@
 use Rattle.std.proofs.Common.{◌≡◌, ◌≤◌, ◌-◌, false, length, take}
 use Rattle.std.specs.Io.KnownBytes.{Appends}
-use Rattle.cspf_rows.proofs.output.put_all.Given as goal
+use Rattle.cspf_rows.proofs.output.put_through.Given as goal
 
 -- the bytes so far are written, and no write has failed
 abbrev pub invariant-loop-sent : goal.invariant-loop-sent
@@ -8,7 +8,7 @@ invariant-loop-sent g l = record {
   within : l.sent ≤ length l.text;
   writer : l.to.to.ghost_name ≡ l.initial.to.to.ghost_name;
   unfailed : l.to.has_failed ≡ false;
-  written : Appends (g.W.Write.contents l.fn.to) (g.W.Write.contents l.to.to.now) (take l.sent l.text);
+  written : Appends (g.W.Write.contents l.fn.to.to.now) (g.W.Write.contents l.to.to.now) (take l.sent l.text);
 }
 
 abbrev pub decreases-loop-sent : goal.decreases-loop-sent
