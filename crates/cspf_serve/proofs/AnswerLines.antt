@@ -1,6 +1,8 @@
 -- The lines of answers are the replies to their requests.
-use Rattle.std.proofs.Common.{◌≡◌, ℕ, suc, All, Option, Some, List, [], ◌∷◌, ◌++◌, take, length, slice_get, refl, sym, ap, ◌∙◌, subst, append_assoc, append-nil, arith}
+use Rattle.std.proofs.Common.{◌≡◌, ℕ, ◌+◌, zero, suc, All, Option, Some, List, [], ◌∷◌, ◌++◌, ◌-◌, take, drop, length, slice_get, refl, sym, ap, ◌∙◌, subst, append_assoc, append-nil, arith}
 use Rattle.std.proofs.KnownBytes.{Appends-trans}
+use Rattle.std.proofs.Math.Seq.{take-length}
+use Rattle.std.proofs.lemmas.List.{length-drop}
 use Rattle.logbook.specs.Pages.{Book}
 use Rattle.cspf_model.specs.declared.request.Request.{Request}
 use Rattle.cspf_model.specs.Numbered.{NumberedChanges}
@@ -12,7 +14,8 @@ use Rattle.cspf_publish.specs.Answers.{IsAnswerAfter}
 use Rattle.cspf_publish.specs.KnownBatches.{KnownBatches}
 use Rattle.cspf_work.specs.Served.{AreAnswersAfter, AreAnswersWithin, IsAnswerWithin}
 use Rattle.cspf_serve.specs.BatchRun.{AreReplies, IsReplyTo}
-use Rattle.cspf_judge.specs.EarlyEnds.{Writes}
+use Rattle.cspf_judge.specs.EarlyEnds.{HasBegun, Writes}
+use Rattle.cspf_serve.proofs.Begun.{begun_behind, begun_weaker}
 use Rattle.cspf_serve.specs.AnswerLines.{AreAnswerLines}
 use Rattle.cspf_serve.specs.LiveRun.{AreRepliesWithin}
 
@@ -36,28 +39,61 @@ writes_answer answers a old mid new before reply = (
   Appends-trans old mid new before.0 reply.0 before.2 reply.2,
 )
 
+-- the line of one more answer was begun
+pub answer_begun : (answers : List Answer) (i : ℕ) (a : Answer) (old mid new : Option (List ℕ)) → take (i + 1) answers ≡ take i answers ++ a ∷ []
+    → Writes old mid (AreAnswerLines (take i answers)) → HasBegun mid new (IsReply a.id a.version (answer_of a.outcome))
+    → HasBegun old new (λ lines. (count : ℕ) × AreAnswerLines (take count answers) lines)
+answer_begun answers i a old mid new more before begun =
+    begun_behind old mid new before.0 (IsReply a.id a.version (answer_of a.outcome))
+    (λ lines. (count : ℕ) × AreAnswerLines (take count answers) lines) before.2 (i, before.1)
+    (λ line reply. (i + 1, rw more (lines_more (take i answers) a before.0 line before.1 reply))) begun
+
 reply_at : (batches : List NumberedChanges) (q : Request) (a : Answer) (line : List ℕ) → IsAnswerAfter batches q a
     → IsReply a.id a.version (answer_of a.outcome) line → IsReplyTo (database_after batches) a.version q line
 reply_at batches q a line is reply = (answer_of a.outcome, is.best, subst (λ (n : ℕ). IsReply n a.version (answer_of a.outcome) line) is.id reply)
 
-lines_after : (batches : List NumberedChanges) (qs : List Request) (answers : List Answer) (lines : List ℕ) → length answers ≡ length qs
+-- the lines of the first answers are the replies to the first requests
+lines_after : (batches : List NumberedChanges) (count : ℕ) (qs : List Request) (answers : List Answer) (lines : List ℕ) → length answers ≡ length qs
     → ((index : ℕ) (q : Request) (a : Answer) → slice_get qs index ≡ Some q → slice_get answers index ≡ Some a → IsAnswerAfter batches q a)
-    → AreAnswerLines answers lines → AreReplies (database_after batches) (length batches) qs lines
-lines_after batches [] [] lines count each is = is
-lines_after batches [] (a ∷ answers) lines count each is = absurd (omega arith)
-lines_after batches (q ∷ qs) [] lines count each is = absurd (omega arith)
-lines_after batches (q ∷ qs) (a ∷ answers) lines count each is =
+    → AreAnswerLines (take count answers) lines → AreReplies (database_after batches) (length batches) (take count qs) lines
+lines_after batches zero qs answers lines same each is = is
+lines_after batches (suc count) [] [] lines same each is = is
+lines_after batches (suc count) [] (a ∷ answers) lines same each is = absurd (omega arith)
+lines_after batches (suc count) (q ∷ qs) [] lines same each is = absurd (omega arith)
+lines_after batches (suc count) (q ∷ qs) (a ∷ answers) lines same each is =
     let here = each 0 q a refl refl in (
       is.0,
       is.1,
       subst (λ (v : ℕ). IsReplyTo (database_after batches) v q is.0) here.version (reply_at batches q a is.0 here is.2),
       is.3,
-      lines_after batches qs answers is.1 (omega arith) (λ i p b at there. each (suc i) p b at there) is.4,
+      lines_after batches count qs answers is.1 (omega arith) (λ i p b at there. each (suc i) p b at there) is.4,
     )
 
 pub replies_after : (batches : List NumberedChanges) (requests : List Request) (list : List Answer) (lines : List ℕ) → AreAnswersAfter batches requests list
     → AreAnswerLines list lines → AreReplies (database_after batches) (length batches) requests lines
-replies_after batches requests list lines is written = lines_after batches requests list lines is.count is.each written
+replies_after batches requests list lines is written =
+    let all : take (length list) requests ≡ requests = ap (λ (n : ℕ). take n requests) is.count ∙ take-length requests in
+    subst (λ (qs : List Request). AreReplies (database_after batches) (length batches) qs lines) all
+    (lines_after batches (length list) requests list lines is.count is.each
+    (subst (λ (l : List Answer). AreAnswerLines l lines) (sym (take-length list)) written))
+
+-- the requests from an index on are answered
+pub rest_answered : (batches : List NumberedChanges) (first : ℕ) (requests : List Request) (answers list : List Answer) → list ≡ answers
+    → AreAnswersAfter batches (take (length requests - first) (drop first requests)) answers → AreAnswersAfter batches (drop first requests) list
+rest_answered batches first requests answers list same answered =
+    let rest = drop first requests in
+    let asked : take (length requests - first) rest ≡ rest = ap (λ (n : ℕ). take n rest) (sym (length-drop first requests)) ∙ take-length rest in
+    subst (λ (l : List Answer). AreAnswersAfter batches rest l) (sym same)
+    (subst (λ (qs : List Request). AreAnswersAfter batches qs answers) asked answered)
+
+-- the beginning of the lines of the first answers, or nothing
+pub answers_begun : (batches : List NumberedChanges) (requests : List Request) (list : List Answer) (old new : Option (List ℕ)) → AreAnswersAfter batches requests list
+    → HasBegun old new (λ lines. (count : ℕ) × AreAnswerLines (take count list) lines)
+    → HasBegun old new (λ lines. (count : ℕ) × AreReplies (database_after batches) (length batches) (take count requests) lines)
+answers_begun batches requests list old new is begun =
+    begun_weaker old new (λ lines. (count : ℕ) × AreAnswerLines (take count list) lines)
+    (λ lines. (count : ℕ) × AreReplies (database_after batches) (length batches) (take count requests) lines)
+    (λ lines written. (written.0, lines_after batches written.0 requests list lines is.count is.each written.1)) begun
 
 -- each answer at any version
 pub replies_within : (published : List NumberedChanges) (qs : List Request) (answers : List Answer) (lines : List ℕ) → length answers ≡ length qs

@@ -19,7 +19,7 @@ use Rattle.cspf_serve.specs.declared.streams.error.RunError.{RunError}
 use Rattle.cspf_solve.specs.declared.summary.Summary.{Summary}
 use Rattle.cspf_solve.specs.Script.{IsSolveRun}
 use Rattle.cspf_judge.specs.Inputs.{AreBatchesOf, AreRequestsOf}
-use Rattle.cspf_serve.specs.BatchRun.{AreReplies, version_lines, IsBatchRun}
+use Rattle.cspf_serve.specs.BatchRun.{AreReplies, IsOneUnfit, version_lines, IsBatchRun}
 use Rattle.cspf_serve.specs.BatchLaws.{IsCleanJournal, AreLinesOfAScript}
 use Rattle.cspf_judge.specs.LineTexts.{judge_line_text}
 use Rattle.cspf_judge.specs.EarlyEnds.{IfRefused, Writes, IsRefusalWritten}
@@ -32,24 +32,26 @@ pub IfRefused-weaker : (s : EarlyEnd) (P Q : List ℕ → Type 0) → ((line : L
 IfRefused-weaker (early_end.Refused line) P Q f refused = f (judge_line_text line) refused
 IfRefused-weaker (early_end.Failed error) P Q f refused = tt
 
+-- the batches before one are accepted, and that one is refused
+pub one_unfit : (bs published : List NumberedChanges) (line : List ℕ) → IsUnfitBehind bs published line → AreLawful published
+    → IsOneUnfit bs (version_lines published ++ line)
+one_unfit bs published line is lawful = record {
+  before = published;
+  batch = is.batch;
+  after = is.after;
+  split = is.split;
+  lawful = lawful;
+  why = is.why;
+  refused = is.refused;
+  whole = rw is.is_line refl;
+}
+
 -- the batches before one are applied, and that one is refused
 pub unfit_written : (bs published : List NumberedChanges) (qs : List Request) (line : List ℕ) (old mid new : Option (List ℕ)) → IsUnfitBehind bs published line
     → AreLawful published → Appends old mid (version_lines published) → Appends mid new line → Writes old new (λ lines. IsAcceptedOrUnfit bs qs lines 2)
 unfit_written bs published qs line old mid new is lawful versions last = (
   version_lines published ++ line,
-  inr (
-    record {
-      before = published;
-      batch = is.batch;
-      after = is.after;
-      split = is.split;
-      lawful = lawful;
-      why = is.why;
-      refused = is.refused;
-      whole = rw is.is_line refl;
-    },
-    refl,
-  ),
+  inr (one_unfit bs published line is lawful, refl),
   Appends-trans old mid new (version_lines published) line versions last,
 )
 
@@ -139,7 +141,7 @@ module _ (accept_torn : Bool) (kept asked : Option (List ℕ)) (published : List
       inr (inr (stray.0, stray.1, stray.2, stray_in_run kept asked stray.0 stray.1 read of_rows stray.3.0 stray.3.1))
 
 -- streams that are refused give that line alone
-refused_alone : (accept_torn : Bool) (journal requests : Records) (line : List ℕ) → AreStreamsRefused accept_torn journal requests line
+pub refused_alone : (accept_torn : Bool) (journal requests : Records) (line : List ℕ) → AreStreamsRefused accept_torn journal requests line
     → IsBatchRun accept_torn journal requests line 2
 refused_alone accept_torn journal requests line (inl refused) = inl (refused, refl)
 refused_alone accept_torn journal requests line (inr (batches, read, refused)) = inr (batches, read, inl (refused, refl))

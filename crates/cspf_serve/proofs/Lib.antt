@@ -1,6 +1,8 @@
 -- The lemmas of this crate's proofs.
 pub mod StreamFaults
+pub mod Begun
 pub mod BatchLines
+pub mod BatchFronts
 pub mod ScriptOfBatches
 pub mod AnswerLines
 pub mod PartLines

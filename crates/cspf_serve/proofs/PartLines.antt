@@ -1,6 +1,7 @@
 -- The lines of requests that are answered a part at a time.
-use Rattle.std.proofs.Common.{◌≡◌, ℕ, ◌<◌, ◌≤◌, All, Option, List, [], ◌∷◌, ◌++◌, take, drop, get_or, length, sym, ap, ◌∙◌, append_assoc, take-append-drop, arith}
+use Rattle.std.proofs.Common.{◌≡◌, ℕ, ◌+◌, ◌<◌, ◌≤◌, zero, suc, All, Option, List, [], ◌∷◌, ◌++◌, take, drop, get_or, length, refl, sym, ap, ◌∙◌, append_assoc, take-append-drop, arith}
 use Rattle.std.proofs.KnownBytes.{Appends-trans}
+use Rattle.std.proofs.Math.Seq.{take-add}
 use Rattle.std.proofs.lemmas.List.{take-take}
 use Rattle.std.proofs.lemmas.Option.{slice_get-get_or}
 use Rattle.logbook.specs.Pages.{Book}
@@ -9,7 +10,8 @@ use Rattle.cspf_model.specs.Database.{Database}
 use Rattle.cspf_publish.specs.KnownBatches.{KnownBatches}
 use Rattle.cspf_work.specs.Served.{AreSameAskers}
 use Rattle.cspf_serve.specs.BatchRun.{AreReplies}
-use Rattle.cspf_judge.specs.EarlyEnds.{Writes}
+use Rattle.cspf_judge.specs.EarlyEnds.{HasBegun, Writes}
+use Rattle.cspf_serve.proofs.Begun.{begun_behind}
 
 joined : (d : Database) (version : ℕ) (qs ps : List Request) (lines more : List ℕ) → AreReplies d version qs lines
     → AreReplies d version ps more → AreReplies d version (qs ++ ps) (lines ++ more)
@@ -33,6 +35,33 @@ part_written d version qs first end old mid new up before here =
       rw parts (joined d version (take first qs) (drop first (take end qs)) before.0 here.0 before.1 here.1),
       Appends-trans old mid new before.0 here.0 before.2 here.2,
     )
+
+-- the first elements of the first ones
+taken_of_taken : {A : Type 0} (m end : ℕ) (xs : List A) → (n : ℕ) × (take n xs ≡ take m (take end xs))
+taken_of_taken zero end xs = (zero, refl)
+taken_of_taken (suc m) zero xs = (zero, refl)
+taken_of_taken (suc m) (suc end) [] = (zero, refl)
+taken_of_taken (suc m) (suc end) (x ∷ xs) =
+    let rest = taken_of_taken m end xs in (suc rest.0, ap (λ l. x ∷ l) rest.1)
+
+-- the first requests of a part, behind those before it, are the first of all
+cut_in_part : (qs : List Request) (first count end : ℕ) → first ≤ end → (n : ℕ) × (take n qs ≡ take first qs ++ take count (drop first (take end qs)))
+cut_in_part qs first count end up =
+    let part = take end qs in
+    let cut = taken_of_taken (first + count) end qs in
+    (cut.0, cut.1 ∙ take-add first count part ∙ ap (λ l. l ++ take count (drop first part)) (take-take first end qs up))
+
+-- a part was begun: the first requests of a list are answered
+pub part_begun : (d : Database) (version : ℕ) (qs : List Request) (first end : ℕ) (old mid new : Option (List ℕ)) → first ≤ end
+    → Writes old mid (AreReplies d version (take first qs))
+    → HasBegun mid new (λ lines. (count : ℕ) × AreReplies d version (take count (drop first (take end qs))) lines)
+    → HasBegun old new (λ lines. (count : ℕ) × AreReplies d version (take count qs) lines)
+part_begun d version qs first end old mid new up before begun =
+    begun_behind old mid new before.0 (λ lines. (count : ℕ) × AreReplies d version (take count (drop first (take end qs))) lines)
+    (λ lines. (count : ℕ) × AreReplies d version (take count qs) lines) before.2 (first, before.1)
+    (λ lines is.
+    let cut = cut_in_part qs first is.0 end up in
+    (cut.0, rw cut.1 (joined d version (take first qs) (take is.0 (drop first (take end qs))) before.0 lines before.1 is.1))) begun
 
 -- the askers that are handed back have the source that they had
 pub sources_kept : (source : Book) (before after : List KnownBatches) → AreSameAskers before after

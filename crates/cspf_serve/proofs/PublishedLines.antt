@@ -27,7 +27,9 @@ use Rattle.cspf_stream.specs.Lines.{version_line, refused_batch_line}
 use Rattle.cspf_judge.specs.LineTexts.{judge_line_text}
 use Rattle.cspf_judge.specs.Inputs.{torn_line, AreBatchesOf, IsJournalRefused}
 use Rattle.cspf_serve.specs.BatchRun.{version_lines}
-use Rattle.cspf_judge.specs.EarlyEnds.{IfRefused, IsJournalLine}
+use Rattle.std.specs.Io.KnownBytes.{Appends}
+use Rattle.cspf_judge.proofs.Fronts.{front_in_list}
+use Rattle.cspf_judge.specs.EarlyEnds.{IfRefused, IsJournalLine, WritesFront}
 use Rattle.cspf_serve.specs.EarlyEnds.{IsOwnFaultLine}
 use Rattle.cspf_serve.specs.PublishedBatches.{IsUnfitBehind, ArePublishedOrRefused}
 
@@ -45,6 +47,15 @@ version_more bs made numbered within =
     let none : NumberedChanges = record { number = 0; changes = [] } in
     let number : (get_or bs made none).number ≡ made + 1 = number_at 1 bs made none numbered within ∙ omega arith in
     rw (add-one made, take-suc bs made none within, ← add-one made) (simp flat_map-append (rw (number, append-nil (version_line (made + 1))) refl))
+
+-- of the versions those before one were written, and the beginning of that one
+pub version_front : (bs : List NumberedChanges) (made : ℕ) (old mid new : Option (List ℕ)) → AreNumberedFrom 1 bs → made < length bs
+    → Appends old mid (version_lines (take made bs)) → WritesFront mid new (version_line (made + 1)) → WritesFront old new (version_lines bs)
+version_front bs made old mid new numbered within before begun =
+    let none : NumberedChanges = record { number = 0; changes = [] } in
+    let number : (get_or bs made none).number ≡ made + 1 = number_at 1 bs made none numbered within ∙ omega arith in
+    front_in_list (λ (b : NumberedChanges). version_line b.number) bs made (get_or bs made none) none old mid new within refl before
+    (subst (λ (n : ℕ). WritesFront mid new (version_line n)) (sym number) begun)
 
 -- the number of the last batch
 last_number : (first : ℕ) (bs : List NumberedChanges) (b : NumberedChanges) → AreNumberedFrom first (bs ++ (b ∷ [])) → b.number ≡ first + length bs

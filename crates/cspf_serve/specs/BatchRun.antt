@@ -1,5 +1,5 @@
 -- The lines of a run over a journal and a stream of requests.
-use Rattle.std.specs.Prelude.{◌≡◌, ℕ, ◌⊎◌, Bool, List, [], ◌∷◌, ◌++◌, length}
+use Rattle.std.specs.Prelude.{◌≡◌, ℕ, ◌⊎◌, Bool, List, [], ◌∷◌, ◌++◌, length, take}
 use Rattle.std.specs.List.{flat_map}
 use Rattle.cspf_rows.specs.Records.{Records}
 use Rattle.cspf_model.specs.declared.refusal.Refusal.{Refusal}
@@ -66,3 +66,12 @@ IsBatchRun accept_torn journal requests lines status =
     (IsJournalRefused accept_torn journal lines × (status ≡ 2))
     ⊎ ((batches : List NumberedChanges) × AreBatchesOf accept_torn journal batches
     × AreAnsweredTogether batches requests lines status)
+
+-- The lines of a run that ends behind the batches or behind the reply to one of the requests, or all
+-- lines of a run that refuses something.
+abbrev pub IsBatchRunInPart : Bool → Records → Records → List ℕ → Type 0
+IsBatchRunInPart accept_torn journal requests lines =
+    IsBatchRun accept_torn journal requests lines 2
+    ⊎ ((batches : List NumberedChanges) × AreBatchesOf accept_torn journal batches
+    × ((asked : List Request) × AreRequestsOf requests asked
+    × ((count : ℕ) × AreAccepted batches (take count asked) lines)))

@@ -1,5 +1,5 @@
 -- Private: which batches of a journal are published, and what is written of them.
-use Rattle.std.specs.Prelude.{◌≡◌, ℕ, ◌⊎◌, Option, Some, None, List, ◌∷◌, ◌++◌}
+use Rattle.std.specs.Prelude.{◌≡◌, ℕ, ◌⊎◌, Option, Some, None, List, ◌∷◌, ◌++◌, take}
 use Rattle.cspf_model.specs.declared.refusal.Refusal.{Refusal}
 use Rattle.cspf_model.specs.Numbered.{NumberedChanges}
 use Rattle.cspf_model.specs.Changes.{database_after}
@@ -29,3 +29,8 @@ ArePublishedOrRefused batches published (Some line) = IsUnfitBehind batches publ
 abbrev pub IsAcceptedOrUnfit : List NumberedChanges → List Request → List ℕ → ℕ → Type 0
 IsAcceptedOrUnfit batches requests lines status =
     (AreAccepted batches requests lines × (status ≡ 0)) ⊎ (IsOneUnfit batches lines × (status ≡ 2))
+
+-- all batches are accepted and the first of the requests answered, or one of the batches doesn't fit
+abbrev pub IsAcceptedInPart : List NumberedChanges → List Request → List ℕ → Type 0
+IsAcceptedInPart batches requests lines =
+    ((count : ℕ) × AreAccepted batches (take count requests) lines) ⊎ IsOneUnfit batches lines

@@ -1,10 +1,10 @@
 //! Answers the requests of a run in parts, so that only the answers of one part are kept in memory.
 
-ghost use Rattle.std.specs.Prelude.{◌≡◌, ◌+◌, ◌<◌, ◌≤◌, ◌⊎◌, length, drop, All, IfOk, IfErr, OnOk, vec_len};
+ghost use Rattle.std.specs.Prelude.{◌≡◌, ℕ, ◌+◌, ◌<◌, ◌≤◌, ◌⊎◌, length, take, drop, All, IfOk, IfErr, OnOk, OnErr, vec_len};
 ghost use Rattle.cspf_model.specs.Changes.{database_after};
 ghost use Rattle.cspf_publish.specs.declared.limits.TheConstants.{MOST_ASKERS};
 ghost use Rattle.cspf_serve.specs.BatchRun.{AreReplies};
-ghost use Rattle.cspf_judge.specs.EarlyEnds.{Writes};
+ghost use Rattle.cspf_judge.specs.EarlyEnds.{HasBegun, Writes};
 ghost use Rattle.cspf_serve.specs.EarlyEnds.{IsErrorOfPart};
 ghost use Rattle.cspf_serve.specs.RunFaults.{IsStreamFault, IsAnsweringFault};
 ghost use Rattle.cspf_work.specs.declared.limits.TheConstants.{MOST_REQUESTS};
@@ -54,6 +54,9 @@ pub(super) fn answer_in_parts<J: Write, W: Write, G: Gate + Sync, T: Threads + S
     ensures text { OnOk result (Writes (W.contents writer.old) (W.contents writer.new)
         (AreReplies (database_after publisher.old.batches) (length publisher.old.batches)
         requests.now)) }
+    ensures begun { OnErr result (HasBegun (W.contents writer.old) (W.contents writer.new)
+        (λ lines. (count : ℕ) × AreReplies (database_after publisher.old.batches)
+        (length publisher.old.batches) (take count requests.now) lines)) }
     ensures error { IfErr result (λ e. IsStreamFault e ⊎ IsAnsweringFault (λ index version.
         (index < length requests.now) × (length publisher.old.batches < version)) e) }
 {
@@ -90,6 +93,9 @@ fn answer_from<J: Write, W: Write, G: Gate + Sync, T: Threads + Sync>(
     ensures text { OnOk result (Writes (W.contents writer.old) (W.contents writer.new)
         (AreReplies (database_after publisher.old.batches) (length publisher.old.batches)
         (drop first requests.now))) }
+    ensures begun { OnErr result (HasBegun (W.contents writer.old) (W.contents writer.new)
+        (λ lines. (count : ℕ) × AreReplies (database_after publisher.old.batches)
+        (length publisher.old.batches) (take count (drop first requests.now)) lines)) }
     ensures error { IfErr result (λ e. IsStreamFault e ⊎ IsAnsweringFault (λ index version.
         (first ≤ index) × (index < length requests.now)
         × (length publisher.old.batches < version)) e) }

@@ -1,17 +1,17 @@
 //! The run of `batch`: a journal and requests in, the lines of both out.
 
-ghost use Rattle.std.specs.Prelude.{◌≡◌, ℕ, ◌<◌, ◌⊎◌, ◌≤◌, ◌++◌, List, [], length, All, Ok, IfOk, IfErr, IfSome, OnOk, vec_len, false};
+ghost use Rattle.std.specs.Prelude.{◌≡◌, ℕ, ◌<◌, ◌⊎◌, ◌≤◌, ◌++◌, List, [], length, All, Ok, IfOk, IfErr, IfSome, OnOk, OnErr, vec_len, false};
 ghost use Rattle.std.specs.Io.KnownBytes.{Appends};
 ghost use Rattle.cspf_model.specs.Numbered.{NumberedChanges};
 ghost use Rattle.cspf_rows.specs.Records.{rows_of};
 ghost use Rattle.cspf_solve.specs.declared.summary.Summary.{Summary as Counts};
 ghost use Rattle.cspf_solve.specs.Script.{IsSolveRun};
-ghost use Rattle.cspf_judge.specs.EarlyEnds.{IfRefused, Writes};
+ghost use Rattle.cspf_judge.specs.EarlyEnds.{HasBegun, IfRefused, Writes};
 ghost use Rattle.cspf_judge.specs.Inputs.{AreBatchesOf, AreRequestsOf};
-ghost use Rattle.cspf_serve.specs.BatchRun.{IsBatchRun};
+ghost use Rattle.cspf_serve.specs.BatchRun.{IsBatchRun, IsBatchRunInPart};
 ghost use Rattle.cspf_serve.specs.BatchLaws.{IsCleanJournal};
 ghost use Rattle.cspf_serve.specs.EarlyEnds.{AreStreamsRefused};
-ghost use Rattle.cspf_serve.specs.PublishedBatches.{ArePublishedOrRefused, IsAcceptedOrUnfit};
+ghost use Rattle.cspf_serve.specs.PublishedBatches.{ArePublishedOrRefused, IsAcceptedInPart, IsAcceptedOrUnfit};
 ghost use Rattle.cspf_serve.specs.RunFaults.{IsStreamFault, IsAnsweringFault, IsBatchFault};
 ghost use Rattle.cspf_publish.specs.declared.limits.TheConstants.{MOST_ASKERS};
 ghost use Rattle.cspf_rows.specs.declared.limits.TheConstants.{MOST_ROWS};
@@ -45,7 +45,8 @@ struct Streams<R, Q> {
 /// Publishes the batches of a journal, one after the other, and then answers the requests of a
 /// stream at the last version by this many workers: `IsBatchRun`. One batch is kept at a time. Both
 /// streams are read before the first line is written. The status is 2 where anything was refused,
-/// and else 0. After an error the contents of the writer are unspecified. The writer isn't flushed.
+/// and else 0. After an error the writer has nothing more, or the beginning of those lines, up to the
+/// reply to some request: `IsBatchRunInPart`. The writer isn't flushed.
 pub fn run_batch<
     R: Read + Drop,
     Q: Read + Drop,
@@ -67,6 +68,10 @@ pub fn run_batch<
         IfSome (Q.remaining requests) (λ asked. (lines : List ℕ)
         × IsBatchRun accept_torn (rows_of kept) (rows_of asked) lines status
         × Appends (W.contents writer.old) (W.contents writer.new) lines))) }
+    ensures stopped { OnErr result (IfSome (R.remaining journal) (λ kept.
+        IfSome (Q.remaining requests) (λ asked.
+        HasBegun (W.contents writer.old) (W.contents writer.new)
+        (IsBatchRunInPart accept_torn (rows_of kept) (rows_of asked))))) }
     // The lines are those of one script of both streams.
     ensures script { result ≡ Ok 0 → IfSome (R.remaining journal) (λ kept.
         IfSome (Q.remaining requests) (λ asked. IsCleanJournal (rows_of kept)
@@ -101,6 +106,10 @@ fn answer<R: Read + Drop, Q: Read + Drop, W: Write, G: Gate + Sync, T: Threads +
         IfSome (Q.remaining streams.requests) (λ asked.
         Writes (W.contents writer.old) (W.contents writer.new) (λ lines.
         IsBatchRun streams.accept_torn (rows_of kept) (rows_of asked) lines status)))) }
+    ensures stopped { OnErr result (IfSome (R.remaining streams.journal) (λ kept.
+        IfSome (Q.remaining streams.requests) (λ asked.
+        HasBegun (W.contents writer.old) (W.contents writer.new)
+        (IsBatchRunInPart streams.accept_torn (rows_of kept) (rows_of asked))))) }
     ensures error { IfErr result (IsBatchFault streams.accept_torn
         (R.remaining streams.journal) (Q.remaining streams.requests)) }
 {
@@ -142,6 +151,10 @@ fn answer_lent<
         IfSome (Q.remaining streams.requests) (λ asked.
         Writes (W.contents writer.old) (W.contents writer.new) (λ lines.
         IsBatchRun streams.accept_torn (rows_of kept) (rows_of asked) lines status)))) }
+    ensures stopped { OnErr result (IfSome (R.remaining streams.journal) (λ kept.
+        IfSome (Q.remaining streams.requests) (λ asked.
+        HasBegun (W.contents writer.old) (W.contents writer.new)
+        (IsBatchRunInPart streams.accept_torn (rows_of kept) (rows_of asked))))) }
 {
     match publish_and_read(rt, alloc, streams, publisher) {
         Ok(ReadStreams { unfit, requests }) => {
@@ -209,6 +222,10 @@ fn answer_read<J: Write, W: Write, G: Gate + Sync, T: Threads + Sync>(
         → ArePublishedOrRefused batches publisher.old.batches unfit
         → Writes (W.contents writer.old) (W.contents writer.new) (λ lines.
         IsAcceptedOrUnfit batches requests.now lines status)) }
+    ensures begun { OnErr result ((batches : List NumberedChanges)
+        → ArePublishedOrRefused batches publisher.old.batches unfit
+        → HasBegun (W.contents writer.old) (W.contents writer.new)
+        (IsAcceptedInPart batches requests.now)) }
     ensures error { IfErr result (λ e. IsStreamFault e
         ⊎ IsAnsweringFault (λ index version. (index < length requests.now)
         × ((batches : List NumberedChanges) → ArePublishedOrRefused batches publisher.old.batches unfit

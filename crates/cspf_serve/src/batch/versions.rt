@@ -1,6 +1,7 @@
-ghost use Rattle.std.specs.Prelude.{◌≡◌, List, length, OnOk};
+ghost use Rattle.std.specs.Prelude.{◌≡◌, List, length, OnOk, OnErr};
 ghost use Rattle.std.specs.Io.KnownBytes.{Appends};
 ghost use Rattle.cspf_model.specs.Numbered.{NumberedChanges, AreNumberedFrom};
+ghost use Rattle.cspf_judge.specs.EarlyEnds.{WritesFront};
 ghost use Rattle.cspf_serve.specs.BatchRun.{version_lines};
 
 use cspf_judge::{JudgeError, JudgeLine, put_line};
@@ -17,6 +18,9 @@ pub(super) fn write_versions<W: Write>(
     ensures text { OnOk result ((batches : List NumberedChanges) → AreNumberedFrom 1 batches
         → length batches ≡ count
         → Appends (W.contents writer.old) (W.contents writer.new) (version_lines batches)) }
+    ensures front { OnErr result ((batches : List NumberedChanges) → AreNumberedFrom 1 batches
+        → length batches ≡ count
+        → WritesFront (W.contents writer.old) (W.contents writer.new) (version_lines batches)) }
 {
     for made in 0..count {
         let version = made + 1;

@@ -1,6 +1,7 @@
-ghost use Rattle.std.specs.Prelude.{◌≡◌, IfOk, IfErr};
-ghost use Rattle.cspf_judge.specs.EarlyEnds.{IsRefusalWritten};
-ghost use Rattle.cspf_serve.specs.RunFaults.{IsStreamFault};
+ghost use Rattle.std.specs.Prelude.{◌≡◌, IfOk, IfErr, OnErr};
+ghost use Rattle.cspf_judge.specs.EarlyEnds.{IsLastError, IsRefusalBegun, IsRefusalWritten};
+ghost use Rattle.cspf_judge.specs.declared.early_end.JudgeError.{JudgeError};
+ghost use Rattle.cspf_serve.specs.RunFaults.{IsStreamFault, judged_error_of};
 
 use crate::RunError;
 use cspf_judge::EarlyEnd;
@@ -13,7 +14,12 @@ pub(crate) fn refuse<W: Write>(alloc: Global, end: EarlyEnd, writer: &mut W) -> 
     ensures status { IfOk result (λ status. status ≡ 2) }
     ensures line { IfOk result (λ status.
         IsRefusalWritten end (W.contents writer.old) (W.contents writer.new)) }
+    ensures begun { OnErr result
+        (IsRefusalBegun end (W.contents writer.old) (W.contents writer.new)) }
     ensures error { IfErr result IsStreamFault }
+    // The error that ended the run keeps its name.
+    ensures last { IfErr result (λ e. (why : JudgeError) × IsLastError end why
+        × (e ≡ judged_error_of why)) }
 {
     Ok(cspf_judge::refuse(alloc, end, writer)?)
 }

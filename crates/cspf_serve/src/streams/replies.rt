@@ -1,9 +1,9 @@
-ghost use Rattle.std.specs.Prelude.{◌≡◌, IfErr, OnOk};
+ghost use Rattle.std.specs.Prelude.{◌≡◌, ℕ, take, IfErr, OnOk, OnErr};
 ghost use Rattle.std.specs.Io.KnownBytes.{Keeps as HoldsAsBefore};
 ghost use Rattle.cspf_ero.specs.ReplyLine.{IsReply};
 ghost use Rattle.cspf_model.specs.Outcome.{answer_of};
 ghost use Rattle.cspf_serve.specs.AnswerLines.{AreAnswerLines};
-ghost use Rattle.cspf_judge.specs.EarlyEnds.{Writes};
+ghost use Rattle.cspf_judge.specs.EarlyEnds.{HasBegun, Writes};
 
 use cspf_ero::reply_line;
 use cspf_judge::{JudgeError, put};
@@ -19,6 +19,8 @@ pub(crate) fn write_replies<W: Write>(
 ) -> Result<(), JudgeError>
     ensures text { OnOk result (Writes (W.contents writer.old) (W.contents writer.new)
         (AreAnswerLines answers.now)) }
+    ensures begun { OnErr result (HasBegun (W.contents writer.old) (W.contents writer.new)
+        (λ lines. (count : ℕ) × AreAnswerLines (take count answers.now) lines)) }
 {
     for answer in answers {
         write_reply(alloc, answer, writer)?;
@@ -29,6 +31,8 @@ pub(crate) fn write_replies<W: Write>(
 /// Writes the line of an answer.
 fn write_reply<W: Write>(alloc: Global, answer: &Answer, writer: &mut W) -> Result<(), JudgeError>
     ensures text { OnOk result (Writes (W.contents writer.old) (W.contents writer.new)
+        (IsReply answer.now.id answer.now.version (answer_of answer.now.outcome))) }
+    ensures begun { OnErr result (HasBegun (W.contents writer.old) (W.contents writer.new)
         (IsReply answer.now.id answer.now.version (answer_of answer.now.outcome))) }
     // Memory is refused before the first byte is written.
     ensures memory { IfErr result (λ e. e ≡ JudgeError.Memory
