@@ -174,6 +174,12 @@ step (Err found) f sort rest e = (
   ],
 )
 
+-- two more steps: the error is that of the first field, that of the second, or that of the rest
+two_steps : {A B : Type 0} (first : Result A RowError) (second : Result B RowError) (f : A → B → Result Row RowError) {One Two : Type 0} {NotOne NotTwo Rest : RowError → Type 0}
+    → IsSortRead first One NotOne → IsSortRead second Two NotTwo → ((x : A) → first ≡ Ok x → (y : B) → second ≡ Ok y → (e : RowError) → (f x y ≡ Err e) ↔ Rest e)
+    → (e : RowError) → ((first >>= (λ x. second >>= (λ y. f x y))) ≡ Err e) ↔ (NotOne e ⊎ (One × (NotTwo e ⊎ (Two × Rest e))))
+two_steps first second f one two rest = step _ _ one (λ x is_x. step _ _ two (λ y is_y. rest x is_x y is_y))
+
 -- two fields that are read as addresses spell one address exactly where these are one
 one_address : AreTextsRead → (fields : List (List ℕ)) (place other : ℕ) (a b : ℕ) → address_at fields place ≡ Ok a → address_at fields other ≡ Ok b
     → (a ≡ b) ↔ SpellOneAddress (field fields place) (field fields other)
@@ -219,26 +225,19 @@ read_whole r e = (λ same. cc, λ none. absurd none)
 put_refused : AreTextsRead → (fields : List (List ℕ)) (e : RowError) → (put_row_of fields ≡ Err e) ↔ AreFieldsRefused put_kind 2 (sorts_of put_kind) fields e
 unfolding put_row_of
 put_refused texts fields =
-    step _ _ (address_read texts fields 2) (λ from is_from.
-    step _ _ (address_read texts fields 3) (λ local is_local.
-    step _ _ (address_read texts fields 4) (λ to is_to.
-    step _ _ (address_read texts fields 5) (λ remote is_remote.
-    step _ _ (small_number_read texts fields 6) (λ metric is_metric.
-    step _ _ (mask_read texts fields 7) (λ group is_group.
-    step _ _ (number_read texts fields 8) (λ u0 is_u0.
-    step _ _ (number_read texts fields 9) (λ u1 is_u1.
-    step _ _ (number_read texts fields 10) (λ u2 is_u2.
-    step _ _ (number_read texts fields 11) (λ u3 is_u3.
-    step _ _ (number_read texts fields 12) (λ u4 is_u4.
-    step _ _ (number_read texts fields 13) (λ u5 is_u5.
-    step _ _ (number_read texts fields 14) (λ u6 is_u6.
-    step _ _ (number_read texts fields 15) (λ u7 is_u7.
-    put_ends texts fields _ _ is_from is_to))))))))))))))
+    two_steps _ _ _ (address_read texts fields 2) (address_read texts fields 3) (λ from is_from local is_local.
+    two_steps _ _ _ (address_read texts fields 4) (address_read texts fields 5) (λ to is_to remote is_remote.
+    two_steps _ _ _ (small_number_read texts fields 6) (mask_read texts fields 7) (λ metric is_metric group is_group.
+    two_steps _ _ _ (number_read texts fields 8) (number_read texts fields 9) (λ u0 is_u0 u1 is_u1.
+    two_steps _ _ _ (number_read texts fields 10) (number_read texts fields 11) (λ u2 is_u2 u3 is_u3.
+    two_steps _ _ _ (number_read texts fields 12) (number_read texts fields 13) (λ u4 is_u4 u5 is_u5.
+    two_steps _ _ _ (number_read texts fields 14) (number_read texts fields 15) (λ u6 is_u6 u7 is_u7.
+    put_ends texts fields _ _ is_from is_to)))))))
 
 -- a row of two fields is refused for one of its fields
 two_refused : {A B : Type 0} {first : Result A RowError} {second : Result B RowError} (make : A → B → Row) {One Two : Type 0} {NotOne NotTwo : RowError → Type 0}
     → IsSortRead first One NotOne → IsSortRead second Two NotTwo → (e : RowError) → (row_of_two first second make ≡ Err e) ↔ (NotOne e ⊎ (One × (NotTwo e ⊎ (Two × ⊥))))
-two_refused make one two = step _ _ one (λ x is_x. step _ _ two (λ y is_y. read_whole (make x y)))
+two_refused make one two = two_steps _ _ _ one two (λ x is_x y is_y. read_whole (make x y))
 
 drop_refused : AreTextsRead → (fields : List (List ℕ)) (e : RowError) → (drop_row_of fields ≡ Err e) ↔ AreFieldsRefused drop_kind 2 (sorts_of drop_kind) fields e
 unfolding drop_row_of
@@ -256,15 +255,11 @@ ask_refused : AreTextsRead → (fields : List (List ℕ)) (e : RowError) → (as
 unfolding ask_row_of
 ask_refused texts fields =
     step _ _ (number_read texts fields 2) (λ id is_id.
-    step _ _ (address_read texts fields 3) (λ from is_from.
-    step _ _ (address_read texts fields 4) (λ to is_to.
-    step _ _ (priority_read texts fields 5) (λ setup is_setup.
-    step _ _ (number_read texts fields 6) (λ bandwidth is_bandwidth.
-    step _ _ (mask_read texts fields 7) (λ exclude_any is_exclude_any.
-    step _ _ (mask_read texts fields 8) (λ include_any is_include_any.
-    step _ _ (mask_read texts fields 9) (λ include_all is_include_all.
-    step _ _ (hops_read texts fields 10) (λ list is_list.
-    ask_ends texts fields _ is_from is_to is_setup)))))))))
+    two_steps _ _ _ (address_read texts fields 3) (address_read texts fields 4) (λ from is_from to is_to.
+    two_steps _ _ _ (priority_read texts fields 5) (number_read texts fields 6) (λ setup is_setup bandwidth is_bandwidth.
+    two_steps _ _ _ (mask_read texts fields 7) (mask_read texts fields 8) (λ exclude_any is_exclude_any include_any is_include_any.
+    two_steps _ _ _ (mask_read texts fields 9) (hops_read texts fields 10) (λ include_all is_include_all list is_list.
+    ask_ends texts fields _ is_from is_to is_setup)))))
 
 -- a record of a kind: the number of its fields is checked first
 counted : (fields : List (List ℕ)) (count : ℕ) (read : Result Row RowError) (Rest : RowError → Type 0) (e : RowError) → (read ≡ Err e) ↔ Rest e
