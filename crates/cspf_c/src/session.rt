@@ -24,7 +24,8 @@ pub struct TakenRows {
     too_many: bool,
 }
 
-impl Answering<()> for TakenRows {
+/// No row needs its context.
+impl<C> Answering<C> for TakenRows {
     ghost answers = { IsOneMore };
 
     ghost fails = { λ place old fields new. Unit {0} };
@@ -33,7 +34,7 @@ impl Answering<()> for TakenRows {
 
     fn answer(
         &mut self,
-        _context: &(),
+        _context: &C,
         alloc: Global,
         _place: u64,
         fields: &ByteRecord,
