@@ -19,7 +19,7 @@ pub enum RecordError {
 
 impl RecordError {
     /// The fault of a stream: `memory` for refused memory, and `device` for a failed read.
-    pub(crate) fn of_stream<E: Copy>(self, memory: E, device: E) -> E
+    pub fn of_stream<E: Copy>(self, memory: E, device: E) -> E
         ensures { result ≡ stream_fault_of memory device self }
     {
         match self {

@@ -1,6 +1,4 @@
 ghost use Rattle.std.specs.Prelude.{◌≡◌};
-ghost use Rattle.cspf_rows.specs.ReadFaults.{stream_fault_of};
-ghost use Rattle.cspf_solve.specs.declared.error.SolveError.TheVariants as solve_error;
 
 use cspf_rows::RecordError;
 use std::alloc::AllocError;
@@ -24,6 +22,8 @@ pub enum SolveError {
 }
 
 impl From<AllocError> for SolveError {
+    ghost use Rattle.cspf_solve.specs.declared.error.SolveError.TheVariants as solve_error;
+
     ghost from_gives = { λ _ error. error ≡ solve_error.Memory };
 
     fn from(_refused: AllocError) -> SolveError {
@@ -32,12 +32,12 @@ impl From<AllocError> for SolveError {
 }
 
 impl From<RecordError> for SolveError {
+    ghost use Rattle.cspf_rows.specs.ReadFaults.{stream_fault_of};
+    ghost use Rattle.cspf_solve.specs.declared.error.SolveError.TheVariants as solve_error;
+
     ghost from_gives = { λ fault error. error ≡ stream_fault_of solve_error.Memory solve_error.Read fault };
 
     fn from(fault: RecordError) -> SolveError {
-        match fault {
-            RecordError::Memory => SolveError::Memory,
-            RecordError::Device => SolveError::Read,
-        }
+        fault.of_stream(SolveError::Memory, SolveError::Read)
     }
 }

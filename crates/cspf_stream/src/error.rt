@@ -38,9 +38,6 @@ impl From<RecordError> for StreamError {
     ghost from_gives = { λ fault error. error ≡ stream_fault_of stream_error.Memory stream_error.Read fault };
 
     fn from(fault: RecordError) -> StreamError {
-        match fault {
-            RecordError::Memory => StreamError::Memory,
-            RecordError::Device => StreamError::Read,
-        }
+        fault.of_stream(StreamError::Memory, StreamError::Read)
     }
 }
