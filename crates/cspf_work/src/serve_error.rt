@@ -1,8 +1,6 @@
 //! Why workers do not answer all requests.
 
 ghost use Rattle.std.specs.Prelude.{◌≡◌};
-ghost use Rattle.cspf_work.specs.AskingErrors.{serve_error_of};
-ghost use Rattle.cspf_work.specs.declared.serve_error.ServeError.TheVariants as serve_error;
 
 use cspf_publish::AskError;
 use std::alloc::AllocError;
@@ -43,6 +41,8 @@ pub enum ServeError {
 }
 
 impl From<AskError> for ServeError {
+    ghost use Rattle.cspf_work.specs.AskingErrors.{serve_error_of};
+
     ghost from_gives = { λ fault error. error ≡ serve_error_of fault };
 
     fn from(fault: AskError) -> ServeError {
@@ -54,6 +54,8 @@ impl From<AskError> for ServeError {
 }
 
 impl From<AllocError> for ServeError {
+    ghost use Rattle.cspf_work.specs.declared.serve_error.ServeError.TheVariants as serve_error;
+
     ghost from_gives = { λ _ error. error ≡ serve_error.Memory };
 
     fn from(_refused: AllocError) -> ServeError {
