@@ -1,12 +1,13 @@
 -- The output of a run that makes a journal's last database from nothing.
-use Rattle.std.specs.Prelude.{◌≡◌, ℕ, ◌⊎◌, Bool, List}
-use Rattle.cspf_rows.specs.Records.{Records}
+use Rattle.std.specs.Prelude.{◌≡◌, ℕ, ◌⊎◌, Bool, List, Option, IfSome}
+use Rattle.cspf_rows.specs.Records.{Records, rows_of}
 use Rattle.cspf_model.specs.Refusals.{IsFirstUnfit}
 use Rattle.cspf_model.specs.declared.refusal.Refusal.{Refusal}
 use Rattle.cspf_model.specs.Numbered.{NumberedChanges}
 use Rattle.cspf_model.specs.Changes.{AreLawful, database_after}
 use Rattle.cspf_rows.specs.JournalLaws.{journal_text}
 use Rattle.cspf_snapshot.specs.Snapshots.{IsSnapshot}
+use Rattle.cspf_judge.specs.EarlyEnds.{HasBegun, Writes}
 use Rattle.cspf_judge.specs.Inputs.{AreBatchesOf, IsJournalRefused}
 use Rattle.cspf_stream.specs.Lines.{refused_batch_line}
 use Rattle.cspf_stream.specs.declared.batch_refusal.BatchRefusal.TheVariants.{Unfit}
@@ -44,3 +45,13 @@ abbrev pub IsSnapshotRun : Bool → Records → List ℕ → ℕ → Type 0
 IsSnapshotRun accept_torn records lines status =
     IsSnapshotWritten accept_torn records lines status
     ⊎ (IsSnapshotRefused accept_torn records lines × (status ≡ 2))
+
+-- the lines of such a run are written, with this status, where the bytes of the journal are known
+abbrev pub WritesSnapshot : Bool → Option (List ℕ) → Option (List ℕ) → Option (List ℕ) → ℕ → Type 0
+WritesSnapshot accept_torn journal old new status =
+    IfSome journal (λ bytes. Writes old new (λ lines. IsSnapshotRun accept_torn (rows_of bytes) lines status))
+
+-- nothing was written, or the beginning of the lines of such a run
+abbrev pub HasBegunSnapshot : Bool → Option (List ℕ) → Option (List ℕ) → Option (List ℕ) → Type 0
+HasBegunSnapshot accept_torn journal old new =
+    IfSome journal (λ bytes. HasBegun old new (λ lines. (status : ℕ) × IsSnapshotRun accept_torn (rows_of bytes) lines status))

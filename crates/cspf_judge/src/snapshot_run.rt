@@ -1,11 +1,11 @@
 //! The run of `snapshot`: a journal in, the few batches that make its last database out.
 
-ghost use Rattle.std.specs.Prelude.{◌≡◌, ℕ, IfOk, IfErr, IfSome, OnOk, OnErr};
+ghost use Rattle.std.specs.Prelude.{◌≡◌, IfOk, IfErr, IfSome, OnOk, OnErr};
 ghost use Rattle.std.specs.Io.KnownBytes.{Appends};
 ghost use Rattle.cspf_rows.specs.JournalLaws.{journal_text};
 ghost use Rattle.cspf_rows.specs.Records.{rows_of};
-ghost use Rattle.cspf_judge.specs.EarlyEnds.{IfRefused, HasBegun, Writes, WritesFront};
-ghost use Rattle.cspf_judge.specs.SnapshotRun.{IsSnapshotOf, IsSnapshotRefused, IsSnapshotRun};
+ghost use Rattle.cspf_judge.specs.EarlyEnds.{IfRefused, WritesFront};
+ghost use Rattle.cspf_judge.specs.SnapshotRun.{IsSnapshotOf, IsSnapshotRefused, WritesSnapshot, HasBegunSnapshot};
 
 use crate::{EarlyEnd, JudgeError, batches_of, put, refuse};
 use cspf_db::{Table, replay_into};
@@ -25,12 +25,10 @@ pub fn run_snapshot<R: Read + Drop, W: Write>(
     accept_torn: bool,
     writer: &mut W,
 ) -> Result<u8, JudgeError>
-    ensures whole { IfOk result (λ status. IfSome (R.remaining journal) (λ bytes.
-        Writes (W.contents writer.old) (W.contents writer.new) (λ lines.
-        IsSnapshotRun accept_torn (rows_of bytes) lines status))) }
-    ensures stopped { OnErr result (IfSome (R.remaining journal) (λ bytes.
-        HasBegun (W.contents writer.old) (W.contents writer.new) (λ lines. (status : ℕ)
-        × IsSnapshotRun accept_torn (rows_of bytes) lines status))) }
+    ensures whole { IfOk result (WritesSnapshot accept_torn (R.remaining journal)
+        (W.contents writer.old) (W.contents writer.new)) }
+    ensures stopped { OnErr result (HasBegunSnapshot accept_torn (R.remaining journal)
+        (W.contents writer.old) (W.contents writer.new)) }
 {
     match snapshot_of(alloc, accept_torn, journal) {
         Ok(batches) => {

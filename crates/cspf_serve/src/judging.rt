@@ -1,10 +1,9 @@
-ghost use Rattle.std.specs.Prelude.{◌≡◌, ℕ, List, IfOk, IfErr, IfSome, OnErr};
+ghost use Rattle.std.specs.Prelude.{◌≡◌, ℕ, List, IfOk, IfErr, OnErr};
 ghost use Rattle.std.specs.Io.KnownBytes.{Appends};
 ghost use Rattle.cspf_judge.specs.AuditRun.{IsAuditRun};
-ghost use Rattle.cspf_judge.specs.SnapshotRun.{IsSnapshotRun};
-ghost use Rattle.cspf_judge.specs.EarlyEnds.{HasBegun, Writes};
+ghost use Rattle.cspf_judge.specs.SnapshotRun.{WritesSnapshot, HasBegunSnapshot};
+ghost use Rattle.cspf_judge.specs.EarlyEnds.{HasBegun};
 ghost use Rattle.cspf_serve.specs.RunFaults.{IsStreamFault};
-ghost use Rattle.cspf_rows.specs.Records.{rows_of};
 
 use crate::RunError;
 use std::alloc::Global;
@@ -41,12 +40,10 @@ pub fn run_snapshot<R: Read + Drop, W: Write>(
     writer: &mut W,
     accept_torn: bool,
 ) -> Result<u8, RunError>
-    ensures whole { IfOk result (λ status. IfSome (R.remaining journal) (λ bytes.
-        Writes (W.contents writer.old) (W.contents writer.new) (λ lines.
-        IsSnapshotRun accept_torn (rows_of bytes) lines status))) }
-    ensures stopped { OnErr result (IfSome (R.remaining journal) (λ bytes.
-        HasBegun (W.contents writer.old) (W.contents writer.new) (λ lines. (status : ℕ)
-        × IsSnapshotRun accept_torn (rows_of bytes) lines status))) }
+    ensures whole { IfOk result (WritesSnapshot accept_torn (R.remaining journal)
+        (W.contents writer.old) (W.contents writer.new)) }
+    ensures stopped { OnErr result (HasBegunSnapshot accept_torn (R.remaining journal)
+        (W.contents writer.old) (W.contents writer.new)) }
     ensures error { IfErr result IsStreamFault }
 {
     Ok(cspf_judge::run_snapshot(alloc, journal, accept_torn, writer)?)
