@@ -7,6 +7,7 @@ pub mod LineTexts
 pub mod OpenChanges
 pub mod RefusedRows
 pub mod RowAnswers
+pub mod RowCounts
 pub mod RowsTaken
 pub mod Sinks
 pub mod Steps

@@ -25,6 +25,7 @@ pub struct Rows<S> {
 }
 
 impl<S> Rows<S> {
+    ghost use Rattle.cspf_stream.specs.RowCounts.{CanCountOneMore, GrowsByOneAtMost};
     ghost use Rattle.cspf_stream.specs.RowsTaken.{RowsLead, IsBatchTaken, IsBatchDropped, IsEndAccepted, IsEndRefused, IsStepTaken, IsRowTaken, IsStepLost, IsRowLost};
 
     /// No change is open, and nothing was answered or refused.
@@ -52,16 +53,12 @@ impl<S> Rows<S> {
     ) -> Result<Vec<u8>, AllocError>
     where
         S: Sink<C>,
-        requires count { self.old.changes.count + 1 < 2 ^ 64 }
-        requires answers { self.old.answers + 1 < 2 ^ 64 }
-        requires refused { self.old.refused + 1 < 2 ^ 64 }
+        requires { CanCountOneMore self.old }
         ensures answered { IfOk result (λ line. RowsLead self.old self.new
             (λ s t. IsRowTaken S.spec place s row.now line.items t)) }
         ensures failed { OnErr result (RowsLead self.old self.new
             (λ s t. IsRowLost S.spec s row.now t)) }
-        ensures count { self.new.changes.count ≤ self.old.changes.count + 1 }
-        ensures answers { self.new.answers ≤ self.old.answers + 1 }
-        ensures refused { self.new.refused ≤ self.old.refused + 1 }
+        ensures counts { GrowsByOneAtMost self.old self.new }
     {
         match row {
             Ok(row) => self.take(context, alloc, Step::of(row)),
@@ -78,16 +75,12 @@ impl<S> Rows<S> {
     pub fn take<C>(&mut self, context: &C, alloc: Global, step: Step) -> Result<Vec<u8>, AllocError>
     where
         S: Sink<C>,
-        requires count { self.old.changes.count + 1 < 2 ^ 64 }
-        requires answers { self.old.answers + 1 < 2 ^ 64 }
-        requires refused { self.old.refused + 1 < 2 ^ 64 }
+        requires { CanCountOneMore self.old }
         ensures answered { IfOk result (λ line. RowsLead self.old self.new
             (λ s t. IsStepTaken S.spec s step line.items t)) }
         ensures failed { OnErr result (RowsLead self.old self.new
             (λ s t. IsStepLost S.spec s step t)) }
-        ensures count { self.new.changes.count ≤ self.old.changes.count + 1 }
-        ensures answers { self.new.answers ≤ self.old.answers + 1 }
-        ensures refused { self.new.refused ≤ self.old.refused + 1 }
+        ensures counts { GrowsByOneAtMost self.old self.new }
     {
         match step {
             Step::Change(change) => {
