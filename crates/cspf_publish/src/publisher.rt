@@ -5,6 +5,7 @@ ghost use Rattle.std.specs.Prelude.{◌≡◌, ◌<◌, ◌≤◌, ◌↔◌, �
 ghost use Rattle.std.specs.Io.KnownBytes.{Appends};
 ghost use Rattle.cspf_publish.specs.Answers.{IsAnswerAfter};
 ghost use Rattle.cspf_publish.specs.ApplyErrors.{IsApplyError, IsNextBatch};
+ghost use Rattle.cspf_publish.specs.PublisherStates.{IsAskerCount};
 ghost use Rattle.cspf_rows.specs.BatchText.{batch_text};
 ghost use Rattle.cspf_journal.specs.Histories.{IsHistory, MayFollow};
 ghost use Rattle.cspf_journal.specs.JournalSteps.{count_of};
@@ -58,11 +59,9 @@ pub fn open<W: Write, R: Wait>(
     ensures askers { IfOk result (λ opened.
         All (λ a. (a.batches ≡ []) × (a.source ≡ opened.0.source)) opened.1.items) }
     ensures count { IfOk result (λ opened. vec_len opened.1 ≡ askers) }
-    ensures within { OnOk result ((0 < askers) × (askers ≤ MOST_ASKERS)) }
-    ensures outside { IfErr result (λ e.
-        (e.0 ≡ OpenError.Askers) ↔ ¬ ((0 < askers) × (askers ≤ MOST_ASKERS))) }
-    ensures memory { IfErr result (λ e.
-        0 < askers → askers ≤ MOST_ASKERS → e.0 ≡ OpenError.Memory) }
+    ensures within { OnOk result (IsAskerCount askers) }
+    ensures outside { IfErr result (λ e. (e.0 ≡ OpenError.Askers) ↔ ¬ IsAskerCount askers) }
+    ensures memory { IfErr result (λ e. IsAskerCount askers → e.0 ≡ OpenError.Memory) }
     ensures journal { IfErr result (λ e. e.1 ≡ journal) }
 {
     open_over(rt, alloc, NewJournal::new(journal), askers)
@@ -82,11 +81,9 @@ pub fn open_over<W: Write, R: Wait>(
     ensures askers { IfOk result (λ opened.
         All (λ a. (a.batches ≡ []) × (a.source ≡ journal.source)) opened.1.items) }
     ensures count { IfOk result (λ opened. vec_len opened.1 ≡ askers) }
-    ensures within { OnOk result ((0 < askers) × (askers ≤ MOST_ASKERS)) }
-    ensures outside { IfErr result (λ e.
-        (e.0 ≡ OpenError.Askers) ↔ ¬ ((0 < askers) × (askers ≤ MOST_ASKERS))) }
-    ensures memory { IfErr result (λ e.
-        0 < askers → askers ≤ MOST_ASKERS → e.0 ≡ OpenError.Memory) }
+    ensures within { OnOk result (IsAskerCount askers) }
+    ensures outside { IfErr result (λ e. (e.0 ≡ OpenError.Askers) ↔ ¬ IsAskerCount askers) }
+    ensures memory { IfErr result (λ e. IsAskerCount askers → e.0 ≡ OpenError.Memory) }
     ensures journal { IfErr result (λ e. e.1 ≡ journal.writer) }
 {
     let (journal, right) = journal.start();
