@@ -37,7 +37,7 @@ def lines_of(versions):
 
 # What --explain says of a refused call.
 CAUSES = {
-    "malloc": rb"(routed: out of memory\n)?",  # nothing while the command line is read
+    "malloc": rb"(routed: (out of memory|client 1: no thread)\n)?",  # nothing while the command line is read; a thread takes memory too
     "read": rb"routed: (standard input|(journal|updates|requests|replies) /\S+): read: Input/output error \(os error 5\)\n",
     "write": rb"routed: standard output: (write|flush): No space left on device \(os error 28\)\n",
     "open": rb"routed: (journal|updates|requests|replies|a client's requests|a client's replies) /\S+: open: Too many open files \(os error 24\)\n",
@@ -46,10 +46,10 @@ CAUSES = {
 }
 
 
-def is_stopped(ran, flags):
-    """Status 3 and the lines; where each later write is refused as well, nobody can be told."""
-    told = re.fullmatch(CAUSES["break" if "break" in flags else flags[0]] + b"routed: stopped\n", ran.err)
-    return ran.status == 3 and (told or flags == ("write", "on") and not ran.err)
+def is_stopped(ran, flags, before=b""):
+    """Status 3 and the lines, maybe behind others; where each later write is refused as well, nobody can be told."""
+    told = re.fullmatch(before + CAUSES["break" if "break" in flags else flags[0]] + b"routed: stopped\n", ran.err)
+    return ran.status == 3 and bool(told or flags == ("write", "on") and not ran.err)
 
 
 class Solve:
@@ -179,6 +179,8 @@ class Serve:
 
     def is_right(self, ran, flags, kept, lines):
         """What is told of is in the journal, the client's lines are right as far as they go, and each refusal has its name."""
+        if flags[0] == "thread":  # then nothing is read
+            return (ran.status, ran.out, ran.err, kept, lines) == (3, b"", b"routed: client 1: no thread\nrouted: stopped\n", "", "")
         recorded = self.versions.recorded(kept)
         versions = re.findall(rb"(?m)^version (\d+)$", ran.out)
         *whole, rest = lines.split("\n")
@@ -187,7 +189,7 @@ class Serve:
         if rest and not flags[0] == "write":
             return False
         if ran.status == 3:
-            return bool(is_stopped(ran, flags)) or re.fullmatch(CLIENT_ENDS + b"(routed: [^\n]*\n)?routed: stopped\n", ran.err) is not None
+            return is_stopped(ran, flags, CLIENT_ENDS)
         named = all(re.fullmatch(NAMED, line) for line in ran.out.splitlines())
         return ran.status in (0, 2) and named and re.fullmatch(CLIENT_ENDS, ran.err) is not None
 
@@ -195,6 +197,20 @@ class Serve:
 # A client that ended before its rows, as --explain says it, and the lines that updates are answered by.
 CLIENT_ENDS = rb"(routed: client 1: (out of memory|no entry|/\S+: a (read|write|flush) failed)\n)?"
 NAMED = rb"version \d+|batch \d+ refused: (memory|stopped|journal \d+|expected \d+|counted \d+|absent \d+)|row \d+ refused: \S+( \d+)?|unended \d+"
+
+
+def writes(program, checks, refuser):
+    """A line of `solve` and of `serve` is one write, and so is a batch in the journal. Behind a write that is refused there is none."""
+    solve, serve = Solve(program), Serve(program)
+    lines = solve.lines.splitlines(keepends=True)
+    ran = refuser.run(solve.words, "write", 0, stdin=ABILENE)
+    checks.same("a write for each line of solve", (ran.out, ran.calls), (solve.lines, len(lines)))
+    for flags in ((), ("break",)):
+        found = [refuser.run(solve.words, "write", number, *flags, stdin=ABILENE) for number in range(1, len(lines) + 1)]
+        checks.same(f"lines before a refused write {flags}", [(ran.refused, ran.out) for ran in found], [(1, b"".join(lines[:at])) for at in range(len(lines))])
+    ran, is_whole, _ = serve.run(refuser, 0, ("write",))
+    batches = len(serve.versions.texts) - 1
+    checks.same("a write for each line and batch of serve", (is_whole, ran.calls), (True, 2 * batches + len(serve.versions.asks)))
 
 
 def refused(program, checks):
@@ -207,8 +223,9 @@ def refused(program, checks):
             def judge(number):
                 ran, is_whole, is_right = command.run(refuser, number, flags)
                 fault = ran.fault()
-                # nothing refused, or a byte moved in place of many: as if nothing had been
-                if fault is None and not (is_whole if ran.refused == 0 or "short" in flags else is_right):
+                # nothing refused, or a byte moved in place of many: as if nothing had been; what is refused by a full device isn't written again
+                is_as_ever, is_full = ran.refused == 0 or "short" in flags, flags in (("write",), ("write", "on"))
+                if fault is None and not (is_whole if is_as_ever else is_right and not (is_whole and is_full)):
                     fault = f"status {ran.status}, {ran.out[-200:]}, {ran.err[-200:]}"
                 return ran.refused != 0, fault
 
@@ -217,6 +234,7 @@ def refused(program, checks):
             tried[" ".join(flags)] += count
     for flags in REFUSALS:
         checks.true(f"calls are refused {flags}", tried[" ".join(flags)])
+    writes(program, checks, refuser)
     print(f"refused calls: {', '.join(f'{kind} {count}' for kind, count in tried.items())}, in {time.monotonic() - start:.0f} s")
     for number in range(1, 4):
         ran = refuser.run([program.path, "solve", "--none"], "write", number, "on")

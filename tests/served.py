@@ -12,7 +12,6 @@ import random
 import re
 import resource
 import select
-import shutil
 import signal
 import subprocess
 import tempfile
@@ -31,8 +30,6 @@ NARROW = 4096  # bytes that these hold
 LONGEST = 1 << 20  # the most bytes of a client's line
 REFUSED, AT_ONCE = 70_000, 500  # rows of one stream that are refused, and those of them that are sent before their lines are read
 STREAMS, STREAM_CLIENTS = 30, 6  # runs over streams of any bytes, and the clients of each
-THREADS = 20  # threads of a user, fewer than clients
-NOBODY = 65534  # a user without rights
 FRESH = ((2, 1500), (CLIENTS, 100))  # the clients of a run, and its batches
 KILLS, TERMINATED = 100, 10  # runs that are killed, and every so many of them by SIGTERM
 MOMENT, PATIENCE = 0.01, 60  # seconds: between batches and before a kill at most, and that a line is awaited
@@ -62,7 +59,6 @@ def served(program, checks):
         devices(program, checks, folder("devices"))
         closed(program, checks, folder("closed"))
         hung_up(program, checks, folder("hung_up"))
-        threadless(program, checks)
         streams(program, checks, folder("streams"), draw)
         refusals(program, checks, folder("refusals"))
         kills(program, checks, folder("kills"), versions, draw)
@@ -464,34 +460,6 @@ def refusals(program, checks, room):
             checks.same(f"serve with {name} {more}", found, (3, b"", f"{said}routed: stopped\n".encode()))
     with open(there, encoding="ascii") as file:
         checks.same("nothing is made or changed then", (os.listdir(room), file.read()), (["there"], "kept\n"))
-
-
-def threadless(program, checks):
-    """Where a client can't have a thread nothing is read, published or answered, and a client is named."""
-    with tempfile.TemporaryDirectory() as room:
-        path, journal, words, outs = os.path.join(room, "routed"), os.path.join(room, "journal"), [], []
-        shutil.copy(program.path, path)  # nobody may not reach where it was built
-        for number in range(CLIENTS):
-            outs.append(os.path.join(room, str(number)))
-            with open(f"{outs[-1]}.asks", "w", encoding="ascii") as file:
-                file.write("ask,1,10.0.0.1,10.0.0.2,0,0,0x0,0x0,0x0,\n")
-            words += ["--client", f"{outs[-1]}.asks={outs[-1]}"]
-        os.chmod(room, 0o777)
-
-        def limit():
-            """No user has more threads than these, but root; whoever has as many already gets none."""
-            resource.setrlimit(resource.RLIMIT_NPROC, (THREADS, THREADS))
-            if os.geteuid() == 0:
-                os.setgroups([])
-                os.setgid(NOBODY)
-                os.setuid(NOBODY)
-
-        ran = subprocess.run([path, "serve", "--explain", "--journal", journal, *words], input=b"end,1,0\n", capture_output=True,
-                             timeout=PATIENCE, preexec_fn=limit)
-        named = re.fullmatch(rb"routed: client (\d+): no thread\nrouted: stopped\n", ran.stderr)
-        checks.same("the status without a thread for each client", (ran.returncode, ran.stdout), (3, b""))
-        checks.true("a client without a thread is named", named and 1 <= int(named[1]) <= CLIENTS, ran.stderr)
-        checks.same("nothing is written then", {os.path.getsize(name) for name in [journal, *outs]}, {0})
 
 
 # ---- rows of any bytes
