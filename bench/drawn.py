@@ -57,17 +57,20 @@ def batches(draw, pairs, more):
     return load, changes
 
 
-def hop(draw, routers):
+def hop(draw, routers, of_one):
+    if of_one:
+        return f"{address(1, draw.randrange(routers))}/32l"
     bits = draw.choice([24, 30, 32, 32])
     return f"{address(1, draw.randrange(routers))}/{bits}{draw.choice('llls')}"
 
 
-def requests(draw, routers, count, hops):
+def requests(draw, routers, count, hops, of_one=False):
+    """Requests with as many hops each, any or loose ones of one router each."""
     lines = []
     for number in range(count):
         a, b = draw.sample(range(routers), 2)
         exclude = draw.choice(["0x0", "0x0", "0x1", "0x8"])
-        along = " ".join(hop(draw, routers) for _ in range(hops))
+        along = " ".join(hop(draw, routers, of_one) for _ in range(hops))
         lines.append(f"ask,{number},{address(1, a)},{address(1, b)},{draw.randrange(8)},"
                      f"{draw.randrange(1, 600) * 1_000_000},{exclude},0x0,0x0,{along}\n")
     return lines
