@@ -163,3 +163,12 @@ locals_by nodes are x y i j hi hj is_x is_y v w l k ev ew e =
     let lengths : length (walk_of nodes x) ≡ length (walk_of nodes y) =
     omega (arith, e, ap (λ (u : List Link). length u) front_v, ap (λ (u : List Link). length u) front_w, length_push (walk_of nodes x) l, length_push (walk_of nodes y) k) in
     (λ t. locals_cmp (front_v t) (front_w t)) ∙ locals_cmp-last (walk_of nodes x) (walk_of nodes y) l k lengths
+
+-- two walks by a link each from one node, by these links
+pub locals_by_one : (nodes : List Node) (i j : ℕ) → i ≡ j → (v w : List Link) (l k : Link) → v ≡ walk_at (walks nodes) i ++ (l ∷ []) → w ≡ walk_at (walks nodes) j ++ (k ∷ [])
+    → locals_cmp v w ≡ nat_cmp l.local k.local
+locals_by_one nodes i j one v w l k ev ew =
+    let front = walk_at (walks nodes) i in
+    let from_one : w ≡ front ++ (k ∷ []) = ew ∙ ap (λ n. walk_at (walks nodes) n ++ (k ∷ [])) (sym one) in
+    (λ t. locals_cmp (ev t) (from_one t)) ∙ locals_cmp-last front front l k refl
+    ∙ ap (λ o. ordering_then o (nat_cmp l.local k.local)) (tied_itself nat_list_cmp_total (locals_of front))

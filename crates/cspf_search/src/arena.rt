@@ -5,6 +5,7 @@ ghost use Rattle.std.specs.Prelude.{◌≡◌, ◌<◌, IfOk, length};
 ghost use Rattle.cspf_search.specs.Settled.{locals_cmp};
 ghost use Rattle.cspf_search.specs.Arena.{AreNodes, IsNext, index_of, walk_at, walk_of, walks};
 
+use crate::last::Last;
 use cspf_addr::Addr;
 use cspf_model::Link;
 use std::alloc::{AllocError, Global};
@@ -12,12 +13,12 @@ use std::cmp::Ordering;
 
 /// A walk that the search has settled at its state: its last link, and the node of the walk before
 /// that link.
-#[derive(Clone, Copy, Debug)]
-pub(crate) struct Node {
+#[derive(Drop)]
+pub(crate) struct Node<'a> {
     /// The index of the node whose walk is this one without its last link.
     pub(crate) parent: usize,
     /// The last link. A walk of no links has none.
-    pub(crate) by: Option<Link>,
+    pub(crate) by: Last<'a>,
     /// The leg of the request that the walk has reached, from 1.
     pub(crate) leg: usize,
     /// The router that the walk has reached.
@@ -29,7 +30,7 @@ pub(crate) struct Node {
 }
 
 /// The index of the node at a router in a leg, if there is one.
-pub(crate) fn index_of(nodes: &[Node], leg: usize, router: Addr) -> Option<usize>
+pub(crate) fn index_of(nodes: &[Node<'_>], leg: usize, router: Addr) -> Option<usize>
     ensures { result ≡ index_of nodes.now (record { leg = leg; router = router }) }
 {
     nodes
@@ -38,15 +39,19 @@ pub(crate) fn index_of(nodes: &[Node], leg: usize, router: Addr) -> Option<usize
 }
 
 /// The links of the walk of the node at an index, in order.
-pub(crate) fn links_to(alloc: Global, nodes: &[Node], at: usize) -> Result<Vec<Link>, AllocError>
+pub(crate) fn links_to(
+    alloc: Global,
+    nodes: &[Node<'_>],
+    at: usize,
+) -> Result<Vec<Link>, AllocError>
     requires arena { AreNodes nodes.now }
     requires within { at < length nodes.now }
     ensures { IfOk result (λ links. links.items ≡ walk_at (walks nodes.now) at) }
 {
     let mut links = Vec::with_capacity(alloc, nodes[at].links)?;
     let mut index = at;
-    while let Some(link) = nodes[index].by {
-        links.push(link)?;
+    while let Some(link) = nodes[index].by.get() {
+        links.push(*link)?;
         index = nodes[index].parent;
     }
     links.reverse();
@@ -55,7 +60,7 @@ pub(crate) fn links_to(alloc: Global, nodes: &[Node], at: usize) -> Result<Vec<L
 
 /// Compares the local addresses of two walks with the same number of links, from the first link on.
 /// A common prefix isn't looked at.
-pub(crate) fn locals(nodes: &[Node], a: &Node, b: &Node) -> Ordering
+pub(crate) fn locals<'a>(nodes: &[Node<'a>], a: &Node<'a>, b: &Node<'a>) -> Ordering
     requires arena { AreNodes nodes.now }
     requires first { IsNext nodes.now a.now }
     requires second { IsNext nodes.now b.now }
@@ -67,7 +72,7 @@ pub(crate) fn locals(nodes: &[Node], a: &Node, b: &Node) -> Ordering
     let mut x = a;
     let mut y = b;
     for _step in 0..count {
-        let (Some(l), Some(m)) = (&x.by, &y.by) else {
+        let (Some(l), Some(m)) = (x.by.get(), y.by.get()) else {
             unreachable!();
         };
         found = l.local.cmp(&m.local).then(found);

@@ -23,7 +23,7 @@ pub(crate) struct ForwardStar<'a> {
 }
 
 /// The forward star of a node.
-pub(crate) fn star_of<'a>(table: &'a Table, node: &Node) -> ForwardStar<'a>
+pub(crate) fn star_of<'a>(table: &'a Table, node: &Node<'_>) -> ForwardStar<'a>
     requires listed { AreListed table.now }
     requires known { IsRouterOf table.now node.now.router }
     requires from_one { 1 ≤ node.now.leg }

@@ -35,7 +35,7 @@ struct Source<'a> {
     query: Query<'a>,
     goal: Goal<'a>,
     /// The settled nodes.
-    nodes: &'a [Node],
+    nodes: &'a [Node<'a>],
     /// The index of this one among them.
     at: usize,
     /// The index of its state.
@@ -45,8 +45,9 @@ struct Source<'a> {
 }
 
 /// Compares the local addresses of the walks of two labels with the same number of links, from the
-/// first link on. Only where one of them is a turn to the next leg are their nodes made.
-fn compare_tied(table: &Table, nodes: &[Node], a: &Label, b: &Label) -> Ordering
+/// first link on. From one node their last links decide. Only where one of them is a turn to the
+/// next leg are their nodes made.
+fn compare_tied<'a>(table: &'a Table, nodes: &[Node<'a>], a: &Label, b: &Label) -> Ordering
     requires arena { AreNodes nodes.now }
     requires offered { IsOffer table.now nodes.now b.now }
     requires tied { AreTied table.now nodes.now a.now b.now }
@@ -56,15 +57,18 @@ fn compare_tied(table: &Table, nodes: &[Node], a: &Label, b: &Label) -> Ordering
     let (Some(l), Some(m)) = (link_of(table, a), link_of(table, b)) else {
         return locals(nodes, &node_of(table, nodes, a), &node_of(table, nodes, b));
     };
+    if a.parent == b.parent {
+        return l.local.cmp(&m.local);
+    }
     let (x, y) = (&nodes[usize::from(a.parent)], &nodes[usize::from(b.parent)]);
     locals(nodes, x, y).then(l.local.cmp(&m.local))
 }
 
 /// Gives the state at an index this label, and has it wait with this key. Where the label of the
 /// state has the same rank, it waits already, and the first of the two labels stays.
-fn offer(
-    table: &Table,
-    nodes: &[Node],
+fn offer<'a>(
+    table: &'a Table,
+    nodes: &[Node<'a>],
     labels: &mut [Label],
     heap: &mut BinaryHeap<Waiting, Global>,
     index: usize,
@@ -181,7 +185,7 @@ fn offer_link(
 /// router, if its walk may leave that.
 pub(crate) fn expand(
     query: Query<'_>,
-    nodes: &[Node],
+    nodes: &[Node<'_>],
     labels: &mut [Label],
     heap: &mut BinaryHeap<Waiting, Global>,
     goal: Goal<'_>,

@@ -10,6 +10,7 @@ ghost use Rattle.cspf_search.specs.Frontier.{lift, node_of, key_at, heap_key_cmp
 
 use crate::arena::Node;
 use crate::goal::{Goal, lift};
+use crate::last::Last;
 use crate::limits::ROOM_FOR_WAITING;
 use cspf_db::Table;
 use cspf_model::{Link, Request};
@@ -61,7 +62,7 @@ pub(crate) fn link_of<'a>(table: &'a Table, label: &Label) -> Option<&'a Link>
 }
 
 /// The node that a label describes.
-pub(crate) fn node_of(table: &Table, nodes: &[Node], label: &Label) -> Node
+pub(crate) fn node_of<'a>(table: &'a Table, nodes: &[Node<'a>], label: &Label) -> Node<'a>
     requires arena { AreNodes nodes.now }
     requires parent { label.now.parent < length nodes.now }
     requires place { label.now.place < length (router_list table.now) }
@@ -72,15 +73,19 @@ pub(crate) fn node_of(table: &Table, nodes: &[Node], label: &Label) -> Node
     match link_of(table, label) {
         Some(link) => Node {
             parent: at,
-            by: Some(*link),
+            by: Last { link: Some(link) },
             leg: from.leg,
             router: link.to,
             cost: from.cost + u64::from(link.metric),
             links: from.links + 1,
         },
         None => Node {
+            parent: from.parent,
+            by: from.by.same(),
             leg: from.leg + 1,
-            ..*from
+            router: from.router,
+            cost: from.cost,
+            links: from.links,
         },
     }
 }

@@ -11,6 +11,7 @@ mod forward_star;
 mod frontier;
 mod goal;
 mod labels;
+mod last;
 mod limits;
 mod query;
 mod ring;

@@ -17,6 +17,7 @@ ghost use Rattle.cspf_search.specs.Source.{IsEdge};
 use crate::arena::{Node, locals};
 use crate::edge::Edge;
 use crate::forward_star::ForwardStar;
+use crate::last::Last;
 use crate::limits::COST_WEIGHT;
 use crate::query::Query;
 use cspf_db::{NO_LINK, Table};
@@ -26,7 +27,7 @@ use std::cmp::Ordering;
 
 /// Compares two nodes: by the cost of their walks, then by the number of links, then by the leg,
 /// then by the local addresses from the first link on.
-fn compare(nodes: &[Node], a: &Node, b: &Node) -> Ordering
+fn compare<'a>(nodes: &[Node<'a>], a: &Node<'a>, b: &Node<'a>) -> Ordering
     requires arena { AreNodes nodes.now }
     requires first { IsNext nodes.now a.now }
     requires second { IsNext nodes.now b.now }
@@ -44,7 +45,7 @@ fn compare(nodes: &[Node], a: &Node, b: &Node) -> Ordering
 }
 
 /// Whether the best node ranks before any node of this cost and this number of links.
-fn is_late(best: &Option<Node>, cost: u64, links: usize) -> bool
+fn is_late(best: &Option<Node<'_>>, cost: u64, links: usize) -> bool
     ensures { IsTrue result ↔ IsSomeAnd best.now (λ kept. RanksBefore kept cost links) }
 {
     match best {
@@ -54,11 +55,11 @@ fn is_late(best: &Option<Node>, cost: u64, links: usize) -> bool
 }
 
 /// Keeps a node in place of the best one, if it comes before that.
-fn keep(nodes: &[Node], best: &mut Option<Node>, node: Node)
+fn keep<'a>(nodes: &[Node<'a>], best: &mut Option<Node<'a>>, node: Node<'a>)
     requires arena { AreNodes nodes.now }
     requires first { ForSome best.old (IsNext nodes.now) }
     requires second { IsNext nodes.now node }
-    ensures { best.new ≡ earlier_of nodes.now best.old (Some node) }
+    ensures { best.new ≡ earlier_of nodes.now best.old (Some node.entry) }
 {
     if let Some(kept) = best {
         if !compare(nodes, kept, &node).is_gt() {
@@ -70,33 +71,33 @@ fn keep(nodes: &[Node], best: &mut Option<Node>, node: Node)
 
 /// The state at the start of a round.
 #[derive(Clone, Copy)]
-pub(crate) struct Round<'a> {
-    pub(crate) query: Query<'a>,
+pub(crate) struct Round<'a, 'b> {
+    pub(crate) query: Query<'b>,
     /// The settled nodes.
-    pub(crate) nodes: &'a [Node],
+    pub(crate) nodes: &'a [Node<'b>],
     /// The forward star of each.
-    pub(crate) stars: &'a [ForwardStar<'a>],
+    pub(crate) stars: &'a [ForwardStar<'b>],
     /// For each state whether it has a node.
     pub(crate) marks: &'a [bool],
 }
 
 /// A settled node that a round looks on from.
 #[derive(Clone, Copy)]
-struct Look<'a> {
-    query: Query<'a>,
+struct Look<'a, 'b> {
+    query: Query<'b>,
     /// The settled nodes.
-    nodes: &'a [Node],
+    nodes: &'a [Node<'b>],
     /// For each state whether it has a node.
     marks: &'a [bool],
     /// The index of this node among them.
     at: usize,
     /// Its forward star.
-    star: ForwardStar<'a>,
+    star: ForwardStar<'b>,
 }
 
 /// The node that the turn to the next leg leads to from this node. There has to be a next leg,
 /// nothing may be settled there, and this node has to be at a target of its leg.
-fn look_at_turn(look: Look<'_>) -> Option<Node>
+fn look_at_turn<'b>(look: Look<'_, 'b>) -> Option<Node<'b>>
     requires look { IsLook look }
     ensures { IsFirst look.entry.nodes.now (LeadsToRow look.entry 0) result }
 {
@@ -111,17 +112,21 @@ fn look_at_turn(look: Look<'_>) -> Option<Node>
     if !role.target {
         return None;
     }
-    let from = nodes[look.at];
+    let from = &nodes[look.at];
     Some(Node {
+        parent: from.parent,
+        by: from.by.same(),
         leg: from.leg + 1,
-        ..from
+        router: from.router,
+        cost: from.cost,
+        links: from.links,
     })
 }
 
 /// Keeps the node that a link leads to from this node, if it comes before the best. The request has
 /// to be able to use the link, and a route to enter the router where it ends. The walk may leave
 /// its router, and nothing is settled where the link ends.
-fn look_at_link(look: Look<'_>, edge: Edge<'_>, best: &mut Option<Node>)
+fn look_at_link<'b>(look: Look<'_, 'b>, edge: Edge<'b>, best: &mut Option<Node<'b>>)
     requires look { IsLook look }
     requires leaves { NodeMayLeave look.query.table.now look.nodes.now look.at look.star.state }
     requires edge { IsEdge look.query.table.now (look.star.state % MOST_ROUTERS) edge }
@@ -132,7 +137,7 @@ fn look_at_link(look: Look<'_>, edge: Edge<'_>, best: &mut Option<Node>)
         (LeadsToRow look.entry (edge.entry.row + 1)) best.new }
 {
     let (nodes, state) = (look.nodes, look.star.state);
-    let from = nodes[look.at];
+    let from = &nodes[look.at];
     let cost = from.cost + u64::from(edge.link.metric);
     let count = from.links + 1;
     if is_late(best, cost, count) {
@@ -147,7 +152,9 @@ fn look_at_link(look: Look<'_>, edge: Edge<'_>, best: &mut Option<Node>)
     }
     let node = Node {
         parent: look.at,
-        by: Some(*edge.link),
+        by: Last {
+            link: Some(edge.link),
+        },
         leg: from.leg,
         router: edge.link.to,
         cost,
@@ -159,7 +166,7 @@ fn look_at_link(look: Look<'_>, edge: Edge<'_>, best: &mut Option<Node>)
 /// Keeps the node that the link in a row leads to from this node, if it comes before the best.
 /// Nothing may be settled there, the request has to be able to use the link, and a route to enter
 /// there. The walk may leave its router.
-fn look_at_row(look: Look<'_>, row: usize, best: &mut Option<Node>)
+fn look_at_row<'b>(look: Look<'_, 'b>, row: usize, best: &mut Option<Node<'b>>)
     requires look { IsLook look }
     requires leaves { NodeMayLeave look.query.table.now look.nodes.now look.at look.star.state }
     requires row { row < length (links_from_index look.query.table.now (look.star.state % MOST_ROUTERS)) }
@@ -184,7 +191,7 @@ fn look_at_row(look: Look<'_>, row: usize, best: &mut Option<Node>)
 }
 
 /// The first node that the turn leads to from this node, or a link if the walk may leave its router.
-fn look_from(look: Look<'_>) -> Option<Node>
+fn look_from<'b>(look: Look<'_, 'b>) -> Option<Node<'b>>
     requires look { IsLook look }
     ensures { IsFirst look.entry.nodes.now
         (CrossesFrom look.entry.query.table.now look.entry.query.request.now look.entry.nodes.now
@@ -202,7 +209,7 @@ fn look_from(look: Look<'_>) -> Option<Node>
 }
 
 /// The rank of the node, if there is one, and else more than any rank.
-fn low_of(nodes: &[Node], found: &Option<Node>) -> u64
+fn low_of(nodes: &[Node<'_>], found: &Option<Node<'_>>) -> u64
     requires arena { AreNodes nodes.now }
     requires next { ForSome found.now (IsNext nodes.now) }
     ensures { result ≡ low_of found.now }
@@ -215,7 +222,7 @@ fn low_of(nodes: &[Node], found: &Option<Node>) -> u64
 
 /// Whether all that leads on from a node comes after the best one, where none of it ranks below the
 /// number.
-fn is_passed(nodes: &[Node], best: &Option<Node>, low: u64) -> bool
+fn is_passed(nodes: &[Node<'_>], best: &Option<Node<'_>>, low: u64) -> bool
     requires arena { AreNodes nodes.now }
     requires next { ForSome best.now (IsNext nodes.now) }
     ensures { result ≡ true → (low ≡ no_rank) ⊎ (low_of best.now < low) }
@@ -224,11 +231,11 @@ fn is_passed(nodes: &[Node], best: &Option<Node>, low: u64) -> bool
 }
 
 /// Keeps a node in place of the best one, if there is one and it comes before that.
-fn keep_found(nodes: &[Node], best: &mut Option<Node>, found: Option<Node>)
+fn keep_found<'a>(nodes: &[Node<'a>], best: &mut Option<Node<'a>>, found: Option<Node<'a>>)
     requires arena { AreNodes nodes.now }
     requires first { ForSome best.old (IsNext nodes.now) }
     requires second { ForSome found (IsNext nodes.now) }
-    ensures { best.new ≡ earlier_of nodes.now best.old found }
+    ensures { best.new ≡ earlier_of nodes.now best.old found.entry }
 {
     if let Some(node) = found {
         keep(nodes, best, node);
@@ -237,7 +244,7 @@ fn keep_found(nodes: &[Node], best: &mut Option<Node>, found: Option<Node>)
 
 /// The first node that a turn or a link leads to from any node. For each node `lows` has a number
 /// below which nothing ranks that leads on from it, before and after.
-pub(crate) fn first(round: Round<'_>, lows: &mut Vec<u64>) -> Option<Node>
+pub(crate) fn first<'b>(round: Round<'_, 'b>, lows: &mut Vec<u64>) -> Option<Node<'b>>
     requires round { IsRound round }
     requires lows { AreLows round.query.table.now round.query.request.now round.nodes.now lows.old.items }
     ensures first { IsFirst round.entry.nodes.now

@@ -27,6 +27,7 @@ use crate::forward_star::star_of;
 use crate::frontier::expand;
 use crate::goal::Goal;
 use crate::labels::{Label, OPEN, SETTLED, Waiting, drop_closed, least, node_of};
+use crate::last::Last;
 use crate::limits::{NO_WAY, ROOM_FOR_NODES, ROOM_FOR_WAITING};
 use crate::query::Query;
 use crate::rounds::{Round, first};
@@ -37,25 +38,25 @@ use std::alloc::{AllocError, Global};
 use std::collections::BinaryHeap;
 
 /// The head-end alone in the first leg, which nothing leads to.
-fn rooted(alloc: Global, request: &Request) -> Result<Vec<Node>, AllocError>
+fn rooted<'a>(alloc: Global, request: &'a Request) -> Result<Vec<Node<'a>>, AllocError>
     ensures { IfOk result (λ nodes. nodes.items ≡ root_of request.now ∷ []) }
 {
     let root = Node {
         parent: 0,
-        by: None,
+        by: Last { link: None },
         leg: 1,
         router: request.from,
         cost: 0,
         links: 0,
     };
     let mut nodes = Vec::with_capacity(alloc, ROOM_FOR_NODES)?;
-    nodes.extend_from_slice(&[root])?;
+    nodes.push(root)?;
     Ok(nodes)
 }
 
 /// The node to settle next, unless the tail-end is settled in the last of the legs or nothing leads
 /// on.
-fn next(round: Round<'_>, lows: &mut Vec<u64>) -> Option<Node>
+fn next<'b>(round: Round<'_, 'b>, lows: &mut Vec<u64>) -> Option<Node<'b>>
     requires round { IsRound round }
     requires lows { AreLows round.query.table.now round.query.request.now round.nodes.now lows.old.items }
     ensures some { IfSome result
@@ -73,7 +74,7 @@ fn next(round: Round<'_>, lows: &mut Vec<u64>) -> Option<Node>
 
 /// The nodes that are settled when the tail-end is in the last of the legs, or when nothing leads
 /// on.
-fn settled(alloc: Global, query: Query<'_>) -> Result<Vec<Node>, AllocError>
+fn settled<'a>(alloc: Global, query: Query<'a>) -> Result<Vec<Node<'a>>, AllocError>
     requires query { IsQuery query }
     requires known { IsRouterOf query.table.now query.request.now.from }
     ensures { IfOk result (λ nodes. IsSearched query.entry.table.now query.entry.request.now nodes.items) }
@@ -94,7 +95,7 @@ fn settled(alloc: Global, query: Query<'_>) -> Result<Vec<Node>, AllocError>
         &mut lows,
     ) {
         let star = star_of(query.table, &node);
-        nodes.extend_from_slice(&[node])?;
+        nodes.push(node)?;
         stars.extend_from_slice(&[star])?;
         lows.push(0)?;
         marks[star.state] = true;
@@ -103,7 +104,7 @@ fn settled(alloc: Global, query: Query<'_>) -> Result<Vec<Node>, AllocError>
 }
 
 /// The route along the walk of the node at an index.
-fn route_to(alloc: Global, nodes: &[Node], at: usize) -> Result<Route, AllocError>
+fn route_to(alloc: Global, nodes: &[Node<'_>], at: usize) -> Result<Route, AllocError>
     requires arena { AreNodes nodes.now }
     requires within { at < length nodes.now }
     requires some { 0 < length (walk_at (walks nodes.now) at) }
@@ -150,7 +151,12 @@ fn close(
 
 /// As `settled`, from a heap. Where the bounds say that there is no way from the head-end, only
 /// that is settled. The head-end and the tail-end are given by their index in the list of routers.
-fn reached(alloc: Global, query: Query<'_>, from: usize, to: usize) -> Result<Vec<Node>, AllocError>
+fn reached<'a>(
+    alloc: Global,
+    query: Query<'a>,
+    from: usize,
+    to: usize,
+) -> Result<Vec<Node<'a>>, AllocError>
     requires query { IsQuery query }
     requires from { IsIndexOf query.table.now query.request.now.from from }
     requires to { IsIndexOf query.table.now query.request.now.to to }
@@ -173,7 +179,7 @@ fn reached(alloc: Global, query: Query<'_>, from: usize, to: usize) -> Result<Ve
     while let Some(at) = least(query.table, query.request, goal, &labels, &mut heap) {
         let node = node_of(query.table, &nodes, &labels[at]);
         let index = nodes.len();
-        nodes.extend_from_slice(&[node])?;
+        nodes.push(node)?;
         if at == goal.at {
             return Ok(nodes);
         }
@@ -185,7 +191,7 @@ fn reached(alloc: Global, query: Query<'_>, from: usize, to: usize) -> Result<Ve
 }
 
 /// The outcome that the settled nodes give.
-fn answer(alloc: Global, query: Query<'_>, nodes: &[Node]) -> Result<Outcome, AllocError>
+fn answer(alloc: Global, query: Query<'_>, nodes: &[Node<'_>]) -> Result<Outcome, AllocError>
     requires query { IsQuery query }
     requires ends { HasEnds query.table.now query.request.now }
     requires searched { IsSearched query.table.now query.request.now nodes.now }
@@ -199,13 +205,13 @@ fn answer(alloc: Global, query: Query<'_>, nodes: &[Node]) -> Result<Outcome, Al
 }
 
 /// The nodes that one of both searches settles: by rounds, or from a heap.
-fn searched(
+fn searched<'a>(
     alloc: Global,
-    query: Query<'_>,
+    query: Query<'a>,
     from: usize,
     to: usize,
     by_rounds: bool,
-) -> Result<Vec<Node>, AllocError>
+) -> Result<Vec<Node<'a>>, AllocError>
     requires query { IsQuery query }
     requires known { IsRouterOf query.table.now query.request.now.from }
     requires from { IsIndexOf query.table.now query.request.now.from from }

@@ -2,7 +2,7 @@ use Rattle.std.proofs.Common.{◌≡◌, ◌++◌, Some, [], ◌∷◌, option_m
 use Rattle.cspf_db.specs.Index.{links_from_index}
 use Rattle.cspf_search.specs.Arena.{walk_at, walks, walk_of}
 use Rattle.cspf_search.specs.Frontier.{node_by, node_of, nowhere}
-use Rattle.cspf_search.proofs.Backs.{locals_by}
+use Rattle.cspf_search.proofs.Backs.{locals_by, locals_by_one}
 use Rattle.cspf_search.proofs.frontier.compare_tied.Goals as goal
 
 pub returns : goal.returns
@@ -20,9 +20,27 @@ returns c =
     ap (λ by. walk_of nodes (node_by a.parent (slice_index_or nodes a.parent nowhere) by)) by_a in
     let walk_b : walk_of nodes (node_of d nodes b) ≡ walk_at (walks nodes) b.parent ++ (m ∷ []) =
     ap (λ by. walk_of nodes (node_by b.parent (slice_index_or nodes b.parent nowhere) by)) by_b in
-    rw (c.then.ensures, c.cmp.ensures, c.locals-2.ensures)
+    rw (c.then.ensures, c.cmp-2.ensures, c.locals-2.ensures)
     (sym (locals_by nodes c.requires.arena c.index-nodes-from.result c.index-nodes-from-2.result a.parent b.parent c.requires.tied.other.parent c.requires.offered.parent
     (c.index-nodes-from.is ∙ ap (λ i. slice_index_or nodes i c.index-nodes-from.result) c.from.ensures)
     (c.index-nodes-from-2.is ∙ ap (λ i. slice_index_or nodes i c.index-nodes-from-2.result) c.from-2.ensures)
     (walk_of nodes (node_of d nodes a)) (walk_of nodes (node_of d nodes b)) l m walk_a walk_b
     (omega (arith, c.requires.tied.other.next.numbered.links, c.requires.offered.next.numbered.links, c.requires.tied.links))))
+
+pub returns-then-a-b : goal.returns-then-a-b
+returns-then-a-b c =
+    let d = c.args.table.now in
+    let nodes = c.args.nodes.now in
+    let a = c.args.a.now in
+    let b = c.args.b.now in
+    let arms = c.in-Some-Some in
+    let l = arms.l.now in
+    let m = arms.m.now in
+    let by_a : slice_get (links_from_index d a.place) a.row ≡ Some l = sym c.link_of.ensures ∙ ap (option_map _) arms.is-0 in
+    let by_b : slice_get (links_from_index d b.place) b.row ≡ Some m = sym c.link_of-2.ensures ∙ ap (option_map _) arms.is-1 in
+    let walk_a : walk_of nodes (node_of d nodes a) ≡ walk_at (walks nodes) a.parent ++ (l ∷ []) =
+    ap (λ by. walk_of nodes (node_by a.parent (slice_index_or nodes a.parent nowhere) by)) by_a in
+    let walk_b : walk_of nodes (node_of d nodes b) ≡ walk_at (walks nodes) b.parent ++ (m ∷ []) =
+    ap (λ by. walk_of nodes (node_by b.parent (slice_index_or nodes b.parent nowhere) by)) by_b in
+    rw c.cmp.ensures
+    (sym (locals_by_one nodes a.parent b.parent c.if-a-b.true (walk_of nodes (node_of d nodes a)) (walk_of nodes (node_of d nodes b)) l m walk_a walk_b))

@@ -39,6 +39,7 @@ returns c =
     let no_role : Role = record { enter = false; target = false } in
     let told = c.requires.look.query.roles.each c.args.look.star.state no_role c.requires.look.from.index in
     let from = get_or_read nodes c.args.look.at c.index-nodes-look.result c.requires.look.from.within c.index-nodes-look.is nowhere in
-    turn_kept d q nodes c.requires.look.arena c.args.look.at c.args.look.star.state c.requires.look.from h
+    rw c.same.ensures
+    (turn_kept d q nodes c.requires.look.arena c.args.look.at c.args.look.star.state c.requires.look.from h
     (told.target.0 (not-false _ c.if-not-role.false)) (sym (c.requires.look.marks.each (c.args.look.star.state + 1024) false index) ∙ c.if-marks-state.false)
-    c.index-nodes-look.result from
+    c.index-nodes-look.result from)

@@ -76,28 +76,28 @@ returns-then-at-goal c =
     let t = taken _ _ _ _ _ _ _ _ _ _ _ _ c.loop-at.invariant.asked c.loop-at.invariant.under_way (rw c.deref-in-loop-at.ensures.value at c.in-Some.ensures.some) _ c.index.ensures (rw c.deref-in-Some.ensures.value at c.node_of-node.ensures) in
     let new = stepped _ _ _ _ _ _ t.asked _ _ _ t.before _ _ t.least _ t.is in
     record {
-      arena = rw c.in_ok-extend_from_slice.ensures.items new.0;
-      few = rw c.in_ok-extend_from_slice.ensures.items (omega (arith, stepped_few _ _ _ _ _ _ t.asked _ _ _ t.before _ _ t.least _ t.is, t.asked.count));
-      settled = rw c.in_ok-extend_from_slice.ensures.items new.1;
-      whole = λ none. absurd (at_goal _ _ _ _ _ _ t.asked _ _ _ t.before _ _ t.least _ t.is c.if-at-goal.true (rw c.in_ok-extend_from_slice.ensures.items at none));
+      arena = rw c.in_ok-push.ensures.items new.0;
+      few = rw c.in_ok-push.ensures.items (omega (arith, stepped_few _ _ _ _ _ _ t.asked _ _ _ t.before _ _ t.least _ t.is, t.asked.count));
+      settled = rw c.in_ok-push.ensures.items new.1;
+      whole = λ none. absurd (at_goal _ _ _ _ _ _ t.asked _ _ _ t.before _ _ t.least _ t.is c.if-at-goal.true (rw c.in_ok-push.ensures.items at none));
     }
 
 pub expand-requires-in-Some-clause-arena : goal.expand-requires-in-Some-clause-arena
 expand-requires-in-Some-clause-arena c =
     let t = taken _ _ _ _ _ _ _ _ _ _ _ _ c.loop-at.invariant.asked c.loop-at.invariant.under_way (rw c.deref-in-loop-at.ensures.value at c.in-Some.ensures.some) _ c.index.ensures (rw c.deref-in-Some.ensures.value at c.node_of-node.ensures) in
-    rw (c.deref-in-Some-2.ensures.value, c.in_ok-extend_from_slice.ensures.items) (stepped _ _ _ _ _ _ t.asked _ _ _ t.before _ _ t.least _ t.is).0
+    rw (c.deref-in-Some-2.ensures.value, c.in_ok-push.ensures.items) (stepped _ _ _ _ _ _ t.asked _ _ _ t.before _ _ t.least _ t.is).0
 
 pub expand-requires-in-Some-clause-from : goal.expand-requires-in-Some-clause-from
 expand-requires-in-Some-clause-from c =
     let t = taken _ _ _ _ _ _ _ _ _ _ _ _ c.loop-at.invariant.asked c.loop-at.invariant.under_way (rw c.deref-in-loop-at.ensures.value at c.in-Some.ensures.some) _ c.index.ensures (rw c.deref-in-Some.ensures.value at c.node_of-node.ensures) in
     let long : c.len-index.result ≡ length c.loop-at.nodes.items = omega (arith, c.len-index.ensures, c.loop-at.nodes.ok.0) in
-    rw (c.deref-in-Some-2.ensures.value, c.in_ok-extend_from_slice.ensures.items, long) (node_there _ _ _ _ _ _ t.asked _ _ _ t.before _ _ t.least _ t.is)
+    rw (c.deref-in-Some-2.ensures.value, c.in_ok-push.ensures.items, long) (node_there _ _ _ _ _ _ t.asked _ _ _ t.before _ _ t.least _ t.is)
 
 pub expand-requires-in-Some-clause-before : goal.expand-requires-in-Some-clause-before
 expand-requires-in-Some-clause-before c =
     let t = taken _ _ _ _ _ _ _ _ _ _ _ _ c.loop-at.invariant.asked c.loop-at.invariant.under_way (rw c.deref-in-loop-at.ensures.value at c.in-Some.ensures.some) _ c.index.ensures (rw c.deref-in-Some.ensures.value at c.node_of-node.ensures) in
     let long : c.len-index.result ≡ length c.loop-at.nodes.items = omega (arith, c.len-index.ensures, c.loop-at.nodes.ok.0) in
-    rw (c.deref-in-Some-2.ensures.value, c.in_ok-extend_from_slice.ensures.items, long, c.deref_mut-in-Some.ensures.value)
+    rw (c.deref-in-Some-2.ensures.value, c.in_ok-push.ensures.items, long, c.deref_mut-in-Some.ensures.value)
     (settle _ _ _ _ _ _ t.asked _ _ _ t.before _ _ t.least _ t.is c.if-at-goal.false (record { rank = 0; parent = 0; place = 0; row = 0 }) refl)
 
 pub loop-at-smaller : goal.loop-at-smaller
@@ -106,7 +106,7 @@ loop-at-smaller c =
     let node = c.node_of-node.result in
     let t = taken _ _ _ _ _ _ _ _ _ _ _ _ c.loop-at.invariant.asked c.loop-at.invariant.under_way (rw c.deref-in-loop-at.ensures.value at c.in-Some.ensures.some) _ c.index.ensures (rw c.deref-in-Some.ensures.value at c.node_of-node.ensures) in
     let new = stepped _ _ _ _ _ _ t.asked _ _ _ t.before _ _ t.least _ t.is in
-    rw c.in_ok-extend_from_slice.ensures.items (omega (arith, new.2, length_push nodes node, t.asked.count, c.in_ok-goal.ensures.fewer, c.in_ok-expand-2.ensures.few, c.in-Some.ensures.fewer))
+    rw c.in_ok-push.ensures.items (omega (arith, new.2, length_push nodes node, t.asked.count, c.in_ok-goal.ensures.fewer, c.in_ok-expand-2.ensures.few, c.in-Some.ensures.fewer))
 
 pub loop-at-preserved : goal.loop-at-preserved
 loop-at-preserved c =
@@ -116,7 +116,7 @@ loop-at-preserved c =
     let t = taken _ _ _ _ _ _ _ _ _ _ _ _ c.loop-at.invariant.asked c.loop-at.invariant.under_way (rw c.deref-in-loop-at.ensures.value at c.in-Some.ensures.some) _ c.index.ensures (rw c.deref-in-Some.ensures.value at c.node_of-node.ensures) in
     let long : c.len-index.result ≡ length c.loop-at.nodes.items = omega (arith, c.len-index.ensures, c.loop-at.nodes.ok.0) in
     let new = stepped _ _ _ _ _ _ t.asked _ _ _ t.before _ _ t.least _ t.is in
-    let after = rw (c.deref-in-Some-2.ensures.value, c.in_ok-extend_from_slice.ensures.items, long) at c.in_ok-expand-2.ensures.after in
+    let after = rw (c.deref-in-Some-2.ensures.value, c.in_ok-push.ensures.items, long) at c.in_ok-expand-2.ensures.after in
     let put =
     written_back c.loop-at.labels.len c.expand-in-Some.new.labels c.deref_mut-in-Some.result.now (set c.loop-at.labels.items c.in-Some.at (record { rank = 0; parent = 0; place = 0; row = 0 }))
     c.expand-in-Some.auto.labels c.deref_mut-in-Some.ensures.value (c.loop-at.labels.ok.0 ∙ sym (length-set c.loop-at.labels.items c.in-Some.at (record { rank = 0; parent = 0; place = 0; row = 0 }))) in
@@ -126,7 +126,7 @@ loop-at-preserved c =
     (CrossesBelow c.args.query.table.now c.args.query.request.now (c.loop-at.nodes.items ++ (c.node_of-node.result ∷ [])) (links_of c.args.query.table.now) (length (c.loop-at.nodes.items ++ (c.node_of-node.result ∷ []))))
     c.loop-at.goal (with_items (with_item c.loop-at.labels c.in-Some.at (record { rank = 0; parent = 0; place = 0; row = 0 })) c.expand-in-Some.new.labels).items (heap_items c.expand-in-Some.new.heap) =
     rw (put, length_push nodes node) after in
-    rw c.in_ok-extend_from_slice.ensures.items (record {
+    rw c.in_ok-push.ensures.items (record {
       asked = assumption t.asked;
       few = stepped_few _ _ _ _ _ _ t.asked _ _ _ t.before _ _ t.least _ t.is;
       under_way = record {

@@ -84,7 +84,7 @@ loop-node-smaller c =
     let new =
     after c.args.query.table.now c.args.query.request.now c.requires.query.links c.requires.known c.requires.query.few (omega arith) c.loop-node.nodes.items before.arena before.settled
     c.in-Some.node first in
-    rw c.in_ok-extend_from_slice.ensures.items (omega (arith, new.2, length_push c.loop-node.nodes.items c.in-Some.node))
+    rw c.in_ok-push.ensures.items (omega (arith, new.2, length_push c.loop-node.nodes.items c.in-Some.node))
 
 pub loop-node-preserved : goal.loop-node-preserved
 loop-node-preserved c =
@@ -99,7 +99,7 @@ loop-node-preserved c =
     after d q c.requires.query.links c.requires.known c.requires.query.few (omega arith) c.loop-node.nodes.items before.arena before.settled c.in-Some.node first in
     let leg =
     new_leg d q c.requires.query.links c.requires.known c.requires.query.few (omega arith) c.loop-node.nodes.items before.arena before.settled c.in-Some.node first in
-    rw (c.in_ok-extend_from_slice.ensures.items, c.in_ok-extend_from_slice-2.ensures.items, c.in_ok-push.ensures.items)
+    rw (c.in_ok-push.ensures.items, c.in_ok-extend_from_slice.ensures.items, c.in_ok-push-2.ensures.items)
     (record {
       arena = new.0;
       few = omega (arith, new.2, length_push c.loop-node.nodes.items c.in-Some.node);
