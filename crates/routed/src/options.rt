@@ -49,35 +49,65 @@ impl CommandOption {
     /// The option as `clap` takes it.
     fn arg<'a>(self, alloc: Global) -> Arg<'a> {
         match self {
-            CommandOption::File(name, help) => Arg::new(alloc, name)
-                .long(name)
-                .value_name("FILE")
-                .required(true)
-                .action(ArgAction::Set)
-                .help(help),
-            CommandOption::Clients => Arg::new(alloc, CLIENT)
-                .long(CLIENT)
-                .value_name("IN=OUT")
-                .required(true)
-                .action(ArgAction::Append)
-                .help("The files of a client's requests and replies; once for each client"),
-            CommandOption::Workers => Arg::new(alloc, WORKERS)
-                .long(WORKERS)
-                .value_name("N")
-                .value_parser(value_parser!(u8).range(1..=MOST_ASKERS as i64))
-                .default_value("1")
-                .action(ArgAction::Set)
-                .help("How many workers answer, 1 to 64"),
-            CommandOption::AcceptTorn => Arg::new(alloc, ACCEPT_TORN)
-                .long(ACCEPT_TORN)
-                .action(ArgAction::SetTrue)
-                .help("Leave out the rows after the last whole batch"),
-            CommandOption::Explain => Arg::new(alloc, EXPLAIN)
-                .long(EXPLAIN)
-                .action(ArgAction::SetTrue)
-                .help("Say on standard error why a run stops, or which row a file is refused for"),
+            CommandOption::File(name, help) => {
+                required(alloc, name, "FILE", ArgAction::Set, help)
+            }
+            CommandOption::Clients => required(
+                alloc,
+                CLIENT,
+                "IN=OUT",
+                ArgAction::Append,
+                "The files of a client's requests and replies; once for each client",
+            ),
+            CommandOption::Workers => workers(alloc),
+            CommandOption::AcceptTorn => flag(
+                alloc,
+                ACCEPT_TORN,
+                "Leave out the rows after the last whole batch",
+            ),
+            CommandOption::Explain => flag(
+                alloc,
+                EXPLAIN,
+                "Say on standard error why a run stops, or which row a file is refused for",
+            ),
         }
     }
+}
+
+/// An option that is required: its name, that of its value, what a second one does, and what help says of
+/// it.
+fn required<'a>(
+    alloc: Global,
+    name: &'static str,
+    value: &'static str,
+    action: ArgAction,
+    help: &'static str,
+) -> Arg<'a> {
+    Arg::new(alloc, name)
+        .long(name)
+        .value_name(value)
+        .required(true)
+        .action(action)
+        .help(help)
+}
+
+/// The option that says how many workers answer.
+fn workers<'a>(alloc: Global) -> Arg<'a> {
+    Arg::new(alloc, WORKERS)
+        .long(WORKERS)
+        .value_name("N")
+        .value_parser(value_parser!(u8).range(1..=MOST_ASKERS as i64))
+        .default_value("1")
+        .action(ArgAction::Set)
+        .help("How many workers answer, 1 to 64")
+}
+
+/// An option without a value: its name, and what help says of it.
+fn flag<'a>(alloc: Global, name: &'static str, help: &'static str) -> Arg<'a> {
+    Arg::new(alloc, name)
+        .long(name)
+        .action(ArgAction::SetTrue)
+        .help(help)
 }
 
 /// What help says of a command, and its options beside `--explain`, which each has as the last.

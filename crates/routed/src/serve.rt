@@ -11,9 +11,9 @@ use crate::statuses::REFUSED;
 use crate::stopped::{Ran, Stopped};
 use clap::ArgMatches;
 use cspf_serve::{ClientError, MOST_ASKERS, Served, ServedClient, StreamError, run_serve};
-use std::io;
 use std::sync::Wait;
 use std::thread::Threads;
+use std::{fmt, io};
 
 /// The word of the command.
 pub const NAME: &str = "serve";
@@ -165,17 +165,21 @@ fn explain_end(
     error: ClientError,
 ) {
     let requests = names.requests.path;
-    let _ = match (error, unfit) {
+    match (error, unfit) {
         (ClientError::Stream(StreamError::Read), Some(unfit)) => {
-            eprintln!(rt; "routed: client {number}: {requests}: {unfit}")
+            say_end(rt, number, requests, &unfit)
         }
-        (ClientError::Stream(StreamError::Read), None) => {
-            eprintln!(rt; "routed: client {number}: {requests}: {error}")
-        }
+        (ClientError::Stream(StreamError::Read), None) => say_end(rt, number, requests, &error),
         (ClientError::Stream(StreamError::Write | StreamError::Flush), _) => {
-            let replies = names.replies.path;
-            eprintln!(rt; "routed: client {number}: {replies}: {error}")
+            say_end(rt, number, names.replies.path, &error)
         }
-        _ => eprintln!(rt; "routed: client {number}: {error}"),
-    };
+        _ => {
+            let _ = eprintln!(rt; "routed: client {number}: {error}");
+        }
+    }
+}
+
+/// Says at which of its files a client ended, and why.
+fn say_end<W: fmt::Display>(rt: &HostRuntime, number: usize, path: &str, why: &W) {
+    let _ = eprintln!(rt; "routed: client {number}: {path}: {why}");
 }
