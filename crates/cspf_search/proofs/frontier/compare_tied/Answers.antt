@@ -1,9 +1,18 @@
-use Rattle.std.proofs.Common.{◌≡◌, ◌++◌, Some, [], ◌∷◌, option_map, slice_get, slice_index_or, sym, ap, ◌∙◌, arith}
+use Rattle.std.proofs.Common.{◌≡◌, ◌++◌, Some, List, [], ◌∷◌, option_map, slice_get, slice_index_or, sym, ap, ◌∙◌, arith}
+use Rattle.cspf_model.specs.Database.{Database}
+use Rattle.cspf_model.specs.declared.link.Link.{Link}
 use Rattle.cspf_db.specs.Index.{links_from_index}
+use Rattle.cspf_search.specs.declared.arena.Node.{Node}
+use Rattle.cspf_search.specs.declared.labels.Label.{Label}
 use Rattle.cspf_search.specs.Arena.{walk_at, walks, walk_of}
 use Rattle.cspf_search.specs.Frontier.{node_by, node_of, nowhere}
 use Rattle.cspf_search.proofs.Backs.{locals_by, locals_by_one}
 use Rattle.cspf_search.proofs.frontier.compare_tied.Goals as goal
+
+-- a label whose last link is there has the walk to its parent, and then that link
+walk_by : (d : Database) (nodes : List Node) (a : Label) (l : Link) → slice_get (links_from_index d a.place) a.row ≡ Some l
+    → walk_of nodes (node_of d nodes a) ≡ walk_at (walks nodes) a.parent ++ (l ∷ [])
+walk_by d nodes a l by = ap (λ by. walk_of nodes (node_by a.parent (slice_index_or nodes a.parent nowhere) by)) by
 
 pub returns : goal.returns
 returns c =
@@ -14,12 +23,8 @@ returns c =
     let arms = c.in-Some-Some in
     let l = arms.l.now in
     let m = arms.m.now in
-    let by_a : slice_get (links_from_index d a.place) a.row ≡ Some l = sym c.link_of.ensures ∙ ap (option_map _) arms.is-0 in
-    let by_b : slice_get (links_from_index d b.place) b.row ≡ Some m = sym c.link_of-2.ensures ∙ ap (option_map _) arms.is-1 in
-    let walk_a : walk_of nodes (node_of d nodes a) ≡ walk_at (walks nodes) a.parent ++ (l ∷ []) =
-    ap (λ by. walk_of nodes (node_by a.parent (slice_index_or nodes a.parent nowhere) by)) by_a in
-    let walk_b : walk_of nodes (node_of d nodes b) ≡ walk_at (walks nodes) b.parent ++ (m ∷ []) =
-    ap (λ by. walk_of nodes (node_by b.parent (slice_index_or nodes b.parent nowhere) by)) by_b in
+    let walk_a = walk_by d nodes a l (sym c.link_of.ensures ∙ ap (option_map _) arms.is-0) in
+    let walk_b = walk_by d nodes b m (sym c.link_of-2.ensures ∙ ap (option_map _) arms.is-1) in
     rw (c.then.ensures, c.cmp-2.ensures, c.locals-2.ensures)
     (sym (locals_by nodes c.requires.arena c.index-nodes-from.result c.index-nodes-from-2.result a.parent b.parent c.requires.tied.other.parent c.requires.offered.parent
     (c.index-nodes-from.is ∙ ap (λ i. slice_index_or nodes i c.index-nodes-from.result) c.from.ensures)
@@ -36,11 +41,7 @@ returns-then-a-b c =
     let arms = c.in-Some-Some in
     let l = arms.l.now in
     let m = arms.m.now in
-    let by_a : slice_get (links_from_index d a.place) a.row ≡ Some l = sym c.link_of.ensures ∙ ap (option_map _) arms.is-0 in
-    let by_b : slice_get (links_from_index d b.place) b.row ≡ Some m = sym c.link_of-2.ensures ∙ ap (option_map _) arms.is-1 in
-    let walk_a : walk_of nodes (node_of d nodes a) ≡ walk_at (walks nodes) a.parent ++ (l ∷ []) =
-    ap (λ by. walk_of nodes (node_by a.parent (slice_index_or nodes a.parent nowhere) by)) by_a in
-    let walk_b : walk_of nodes (node_of d nodes b) ≡ walk_at (walks nodes) b.parent ++ (m ∷ []) =
-    ap (λ by. walk_of nodes (node_by b.parent (slice_index_or nodes b.parent nowhere) by)) by_b in
+    let walk_a = walk_by d nodes a l (sym c.link_of.ensures ∙ ap (option_map _) arms.is-0) in
+    let walk_b = walk_by d nodes b m (sym c.link_of-2.ensures ∙ ap (option_map _) arms.is-1) in
     rw c.cmp.ensures
     (sym (locals_by_one nodes a.parent b.parent c.if-a-b.true (walk_of nodes (node_of d nodes a)) (walk_of nodes (node_of d nodes b)) l m walk_a walk_b))
