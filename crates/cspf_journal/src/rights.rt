@@ -1,7 +1,8 @@
 //! The rights to show the batches of a journal, and to count them as published.
 ghost use Rattle.std.specs.Prelude.{◌≡◌, length, MatchBool};
 ghost use Rattle.cspf_model.specs.Numbered.{NumberedChanges};
-ghost use Rattle.cspf_journal.specs.JournalSteps.{count_of};
+ghost use Rattle.cspf_journal.specs.Histories.{BeginsWith};
+ghost use Rattle.cspf_journal.specs.JournalSteps.{batches_of, count_of};
 ghost use Rattle.cspf_journal.specs.KnownBatches.{known_with};
 
 use crate::known::Known;
@@ -19,7 +20,8 @@ pub struct RightToCount {
 
 impl Model for RightToCount {
     ghost use Rattle.std.specs.Prelude.{◌≡◌, length};
-    ghost use Rattle.cspf_journal.specs.JournalSteps.{count_of};
+    ghost use Rattle.cspf_journal.specs.Histories.{BeginsWith};
+    ghost use Rattle.cspf_journal.specs.JournalSteps.{batches_of, count_of};
     ghost use Rattle.cspf_journal.specs.KnownBatches.{KnownBatches};
 
     ghost Value = { KnownBatches };
@@ -27,7 +29,8 @@ impl Model for RightToCount {
     ghost view = { λ r. r.known };
 
     ghost invariant = { λ r. (r.steps.source ≡ r.known.source)
-        × (count_of r.steps.steps ≡ length r.known.batches) };
+        × (count_of r.steps.steps ≡ length r.known.batches)
+        × BeginsWith (batches_of r.steps.steps) r.known.batches };
 }
 
 impl RightToCount {
@@ -35,6 +38,7 @@ impl RightToCount {
     pub(crate) fn new(known: Known, steps: SeenSteps) -> RightToCount
         requires source { steps.source ≡ known.source }
         requires count { count_of steps.steps ≡ length known.batches }
+        requires recorded { BeginsWith (batches_of steps.steps) known.batches }
         ensures { result ≡ known }
     {
         RightToCount { known, steps }
@@ -66,10 +70,11 @@ impl RightToCount {
     }
 
     /// The steps up to the last count, after which the word had this count: that of the published
-    /// batches.
+    /// batches. They record these.
     pub fn steps(&self) -> SeenSteps
         ensures source { result.source ≡ self.now.source }
         ensures count { count_of result.steps ≡ length self.now.batches }
+        ensures recorded { BeginsWith (batches_of result.steps) self.now.batches }
     {
         self.steps.copy()
     }

@@ -1,7 +1,8 @@
 //! The known first steps of a journal.
 ghost use Rattle.std.specs.Prelude.{◌≡◌, ◌≤◌};
 ghost use mathlib.Core.List.{IsPrefix};
-ghost use Rattle.cspf_journal.specs.JournalSteps.{AreJournalSteps, count_of};
+ghost use Rattle.cspf_journal.specs.Histories.{BeginsWith};
+ghost use Rattle.cspf_journal.specs.JournalSteps.{AreJournalSteps, batches_of, count_of};
 
 use crate::history::History;
 use crate::log_step::LogStep;
@@ -59,6 +60,9 @@ impl SeenSteps {
         ensures other { IsPrefix other.now.steps self.new.steps }
         ensures own_count { count_of self.old.steps ≤ count_of self.new.steps }
         ensures other_count { count_of other.now.steps ≤ count_of self.new.steps }
+        ensures own_batches { BeginsWith (batches_of self.new.steps) (batches_of self.old.steps) }
+        ensures other_batches { BeginsWith (batches_of self.new.steps) (batches_of other.now.steps) }
+        ensures journal { AreJournalSteps self.new.steps }
     {
         self.seen.learn(&other.seen);
     }

@@ -7,8 +7,8 @@ ghost use Rattle.cspf_publish.specs.Answers.{IsAnswerAfter};
 ghost use Rattle.cspf_publish.specs.ApplyErrors.{IsApplyError, IsNextBatch};
 ghost use Rattle.cspf_publish.specs.PublisherStates.{IsAskerCount};
 ghost use Rattle.cspf_rows.specs.BatchText.{batch_text};
-ghost use Rattle.cspf_journal.specs.Histories.{IsHistory, MayFollow};
-ghost use Rattle.cspf_journal.specs.JournalSteps.{count_of};
+ghost use Rattle.cspf_journal.specs.Histories.{BeginsWith, IsHistory, MayFollow};
+ghost use Rattle.cspf_journal.specs.JournalSteps.{batches_of, count_of};
 ghost use Rattle.cspf_journal.specs.KnownBatches.{known_with};
 
 use crate::replicas::Replicas;
@@ -144,6 +144,7 @@ impl<W: Write> Publisher<W> {
     pub fn steps(&self) -> SeenSteps
         ensures source { result.source ≡ self.now.source }
         ensures count { count_of result.steps ≡ length self.now.batches }
+        ensures recorded { BeginsWith (batches_of result.steps) self.now.batches }
     {
         self.replicas.steps()
     }

@@ -2,12 +2,12 @@
 ghost use Rattle.std.specs.Prelude.{◌≡◌, ◌<◌, ◌≤◌, ◌++◌, [], ◌∷◌, true, false, length, drop, All, IfOk, OnOk, IfErr, vec_len, vec_capacity};
 ghost use Rattle.std.specs.Arc.{arc_value};
 ghost use Rattle.left_right.specs.Sides.{view};
-ghost use Rattle.cspf_journal.specs.JournalSteps.{count_of};
+ghost use Rattle.cspf_journal.specs.JournalSteps.{batches_of, count_of};
 ghost use Rattle.cspf_model.specs.Numbered.{NumberedChanges};
 ghost use Rattle.cspf_model.specs.Changes.{no_links, database_after, Fits};
 ghost use Rattle.cspf_model.specs.Refusals.{IsRefusal};
 ghost use Rattle.cspf_publish.specs.Answers.{IsBestAfter};
-ghost use Rattle.cspf_journal.specs.Histories.{IsHistory, MayFollow};
+ghost use Rattle.cspf_journal.specs.Histories.{BeginsWith, IsHistory, MayFollow};
 ghost use Rattle.cspf_journal.specs.KnownBatches.{known_with};
 ghost use Rattle.cspf_publish.specs.Operations.{idle_batch};
 ghost use Rattle.cspf_publish.specs.ReplicaStates.{published_state};
@@ -308,6 +308,7 @@ impl Replicas {
     pub(crate) fn steps(&self) -> SeenSteps
         ensures source { result.source ≡ self.now.source }
         ensures count { count_of result.steps ≡ length self.now.batches }
+        ensures recorded { BeginsWith (batches_of result.steps) self.now.batches }
     {
         self.right.steps()
     }
