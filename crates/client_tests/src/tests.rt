@@ -1,4 +1,4 @@
-//! What the tests of clients share: a publisher with its batches, a ring, and a writer that takes so much.
+//! What the tests of clients share: a publisher with its batches, and a writer that takes so much.
 
 mod closed;
 mod dialogues;
@@ -8,7 +8,7 @@ ghost use Rattle.std.specs.Prelude.{◌≡◌};
 ghost use Rattle.cspf_client.specs.ServingStates.{IsReady};
 
 use cspf_addr::{Addr, Mask};
-use cspf_client::{Client, Replies, ServedClient, ServingClient, Teller, open_news};
+use cspf_client::{Client, Replies, ServedClient, ServingClient};
 use cspf_model::{Batch, Change, Link};
 use cspf_publish::{Publisher, open};
 use std::alloc::Global;
@@ -31,17 +31,16 @@ fn link_batch(alloc: Global, number: u32) -> Result<Batch, Fail> {
     })
 }
 
-/// A publisher without a batch, its end of a ring, and a client with these requests whose replies are
-/// taken up to `most` bytes.
+/// A publisher without a batch, and a client with these requests whose replies are taken up to `most`
+/// bytes.
 fn seated<'a, R: Wait + Abort>(
     rt: &R,
     alloc: Global,
     requests: &'a [u8],
     most: usize,
-) -> (Publisher<Vec<u8>>, Teller, ServingClient<&'a [u8], Narrow>)
-    ensures teller { result.1.source ≡ result.0.source }
-    ensures client { result.2.state.known.source ≡ result.0.source }
-    ensures ready { IsReady result.2 }
+) -> (Publisher<Vec<u8>>, ServingClient<&'a [u8], Narrow>)
+    ensures client { result.1.state.known.source ≡ result.0.source }
+    ensures ready { IsReady result.1 }
 {
     let replies = Narrow {
         held: Vec::new(alloc),
@@ -50,15 +49,10 @@ fn seated<'a, R: Wait + Abort>(
     };
     let client = Client { requests, replies };
     match open(rt, alloc, Vec::<u8>::new(alloc), 1) {
-        Ok((mut publisher, mut askers)) => {
-            match (askers.pop(), open_news(alloc, &mut publisher)) {
-                (Some(asker), Ok((teller, listener))) => {
-                    let serving = ServingClient::new(alloc, asker, listener, client);
-                    (publisher, teller, serving)
-                }
-                _ => panic!(rt; "no asker or no ring"),
-            }
-        }
+        Ok((publisher, mut askers)) => match askers.pop() {
+            Some(asker) => (publisher, ServingClient::new(alloc, asker, client)),
+            None => panic!(rt; "no asker"),
+        },
         Err(_) => panic!(rt; "no publisher"),
     }
 }
@@ -95,29 +89,16 @@ impl Write for Narrow {
     }
 }
 
-/// Leaves word of what is published this many times.
-fn tell_often(teller: &mut Teller, publisher: &mut Publisher<Vec<u8>>, words: usize)
-    requires { publisher.old.source ≡ teller.old.source }
-    ensures { publisher.new ≡ publisher.old }
-{
-    for _ in 0..words {
-        teller.tell(publisher);
-    }
-}
-
-/// The state of a client with these requests, once batch 1 is published and word of it left this
-/// many times.
+/// The state of a client with these requests, once batch 1 is published.
 fn served<R: Wait + Abort>(
     rt: &R,
     alloc: Global,
     first: &Batch,
-    words: usize,
     requests: &[u8],
     most: usize,
 ) -> ServedClient<Narrow> {
-    let (mut publisher, mut teller, mut serving) = seated(rt, alloc, requests, most);
+    let (mut publisher, mut serving) = seated(rt, alloc, requests, most);
     let _ = publisher.apply(rt, alloc, first);
-    tell_often(&mut teller, &mut publisher, words);
     serving.run(alloc);
     serving.meet(publisher.tell());
     publisher.close(rt);

@@ -1,5 +1,6 @@
--- The batches that a client knows never become fewer.
+-- The batches that a client knows, and the steps that it has seen, never become fewer.
 use Rattle.std.proofs.Common.{◌≡◌, ℕ, suc, Bool, List, [], ◌∷◌, length, Option, Result, Ok, Err, OnOk, IfErr, inl, inr, sym, ap, subst}
+use Rattle.cspf_publish.specs.JournalSteps.{KnownSteps}
 use Rattle.cspf_publish.specs.KnownBatches.{KnownBatches, AreFirstOf}
 use Rattle.cspf_rows.specs.Rows.{row_of}
 use Rattle.cspf_rows.specs.declared.row.Row.{Row}
@@ -10,48 +11,54 @@ use Rattle.cspf_stream.specs.RowAnswers.{AreAnswered, AreAllAnswered}
 use Rattle.cspf_stream.specs.StreamStops.{StopsBetween, StopsInRow, IsRowStopped, HasStopped}
 use Rattle.cspf_stream.specs.declared.error.StreamError.{StreamError}
 use Rattle.cspf_stream.specs.declared.error.StreamError.TheVariants as stream_error
-use Rattle.cspf_client.specs.ClientRows.{HearsNews, IsRefusedRow, IsClientRowAnswered, IsClientRowUnanswered, IsClientAnswered, IsClientUnanswered}
+use Rattle.cspf_client.specs.ClientRows.{IsRefusedRow, IsClientRowAnswered, IsClientRowUnanswered, IsClientAnswered, IsClientUnanswered}
 use Rattle.cspf_client.specs.ClientRuns.{ClientsGoForward, IsStreamStopped}
-use Rattle.cspf_client.specs.SessionStates.{SessionState}
-use Rattle.cspf_client.proofs.Learning.{AreFirstOf-self, AreFirstOf-trans}
+use Rattle.cspf_client.specs.SessionStates.{SessionState, AreFirstSteps, HasGoneForward}
+use Rattle.cspf_client.proofs.Prefixes.{HasGoneForward-self, HasGoneForward-trans, HasGoneForward-count}
 
-knows_same : (a b : KnownBatches) → b ≡ a → AreFirstOf b a
-knows_same a b is = subst (λ (k : KnownBatches). AreFirstOf k a) (sym is) (AreFirstOf-self a)
+-- a state of which the batches and the steps are the same
+forward_same : (s t : SessionState) → t.known ≡ s.known → t.steps ≡ s.steps → HasGoneForward s t
+forward_same s t known steps =
+    let self = HasGoneForward-self s in record {
+      known = subst (λ (k : KnownBatches). AreFirstOf k s.known) (sym known) self.known;
+      steps = subst (λ (k : KnownSteps). AreFirstSteps k s.steps) (sym steps) self.steps;
+    }
 
-forward_news : (s t : SessionState) → HearsNews s t → AreFirstOf t.known s.known
-forward_news s t hears = hears.learnt.known
+forward_equal : (s t : SessionState) → t ≡ s → HasGoneForward s t
+forward_equal s t is = forward_same s t (ap (λ (x : SessionState). x.known) is) (ap (λ (x : SessionState). x.steps) is)
 
-forward_refused : (place : ℕ) (why : RowError) (s t : SessionState) (line : List ℕ) → IsRefusedRow place why s line t → AreFirstOf t.known s.known
-forward_refused place why s t line refused = knows_same s.known t.known (ap (λ (x : SessionState). x.known) refused.after)
+forward_refused : (place : ℕ) (why : RowError) (s t : SessionState) (line : List ℕ) → IsRefusedRow place why s line t → HasGoneForward s t
+forward_refused place why s t line refused =
+    forward_same s t (ap (λ (x : SessionState). x.known) refused.after) (ap (λ (x : SessionState). x.steps) refused.after)
 
-forward_row : (place : ℕ) (s t : SessionState) (r : Result Row RowError) (line : List ℕ) → IsClientRowAnswered place s r line t → AreFirstOf t.known s.known
+forward_row : (place : ℕ) (s t : SessionState) (r : Result Row RowError) (line : List ℕ) → IsClientRowAnswered place s r line t → HasGoneForward s t
 forward_row place s t (Err why) line a = forward_refused place why s t line a
 forward_row place s t (Ok (row.Put link)) line a = forward_refused place row_error.Kind s t line a
 forward_row place s t (Ok (row.Remove from local)) line a = forward_refused place row_error.Kind s t line a
 forward_row place s t (Ok (row.Node router transit)) line a = forward_refused place row_error.Kind s t line a
 forward_row place s t (Ok (row.End number count)) line a = forward_refused place row_error.Kind s t line a
-forward_row place s t (Ok (row.Ask q)) line a = forward_news s t a.hears
+forward_row place s t (Ok (row.Ask q)) line a = HasGoneForward-count s t a.reads
 
-pub forward_unanswered : (place : ℕ) (s t : SessionState) (r : Result Row RowError) → IsClientRowUnanswered place s r t → AreFirstOf t.known s.known
-forward_unanswered place s t (Err why) a = knows_same s.known t.known (ap (λ (x : SessionState). x.known) a)
-forward_unanswered place s t (Ok (row.Put link)) a = knows_same s.known t.known (ap (λ (x : SessionState). x.known) a)
-forward_unanswered place s t (Ok (row.Remove from local)) a = knows_same s.known t.known (ap (λ (x : SessionState). x.known) a)
-forward_unanswered place s t (Ok (row.Node router transit)) a = knows_same s.known t.known (ap (λ (x : SessionState). x.known) a)
-forward_unanswered place s t (Ok (row.End number count)) a = knows_same s.known t.known (ap (λ (x : SessionState). x.known) a)
-forward_unanswered place s t (Ok (row.Ask q)) a = forward_news s t a.1.hears
+pub forward_unanswered : (place : ℕ) (s t : SessionState) (r : Result Row RowError) → IsClientRowUnanswered place s r t → HasGoneForward s t
+forward_unanswered place s t (Err why) a = forward_equal s t a
+forward_unanswered place s t (Ok (row.Put link)) a = forward_equal s t a
+forward_unanswered place s t (Ok (row.Remove from local)) a = forward_equal s t a
+forward_unanswered place s t (Ok (row.Node router transit)) a = forward_equal s t a
+forward_unanswered place s t (Ok (row.End number count)) a = forward_equal s t a
+forward_unanswered place s t (Ok (row.Ask q)) a = HasGoneForward-count s t a.1.reads
 
 pub forward : ClientsGoForward
 unfolding AreAnswered
-forward place s t [] lines a = knows_same s.known t.known (ap (λ (x : SessionState). x.known) a.1)
+forward place s t [] lines a = forward_equal s t a.1
 forward place s t (fields ∷ rows) lines a =
-    AreFirstOf-trans s.known a.1.known t.known (forward_row place s a.1 (row_of fields) a.0 a.3) (forward (suc place) a.1 t rows a.2 a.5)
+    HasGoneForward-trans s a.1 t (forward_row place s a.1 (row_of fields) a.0 a.3) (forward (suc place) a.1 t rows a.2 a.5)
 
 abbrev Rows : Type 0
 Rows = List (List (List ℕ))
 
 -- after a row that stops the stream
 forward_row_stopped : (why : StreamError) (place : ℕ) (fields : List (List ℕ)) (s t : SessionState) (old new : Option (List ℕ))
-    → IsRowStopped IsClientAnswered IsClientUnanswered why place fields s t old new → AreFirstOf t.known s.known
+    → IsRowStopped IsClientAnswered IsClientUnanswered why place fields s t old new → HasGoneForward s t
 forward_row_stopped stream_error.Memory place fields s t old new a = forward_unanswered place s t (row_of fields) a.0
 forward_row_stopped stream_error.Read place fields s t old new a = absurd a
 forward_row_stopped stream_error.Write place fields s t old new a = forward_row place s t (row_of fields) a.0 a.1
@@ -59,15 +66,15 @@ forward_row_stopped stream_error.Flush place fields s t old new a = forward_row 
 forward_row_stopped stream_error.TooManyRows place fields s t old new a = absurd a
 
 module _ (all left : Option Rows) (failed : Bool) (s t : SessionState) (old new : Option (List ℕ)) where
-  between : StopsBetween IsClientAnswered all s t old new → AreFirstOf t.known s.known
+  between : StopsBetween IsClientAnswered all s t old new → HasGoneForward s t
   between a = forward 1 s t a.done a.lines a.answered
 
-  in_row : (why : StreamError) → StopsInRow IsClientAnswered IsClientUnanswered why all left s t old new → AreFirstOf t.known s.known
+  in_row : (why : StreamError) → StopsInRow IsClientAnswered IsClientUnanswered why all left s t old new → HasGoneForward s t
   in_row why a =
-      AreFirstOf-trans s.known a.before.known t.known (forward 1 s a.before a.done a.lines a.answered)
+      HasGoneForward-trans s a.before t (forward 1 s a.before a.done a.lines a.answered)
       (forward_row_stopped why (suc (length a.done)) a.fields a.before t a.mid new a.stops)
 
-  pub forward_stopped : (why : StreamError) → HasStopped IsClientAnswered IsClientUnanswered why all left failed s t old new → AreFirstOf t.known s.known
+  pub forward_stopped : (why : StreamError) → HasStopped IsClientAnswered IsClientUnanswered why all left failed s t old new → HasGoneForward s t
   forward_stopped stream_error.Memory (inl a) = between a.1
   forward_stopped stream_error.Memory (inr a) = in_row stream_error.Memory a
   forward_stopped stream_error.Read a = between a.1
@@ -77,6 +84,6 @@ module _ (all left : Option Rows) (failed : Bool) (s t : SessionState) (old new 
 
 -- what a client knows after its stream
 pub forward_stream : (all : Option Rows) (s t : SessionState) (old new : Option (List ℕ)) (ended : Result (Unit {0}) StreamError)
-    → OnOk ended (AreAllAnswered IsClientAnswered all s t old new) → IfErr ended (λ why. IsStreamStopped why all s t old new) → AreFirstOf t.known s.known
+    → OnOk ended (AreAllAnswered IsClientAnswered all s t old new) → IfErr ended (λ why. IsStreamStopped why all s t old new) → HasGoneForward s t
 forward_stream all s t old new (Ok done) whole stopped = forward 1 s t whole.done whole.lines whole.answered
 forward_stream all s t old new (Err why) whole stopped = forward_stopped all stopped.0 stopped.1 s t old new why stopped.2

@@ -1,5 +1,4 @@
-pub mod Learning
-pub mod Hearing
+pub mod Prefixes
 pub mod Forward
 pub mod Requests
 pub mod Runs

@@ -1,21 +1,20 @@
--- The batches that an asker knows after news, one item after the other.
-use Rattle.std.proofs.Common.{List, [], ◌∷◌, ◌++◌, refl, sym, ap, ◌∙◌, append_assoc}
+-- A client that goes forward: its batches and its steps are prefixes of later ones.
+use Rattle.std.proofs.Common.{◌≡◌, List, [], ◌∷◌, ◌++◌, refl, sym, ap, ◌∙◌, append_assoc}
 use Rattle.std.proofs.lemmas.List.{append-nil}
-use Rattle.std.proofs.lemmas.List.Elements.{All-nil, All-push, All-weaker}
+use mathlib.Core.List.{IsPrefix}
 use Rattle.cspf_model.specs.Numbered.{NumberedChanges}
 use Rattle.cspf_publish.specs.Histories.{BeginsWith}
+use Rattle.cspf_publish.specs.JournalSteps.{KnownSteps}
 use Rattle.cspf_publish.specs.KnownBatches.{KnownBatches, AreFirstOf}
-use Rattle.cspf_client.specs.NewsStates.{Learns}
-
-pub BeginsWith-self : (bs : List NumberedChanges) → BeginsWith bs bs
-BeginsWith-self bs = ([], sym (append-nil bs))
+use Rattle.cspf_client.specs.ClientRows.{ReadsCount}
+use Rattle.cspf_client.specs.SessionStates.{SessionState, AreFirstSteps, HasGoneForward}
 
 pub BeginsWith-trans : (a b c : List NumberedChanges) → BeginsWith b a → BeginsWith c b → BeginsWith c a
 BeginsWith-trans a b c p q =
     (p.0 ++ q.0, q.1 ∙ ap (λ (x : List NumberedChanges). x ++ q.0) p.1 ∙ append_assoc a p.0 q.0)
 
-pub AreFirstOf-self : (k : KnownBatches) → AreFirstOf k k
-AreFirstOf-self k = record { source = refl; begins = BeginsWith-self k.batches }
+AreFirstOf-self : (k : KnownBatches) → AreFirstOf k k
+AreFirstOf-self k = record { source = refl; begins = ([], sym (append-nil k.batches)) }
 
 pub AreFirstOf-trans : (a b c : KnownBatches) → AreFirstOf b a → AreFirstOf c b → AreFirstOf c a
 AreFirstOf-trans a b c p q = record {
@@ -23,25 +22,39 @@ AreFirstOf-trans a b c p q = record {
   begins = BeginsWith-trans a.batches b.batches c.batches p.begins q.begins;
 }
 
--- no news
-pub Learns-nil : (k : KnownBatches) → Learns k k []
-Learns-nil k = record { known = AreFirstOf-self k; each = All-nil (λ (w : KnownBatches). BeginsWith k.batches w.batches) }
+pub IsPrefix-trans : {A : Type 0} (a b c : List A) → IsPrefix a b → IsPrefix b c → IsPrefix a c
+IsPrefix-trans {A} a b c p q =
+    (p.0 ++ q.0, sym (append_assoc a p.0 q.0) ∙ (ap (λ (x : List A). x ++ q.0) p.1 ∙ q.1))
 
--- an asker that comes to know more still knows the news
-pub Learns-later : (a b c : KnownBatches) (news : List KnownBatches) → Learns a b news → AreFirstOf c b → Learns a c news
-Learns-later a b c news learns more = record {
-  known = AreFirstOf-trans a b c learns.known more;
-  each =
-      All-weaker (λ (w : KnownBatches). BeginsWith b.batches w.batches) (λ (w : KnownBatches). BeginsWith c.batches w.batches)
-      (λ w begins. BeginsWith-trans w.batches b.batches c.batches begins more.begins) news learns.each;
+-- others and one more come after them
+IsPrefix-last : {A : Type 0} (first others all : List A) (last : A) → all ≡ (first ++ others) ++ last ∷ [] → IsPrefix first all
+IsPrefix-last first others all last is = (others ++ last ∷ [], sym (append_assoc first others (last ∷ [])) ∙ sym is)
+
+AreFirstSteps-self : (k : KnownSteps) → AreFirstSteps k k
+AreFirstSteps-self k = record { source = refl; begins = ([], append-nil k.steps) }
+
+AreFirstSteps-trans : (a b c : KnownSteps) → AreFirstSteps b a → AreFirstSteps c b → AreFirstSteps c a
+AreFirstSteps-trans a b c p q = record {
+  source = p.source ∙ q.source;
+  begins = IsPrefix-trans a.steps b.steps c.steps p.begins q.begins;
 }
 
--- one more item
-pub Learns-push : (a b c told : KnownBatches) (news : List KnownBatches) → Learns a b news → AreFirstOf c b → BeginsWith c.batches told.batches
-    → Learns a c (news ++ told ∷ [])
-Learns-push a b c told news learns more begins =
-    let still = Learns-later a b c news learns more in
-    record {
-      known = still.known;
-      each = All-push (λ (w : KnownBatches). BeginsWith c.batches w.batches) news told still.each begins;
+pub HasGoneForward-self : (s : SessionState) → HasGoneForward s s
+HasGoneForward-self s = record { known = AreFirstOf-self s.known; steps = AreFirstSteps-self s.steps }
+
+pub HasGoneForward-trans : (s t u : SessionState) → HasGoneForward s t → HasGoneForward t u → HasGoneForward s u
+HasGoneForward-trans s t u p q = record {
+  known = AreFirstOf-trans s.known t.known u.known p.known q.known;
+  steps = AreFirstSteps-trans s.steps t.steps u.steps p.steps q.steps;
+}
+
+-- a client that reads the count
+pub HasGoneForward-count : (s t : SessionState) → ReadsCount s t → HasGoneForward s t
+HasGoneForward-count s t reads =
+    let up = reads.caught_up in record {
+      known = AreFirstOf-trans s.known reads.mid t.known (record { source = sym up.source; begins = up.later }) reads.later;
+      steps = record {
+        source = sym up.journal;
+        begins = IsPrefix-last s.steps.steps up.read.0 t.steps.steps _ up.read.1;
+      };
     }

@@ -1,32 +1,31 @@
--- The effect of a request, after the asker took the news.
+-- The effect of a request, after the count was read.
 use Rattle.std.proofs.Common.{◌≡◌, ℕ, Bool, List, refl, sym}
 use Rattle.cspf_model.specs.declared.request.Request.{Request}
 use Rattle.cspf_ero.specs.ReplyLine.{IsReply}
 use Rattle.cspf_publish.specs.Answers.{IsAnswerAfter}
 use Rattle.cspf_publish.specs.Histories.{BeginsWith}
+use Rattle.cspf_publish.specs.JournalSteps.{KnownSteps}
 use Rattle.cspf_publish.specs.KnownBatches.{KnownBatches}
+use Rattle.cspf_publish.specs.Readings.{CatchesUp}
 use Rattle.cspf_publish.specs.declared.answer.Answer.{Answer}
 use Rattle.cspf_publish.specs.declared.errors.AskError.{AskError}
 use Rattle.cspf_publish.specs.declared.errors.AskError.TheVariants as ask_error
 use Rattle.cspf_model.specs.Outcome.{answer_of}
 use Rattle.cspf_client.specs.ErrorNames.{entry_noted}
-use Rattle.cspf_client.specs.ClientRows.{HearsNews, IsRequestAnswered, IsRequestUnanswered}
-use Rattle.cspf_client.specs.NewsStates.{ListenerState, Hears}
+use Rattle.cspf_client.specs.ClientRows.{ReadsCount, IsRequestAnswered, IsRequestUnanswered}
 use Rattle.cspf_client.specs.SessionStates.{SessionState}
-use Rattle.cspf_client.proofs.Learning.{Learns-later}
 
 -- the value of the session in clauses
-abbrev pub session : KnownBatches → ListenerState → ℕ → Bool → SessionState
-session asker listener refused no_entry =
-    record { known = asker; heard = listener.heard; waiting = listener.waiting; refused = refused; no_entry = no_entry }
+abbrev pub session : KnownBatches → KnownSteps → ℕ → Bool → SessionState
+session asker steps refused no_entry = record { known = asker; steps = steps; refused = refused; no_entry = no_entry }
 
-module _ (a b c : KnownBatches) (old new : ListenerState) (refused : ℕ) (hears : Hears old new a b) (source : c.source ≡ b.source) (later : BeginsWith c.batches b.batches) where
-  heard_more : (no_entry after : Bool) → HearsNews (session a old refused no_entry) (session c new refused after)
-  heard_more no_entry after = record {
-    news = hears.news;
-    heard = hears.heard;
-    all = hears.all;
-    learnt = Learns-later a b c hears.news hears.learnt (record { source = sym source; begins = later });
+module _ (a b c : KnownBatches) (old new : KnownSteps) (count refused : ℕ) (caught_up : CatchesUp a b old new count) (source : c.source ≡ b.source) (later : BeginsWith c.batches b.batches) where
+  reads : (no_entry after : Bool) → ReadsCount (session a old refused no_entry) (session c new refused after)
+  reads no_entry after = record {
+    mid = b;
+    count = count;
+    caught_up = caught_up;
+    later = record { source = sym source; begins = later };
     refused = refl;
   }
 
@@ -34,7 +33,7 @@ module _ (a b c : KnownBatches) (old new : ListenerState) (refused : ℕ) (hears
       → IsReply answer.id answer.version (answer_of answer.outcome) line
       → IsRequestAnswered q (session a old refused no_entry) line (session c new refused no_entry)
   request_answered no_entry q answer line is reply = record {
-    hears = heard_more no_entry no_entry;
+    reads = reads no_entry no_entry;
     entry = refl;
     answer = answer_of answer.outcome;
     best = is.best;
@@ -44,9 +43,9 @@ module _ (a b c : KnownBatches) (old new : ListenerState) (refused : ℕ) (hears
   -- memory is refused for the line of an answer
   pub memory_refused : (no_entry : Bool) (why : AskError) → why ≡ ask_error.Memory
       → IsRequestUnanswered why (session a old refused no_entry) (session c new refused no_entry)
-  memory_refused no_entry why is = record { hears = heard_more no_entry no_entry; entry = rw is refl }
+  memory_refused no_entry why is = record { reads = reads no_entry no_entry; entry = rw is refl }
 
   -- a request isn't answered, and the cause is noted
   pub unanswered : (no_entry : Bool) (why : AskError)
       → IsRequestUnanswered why (session a old refused no_entry) (session c new refused (entry_noted no_entry why))
-  unanswered no_entry why = record { hears = heard_more no_entry (entry_noted no_entry why); entry = refl }
+  unanswered no_entry why = record { reads = reads no_entry (entry_noted no_entry why); entry = refl }

@@ -1,10 +1,12 @@
 -- The answers to the rows of a client.
-use Rattle.std.specs.Prelude.{◌≡◌, ℕ, ◌+◌, ◌⊎◌, List, [], ◌++◌, length, Result, Ok, Err}
+use Rattle.std.specs.Prelude.{◌≡◌, ℕ, ◌+◌, ◌≤◌, List, length, Result, Ok, Err}
 use Rattle.cspf_model.specs.declared.request.Request.{Request}
 use Rattle.cspf_model.specs.Changes.{database_after}
 use Rattle.cspf_model.specs.Best.{Answer, IsBestAnswer}
 use Rattle.cspf_ero.specs.ReplyLine.{IsReply}
-use Rattle.cspf_publish.specs.KnownBatches.{KnownBatches}
+use Rattle.cspf_publish.specs.JournalSteps.{count_of}
+use Rattle.cspf_publish.specs.KnownBatches.{KnownBatches, AreFirstOf}
+use Rattle.cspf_publish.specs.Readings.{CatchesUp}
 use Rattle.cspf_publish.specs.declared.errors.AskError.{AskError}
 use Rattle.cspf_rows.specs.Rows.{row_of}
 use Rattle.cspf_rows.specs.declared.row.Row.{Row}
@@ -13,17 +15,15 @@ use Rattle.cspf_rows.specs.declared.row_error.RowError.{RowError}
 use Rattle.cspf_rows.specs.declared.row_error.RowError.TheVariants as error
 use Rattle.cspf_stream.specs.RefusedRows.{refused_row_line}
 use Rattle.cspf_client.specs.ErrorNames.{entry_noted}
-use Rattle.cspf_client.specs.NewsStates.{Learns}
 use Rattle.cspf_client.specs.SessionStates.{SessionState}
-use Rattle.cspf_client.specs.declared.limits.TheConstants.{KEPT_NEWS}
 
--- The client takes all news in its ring, up to as much as a client takes at once. Its asker learns
--- it, and perhaps more.
-pub record HearsNews (s t : SessionState) : Type 0 where
-  pub news : List KnownBatches
-  pub heard : t.heard ≡ s.heard ++ news
-  pub all : (t.waiting ≡ []) ⊎ (length news ≡ KEPT_NEWS)
-  pub learnt : Learns s.known t.known news
+-- The client reads the count of published batches, by a step after all that it has seen. Its asker then
+-- knows at least as many, and after its entry perhaps more.
+pub record ReadsCount (s t : SessionState) : Type 0 where
+  pub mid : KnownBatches
+  pub count : ℕ
+  pub caught_up : CatchesUp s.known mid s.steps t.steps count
+  pub later : AreFirstOf t.known mid
   pub refused : t.refused ≡ s.refused
 
 -- The row is refused by these words, and nothing else changes.
@@ -32,15 +32,21 @@ pub record IsRefusedRow (place : ℕ) (why : RowError) (s : SessionState) (line 
   pub after : t ≡ record s { refused = s.refused + 1 }
 
 -- A request is answered by the best answer in the database of the batches that the asker knows
--- afterwards, at their number as the version. The batches that it knew before and those of the news
--- that the client takes now are prefixes of them. News that is left in the ring, or that the ring
--- had no room for, may be of more batches.
+-- afterwards, at their number as the version. The batches that it knew before are a prefix of them, and
+-- so are those that were published when it read their count.
 pub record IsRequestAnswered (q : Request) (s : SessionState) (line : List ℕ) (t : SessionState) : Type 0 where
-  pub hears : HearsNews s t
+  pub reads : ReadsCount s t
   pub entry : t.no_entry ≡ s.no_entry
   pub answer : Answer
   pub best : IsBestAnswer (database_after t.known.batches) q answer
   pub reply : IsReply q.id (length t.known.batches) answer line
+
+-- The version of a reply is no less than the count that its client read. The count is no less than what was
+-- counted by the steps that the client had seen.
+abbrev pub RepliesAreFresh : Type 0
+RepliesAreFresh =
+    (q : Request) (s t : SessionState) (line : List ℕ) (a : IsRequestAnswered q s line t)
+    → (count_of s.steps.steps ≤ a.reads.count) × (a.reads.count ≤ length t.known.batches)
 
 -- the line that answers a row, read or not, at this place, from 1, and the states before and after
 abbrev pub IsClientRowAnswered : ℕ → SessionState → Result Row RowError → List ℕ → SessionState → Type 0
@@ -58,7 +64,7 @@ IsClientAnswered place s fields line t = IsClientRowAnswered place s (row_of fie
 -- A request isn't answered by this error of its ask. A refused entry is noted, and refused memory
 -- is not.
 pub record IsRequestUnanswered (why : AskError) (s t : SessionState) : Type 0 where
-  pub hears : HearsNews s t
+  pub reads : ReadsCount s t
   pub entry : t.no_entry ≡ entry_noted s.no_entry why
 
 -- the state where the row at this place isn't answered: only a request changes anything

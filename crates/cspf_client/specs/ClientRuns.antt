@@ -4,9 +4,8 @@ use Rattle.cspf_stream.specs.RowAnswers.{AreAnswered, AreAllAnswered}
 use Rattle.cspf_stream.specs.StreamStops.{HasStopped}
 use Rattle.cspf_stream.specs.declared.error.StreamError.{StreamError}
 use Rattle.cspf_stream.specs.declared.error.StreamError.TheVariants as stream_error
-use Rattle.cspf_publish.specs.KnownBatches.{AreFirstOf}
 use Rattle.cspf_client.specs.ClientRows.{IsClientAnswered, IsClientUnanswered}
-use Rattle.cspf_client.specs.SessionStates.{SessionState}
+use Rattle.cspf_client.specs.SessionStates.{SessionState, HasGoneForward}
 use Rattle.cspf_client.specs.ServingStates.{ServingState, reader_rows}
 use Rattle.cspf_client.specs.declared.error.ClientError.{ClientError}
 use Rattle.cspf_client.specs.declared.error.ClientError.TheVariants as error
@@ -35,9 +34,9 @@ IsClientRun bytes contents old new =
     (λ done. AreAllAnswered IsClientAnswered (reader_rows bytes old.requests) old.state new.state (contents old.replies) (contents new.replies))
     (λ why. IsClientStopped bytes contents why old new)
 
--- The batches that a client knew before some rows are a prefix of those that it knows after them.
--- So its versions never fall.
+-- The batches that a client knew before some rows are a prefix of those that it knows after them, and
+-- so are the steps. So its versions never fall.
 abbrev pub ClientsGoForward : Type 0
 ClientsGoForward =
     (place : ℕ) (s t : SessionState) (rows : List (List (List ℕ))) (lines : List ℕ) → AreAnswered IsClientAnswered place s rows lines t
-    → AreFirstOf t.known s.known
+    → HasGoneForward s t

@@ -1,4 +1,3 @@
-pub mod NewsStates
 pub mod ErrorNames
 pub mod SessionStates
 pub mod ClientRows

@@ -1,12 +1,23 @@
 -- A client's state between two rows.
-use Rattle.std.specs.Prelude.{ℕ, Bool, List}
-use Rattle.cspf_publish.specs.KnownBatches.{KnownBatches}
+use Rattle.std.specs.Prelude.{◌≡◌, ℕ, Bool}
+use mathlib.Core.List.{IsPrefix}
+use Rattle.cspf_publish.specs.JournalSteps.{KnownSteps}
+use Rattle.cspf_publish.specs.KnownBatches.{KnownBatches, AreFirstOf}
 
--- The batches that its asker knows, all news that it heard in order, and the news that is known to
--- wait for it. How many rows were refused, and whether an entry was refused.
+-- The batches that its asker knows, and the steps of the journal that it has seen. How many rows were
+-- refused, and whether an entry was refused.
 pub record SessionState : Type 0 where
   pub known : KnownBatches
-  pub heard : List KnownBatches
-  pub waiting : List KnownBatches
+  pub steps : KnownSteps
   pub refused : ℕ
   pub no_entry : Bool
+
+-- the second are the first steps of the first, perhaps all of them, and have the same source
+pub record AreFirstSteps (all first : KnownSteps) : Type 0 where
+  pub source : first.source ≡ all.source
+  pub begins : IsPrefix first.steps all.steps
+
+-- The batches that the client knew are a prefix of those that it knows now. So are the steps.
+pub record HasGoneForward (old new : SessionState) : Type 0 where
+  pub known : AreFirstOf new.known old.known
+  pub steps : AreFirstSteps new.steps old.steps

@@ -8,12 +8,12 @@ ghost use Rattle.cspf_stream.specs.RowAnswers.{AreAllAnswered};
 ghost use Rattle.cspf_client.specs.ClientRows.{IsClientAnswered};
 ghost use Rattle.cspf_client.specs.ClientRuns.{IsClientRun, IsStreamStopped};
 ghost use Rattle.cspf_client.specs.ErrorNames.{client_end_of};
+ghost use Rattle.cspf_client.specs.SessionStates.{HasGoneForward};
 ghost use Rattle.cspf_client.specs.ServingStates.{IsReady, HasMet, reader_rows};
 
-use crate::news::Listener;
 use crate::session::Session;
 use crate::{ClientError, Replies};
-use cspf_publish::{Asker, Told};
+use cspf_publish::{Asker, SeenSteps, Told};
 use cspf_rows::open_records;
 use cspf_stream::{StreamError, answer_rows};
 use csv::Reader;
@@ -30,7 +30,7 @@ pub struct Client<Q, V> {
     pub replies: V,
 }
 
-/// A client, an asker that answers it, and the news that it hears. One thread runs it.
+/// A client, and an asker that answers it. One thread runs it.
 #[derive(Drop)]
 pub struct ServingClient<Q, V> {
     session: Session,
@@ -94,37 +94,32 @@ fn end_of(ended: Result<(), StreamError>, no_entry: bool) -> Result<(), ClientEr
 }
 
 impl<Q: Read + Drop, V: Replies> ServingClient<Q, V> {
-    /// A client whose requests aren't read yet. Its news has to be of the asker's publisher.
-    pub fn new(
-        alloc: Global,
-        asker: Asker,
-        listener: Listener,
-        client: Client<Q, V>,
-    ) -> ServingClient<Q, V>
-        requires { listener.source ≡ asker.source }
+    /// A client whose requests aren't read yet.
+    pub fn new(alloc: Global, asker: Asker, client: Client<Q, V>) -> ServingClient<Q, V>
         ensures ready { IsReady result }
-        ensures state { (result.state.known ≡ asker) × (result.state.heard ≡ listener.heard) }
+        ensures known { result.state.known ≡ asker }
+        ensures steps { result.state.steps.source ≡ asker.source }
         ensures requests { reader_rows Q.remaining result.requests
             ≡ option_map rows_of (Q.remaining client.requests) }
         ensures replies { result.replies ≡ client.replies }
     {
         let Client { requests, replies } = client;
         ServingClient {
-            session: Session::new(asker, listener),
+            session: Session::new(asker),
             requests: Some(open_records(alloc, requests)),
             replies,
             end: Ok(()),
         }
     }
 
-    /// Answers all rows of its requests, one by one. Before an `ask` row it takes the news in its
-    /// ring, and then answers at the version that its asker knows. Any other row is answered by its
+    /// Answers all rows of its requests, one by one. At an `ask` row it reads the count of published
+    /// batches, and then answers at a version of at least that count. Any other row is answered by its
     /// refusal. Each line is flushed before the next row is read. It waits only for its streams. At
     /// the end it drops the reader of the requests, and then ends the replies.
     pub fn run(&mut self, alloc: Global)
         requires { IsReady self.old }
         ensures run { IsClientRun Q.remaining V.contents self.old self.new }
-        ensures known { AreFirstOf self.new.state.known self.old.state.known }
+        ensures forward { HasGoneForward self.old.state self.new.state }
         ensures closed { self.new.requests ≡ None }
     {
         let Some(requests) = self.requests.take() else {
@@ -134,6 +129,13 @@ impl<Q: Read + Drop, V: Replies> ServingClient<Q, V> {
         let ended = answer_all(alloc, requests, &mut self.replies, &mut self.session);
         self.end = end_of(ended, self.session.has_no_entry());
         self.replies.end();
+    }
+
+    /// The steps of the journal that it has seen, up to its last reading of the count.
+    pub fn steps(&self) -> &SeenSteps
+        ensures { result.now ≡ self.now.state.steps }
+    {
+        self.session.steps()
     }
 
     /// Learns the last token, which has all published batches. A client that knows more ends as

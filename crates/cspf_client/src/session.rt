@@ -1,4 +1,4 @@
-//! How one row of a client is answered, by its asker and the news that it heard.
+//! How one row of a client is answered, by its asker.
 
 ghost use Rattle.std.specs.Prelude.{◌≡◌, ◌+◌, ◌<◌, ◌≤◌, Ok, IfOk, IfErr, OnOk, OnErr, IsTrue, IsFalse, length};
 ghost use Rattle.cspf_ero.specs.ReplyLine.{IsReply};
@@ -7,10 +7,9 @@ ghost use Rattle.cspf_publish.specs.KnownBatches.{AreFirstOf};
 ghost use Rattle.cspf_client.specs.ErrorNames.{entry_noted};
 ghost use Rattle.cspf_client.specs.ClientRows.{IsClientRowAnswered, IsClientRowUnanswered, IsRefusedRow, IsRequestAnswered, IsRequestUnanswered};
 
-use crate::news::Listener;
 use cspf_ero::reply_line;
 use cspf_model::Request;
-use cspf_publish::{Answer, AskError, Asker, Told};
+use cspf_publish::{Answer, AskError, Asker, SeenSteps, Told};
 use cspf_rows::{Row, RowError};
 use cspf_stream::{Answering, refused_row};
 use csv::ByteRecord;
@@ -21,7 +20,8 @@ use std::marker::Model;
 #[derive(Drop)]
 pub struct Session {
     asker: Asker,
-    listener: Listener,
+    /// The steps of the journal up to the client's last reading of the count.
+    steps: SeenSteps,
     /// The rows that were refused.
     refused: u64,
     /// An entry was refused.
@@ -36,13 +36,12 @@ impl Model for Session {
 
     ghost view = { λ s. record {
       known = s.asker;
-      heard = s.listener.heard;
-      waiting = s.listener.waiting;
+      steps = s.steps;
       refused = s.refused;
       no_entry = s.no_entry;
     } };
 
-    ghost invariant = { λ s. s.asker.source ≡ s.listener.source };
+    ghost invariant = { λ s. s.steps.source ≡ s.asker.source };
 }
 
 /// The reply line of an answer.
@@ -58,22 +57,29 @@ impl Session {
     ghost use Rattle.std.specs.Prelude.{false};
 
     /// The state before the first row.
-    pub(crate) fn new(asker: Asker, listener: Listener) -> Session
-        requires { listener.source ≡ asker.source }
-        ensures { result ≡ record {
+    pub(crate) fn new(asker: Asker) -> Session
+        ensures state { result ≡ record {
           known = asker;
-          heard = listener.heard;
-          waiting = listener.waiting;
+          steps = result.steps;
           refused = 0;
           no_entry = false;
         } }
+        ensures steps { result.steps.source ≡ asker.source }
     {
+        let steps = asker.steps();
         Session {
             asker,
-            listener,
+            steps,
             refused: 0,
             no_entry: false,
         }
+    }
+
+    /// The steps of the journal that it has seen.
+    pub(crate) fn steps(&self) -> &SeenSteps
+        ensures { result.now ≡ self.now.steps }
+    {
+        &self.steps
     }
 
     /// How many rows were refused.
@@ -103,14 +109,14 @@ impl Session {
         self.asker.meet(told) == published
     }
 
-    /// Takes the news, asks, and returns the reply line.
+    /// Reads the count of published batches, asks, and returns the reply line.
     fn ask(&mut self, alloc: Global, request: &Request) -> Result<Vec<u8>, AskError>
         ensures answered { IfOk result (λ line.
             IsRequestAnswered request.now self.old line.items self.new) }
         ensures failed { IfErr result (λ why. IsRequestUnanswered why self.old self.new) }
         ensures refused { self.new.refused ≡ self.old.refused }
     {
-        self.listener.catch_up(&mut self.asker);
+        let _count = self.asker.catch_up(&mut self.steps);
         match self.asker.ask(alloc, request) {
             Ok(answer) => line_of(alloc, answer),
             Err(why) => {

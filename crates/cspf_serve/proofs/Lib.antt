@@ -8,6 +8,7 @@ pub mod AnswerLines
 pub mod PartLines
 pub mod PublishedLines
 pub mod LiveRunLines
+pub mod StepsOfRun
 pub mod UpdatesSteps
 pub mod UpdatesStream
 pub mod Pairs

@@ -34,29 +34,18 @@ pairs_second R P holds [] (y ∷ ys) all = absurd all
 pairs_second R P holds (x ∷ xs) [] all = absurd all
 pairs_second R P holds (x ∷ xs) (y ∷ ys) all = All-cons P y ys (holds x y all.0) (pairs_second R P holds xs ys all.1)
 
+-- a fact of each first element
+pub pairs_with : {A B : Type 0} (R : A → B → Type 0) (P : A → Type 0) (xs : List A) (ys : List B) → AllZip R xs ys → All P xs → AllZip (λ x y. R x y × P x) xs ys
+pairs_with R P [] [] all each = tt
+pairs_with R P [] (y ∷ ys) all each = absurd all
+pairs_with R P (x ∷ xs) [] all each = absurd all
+pairs_with R P (x ∷ xs) (y ∷ ys) all each = ((all.0, All-head P x xs each), pairs_with R P xs ys all.1 (All-tail P x xs each))
+
 pub length_pairs : {A B : Type 0} (R : A → B → Type 0) (xs : List A) (ys : List B) → AllZip R xs ys → length ys ≡ length xs
 length_pairs R [] [] all = refl
 length_pairs R [] (y ∷ ys) all = absurd all
 length_pairs R (x ∷ xs) [] all = absurd all
 length_pairs R (x ∷ xs) (y ∷ ys) all = ap suc (length_pairs R xs ys all.1)
-
--- lists of one length whose elements are related at each place
-pub pairs_of : {A : Type 0} (R : A → A → Type 0) (xs ys : List A) → length ys ≡ length xs
-    → ((i : ℕ) (d : A) → i < length xs → R (get_or xs i d) (get_or ys i d)) → AllZip R xs ys
-pairs_of R [] [] same each = tt
-pairs_of R [] (y ∷ ys) same each = absurd (omega (arith, same))
-pairs_of R (x ∷ xs) [] same each = absurd (omega (arith, same))
-pairs_of R (x ∷ xs) (y ∷ ys) same each = (
-  each 0 x (omega arith),
-  pairs_of R xs ys (omega (arith, same)) (λ i d less. each (suc i) d (omega (arith, less))),
-)
-
--- the last one of a list, and those before it
-pub last_of : {X : Type 0} (P : X → Type 0) (all front : List X) (x : X) → all ≡ front ++ x ∷ [] → All P all → P x
-last_of P all front x split each = (All-pop P all front (Some x) split each).1
-
-pub front_of : {X : Type 0} (P : X → Type 0) (all front : List X) (x : X) → all ≡ front ++ x ∷ [] → All P all → All P front
-front_of P all front x split each = (All-pop P all front (Some x) split each).0
 
 -- one more element was taken from the start of those that are left
 pub left_step : {X : Type 0} (before : List X) (x : X) (left after all : List X) → before ++ left ≡ all → left ≡ x ∷ after → (before ++ x ∷ []) ++ after ≡ all
@@ -83,7 +72,3 @@ room_for_next R before ys x left after all room pairs whole next most =
 pub left_none : {X : Type 0} (before left all : List X) → before ++ left ≡ all → length left ≡ 0 → before ≡ all
 left_none before [] all whole none = sym (append-nil before) ∙ whole
 left_none before (x ∷ left) all whole none = absurd (omega (arith, none))
-
--- the list after a slice of all of it was written back
-pub written_back : {X : Type 0} (new rest : List X) (n : ℕ) → n ≡ length new → take n (new ++ rest) ≡ new
-written_back new rest n long = ap (λ m. take m (new ++ rest)) long ∙ take-append_seam new rest

@@ -9,34 +9,37 @@ use Rattle.cspf_publish.specs.PublisherStates.{PublisherState}
 use Rattle.cspf_client.specs.declared.client.Client.{Client}
 use Rattle.cspf_client.specs.declared.client.ServedClient.{ServedClient}
 use Rattle.cspf_publish.specs.Histories.{BeginsWith}
+use Rattle.cspf_publish.specs.JournalSteps.{KnownSteps, batches_of, count_of}
 use Rattle.cspf_publish.specs.KnownBatches.{KnownBatches, AreFirstOf}
+use Rattle.cspf_client.specs.SessionStates.{AreFirstSteps}
 use Rattle.cspf_client.specs.ServingStates.{ServingState, HasMet}
 use Rattle.cspf_stream.specs.RowAnswers.{AreAllAnswered}
 use Rattle.cspf_stream.specs.declared.error.StreamError.{StreamError}
 use Rattle.cspf_stream.specs.Lines.{end_line}
-use Rattle.cspf_serve.specs.ServedRun.{IsServedClient, IsServedStatus, IsUpdateAnsweredAt, IsLastLineSaid, IsUpdatesRun}
+use Rattle.cspf_serve.specs.ServedRun.{AreStepsOfRun, IsServedClient, IsServedRun, IsServedStatus, IsUpdateAnsweredAt, IsLastLineSaid, IsUpdatesRun}
 use Rattle.cspf_jobs.specs.Jobs.{AreDone}
-use Rattle.cspf_serve.specs.ServedSteps.{IsSeat, IsAnswered, IsServedEnd}
+use Rattle.cspf_client.proofs.Prefixes.{IsPrefix-trans}
+use Rattle.cspf_rows.specs.Records.{rows_of}
+use Rattle.cspf_serve.specs.declared.serving.served_run.Served.{Served}
+use Rattle.std.specs.Option.{option_map}
+use Rattle.cspf_serve.specs.ServedSteps.{IsSeat, IsAnswered, IsOfSource, IsServedEnd, IsClosedRun}
 use Rattle.cspf_serve.specs.declared.serving.served_run.ClientSeat.{ClientSeat}
 use Rattle.cspf_serve.specs.Updates.{UpdatesState, no_updates}
 use Rattle.cspf_stream.specs.OpenChanges.{AreOpen}
 use Rattle.cspf_serve.specs.UpdatesStates.{KeptUpdates, KeepsUpdates, IsFresh}
 use Rattle.std.proofs.KnownBytes.{Appends-nil}
-use Rattle.cspf_serve.proofs.Pairs.{pairs_through, pairs_weaker, pairs_second}
+use Rattle.cspf_serve.proofs.Pairs.{pairs_through, pairs_weaker, pairs_second, pairs_with}
 
 abbrev Rows : Type 0
 Rows = List (List (List ℕ))
 
 module _ {Q V : Type 0} (bytes : Q → Option (List ℕ)) (contents : V → Option (List ℕ)) (source : Book) where
-  -- both ends of a seat are of one publisher
-  pub ready_of : (seats : List ClientSeat) (clients : List (Client Q V)) → length seats ≡ length clients → All (IsSeat source) seats
-      → AllZip (λ (s : ClientSeat) (c : Client Q V). s.listener.source ≡ s.asker.source) seats clients
-  ready_of [] [] long each = tt
-  ready_of [] (c ∷ clients) long each = absurd (omega (arith, long))
-  ready_of (s ∷ seats) [] long each = absurd (omega (arith, long))
-  ready_of (s ∷ seats) (c ∷ clients) long each =
-      let seat = All-head (IsSeat source) s seats each in
-      (seat.listener ∙ sym seat.asker, ready_of seats clients (omega (arith, long)) (All-tail (IsSeat source) s seats each))
+  -- each client has a seat
+  pub ready_of : (seats : List ClientSeat) (clients : List (Client Q V)) → length seats ≡ length clients → AllZip (λ (s : ClientSeat) (c : Client Q V). Unit {0}) seats clients
+  ready_of [] [] long = tt
+  ready_of [] (c ∷ clients) long = absurd (omega (arith, long))
+  ready_of (s ∷ seats) [] long = absurd (omega (arith, long))
+  ready_of (s ∷ seats) (c ∷ clients) long = (tt, ready_of seats clients (omega (arith, long)))
 
   -- clients whose seats are of the publisher are answered from it
   pub answered_of : (seats : List ClientSeat) (clients : List (Client Q V)) (ran : List (ServingState Q V)) → All (IsSeat source) seats
@@ -48,21 +51,22 @@ module _ {Q V : Type 0} (bytes : Q → Option (List ℕ)) (contents : V → Opti
   answered_of (s ∷ seats) [] ran each done = absurd done
   answered_of (s ∷ seats) (c ∷ clients) [] each done = absurd done
   answered_of (s ∷ seats) (c ∷ clients) (r ∷ ran) each done = (
-    subst (λ book. IsAnswered bytes contents book c r) (All-head (IsSeat source) s seats each).asker done.0,
+    subst (λ book. IsAnswered bytes contents book c r) (All-head (IsSeat source) s seats each) done.0,
     answered_of seats clients ran (All-tail (IsSeat source) s seats each) done.1,
   )
 
   -- and once they were run they are still of the publisher
-  pub sources_of_run : (clients : List (Client Q V)) (ran : List (ServingState Q V)) → AllZip (IsAnswered bytes contents source) clients ran
-      → All (λ (c : ServingState Q V). c.state.known.source ≡ source) ran
+  pub sources_of_run : (clients : List (Client Q V)) (ran : List (ServingState Q V)) → AllZip (IsAnswered bytes contents source) clients ran → All (IsOfSource source) ran
   sources_of_run clients ran answered =
-      pairs_second (IsAnswered bytes contents source) (λ (c : ServingState Q V). c.state.known.source ≡ source) (λ c s is. sym is.known.source ∙ is.source_is) clients ran answered
+      pairs_second (IsAnswered bytes contents source) (IsOfSource source) (λ c s is. (sym is.forward.known.source ∙ is.source_is, sym is.forward.steps.source ∙ is.steps_source)) clients ran answered
 
   -- the results of all clients
-  pub served_of : (published : List NumberedChanges) (clients : List (Client Q V)) (ran : List (ServingState Q V)) (served : List (ServedClient V))
-      → AllZip (IsAnswered bytes contents source) clients ran → AllZip (IsServedEnd published) ran served → AllZip (IsServedClient bytes contents published) clients served
-  served_of published clients ran served answered closed =
-      pairs_weaker (λ c s. (a : ServingState Q V) × IsAnswered bytes contents source c a × IsServedEnd published a s) (IsServedClient bytes contents published)
+  served_of : (published : List NumberedChanges) (all : KnownSteps) (clients : List (Client Q V)) (ran : List (ServingState Q V)) (served : List (ServedClient V))
+      → AllZip (IsAnswered bytes contents source) clients ran → AllZip (IsServedEnd published) ran served → All (λ (a : ServingState Q V). AreFirstSteps all a.state.steps) ran
+      → AllZip (IsServedClient bytes contents published all) clients served
+  served_of published all clients ran served answered closed firsts =
+      let Ends : ServingState Q V → ServedClient V → Type 0 = λ a s. IsServedEnd published a s × AreFirstSteps all a.state.steps in
+      pairs_weaker (λ c s. (a : ServingState Q V) × IsAnswered bytes contents source c a × Ends a s) (IsServedClient bytes contents published all)
       (λ c s is. record {
         before = is.1.before;
         after = is.0;
@@ -70,11 +74,39 @@ module _ {Q V : Type 0} (bytes : Q → Option (List ℕ)) (contents : V → Opti
         requests = is.1.requests;
         empty = is.1.replies;
         run = is.1.run;
-        replies = is.2.replies;
-        refused = is.2.refused;
-        end = is.2.end;
+        steps = is.2.1;
+        replies = is.2.0.replies;
+        refused = is.2.0.refused;
+        end = is.2.0.end;
       }) clients served
-      (pairs_through (IsAnswered bytes contents source) (IsServedEnd published) clients ran served answered closed)
+      (pairs_through (IsAnswered bytes contents source) Ends clients ran served answered
+      (pairs_with (IsServedEnd published) (λ (a : ServingState Q V). AreFirstSteps all a.state.steps) ran served closed firsts))
+
+  -- the result of the run, from where its publisher was opened
+  pub served_run : {W J : Type 0} (said : W → Option (List ℕ)) (recorded : J → Option (List ℕ)) (updates : Option (List ℕ)) (writer written : W) (first : PublisherState J) (left : KeptUpdates J)
+      (clients : List (Client Q V)) (ran : List (ServingState Q V)) (ended : Result (Unit {0}) StreamError) (served : Served W J V)
+      → (t : UpdatesState) × KeepsUpdates recorded first left t × IsUpdatesRun ended (option_map rows_of updates) t (said writer) (said written)
+      → AllZip (IsAnswered bytes contents source) clients ran → IsClosedRun recorded ended written left ran served
+      → IsServedRun updates said recorded bytes contents writer first.journal clients served
+  served_run said recorded updates writer written first left clients ran ended served run answered closed =
+      let t = run.0 in
+      let published = run.1.published in
+      record {
+        state = t;
+        updates_run = rw (closed.ended_is, closed.said_is) run.2;
+        journal_grown = rw closed.journal_is published.journal;
+        steps = closed.steps;
+        steps_of_run = record {
+          journal = closed.journal;
+          recorded = subst (λ (bs : List NumberedChanges). BeginsWith (batches_of closed.steps.steps) bs) published.batches closed.counted.recorded;
+          counted = omega (arith, closed.counted.counted, ap length published.batches);
+          later = IsPrefix-trans t.steps left.sink.steps.steps closed.steps.steps published.steps closed.later;
+        };
+        clients_served =
+            served_of t.run.accepted closed.steps clients ran served.clients.items answered
+            (subst (λ (bs : List NumberedChanges). AllZip (IsServedEnd bs) ran served.clients.items) published.batches closed.closed) closed.seen;
+        status_is = closed.status first t run.1;
+      }
 
 -- the lines of the updates once all their rows are answered, by the result of their last line
 pub updates_run : (said : Result (Unit {0}) StreamError) (all : Option Rows) (t : UpdatesState) (old mid new : Option (List ℕ))
@@ -134,10 +166,16 @@ closed_of {Q} {V} published told old met served batches others known (inr is) le
 }
 
 -- the state that is kept before the first row
-pub begins : {J : Type 0} (contents : J → Option (List ℕ)) (p : PublisherState J) (k : KeptUpdates J) → k.publisher ≡ p → p.batches ≡ [] → p.stopped ≡ false
+pub begins : {J : Type 0} (contents : J → Option (List ℕ)) (p : PublisherState J) (k : KeptUpdates J) → k.sink.publisher ≡ p → p.batches ≡ [] → p.stopped ≡ false
     → AreOpen k.changes [] → IsFresh k → KeepsUpdates contents p k no_updates
-begins contents p k same none going open_none fresh = record {
-  published = rw same (record { source = refl; batches = none; stopped = going; journal = Appends-nil (contents p.journal) });
+begins {J} contents p k same none going open_none fresh = record {
+  published = record {
+    source = ap (λ (x : PublisherState J). x.source) same;
+    batches = ap (λ (x : PublisherState J). x.batches) same ∙ none;
+    stopped = ap (λ (x : PublisherState J). x.stopped) same ∙ going;
+    journal = rw same (Appends-nil (contents p.journal));
+    steps = (k.sink.steps.steps, refl);
+  };
   changes = open_none;
   refused = fresh.clean;
 }

@@ -1,7 +1,9 @@
 -- The state after the rows of a stream of updates.
-use Rattle.std.proofs.Common.{◌≡◌, ◌≢◌, ℕ, ◌+◌, false, true, Option, List, [], ◌∷◌, ◌++◌, take, length, Result, Ok, Err, inl, inr, refl, sym, ap, subst, ◌∙◌, arith}
+use Rattle.std.proofs.Common.{◌≡◌, ◌≢◌, ℕ, ◌+◌, false, true, Option, List, [], ◌∷◌, ◌++◌, take, length, Result, Ok, Err, inl, inr, refl, sym, ap, subst, ◌∙◌, arith, append-nil}
 use Rattle.std.proofs.KnownBytes.{Appends-trans}
 use Rattle.std.proofs.lemmas.Bool.{false≢true}
+use mathlib.Core.List.{IsPrefix}
+use Rattle.cspf_client.proofs.Prefixes.{IsPrefix-trans}
 use Rattle.cspf_model.specs.Laws.{RefusedIsUnfit}
 use Rattle.cspf_model.specs.Numbered.{NumberedChanges}
 use Rattle.cspf_model.specs.Changes.{database_after}
@@ -27,8 +29,8 @@ use Rattle.cspf_stream.proofs.KeptChanges.{kept_all, refusal_whole}
 use Rattle.cspf_solve.specs.Script.{RunState, open_batch, after_change_row, after_refused_row, after_refused_batch, after_reply, IsAccepted, IsBatchRefusal}
 use Rattle.cspf_solve.proofs.BatchRefusals.{wrong_end, unfit_end}
 use Rattle.cspf_serve.specs.LiveWords.{refusal_of}
-use Rattle.cspf_serve.specs.Updates.{UpdatesState, IsEndUpdate, IsUpdateAnswered, IsUpdateLost, at_next_update}
-use Rattle.cspf_serve.specs.UpdatesStates.{KeptUpdates, IsPublished, ArePublished, KeepsUpdates, IsUpdateTaken, IsUpdateFailed, publisher_spec, after_published}
+use Rattle.cspf_serve.specs.Updates.{UpdatesState, AreNowCounted, IsEndUpdate, IsUpdateAnswered, IsUpdateLost, at_next_update}
+use Rattle.cspf_serve.specs.UpdatesStates.{CountedState, KeptUpdates, IsPublished, ArePublished, KeepsUpdates, IsUpdateTaken, IsUpdateFailed, publisher_spec, after_published}
 
 -- ---- a batch has as many of the open changes as are kept
 
@@ -53,31 +55,32 @@ module _ {J : Type 0} (contents : J → Option (List ℕ)) (p q : PublisherState
 -- ---- the answer to a row
 
 -- the publisher's batches are those that were accepted, and the changes are those that are open
-pub record IsOfUpdates {J : Type 0} (contents : J → Option (List ℕ)) (first : PublisherState J) (r : RowsState (PublisherState J)) (s : UpdatesState) : Type 0 where
+pub record IsOfUpdates {J : Type 0} (contents : J → Option (List ℕ)) (first : PublisherState J) (r : RowsState (CountedState J)) (s : UpdatesState) : Type 0 where
   pub published : ArePublished contents first r.sink s
   pub changes : r.changes ≡ s.run.changes
   pub refused : r.refused ≡ s.run.refused
 
 -- a state of which the publisher's part is the same
-still_published : {J : Type 0} (contents : J → Option (List ℕ)) (first p : PublisherState J) (s t : UpdatesState) → ArePublished contents first p s
-    → t.run.accepted ≡ s.run.accepted → t.stopped ≡ s.stopped → t.text ≡ s.text → ArePublished contents first p t
-still_published contents first p s t are accepted stopped text = record {
+still_published : {J : Type 0} (contents : J → Option (List ℕ)) (first : PublisherState J) (c : CountedState J) (s t : UpdatesState) → ArePublished contents first c s
+    → t.run.accepted ≡ s.run.accepted → t.stopped ≡ s.stopped → t.text ≡ s.text → t.steps ≡ s.steps → ArePublished contents first c t
+still_published contents first c s t are accepted stopped text steps = record {
   source = are.source;
   batches = are.batches ∙ sym accepted;
   stopped = are.stopped ∙ sym stopped;
   journal = rw text are.journal;
+  steps = rw steps are.steps;
 }
 
-module _ {J : Type 0} (contents : J → Option (List ℕ)) (first : PublisherState J) (unfit : RefusedIsUnfit) (r : RowsState (PublisherState J)) (s : UpdatesState) (of : IsOfUpdates contents first r s) where
+module _ {J : Type 0} (contents : J → Option (List ℕ)) (first : PublisherState J) (unfit : RefusedIsUnfit) (r : RowsState (CountedState J)) (s : UpdatesState) (of : IsOfUpdates contents first r s) where
   -- a row after which the rows are of a state
-  abbrev Answered : (UpdatesState → Type 0) → RowsState (PublisherState J) → Type 0
+  abbrev Answered : (UpdatesState → Type 0) → RowsState (CountedState J) → Type 0
   Answered Says t = (after : UpdatesState) × IsOfUpdates contents first t after × Says after
 
-  version : length r.sink.batches ≡ length s.run.accepted
+  version : length r.sink.publisher.batches ≡ length s.run.accepted
   version = ap length of.published.batches
 
-  module _ (number count : ℕ) (line : List ℕ) (t : RowsState (PublisherState J)) where
-    right_accepted : IsRightEnd r.sink.stopped (length r.sink.batches) number count (length r.changes) → IsNextBatch r.sink (record { number = number; changes = r.changes }) → IsAccepted s.run number count
+  module _ (number count : ℕ) (line : List ℕ) (t : RowsState (CountedState J)) where
+    right_accepted : IsRightEnd r.sink.publisher.stopped (length r.sink.publisher.batches) number count (length r.changes) → IsNextBatch r.sink.publisher (record { number = number; changes = r.changes }) → IsAccepted s.run number count
     right_accepted right next = record {
       room = omega (arith, version, right.room);
       next = omega (arith, version, right.next);
@@ -89,59 +92,66 @@ module _ {J : Type 0} (contents : J → Option (List ℕ)) (first : PublisherSta
     accepted a =
         let right = a.taken.0 in
         let is = a.taken.1.0 in
+        let now : t.sink.publisher.batches ≡ (after_published s number t.sink.steps.steps).run.accepted = is.batches ∙ rw (of.published.batches, of.changes) refl in
         let goes : s.stopped ≡ false = sym of.published.stopped ∙ right.going in
         let taken = right_accepted right is.next in (
-          after_published s number,
+          after_published s number t.sink.steps.steps,
           record {
             published = record {
               source = a.taken.1.1 ∙ of.published.source;
-              batches = is.batches ∙ rw (of.published.batches, of.changes) refl;
+              batches = now;
               stopped = is.going;
-              journal = Appends-trans (contents first.journal) (contents r.sink.journal) (contents t.sink.journal) s.text _ of.published.journal (rw of.changes at is.recorded);
+              journal = Appends-trans (contents first.journal) (contents r.sink.publisher.journal) (contents t.sink.publisher.journal) s.text _ of.published.journal (rw of.changes at is.recorded);
+              steps = ([], append-nil t.sink.steps.steps);
             };
-            changes = ap (λ (x : RowsState (PublisherState J)). x.changes) a.after;
-            refused = ap (λ (x : RowsState (PublisherState J)). x.refused) a.after ∙ of.refused;
+            changes = ap (λ (x : RowsState (CountedState J)). x.changes) a.after;
+            refused = ap (λ (x : RowsState (CountedState J)). x.refused) a.after ∙ of.refused;
           },
           rw goes (inl (record {
             answered = inl (taken, a.line_is, refl);
             going = refl;
             published = λ accepted. refl;
+            counted = λ accepted. record {
+              later = IsPrefix-trans s.steps r.sink.steps.steps t.sink.steps.steps of.published.steps a.taken.1.2.later;
+              counted = omega (arith, a.taken.1.2.counted, ap length now);
+            };
             refused = λ not. absurd (not taken);
           })),
         )
 
     -- the end row is answered this line, and its batch is refused
-    abbrev IsEnded : PublisherState J → List ℕ → Type 0
+    abbrev IsEnded : CountedState J → List ℕ → Type 0
     IsEnded p said =
         (after : UpdatesState) × ArePublished contents first p after × IsEndUpdate s.stopped s number count said after × (after.run ≡ after_refused_batch s.run)
 
     -- as in a script
-    refuses : (p : PublisherState J) (why : BatchRefusal) → r.sink.stopped ≡ false → p ≡ r.sink → (¬ IsAccepted s.run number count) × IsBatchRefusal s.run number count why
+    refuses : (p : CountedState J) (why : BatchRefusal) → r.sink.publisher.stopped ≡ false → p ≡ r.sink → (¬ IsAccepted s.run number count) × IsBatchRefusal s.run number count why
         → IsEnded p (refused_batch_line number why)
     refuses p why going same is =
         let goes : s.stopped ≡ false = sym of.published.stopped ∙ going in (
-          record { run = after_refused_batch s.run; stopped = false; text = s.text },
-          rw same (record { source = of.published.source; batches = of.published.batches; stopped = going; journal = of.published.journal }),
+          record { run = after_refused_batch s.run; stopped = false; text = s.text; steps = s.steps },
+          rw same (record { source = of.published.source; batches = of.published.batches; stopped = going; journal = of.published.journal; steps = of.published.steps }),
           rw goes (inl (record {
             answered = inr (why, is.0, is.1, refl, refl);
             going = refl;
             published = λ accepted. absurd (is.0 accepted);
+            counted = λ accepted. absurd (is.0 accepted);
             refused = λ not. refl;
           })),
           refl,
         )
 
-    not_right : (p : PublisherState J) (why : BatchRefusal) → p ≡ r.sink → r.sink.stopped ≡ false → IsWrongEnd r.sink.stopped (length r.sink.batches) number count (length r.changes) why
+    not_right : (p : CountedState J) (why : BatchRefusal) → p ≡ r.sink → r.sink.publisher.stopped ≡ false → IsWrongEnd r.sink.publisher.stopped (length r.sink.publisher.batches) number count (length r.changes) why
         → IsEnded p (refused_batch_line number why)
     not_right p why same going is =
-        refuses p why going same (wrong_end s.run r.sink.stopped (length r.sink.batches) number count (length r.changes) why going version (ap length of.changes) is)
+        refuses p why going same (wrong_end s.run r.sink.publisher.stopped (length r.sink.publisher.batches) number count (length r.changes) why going version (ap length of.changes) is)
 
     -- the end row isn't right
-    wrong : (p : PublisherState J) (why : BatchRefusal) → p ≡ r.sink → IsWrongEnd r.sink.stopped (length r.sink.batches) number count (length r.changes) why → IsEnded p (refused_batch_line number why)
+    wrong : (p : CountedState J) (why : BatchRefusal) → p ≡ r.sink → IsWrongEnd r.sink.publisher.stopped (length r.sink.publisher.batches) number count (length r.changes) why → IsEnded p (refused_batch_line number why)
     wrong p refusal.Stopped same is =
         let stops : s.stopped ≡ true = sym of.published.stopped ∙ is in (
-          record { run = after_refused_batch s.run; stopped = true; text = s.text },
-          rw same (record { source = of.published.source; batches = of.published.batches; stopped = is; journal = of.published.journal }),
+          record { run = after_refused_batch s.run; stopped = true; text = s.text; steps = s.steps },
+          rw same (record { source = of.published.source; batches = of.published.batches; stopped = is; journal = of.published.journal; steps = of.published.steps }),
           rw stops (refl, refl),
           refl,
         )
@@ -152,40 +162,44 @@ module _ {J : Type 0} (contents : J → Option (List ℕ)) (first : PublisherSta
     wrong p refusal.Memory same is = absurd is
     wrong p (refusal.Journal written) same is = absurd is
 
+    whole : (p : CountedState J) → p.publisher ≡ r.sink.publisher → p.steps ≡ r.sink.steps → p ≡ r.sink
+    whole p same steps = λ i. record { publisher = same i; steps = steps i }
+
     -- its batch isn't published
-    unpublished : (p : PublisherState J) (why : ApplyError) → IsRightEnd r.sink.stopped (length r.sink.batches) number count (length r.changes)
-        → IsApplyError contents r.sink p (record { number = number; changes = r.changes }) why → p.batches ≡ r.sink.batches → p.source ≡ r.sink.source
-        → IsEnded p (refused_batch_line number (refusal_of why))
-    unpublished p error.Stopped right is same source = absurd (false≢true (sym right.going ∙ is.0))
-    unpublished p error.Exhausted right is same source = absurd (omega (arith, right.room, is.1))
-    unpublished p (error.WrongNumber expected) right is same source = absurd (is.1 right.next)
-    unpublished p (error.Refused why) right is same source =
-        refuses p (refusal.Unfit why) right.going is.3
-        (unfit_end unfit s.run r.sink.stopped (length r.sink.batches) number count (length r.changes) why version (ap length of.changes) right
+    unpublished : (p : CountedState J) (why : ApplyError) → IsRightEnd r.sink.publisher.stopped (length r.sink.publisher.batches) number count (length r.changes)
+        → IsApplyError contents r.sink.publisher p.publisher (record { number = number; changes = r.changes }) why → p.publisher.batches ≡ r.sink.publisher.batches
+        → p.publisher.source ≡ r.sink.publisher.source → p.steps ≡ r.sink.steps → IsEnded p (refused_batch_line number (refusal_of why))
+    unpublished p error.Stopped right is same source steps = absurd (false≢true (sym right.going ∙ is.0))
+    unpublished p error.Exhausted right is same source steps = absurd (omega (arith, right.room, is.1))
+    unpublished p (error.WrongNumber expected) right is same source steps = absurd (is.1 right.next)
+    unpublished p (error.Refused why) right is same source steps =
+        refuses p (refusal.Unfit why) right.going (whole p is.3 steps)
+        (unfit_end unfit s.run r.sink.publisher.stopped (length r.sink.publisher.batches) number count (length r.changes) why version (ap length of.changes) right
         (rw (of.published.batches, of.changes) at is.2))
-    unpublished p error.Memory right is same source =
+    unpublished p error.Memory right is same source steps =
         let goes : s.stopped ≡ false = sym of.published.stopped ∙ right.going in (
-          record { run = after_refused_batch s.run; stopped = false; text = s.text },
-          rw is.1 (record { source = of.published.source; batches = of.published.batches; stopped = right.going; journal = of.published.journal }),
+          record { run = after_refused_batch s.run; stopped = false; text = s.text; steps = s.steps },
+          rw (whole p is.1 steps) (record { source = of.published.source; batches = of.published.batches; stopped = right.going; journal = of.published.journal; steps = of.published.steps }),
           rw goes (inr (record { accepted = right_accepted right is.0; why = error.Memory; left = refl; line_is = refl })),
           refl,
         )
-    unpublished p (error.Journal written) right is same source =
+    unpublished p (error.Journal written) right is same source steps =
         let goes : s.stopped ≡ false = sym of.published.stopped ∙ right.going in (
-          record { run = after_refused_batch s.run; stopped = true; text = s.text ++ take written (batch_text (open_batch s.run number)) },
+          record { run = after_refused_batch s.run; stopped = true; text = s.text ++ take written (batch_text (open_batch s.run number)); steps = s.steps },
           record {
             source = source ∙ of.published.source;
             batches = same ∙ of.published.batches;
             stopped = is.1;
-            journal = Appends-trans (contents first.journal) (contents r.sink.journal) (contents p.journal) s.text _ of.published.journal (rw of.changes at is.3);
+            journal = Appends-trans (contents first.journal) (contents r.sink.publisher.journal) (contents p.publisher.journal) s.text _ of.published.journal (rw of.changes at is.3);
+            steps = rw steps of.published.steps;
           },
           rw goes (inr (record { accepted = right_accepted right is.0; why = error.Journal written; left = (rw of.changes at is.2, refl); line_is = refl })),
           refl,
         )
 
-    dropped : (p : PublisherState J) (why : BatchRefusal) → IsBatchDropped (publisher_spec contents) r.sink number count r.changes why p → IsEnded p (refused_batch_line number why)
+    dropped : (p : CountedState J) (why : BatchRefusal) → IsBatchDropped (publisher_spec contents) r.sink number count r.changes why p → IsEnded p (refused_batch_line number why)
     dropped p why (inl is) = wrong p why is.1 is.0
-    dropped p why (inr (right, is)) = rw is.1 (unpublished p is.0 right is.2 is.3 is.4)
+    dropped p why (inr (right, is)) = rw is.1 (unpublished p is.0 right is.2 is.3 is.4 is.5)
 
     refused : IsEndRefused (publisher_spec contents) r number count line t
         → Answered (λ after. IsEndUpdate s.stopped s number count line after × (after.run.accepted ≡ s.run.accepted)) t
@@ -195,8 +209,8 @@ module _ {J : Type 0} (contents : J → Option (List ℕ)) (first : PublisherSta
           d.0,
           record {
             published = d.1;
-            changes = ap (λ (x : RowsState (PublisherState J)). x.changes) a.after ∙ sym (ap (λ (x : RunState). x.changes) d.3);
-            refused = ap (λ (x : RowsState (PublisherState J)). x.refused) a.after ∙ ap (λ n. n + 1) of.refused ∙ sym (ap (λ (x : RunState). x.refused) d.3);
+            changes = ap (λ (x : RowsState (CountedState J)). x.changes) a.after ∙ sym (ap (λ (x : RunState). x.changes) d.3);
+            refused = ap (λ (x : RowsState (CountedState J)). x.refused) a.after ∙ ap (λ n. n + 1) of.refused ∙ sym (ap (λ (x : RunState). x.refused) d.3);
           },
           (said, ap (λ (x : RunState). x.accepted) d.3),
         )
@@ -204,16 +218,16 @@ module _ {J : Type 0} (contents : J → Option (List ℕ)) (first : PublisherSta
   -- one more open change
   changed : (c : Change) → IsOfUpdates contents first (record r { changes = r.changes ++ c ∷ [] }) (record s { run = after_change_row s.run c })
   changed c = record {
-    published = still_published contents first r.sink s (record s { run = after_change_row s.run c }) of.published refl refl refl;
+    published = still_published contents first r.sink s (record s { run = after_change_row s.run c }) of.published refl refl refl refl;
     changes = ap (λ cs. cs ++ c ∷ []) of.changes;
     refused = of.refused;
   }
 
-  row_taken : (t : RowsState (PublisherState J)) (row : Result Row RowError) (line : List ℕ) → IsRowTaken (publisher_spec contents) s.run.rows r row line t → Answered (IsUpdateAnswered s row line) t
+  row_taken : (t : RowsState (CountedState J)) (row : Result Row RowError) (line : List ℕ) → IsRowTaken (publisher_spec contents) s.run.rows r row line t → Answered (IsUpdateAnswered s row line) t
   row_taken t (Err why) line a = (
     record s { run = after_refused_row s.run },
     rw a.1 (record {
-      published = still_published contents first r.sink s (record s { run = after_refused_row s.run }) of.published refl refl refl;
+      published = still_published contents first r.sink s (record s { run = after_refused_row s.run }) of.published refl refl refl refl;
       changes = of.changes;
       refused = ap (λ n. n + 1) of.refused;
     }),
@@ -230,17 +244,17 @@ module _ {J : Type 0} (contents : J → Option (List ℕ)) (first : PublisherSta
   row_taken t (Ok (row.Ask q)) line a = (
     record s { run = after_reply s.run },
     rw a.1 (record {
-      published = still_published contents first r.sink s (record s { run = after_reply s.run }) of.published refl refl refl;
+      published = still_published contents first r.sink s (record s { run = after_reply s.run }) of.published refl refl refl refl;
       changes = of.changes;
       refused = of.refused;
     }),
     record { answered = (a.0.0, rw of.published.batches at a.0.1, rw of.published.batches at a.0.2, refl); same = refl },
   )
 
-  same_lost : (t : RowsState (PublisherState J)) (row : Result Row RowError) → t ≡ r → Answered (IsUpdateLost s row) t
+  same_lost : (t : RowsState (CountedState J)) (row : Result Row RowError) → t ≡ r → Answered (IsUpdateLost s row) t
   same_lost t row is = (s, rw is of, inl refl)
 
-  row_lost : (t : RowsState (PublisherState J)) (row : Result Row RowError) → IsRowLost (publisher_spec contents) r row t → Answered (IsUpdateLost s row) t
+  row_lost : (t : RowsState (CountedState J)) (row : Result Row RowError) → IsRowLost (publisher_spec contents) r row t → Answered (IsUpdateLost s row) t
   row_lost t (Err why) a = same_lost t (Err why) a
   row_lost t (Ok (row.Put link)) a = same_lost t (Ok (row.Put link)) a
   row_lost t (Ok (row.Remove from local)) a = same_lost t (Ok (row.Remove from local)) a
@@ -252,19 +266,19 @@ module _ {J : Type 0} (contents : J → Option (List ℕ)) (first : PublisherSta
 -- ---- what the code keeps
 
 -- the updates' rows, as they are kept
-abbrev pub kept_of : {J : Type 0} → Rows (PublisherState J) → KeptUpdates J
-kept_of k = record { publisher = k.sink; changes = k.changes; answers = k.answers; refused = k.refused }
+abbrev pub kept_of : {J : Type 0} → Rows (CountedState J) → KeptUpdates J
+kept_of k = record { sink = k.sink; changes = k.changes; answers = k.answers; refused = k.refused }
 
-module _ {J : Type 0} (contents : J → Option (List ℕ)) (unfit : RefusedIsUnfit) (k k' : Rows (PublisherState J)) (place : ℕ) (fields : List (List ℕ)) where
+module _ {J : Type 0} (contents : J → Option (List ℕ)) (unfit : RefusedIsUnfit) (k k' : Rows (CountedState J)) (place : ℕ) (fields : List (List ℕ)) where
   begun : (first : PublisherState J) (s : UpdatesState) → KeepsUpdates contents first (kept_of k) s
       → IsOfUpdates contents first (record { sink = k.sink; changes = s.run.changes; answers = k.answers; refused = k.refused }) (at_next_update s)
   begun first s kept = record {
-    published = still_published contents first k.sink s (at_next_update s) kept.published refl refl refl;
+    published = still_published contents first k.sink s (at_next_update s) kept.published refl refl refl refl;
     changes = refl;
     refused = kept.refused;
   }
 
-  kept_again : (first : PublisherState J) (t : RowsState (PublisherState J)) (s : UpdatesState) → KeepsRows k' t → IsOfUpdates contents first t s → KeepsUpdates contents first (kept_of k') s
+  kept_again : (first : PublisherState J) (t : RowsState (CountedState J)) (s : UpdatesState) → KeepsRows k' t → IsOfUpdates contents first t s → KeepsUpdates contents first (kept_of k') s
   kept_again first t s kept of = record {
     published = rw kept.sink of.published;
     changes = subst (λ cs. AreOpen k'.changes cs) of.changes kept.changes;

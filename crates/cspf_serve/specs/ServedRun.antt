@@ -4,14 +4,18 @@ use Rattle.std.specs.Prelude.{◌≡◌, ℕ, ◌+◌, ◌<◌, ◌≤◌, ◌�
 use Rattle.std.specs.List.{AllZip}
 use Rattle.std.specs.Option.{option_map}
 use Rattle.std.specs.Io.KnownBytes.{Appends, Keeps}
+use mathlib.Core.List.{IsPrefix}
+use Rattle.cspf_journal.specs.declared.log_step.LogStep.{LogStep}
 use Rattle.cspf_model.specs.Numbered.{NumberedChanges}
 use Rattle.cspf_rows.specs.Records.{rows_of}
 use Rattle.cspf_rows.specs.Rows.{row_of}
 use Rattle.cspf_publish.specs.Histories.{BeginsWith}
+use Rattle.cspf_publish.specs.JournalSteps.{KnownSteps, AreJournalSteps, batches_of, count_of}
 use Rattle.cspf_client.specs.declared.client.Client.{Client}
 use Rattle.cspf_client.specs.declared.client.ServedClient.{ServedClient}
 use Rattle.cspf_client.specs.declared.error.ClientError.TheVariants.{Ahead}
 use Rattle.cspf_client.specs.ServingStates.{ServingState, IsReady, reader_rows}
+use Rattle.cspf_client.specs.SessionStates.{AreFirstSteps}
 use Rattle.cspf_client.specs.ClientRuns.{IsClientRun}
 use Rattle.cspf_stream.specs.RowAnswers.{AnswersOf, AreAllAnswered}
 use Rattle.cspf_stream.specs.StreamStops.{FailsOf, HasStopped, IsLineStopped}
@@ -71,19 +75,29 @@ IsUpdatesRun ended all t old new =
 -- A client was run, from before the first row of its requests until it learnt all batches that were
 -- published in the end. The batches that it knew after its last row are a prefix of these, so each
 -- of its replies is the best answer at a published version. Or it knew more batches after its last row
--- than were published in the end, which no run shows, and ends as `Ahead`.
-pub record IsServedClient {Q V : Type 0} (bytes : Q → Option (List ℕ)) (contents : V → Option (List ℕ)) (published : List NumberedChanges) (client : Client Q V) (served : ServedClient V) : Type 0 where
+-- than were published in the end, which no run shows, and ends as `Ahead`. Its readings of the count are
+-- among all steps of the journal.
+pub record IsServedClient {Q V : Type 0} (bytes : Q → Option (List ℕ)) (contents : V → Option (List ℕ)) (published : List NumberedChanges) (all : KnownSteps) (client : Client Q V) (served : ServedClient V) : Type 0 where
   pub before : ServingState Q V
   pub after : ServingState Q V
   pub ready : IsReady before
   pub requests : reader_rows bytes before.requests ≡ option_map rows_of (bytes client.requests)
   pub empty : before.replies ≡ client.replies
   pub run : IsClientRun bytes contents before after
+  pub steps : AreFirstSteps all after.state.steps
   pub replies : served.replies ≡ after.replies
   pub refused : served.refused ≡ after.state.refused
   pub end :
       ((served.end ≡ after.end) × BeginsWith published after.state.known.batches)
       ⊎ ((served.end ≡ Err Ahead) × (length published < length after.state.known.batches))
+
+-- The steps of one journal from its first on. They record the published batches, count them as published,
+-- and go on from these other steps.
+pub record AreStepsOfRun (published : List NumberedChanges) (steps : List LogStep) (all : KnownSteps) : Type 0 where
+  pub journal : AreJournalSteps all.steps
+  pub recorded : BeginsWith (batches_of all.steps) published
+  pub counted : length published ≤ count_of all.steps
+  pub later : IsPrefix steps all.steps
 
 -- no row and no batch was refused on any stream, and no change was left open
 pub record IsAllAccepted {V : Type 0} (t : UpdatesState) (clients : List (ServedClient V)) : Type 0 where
@@ -97,12 +111,15 @@ IsServedStatus t clients status =
     (IsAllAccepted t clients × (status ≡ 0)) ⊎ ((¬ IsAllAccepted t clients) × (status ≡ 2))
 
 -- The updates make the published batches: they are those that their run accepted. The journal has
--- grown by the text that that run wrote, and each client was answered from prefixes of them.
+-- grown by the text that that run wrote, and each client was answered from prefixes of them. One list has
+-- the steps of the journal: those that record and count the batches, and the readings of all clients.
 pub record IsServedRun {W J Q V : Type 0} (updates : Option (List ℕ)) (said : W → Option (List ℕ)) (recorded : J → Option (List ℕ)) (bytes : Q → Option (List ℕ)) (contents : V → Option (List ℕ)) (writer : W) (journal : J) (clients : List (Client Q V)) (served : Served W J V) : Type 0 where
   pub state : UpdatesState
   pub updates_run : IsUpdatesRun served.updates (option_map rows_of updates) state (said writer) (said served.said)
   pub journal_grown : Appends (recorded journal) (recorded served.journal) state.text
-  pub clients_served : AllZip (IsServedClient bytes contents state.run.accepted) clients served.clients.items
+  pub steps : KnownSteps
+  pub steps_of_run : AreStepsOfRun state.run.accepted state.steps steps
+  pub clients_served : AllZip (IsServedClient bytes contents state.run.accepted steps) clients served.clients.items
   pub status_is : IsServedStatus state served.clients.items served.status
 
 -- Why no run began: its publisher wasn't opened, or one of this many clients has no thread.

@@ -1,33 +1,35 @@
 -- Private: the states between the steps of a run over updates and clients.
 use Rattle.std.specs.Prelude.{◌≡◌, ℕ, ◌<◌, ◌≤◌, ◌⊎◌, Option, List, [], All, Result, Err, length, vec_len}
+use Rattle.std.specs.List.{AllZip}
 use Rattle.std.specs.Vec.{vec_capacity}
+use mathlib.Core.List.{IsPrefix}
 use Rattle.std.specs.Option.{option_map}
 use Rattle.logbook.specs.Pages.{Book}
 use Rattle.cspf_model.specs.Numbered.{NumberedChanges}
 use Rattle.cspf_rows.specs.Records.{rows_of}
 use Rattle.cspf_publish.specs.Histories.{BeginsWith}
-use Rattle.cspf_publish.specs.KnownBatches.{AreFirstOf}
+use Rattle.cspf_publish.specs.JournalSteps.{KnownSteps, AreJournalSteps}
 use Rattle.cspf_publish.specs.PublisherStates.{PublisherState}
 use Rattle.cspf_client.specs.declared.client.Client.{Client}
 use Rattle.cspf_client.specs.declared.client.ServedClient.{ServedClient}
 use Rattle.cspf_client.specs.declared.error.ClientError.TheVariants.{Ahead}
 use Rattle.cspf_client.specs.ServingStates.{ServingState, IsReady, reader_rows}
 use Rattle.cspf_client.specs.ClientRuns.{IsClientRun}
+use Rattle.cspf_client.specs.SessionStates.{AreFirstSteps, HasGoneForward}
 use Rattle.cspf_stream.specs.declared.error.StreamError.{StreamError}
-use Rattle.cspf_serve.specs.ServedRun.{IsUpdatesRun}
+use Rattle.cspf_serve.specs.ServedRun.{IsServedStatus, IsUpdatesRun}
 use Rattle.cspf_serve.specs.Updates.{UpdatesState, no_updates}
-use Rattle.cspf_serve.specs.UpdatesStates.{KeptUpdates, KeepsUpdates}
+use Rattle.cspf_serve.specs.UpdatesStates.{AreAllCounted, KeptUpdates, KeepsUpdates}
 use Rattle.cspf_serve.specs.declared.serving.served_run.ClientSeat.{ClientSeat}
 use Rattle.cspf_serve.specs.declared.serving.served_run.Seats.{Seats}
+use Rattle.cspf_serve.specs.declared.serving.served_run.Served.{Served}
 
--- an asker and a listener of one publisher
-pub record IsSeat (source : Book) (seat : ClientSeat) : Type 0 where
-  pub asker : seat.asker.source ≡ source
-  pub listener : seat.listener.source ≡ source
+-- a seat whose asker is of this publisher
+abbrev pub IsSeat : Book → ClientSeat → Type 0
+IsSeat source seat = seat.asker.source ≡ source
 
 -- This many seats of one publisher, with room for the clients' states and for their results.
 pub record AreSeats {Q V : Type 0} (source : Book) (count : ℕ) (made : Seats Q V) : Type 0 where
-  pub tellers : All (λ t. t.source ≡ source) made.tellers.items
   pub seats : All (IsSeat source) made.seats.items
   pub many : vec_len made.seats ≡ count
   pub serving : made.serving.items ≡ []
@@ -40,10 +42,11 @@ pub record IsAnswered {Q V : Type 0} (bytes : Q → Option (List ℕ)) (contents
   pub before : ServingState Q V
   pub ready : IsReady before
   pub source_is : before.state.known.source ≡ source
+  pub steps_source : before.state.steps.source ≡ source
   pub requests : reader_rows bytes before.requests ≡ option_map rows_of (bytes client.requests)
   pub replies : before.replies ≡ client.replies
   pub run : IsClientRun bytes contents before c
-  pub known : AreFirstOf c.state.known before.state.known
+  pub forward : HasGoneForward before.state c.state
 
 -- the updates of a run were answered, wherever its publisher was when it began
 abbrev pub IsRunOfUpdates : {W J : Type 0} → (W → Option (List ℕ)) → (J → Option (List ℕ)) → Option (List (List (List ℕ))) → W → KeptUpdates J → Result (Unit {0}) StreamError → W → KeptUpdates J → Type 0
@@ -58,3 +61,20 @@ pub record IsServedEnd {Q V : Type 0} (published : List NumberedChanges) (c : Se
   pub end :
       ((served.end ≡ c.end) × BeginsWith published c.state.known.batches)
       ⊎ ((served.end ≡ Err Ahead) × (length published < length c.state.known.batches))
+
+-- what a client knows, and the steps that it has seen, are of this source
+abbrev pub IsOfSource : {Q V : Type 0} → Book → ServingState Q V → Type 0
+IsOfSource source c = (c.state.known.source ≡ source) × (c.state.steps.source ≡ source)
+
+-- The result of a run whose updates and clients have ended, with one list of all steps that were seen.
+pub record IsClosedRun {W J Q V : Type 0} (recorded : J → Option (List ℕ)) (ended : Result (Unit {0}) StreamError) (said : W) (updates : KeptUpdates J) (serving : List (ServingState Q V)) (served : Served W J V) : Type 0 where
+  pub ended_is : served.updates ≡ ended
+  pub said_is : served.said ≡ said
+  pub journal_is : served.journal ≡ updates.sink.publisher.journal
+  pub closed : AllZip (IsServedEnd updates.sink.publisher.batches) serving served.clients.items
+  pub steps : KnownSteps
+  pub journal : AreJournalSteps steps.steps
+  pub later : IsPrefix updates.sink.steps.steps steps.steps
+  pub counted : AreAllCounted updates.sink.publisher steps
+  pub seen : All (λ c. AreFirstSteps steps c.state.steps) serving
+  pub status : (first : PublisherState J) (t : UpdatesState) → KeepsUpdates recorded first updates t → IsServedStatus t served.clients.items served.status

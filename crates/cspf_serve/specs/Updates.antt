@@ -1,6 +1,10 @@
 -- The lines of a stream of updates while clients ask: the script of its rows, except for faults of
 -- the journal and memory, and with any number of rows.
-use Rattle.std.specs.Prelude.{◌≡◌, ℕ, ◌<◌, ◌⊎◌, Bool, true, false, List, [], ◌++◌, take, length, Result, Ok, Err}
+use Rattle.std.specs.Prelude.{◌≡◌, ℕ, ◌<◌, ◌≤◌, ◌⊎◌, Bool, true, false, List, [], ◌++◌, take, length, Result, Ok, Err}
+use mathlib.Core.List.{IsPrefix}
+use Rattle.cspf_journal.specs.declared.log_step.LogStep.{LogStep}
+use Rattle.cspf_model.specs.Numbered.{NumberedChanges}
+use Rattle.cspf_publish.specs.JournalSteps.{count_of}
 use Rattle.cspf_publish.specs.declared.errors.ApplyError.{ApplyError}
 use Rattle.cspf_publish.specs.declared.errors.ApplyError.TheVariants as error
 use Rattle.cspf_rows.specs.BatchText.{batch_text}
@@ -18,10 +22,17 @@ pub record UpdatesState : Type 0 where
   pub stopped : Bool
   -- what was written to the journal
   pub text : List ℕ
+  -- the steps of the journal up to the count of the last batch that is published
+  pub steps : List LogStep
 
 -- before the first row
 abbrev pub no_updates : UpdatesState
-no_updates = record { run = start; stopped = false; text = [] }
+no_updates = record { run = start; stopped = false; text = []; steps = [] }
+
+-- later steps, by which these batches are counted as published
+pub record AreNowCounted (batches : List NumberedChanges) (before after : List LogStep) : Type 0 where
+  pub later : IsPrefix before after
+  pub counted : length batches ≤ count_of after
 
 -- The journal after a fault. Refused memory leaves it as it was. A fault of the journal adds a
 -- prefix of the batch's text, and the journal ends for good.
@@ -31,13 +42,14 @@ IsLeftByFault s number error.Exhausted t = ⊥
 IsLeftByFault s number (error.WrongNumber expected) t = ⊥
 IsLeftByFault s number (error.Refused why) t = ⊥
 IsLeftByFault s number error.Memory t =
-    t ≡ record { run = after_refused_batch s.run; stopped = false; text = s.text }
+    t ≡ record { run = after_refused_batch s.run; stopped = false; text = s.text; steps = s.steps }
 IsLeftByFault s number (error.Journal written) t =
     (written < length (batch_text (open_batch s.run number)))
     × (t ≡ record {
       run = after_refused_batch s.run;
       stopped = true;
       text = s.text ++ take written (batch_text (open_batch s.run number));
+      steps = s.steps;
     })
 
 -- A batch that is accepted isn't published for a fault, which its line names.
@@ -47,19 +59,20 @@ pub record IsUnpublished (s : UpdatesState) (number count : ℕ) (line : List �
   pub left : IsLeftByFault s number why t
   pub line_is : line ≡ unpublished_line number why
 
--- The end row is answered as in a script: the batch is refused, or it is published, and then its text
--- is in the journal.
+-- The end row is answered as in a script: the batch is refused, or it is published. Then its text is in
+-- the journal, and all published batches are counted.
 pub record IsAsInScript (s : UpdatesState) (number count : ℕ) (line : List ℕ) (t : UpdatesState) : Type 0 where
   pub answered : IsEndAnswered s.run number count line t.run
   pub going : t.stopped ≡ false
   pub published : IsAccepted s.run number count → t.text ≡ s.text ++ batch_text (open_batch s.run number)
-  pub refused : (IsAccepted s.run number count → ⊥) → t.text ≡ s.text
+  pub counted : IsAccepted s.run number count → AreNowCounted t.run.accepted s.steps t.steps
+  pub refused : (IsAccepted s.run number count → ⊥) → t ≡ record { run = t.run; stopped = false; text = s.text; steps = s.steps }
 
 -- After a fault of the journal each batch is refused.
 abbrev pub IsRefusedBehindFault : UpdatesState → ℕ → List ℕ → UpdatesState → Type 0
 IsRefusedBehindFault s number line t =
     (line ≡ unpublished_line number error.Stopped)
-    × (t ≡ record { run = after_refused_batch s.run; stopped = true; text = s.text })
+    × (t ≡ record { run = after_refused_batch s.run; stopped = true; text = s.text; steps = s.steps })
 
 -- an end row is answered
 abbrev pub IsEndUpdate : Bool → UpdatesState → ℕ → ℕ → List ℕ → UpdatesState → Type 0
@@ -69,7 +82,7 @@ IsEndUpdate false s number count line t = IsAsInScript s number count line t ⊎
 -- any other row is answered as in a script
 pub record IsOtherUpdate (s : UpdatesState) (r : Result Row RowError) (line : List ℕ) (t : UpdatesState) : Type 0 where
   pub answered : IsRowAnswered s.run r line t.run
-  pub same : t ≡ record { run = t.run; stopped = s.stopped; text = s.text }
+  pub same : t ≡ record { run = t.run; stopped = s.stopped; text = s.text; steps = s.steps }
 
 -- one more row is read
 abbrev pub at_next_update : UpdatesState → UpdatesState

@@ -1,11 +1,15 @@
 -- Private: the state of a stream of updates that the code keeps.
-use Rattle.std.specs.Prelude.{◌≡◌, ℕ, ◌+◌, false, Option, List, [], ◌∷◌, ◌++◌, length}
+use Rattle.std.specs.Prelude.{◌≡◌, ℕ, ◌+◌, ◌≤◌, false, Option, List, [], ◌∷◌, ◌++◌, length}
+use mathlib.Core.List.{IsPrefix}
+use Rattle.cspf_journal.specs.declared.log_step.LogStep.{LogStep}
 use Rattle.std.specs.Io.KnownBytes.{Appends}
 use Rattle.cspf_ero.specs.ReplyLine.{IsReply}
 use Rattle.cspf_model.specs.Best.{Answer, IsBestAnswer}
 use Rattle.cspf_model.specs.Changes.{database_after}
 use Rattle.cspf_model.specs.Numbered.{NumberedChanges}
 use Rattle.cspf_publish.specs.ApplyErrors.{IsApplyError, IsNextBatch}
+use Rattle.cspf_publish.specs.Histories.{BeginsWith}
+use Rattle.cspf_publish.specs.JournalSteps.{KnownSteps, batches_of, count_of}
 use Rattle.cspf_publish.specs.PublisherStates.{PublisherState}
 use Rattle.cspf_publish.specs.declared.errors.ApplyError.{ApplyError}
 use Rattle.cspf_rows.specs.BatchText.{batch_text}
@@ -17,11 +21,23 @@ use Rattle.cspf_stream.specs.Sinks.{SinkSpec}
 use Rattle.cspf_stream.specs.StreamStops.{FailsOf}
 use Rattle.cspf_solve.specs.Script.{open_batch, after_batch}
 use Rattle.cspf_serve.specs.LiveWords.{refusal_of}
-use Rattle.cspf_serve.specs.Updates.{UpdatesState, IsUpdateAnswered, IsUpdateLost, at_next_update}
+use Rattle.cspf_serve.specs.Updates.{UpdatesState, AreNowCounted, IsUpdateAnswered, IsUpdateLost, at_next_update}
 
--- the publisher, the open changes, and how many requests were answered, rows and batches refused
-pub record KeptUpdates (J : Type 0) : Type 0 where
+-- a publisher, and the steps of its journal up to its last count
+pub record CountedState (J : Type 0) : Type 0 where
   pub publisher : PublisherState J
+  pub steps : KnownSteps
+
+-- The steps are of the publisher's journal. They record its batches, and count them as published.
+pub record AreAllCounted {J : Type 0} (p : PublisherState J) (steps : KnownSteps) : Type 0 where
+  pub source : steps.source ≡ p.source
+  pub recorded : BeginsWith (batches_of steps.steps) p.batches
+  pub counted : length p.batches ≤ count_of steps.steps
+
+-- the publisher with its steps, the open changes, and how many requests were answered, rows and batches
+-- refused
+pub record KeptUpdates (J : Type 0) : Type 0 where
+  pub sink : CountedState J
   pub changes : OpenChanges
   pub answers : ℕ
   pub refused : ℕ
@@ -33,16 +49,17 @@ pub record IsFresh {J : Type 0} (k : KeptUpdates J) : Type 0 where
   pub clean : k.refused ≡ 0
 
 -- The publisher is that of the beginning, its published batches are those that were accepted, and its
--- journal has grown by what was written.
-pub record ArePublished {J : Type 0} (contents : J → Option (List ℕ)) (first p : PublisherState J) (s : UpdatesState) : Type 0 where
-  pub source : p.source ≡ first.source
-  pub batches : p.batches ≡ s.run.accepted
-  pub stopped : p.stopped ≡ s.stopped
-  pub journal : Appends (contents first.journal) (contents p.journal) s.text
+-- journal has grown by what was written. The steps go on from those of the state.
+pub record ArePublished {J : Type 0} (contents : J → Option (List ℕ)) (first : PublisherState J) (c : CountedState J) (s : UpdatesState) : Type 0 where
+  pub source : c.publisher.source ≡ first.source
+  pub batches : c.publisher.batches ≡ s.run.accepted
+  pub stopped : c.publisher.stopped ≡ s.stopped
+  pub journal : Appends (contents first.journal) (contents c.publisher.journal) s.text
+  pub steps : IsPrefix s.steps c.steps.steps
 
 -- the publisher is that of the state, and so are the open changes and the refusals
 pub record KeepsUpdates {J : Type 0} (contents : J → Option (List ℕ)) (first : PublisherState J) (k : KeptUpdates J) (s : UpdatesState) : Type 0 where
-  pub published : ArePublished contents first k.publisher s
+  pub published : ArePublished contents first k.sink s
   pub changes : AreOpen k.changes s.run.changes
   pub refused : k.refused ≡ s.run.refused
 
@@ -53,23 +70,28 @@ pub record IsPublished {J : Type 0} (contents : J → Option (List ℕ)) (old ne
   pub going : new.stopped ≡ false
   pub recorded : Appends (contents old.journal) (contents new.journal) (batch_text b)
 
--- How a publisher takes batches and answers requests. A batch that it accepts is published, and each
--- of its errors is a refusal.
-abbrev pub publisher_spec : {J : Type 0} → (J → Option (List ℕ)) → SinkSpec (PublisherState J)
+-- How a publisher takes batches and answers requests. A batch that it accepts is published, and then
+-- counted by later steps. Each of its errors is a refusal.
+abbrev pub publisher_spec : {J : Type 0} → (J → Option (List ℕ)) → SinkSpec (CountedState J)
 publisher_spec contents = record {
-  version = λ p. length p.batches;
-  stopped = λ p. p.stopped;
-  accepts = λ p b new. IsPublished contents p new b × (new.source ≡ p.source);
-  refuses = λ p b why new. (error : ApplyError) × (why ≡ refusal_of error) × IsApplyError contents p new b error × (new.batches ≡ p.batches) × (new.source ≡ p.source);
-  replies = λ p q line. (answer : Answer) × IsBestAnswer (database_after p.batches) q answer × IsReply q.id (length p.batches) answer line;
+  version = λ c. length c.publisher.batches;
+  stopped = λ c. c.publisher.stopped;
+  accepts = λ c b new.
+      IsPublished contents c.publisher new.publisher b × (new.publisher.source ≡ c.publisher.source) × AreNowCounted new.publisher.batches c.steps.steps new.steps.steps;
+  refuses = λ c b why new.
+      (error : ApplyError) × (why ≡ refusal_of error) × IsApplyError contents c.publisher new.publisher b error
+      × (new.publisher.batches ≡ c.publisher.batches) × (new.publisher.source ≡ c.publisher.source) × (new.steps ≡ c.steps);
+  replies = λ c q line.
+      (answer : Answer) × IsBestAnswer (database_after c.publisher.batches) q answer × IsReply q.id (length c.publisher.batches) answer line;
 }
 
--- the state after a batch with this number is published
-abbrev pub after_published : UpdatesState → ℕ → UpdatesState
-after_published s number = record {
+-- the state after a batch with this number is published, and counted by these steps
+abbrev pub after_published : UpdatesState → ℕ → List LogStep → UpdatesState
+after_published s number steps = record {
   run = after_batch s.run number;
   stopped = false;
   text = s.text ++ batch_text (open_batch s.run number);
+  steps = steps;
 }
 
 -- the row at a place is answered

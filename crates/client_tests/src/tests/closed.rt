@@ -10,10 +10,9 @@ use std::test::Fail;
 fn client_of_a_closed_publisher(rt: HostRuntime) -> Result<(), Fail> {
     let first = link_batch(rt.alloc(), 1)?;
     let requests = b"end,2,0\nask,7,1.1.1.1,2.2.2.2,0,1000,0x0,0x0,0x0,\nend,2,0\n";
-    let (mut publisher, mut teller, mut serving) = seated(&rt, rt.alloc(), requests, 1000);
-    // Batch 1 is published, news of it waits, and the publisher is closed.
+    let (mut publisher, mut serving) = seated(&rt, rt.alloc(), requests, 1000);
+    // Batch 1 is published and counted, and the publisher is closed.
     let _ = publisher.apply(&rt, rt.alloc(), &first);
-    teller.tell(&mut publisher);
     let told = publisher.tell();
     publisher.close(&rt);
     serving.run(rt.alloc());

@@ -1,11 +1,11 @@
 //! A client in one thread and its publisher in another.
 
 ghost use Rattle.std.specs.Prelude.{◌≡◌};
-ghost use Rattle.cspf_publish.specs.KnownBatches.{AreFirstOf};
 ghost use Rattle.cspf_client.specs.ServingStates.{IsReady};
+ghost use Rattle.cspf_client.specs.SessionStates.{HasGoneForward};
 
 use super::{Narrow, link_batch, seated};
-use cspf_client::{ServedClient, ServingClient, Teller};
+use cspf_client::{ServedClient, ServingClient};
 use cspf_model::Batch;
 use cspf_publish::Publisher;
 use std::alloc::Global;
@@ -15,30 +15,26 @@ use std::test::Fail;
 use std::thread;
 use std::thread::Threads;
 
-/// A client asks in another thread while this one publishes a batch and leaves word of it.
+/// A client asks in another thread while this one publishes a batch.
 fn run_beside<R: Threads + Wait + Sync>(
     rt: &R,
     alloc: Global,
     first: &Batch,
-    teller: &mut Teller,
     publisher: &mut Publisher<Vec<u8>>,
     serving: &mut ServingClient<&[u8], Narrow>,
 )
-    requires teller { publisher.old.source ≡ teller.old.source }
-    requires ready { IsReady serving.old }
+    requires { IsReady serving.old }
     ensures source { publisher.new.source ≡ publisher.old.source }
-    ensures known { AreFirstOf serving.new.state.known serving.old.state.known }
+    ensures forward { HasGoneForward serving.old.state serving.new.state }
 {
     let mut answer = ||
         requires { IsReady serving.now }
-        ensures { AreFirstOf serving.exit.now.state.known serving.entry.now.state.known }
+        ensures { HasGoneForward serving.entry.now.state serving.exit.now.state }
     { serving.run(alloc) };
     let mut publish = ||
-        requires { publisher.now.source ≡ teller.now.source }
         ensures { publisher.exit.now.source ≡ publisher.entry.now.source }
     {
         let _ = publisher.apply(rt, alloc, first);
-        teller.tell(publisher);
     };
     thread::join_mut(rt, &mut answer, &mut publish);
 }
@@ -50,8 +46,8 @@ fn served_beside<R: Threads + Wait + Abort + Sync>(
     first: &Batch,
     requests: &[u8],
 ) -> ServedClient<Narrow> {
-    let (mut publisher, mut teller, mut serving) = seated(rt, alloc, requests, 1000);
-    run_beside(rt, alloc, first, &mut teller, &mut publisher, &mut serving);
+    let (mut publisher, mut serving) = seated(rt, alloc, requests, 1000);
+    run_beside(rt, alloc, first, &mut publisher, &mut serving);
     serving.meet(publisher.tell());
     publisher.close(rt);
     serving.close()

@@ -3,22 +3,26 @@
 
 ghost use Rattle.std.specs.Prelude.{◌≡◌, ◌≤◌, ◌<◌, ◌↔◌, [], false, All, IfOk, IfErr, IsTrue, List, vec_len, vec_capacity};
 ghost use Rattle.std.specs.List.{AllZip};
+ghost use mathlib.Core.List.{IsPrefix};
+ghost use Rattle.logbook.specs.Pages.{Book};
+ghost use Rattle.cspf_client.specs.SessionStates.{AreFirstSteps};
+ghost use Rattle.cspf_publish.specs.JournalSteps.{AreJournalSteps};
 ghost use Rattle.cspf_rows.specs.Records.{IsPlain, rows_left};
 ghost use Rattle.cspf_publish.specs.PublisherStates.{PublisherState};
 ghost use Rattle.cspf_model.specs.declared.batch.Change.{Change as Changed};
 ghost use Rattle.cspf_stream.specs.OpenChanges.{AreOpen};
 ghost use Rattle.cspf_stream.specs.Lines.{end_line};
 ghost use Rattle.cspf_serve.specs.ServedRun.{IsLastLineSaid, IsServedFault, IsServedRun, IsServedStatus, IsUpdatesRun};
-ghost use Rattle.cspf_serve.specs.ServedSteps.{AreSeats, IsAnswered, IsRunOfUpdates, IsServedEnd};
+ghost use Rattle.cspf_serve.specs.ServedSteps.{AreSeats, IsAnswered, IsClosedRun, IsOfSource, IsRunOfUpdates, IsServedEnd};
 ghost use Rattle.cspf_serve.specs.Updates.{UpdatesState, no_updates};
-ghost use Rattle.cspf_serve.specs.UpdatesStates.{IsFresh, KeepsUpdates};
+ghost use Rattle.cspf_serve.specs.UpdatesStates.{AreAllCounted, IsFresh, KeepsUpdates};
 
 use crate::RunError;
 use crate::serving::updates::Updates;
 use crate::streams::opening::open_for;
-use cspf_client::{Client, Listener, Replies, ServedClient, ServingClient, Teller, open_news};
+use cspf_client::{Client, Replies, ServedClient, ServingClient};
 use cspf_jobs::{Doer, Meanwhile, NoThread, run_all};
-use cspf_publish::{Asker, MOST_ASKERS, Publisher};
+use cspf_publish::{Asker, MOST_ASKERS, Publisher, SeenSteps};
 use cspf_rows::open_records;
 use cspf_stream::{StreamError, answer_rows, put_line};
 use csv::Reader;
@@ -62,67 +66,68 @@ pub struct Served<W, J, V> {
 struct ClientSeat {
     alloc: Global,
     asker: Asker,
-    listener: Listener,
 }
 
 impl<Q: Read + Drop, V: Replies> Doer<Client<Q, V>> for ClientSeat {
     type Output = ServingClient<Q, V>;
 
-    ghost ready = { λ s _. s.listener.source ≡ s.asker.source };
+    ghost ready = { λ _ _. Unit {0} };
 
     ghost done = { λ s client c. IsAnswered Q.remaining V.contents s.asker.source client c };
 
     fn work(self, client: Client<Q, V>) -> ServingClient<Q, V> {
-        let ClientSeat {
-            alloc,
-            asker,
-            listener,
-        } = self;
-        let mut client = ServingClient::new(alloc, asker, listener, client);
+        let ClientSeat { alloc, asker } = self;
+        let mut client = ServingClient::new(alloc, asker, client);
         client.run(alloc);
         client
     }
 }
 
-/// What is allocated for each client before any is started: the publisher's end of its news ring, its
-/// seat, and a slot for its state and for its result.
+/// What is allocated for each client before any is started: its seat, and a slot for its state and for
+/// its result.
 #[derive(Drop)]
 struct Seats<Q, V> {
-    tellers: Vec<Teller>,
     seats: Vec<ClientSeat>,
     serving: Vec<ServingClient<Q, V>>,
     served: Vec<ServedClient<V>>,
 }
 
-/// Seats for as many clients as there are askers.
-fn seat_all<J: Write, Q: Drop, V: Drop>(
-    alloc: Global,
-    publisher: &mut Publisher<J>,
-    askers: Vec<Asker>,
-) -> Result<Seats<Q, V>, AllocError>
-    requires { All (λ a. a.source ≡ publisher.old.source) askers.items }
-    ensures same { publisher.new ≡ publisher.old }
-    ensures seats { IfOk result (AreSeats publisher.old.source (vec_len askers)) }
+/// A seat for each asker.
+fn seat_all<Q: Drop, V: Drop>(alloc: Global, askers: Vec<Asker>) -> Result<Seats<Q, V>, AllocError>
+    ensures { IfOk result (λ made. (source : Book) → All (λ a. a.source ≡ source) askers.items
+        → AreSeats source (vec_len askers) made) }
 {
     let count = askers.len();
     let serving = Vec::with_capacity(alloc, count)?;
     let served = Vec::with_capacity(alloc, count)?;
-    let (mut tellers, mut seats) = (Vec::new(alloc), Vec::new(alloc));
+    let mut seats = Vec::new(alloc);
     for asker in askers {
-        let (teller, listener) = open_news(alloc, publisher)?;
-        tellers.push(teller)?;
-        seats.push(ClientSeat {
-            alloc,
-            asker,
-            listener,
-        })?;
+        seats.push(ClientSeat { alloc, asker })?;
     }
     Ok(Seats {
-        tellers,
         seats,
         serving,
         served,
     })
+}
+
+/// One list of the journal's steps: all that the publisher and the clients have seen. Proofs alone use
+/// it.
+fn all_steps<J: Write, Q: Read + Drop, V: Replies + Drop>(
+    updates: &Updates<J>,
+    serving: &[ServingClient<Q, V>],
+) -> SeenSteps
+    requires { All (IsOfSource updates.now.sink.publisher.source) serving.now }
+    ensures journal { AreJournalSteps result.steps }
+    ensures updates { IsPrefix updates.now.sink.steps.steps result.steps }
+    ensures counted { AreAllCounted updates.now.sink.publisher result }
+    ensures clients { All (λ c. AreFirstSteps result c.state.steps) serving.now }
+{
+    let mut all = updates.steps();
+    for client in serving {
+        all.learn(client.steps());
+    }
+    all
 }
 
 /// The result of each client once it has learnt all published batches.
@@ -131,10 +136,10 @@ fn close_all<J: Write, Q: Read + Drop, V: Replies + Drop>(
     serving: Vec<ServingClient<Q, V>>,
     room: Vec<ServedClient<V>>,
 ) -> Vec<ServedClient<V>>
-    requires source { All (λ c. c.state.known.source ≡ updates.old.publisher.source) serving.items }
+    requires source { All (IsOfSource updates.old.sink.publisher.source) serving.items }
     requires none { room.items ≡ [] }
     requires room { vec_len serving ≤ vec_capacity room }
-    ensures closed { AllZip (IsServedEnd updates.old.publisher.batches) serving.items result.items }
+    ensures closed { AllZip (IsServedEnd updates.old.sink.publisher.batches) serving.items result.items }
     ensures same { updates.new ≡ updates.old }
 {
     let mut served = room;
@@ -225,6 +230,55 @@ fn answer_updates<R: Read, W: Write, J: Write, T: Wait>(
     }
 }
 
+/// A publisher over a journal, and a seat for each client.
+fn open_seats<J: Write, Q: Drop, V: Drop, T: Wait>(
+    rt: &T,
+    alloc: Global,
+    journal: J,
+    clients: usize,
+) -> Result<(Publisher<J>, Seats<Q, V>), (RunError, J)>
+    requires { (0 < clients) × (clients ≤ MOST_ASKERS) }
+    ensures publisher { IfOk result (λ made.
+        (made.0.batches ≡ []) × (made.0.stopped ≡ false) × (made.0.journal ≡ journal)) }
+    ensures seats { IfOk result (λ made. AreSeats made.0.source clients made.1) }
+    ensures error { IfErr result (λ e. e.0 ≡ RunError.Memory) }
+    ensures journal { IfErr result (λ e. e.1 ≡ journal) }
+{
+    match open_for(rt, alloc, journal, clients) {
+        Ok((publisher, askers)) => match seat_all(alloc, askers) {
+            Ok(seats) => Ok((publisher, seats)),
+            Err(_) => Err((RunError::Memory, publisher.close(rt))),
+        },
+        Err(refused) => Err(refused),
+    }
+}
+
+/// The result of a run whose updates and clients have ended.
+fn close_run<W, J: Write, Q: Read + Drop, V: Replies + Drop, T: Wait>(
+    rt: &T,
+    ended: Result<(), StreamError>,
+    said: W,
+    updates: Updates<J>,
+    serving: Vec<ServingClient<Q, V>>,
+    room: Vec<ServedClient<V>>,
+) -> Served<W, J, V>
+    requires source { All (IsOfSource updates.sink.publisher.source) serving.items }
+    requires none { room.items ≡ [] }
+    requires room { vec_len serving ≤ vec_capacity room }
+    ensures { IsClosedRun J.contents ended said updates serving.items result }
+{
+    let mut updates = updates;
+    let _ = all_steps(&updates, serving.as_slice());
+    let clients = close_all(&mut updates, serving, room);
+    Served {
+        status: status_of(&updates, clients.as_slice()),
+        updates: ended,
+        said,
+        journal: updates.close(rt),
+        clients,
+    }
+}
+
 /// Publishes updates as they come in, each batch in the journal first, while one asker answers each
 /// client, in a thread of its own. No client waits for another, nor for the publisher. It ends when
 /// the updates and all clients have ended: `IsServedRun`.
@@ -251,45 +305,11 @@ pub fn run_serve<
     ensures error { IfErr result (λ e. IsServedFault (vec_len clients) e.0) }
     ensures back { IfErr result (λ e. (e.1 ≡ said) × (e.2 ≡ journal) × (e.3 ≡ clients)) }
 {
-    let (mut publisher, askers) = match open_for(rt, alloc, journal, clients.len()) {
+    let (publisher, seats) = match open_seats(rt, alloc, journal, clients.len()) {
         Ok(opened) => opened,
         Err((error, journal)) => return Err((ServedError::Run(error), said, journal, clients)),
     };
-    let Ok(seats) = seat_all(alloc, &mut publisher, askers) else {
-        let error = ServedError::Run(RunError::Memory);
-        return Err((error, said, publisher.close(rt), clients));
-    };
-    serve_seated(rt, alloc, updates, said, publisher, seats, clients)
-}
-
-/// The result of a run whose clients all have seats, once the updates are published and the clients
-/// answered. Without a thread for each client nothing is, and all inputs but the updates come back.
-fn serve_seated<
-    R: Read + Drop,
-    W: Write,
-    J: Write,
-    Q: Read + Drop + Send,
-    V: Replies + Drop + Send,
-    T: Threads + Wait + Sync,
->(
-    rt: &T,
-    alloc: Global,
-    updates: R,
-    said: W,
-    publisher: Publisher<J>,
-    seats: Seats<Q, V>,
-    clients: Vec<Client<Q, V>>,
-) -> Result<Served<W, J, V>, (ServedError, W, J, Vec<Client<Q, V>>)>
-    requires publisher { (publisher.batches ≡ []) × (publisher.stopped ≡ false) }
-    requires seats { AreSeats publisher.source (vec_len clients) seats }
-    requires some { 0 < vec_len clients }
-    ensures served { IfOk result (IsServedRun (R.remaining updates) W.contents J.contents
-        Q.remaining V.contents said publisher.journal clients.items) }
-    ensures error { IfErr result (λ e. IsServedFault (vec_len clients) e.0) }
-    ensures back { IfErr result (λ e. (e.1 ≡ said) × (e.2 ≡ publisher.journal) × (e.3 ≡ clients)) }
-{
     let Seats {
-        tellers,
         seats,
         serving,
         served,
@@ -299,7 +319,7 @@ fn serve_seated<
         alloc,
         rows: open_records(alloc, updates),
         said,
-        updates: Updates::new(alloc, publisher, tellers),
+        updates: Updates::new(alloc, publisher),
     };
     let ran = run_all(rt, seats, clients, serving, &mut own);
     let Publishing {
@@ -307,19 +327,10 @@ fn serve_seated<
         alloc: _,
         rows: _,
         said,
-        mut updates,
+        updates,
     } = own;
     match ran {
-        Ok((serving, ended)) => {
-            let clients = close_all(&mut updates, serving, served);
-            Ok(Served {
-                status: status_of(&updates, clients.as_slice()),
-                updates: ended,
-                said,
-                journal: updates.close(rt),
-                clients,
-            })
-        }
+        Ok((serving, ended)) => Ok(close_run(rt, ended, said, updates, serving, served)),
         Err((NoThread { job }, clients)) => {
             let error = ServedError::NoThread { client: job };
             Err((error, said, updates.close(rt), clients))

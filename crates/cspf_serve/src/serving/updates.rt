@@ -1,17 +1,16 @@
-//! How one row of the updates is answered, and how the clients are notified of each published
-//! batch.
+//! How one row of the updates is answered, by a publisher that counts each published batch.
 
-ghost use Rattle.std.specs.Prelude.{◌≡◌, ◌<◌, ◌⊎◌, [], List, All, IsTrue, ◌↔◌, IfOk};
+ghost use Rattle.std.specs.Prelude.{◌≡◌, ◌<◌, ◌⊎◌, [], List, IsTrue, ◌↔◌, IfOk};
 ghost use Rattle.cspf_model.specs.declared.batch.Change.{Change as Changed};
 ghost use Rattle.cspf_stream.specs.OpenChanges.{AreOpen};
 ghost use Rattle.cspf_stream.specs.Lines.{end_line};
-ghost use Rattle.cspf_serve.specs.UpdatesStates.{IsFresh};
+ghost use Rattle.cspf_publish.specs.JournalSteps.{AreJournalSteps};
+ghost use Rattle.cspf_serve.specs.UpdatesStates.{AreAllCounted, IsFresh};
 
 use crate::line::refusal_of;
-use cspf_client::Teller;
 use cspf_ero::reply_line;
 use cspf_model::{Batch, Request, one_refusal};
-use cspf_publish::{Publisher, Told};
+use cspf_publish::{Publisher, SeenSteps, Told};
 use cspf_rows::Row;
 use cspf_stream::{Answering, BatchRefusal, Rows, Sink};
 use csv::ByteRecord;
@@ -20,24 +19,42 @@ use std::io::Write;
 use std::marker::Model;
 use std::sync::Wait;
 
-/// The publisher, and its ends of the clients' rings.
-pub(super) struct Audience<J> {
+/// The publisher, and the steps of its journal up to the count of its last batch.
+pub(super) struct Counted<J> {
     publisher: Publisher<J>,
-    tellers: Vec<Teller>,
+    steps: SeenSteps,
 }
 
-impl<J> Model for Audience<J> {
-    ghost use Rattle.std.specs.Prelude.{◌≡◌, All};
-    ghost use Rattle.cspf_publish.specs.PublisherStates.{PublisherState};
+impl<J> Model for Counted<J> {
+    ghost use Rattle.cspf_serve.specs.UpdatesStates.{CountedState, AreAllCounted};
 
-    ghost Value = { PublisherState J };
+    ghost Value = { CountedState J };
 
-    ghost view = { λ a. a.publisher };
+    ghost view = { λ c. record { publisher = c.publisher; steps = c.steps } };
 
-    ghost invariant = { λ a. All (λ t. t.source ≡ a.publisher.source) a.tellers.items };
+    ghost invariant = { λ c. AreAllCounted c.publisher c.steps };
 }
 
-impl<J: Write, R: Wait> Sink<R> for Audience<J> {
+impl<J: Write> Counted<J> {
+    /// A publisher of which nothing was asked yet.
+    fn new(publisher: Publisher<J>) -> Counted<J>
+        ensures { result.publisher ≡ publisher }
+    {
+        let steps = publisher.steps();
+        Counted { publisher, steps }
+    }
+
+    /// The steps of the journal up to the count of the last batch.
+    fn steps(&self) -> SeenSteps
+        ensures same { result ≡ self.now.steps }
+        ensures journal { AreJournalSteps result.steps }
+        ensures counted { AreAllCounted self.now.publisher result }
+    {
+        self.steps.copy()
+    }
+}
+
+impl<J: Write, R: Wait> Sink<R> for Counted<J> {
     ghost use Rattle.cspf_serve.specs.UpdatesStates.{publisher_spec};
 
     ghost spec = { publisher_spec J.contents };
@@ -53,7 +70,7 @@ impl<J: Write, R: Wait> Sink<R> for Audience<J> {
     fn accept(&mut self, rt: &R, alloc: Global, batch: &Batch) -> Result<(), BatchRefusal> {
         match self.publisher.apply(rt, alloc, batch) {
             Ok(_) => {
-                tell_each(&mut self.publisher, &mut self.tellers);
+                self.steps.learn(&self.publisher.steps());
                 Ok(())
             }
             Err(error) => Err(refusal_of(error)),
@@ -66,10 +83,10 @@ impl<J: Write, R: Wait> Sink<R> for Audience<J> {
     }
 }
 
-/// The updates' side of a run: the publisher, the publisher's ends of the clients' rings, the open
-/// changes, and how many rows and batches were refused.
+/// The updates' side of a run: the publisher, the open changes, and how many rows and batches were
+/// refused.
 pub(super) struct Updates<J> {
-    rows: Rows<Audience<J>>,
+    rows: Rows<Counted<J>>,
 }
 
 impl<J> Model for Updates<J> {
@@ -78,7 +95,7 @@ impl<J> Model for Updates<J> {
     ghost Value = { KeptUpdates J };
 
     ghost view = { λ u. record {
-      publisher = u.rows.sink;
+      sink = u.rows.sink;
       changes = u.rows.changes;
       answers = u.rows.answers;
       refused = u.rows.refused;
@@ -111,15 +128,13 @@ impl<J: Write, R: Wait> Answering<R> for Updates<J> {
 
 impl<J: Write> Updates<J> {
     /// No change is open, and nothing was refused.
-    pub(crate) fn new(alloc: Global, publisher: Publisher<J>, tellers: Vec<Teller>) -> Updates<J>
-        requires { All (λ t. t.source ≡ publisher.source) tellers.items }
-        ensures publisher { result.publisher ≡ publisher }
+    pub(crate) fn new(alloc: Global, publisher: Publisher<J>) -> Updates<J>
+        ensures publisher { result.sink.publisher ≡ publisher }
         ensures open { AreOpen result.changes [] }
         ensures fresh { IsFresh result }
     {
-        let audience = Audience { publisher, tellers };
         Updates {
-            rows: Rows::new(alloc, audience),
+            rows: Rows::new(alloc, Counted::new(publisher)),
         }
     }
 
@@ -138,10 +153,19 @@ impl<J: Write> Updates<J> {
         self.rows.refused > 0 || self.rows.changes.count > 0
     }
 
+    /// The steps of the journal up to the count of the last batch.
+    pub(super) fn steps(&self) -> SeenSteps
+        ensures same { result ≡ self.now.sink.steps }
+        ensures journal { AreJournalSteps result.steps }
+        ensures counted { AreAllCounted self.now.sink.publisher result }
+    {
+        self.rows.sink.steps()
+    }
+
     /// A token of the published batches.
     pub(super) fn tell(&mut self) -> Told
-        ensures batches { result.batches ≡ self.old.publisher.batches }
-        ensures source { result.source ≡ self.old.publisher.source }
+        ensures batches { result.batches ≡ self.old.sink.publisher.batches }
+        ensures source { result.source ≡ self.old.sink.publisher.source }
         ensures same { self.new ≡ self.old }
     {
         self.rows.sink.publisher.tell()
@@ -149,7 +173,7 @@ impl<J: Write> Updates<J> {
 
     /// The journal's writer. May wait for clients that are inside an ask.
     pub(crate) fn close<R: Wait>(self, rt: &R) -> J
-        ensures { result ≡ self.publisher.journal }
+        ensures { result ≡ self.sink.publisher.journal }
     {
         let Updates { rows } = self;
         let Rows {
@@ -158,21 +182,10 @@ impl<J: Write> Updates<J> {
             answers: _,
             refused: _,
         } = rows;
-        let Audience {
+        let Counted {
             publisher,
-            tellers: _,
+            steps: _,
         } = sink;
         publisher.close(rt)
-    }
-}
-
-/// Puts news of the published batches into the ring of each client.
-fn tell_each<J: Write>(publisher: &mut Publisher<J>, tellers: &mut Vec<Teller>)
-    requires { All (λ t. t.source ≡ publisher.old.source) tellers.old.items }
-    ensures same { publisher.new ≡ publisher.old }
-    ensures source { All (λ t. t.source ≡ publisher.new.source) tellers.new.items }
-{
-    for index in 0..tellers.len() {
-        tellers[index].tell(publisher);
     }
 }

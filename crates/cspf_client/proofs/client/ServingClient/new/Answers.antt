@@ -7,7 +7,7 @@ returns-clause-ready g c = record {
   reader = c.open_records.result;
   held = refl;
   plain = c.open_records.ensures.plain;
-  refused = ap (λ (s : SessionState). s.refused) c.new.ensures;
-  entry = ap (λ (s : SessionState). s.no_entry) c.new.ensures;
+  refused = ap (λ (s : SessionState). s.refused) c.new.ensures.state;
+  entry = ap (λ (s : SessionState). s.no_entry) c.new.ensures.state;
   end = refl;
 }

@@ -24,8 +24,8 @@ returns-clause-run g c =
     (run_of g.Q.Read.remaining g.V.Write.contents before after c.in-Some.requests (sym c.in-Some.ensures.value) c.answer_all-ended.result
     (rw c.has_no_entry.ensures at c.end_of-self-inside.ensures) (rw c.end.ensures e.whole) (rw c.end.ensures e.stopped))
 
-pub returns-clause-known : goal.returns-clause-known
-returns-clause-known g c =
+pub returns-clause-forward : goal.returns-clause-forward
+returns-clause-forward g c =
     let e = c.answer_all-ended.ensures in
     rw (← c.self.view_is)
     (forward_stream _ c.self.inside.session c.answer_all-ended.new.session _ _ c.answer_all-ended.result e.whole e.stopped)

@@ -1,50 +1,36 @@
-use Rattle.std.proofs.Common.{◌≡◌, ◌∷◌, [], All, length, vec_len, length-append, rules, sym, ap, subst, ◌∙◌, arith}
+use Rattle.std.proofs.Common.{◌≡◌, ◌∷◌, [], All, length, vec_len, length-append, rules, sym, ap, subst, arith}
 use Rattle.std.specs.Vec.Iter.{into_iter_items}
-use Rattle.std.proofs.lemmas.List.Elements.{All-push}
-use Rattle.cspf_client.specs.NewsStates.{TellerState}
+use Rattle.std.proofs.lemmas.List.Elements.{All-nil, All-push}
 use Rattle.cspf_publish.specs.KnownBatches.{KnownBatches}
-use Rattle.cspf_publish.specs.PublisherStates.{PublisherState}
 use Rattle.cspf_serve.specs.ServedSteps.{IsSeat}
 use Rattle.cspf_serve.proofs.Pairs.{left_none, left_step, left_next}
 use Rattle.cspf_serve.proofs.serving.served_run.seat_all.Goals as goal
 
 pub loop-asker-preserved : goal.loop-asker-preserved
-loop-asker-preserved g c =
-    let source = c.args.publisher.now.source in
-    let same = ap (λ (p : PublisherState g.row.J.Denot). p.source) c.loop-asker.invariant.same in
-    record {
-      left = left_step _ _ _ _ _ c.loop-asker.invariant.left c.in-Some.ensures.steps.0;
-      same = c.open_news.ensures.same ∙ c.loop-asker.invariant.same;
-      tellers =
-          subst (All (λ (t : TellerState). t.source ≡ source)) (sym c.in_ok-push.ensures.items)
-          (All-push (λ (t : TellerState). t.source ≡ source) c.loop-asker.tellers.items c.in_ok-teller.teller c.loop-asker.invariant.tellers (c.in_ok-teller.ensures.source.0 ∙ same));
-      seats =
-          subst (All (IsSeat source)) (sym c.in_ok-push-2.ensures.items)
-          (All-push (IsSeat source) c.loop-asker.seats.items (record { alloc = c.args.alloc; asker = c.in-Some.asker; listener = c.in_ok-teller.listener }) c.loop-asker.invariant.seats
-          (record {
-            asker =
-                left_next (λ (a : KnownBatches). a.source ≡ source) c.loop-asker.yielded c.in-Some.asker (into_iter_items c.loop-asker.asker-iterator) (into_iter_items c.next.new.self)
-                c.args.askers.items c.loop-asker.invariant.left c.in-Some.ensures.steps.0 c.requires;
-            listener = c.in_ok-teller.ensures.source.1 ∙ same;
-          }));
-      many = (
-          let more = ap length c.in_ok-push-2.ensures.items in
-          let was = c.loop-asker.invariant.many in
-          let pushed = length-append c.loop-asker.seats.items ((record { alloc = c.args.alloc; asker = c.in-Some.asker; listener = c.in_ok-teller.listener }) ∷ []) in
-          let one = length-append c.loop-asker.yielded (c.in-Some.asker ∷ []) in omega arith
-          );
-    }
+loop-asker-preserved g c = record {
+  left = left_step _ _ _ _ _ c.loop-asker.invariant.left c.in-Some.ensures.steps.0;
+  seats = λ source each.
+      subst (All (IsSeat source)) (sym c.in_ok-push.ensures.items)
+      (All-push (IsSeat source) c.loop-asker.seats.items (record { alloc = c.args.alloc; asker = c.in-Some.asker }) (c.loop-asker.invariant.seats source each)
+      (left_next (λ (a : KnownBatches). a.source ≡ source) c.loop-asker.yielded c.in-Some.asker (into_iter_items c.loop-asker.asker-iterator) (into_iter_items c.next.new.self)
+      c.args.askers.items c.loop-asker.invariant.left c.in-Some.ensures.steps.0 each));
+  many = (
+      let more = ap length c.in_ok-push.ensures.items in
+      let was = c.loop-asker.invariant.many in
+      let pushed = length-append c.loop-asker.seats.items ((record { alloc = c.args.alloc; asker = c.in-Some.asker }) ∷ []) in
+      let one = length-append c.loop-asker.yielded (c.in-Some.asker ∷ []) in omega arith
+      );
+}
 
-pub returns-clause-seats : goal.returns-clause-seats
-returns-clause-seats g c =
+pub returns : goal.returns
+returns g c = λ source each.
     let all = left_none c.loop-asker.yielded (into_iter_items c.loop-asker.asker-iterator) c.args.askers.items c.loop-asker.invariant.left (let zero = c.in-None.ensures.steps.0 in search rules) in
     let long = ap length all in
     let many = c.loop-asker.invariant.many in
     let seats : vec_len c.loop-asker.seats ≡ length c.loop-asker.seats.items = search rules in
     let askers : vec_len c.args.askers ≡ length c.args.askers.items = search rules in
     record {
-      tellers = c.loop-asker.invariant.tellers;
-      seats = c.loop-asker.invariant.seats;
+      seats = c.loop-asker.invariant.seats source each;
       many = omega arith;
       serving = c.in_ok-serving.ensures.items;
       served = c.in_ok-served.ensures.items;

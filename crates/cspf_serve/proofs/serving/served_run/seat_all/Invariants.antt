@@ -1,13 +1,12 @@
 use Rattle.std.proofs.Common.{◌≡◌, ◌++◌, All, length}
 use Rattle.std.specs.Vec.Iter.{into_iter_items}
+use Rattle.logbook.specs.Pages.{Book}
 use Rattle.cspf_serve.specs.ServedSteps.{IsSeat}
 use Rattle.cspf_serve.proofs.serving.served_run.seat_all.Given as goal
 
 abbrev pub invariant-loop-asker : goal.invariant-loop-asker
 invariant-loop-asker g l = record {
   left : l.yielded ++ into_iter_items l.asker-iterator ≡ l.fn.askers.items;
-  same : l.publisher ≡ l.fn.publisher;
-  tellers : All (λ t. t.source ≡ l.fn.publisher.source) l.tellers.items;
-  seats : All (IsSeat l.fn.publisher.source) l.seats.items;
+  seats : (source : Book) → All (λ a. a.source ≡ source) l.fn.askers.items → All (IsSeat source) l.seats.items;
   many : length l.seats.items ≡ length l.yielded;
 }

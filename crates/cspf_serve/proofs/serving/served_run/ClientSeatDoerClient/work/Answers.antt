@@ -6,9 +6,10 @@ pub returns : goal.returns
 returns g c = record {
   before = c.new-client.result;
   ready = c.new-client.ensures.ready;
-  source_is = ap (λ (k : KnownBatches). k.source) c.new-client.ensures.state.0;
+  source_is = ap (λ (k : KnownBatches). k.source) c.new-client.ensures.known;
+  steps_source = c.new-client.ensures.steps;
   requests = c.new-client.ensures.requests;
   replies = c.new-client.ensures.replies;
   run = c.run.ensures.run;
-  known = c.run.ensures.known;
+  forward = c.run.ensures.forward;
 }

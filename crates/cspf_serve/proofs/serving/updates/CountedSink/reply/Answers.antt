@@ -5,12 +5,12 @@ use Rattle.cspf_model.specs.Best.{Answer, IsBestAnswer}
 use Rattle.cspf_model.specs.Changes.{database_after}
 use Rattle.cspf_ero.specs.ReplyLine.{IsReply}
 use Rattle.cspf_model.specs.Outcome.{answer_of}
-use Rattle.cspf_publish.specs.PublisherStates.{PublisherState}
-use Rattle.cspf_serve.proofs.serving.updates.AudienceSink.reply.Goals as goal
+use Rattle.cspf_serve.specs.UpdatesStates.{CountedState}
+use Rattle.cspf_serve.proofs.serving.updates.CountedSink.reply.Goals as goal
 
 pub returns : goal.returns
 returns g c =
     let is = c.in_ok-answer.ensures in
-    subst (λ (p : PublisherState g.row.J.Denot). IfOk c.reply_line.result (λ line. (answer : Answer) × IsBestAnswer (database_after p.batches) c.args.request.now answer × IsReply c.args.request.now.id (length p.batches) answer line.items))
+    subst (λ (p : CountedState g.row.J.Denot). IfOk c.reply_line.result (λ line. (answer : Answer) × IsBestAnswer (database_after p.publisher.batches) c.args.request.now answer × IsReply c.args.request.now.id (length p.publisher.batches) answer line.items))
     c.self.view_is
     (IfOk-weaker c.reply_line.result _ _ (λ line reply. (answer_of c.in_ok-answer.answer.outcome, is.best, rw (is.id, is.version) at reply)) c.reply_line.ensures.line)

@@ -1,0 +1,61 @@
+-- The steps of a run's journal: those of the publisher, and one list that learns those of all clients.
+use Rattle.std.proofs.Common.{◌≡◌, ◌+◌, ◌<◌, ◌≤◌, ℕ, List, All, length, take, get_or, sym, subst, ap, ◌∙◌, arith}
+use Rattle.std.proofs.lemmas.List.Elements.{All-more, All-weaker}
+use mathlib.Core.List.{IsPrefix}
+use Rattle.logbook.specs.Pages.{Book}
+use Rattle.cspf_model.specs.Numbered.{NumberedChanges}
+use Rattle.cspf_publish.specs.Histories.{BeginsWith}
+use Rattle.cspf_publish.specs.JournalSteps.{KnownSteps, batches_of, count_of}
+use Rattle.cspf_publish.specs.PublisherStates.{PublisherState}
+use Rattle.cspf_client.specs.ServingStates.{ServingState}
+use Rattle.cspf_client.specs.SessionStates.{AreFirstSteps}
+use Rattle.cspf_client.proofs.Prefixes.{BeginsWith-trans, IsPrefix-trans}
+use Rattle.cspf_serve.specs.ServedSteps.{IsOfSource}
+use Rattle.cspf_serve.specs.UpdatesStates.{AreAllCounted}
+
+-- a publisher with the same batches
+pub counted_again : {J : Type 0} (p q : PublisherState J) (steps : KnownSteps) → AreAllCounted p steps → q.batches ≡ p.batches → q.source ≡ p.source → AreAllCounted q steps
+counted_again p q steps are same source = record {
+  source = are.source ∙ sym source;
+  recorded = subst (λ (bs : List NumberedChanges). BeginsWith (batches_of steps.steps) bs) (sym same) are.recorded;
+  counted = omega (arith, are.counted, ap length same);
+}
+
+-- steps that learn those by which all batches are counted
+pub counted_by : {J : Type 0} (p : PublisherState J) (its new : KnownSteps) → new.source ≡ p.source → count_of its.steps ≡ length p.batches → BeginsWith (batches_of its.steps) p.batches
+    → BeginsWith (batches_of new.steps) (batches_of its.steps) → count_of its.steps ≤ count_of new.steps → AreAllCounted p new
+counted_by p its new source count recorded begins later = record {
+  source = source;
+  recorded = BeginsWith-trans p.batches (batches_of its.steps) (batches_of new.steps) recorded begins;
+  counted = omega (arith, count, later);
+}
+
+-- later steps
+pub counted_later : {J : Type 0} (p : PublisherState J) (old new : KnownSteps) → AreAllCounted p old → new.source ≡ old.source → BeginsWith (batches_of new.steps) (batches_of old.steps)
+    → count_of old.steps ≤ count_of new.steps → AreAllCounted p new
+counted_later p old new are source begins later = record {
+  source = source ∙ are.source;
+  recorded = BeginsWith-trans p.batches (batches_of old.steps) (batches_of new.steps) are.recorded begins;
+  counted = omega (arith, are.counted, later);
+}
+
+pub first_later : (first old new : KnownSteps) → AreFirstSteps old first → new.source ≡ old.source → IsPrefix old.steps new.steps → AreFirstSteps new first
+first_later first old new are source later = record {
+  source = are.source ∙ sym source;
+  begins = IsPrefix-trans first.steps old.steps new.steps are.begins later;
+}
+
+-- a client's steps are of the publisher's journal
+pub seen_source : {Q V : Type 0} (clients : List (ServingState Q V)) (i : ℕ) (c : ServingState Q V) (source : Book) → i < length clients → c ≡ get_or clients i c
+    → All (IsOfSource {Q = Q} {V = V} source) clients → c.state.steps.source ≡ source
+seen_source {Q} {V} clients i c source lt is each = subst (λ (s : ServingState Q V). s.state.steps.source ≡ source) (sym is) (each i c lt).1
+
+-- the steps of one more client
+pub firsts_more : {Q V : Type 0} (clients : List (ServingState Q V)) (i : ℕ) (c : ServingState Q V) (old new : KnownSteps) → i < length clients → c ≡ get_or clients i c
+    → All (λ (s : ServingState Q V). AreFirstSteps old s.state.steps) (take i clients) → new.source ≡ old.source → IsPrefix old.steps new.steps → AreFirstSteps new c.state.steps
+    → All (λ (s : ServingState Q V). AreFirstSteps new s.state.steps) (take (i + 1) clients)
+firsts_more {Q} {V} clients i c old new lt is firsts source later first =
+    let Now : ServingState Q V → Type 0 = λ s. AreFirstSteps new s.state.steps in
+    All-more Now clients i c lt
+    (All-weaker (λ (s : ServingState Q V). AreFirstSteps old s.state.steps) Now (λ s are. first_later s.state.steps old new are source later) (take i clients) firsts)
+    (subst Now is first)
