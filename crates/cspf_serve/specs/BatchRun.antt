@@ -1,7 +1,7 @@
 -- The lines of a run over a journal and a stream of requests.
-use Rattle.std.specs.Prelude.{◌≡◌, ℕ, ◌⊎◌, Bool, List, [], ◌∷◌, ◌++◌, length, take}
+use Rattle.std.specs.Prelude.{◌≡◌, ℕ, ◌⊎◌, Bool, List, [], ◌∷◌, ◌++◌, Option, IfSome, length, take}
 use Rattle.std.specs.List.{flat_map}
-use Rattle.cspf_rows.specs.Records.{Records}
+use Rattle.cspf_rows.specs.Records.{Records, rows_of}
 use Rattle.cspf_model.specs.declared.refusal.Refusal.{Refusal}
 use Rattle.cspf_model.specs.declared.request.Request.{Request}
 use Rattle.cspf_model.specs.Numbered.{NumberedChanges}
@@ -12,6 +12,7 @@ use Rattle.cspf_model.specs.Best.{Answer, IsBestAnswer}
 use Rattle.cspf_ero.specs.ReplyLine.{IsReply}
 use Rattle.cspf_stream.specs.declared.batch_refusal.BatchRefusal.TheVariants as refusal
 use Rattle.cspf_stream.specs.Lines.{version_line, refused_batch_line}
+use Rattle.cspf_judge.specs.EarlyEnds.{HasBegun}
 use Rattle.cspf_judge.specs.Inputs.{AreBatchesOf, IsJournalRefused, AreRequestsOf, AreRequestsRefused}
 
 -- the lines of batches that are accepted, one for each
@@ -75,3 +76,9 @@ IsBatchRunInPart accept_torn journal requests lines =
     ⊎ ((batches : List NumberedChanges) × AreBatchesOf accept_torn journal batches
     × ((asked : List Request) × AreRequestsOf requests asked
     × ((count : ℕ) × AreAccepted batches (take count asked) lines)))
+
+-- nothing was written, or the beginning of the lines of such a run, where the bytes of both are known
+abbrev pub HasBegunBatch : Bool → Option (List ℕ) → Option (List ℕ) → Option (List ℕ) → Option (List ℕ) → Type 0
+HasBegunBatch accept_torn journal requests old new =
+    IfSome journal (λ kept. IfSome requests (λ asked.
+    HasBegun old new (IsBatchRunInPart accept_torn (rows_of kept) (rows_of asked))))

@@ -8,7 +8,7 @@ ghost use Rattle.cspf_solve.specs.declared.summary.Summary.{Summary as Counts};
 ghost use Rattle.cspf_solve.specs.Script.{IsSolveRun};
 ghost use Rattle.cspf_judge.specs.EarlyEnds.{HasBegun, IfRefused, Writes};
 ghost use Rattle.cspf_judge.specs.Inputs.{AreBatchesOf, AreRequestsOf};
-ghost use Rattle.cspf_serve.specs.BatchRun.{IsBatchRun, IsBatchRunInPart};
+ghost use Rattle.cspf_serve.specs.BatchRun.{HasBegunBatch, IsBatchRun};
 ghost use Rattle.cspf_serve.specs.BatchLaws.{IsCleanJournal};
 ghost use Rattle.cspf_serve.specs.EarlyEnds.{AreStreamsRefused};
 ghost use Rattle.cspf_serve.specs.PublishedBatches.{ArePublishedOrRefused, IsAcceptedInPart, IsAcceptedOrUnfit};
@@ -68,10 +68,8 @@ pub fn run_batch<
         IfSome (Q.remaining requests) (λ asked. (lines : List ℕ)
         × IsBatchRun accept_torn (rows_of kept) (rows_of asked) lines status
         × Appends (W.contents writer.old) (W.contents writer.new) lines))) }
-    ensures stopped { OnErr result (IfSome (R.remaining journal) (λ kept.
-        IfSome (Q.remaining requests) (λ asked.
-        HasBegun (W.contents writer.old) (W.contents writer.new)
-        (IsBatchRunInPart accept_torn (rows_of kept) (rows_of asked))))) }
+    ensures stopped { OnErr result (HasBegunBatch accept_torn (R.remaining journal)
+        (Q.remaining requests) (W.contents writer.old) (W.contents writer.new)) }
     // The lines are those of one script of both streams.
     ensures script { result ≡ Ok 0 → IfSome (R.remaining journal) (λ kept.
         IfSome (Q.remaining requests) (λ asked. IsCleanJournal (rows_of kept)
@@ -106,10 +104,8 @@ fn answer<R: Read + Drop, Q: Read + Drop, W: Write, G: Gate + Sync, T: Threads +
         IfSome (Q.remaining streams.requests) (λ asked.
         Writes (W.contents writer.old) (W.contents writer.new) (λ lines.
         IsBatchRun streams.accept_torn (rows_of kept) (rows_of asked) lines status)))) }
-    ensures stopped { OnErr result (IfSome (R.remaining streams.journal) (λ kept.
-        IfSome (Q.remaining streams.requests) (λ asked.
-        HasBegun (W.contents writer.old) (W.contents writer.new)
-        (IsBatchRunInPart streams.accept_torn (rows_of kept) (rows_of asked))))) }
+    ensures stopped { OnErr result (HasBegunBatch streams.accept_torn (R.remaining streams.journal)
+        (Q.remaining streams.requests) (W.contents writer.old) (W.contents writer.new)) }
     ensures error { IfErr result (IsBatchFault streams.accept_torn
         (R.remaining streams.journal) (Q.remaining streams.requests)) }
 {
@@ -151,10 +147,8 @@ fn answer_lent<
         IfSome (Q.remaining streams.requests) (λ asked.
         Writes (W.contents writer.old) (W.contents writer.new) (λ lines.
         IsBatchRun streams.accept_torn (rows_of kept) (rows_of asked) lines status)))) }
-    ensures stopped { OnErr result (IfSome (R.remaining streams.journal) (λ kept.
-        IfSome (Q.remaining streams.requests) (λ asked.
-        HasBegun (W.contents writer.old) (W.contents writer.new)
-        (IsBatchRunInPart streams.accept_torn (rows_of kept) (rows_of asked))))) }
+    ensures stopped { OnErr result (HasBegunBatch streams.accept_torn (R.remaining streams.journal)
+        (Q.remaining streams.requests) (W.contents writer.old) (W.contents writer.new)) }
 {
     match publish_and_read(rt, alloc, streams, publisher) {
         Ok(ReadStreams { unfit, requests }) => {
