@@ -1,6 +1,6 @@
 # make build | check | gate | install | deb
 #
-#   build    proves every crate, then builds the program and writes the manual pages
+#   build    proves the program's crates, then builds it and writes the manual pages
 #   check    the tests that need no proof, on the program that is built
 #   gate     all proofs and tests (.ci/run)
 #   install  the program, the tools, units, manual pages and documents below DESTDIR and PREFIX (/usr/local)
@@ -23,7 +23,7 @@ placed = sed 's|/usr/bin/routed|$(PREFIX)/bin/routed|; s|/usr/lib/routed/|$(PREF
 .PHONY: build check gate install deb
 
 build:
-	cd crates/routed && rt run -- solve </dev/null
+	tools/build
 	man/make
 
 check:
