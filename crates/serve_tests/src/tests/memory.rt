@@ -167,12 +167,17 @@ fn serve_one<T: Threads + Wait + Sync>(
     }
 }
 
+/// Whether memory was refused to the run, or to the thread of its client.
+fn is_refused(error: ServedError) -> bool {
+    error == ServedError::Run(RunError::Memory) || error == ServedError::NoThread { client: 1 }
+}
+
 #[test]
 fn serves_one_client(rt: HostRuntime) {
     match serve_one(&rt, rt.alloc()) {
         None => {}
         Some(Err((error, untouched))) => {
-            assert!(rt; error == ServedError::Run(RunError::Memory) && untouched);
+            assert!(rt; is_refused(error) && untouched);
         }
         Some(Ok(served)) => {
             let Served {
