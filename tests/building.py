@@ -14,6 +14,8 @@ RT = """#!/bin/sh
 name=${PWD##*/}
 echo "begin $name $*" >>"$NOTES"
 echo "$name ${PWD%/*/*}" >>"$NOTES.trees"
+echo "$name: $(cd .. && echo */out/rlib/made) $(cat out/kept 2>/dev/null)" >>"$NOTES.libraries"
+mkdir -p out/rlib && echo x >out/rlib/made && echo "kept by $name" >>out/kept
 [ "$name" != "$HANGS" ] || { sleep 60 & echo "$!" >"$NOTES.child"; wait; }
 until=$(echo "$WAITS" | sed -n "s/^$name until //p")
 for _ in $(seq 100); do grep -q "^$until" "$NOTES" && break; sleep 0.1; done
@@ -43,8 +45,8 @@ class Tree:
 
     def begun(self, jobs, fails="", hangs="", waits=""):
         names = {"PATH": f"{self.room}/bin:{os.environ['PATH']}", "NOTES": self.notes, "FAILS": fails, "HANGS": hangs, "WAITS": waits}
-        self.write("notes", "")
-        self.write("notes.trees", "")
+        for name in "notes", "notes.trees", "notes.libraries":
+            self.write(name, "")
         return subprocess.Popen([f"{self.room}/tools/build", "--jobs", str(jobs)], env={**os.environ, **names}, stdout=subprocess.PIPE, stderr=subprocess.STDOUT, text=True)
 
     def run(self, *words, **names):
@@ -62,6 +64,7 @@ def building(checks):
     with tempfile.TemporaryDirectory() as room:
         tree = Tree(room)
         one_by_one(tree, checks)
+        handed_on(tree, checks)
         side_by_side(tree, checks)
         failed(tree, checks)
         interrupted(tree, checks)
@@ -75,6 +78,17 @@ def one_by_one(tree, checks):
     ends = [line.partition(",")[2] for line in said.splitlines()[:-1]]
     checks.same("each line counts those that are left", ends, [" 3 left", " 2 left", " 1 left", " 0 left"])
     checks.true("the last line says that it is built", said.splitlines()[-1].startswith("built in "), said)
+
+
+def handed_on(tree, checks):
+    shutil.rmtree(os.path.join(tree.room, "crates/left/out"))
+    tree.run(1)
+    with open(f"{tree.notes}.libraries", encoding="utf-8") as file:
+        seen = dict(line.rstrip("\n").split(": ") for line in file)
+    made = lambda *names: " ".join(f"{name}/out/rlib/made" for name in names)
+    checks.same("each crate finds the libraries that it stands on, and what its own proof has kept", seen, {
+        "low": f"{made('low')} kept by low", "left": f"{made('low')} ", "right": f"{made('low', 'right')} kept by right",
+        "routed": f"{made('left', 'low', 'right', 'routed')} kept by routed"})
 
 
 def side_by_side(tree, checks):
