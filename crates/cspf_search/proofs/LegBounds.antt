@@ -1,7 +1,8 @@
 -- The bounds of the routers in a leg.
-use Rattle.std.proofs.Common.{◌≡◌, ◌≢◌, ◌⊎◌, inl, inr, ℕ, ◌+◌, ◌*◌, ◌/◌, ◌%◌, ◌^◌, ◌<◌, ◌≤◌, min, true, false, IsTrue, List, drop, length, replicate, set, slice_index, slice_index_or, refl, sym, ap, subst, ◌∙◌, arith}
+use Rattle.std.proofs.Common.{◌≡◌, ◌≢◌, ◌⊎◌, inl, inr, ℕ, ◌+◌, ◌*◌, ◌/◌, ◌%◌, ◌^◌, ◌<◌, ◌≤◌, min, true, false, IsTrue, List, drop, length, replicate, set, slice_get, slice_index, slice_index_or, Some, refl, sym, ap, subst, ◌∙◌, arith}
 use Rattle.std.proofs.lemmas.Bool.{cases_lt, false≢true}
 use Rattle.std.proofs.lemmas.List.{get_or_past, get_or-drop, get_or-replicate, length-replicate, get_or-set_other}
+use Rattle.std.proofs.lemmas.Option.{get_or_from_slice_get}
 use Rattle.cspf_model.specs.declared.link.Link.{Link}
 use Rattle.cspf_model.specs.declared.request.Request.{Request}
 use Rattle.cspf_model.specs.Database.{Database}
@@ -54,6 +55,29 @@ module _ (d : Database) (q : Request) (leg to base : ℕ) (old new : Ring) (ring
             fallen_ring d q leg old new falls ring u w (sym (get_or-set_other new.done.items to w true false ne) ∙ on) l admissible enters from end
       ]
 
+-- a link that is read at an index of a list is the one there
+pub link_read : (all read : List Link) (n index : ℕ) (link l : Link) → link ≡ slice_index_or read n link → read ≡ all → n ≡ index → slice_get all index ≡ Some l → link ≡ l
+link_read all read n index link l is same at here =
+    is ∙ ap (λ ls. slice_index_or ls n link) same ∙ ap (λ k. slice_index_or all k link) at ∙ get_or_from_slice_get all index l link here
+
+-- bounds may be cut at an edge that no router is beyond but those that are done
+pub cut_at_edge : (ring : Ring) (edge u w metric : ℕ)
+    → (is_done ring w ≡ true → IsWithin (bound_at ring.near.items u) (bound_at ring.near.items w) metric)
+    → (is_done ring w ≡ false → edge ≤ bound_at ring.near.items w)
+    → IsWithin (min (bound_at ring.near.items u) edge) (min (bound_at ring.near.items w) edge) metric
+cut_at_edge ring edge u w metric within least =
+    let near = ring.near.items in
+    elim (is_done ring w) as (λ b. is_done ring w ≡ b → IsWithin (min (bound_at near u) edge) (min (bound_at near w) edge) metric) [
+      | true ↦ λ e. (
+        omega (arith, (within e).0),
+        λ way. elim (cases_lt (bound_at near w) NO_WAY) [
+          | inl near_way ↦ omega (arith, (within e).1 near_way)
+          | inr far ↦ omega (arith, way, far)
+        ],
+      )
+      | false ↦ λ e. (omega (arith, least e), λ way. omega (arith, way, least e))
+    ] refl
+
 -- a leg from its ring
 pub leg_of_ring : (d : Database) (q : Request) (leg : ℕ) (ring : Ring) (edge : ℕ) → IsRing d q leg ring
     → ((w : ℕ) → w < length (router_list d) → is_done ring w ≡ false → edge ≤ bound_at ring.near.items w) → (ahead : List ℕ)
@@ -61,18 +85,7 @@ pub leg_of_ring : (d : Database) (q : Request) (leg : ℕ) (ring : Ring) (edge :
     → IsLegBound d q leg ring.near.items edge ahead
 leg_of_ring d q leg ring edge links least ahead targets = record {
   links = λ u w l admissible enters from to.
-      let near = ring.near.items in
-      elim (is_done ring w) as (λ b. is_done ring w ≡ b → IsWithin (min (bound_at near u) edge) (min (bound_at near w) edge) l.metric) [
-        | true ↦ λ e.
-            let within = links u w e l admissible enters from to in (
-              omega (arith, within.0),
-              λ way. elim (cases_lt (bound_at near w) NO_WAY) [
-                | inl near_way ↦ omega (arith, within.1 near_way)
-                | inr far ↦ omega (arith, way, far)
-              ],
-            )
-        | false ↦ λ e. (omega (arith, least w to.within e), λ way. omega (arith, way, least w to.within e))
-      ] refl;
+      cut_at_edge ring edge u w l.metric (λ done. links u w done l admissible enters from to) (least w to.within);
   targets = λ p h target. omega (arith, targets p h target);
 }
 

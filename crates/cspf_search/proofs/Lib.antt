@@ -23,3 +23,4 @@ pub mod Reversed
 pub mod LegBounds
 mod Broken
 pub mod LegTargets
+pub mod Trees

@@ -10,3 +10,5 @@ pub mod Query
 pub mod Searched
 pub mod RoundSteps
 pub mod Source
+pub mod Trees
+pub mod TreeSteps

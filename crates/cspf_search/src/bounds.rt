@@ -1,10 +1,11 @@
 //! Lower bounds of the cost to go. A search against the direction of the links computes them, from
 //! the last leg back to the first.
 
-ghost use Rattle.std.specs.Prelude.{◌≡◌, ◌≢◌, ◌+◌, ◌*◌, ◌<◌, ◌≤◌, ◌⊎◌, ◌↔◌, ℕ, min, true, false, IsTrue, IfOk, IfSome, OnOk, length, slice_index, slice_index_or, All, Contains};
+ghost use Rattle.std.specs.Prelude.{◌≡◌, ◌≢◌, ◌+◌, ◌-◌, ◌*◌, ◌<◌, ◌≤◌, ◌⊎◌, ◌↔◌, ℕ, min, true, false, IsTrue, IfOk, IfSome, OnOk, length, slice_index, slice_index_or, All, Contains};
 ghost use Rattle.cspf_search.specs.Query.{IsQuery};
 ghost use Rattle.cspf_graph.specs.Lists.{IsIndexOf};
 ghost use Rattle.cspf_graph.specs.Roles.{AreTargetsOf};
+ghost use Rattle.cspf_search.specs.Trees.{IsTree};
 ghost use Rattle.cspf_search.specs.Bounds.{ArePassed, AreReached, AreBounds, Falls, IsLegBound, IsLower, IsPassed, IsRing, IsDeadEnd, bound_at, is_done};
 ghost use Rattle.cspf_db.specs.Index.{links_of, router_list};
 ghost use Rattle.cspf_columns.specs.declared.limits.TheConstants.{NO_LINK};
@@ -13,6 +14,7 @@ use crate::limits::{FARTHEST, NO_WAY};
 use crate::query::Query;
 use crate::ring::Ring;
 use crate::strict::{first_broken, starts_of};
+use crate::tree::Tree;
 use cspf_db::NO_LINK;
 use cspf_graph::{accepts, may_be_left};
 use cspf_model::MOST_ROUTERS;
@@ -197,7 +199,7 @@ fn begin(
 
 /// Begins the leg after the last hop: no router is done, and the tail-end, which is the router at
 /// an index, waits with the bound 0.
-fn begin_last(to: usize, ring: &mut Ring) -> Result<(), AllocError>
+pub(crate) fn begin_last(to: usize, ring: &mut Ring) -> Result<(), AllocError>
     requires { to < MOST_ROUTERS }
     ensures none { OnOk result ((w : ℕ) → is_done ring.new w ≡ false) }
     ensures target { OnOk result (bound_at ring.new.near.items to ≡ 0) }
@@ -277,22 +279,24 @@ fn shut(bounds: &mut [u32], end: usize)
     }
 }
 
-/// Sets the bound of each router in each leg, from the last leg back to the first. It stops at a
-/// leg whose targets have no way. The tail-end is the router at an index.
+/// Sets the bound of each router in each of the first legs, from the last of them back to the
+/// first. It stops at a leg whose targets have no way. The tail-end is the router at an index.
 fn set_legs(
     query: Query<'_>,
     to: usize,
+    legs: usize,
     ring: &mut Ring,
     bounds: &mut [u32],
 ) -> Result<(), AllocError>
     requires query { IsQuery query }
     requires to { IsIndexOf query.table.now query.request.now.to to }
+    requires legs { legs ≤ query.legs }
     requires bounds { AreBounds query.table.now query.request.now bounds.old }
-    requires zeros { (i : ℕ) → bound_at bounds.old i ≡ 0 }
+    requires zeros { (i : ℕ) → i < legs * MOST_ROUTERS → bound_at bounds.old i ≡ 0 }
     ensures { OnOk result (AreBounds query.entry.table.now query.entry.request.now bounds.new) }
 {
     let count = query.table.routers().len();
-    let mut leg_index = query.request.hops.len() + 1;
+    let mut leg_index = legs;
     while leg_index > 0 {
         leg_index -= 1;
         let ahead = &bounds[leg_index * MOST_ROUTERS + MOST_ROUTERS..];
@@ -304,6 +308,53 @@ fn set_legs(
         set_leg(bounds, leg_index * MOST_ROUTERS, count, &ring.near, edge);
     }
     Ok(())
+}
+
+/// Sets the bound of each router in the last leg by a tree.
+fn set_last_leg(query: Query<'_>, tree: &Tree, bounds: &mut [u32])
+    requires query { IsQuery query }
+    requires tree { IsTree query.table.now query.request.now tree.now }
+    requires bounds { AreBounds query.table.now query.request.now bounds.old }
+    requires zeros { (i : ℕ) → bound_at bounds.old i ≡ 0 }
+    ensures bounds { AreBounds query.entry.table.now query.entry.request.now bounds.new }
+    ensures zeros { (i : ℕ) → i < (query.entry.legs - 1) * MOST_ROUTERS → bound_at bounds.new i ≡ 0 }
+{
+    let count = query.table.routers().len();
+    set_leg(
+        bounds,
+        (query.legs - 1) * MOST_ROUTERS,
+        count,
+        &tree.near,
+        tree.edge,
+    );
+}
+
+/// Sets the bound of each router in each leg, in the last leg by a tree if there is one. The
+/// tail-end is the router at an index.
+fn set_all(
+    alloc: Global,
+    query: Query<'_>,
+    to: usize,
+    tree: Option<&Tree>,
+    bounds: &mut [u32],
+) -> Result<(), AllocError>
+    requires query { IsQuery query }
+    requires to { IsIndexOf query.table.now query.request.now.to to }
+    requires tree { IfSome tree (λ tree. IsTree query.table.now query.request.now tree.now) }
+    requires bounds { AreBounds query.table.now query.request.now bounds.old }
+    requires zeros { (i : ℕ) → bound_at bounds.old i ≡ 0 }
+    ensures { OnOk result (AreBounds query.entry.table.now query.entry.request.now bounds.new) }
+{
+    let Some(tree) = tree else {
+        let mut ring = Ring::new(alloc)?;
+        return set_legs(query, to, query.legs, &mut ring, bounds);
+    };
+    set_last_leg(query, tree, bounds);
+    if query.legs == 1 {
+        return Ok(());
+    }
+    let mut ring = Ring::new(alloc)?;
+    set_legs(query, to, query.legs - 1, &mut ring, bounds)
 }
 
 /// Sets the bounds of some routers in a leg, whose states begin at an index, to `NO_WAY`.
@@ -340,24 +391,25 @@ fn shut_broken(query: Query<'_>, from: usize, bounds: &mut [u32]) -> bool
 }
 
 /// For each state a lower bound of the cost from it to the tail-end. The bound is close to the cost
-/// near the targets of the state's leg. The head-end and the tail-end are the routers at these
-/// indexes.
+/// near the targets of the state's leg, or in the whole last leg where there is a tree. The head-end
+/// and the tail-end are the routers at these indexes.
 pub(crate) fn bounds(
     alloc: Global,
     query: Query<'_>,
     from: usize,
     to: usize,
+    tree: Option<&Tree>,
 ) -> Result<Vec<u32>, AllocError>
     requires query { IsQuery query }
     requires from { IsIndexOf query.table.now query.request.now.from from }
     requires to { IsIndexOf query.table.now query.request.now.to to }
+    requires tree { IfSome tree (λ tree. IsTree query.table.now query.request.now tree.now) }
     ensures { IfOk result (λ bounds. AreBounds query.entry.table.now query.entry.request.now bounds.items) }
 {
     let mut bounds = Vec::from_elem(alloc, 0u32, query.legs * MOST_ROUTERS)?;
     if shut_broken(query, from, &mut bounds) {
         return Ok(bounds);
     }
-    let mut ring = Ring::new(alloc)?;
-    set_legs(query, to, &mut ring, &mut bounds)?;
+    set_all(alloc, query, to, tree, &mut bounds)?;
     Ok(bounds)
 }

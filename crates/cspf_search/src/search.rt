@@ -19,6 +19,7 @@ ghost use Rattle.cspf_model.specs.RouteLinks.{AreLinked};
 ghost use Rattle.cspf_search.specs.Rounds.{IsFirst, IsFirstOf};
 ghost use Rattle.cspf_search.specs.RoundSteps.{AreLows, IsRound};
 ghost use Rattle.cspf_search.specs.Searched.{IsSearched};
+ghost use Rattle.cspf_search.specs.Trees.{IsTree};
 
 use crate::arena::{Node, index_of, links_to};
 use crate::bounds::bounds;
@@ -31,6 +32,7 @@ use crate::last::Last;
 use crate::limits::{NO_WAY, ROOM_FOR_NODES, ROOM_FOR_WAITING};
 use crate::query::Query;
 use crate::rounds::{Round, first};
+use crate::tree::Tree;
 use cspf_db::Table;
 use cspf_graph::{find_roles, listed};
 use cspf_model::{MOST_ROUTERS, Outcome, Request, Route};
@@ -151,18 +153,21 @@ fn close(
 
 /// As `settled`, from a heap. Where the bounds say that there is no way from the head-end, only
 /// that is settled. The head-end and the tail-end are given by their index in the list of routers.
+/// A tree has the bounds in the last leg.
 fn reached<'a>(
     alloc: Global,
     query: Query<'a>,
     from: usize,
     to: usize,
+    tree: Option<&Tree>,
 ) -> Result<Vec<Node<'a>>, AllocError>
     requires query { IsQuery query }
     requires from { IsIndexOf query.table.now query.request.now.from from }
     requires to { IsIndexOf query.table.now query.request.now.to to }
+    requires tree { IfSome tree (λ tree. IsTree query.table.now query.request.now tree.now) }
     ensures { IfOk result (λ nodes. IsSearched query.entry.table.now query.entry.request.now nodes.items) }
 {
-    let bounds = bounds(alloc, query, from, to)?;
+    let bounds = bounds(alloc, query, from, to, tree)?;
     let mut goal = Goal {
         at: (query.legs - 1) * MOST_ROUTERS + to,
         floor: 0,
@@ -204,34 +209,40 @@ fn answer(alloc: Global, query: Query<'_>, nodes: &[Node<'_>]) -> Result<Outcome
     Ok(Outcome::Route(route_to(alloc, nodes, at)?))
 }
 
-/// The nodes that one of both searches settles: by rounds, or from a heap.
+/// The nodes that one of both searches settles: by rounds, or from a heap, with a tree if there is
+/// one.
 fn searched<'a>(
     alloc: Global,
     query: Query<'a>,
     from: usize,
     to: usize,
     by_rounds: bool,
+    tree: Option<&Tree>,
 ) -> Result<Vec<Node<'a>>, AllocError>
     requires query { IsQuery query }
     requires known { IsRouterOf query.table.now query.request.now.from }
     requires from { IsIndexOf query.table.now query.request.now.from from }
     requires to { IsIndexOf query.table.now query.request.now.to to }
+    requires tree { IfSome tree (λ tree. IsTree query.table.now query.request.now tree.now) }
     ensures { IfOk result (λ nodes. IsSearched query.entry.table.now query.entry.request.now nodes.items) }
 {
     if by_rounds {
         settled(alloc, query)
     } else {
-        reached(alloc, query, from, to)
+        reached(alloc, query, from, to, tree)
     }
 }
 
-/// The best answer to a request in the table's database, by one of both searches.
+/// The best answer to a request in the table's database, by one of both searches, with a tree if
+/// there is one.
 fn best_by(
     alloc: Global,
     table: &Table,
     request: &Request,
     by_rounds: bool,
+    tree: Option<&Tree>,
 ) -> Result<Outcome, AllocError>
+    requires { IfSome tree (λ tree. IsTree table.now request.now tree.now) }
     ensures { IfOk result (λ outcome.
         IsBestAnswer table.now request.now (answer_of outcome)) }
 {
@@ -250,7 +261,7 @@ fn best_by(
         roles: &roles.states,
         targets: &roles.targets,
     };
-    let nodes = searched(alloc, query, from, to, by_rounds)?;
+    let nodes = searched(alloc, query, from, to, by_rounds, tree)?;
     answer(alloc, query, &nodes)
 }
 
@@ -262,7 +273,23 @@ pub fn best(alloc: Global, table: &Table, request: &Request) -> Result<Outcome, 
     ensures { IfOk result (λ outcome.
         IsBestAnswer table.now request.now (answer_of outcome)) }
 {
-    best_by(alloc, table, request, false)
+    best_by(alloc, table, request, false, None)
+}
+
+/// The answer of `best`, by a tree for the request's tail-end and its affinities in the same
+/// database, which `Tree::grow` makes. The tree has the bounds in the last leg, so fewer routers are
+/// settled.
+pub fn best_by_tree(
+    alloc: Global,
+    table: &Table,
+    request: &Request,
+    tree: &Tree,
+) -> Result<Outcome, AllocError>
+    requires { IsTree table.now request.now tree.now }
+    ensures { IfOk result (λ outcome.
+        IsBestAnswer table.now request.now (answer_of outcome)) }
+{
+    best_by(alloc, table, request, false, Some(tree))
 }
 
 /// The answer of `best`, by a slower and simpler search. Each round settles the first of all
@@ -275,5 +302,5 @@ pub fn best_by_rounds(
     ensures { IfOk result (λ outcome.
         IsBestAnswer table.now request.now (answer_of outcome)) }
 {
-    best_by(alloc, table, request, true)
+    best_by(alloc, table, request, true, None)
 }

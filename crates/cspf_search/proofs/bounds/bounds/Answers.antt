@@ -24,12 +24,12 @@ still_zeros c =
     let put = written_back bounds.len c.shut_broken.new.bounds c.deref_mut.result.now bounds.items c.shut_broken.auto.bounds c.deref_mut.ensures.value bounds.ok.0 in
     c.deref_mut-2.ensures.value ∙ put ∙ c.shut_broken.ensures.none c.if-shut_broken.false ∙ c.deref_mut.ensures.value ∙ c.in_ok-bounds.ensures.items_if_clones_equal (λ y e. e)
 
-pub set_legs-requires-clause-bounds : goal.set_legs-requires-clause-bounds
-set_legs-requires-clause-bounds c =
+pub set_all-requires-clause-bounds : goal.set_all-requires-clause-bounds
+set_all-requires-clause-bounds c =
     let zeros = still_zeros c in
     let long : length c.deref_mut-2.result.now ≡ (length c.args.query.request.now.hops + 1) * 1024 =
     omega (arith, c.deref_mut-2.ensures.len, c.in_ok-bounds.ensures.len, c.requires.query.count) in
     zero_bounds c.args.query.table.now c.args.query.request.now c.deref_mut-2.result.now long (λ i. rw zeros (zeros_at (c.args.query.legs * 1024) i))
 
-pub set_legs-requires-clause-zeros : goal.set_legs-requires-clause-zeros
-set_legs-requires-clause-zeros c = λ i. rw (still_zeros c) (zeros_at (c.args.query.legs * 1024) i)
+pub set_all-requires-clause-zeros : goal.set_all-requires-clause-zeros
+set_all-requires-clause-zeros c = λ i. rw (still_zeros c) (zeros_at (c.args.query.legs * 1024) i)

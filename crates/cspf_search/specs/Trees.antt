@@ -1,0 +1,47 @@
+-- Private words of the search: a tree of lower bounds, which requests with one tail-end and the same
+-- affinities share.
+use Rattle.std.specs.Prelude.{◌≡◌, ℕ, ◌⊎◌, min}
+use Rattle.cspf_model.specs.declared.link.Link.{Link}
+use Rattle.cspf_model.specs.declared.request.Request.{Request}
+use Rattle.cspf_model.specs.Database.{Database, HasReverse, HasTransit, IsLinkOf}
+use Rattle.cspf_model.specs.Admissible.{HasAffinity}
+use Rattle.cspf_search.specs.declared.tree.Tree.{Tree}
+use Rattle.cspf_graph.specs.Lists.{IsIndexOf}
+use Rattle.cspf_search.specs.Bounds.{bound_at}
+use Rattle.cspf_search.specs.Settled.{IsWithin}
+
+-- The requests have one tail-end and the same affinities. Their ids, head-ends, setup priorities,
+-- bandwidths and hops may differ.
+pub record ShareTrees (q r : Request) : Type 0 where
+  pub to : r.to ≡ q.to
+  pub exclude_any : r.exclude_any ≡ q.exclude_any
+  pub include_any : r.include_any ≡ q.include_any
+  pub include_all : r.include_all ≡ q.include_all
+
+-- The link is one of the database, which has its reverse, and it passes the affinities of the request.
+-- So the request may use it where it asks for no bandwidth.
+pub record IsInClass (d : Database) (q : Request) (l : Link) : Type 0 where
+  pub link : IsLinkOf d l
+  pub reverse : HasReverse d l
+  pub affinity : HasAffinity q l
+
+-- A way to the tail-end may lead over the router or end there: it has transit, or it is the tail-end.
+abbrev pub MayLeadOver : Database → Request → ℕ → Type 0
+MayLeadOver d q router = HasTransit d router ⊎ (router ≡ q.to)
+
+-- the bound that a tree has for the router at an index
+abbrev pub tree_bound : Tree → ℕ → ℕ
+tree_bound tree place = min (bound_at tree.near.items place) tree.edge
+
+-- A tree for the tail-end and the affinities of a request, in a database. No link in the class to a
+-- router that a way may lead over lowers the bound by more than its metric, or from `NO_WAY` to a bound
+-- that says that there is a way. At the tail-end the bound is 0. So the bound of a router is no more than
+-- the cost of any way from there to the tail-end, and `NO_WAY` only where there is none.
+pub record IsTree (d : Database) (q : Request) (tree : Tree) : Type 0 where
+  pub links : (u w : ℕ) (l : Link) → IsInClass d q l → MayLeadOver d q l.to → IsIndexOf d l.from u → IsIndexOf d l.to w
+      → IsWithin (tree_bound tree u) (tree_bound tree w) l.metric
+  pub end : (place : ℕ) → IsIndexOf d q.to place → tree_bound tree place ≡ 0
+
+-- Law: a tree is one for each request with the same tail-end and the same affinities.
+abbrev pub TreesAreShared : Type 0
+TreesAreShared = (d : Database) (q r : Request) (tree : Tree) → ShareTrees q r → IsTree d q tree → IsTree d r tree

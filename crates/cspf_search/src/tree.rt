@@ -1,0 +1,52 @@
+//! Trees of lower bounds, which requests with one tail-end and the same affinities share.
+
+ghost use Rattle.std.specs.Prelude.{◌≡◌, length};
+ghost use Rattle.cspf_model.specs.declared.limits.TheConstants.{MOST_ROUTERS};
+
+use crate::bounds::begin_last;
+use crate::ring::Ring;
+use crate::tree_steps::settle;
+use cspf_db::Table;
+use cspf_graph::listed;
+use cspf_model::{MOST_ROUTERS, Request};
+use std::alloc::{AllocError, Global};
+
+/// For each router a lower bound of the cost from there to one tail-end, along links that pass the
+/// same affinities, whatever bandwidth they have unreserved.
+#[derive(Drop)]
+pub struct Tree {
+    /// For each router the least cost that was found, or `NO_WAY`.
+    pub(crate) near: Vec<u32>,
+    /// The least cost of a router that was left out. No bound is above it.
+    pub(crate) edge: u32,
+    ghost many: { length near.items ≡ MOST_ROUTERS },
+}
+
+impl Tree {
+    ghost use Rattle.std.specs.Prelude.{IfOk, IfSome, IfNone};
+    ghost use Rattle.cspf_model.specs.declared.request.Request.{Request as Asked};
+    ghost use Rattle.cspf_model.specs.Database.{IsRouterOf};
+    ghost use Rattle.cspf_search.specs.Trees.{IsTree, ShareTrees};
+
+    /// The tree for the tail-end and the affinities of a request, unless no link begins or ends at
+    /// the tail-end. It is the same for each request that shares them.
+    pub fn grow(alloc: Global, table: &Table, request: &Request) -> Result<Option<Tree>, AllocError>
+        ensures known { IfOk result (λ grown. IfSome grown (λ tree. (r : Asked)
+            → ShareTrees request.now r → IsTree table.now r tree)) }
+        ensures unknown { IfOk result (λ grown. IfNone grown
+            (¬ IsRouterOf table.now request.now.to)) }
+    {
+        listed(table);
+        let Some(to) = table.place_of(request.to) else {
+            return Ok(None);
+        };
+        let mut any = *request;
+        any.bandwidth = 0;
+        let mut ring = Ring::new(alloc)?;
+        begin_last(to, &mut ring)?;
+        settle(table, &any, &mut ring)?;
+        let edge = ring.edge(table.routers().len());
+        let Ring { near, .. } = ring;
+        Ok(Some(Tree { near, edge }))
+    }
+}
