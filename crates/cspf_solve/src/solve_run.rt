@@ -19,7 +19,8 @@ use std::io::{Read, Write};
 
 /// Reads a stream of rows and writes the line of each when it is known, in one write where the
 /// writer takes it whole. `IsScript` defines the lines, and when a row or a batch is refused. At
-/// most 1,000,000 rows are read, and memory is taken only for the longest one.
+/// most 1,000,000 rows are read. Memory is taken only for the longest one and for the trees of the
+/// table.
 ///
 /// After an error the writer has the lines of a prefix of the rows. After a failed write it may
 /// also have a part of the next text, but not all of it. `Read` comes from a read that failed and

@@ -5,14 +5,15 @@ ghost use Rattle.std.specs.Prelude.{◌≡◌, ◌+◌, ◌<◌, ◌≤◌, ◌^
 
 use crate::Summary;
 use crate::table_sink::TableSink;
-use cspf_db::Table;
 use cspf_model::{absorbing, one_refusal};
 use cspf_rows::{Row, RowError};
 use cspf_stream::{Answering, Rows, StreamLine};
+use cspf_trees::TreeTable;
 use csv::ByteRecord;
 use std::alloc::{AllocError, Global};
 
-/// The state between two rows. A stream of any length takes no more memory than this.
+/// The state between two rows. A stream of any length takes no more memory than this and the trees of
+/// the table, which are at most 16 MiB.
 #[derive(Drop)]
 pub struct Solver {
     /// The database of the batches that were accepted, and the open changes.
@@ -53,7 +54,7 @@ impl Solver {
         ensures { IfOk result (λ solver. KeepsRun solver start) }
     {
         let sink = TableSink {
-            table: Table::new(alloc)?,
+            table: TreeTable::new(alloc)?,
             version: 0,
         };
         Ok(Solver {

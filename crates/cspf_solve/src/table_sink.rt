@@ -1,16 +1,17 @@
+//! The sink of a solver: a table that answers requests, and accepts batches that fit.
+
 ghost use Rattle.std.specs.Prelude.{◌≡◌};
 
-use cspf_db::Table;
 use cspf_ero::reply_line;
 use cspf_model::{Batch, Request};
-use cspf_search::best;
 use cspf_stream::{BatchRefusal, Sink};
+use cspf_trees::TreeTable;
 use std::alloc::{AllocError, Global};
 
 /// The database of the batches that were accepted, and their number.
 #[derive(Drop)]
 pub struct TableSink {
-    pub(crate) table: Table,
+    pub(crate) table: TreeTable,
     pub(crate) version: u32,
 }
 
@@ -37,8 +38,8 @@ impl Sink<()> for TableSink {
         }
     }
 
-    fn reply(&self, alloc: Global, request: &Request) -> Result<Vec<u8>, AllocError> {
-        let outcome = best(alloc, &self.table, request)?;
+    fn reply(&mut self, alloc: Global, request: &Request) -> Result<Vec<u8>, AllocError> {
+        let outcome = self.table.best(alloc, request)?;
         reply_line(alloc, request.id, self.version, &outcome)
     }
 }

@@ -30,7 +30,9 @@ pub trait Sink<C> {
         ensures refused { IfErr result (λ why. (all : List Changed) → AreKeptChanges batch.now.changes all
             → spec.refuses self.old (record batch.now { changes = all }) why self.new) };
 
-    /// The line that answers a request at the version.
-    fn reply(&self, alloc: Global, request: &Request) -> Result<Vec<u8>, AllocError>
-        ensures { IfOk result (λ line. spec.replies self.now request.now line.items) };
+    /// The line that answers a request at the version. What it keeps for later requests is no part of
+    /// the value that callers see.
+    fn reply(&mut self, alloc: Global, request: &Request) -> Result<Vec<u8>, AllocError>
+        ensures same { self.new ≡ self.old }
+        ensures line { IfOk result (λ line. spec.replies self.old request.now line.items) };
 }

@@ -1,14 +1,16 @@
-//! Answers of both searches on small networks and on drawn ones: ties, reverses, unknown ends and hops.
+//! Answers of both searches, and by trees, on small networks and on drawn ones: ties, reverses, unknown
+//! ends and hops.
 
 mod drawn;
 mod marks;
+mod memory;
 mod networks;
 mod strict;
 
 use cspf_addr::{Addr, Mask, parse_hops};
 use cspf_db::Table;
 use cspf_model::{Batch, Change, Link, Outcome, Request};
-use cspf_search::{best, best_by_rounds};
+use cspf_search::{Tree, best, best_by_rounds, best_by_tree};
 use std::alloc::{AllocError, Global};
 use std::process::Abort;
 use std::test::Fail;
@@ -116,12 +118,29 @@ fn request(
     Ok(Request::new(1, from, to, setup, 1000, exclude, any, all, hops)?)
 }
 
-// What a request is answered, by both searches.
+// A failure that names both, unless two outcomes are one.
+fn check_same(outcome: &Outcome, other: &Outcome) -> Result<(), Fail> {
+    if is_same(outcome, other) {
+        Ok(())
+    } else {
+        Err(Fail::new(format_args!("{outcome:?} and {other:?}")))
+    }
+}
+
+// What a request is answered by a tree, unless its tail-end is unknown.
+fn by_tree(alloc: Global, table: &Table, request: &Request) -> Result<Option<Outcome>, Fail> {
+    match Tree::grow(alloc, table, request)? {
+        Some(tree) => Ok(Some(best_by_tree(alloc, table, request, &tree)?)),
+        None => Ok(None),
+    }
+}
+
+// What a request is answered, by both searches and by a tree.
 fn answered(alloc: Global, table: &Table, request: &Request) -> Result<Outcome, Fail> {
     let outcome = best(alloc, table, request)?;
-    let other = best_by_rounds(alloc, table, request)?;
-    if !is_same(&outcome, &other) {
-        return Err(Fail::new(format_args!("{outcome:?} and {other:?}")));
+    check_same(&outcome, &best_by_rounds(alloc, table, request)?)?;
+    if let Some(other) = by_tree(alloc, table, request)? {
+        check_same(&outcome, &other)?;
     }
     Ok(outcome)
 }

@@ -77,7 +77,7 @@ impl<J: Write, R: Wait> Sink<R> for Counted<J> {
         }
     }
 
-    fn reply(&self, alloc: Global, request: &Request) -> Result<Vec<u8>, AllocError> {
+    fn reply(&mut self, alloc: Global, request: &Request) -> Result<Vec<u8>, AllocError> {
         let answer = self.publisher.answer(alloc, request)?;
         reply_line(alloc, answer.id, answer.version, &answer.outcome)
     }

@@ -1,10 +1,13 @@
-//! Drawn networks, in which both searches answer alike. With marked routers, they answer as in a network
+//! Drawn networks, in which both searches answer alike, and as the trees of the network do. With marked routers, they answer as in a network
 //! without marks where no bandwidth is unreserved on the links from these.
 
-use super::{Row, answered, is_same, mark, one_way, request};
+ghost use Rattle.cspf_trees.specs.Trees.{AreTreesOf};
+
+use super::{Row, answered, check_same, is_same, mark, one_way, request};
 use cspf_db::Table;
 use cspf_model::{Outcome, Request};
 use cspf_search::best;
+use cspf_trees::{MOST_TREES, Trees};
 use std::alloc::{AllocError, Global};
 use std::test::Fail;
 
@@ -131,9 +134,37 @@ fn without_marks(
     }
 }
 
-// Whether a request has a route. Where there are marks, it is the one without them.
-fn has_route(alloc: Global, network: &DrawnNetwork, request: &Request) -> Result<bool, Fail> {
+// A failure, unless trees answer a request this outcome, nine times. They have its tree at the eighth.
+fn check_trees(
+    alloc: Global,
+    table: &Table,
+    request: &Request,
+    outcome: &Outcome,
+    trees: &mut Trees,
+) -> Result<(), Fail>
+    requires { AreTreesOf table.now trees.old }
+    ensures { AreTreesOf table.now trees.new }
+{
+    for _ask in 0..9 {
+        let found = trees.best(alloc, table, request)?;
+        check_same(outcome, &found)?;
+    }
+    Ok(())
+}
+
+// Whether a request has a route, by the trees of the network too. Where there are marks, it is the one
+// without them.
+fn has_route(
+    alloc: Global,
+    network: &DrawnNetwork,
+    request: &Request,
+    trees: &mut Trees,
+) -> Result<bool, Fail>
+    requires { AreTreesOf network.now.marked trees.old }
+    ensures { AreTreesOf network.now.marked trees.new }
+{
     let outcome = answered(alloc, &network.marked, request)?;
+    check_trees(alloc, &network.marked, request, &outcome, trees)?;
     if !network.marks.is_empty() {
         let wanted = without_marks(alloc, network, request)?;
         if !is_same(&outcome, &wanted) {
@@ -143,26 +174,28 @@ fn has_route(alloc: Global, network: &DrawnNetwork, request: &Request) -> Result
     Ok(matches!(outcome, Outcome::Route(_)))
 }
 
-// How many of 16 requests in a network have a route.
-fn drawn_routes(alloc: Global, seed: &mut u32) -> Result<u32, Fail> {
+// How many of 16 requests in a network have a route. The trees are those of the network before.
+fn drawn_routes(alloc: Global, seed: &mut u32, trees: &mut Trees) -> Result<u32, Fail> {
     let network = drawn_network(alloc, seed)?;
+    trees.clear();
     let mut routes = 0u32;
     for i in 0..16 {
         let request = drawn_request(seed, HOPS[i % 6])?;
-        if has_route(alloc, &network, &request)? {
+        if has_route(alloc, &network, &request, trees)? {
             routes = routes.saturating_add(1);
         }
     }
     Ok(routes)
 }
 
-// Both searches answer 2,000 requests, some of them in networks with marked routers.
+// Both searches and trees answer 2,000 requests, some of them in networks with marked routers.
 #[test]
 fn drawn_networks(rt: HostRuntime) -> Result<(), Fail> {
     let mut seed = 2463534242;
     let mut routes = 0u32;
+    let mut trees = Trees::new(rt.alloc(), MOST_TREES);
     for _network in 0..125 {
-        routes = routes.saturating_add(drawn_routes(rt.alloc(), &mut seed)?);
+        routes = routes.saturating_add(drawn_routes(rt.alloc(), &mut seed, &mut trees)?);
     }
     assert!(rt; routes > 1000, "{routes}");
     Ok(())

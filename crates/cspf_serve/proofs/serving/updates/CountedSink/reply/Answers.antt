@@ -8,8 +8,8 @@ use Rattle.cspf_model.specs.Outcome.{answer_of}
 use Rattle.cspf_serve.specs.UpdatesStates.{CountedState}
 use Rattle.cspf_serve.proofs.serving.updates.CountedSink.reply.Goals as goal
 
-pub returns : goal.returns
-returns g c =
+pub returns-clause-line : goal.returns-clause-line
+returns-clause-line g c =
     let is = c.in_ok-answer.ensures in
     subst (λ (p : CountedState g.row.J.Denot). IfOk c.reply_line.result (λ line. (answer : Answer) × IsBestAnswer (database_after p.publisher.batches) c.args.request.now answer × IsReply c.args.request.now.id (length p.publisher.batches) answer line.items))
     c.self.view_is

@@ -1,0 +1,23 @@
+-- Private words of the cache: the tree of a row.
+use Rattle.std.specs.Prelude.{◌≡◌, ℕ, IfSome, None}
+use Rattle.cspf_model.specs.declared.request.Request.{Request}
+use Rattle.cspf_model.specs.Database.{Database}
+use Rattle.cspf_search.specs.Trees.{IsTree}
+use Rattle.cspf_trees.specs.declared.tree_row.TreeRow.{TreeRow}
+use Rattle.cspf_trees.specs.Classes.{HasClass}
+
+-- The row is of an earlier generation, or it has no tree, or a tree of the database for each request of
+-- its class.
+abbrev pub HasTreeOf : Database → ℕ → TreeRow → Type 0
+HasTreeOf d generation row =
+    row.generation ≡ generation → IfSome row.tree (λ tree. (q : Request) → HasClass q row.class → IsTree d q tree)
+
+-- the row is of this generation, and of the class of the request
+pub record IsAskedOf (q : Request) (now : ℕ) (row : TreeRow) : Type 0 where
+  pub generation : row.generation ≡ now
+  pub class : HasClass q row.class
+
+-- a row of the first generation without a tree
+pub record IsEmptyTreeRow (row : TreeRow) : Type 0 where
+  pub generation : row.generation ≡ 0
+  pub tree : row.tree ≡ None

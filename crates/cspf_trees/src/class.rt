@@ -1,0 +1,49 @@
+ghost use Rattle.std.specs.Prelude.{◌+◌, ◌≤◌};
+ghost use Rattle.cspf_trees.specs.Classes.{HasClass};
+ghost use Rattle.cspf_trees.specs.declared.limits.TheConstants.{MOST_TREES, WAYS};
+
+use crate::limits::{MOST_TREES, WAYS};
+use cspf_addr::{Addr, Mask};
+use cspf_model::Request;
+
+/// A tail-end and affinities. Requests that have them share their trees.
+#[derive(Clone, Copy, Debug, PartialEq, Eq)]
+pub(crate) struct Class {
+    /// The tail-end.
+    pub(crate) to: Addr,
+    /// The groups that are excluded.
+    pub(crate) exclude_any: Mask,
+    /// The groups of which one is needed.
+    pub(crate) include_any: Mask,
+    /// The groups that are all needed.
+    pub(crate) include_all: Mask,
+}
+
+/// The class of a request.
+pub(crate) fn class_of(request: &Request) -> Class
+    ensures { HasClass request.now result }
+{
+    Class {
+        to: request.to,
+        exclude_any: request.exclude_any,
+        include_any: request.include_any,
+        include_all: request.include_all,
+    }
+}
+
+/// The bits of one more number in a hash.
+fn mixed(hash: u64, number: u32) -> u64 {
+    (hash ^ u64::from(number)).wrapping_mul(0x9e37_79b9_7f4a_7c15)
+}
+
+/// The first of the rows that a class may be in.
+pub(crate) fn first_row(class: &Class) -> usize
+    ensures { result + WAYS ≤ MOST_TREES }
+{
+    let hash = mixed(0, class.to.number());
+    let hash = mixed(hash >> 8, class.exclude_any.bits());
+    let hash = mixed(hash >> 8, class.include_any.bits());
+    let hash = mixed(hash >> 8, class.include_all.bits());
+    let bucket = (hash >> 40) as usize % (MOST_TREES / WAYS);
+    bucket * WAYS
+}

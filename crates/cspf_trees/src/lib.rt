@@ -1,0 +1,15 @@
+//! Many requests in one database: `Trees` keep a tree for each tail-end and set of affinities that is
+//! asked for often, and answer by `best_by_tree` of `cspf_search` where they have one. Each answer meets
+//! the contract of `best`, whatever is kept. `specs/Trees.antt` says when trees are of a database. A
+//! `TreeTable` is a table with trees of its own database.
+#![tactic(auto)]
+
+mod class;
+mod limits;
+mod tree_row;
+mod tree_table;
+mod trees;
+
+pub use limits::MOST_TREES;
+pub use tree_table::TreeTable;
+pub use trees::Trees;

@@ -1,0 +1,11 @@
+/// How many rows there are. Each has one tree at most, of 4,096 bytes of bounds.
+pub const MOST_TREES: usize = 4096;
+
+/// How many rows a class may be in.
+pub(crate) const WAYS: usize = 4;
+
+/// The ask of its class at which a tree is grown.
+pub(crate) const ASKS_FOR_A_TREE: u32 = 8;
+
+/// More asks of a class are not counted.
+pub(crate) const MOST_ASKS: u32 = 64;

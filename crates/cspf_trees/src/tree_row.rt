@@ -1,0 +1,141 @@
+//! A row: a class of requests, and its tree once it is asked for often.
+
+ghost use Rattle.std.specs.Prelude.{◌≡◌, ◌+◌, ◌<◌, ◌≤◌, true, All, None, IfOk, IfSome, length};
+ghost use Rattle.cspf_model.specs.declared.request.Request.{Request as Asked};
+ghost use Rattle.cspf_search.specs.Trees.{IsTree, ShareTrees};
+ghost use Rattle.cspf_trees.specs.Classes.{HasClass};
+ghost use Rattle.cspf_trees.specs.TreeRows.{IsAskedOf, IsEmptyTreeRow, HasTreeOf};
+ghost use Rattle.cspf_trees.specs.declared.limits.TheConstants.{MOST_TREES, WAYS};
+
+use crate::class::Class;
+use crate::limits::{ASKS_FOR_A_TREE, MOST_ASKS, MOST_TREES, WAYS};
+use cspf_addr::{Addr, Mask};
+use cspf_db::Table;
+use cspf_model::Request;
+use cspf_search::Tree;
+use std::alloc::{AllocError, Global};
+
+/// A class, how often it was asked for of late, and its tree if it has one.
+#[derive(Drop)]
+pub(crate) struct TreeRow {
+    /// The generation of trees that the row belongs to.
+    pub(crate) generation: u64,
+    /// The class.
+    pub(crate) class: Class,
+    /// The asks of the class, less those of other classes that came to the row.
+    pub(crate) asks: u32,
+    /// Its tree, if one was grown.
+    pub(crate) tree: Option<Tree>,
+}
+
+/// All rows, which have no tree.
+pub(crate) fn empty_rows(alloc: Global) -> Result<Vec<TreeRow>, AllocError>
+    ensures many { IfOk result (λ rows. length rows.items ≡ MOST_TREES) }
+    ensures empty { IfOk result (λ rows. All IsEmptyTreeRow rows.items) }
+{
+    let (to, none) = (Addr::new(0), Mask::new(0));
+    let mut rows = Vec::with_capacity(alloc, MOST_TREES)?;
+    for _ in 0..MOST_TREES {
+        rows.push(TreeRow {
+            generation: 0,
+            class: Class {
+                to,
+                exclude_any: none,
+                include_any: none,
+                include_all: none,
+            },
+            asks: 0,
+            tree: None,
+        })?;
+    }
+    Ok(rows)
+}
+
+/// A tree for the class of a request. There is none where memory is refused or the tail-end is
+/// unknown.
+fn grown(alloc: Global, table: &Table, request: &Request) -> Option<Tree>
+    ensures { IfSome result (λ tree. (r : Asked)
+        → ShareTrees request.now r → IsTree table.now r tree) }
+{
+    match Tree::grow(alloc, table, request) {
+        Ok(tree) => tree,
+        Err(_refused) => None,
+    }
+}
+
+/// Counts one more ask of the class of a request, and grows its tree when it is due and may be grown.
+fn count(alloc: Global, table: &Table, request: &Request, may_grow: bool, row: &mut TreeRow)
+    requires class { HasClass request.now row.old.class }
+    requires row { HasTreeOf table.now row.old.generation row.old }
+    ensures row { HasTreeOf table.now row.old.generation row.new }
+    ensures class { row.new.class ≡ row.old.class }
+    ensures generation { row.new.generation ≡ row.old.generation }
+{
+    if row.asks < MOST_ASKS {
+        row.asks += 1;
+    }
+    if may_grow && row.asks >= ASKS_FOR_A_TREE && row.tree.is_none() {
+        row.tree = grown(alloc, table, request);
+    }
+}
+
+/// Asks a row for the class of a request. A row of another class is counted down, and taken over once
+/// its asks are used up. Returns whether the row is of the class now.
+pub(crate) fn ask(
+    alloc: Global,
+    table: &Table,
+    request: &Request,
+    class: &Class,
+    generation: u64,
+    may_grow: bool,
+    row: &mut TreeRow,
+) -> bool
+    requires class { HasClass request.now class.now }
+    requires past { row.old.generation ≤ generation }
+    requires row { HasTreeOf table.now generation row.old }
+    ensures past { row.new.generation ≤ generation }
+    ensures row { HasTreeOf table.now generation row.new }
+    ensures asked { result ≡ true → IsAskedOf request.now generation row.new }
+{
+    if row.generation == generation && row.class == *class {
+        count(alloc, table, request, may_grow, row);
+        return true;
+    }
+    if row.generation == generation && row.asks > 0 {
+        row.asks -= 1;
+        return false;
+    }
+    *row = TreeRow {
+        generation,
+        class: *class,
+        asks: 1,
+        tree: None,
+    };
+    true
+}
+
+/// How many asks a row of some other class has left to be counted down.
+fn asks_left(row: &TreeRow, generation: u64) -> u32 {
+    if row.generation == generation {
+        row.asks
+    } else {
+        0
+    }
+}
+
+/// The row of a class among some, which begin at an index, or else the one with the fewest asks.
+pub(crate) fn find(rows: &[TreeRow], first: usize, class: &Class, generation: u64) -> usize
+    requires { first + WAYS ≤ length rows.now }
+    ensures { result < length rows.now }
+{
+    let mut found = first;
+    for at in first..first + WAYS {
+        if rows[at].generation == generation && rows[at].class == *class {
+            return at;
+        }
+        if asks_left(&rows[at], generation) < asks_left(&rows[found], generation) {
+            found = at;
+        }
+    }
+    found
+}

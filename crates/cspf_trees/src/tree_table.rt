@@ -1,0 +1,82 @@
+//! A table with trees of its database.
+
+ghost use Rattle.std.specs.Prelude.{◌≡◌, IfOk, IfErr, OnOk, OnErr};
+ghost use Rattle.cspf_model.specs.Best.{IsBestAnswer};
+ghost use Rattle.cspf_model.specs.Changes.{no_links, after_changes, Fits};
+ghost use Rattle.cspf_model.specs.Outcome.{answer_of};
+ghost use Rattle.cspf_model.specs.Refusals.{IsRefusal};
+
+use crate::limits::MOST_TREES;
+use crate::trees::Trees;
+use cspf_db::Table;
+use cspf_model::{Batch, Outcome, Refusal, Request};
+use std::alloc::{AllocError, Global};
+use std::marker::Model;
+
+/// A table that answers requests, and keeps trees of its database for those that are asked for often.
+#[derive(Drop)]
+pub struct TreeTable {
+    /// The table.
+    table: Table,
+    /// Trees of its database.
+    trees: Trees,
+}
+
+impl Model for TreeTable {
+    ghost use Rattle.cspf_trees.specs.Trees.{AreTreesOf};
+
+    ghost invariant = { λ a. AreTreesOf a.table a.trees };
+
+    ghost use Rattle.cspf_model.specs.Database.{Database};
+    ghost use Rattle.cspf_model.specs.DatabaseCode.{database_code};
+
+    ghost Value = { Database };
+
+    ghost coded = { database_code };
+
+    ghost view = { λ a. a.table };
+}
+
+impl TreeTable {
+    /// An empty table, and no trees.
+    pub fn new(alloc: Global) -> Result<TreeTable, AllocError>
+        ensures { IfOk result (λ table. table ≡ no_links) }
+    {
+        Ok(TreeTable {
+            table: Table::new(alloc)?,
+            trees: Trees::new(alloc, MOST_TREES),
+        })
+    }
+
+    /// The table.
+    pub fn table(&self) -> &Table
+        ensures { result.now ≡ self.now }
+    {
+        &self.table
+    }
+
+    /// The best answer to a request, by a tree if its tail-end and affinities are asked for often.
+    pub fn best(&mut self, alloc: Global, request: &Request) -> Result<Outcome, AllocError>
+        ensures same { self.new ≡ self.old }
+        ensures best { IfOk result (λ outcome.
+            IsBestAnswer self.old request.now (answer_of outcome)) }
+    {
+        self.trees.best(alloc, &self.table, request)
+    }
+
+    /// As `Table::try_absorb`. No tree is kept over a batch that is absorbed.
+    pub fn try_absorb(&mut self, batch: &Batch) -> Result<(), Refusal>
+        ensures ok { OnOk result (Fits self.old batch.now) }
+        ensures changed { OnOk result (self.new ≡ after_changes self.old batch.now.changes) }
+        ensures err { IfErr result (λ refusal. IsRefusal self.old batch.now refusal) }
+        ensures same { OnErr result (self.new ≡ self.old) }
+    {
+        match self.table.try_absorb(batch) {
+            Ok(()) => {
+                self.trees.clear();
+                Ok(())
+            }
+            Err(why) => Err(why),
+        }
+    }
+}

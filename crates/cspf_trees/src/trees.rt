@@ -1,0 +1,136 @@
+//! The trees of one database.
+
+ghost use Rattle.std.specs.Prelude.{◌≤◌, All};
+
+use crate::class::{class_of, first_row};
+use crate::limits::MOST_TREES;
+use crate::tree_row::{TreeRow, ask, empty_rows, find};
+use cspf_db::Table;
+use cspf_model::{Outcome, Request};
+use cspf_search::{best, best_by_tree};
+use std::alloc::{AllocError, Global};
+
+/// Trees of one database, at most as many as `new` is told and `MOST_TREES`, with 4,096 bytes of bounds
+/// each. A tree is grown at the eighth ask of its tail-end and affinities. Where there are as many, or
+/// memory for it is refused, requests are searched without it.
+#[derive(Drop)]
+pub struct Trees {
+    /// The rows: none, or all of them.
+    rows: Vec<TreeRow>,
+    /// The generation of the trees that are of the database. Rows of earlier ones count as empty.
+    generation: u64,
+    /// How many trees there may be.
+    most: usize,
+    /// How many there are, of any generation.
+    count: usize,
+    ghost past: { All (λ row. row.generation ≤ generation) rows.items },
+}
+
+/// How many trees there are after a row had one or not, and has one or not.
+fn counted(count: usize, had: bool, has: bool) -> usize {
+    if has && !had {
+        count.saturating_add(1)
+    } else if had && !has {
+        count.saturating_sub(1)
+    } else {
+        count
+    }
+}
+
+impl Trees {
+    ghost use Rattle.std.specs.Prelude.{◌≡◌, ◌<◌, length, slice_index_or, true, IfOk, IfSome};
+    ghost use Rattle.cspf_model.specs.Best.{IsBestAnswer};
+    ghost use Rattle.cspf_model.specs.Outcome.{answer_of};
+    ghost use Rattle.cspf_model.specs.Database.{Database};
+    ghost use Rattle.cspf_trees.specs.declared.tree_row.TreeRow.{TreeRow as OneTreeRow};
+    ghost use Rattle.cspf_trees.specs.declared.limits.TheConstants.{MOST_TREES};
+    ghost use Rattle.cspf_trees.specs.TreeRows.{IsAskedOf};
+    ghost use Rattle.cspf_trees.specs.Trees.{AreTreesOf};
+
+    /// No trees, so they are of any database, and later at most this many. It takes no memory.
+    pub fn new(alloc: Global, most: usize) -> Trees
+        ensures { (d : Database) → AreTreesOf d result }
+    {
+        Trees {
+            rows: Vec::new(alloc),
+            generation: 0,
+            most,
+            count: 0,
+        }
+    }
+
+    /// Leaves no tree to search by, so the trees are of any database. Memory is kept for later ones.
+    pub fn clear(&mut self)
+        ensures { (d : Database) → AreTreesOf d self.new }
+    {
+        if self.generation < u64::MAX {
+            self.generation += 1;
+        } else {
+            self.rows.clear();
+            self.count = 0;
+        }
+    }
+
+    /// Makes the rows if there are none yet. Returns whether there are rows.
+    fn fill(&mut self, alloc: Global) -> bool
+        ensures trees { (d : Database) → AreTreesOf d self.old → AreTreesOf d self.new }
+        ensures many { result ≡ true → length self.new.rows.items ≡ MOST_TREES }
+    {
+        if self.rows.len() == MOST_TREES {
+            return true;
+        }
+        match empty_rows(alloc) {
+            Ok(rows) => {
+                self.rows = rows;
+                true
+            }
+            Err(_refused) => false,
+        }
+    }
+
+    /// Asks for the class of a request. Returns the index of its row, unless other classes have all
+    /// rows that it may be in, or memory for the rows is refused.
+    fn ask_row(&mut self, alloc: Global, table: &Table, request: &Request) -> Option<usize>
+        requires { AreTreesOf table.now self.old }
+        ensures trees { AreTreesOf table.now self.new }
+        ensures within { IfSome result (λ at. at < length self.new.rows.items) }
+        ensures asked { IfSome result (λ at. (e : OneTreeRow)
+            → IsAskedOf request.now self.new.generation (slice_index_or self.new.rows.items at e)) }
+    {
+        if !self.fill(alloc) {
+            return None;
+        }
+        let class = class_of(request);
+        let generation = self.generation;
+        let at = find(&self.rows, first_row(&class), &class, generation);
+        let may_grow = self.count < self.most;
+        let row = &mut self.rows[at];
+        let had = row.tree.is_some();
+        let asked = ask(alloc, table, request, &class, generation, may_grow, row);
+        let has = row.tree.is_some();
+        self.count = counted(self.count, had, has);
+        if asked { Some(at) } else { None }
+    }
+
+    /// The best answer to a request in the database of the trees, which is the table's: the answer
+    /// of `best` of `cspf_search`.
+    pub fn best(
+        &mut self,
+        alloc: Global,
+        table: &Table,
+        request: &Request,
+    ) -> Result<Outcome, AllocError>
+        requires { AreTreesOf table.now self.old }
+        ensures trees { AreTreesOf table.now self.new }
+        ensures best { IfOk result (λ outcome.
+            IsBestAnswer table.now request.now (answer_of outcome)) }
+    {
+        let Some(at) = self.ask_row(alloc, table, request) else {
+            return best(alloc, table, request);
+        };
+        match &self.rows[at].tree {
+            Some(tree) => best_by_tree(alloc, table, request, tree),
+            None => best(alloc, table, request),
+        }
+    }
+}

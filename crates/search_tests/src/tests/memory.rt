@@ -1,0 +1,63 @@
+//! Trees while memory is refused: each request is answered in full or that memory is refused, and in
+//! full once there is memory again.
+
+ghost use Rattle.cspf_trees.specs.Trees.{AreTreesOf};
+
+use super::{ONE, TWO, is_route, link, request, table_of};
+use cspf_db::Table;
+use cspf_model::{Change, Request};
+use cspf_trees::{MOST_TREES, Trees};
+use std::alloc::{AllocError, Global};
+use std::test::Fail;
+
+// Whether memory is given now.
+fn has_memory(alloc: Global) -> bool {
+    match Vec::from_slice(alloc, &[1u8]) {
+        Ok(bytes) => bytes.len() == 1,
+        Err(_) => false,
+    }
+}
+
+// Whether nine asks for a route over the link are answered it. A tree is grown at the eighth.
+fn are_routes(
+    alloc: Global,
+    table: &Table,
+    request: &Request,
+    trees: &mut Trees,
+) -> Result<bool, AllocError>
+    requires { AreTreesOf table.now trees.old }
+{
+    let mut all = true;
+    for _ask in 0..9 {
+        let found = trees.best(alloc, table, request)?;
+        all = all && is_route(&found, 10, false, &[2]);
+    }
+    Ok(all)
+}
+
+// The same, after these changes.
+fn are_routes_after(
+    alloc: Global,
+    changes: &[Change],
+    request: &Request,
+) -> Result<bool, AllocError> {
+    let table = table_of(alloc, changes)?;
+    let mut trees = Trees::new(alloc, MOST_TREES);
+    are_routes(alloc, &table, request, &mut trees)
+}
+
+#[test]
+fn answers_by_trees_while_memory_is_refused(rt: HostRuntime) -> Result<(), Fail> {
+    let alloc = rt.alloc();
+    let put = Change::Put(link(&(ONE, 1, TWO, 2, 10, 1000))?);
+    let back = Change::Put(link(&(TWO, 2, ONE, 1, 10, 0))?);
+    let changes = [put, back];
+    let asked = request((ONE, TWO), 0, (0, 0, 0), b"")?;
+    let found = match are_routes_after(alloc, &changes, &asked) {
+        Err(_refused) => !has_memory(alloc)
+            || are_routes_after(alloc, &changes, &asked) == Ok(true),
+        found => found == Ok(true),
+    };
+    assert!(rt; found);
+    Ok(())
+}
