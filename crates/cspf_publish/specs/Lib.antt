@@ -9,3 +9,4 @@ pub mod Operations
 pub mod PublisherStates
 pub mod ApplyErrors
 pub mod Answers
+pub mod AskerSeats

@@ -1,37 +1,29 @@
 //! Askers, which answer requests from the published replica without waiting.
 
-ghost use Rattle.std.specs.Prelude.{◌≡◌, ◌⊎◌, length, IfOk, IfSome, IfNone, IfErr};
+ghost use Rattle.std.specs.Prelude.{◌≡◌, ◌⊎◌, length, IfOk, IfErr};
 ghost use Rattle.std.specs.Arc.{arc_value};
 ghost use Rattle.left_right.specs.Sides.{view};
-ghost use Rattle.cspf_publish.specs.Answers.{IsAnswerAfter, IsBestAfter};
+ghost use Rattle.cspf_publish.specs.Answers.{IsAnswerAfter};
 ghost use Rattle.cspf_journal.specs.Histories.{BeginsWith, IsHistory};
 ghost use Rattle.cspf_journal.specs.JournalSteps.{batches_of};
-ghost use Rattle.cspf_journal.specs.KnownBatches.{KnownBatches, AreFirstOf};
+ghost use Rattle.cspf_journal.specs.KnownBatches.{KnownBatches};
 ghost use Rattle.cspf_journal.specs.Readings.{CatchesUp};
 ghost use Rattle.cspf_publish.specs.ReplicaRule.{KnowsItsEntry};
-ghost use Rattle.cspf_publish.specs.declared.seat_view.SeatView.TheVariants.{Asker as IsAsker};
 
-use crate::replica::Replica;
-use crate::replica_rule::{Entry, ReplicaRule};
-use crate::seat_view::SeatView;
+use crate::asker_seat::{AskerSeat, ReplicaReader, enter_and_search};
 use crate::{Answer, AskError, Told};
 use core::mem::replace_with;
 use cspf_journal::{Known, PublishedCount, SeenSteps};
-use cspf_model::{Outcome, Request};
-use cspf_search::best;
-use left_right::reader::Reader;
-use std::alloc::{AllocError, Global};
+use cspf_model::Request;
+use std::alloc::Global;
 use std::marker::Model;
 use std::sync::Arc;
-
-/// A reader of the published replica.
-pub(crate) type ReplicaReader = Reader<Replica, SeatView, ReplicaRule>;
 
 /// An asker answers requests, and knows the batches up to the last version that it saw or learnt.
 /// One thread uses it at a time, and it may be moved to another thread. Its calls never block.
 #[derive(Drop)]
 pub struct Asker {
-    reader: ReplicaReader,
+    seat: AskerSeat,
     known: Known,
     count: Arc<PublishedCount>,
 }
@@ -41,51 +33,35 @@ impl Model for Asker {
     ghost use Rattle.std.specs.Arc.{arc_value};
     ghost use Rattle.left_right.specs.Sides.{view as seen_by};
     ghost use Rattle.cspf_journal.specs.KnownBatches.{KnownBatches};
+    ghost use Rattle.cspf_publish.specs.AskerSeats.{IsAskerSeat};
     ghost use Rattle.cspf_publish.specs.ReplicaRule.{KnowsItsEntry};
 
     ghost Value = { KnownBatches };
 
     ghost view = { λ a. a.known };
 
-    ghost invariant = { λ a. KnowsItsEntry (seen_by a.reader.place) a.known
-        × (arc_value a.count ≡ a.known.source) };
-}
-
-// One entry: the batches of the replica that was entered, and the result of the search in its
-// table. Those of the last entry are a prefix of them.
-fn enter_and_search(
-    reader: ReplicaReader,
-    ask: (Global, Request),
-) -> (ReplicaReader, Option<(Known, Result<Outcome, AllocError>)>)
-    ensures none { IfNone result.1 (view result.0.place ≡ view reader.place) }
-    ensures seat { IfSome result.1 (λ r. view result.0.place ≡ IsAsker r.0) }
-    ensures later { IfSome result.1 (λ r. (known : KnownBatches)
-        → view reader.place ≡ IsAsker known → AreFirstOf r.0 known) }
-    ensures best { IfSome result.1 (λ r. IfOk r.1 (IsBestAfter r.0.batches ask.1)) }
-{
-    let (alloc, request) = ask;
-    match reader.enter_as::<Entry>() {
-        Err(reader) => (reader, None),
-        Ok(reading) => {
-            let replica = reading.get();
-            let known = replica.known.copy();
-            let outcome = best(alloc, &replica.table, &request);
-            (reading.leave(), Some((known, outcome)))
-        }
-    }
+    ghost invariant = { λ a. KnowsItsEntry (seen_by a.seat.reader.place) a.known
+        × (arc_value a.count ≡ a.known.source)
+        × IsAskerSeat a.seat };
 }
 
 impl Asker {
-    pub(crate) fn new(reader: ReplicaReader, known: Known, count: Arc<PublishedCount>) -> Asker
+    pub(crate) fn new(
+        reader: ReplicaReader,
+        known: Known,
+        count: Arc<PublishedCount>,
+        most_trees: usize,
+    ) -> Asker
         requires entry { KnowsItsEntry (view reader.place) known }
         requires count { arc_value count ≡ known.source }
         ensures { result ≡ known }
     {
-        Asker {
+        let seat = AskerSeat {
             reader,
-            known,
-            count,
-        }
+            trees: None,
+            most_trees,
+        };
+        Asker { seat, known, count }
     }
 
     /// The best answer in the database of the last published version. After it the batches of that
@@ -99,7 +75,7 @@ impl Asker {
         ensures answer { IfOk result (λ answer. IsAnswerAfter self.new.batches request.now answer) }
         ensures no_entry { IfErr result (λ error. error ≡ AskError.NoEntry → self.new ≡ self.old) }
     {
-        let entry = replace_with(&mut self.reader, (alloc, *request), enter_and_search);
+        let entry = replace_with(&mut self.seat, (alloc, *request), enter_and_search);
         let Some((known, outcome)) = entry else {
             return Err(AskError::NoEntry);
         };

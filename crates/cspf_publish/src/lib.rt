@@ -10,7 +10,9 @@
 
 mod answer;
 mod asker;
+mod asker_seat;
 mod errors;
+mod known_trees;
 mod limits;
 mod publisher;
 mod replica;

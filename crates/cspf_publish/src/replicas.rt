@@ -14,7 +14,8 @@ ghost use Rattle.cspf_publish.specs.ReplicaStates.{published_state};
 ghost use Rattle.cspf_publish.specs.declared.limits.TheConstants.{MOST_ASKERS};
 ghost use Rattle.cspf_publish.specs.declared.seat_view.SeatView.TheVariants.{New as IsNew, Publisher as IsPublisher};
 
-use crate::asker::ReplicaReader;
+use crate::asker_seat::ReplicaReader;
+use crate::limits::trees_of_each;
 use crate::replica::{PendingBatch, Replica};
 use crate::replica_rule::{FirstNote, Opening, ReplicaRule, Swap};
 use crate::seat_view::SeatView;
@@ -242,18 +243,18 @@ impl Replicas {
     {
         let mut all = room;
         for _ in 0..count {
-            all.push_reserved(self.asker(rt));
+            all.push_reserved(self.asker(rt, trees_of_each(count)));
         }
         all
     }
 
-    fn asker<R: Wait>(&mut self, rt: &R) -> Asker
+    fn asker<R: Wait>(&mut self, rt: &R, trees: usize) -> Asker
         ensures same { self.new ≡ self.old }
         ensures asker { result ≡ self.old }
     {
         let mut reader = new_reader(&self.writer, rt);
         reader.learn::<FirstNote>(self.writer.tell::<FirstNote>());
-        Asker::new(reader, self.known(), share(&self.count, rt))
+        Asker::new(reader, self.known(), share(&self.count, rt), trees)
     }
 
     // The batches that are published.

@@ -11,5 +11,5 @@ returns-in-Ok-clause-answer c = record {
   version = c.version.ensures.version;
   best =
       subst (λ (k : KnownBatches). IsBestAnswer (database_after k.batches) c.args.request.now (answer_of c.in-Ok.outcome)) (sym c.if-not-raise.ensures.0)
-      (subst (λ found. IfOk found (λ outcome. IsBestAnswer (database_after c.in-Some.known.batches) c.args.request.now (answer_of outcome))) c.in-Ok.is c.in-Some.ensures.1.1.1);
+      (subst (λ found. IfOk found (λ outcome. IsBestAnswer (database_after c.in-Some.known.batches) c.args.request.now (answer_of outcome))) c.in-Ok.is c.in-Some.ensures.1.1.1.0);
 }

@@ -1,0 +1,118 @@
+//! The seat of an asker, and how it enters a replica and searches there.
+
+ghost use Rattle.std.specs.Prelude.{◌≡◌, IfOk, IfSome, IfNone};
+ghost use Rattle.left_right.specs.Sides.{view};
+ghost use Rattle.cspf_model.specs.Changes.{database_after};
+ghost use Rattle.cspf_journal.specs.KnownBatches.{KnownBatches, AreFirstOf};
+ghost use Rattle.cspf_publish.specs.Answers.{IsBestAfter};
+ghost use Rattle.cspf_publish.specs.AskerSeats.{IsAskerSeat};
+ghost use Rattle.cspf_publish.specs.declared.seat_view.SeatView.TheVariants.{Asker as IsAsker};
+
+use crate::known_trees::KnownTrees;
+use crate::replica::Replica;
+use crate::replica_rule::{Entry, ReplicaRule};
+use crate::seat_view::SeatView;
+use cspf_db::Table;
+use cspf_journal::Known;
+use cspf_model::{Outcome, Request};
+use left_right::reader::Reader;
+use std::alloc::{AllocError, Global};
+
+/// A reader of the published replica.
+pub(crate) type ReplicaReader = Reader<Replica, SeatView, ReplicaRule>;
+
+/// The seat of an asker.
+#[derive(Drop)]
+pub(crate) struct AskerSeat {
+    /// Its reader.
+    pub(crate) reader: ReplicaReader,
+    /// Trees of the database that it entered last, once it has entered one.
+    pub(crate) trees: Option<KnownTrees>,
+    /// How many trees it keeps at most.
+    pub(crate) most_trees: usize,
+}
+
+// The trees for the database of these batches, new ones with room for at most so many.
+fn trees_at(alloc: Global, known: &Known, most: usize, trees: Option<KnownTrees>) -> KnownTrees
+    requires { IfSome trees (λ old. known.now.source ≡ old.source) }
+    ensures { result ≡ known.now }
+{
+    match trees {
+        None => KnownTrees::new(alloc, known, most),
+        Some(old) => {
+            let mut trees = old;
+            trees.enter(known);
+            trees
+        }
+    }
+}
+
+// The result of the search in the table, which has the database of these batches, and its trees.
+fn search(
+    alloc: Global,
+    table: &Table,
+    request: &Request,
+    known: &Known,
+    most: usize,
+    trees: Option<KnownTrees>,
+) -> (KnownTrees, Result<Outcome, AllocError>)
+    requires table { table.now ≡ database_after known.now.batches }
+    requires source { IfSome trees (λ old. known.now.source ≡ old.source) }
+    ensures trees { result.0 ≡ known.now }
+    ensures best { IfOk result.1 (IsBestAfter known.now.batches request.now) }
+{
+    let mut trees = trees_at(alloc, known, most, trees);
+    let outcome = trees.best(alloc, table, request);
+    (trees, outcome)
+}
+
+// One entry: the batches of the replica that was entered, and the result of the search in its
+// table. Those of the last entry are a prefix of them.
+pub(crate) fn enter_and_search(
+    seat: AskerSeat,
+    ask: (Global, Request),
+) -> (AskerSeat, Option<(Known, Result<Outcome, AllocError>)>)
+    requires { IsAskerSeat seat }
+    ensures none { IfNone result.1 (view result.0.reader.place ≡ view seat.reader.place) }
+    ensures seat { IfSome result.1 (λ r. view result.0.reader.place ≡ IsAsker r.0) }
+    ensures later { IfSome result.1 (λ r. (known : KnownBatches)
+        → view seat.reader.place ≡ IsAsker known → AreFirstOf r.0 known) }
+    ensures best { IfSome result.1 (λ r. IfOk r.1 (IsBestAfter r.0.batches ask.1)) }
+    ensures after { IsAskerSeat result.0 }
+{
+    let (alloc, request) = ask;
+    let AskerSeat {
+        reader,
+        trees,
+        most_trees,
+    } = seat;
+    match reader.enter_as::<Entry>() {
+        Err(reader) => {
+            let seat = AskerSeat {
+                reader,
+                trees,
+                most_trees,
+            };
+            (seat, None)
+        }
+        Ok(reading) => {
+            let replica = reading.get();
+            let known = replica.known.copy();
+            let (trees, outcome) = search(
+                alloc,
+                &replica.table,
+                &request,
+                &known,
+                most_trees,
+                trees,
+            );
+            let reader = reading.leave();
+            let seat = AskerSeat {
+                reader,
+                trees: Some(trees),
+                most_trees,
+            };
+            (seat, Some((known, outcome)))
+        }
+    }
+}
