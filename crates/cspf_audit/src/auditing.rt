@@ -1,8 +1,8 @@
 //! The audit itself: it reads the three streams in their order, and then has each line judged.
 
 ghost use Rattle.std.specs.Prelude.{◌≤◌, length, IfOk, IfErr, IfSome};
-ghost use Rattle.cspf_rows.specs.Records.{rows_of};
 ghost use Rattle.cspf_rows.specs.declared.limits.TheConstants.{MOST_ROWS};
+ghost use Rattle.cspf_rows.specs.Records.{rows_of};
 ghost use Rattle.cspf_audit.specs.Audits.{IsAudit};
 ghost use Rattle.cspf_audit.specs.AuditErrors.{IsAuditOf, IsAuditError};
 ghost use Rattle.cspf_audit.specs.Requests.{HaveOwnIds};

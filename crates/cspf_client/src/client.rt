@@ -2,8 +2,8 @@
 
 ghost use Rattle.std.specs.Prelude.{◌≡◌, ◌<◌, None, OnOk, IfErr};
 ghost use Rattle.std.specs.Option.{option_map};
-ghost use Rattle.cspf_rows.specs.Records.{IsPlain, rows_of, rows_left};
 ghost use Rattle.cspf_publish.specs.KnownBatches.{AreFirstOf};
+ghost use Rattle.cspf_rows.specs.Records.{IsPlain, rows_of, rows_left};
 ghost use Rattle.cspf_stream.specs.RowAnswers.{AreAllAnswered};
 ghost use Rattle.cspf_client.specs.ClientRows.{IsClientAnswered};
 ghost use Rattle.cspf_client.specs.ClientRuns.{IsClientRun, IsStreamStopped};

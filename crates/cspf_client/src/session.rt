@@ -29,10 +29,11 @@ pub struct Session {
 }
 
 impl Model for Session {
-    ghost use Rattle.std.specs.Prelude.{◌≡◌};
     ghost use Rattle.cspf_client.specs.SessionStates.{SessionState};
 
     ghost Value = { SessionState };
+
+    ghost use Rattle.std.specs.Prelude.{◌≡◌};
 
     ghost view = { λ s. record {
       known = s.asker;
