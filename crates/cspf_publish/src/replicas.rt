@@ -135,6 +135,45 @@ fn empty_replica(alloc: Global, known: &Known) -> Result<Replica, AllocError>
     })
 }
 
+// Appends two operations that change nothing, so that the log has room for two.
+fn append_idle(writer: &mut ReplicaWriter, alloc: Global, known: &Known) -> Result<(), AllocError>
+    ensures desk { writer.new.desk ≡ writer.old.desk }
+    ensures pending { IfOk result (λ _. drop writer.new.behind writer.new.log.items
+        ≡ drop writer.old.behind writer.old.log.items
+        ++ idle_batch known.now ∷ idle_batch known.now ∷ []) }
+{
+    let Ok(()) = writer.append(idle_operation(alloc, known)) else {
+        return Err(AllocError);
+    };
+    let Ok(()) = writer.append(idle_operation(alloc, known)) else {
+        return Err(AllocError);
+    };
+    Ok(())
+}
+
+// The writer of two empty replicas, after its first step.
+fn new_writer<R: Wait>(
+    rt: &R,
+    alloc: Global,
+    known: &Known,
+    readers: usize,
+) -> Result<ReplicaWriter, AllocError>
+    requires none { known.now.batches ≡ [] }
+    requires readers { (0 < readers) × (readers ≤ MOST_ASKERS) }
+    ensures seat { IfOk result (λ w. view w.desk.place ≡ IsPublisher known.now) }
+    ensures shown { IfOk result (λ w. w.desk.shown.value ≡ published_state known.now) }
+    ensures pending { IfOk result (λ w. drop w.behind w.log.items ≡ []) }
+{
+    let first = empty_replica(alloc, known)?;
+    let second = empty_replica(alloc, known)?;
+    let mut writer: ReplicaWriter = Writer::new(alloc, first, second, readers)?;
+    if let Err(refused) = append_idle(&mut writer, alloc, known) {
+        writer.take(rt);
+        return Err(refused);
+    }
+    Ok(open_writer(writer, rt))
+}
+
 // Appends an operation. The log has had room for it since the replicas were made, so the first turn
 // of the loop is the last one.
 fn append<R: Wait>(writer: &mut ReplicaWriter, rt: &R, operation: PendingBatch)
@@ -216,19 +255,8 @@ impl Replicas {
         let known = right.known();
         let (right, count) = right.split();
         let count = Arc::new(alloc, count)?;
-        let first = empty_replica(alloc, &known)?;
-        let second = empty_replica(alloc, &known)?;
-        let mut writer: ReplicaWriter = Writer::new(alloc, first, second, readers)?;
-        let Ok(()) = writer.append(idle_operation(alloc, &known)) else {
-            writer.take(rt);
-            return Err(AllocError);
-        };
-        let Ok(()) = writer.append(idle_operation(alloc, &known)) else {
-            writer.take(rt);
-            return Err(AllocError);
-        };
         Ok(Replicas {
-            writer: open_writer(writer, rt),
+            writer: new_writer(rt, alloc, &known, readers)?,
             right,
             count,
         })
