@@ -10,18 +10,28 @@ use std::test::Fail;
 use std::thread;
 use std::thread::Threads;
 
+/// How many numbers a drawer may draw, the one that it draws, and how many it may draw then. All are 0
+/// where it may draw none.
+fn drawn(drawer: &mut Drawer<'_>) -> [u64; 3]
+    ensures { drawer.new.counter ≡ drawer.old.counter }
+{
+    if drawer.left() == 0 {
+        return [0; 3];
+    }
+    [drawer.left(), drawer.draw(), drawer.left()]
+}
+
 /// Two drawers draw in turn, and the counter is closed.
 #[test]
 fn in_turn(rt: HostRuntime) -> Result<(), Fail> {
     let (counter, mut first) = Counter::open(rt.alloc(), 2)?;
     let mut one = counter.split(&mut first);
     let mut two = counter.split(&mut first);
-    assert_eq!(rt; (one.left(), two.left()), (3, 3));
-    assert_eq!(rt; (one.draw(), two.draw(), one.draw()), (0, 1, 2));
-    assert_eq!(rt; (one.left(), two.left()), (1, 2));
+    let drawn = [drawn(&mut one), drawn(&mut two), drawn(&mut one)];
     let drawers = Vec::from_array(rt.alloc(), [one, two])?;
     let last = counter.join(first, drawers);
-    assert_eq!(rt; counter.close(last), 3);
+    let count = counter.close(last);
+    assert!(rt; drawn == [[3, 0, 2], [3, 1, 2], [2, 2, 1]] && count == 3);
     Ok(())
 }
 
@@ -29,12 +39,13 @@ fn in_turn(rt: HostRuntime) -> Result<(), Fail> {
 #[test]
 fn no_requests(rt: HostRuntime) -> Result<(), Fail> {
     let (counter, mut first) = Counter::open(rt.alloc(), 0)?;
-    assert_eq!(rt; first.shares(), MOST_DRAWERS);
+    let shares = first.shares();
     let mut drawer = counter.split(&mut first);
-    assert_eq!(rt; (drawer.left(), drawer.draw(), drawer.left()), (1, 0, 0));
+    let drawn = drawn(&mut drawer);
     let drawers = Vec::from_array(rt.alloc(), [drawer])?;
     let last = counter.join(first, drawers);
-    assert_eq!(rt; counter.close(last), 1);
+    let count = counter.close(last);
+    assert!(rt; (shares, drawn, count) == (MOST_DRAWERS, [1, 0, 0], 1));
     Ok(())
 }
 
@@ -89,9 +100,7 @@ fn each_is_drawn_once<R: Threads + Abort + Sync>(
         count,
         &|_, drawer: &mut Drawer<'_>| { count_drawn(&counts, drawer) },
     );
-    for drawn in &counts {
-        assert_eq!(rt; drawn.load(Ordering::SeqCst), 1);
-    }
+    assert!(rt; counts.iter().all(|drawn| drawn.load(Ordering::SeqCst) == 1));
     Ok(())
 }
 
