@@ -1,4 +1,5 @@
-//! What the tests of rows share: readers in pieces, that repeat a row, and that fail.
+//! What the tests of rows share: the one assertion, and readers in pieces, that repeat a row, and that
+//! fail.
 
 mod batches;
 mod cuts;
@@ -10,8 +11,30 @@ mod records;
 mod requests;
 mod rows;
 
+use cspf_model::Batch;
+use cspf_rows::batch_text;
+use std::alloc::{AllocError, Global};
 use std::io;
 use std::io::{ErrorKind, Read};
+use std::process::Abort;
+
+/// Stops at a case that doesn't hold, with its text.
+fn assert_case(rt: &impl Abort, text: &[u8], holds: bool) {
+    assert!(rt; holds, "{text:?}");
+}
+
+/// A batch of no changes.
+fn empty_batch(alloc: Global) -> Batch {
+    Batch {
+        number: 0,
+        changes: Vec::new(alloc),
+    }
+}
+
+/// Whether a batch has this text.
+fn has_text(alloc: Global, batch: &Batch, text: &[u8]) -> Result<bool, AllocError> {
+    Ok(batch_text(alloc, batch)?.as_slice() == text)
+}
 
 /// Gives a text `times` times over, at most `width` bytes a read, and then ends or fails.
 #[derive(Drop)]

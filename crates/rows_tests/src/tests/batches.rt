@@ -1,28 +1,14 @@
 //! Batches that a reader of a journal gives one after the other, and how it ends.
 
-ghost use Rattle.std.specs.Prelude.{◌≡◌, true, OnOk};
+ghost use Rattle.std.specs.Prelude.{◌≡◌, true, IfOk};
 ghost use Rattle.cspf_rows.specs.GivenBatches.{CanRead};
 
-use super::{Pieces, by_bytes, failing, repeated};
+use super::{Pieces, assert_case, by_bytes, empty_batch, failing, has_text, repeated};
 use cspf_model::Batch;
-use cspf_rows::{JournalReader, JournalStep, MOST_ROWS, ReadError, Rest, batch_text};
+use cspf_rows::{JournalReader, JournalStep, MOST_ROWS, ReadError, Rest};
 use std::alloc::{AllocError, Global};
 use std::io::Read;
-use std::process::Abort;
 use std::test::Fail;
-
-/// A batch of no changes.
-fn empty_batch(alloc: Global) -> Batch {
-    Batch {
-        number: 0,
-        changes: Vec::new(alloc),
-    }
-}
-
-/// Whether a batch has this text.
-fn has_text(alloc: Global, batch: &Batch, text: &[u8]) -> Result<bool, AllocError> {
-    Ok(batch_text(alloc, batch)?.as_slice() == text)
-}
 
 /// The texts of three batches: one of three changes, one of none and one of one.
 const THREE: [&[u8]; 3] = [
@@ -32,7 +18,7 @@ const THREE: [&[u8]; 3] = [
 ];
 
 /// Texts after the three batches, and what is read there.
-const BEHIND: [(&[u8], Rest); 8] = [
+const BEHIND: &[(&[u8], Rest)] = &[
     (b"", Rest::Clean),
     (b"\r\n\n", Rest::Clean),
     (b"node,3.3.3.3,1\n", Rest::Torn),
@@ -64,74 +50,88 @@ fn gives_batch<R: Read>(journal: &mut JournalReader<R>, batch: &mut Batch) -> bo
     journal.read_batch(batch) == Ok(JournalStep::Batch)
 }
 
-/// A reader gives the three batches, each in the room of the first.
-fn assert_three(
-    rt: &impl Abort,
+/// Whether the reader gives a batch of this text next.
+fn gives<R: Read>(
+    alloc: Global,
+    journal: &mut JournalReader<R>,
+    batch: &mut Batch,
+    text: &[u8],
+) -> Result<bool, AllocError>
+    requires { CanRead journal.old }
+    ensures { IfOk result (λ gives. gives ≡ true → CanRead journal.new) }
+{
+    Ok(gives_batch(journal, batch) && has_text(alloc, batch, text)?)
+}
+
+/// Whether a reader gives the three batches, each in the room of the first, and then comes to this
+/// rest.
+fn gives_three(
     alloc: Global,
     journal: &mut JournalReader<Pieces<'_>>,
     batch: &mut Batch,
-) -> Result<(), AllocError>
+    rest: Rest,
+) -> Result<bool, AllocError>
     requires { CanRead journal.old }
-    ensures { OnOk result (CanRead journal.new) }
 {
     let [first, second, third] = THREE;
-    assert!(rt;
-        gives_batch(journal, batch) && has_text(alloc, batch, first)?,
-        "the first"
-    );
-    assert!(rt;
-        gives_batch(journal, batch) && has_text(alloc, batch, second)?,
-        "the second"
-    );
-    assert!(rt;
-        gives_batch(journal, batch) && has_text(alloc, batch, third)?,
-        "the third"
-    );
-    assert!(rt; batch.changes.capacity() >= 3);
-    Ok(())
+    let gives_all = gives(alloc, journal, batch, first)?
+        && gives(alloc, journal, batch, second)?
+        && gives(alloc, journal, batch, third)?;
+    Ok(
+        gives_all
+            && batch.changes.capacity() >= 3
+            && journal.read_batch(batch) == Ok(JournalStep::End(rest)),
+    )
 }
 
-/// A reader gives the three batches of a text, and says what comes after them.
-fn assert_given(rt: &impl Abort, alloc: Global, behind: &[u8], rest: Rest) -> Result<(), Fail> {
+/// Whether the reader of a text gives the three batches, and says what comes after them.
+fn are_given(alloc: Global, behind: &[u8], rest: Rest) -> Result<bool, AllocError> {
     let text = text_of_three(alloc, behind)?;
     let mut journal = JournalReader::new(alloc, by_bytes(text.as_slice()));
-    let mut batch = empty_batch(alloc);
-    assert_three(rt, alloc, &mut journal, &mut batch)?;
-    let end = journal.read_batch(&mut batch);
-    assert_eq!(rt; end, Ok(JournalStep::End(rest)), "{behind:?}");
-    Ok(())
+    gives_three(alloc, &mut journal, &mut empty_batch(alloc), rest)
 }
 
 #[test]
 fn batch_after_batch(rt: HostRuntime) -> Result<(), Fail> {
     for (behind, rest) in BEHIND {
-        assert_given(&rt, rt.alloc(), behind, rest)?;
+        assert_case(&rt, behind, are_given(rt.alloc(), behind, *rest)?);
     }
     Ok(())
 }
 
-#[test]
-fn rows_behind_batches_are_counted(rt: HostRuntime) {
-    let mut batch = empty_batch(rt.alloc());
-    let mut most = JournalReader::new(rt.alloc(), repeated(b"foo\n", MOST_ROWS));
-    let end = most.read_batch(&mut batch);
-    assert_eq!(rt; end, Ok(JournalStep::End(Rest::Torn)));
-    let mut more = JournalReader::new(rt.alloc(), repeated(b"foo\n", MOST_ROWS + 1));
-    let end = more.read_batch(&mut batch);
-    assert_eq!(rt; end, Err(ReadError::TooManyRows));
+/// What a reader answers first.
+fn first_answer(alloc: Global, reader: Pieces<'_>) -> Result<JournalStep, ReadError> {
+    let mut journal = JournalReader::new(alloc, reader);
+    journal.read_batch(&mut empty_batch(alloc))
 }
 
 #[test]
+fn rows_behind_batches_are_counted(rt: HostRuntime) {
+    let most = first_answer(rt.alloc(), repeated(b"foo\n", MOST_ROWS));
+    assert_case(&rt, b"most", most == Ok(JournalStep::End(Rest::Torn)));
+    let more = first_answer(rt.alloc(), repeated(b"foo\n", MOST_ROWS + 1));
+    assert_case(&rt, b"more", more == Err(ReadError::TooManyRows));
+}
+
+/// Whether a reader gives a batch, and then fails.
+fn gives_and_fails(journal: &mut JournalReader<Pieces<'_>>, batch: &mut Batch) -> bool
+    requires { CanRead journal.old }
+{
+    gives_batch(journal, batch) && journal.read_batch(batch) == Err(ReadError::Device)
+}
+
+/// Texts of a batch, and of what comes after it.
+const FAILING: &[&[u8]] = &[
+    b"end,1,0\n",
+    b"end,1,0\nnode,1.1.1.1,0\n",
+    b"end,1,0\nfoo\n",
+];
+
+#[test]
 fn readers_that_fail_behind_a_batch(rt: HostRuntime) {
-    for behind in [
-        b"end,1,0\n".as_slice(),
-        b"end,1,0\nnode,1.1.1.1,0\n".as_slice(),
-        b"end,1,0\nfoo\n".as_slice(),
-    ] {
-        let mut batch = empty_batch(rt.alloc());
+    for behind in FAILING {
         let mut journal = JournalReader::new(rt.alloc(), failing(behind));
-        assert!(rt; gives_batch(&mut journal, &mut batch));
-        let end = journal.read_batch(&mut batch);
-        assert_eq!(rt; end, Err(ReadError::Device), "{behind:?}");
+        let fails = gives_and_fails(&mut journal, &mut empty_batch(rt.alloc()));
+        assert_case(&rt, behind, fails);
     }
 }

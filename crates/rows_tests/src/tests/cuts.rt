@@ -1,12 +1,13 @@
 //! Rows that break off at each byte.
 
-use super::rows::{only_row, words_of};
+use super::assert_case;
+use super::rows::is_said;
 use std::alloc::Global;
 use std::process::Abort;
 use std::test::Fail;
 
 /// Rows, and from which number of bytes on their front is refused with which words, or read.
-const ROWS: [(&[u8], &[(usize, &str)]); 6] = [
+const ROWS: &[(&[u8], &[(usize, &str)])] = &[
     (
         b"put,1.1.1.1,10.0.12.1,2.2.2.2,10.0.12.2,10,0x1,1000,1000,1000,1000,1000,1000,1000,1000",
         &[(0, "kind"), (3, "fields"), (82, "number 15"), (83, "read")],
@@ -52,20 +53,23 @@ fn words_at(words: &[(usize, &'static str)], bytes: usize) -> &'static str {
     found
 }
 
-/// Fails where a text isn't read with these words.
-fn is_said<R: Abort>(rt: &R, alloc: Global, text: &[u8], words: &str) -> Result<(), Fail> {
-    let found = words_of(alloc, only_row(alloc, text)?)?;
-    assert!(rt; found.as_str() == words, "{text:?}: {found}");
+/// A row that is cut at each byte is read with its words.
+fn assert_cuts(
+    rt: &impl Abort,
+    alloc: Global,
+    (row, words): &(&[u8], &[(usize, &'static str)]),
+) -> Result<(), Fail> {
+    for bytes in 0..row.len() + 1 {
+        let front = row.get(..bytes).unwrap_or(&[]);
+        assert_case(rt, front, is_said(alloc, front, words_at(words, bytes))?);
+    }
     Ok(())
 }
 
 #[test]
 fn rows_cut_at_each_byte(rt: HostRuntime) -> Result<(), Fail> {
-    for (row, words) in ROWS {
-        for bytes in 0..row.len() + 1 {
-            let front = row.get(..bytes).unwrap_or(&[]);
-            is_said(&rt, rt.alloc(), front, words_at(words, bytes))?;
-        }
+    for row in ROWS {
+        assert_cuts(&rt, rt.alloc(), row)?;
     }
     Ok(())
 }
@@ -74,27 +78,24 @@ fn rows_cut_at_each_byte(rt: HostRuntime) -> Result<(), Fail> {
 const OBJECT: &[u8] = b"ask,7,1.1.1.1,2.2.2.2,0,1000,0x1,0x2,0x4,\
 ero:0014140181080a00000008010108040404042000";
 
-/// The words for this many hexadecimal digits of the object.
-fn words_at_digit(digits: usize) -> &'static str {
-    match digits {
-        40 => "read",
-        digits if digits % 2 == 1 => "hops hex",
-        0..=7 => "hops ero short",
+/// The words for this many bytes of it, 41 at least.
+fn words_in_object(bytes: usize) -> &'static str {
+    match bytes {
+        41 | 85 => "read",
+        42..=44 => "hops 1",
+        bytes if bytes % 2 == 0 => "hops hex",
+        45..=52 => "hops ero short",
         _ => "hops ero length",
     }
 }
 
 #[test]
 fn objects_cut_at_each_digit(rt: HostRuntime) -> Result<(), Fail> {
-    assert_eq!(rt; OBJECT.len(), 85);
+    assert_case(&rt, OBJECT, OBJECT.len() == 85);
     for bytes in 41..86 {
         let front = OBJECT.get(..bytes).unwrap_or(&[]);
-        let words = match bytes {
-            41 => "read",
-            42..=44 => "hops 1",
-            _ => words_at_digit(bytes - 45),
-        };
-        is_said(&rt, rt.alloc(), front, words)?;
+        let is_said = is_said(rt.alloc(), front, words_in_object(bytes))?;
+        assert_case(&rt, front, is_said);
     }
     Ok(())
 }

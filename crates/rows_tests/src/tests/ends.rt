@@ -1,6 +1,8 @@
 //! Where reading ends: at a refused row, and at a row too many.
 
+use super::assert_case;
 use cspf_rows::{MOST_ROWS, ReadError, RequestsError, RowError, read_journal, read_requests};
+use std::alloc::Global;
 use std::io;
 use std::io::Read;
 
@@ -56,7 +58,7 @@ const ASK: &[u8] = b"ask,8,1.1.1.1,2.2.2.2,0,0,0x0,0x0,0x0,\n";
 
 /// The rows at which the reading of requests ends, each with its error, or none where it is another
 /// kind than ask.
-const LAST: [(&[u8], Option<RowError>); 4] = [
+const LAST: &[(&[u8], Option<RowError>)] = &[
     (b"foo\n", Some(RowError::Kind)),
     (
         b"ask,08,1.1.1.1,2.2.2.2,0,0,0x0,0x0,0x0,\n",
@@ -74,34 +76,45 @@ fn at_row(error: Option<RowError>, row: u32) -> RequestsError {
     }
 }
 
+/// Whether requests end at this row with this error, of the row itself, and no row after it is read.
+fn end_at(alloc: Global, before: u32, last: &[u8], place: u32, error: RequestsError) -> bool {
+    let mut rows = RowByRow::new(ASK, before, last);
+    let found = read_requests(alloc, &mut rows).err();
+    found == Some(error) && rows.begun == place
+}
+
+/// How many requests come before the row, and its place.
+const PLACES: &[(u32, u32)] = &[(0, 1), (1, 2), (300, 301)];
+
 #[test]
 fn requests_end_at_a_refused_row(rt: HostRuntime) {
     for (last, error) in LAST {
-        for (before, place) in [(0, 1), (1, 2), (300, 301)] {
-            let mut rows = RowByRow::new(ASK, before, last);
-            let found = read_requests(rt.alloc(), &mut rows);
-            let found = (found.err(), rows.begun);
-            let wanted = (Some(at_row(error, place)), place);
-            assert_eq!(rt; found, wanted, "{last:?}");
+        for (before, place) in PLACES {
+            let error = at_row(*error, *place);
+            let ends = end_at(rt.alloc(), *before, last, *place, error);
+            assert_case(&rt, last, ends);
         }
     }
 }
 
 #[test]
 fn requests_end_at_a_row_too_many(rt: HostRuntime) {
-    let mut rows = RowByRow::new(ASK, MOST_ROWS, ASK);
-    let found = read_requests(rt.alloc(), &mut rows);
-    let found = (found.err(), rows.begun);
-    assert_eq!(rt; found, (Some(RequestsError::TooManyRows), MOST_ROWS + 1));
+    let (place, error) = (MOST_ROWS + 1, RequestsError::TooManyRows);
+    assert_case(&rt, ASK, end_at(rt.alloc(), MOST_ROWS, ASK, place, error));
 }
+
+/// Whether a journal of rows like this one has too many, and no row after those is read.
+fn has_too_many(alloc: Global, row: &[u8]) -> bool {
+    let mut rows = RowByRow::new(row, MOST_ROWS, b"end,1,0\n");
+    let found = read_journal(alloc, &mut rows).err();
+    found == Some(ReadError::TooManyRows) && rows.begun == MOST_ROWS + 1
+}
+
+const ROWS: &[&[u8]] = &[b"drop,1.1.1.1,10.0.0.1\n", b"foo\n"];
 
 #[test]
 fn a_journal_ends_at_a_row_too_many(rt: HostRuntime) {
-    for row in [b"drop,1.1.1.1,10.0.0.1\n".as_slice(), b"foo\n".as_slice()] {
-        let mut rows = RowByRow::new(row, MOST_ROWS, b"end,1,0\n");
-        let found = read_journal(rt.alloc(), &mut rows);
-        let found = (found.err(), rows.begun);
-        let wanted = (Some(ReadError::TooManyRows), MOST_ROWS + 1);
-        assert_eq!(rt; found, wanted, "{row:?}");
+    for row in ROWS {
+        assert_case(&rt, row, has_too_many(rt.alloc(), row));
     }
 }

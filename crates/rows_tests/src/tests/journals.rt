@@ -1,6 +1,6 @@
 //! Journals: their texts, read in pieces and cut at each byte, counted, and read where reading fails.
 
-use super::{by_bytes, failing, repeated};
+use super::{Pieces, assert_case, by_bytes, failing, has_text, repeated};
 use cspf_addr::{Addr, Mask};
 use cspf_model::{Batch, Change, Link};
 use cspf_rows::{Journal, MOST_ROWS, ReadError, Rest, batch_text, read_journal};
@@ -18,11 +18,16 @@ fn text_of(alloc: Global, journal: &Journal) -> Result<Vec<u8>, AllocError> {
     Ok(text)
 }
 
-/// The texts of the batches of a journal, and whether nothing is left after these.
-fn read_texts<R: Read + Drop>(alloc: Global, reader: R) -> Result<(Vec<u8>, bool), Fail> {
+/// Whether a reader gives a journal of batches with these texts, and then nothing is left, or not.
+fn is_journal<R: Read + Drop>(
+    alloc: Global,
+    reader: R,
+    batches: &[u8],
+    clean: bool,
+) -> Result<bool, Fail> {
     let journal = read_journal(alloc, reader)?;
-    let texts = text_of(alloc, &journal)?;
-    Ok((texts, journal.rest == Rest::Clean))
+    let is_clean = journal.rest == Rest::Clean;
+    Ok(text_of(alloc, &journal)?.as_slice() == batches && is_clean == clean)
 }
 
 /// The text of a batch of one link, 102 bytes.
@@ -46,9 +51,8 @@ fn one_put(alloc: Global) -> Result<Batch, Fail> {
 
 #[test]
 fn text_of_one_put(rt: HostRuntime) -> Result<(), Fail> {
-    let batch = one_put(rt.alloc())?;
-    let text = batch_text(rt.alloc(), &batch)?;
-    assert!(rt; text.as_slice() == ONE_PUT && text.len() == 102, "{text:?}");
+    let is_put = has_text(rt.alloc(), &one_put(rt.alloc())?, ONE_PUT)?;
+    assert_case(&rt, ONE_PUT, is_put && ONE_PUT.len() == 102);
     Ok(())
 }
 
@@ -109,7 +113,19 @@ fn three_batches(alloc: Global) -> Result<Vec<u8>, AllocError> {
     Ok(text)
 }
 
-/// The journal that is left of the text, where it is cut at each byte.
+/// Whether a text that is cut here is read as its whole batches.
+fn is_cut(
+    alloc: Global,
+    text: &[u8],
+    parts: &[(usize, usize, bool)],
+    cut: usize,
+) -> Result<bool, Fail> {
+    let (whole, clean) = whole_part(parts, cut);
+    let batches = text.get(..whole).unwrap_or(&[]);
+    is_journal(alloc, text.get(..cut).unwrap_or(&[]), batches, clean)
+}
+
+/// The text, cut at each byte.
 fn assert_cuts(
     rt: &impl Abort,
     alloc: Global,
@@ -117,13 +133,8 @@ fn assert_cuts(
     parts: &[(usize, usize, bool)],
 ) -> Result<(), Fail> {
     for cut in 0..=text.len() {
-        let (found, is_clean) = read_texts(alloc, text.get(..cut).unwrap_or(&[]))?;
-        let (whole, clean) = whole_part(parts, cut);
-        let wanted = text.get(..whole).unwrap_or(&[]);
-        assert!(rt;
-            found.as_slice() == wanted && is_clean == clean,
-            "cut at {cut}"
-        );
+        let front = text.get(..cut).unwrap_or(&[]);
+        assert_case(rt, front, is_cut(alloc, text, parts, cut)?);
     }
     Ok(())
 }
@@ -131,13 +142,18 @@ fn assert_cuts(
 #[test]
 fn batches_cut_at_each_byte(rt: HostRuntime) -> Result<(), Fail> {
     let text = three_batches(rt.alloc())?;
-    assert_eq!(rt; (text.len(), NODES.len()), (469, 115));
-    assert_cuts(&rt, rt.alloc(), &text, &THREE_BATCHES)?;
+    assert_case(&rt, &text, text.len() == 469);
+    assert_cuts(&rt, rt.alloc(), &text, &THREE_BATCHES)
+}
+
+#[test]
+fn nodes_cut_at_each_byte(rt: HostRuntime) -> Result<(), Fail> {
+    assert_case(&rt, NODES, NODES.len() == 115);
     assert_cuts(&rt, rt.alloc(), NODES, &NODE_BATCHES)
 }
 
 /// Whether a router has transit, and the text of a batch that says so of 1.1.1.1.
-const ONE_NODE: [(bool, &[u8]); 2] = [
+const ONE_NODE: &[(bool, &[u8])] = &[
     (false, b"node,1.1.1.1,0\nend,1,1\n"),
     (true, b"node,1.1.1.1,1\nend,1,1\n"),
 ];
@@ -163,13 +179,17 @@ fn is_one_node(journal: &Journal, transit: bool) -> bool {
     batch.number == 1 && batch.changes.as_slice() == [node(transit)].as_slice()
 }
 
+/// Whether that batch has this text, and is read from it.
+fn has_node_text(alloc: Global, transit: bool, text: &[u8]) -> Result<bool, Fail> {
+    let is_text = has_text(alloc, &one_node(alloc, transit)?, text)?;
+    Ok(is_text && is_one_node(&read_journal(alloc, text)?, transit))
+}
+
 #[test]
 fn a_journal_of_one_node(rt: HostRuntime) -> Result<(), Fail> {
-    for (transit, wanted) in ONE_NODE {
-        let text = batch_text(rt.alloc(), &one_node(rt.alloc(), transit)?)?;
-        assert!(rt; text.as_slice() == wanted && text.len() == 23, "{text:?}");
-        let journal = read_journal(rt.alloc(), wanted)?;
-        assert!(rt; is_one_node(&journal, transit), "{transit}");
+    for (transit, text) in ONE_NODE {
+        let is_node = has_node_text(rt.alloc(), *transit, text)?;
+        assert_case(&rt, text, is_node && text.len() == 23);
     }
     Ok(())
 }
@@ -180,7 +200,7 @@ node,2.2.2.2,0\ndrop,1.1.1.1,10.0.12.1\nnode,1.1.1.1,1\nend,2,3\n\
 node,255.255.255.255,1\nend,3,1\n";
 
 /// Journals, the texts of their batches, and whether nothing is left after these.
-const JOURNALS: [(&[u8], &[u8], bool); 20] = [
+const JOURNALS: &[(&[u8], &[u8], bool)] = &[
     (b"", b"", true),
     (b"end,1,0", b"end,1,0\n", true),
     (b"end,1,0\nend,2,0\n", b"end,1,0\nend,2,0\n", true),
@@ -224,62 +244,73 @@ const JOURNALS: [(&[u8], &[u8], bool); 20] = [
     (b"node,1.1.1.1,2\nend,1,1\nend,1,0\n", b"", false),
 ];
 
-fn assert_journals(
-    rt: &impl Abort,
-    alloc: Global,
-    journals: &[(&[u8], &[u8], bool)],
-) -> Result<(), Fail> {
-    for &(text, batches, clean) in journals {
-        let (found, is_clean) = read_texts(alloc, by_bytes(text))?;
-        assert!(rt;
-            found.as_slice() == batches && is_clean == clean,
-            "{text:?}"
-        );
+#[test]
+fn journals_in_pieces(rt: HostRuntime) -> Result<(), Fail> {
+    for (text, batches, clean) in JOURNALS {
+        let is_journal = is_journal(rt.alloc(), by_bytes(text), batches, *clean)?;
+        assert_case(&rt, text, is_journal);
     }
     Ok(())
 }
 
-#[test]
-fn journals_in_pieces(rt: HostRuntime) -> Result<(), Fail> {
-    assert_journals(&rt, rt.alloc(), &JOURNALS)
+/// A journal of a batch of three changes.
+const CHANGES: &[u8] =
+    b"drop,1.1.1.1,0.0.0.0\ndrop,1.1.1.1,0.0.0.1\ndrop,1.1.1.1,0.0.0.2\nend,1,3\n";
+
+/// Whether a journal has one batch of three changes, which take the room of three.
+fn takes_three(journal: &Journal) -> bool {
+    match journal.batches.as_slice() {
+        [batch] => batch.changes.len() == 3 && batch.changes.capacity() == 3,
+        _ => false,
+    }
 }
 
 #[test]
 fn changes_take_the_room_they_need(rt: HostRuntime) -> Result<(), Fail> {
-    let text = b"drop,1.1.1.1,0.0.0.0\ndrop,1.1.1.1,0.0.0.1\ndrop,1.1.1.1,0.0.0.2\nend,1,3\n";
-    let journal = read_journal(rt.alloc(), text.as_slice())?;
-    assert_eq!(rt; journal.batches.len(), 1);
-    let changes = &journal.batches[0].changes;
-    assert_eq!(rt; (changes.len(), changes.capacity()), (3, 3));
+    let takes_three = takes_three(&read_journal(rt.alloc(), CHANGES)?);
+    assert_case(&rt, CHANGES, takes_three);
     Ok(())
 }
 
 /// A row that is read as a change.
 const CHANGE: &[u8] = b"drop,1.1.1.1,10.0.0.1\n";
 
+/// Whether a journal of no batch is torn.
+fn is_torn(journal: &Journal) -> bool {
+    journal.batches.is_empty() && journal.rest == Rest::Torn
+}
+
 #[test]
 fn rows_of_a_journal_are_counted(rt: HostRuntime) -> Result<(), Fail> {
-    let most = read_journal(rt.alloc(), repeated(CHANGE, MOST_ROWS))?;
-    assert_eq!(rt; (most.batches.len(), most.rest), (0, Rest::Torn));
+    let is_torn = is_torn(&read_journal(rt.alloc(), repeated(CHANGE, MOST_ROWS))?);
+    assert_case(&rt, CHANGE, is_torn);
     Ok(())
+}
+
+/// Why no journal is read.
+fn error_of(alloc: Global, reader: Pieces<'_>) -> Option<ReadError> {
+    read_journal(alloc, reader).err()
 }
 
 #[test]
 fn one_row_more_than_is_read(rt: HostRuntime) {
-    for row in [CHANGE, b"foo\n"] {
-        let more = read_journal(rt.alloc(), repeated(row, MOST_ROWS + 1));
-        assert_eq!(rt; more.err(), Some(ReadError::TooManyRows), "{row:?}");
+    for row in [CHANGE, b"foo\n"].as_slice() {
+        let error = error_of(rt.alloc(), repeated(row, MOST_ROWS + 1));
+        assert_case(&rt, row, error == Some(ReadError::TooManyRows));
     }
 }
 
+/// Rows after which reading fails.
+const FAILING: &[&[u8]] = &[
+    b"end,1,0\nend,2,0\n",
+    b"drop,1.1.1.1,0.0.0.0\nend,1,1\ndrop,1.1.1.1,0.0.0.1\nend,2,1\n",
+    b"end,1,0\nfoo\n",
+];
+
 #[test]
 fn readers_of_journals_that_fail(rt: HostRuntime) {
-    for rows in [
-        b"end,1,0\nend,2,0\n".as_slice(),
-        b"drop,1.1.1.1,0.0.0.0\nend,1,1\ndrop,1.1.1.1,0.0.0.1\nend,2,1\n".as_slice(),
-        b"end,1,0\nfoo\n".as_slice(),
-    ] {
-        let journal = read_journal(rt.alloc(), failing(rows));
-        assert_eq!(rt; journal.err(), Some(ReadError::Device), "{rows:?}");
+    for rows in FAILING {
+        let error = error_of(rt.alloc(), failing(rows));
+        assert_case(&rt, rows, error == Some(ReadError::Device));
     }
 }

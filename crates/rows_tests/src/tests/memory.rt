@@ -1,6 +1,9 @@
 //! Readers while memory is refused: each call answers in full or that memory is refused, and it
 //! answers in full once there is memory again.
 
+ghost use Rattle.cspf_rows.specs.GivenBatches.{CanRead};
+
+use super::{assert_case, empty_batch};
 use cspf_addr::{Addr, Hops, Mask, parse_hops};
 use cspf_model::{Batch, Change, Link, Request, RequestError};
 use cspf_rows::{
@@ -46,25 +49,35 @@ fn journals_while_memory_is_refused(rt: HostRuntime) -> Result<(), Fail> {
     let (from, local) = (Addr::new(0x0101_0101), Addr::new(0x0a00_0c01));
     let (to, remote) = (Addr::new(0x0202_0202), Addr::new(0x0a00_0c02));
     let link = Link::new(from, local, to, remote, 10, Mask::new(1), [1000; 8])?;
-    assert!(rt; is_read_at_last(rt.alloc(), &link));
-    assert!(rt; is_given_at_last(rt.alloc(), &link));
+    assert_case(&rt, b"read", is_read_at_last(rt.alloc(), &link));
+    assert_case(&rt, b"given", is_given_at_last(rt.alloc(), &link));
     Ok(())
 }
 
-/// Whether a reader of the journal gives its batch, and comes to a torn rest.
-fn is_given(alloc: Global, link: &Link) -> Result<bool, ReadError> {
-    let mut journal = JournalReader::new(alloc, TORN);
-    let mut batch = Batch {
-        number: 0,
-        changes: Vec::new(alloc),
-    };
-    if journal.read_batch(&mut batch)? != JournalStep::Batch || batch.number != 1 {
+/// Whether a reader gives the journal's batch, and comes to a torn rest.
+fn gives(
+    journal: &mut JournalReader<&[u8]>,
+    batch: &mut Batch,
+    link: &Link,
+) -> Result<bool, ReadError>
+    requires { CanRead journal.old }
+{
+    if journal.read_batch(batch)? != JournalStep::Batch || batch.number != 1 {
         return Ok(false);
     }
     if batch.changes.as_slice() != [Change::Put(*link)].as_slice() {
         return Ok(false);
     }
-    Ok(journal.read_batch(&mut batch)? == JournalStep::End(Rest::Torn))
+    Ok(journal.read_batch(batch)? == JournalStep::End(Rest::Torn))
+}
+
+/// Whether a reader of the journal does so.
+fn is_given(alloc: Global, link: &Link) -> Result<bool, ReadError> {
+    gives(
+        &mut JournalReader::new(alloc, TORN),
+        &mut empty_batch(alloc),
+        link,
+    )
 }
 
 /// Whether the batch is given, at the second try where memory is there again, or memory is refused
@@ -123,6 +136,6 @@ fn requests_while_memory_is_refused(rt: HostRuntime) -> Result<(), Fail> {
         request(8, hops)?,
         request(9, hops)?,
     ];
-    assert!(rt; are_read_at_last(rt.alloc(), &wanted));
+    assert_case(&rt, b"requests", are_read_at_last(rt.alloc(), &wanted));
     Ok(())
 }

@@ -1,5 +1,6 @@
 //! Whole texts that are written in pieces, and what is written before a fault.
 
+use super::assert_case;
 use cspf_rows::put_all;
 use std::alloc::Global;
 use std::io;
@@ -8,7 +9,7 @@ use std::io::{ErrorKind, Write};
 const TEXT: &[u8] = b"version 1\nask 8 v1 none\n";
 
 /// How a write goes wrong.
-#[derive(Clone, Copy, Debug)]
+#[derive(Clone, Copy)]
 enum Fault {
     Fail(ErrorKind),
     TakeNone,
@@ -54,8 +55,15 @@ impl Write for Faulty {
     }
 }
 
-/// What is answered by a writer that takes `width` bytes a write up to `most`, and the writer.
-fn put(alloc: Global, width: usize, most: usize, fault: Fault) -> (Result<(), usize>, Faulty) {
+/// Whether a writer that takes `width` bytes a write up to `most` is answered for so, in as many writes,
+/// and holds as much of the text.
+fn is_put(
+    alloc: Global,
+    width: usize,
+    most: usize,
+    fault: Fault,
+    (wanted, writes): (Result<(), usize>, usize),
+) -> bool {
     let mut writer = Faulty {
         held: Vec::new(alloc),
         width,
@@ -66,38 +74,44 @@ fn put(alloc: Global, width: usize, most: usize, fault: Fault) -> (Result<(), us
         flushes: 0,
     };
     let found = put_all(&mut writer, TEXT);
-    (found, writer)
+    let is_front = TEXT.get(..most) == Some(writer.held.as_slice());
+    found == wanted && is_front && writer.writes == writes && writer.flushes == 0
 }
+
+/// How many bytes are taken a write, and how many writes that makes.
+const WIDTHS: &[(usize, usize)] = &[(1, 24), (3, 8), (23, 2), (24, 1), (25, 1)];
 
 #[test]
 fn whole_texts(rt: HostRuntime) {
-    for (width, writes) in [(1, 24), (3, 8), (23, 2), (24, 1), (25, 1)] {
-        let (found, writer) = put(rt.alloc(), width, 24, Fault::TakeNone);
-        let is_whole = found == Ok(()) && writer.held.as_slice() == TEXT;
-        let found = (is_whole, writer.writes, writer.flushes);
-        assert_eq!(rt; found, (true, writes, 0), "{width} bytes a write");
+    for (width, writes) in WIDTHS {
+        let wanted = (Ok(()), *writes);
+        let is_put = is_put(rt.alloc(), *width, 24, Fault::TakeNone, wanted);
+        assert_case(&rt, TEXT, is_put);
     }
     let mut held = Vec::new(rt.alloc());
-    assert!(rt; put_all(&mut held, b"") == Ok(()) && held.is_empty());
+    let is_empty = put_all(&mut held, b"") == Ok(()) && held.is_empty();
+    assert_case(&rt, b"", is_empty);
 }
+
+const FAULTS: &[Fault] = &[
+    Fault::TakeNone,
+    Fault::Fail(ErrorKind::Interrupted),
+    Fault::Fail(ErrorKind::WouldBlock),
+    Fault::Fail(ErrorKind::TimedOut),
+    Fault::Fail(ErrorKind::BrokenPipe),
+];
+
+/// How many bytes are taken by three a write before the fault, and how many writes that makes with it.
+const FRONTS: &[(usize, usize)] = &[(0, 1), (3, 2), (7, 4), (21, 8), (23, 9)];
 
 /// Nothing is written after a write that goes wrong, though it would be taken, and nothing is
 /// flushed.
 #[test]
 fn no_write_behind_a_fault(rt: HostRuntime) {
-    let faults = [
-        Fault::TakeNone,
-        Fault::Fail(ErrorKind::Interrupted),
-        Fault::Fail(ErrorKind::WouldBlock),
-        Fault::Fail(ErrorKind::TimedOut),
-        Fault::Fail(ErrorKind::BrokenPipe),
-    ];
-    for fault in faults {
-        for (most, writes) in [(0, 1), (3, 2), (7, 4), (21, 8), (23, 9)] {
-            let (found, writer) = put(rt.alloc(), 3, most, fault);
-            let is_front = found == Err(most) && writer.held.as_slice() == &TEXT[..most];
-            let found = (is_front, writer.writes, writer.flushes);
-            assert_eq!(rt; found, (true, writes, 0), "{fault:?} after {most}");
+    for fault in FAULTS {
+        for (most, writes) in FRONTS {
+            let is_put = is_put(rt.alloc(), 3, *most, *fault, (Err(*most), *writes));
+            assert_case(&rt, TEXT.get(..*most).unwrap_or(&[]), is_put);
         }
     }
 }

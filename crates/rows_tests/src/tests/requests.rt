@@ -1,10 +1,9 @@
 //! Requests that are read, refused and counted, and readers that fail.
 
-use super::{by_bytes, failing, repeated};
+use super::{Pieces, assert_case, by_bytes, failing, repeated};
 use cspf_model::Request;
 use cspf_rows::{MOST_ROWS, RequestsError, RowError, read_requests};
 use std::alloc::Global;
-use std::process::Abort;
 use std::test::Fail;
 
 /// Two requests, the second without a line feed.
@@ -14,33 +13,35 @@ ask,8,2.2.2.2,1.1.1.1,7,0,0x0,0x0,0x0,";
 /// The id, the setup priority and the bandwidth of each.
 const WANTED: [(u64, u8, u64); 2] = [(7, 0, 1000), (8, 7, 0)];
 
-/// The text is read as these requests.
-fn assert_requests(
-    rt: &impl Abort,
-    alloc: Global,
-    text: &[u8],
-    wanted: &[(u64, u8, u64)],
-) -> Result<(), Fail> {
-    let found = read_requests(alloc, by_bytes(text))?;
-    assert_eq!(rt; found.len(), wanted.len());
-    for (request, wanted) in found.iter().zip(wanted) {
-        let numbers = (request.id, request.setup, request.bandwidth);
-        assert_eq!(rt; numbers, *wanted);
+/// Whether the requests have these numbers.
+fn have_numbers(requests: &[Request], wanted: &[(u64, u8, u64)]) -> bool {
+    for (request, (id, setup, bandwidth)) in requests.iter().zip(wanted) {
+        if request.id != *id || request.setup != *setup || request.bandwidth != *bandwidth {
+            return false;
+        }
     }
-    Ok(())
+    requests.len() == wanted.len()
 }
+
+/// Texts, and how many of the requests are in each.
+const TEXTS: &[(&[u8], usize)] = &[
+    (b"\n", 0),
+    (b"ask,7,1.1.1.1,2.2.2.2,0,1000,0x0,0x0,0x0,", 1),
+    (ASKS, 2),
+];
 
 #[test]
 fn requests_in_pieces(rt: HostRuntime) -> Result<(), Fail> {
-    let texts = [b"\n".as_slice(), &ASKS[..41], ASKS];
-    for (count, text) in texts.iter().enumerate() {
-        assert_requests(&rt, rt.alloc(), text, &WANTED[..count])?;
+    for (text, count) in TEXTS {
+        let found = read_requests(rt.alloc(), by_bytes(text))?;
+        let wanted = WANTED.get(..*count).unwrap_or(&[]);
+        assert_case(&rt, text, have_numbers(&found, wanted));
     }
     Ok(())
 }
 
 /// Streams of requests, and how they are refused.
-const REFUSED: [(&[u8], RequestsError); 6] = [
+const REFUSED: &[(&[u8], RequestsError)] = &[
     (
         b"put,1.1.1.1,10.0.12.1,2.2.2.2,10.0.12.2,10,0x1,\
 1000,1000,1000,1000,1000,1000,1000,1000",
@@ -74,11 +75,16 @@ const REFUSED: [(&[u8], RequestsError); 6] = [
     ),
 ];
 
+/// Why no requests are read.
+fn error_of(alloc: Global, reader: Pieces<'_>) -> Option<RequestsError> {
+    read_requests(alloc, reader).err()
+}
+
 #[test]
 fn refused_requests(rt: HostRuntime) {
     for (text, error) in REFUSED {
-        let found = read_requests(rt.alloc(), by_bytes(text));
-        assert_eq!(rt; found.err(), Some(error), "{text:?}");
+        let found = error_of(rt.alloc(), by_bytes(text));
+        assert_case(&rt, text, found == Some(*error));
     }
 }
 
@@ -87,13 +93,15 @@ const ASK: &[u8] = b"ask,8,1.1.1.1,2.2.2.2,0,0,0x0,0x0,0x0,\n";
 
 #[test]
 fn requests_are_counted(rt: HostRuntime) -> Result<(), Fail> {
-    let most = read_requests(rt.alloc(), repeated(ASK, MOST_ROWS))?;
-    assert_eq!(rt; most.len(), MOST_ROWS as usize);
+    let most = read_requests(rt.alloc(), repeated(ASK, MOST_ROWS))?.len();
+    assert_case(&rt, ASK, most == MOST_ROWS as usize);
+    let more = error_of(rt.alloc(), repeated(ASK, MOST_ROWS + 1));
+    assert_case(&rt, ASK, more == Some(RequestsError::TooManyRows));
     Ok(())
 }
 
 /// Streams that fail at their end, and how reading their requests ends.
-const FAILING: [(&[u8], RequestsError); 2] = [
+const FAILING: &[(&[u8], RequestsError)] = &[
     (
         b"ask,7,1.1.1.1,2.2.2.2,0,0,0x0,0x0,0x0,\n",
         RequestsError::Device,
@@ -110,9 +118,7 @@ const FAILING: [(&[u8], RequestsError); 2] = [
 #[test]
 fn readers_of_requests_that_fail(rt: HostRuntime) {
     for (text, error) in FAILING {
-        let found = read_requests(rt.alloc(), failing(text));
-        assert_eq!(rt; found.err(), Some(error), "{text:?}");
+        let found = error_of(rt.alloc(), failing(text));
+        assert_case(&rt, text, found == Some(*error));
     }
-    let more = read_requests(rt.alloc(), repeated(ASK, MOST_ROWS + 1));
-    assert_eq!(rt; more.err(), Some(RequestsError::TooManyRows));
 }

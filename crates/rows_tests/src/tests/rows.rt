@@ -1,9 +1,10 @@
 //! What each kind of row says, and why others are refused.
 
-use cspf_addr::Addr;
-use cspf_model::{Link, Request};
+use super::assert_case;
+use cspf_addr::{Addr, Mask, parse_hops};
+use cspf_model::{Link, LinkError, Request};
 use cspf_rows::{Row, RowError};
-use csv::{ByteRecord, Reader, ReaderBuilder};
+use csv::{ByteRecord, ReaderBuilder};
 use std::alloc::{AllocError, Global};
 use std::process::Abort;
 use std::test::Fail;
@@ -120,23 +121,35 @@ fn case(line: &str) -> (&str, &[u8]) {
     (words, row.as_bytes())
 }
 
+/// The row of a text of one.
+fn only_row(alloc: Global, text: &[u8]) -> Result<Result<Row, RowError>, csv::Error> {
+    let mut fields = ByteRecord::new(alloc);
+    ReaderBuilder::new()
+        .has_headers(false)
+        .flexible(true)
+        .from_reader(alloc, text)
+        .read_byte_record(&mut fields)?;
+    Ok(Row::read(&fields))
+}
+
 /// The words of a row's refusal, `read` where there is none.
-pub(super) fn words_of(alloc: Global, read: Result<Row, RowError>) -> Result<String, AllocError> {
+fn words_of(alloc: Global, read: Result<Row, RowError>) -> Result<String, AllocError> {
     match read {
         Ok(_) => format!(in alloc; "read"),
         Err(error) => error.to_string(alloc),
     }
 }
 
-/// The text of the rows of a table, a line each.
-fn text_of_rows(alloc: Global, table: &str) -> Result<Vec<u8>, AllocError> {
-    let mut text = Vec::new(alloc);
-    for line in table.lines() {
-        let (_, row) = case(line);
-        for byte in row {
-            text.extend_from_slice(spelled(byte))?;
-        }
-        text.push(b'\n')?;
+/// Whether the row of a text is read or refused with these words.
+pub(super) fn is_said(alloc: Global, text: &[u8], words: &str) -> Result<bool, Fail> {
+    Ok(words_of(alloc, only_row(alloc, text)?)?.as_str() == words)
+}
+
+/// The text of a row of a table, after a front.
+fn text_of(alloc: Global, front: &[u8], row: &[u8]) -> Result<Vec<u8>, AllocError> {
+    let mut text = Vec::from_slice(alloc, front)?;
+    for byte in row {
+        text.extend_from_slice(spelled(byte))?;
     }
     Ok(text)
 }
@@ -153,142 +166,96 @@ fn spelled(byte: &u8) -> &[u8] {
     }
 }
 
-/// A reader of records with no header and any number of fields.
-fn records(alloc: Global, text: &[u8]) -> Reader<&[u8]> {
-    ReaderBuilder::new()
-        .has_headers(false)
-        .flexible(true)
-        .from_reader(alloc, text)
-}
-
-/// Whether there is one more record, which is read.
-fn read_fields(reader: &mut Reader<&[u8]>, fields: &mut ByteRecord) -> Result<bool, csv::Error> {
-    reader.read_byte_record(fields)
-}
-
-/// The rows of a table are read or refused as its lines say.
-fn assert_table(rt: &impl Abort, alloc: Global, table: &str) -> Result<(), Fail> {
-    let text = text_of_rows(alloc, table)?;
-    let mut reader = records(alloc, &text);
-    let mut fields = ByteRecord::new(alloc);
+/// The rows of a table, each after a front, are read or refused as its lines say.
+fn assert_table(rt: &impl Abort, alloc: Global, front: &[u8], table: &str) -> Result<(), Fail> {
     for line in table.lines() {
-        let (words, _) = case(line);
-        assert!(rt; read_fields(&mut reader, &mut fields)?);
-        let found = words_of(alloc, Row::read(&fields))?;
-        assert!(rt; found.as_str() == words, "{line}: {found}");
+        let (words, row) = case(line);
+        let is_said = is_said(alloc, &text_of(alloc, front, row)?, words)?;
+        assert_case(rt, line.as_bytes(), is_said);
     }
-    assert!(rt; !read_fields(&mut reader, &mut fields)?);
     Ok(())
 }
 
 #[test]
 fn rows_and_refusals(rt: HostRuntime) -> Result<(), Fail> {
-    assert_table(&rt, rt.alloc(), ROWS)
-}
-
-/// The row of a text of one.
-pub(super) fn only_row(alloc: Global, text: &[u8]) -> Result<Result<Row, RowError>, csv::Error> {
-    let mut fields = ByteRecord::new(alloc);
-    records(alloc, text).read_byte_record(&mut fields)?;
-    Ok(Row::read(&fields))
-}
-
-/// The link of a row that is a put.
-fn put_link(rt: &impl Abort, alloc: Global, text: &[u8]) -> Result<Link, Fail> {
-    let Row::Put(link) = only_row(alloc, text)?? else {
-        panic!(rt; "no put");
-    };
-    Ok(link)
-}
-
-#[test]
-fn what_a_put_says(rt: HostRuntime) -> Result<(), Fail> {
-    let text =
-        b"put,1.2.3.4,10.0.12.1,2.2.2.2,10.0.12.2,4294967295,0xA,1,2,3,4,5,6,7,18446744073709551615";
-    let link = put_link(&rt, rt.alloc(), text)?;
-    let from = (link.from.number(), link.local.number());
-    let to = (link.to.number(), link.remote.number());
-    assert_eq!(rt;
-        (from, to),
-        ((0x0102_0304, 0x0a00_0c01), (0x0202_0202, 0x0a00_0c02))
-    );
-    assert_eq!(rt; (link.metric, link.group.bits()), (u32::MAX, 10));
-    assert_eq!(rt; link.free, [1, 2, 3, 4, 5, 6, 7, u64::MAX]);
-    Ok(())
-}
-
-#[test]
-fn what_other_changes_and_an_end_say(rt: HostRuntime) -> Result<(), Fail> {
-    let router = Addr::new(0x0102_0304);
-    let (from, local) = (router, Addr::new(0x0a00_0c01));
-    let (number, count) = (7, u32::MAX);
-    let rows: [(&[u8], Row); 4] = [
-        (b"drop,1.2.3.4,10.0.12.1", Row::Remove { from, local }),
-        (b"end,7,4294967295", Row::End { number, count }),
-        (
-            b"node,1.2.3.4,0",
-            Row::Node {
-                router,
-                transit: false,
-            },
-        ),
-        (
-            b"node,1.2.3.4,1",
-            Row::Node {
-                router,
-                transit: true,
-            },
-        ),
-    ];
-    for (text, row) in &rows {
-        let found = only_row(rt.alloc(), text)?;
-        assert!(rt; found == Ok(*row), "{text:?}");
-    }
-    Ok(())
-}
-
-/// The request of a row that is an ask.
-fn asked(rt: &impl Abort, alloc: Global, text: &[u8]) -> Result<Request, Fail> {
-    let Row::Ask(request) = only_row(alloc, text)?? else {
-        panic!(rt; "no ask");
-    };
-    Ok(request)
-}
-
-#[test]
-fn what_an_ask_says(rt: HostRuntime) -> Result<(), Fail> {
-    let text = b"ask,9,1.2.3.4,2.2.2.2,7,1000,0x1,0x2,0x4,10.9.0.1/16s 4.4.4.4/32l";
-    let request = asked(&rt, rt.alloc(), text)?;
-    let ends = (request.from.number(), request.to.number());
-    let numbers = (request.id, request.setup, request.bandwidth, ends);
-    assert_eq!(rt; numbers, (9, 7, 1000, (0x0102_0304, 0x0202_0202)));
-    let (exclude_any, include_any) = (request.exclude_any.bits(), request.include_any.bits());
-    let include_all = request.include_all.bits();
-    assert_eq!(rt; [exclude_any, include_any, include_all], [1, 2, 4]);
-    assert_eq!(rt; request.hops.len(), 2);
-    Ok(())
+    assert_table(&rt, rt.alloc(), b"", ROWS)
 }
 
 #[test]
 fn objects_and_refusals(rt: HostRuntime) -> Result<(), Fail> {
-    for line in OBJECTS.lines() {
-        let (words, hops) = case(line);
-        let mut row = Vec::from_slice(rt.alloc(), b"ask,1,1.1.1.1,2.2.2.2,7,0,0x0,0x0,0x0,")?;
-        for byte in hops {
-            row.extend_from_slice(spelled(byte))?;
-        }
-        let found = words_of(rt.alloc(), only_row(rt.alloc(), &row)?)?;
-        assert!(rt; found.as_str() == words, "{line}: {found}");
-    }
+    let front = b"ask,1,1.1.1.1,2.2.2.2,7,0,0x0,0x0,0x0,";
+    assert_table(&rt, rt.alloc(), front, OBJECTS)
+}
+
+/// The row of a text is read as this one.
+fn assert_row(rt: &impl Abort, alloc: Global, text: &[u8], row: Row) -> Result<(), Fail> {
+    let found = only_row(alloc, text)?;
+    assert_case(rt, text, found == Ok(row));
     Ok(())
 }
 
+const ROUTER: u32 = 0x0102_0304; // 1.2.3.4
+
+const INTERFACE: u32 = 0x0a00_0c01; // 10.0.12.1
+
+/// A put from that router by that interface.
+const PUT: &[u8] =
+    b"put,1.2.3.4,10.0.12.1,2.2.2.2,10.0.12.2,4294967295,0xA,1,2,3,4,5,6,7,18446744073709551615";
+
+/// What it says.
+fn put() -> Result<Row, LinkError> {
+    let (from, local) = (Addr::new(ROUTER), Addr::new(INTERFACE));
+    let (to, remote) = (Addr::new(0x0202_0202), Addr::new(0x0a00_0c02));
+    let (group, free) = (Mask::new(10), [1, 2, 3, 4, 5, 6, 7, u64::MAX]);
+    let link = Link::new(from, local, to, remote, u32::MAX, group, free)?;
+    Ok(Row::Put(link))
+}
+
 #[test]
-fn hops_of_an_object(rt: HostRuntime) -> Result<(), Fail> {
-    let text =
-        b"ask,9,1.2.3.4,2.2.2.2,7,0,0x0,0x0,0x0,ero:0014140181080AFfffff08010108040404042000";
-    let request = asked(&rt, rt.alloc(), text)?;
-    let hops = cspf_addr::parse_hops(b"10.0.0.0/8l 4.4.4.4/32s")?;
-    assert!(rt; request.hops == hops);
-    Ok(())
+fn what_changes_and_an_end_say(rt: HostRuntime) -> Result<(), Fail> {
+    let (from, local) = (Addr::new(ROUTER), Addr::new(INTERFACE));
+    let router = from;
+    let (number, count) = (7, u32::MAX);
+    let drop = Row::Remove { from, local };
+    let transit = false;
+    let stub = Row::Node { router, transit };
+    let transit = true;
+    assert_row(&rt, rt.alloc(), PUT, put()?)?;
+    assert_row(&rt, rt.alloc(), b"drop,1.2.3.4,10.0.12.1", drop)?;
+    assert_row(
+        &rt,
+        rt.alloc(),
+        b"end,7,4294967295",
+        Row::End { number, count },
+    )?;
+    assert_row(&rt, rt.alloc(), b"node,1.2.3.4,0", stub)?;
+    assert_row(
+        &rt,
+        rt.alloc(),
+        b"node,1.2.3.4,1",
+        Row::Node { router, transit },
+    )
+}
+
+/// What a row says that asks for a route from that router with these masks and hops.
+fn ask(bandwidth: u64, [exclude, any, all]: [u32; 3], hops: &[u8]) -> Result<Row, Fail> {
+    let (from, to) = (Addr::new(ROUTER), Addr::new(0x0202_0202));
+    let hops = parse_hops(hops)?;
+    let (exclude, any, all) = (Mask::new(exclude), Mask::new(any), Mask::new(all));
+    let request = Request::new(9, from, to, 7, bandwidth, exclude, any, all, hops)?;
+    Ok(Row::Ask(request))
+}
+
+/// A request with a list of hops, and one with an object.
+const LIST: &[u8] = b"ask,9,1.2.3.4,2.2.2.2,7,1000,0x1,0x2,0x4,10.9.0.1/16s 4.4.4.4/32l";
+
+const OBJECT: &[u8] =
+    b"ask,9,1.2.3.4,2.2.2.2,7,0,0x0,0x0,0x0,ero:0014140181080AFfffff08010108040404042000";
+
+#[test]
+fn what_an_ask_says(rt: HostRuntime) -> Result<(), Fail> {
+    let (list, object) = (b"10.9.0.1/16s 4.4.4.4/32l", b"10.0.0.0/8l 4.4.4.4/32s");
+    assert_case(&rt, list, parse_hops(list)?.len() == 2);
+    assert_row(&rt, rt.alloc(), LIST, ask(1000, [1, 2, 4], list)?)?;
+    assert_row(&rt, rt.alloc(), OBJECT, ask(0, [0, 0, 0], object)?)
 }
