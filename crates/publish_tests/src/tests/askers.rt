@@ -2,10 +2,11 @@
 ghost use Rattle.std.specs.Prelude.{◌≡◌, ◌≤◌, length};
 
 use super::fixtures::{
-    ONE, TWO, apply_empty, back, batch, batch_and_request, first_batch, opened, request, route_of,
+    ONE, Said, TWO, apply_empty, assert_case, back, batch, batch_and_request, first_batch,
+    is_answered, opened, request, says,
 };
-use cspf_model::{Batch, Change, Outcome, Request};
-use cspf_publish::{Answer, AskError, Asker, Publisher, Told, open};
+use cspf_model::{Batch, Change, Request};
+use cspf_publish::{AskError, Asker, Publisher, Told, open};
 use std::alloc::Global;
 use std::io::Write;
 use std::process::Abort;
@@ -13,16 +14,6 @@ use std::sync::Wait;
 use std::test::Fail;
 use std::thread;
 use std::thread::Threads;
-
-/// Whether the answer to request 8 is that there is no route at version 2.
-fn has_no_route(answer: &Result<Answer, AskError>) -> bool {
-    match answer {
-        Ok(answer) => {
-            answer.id == 8 && answer.version == 2 && matches!(answer.outcome, Outcome::NoRoute)
-        }
-        Err(_) => false,
-    }
-}
 
 /// A publisher without a batch, and its two askers.
 fn opened_for_two<R: Wait + Abort>(rt: &R, alloc: Global) -> (Publisher<Vec<u8>>, Asker, Asker)
@@ -60,26 +51,31 @@ fn told_out_of_order<W: Write, R: Wait>(
     (told, (asker.seen(), asker.meet(t3), asker.meet(t2)))
 }
 
-/// An asker that hears nothing asks at version 2: whether it is answered at that version, and what
-/// it knows before and after.
-fn asked_untold(alloc: Global, asker: &mut Asker, request: &Request) -> (u32, bool, u32)
+/// Whether an asker that hears nothing finds no route at version 2, and knows of it then.
+fn asks_untold(alloc: Global, asker: &mut Asker, request: &Request) -> bool
     ensures { asker.new.source ≡ asker.old.source }
 {
     let before = asker.seen();
-    let answer = asker.ask(alloc, request);
-    (before, has_no_route(&answer), asker.seen())
+    let is_answered = is_answered(alloc, asker, request, 2, Said::NoRoute);
+    before == 0 && is_answered && asker.seen() == 2
+}
+
+/// Whether an asker finds no entry, or no route at version 2, once the publisher is closed.
+fn is_closed(alloc: Global, asker: &mut Asker, request: &Request) -> bool {
+    let closed = asker.ask(alloc, request);
+    matches!(closed, Err(AskError::NoEntry)) || says(&closed, request.id, 2, Said::NoRoute)
 }
 
 /// One asker hears of versions in and out of order, the other hears of none and asks.
 fn tells_and_asks<R: Wait + Abort>(rt: &R, alloc: Global, first: &Batch, request: &Request) {
     let (mut publisher, mut asker, mut untold) = opened_for_two(rt, alloc);
     let versions = told_out_of_order(rt, alloc, &mut publisher, &mut asker, first);
-    let asked = asked_untold(alloc, &mut untold, request);
+    let asks = asks_untold(alloc, &mut untold, request);
     let last = untold.meet(publisher.tell());
     publisher.close(rt);
-    assert!(rt; versions == ((1, 1, 2), (1, 2, 2)) && asked == (0, true, 2) && last == 2);
-    let closed = untold.ask(alloc, request);
-    assert!(rt; matches!(closed, Err(AskError::NoEntry)) || has_no_route(&closed));
+    let are_told = versions == ((1, 1, 2), (1, 2, 2)) && asks && last == 2;
+    let holds = are_told && is_closed(alloc, &mut untold, request);
+    assert_case(rt, "told and untold at version", 2, holds);
 }
 
 #[test]
@@ -102,17 +98,25 @@ fn read_after<W: Write>(publisher: &Publisher<W>, asker: &mut Asker) -> u32
     asker.catch_up(&mut steps)
 }
 
-/// An asker that is told nothing reads the count at versions 0, 1 and 2: what it reads, and the version
-/// that it knows then.
+/// Whether an asker that is told nothing reads this version, and knows of it then.
+fn reads<W: Write>(publisher: &Publisher<W>, asker: &mut Asker, version: u32) -> bool
+    requires { asker.old.source ≡ publisher.now.source }
+    ensures { asker.new.source ≡ asker.old.source }
+{
+    let read = read_after(publisher, asker);
+    read == version && asker.seen() == version
+}
+
+/// An asker that is told nothing reads the count at versions 0, 1 and 2.
 fn reads_each_count<R: Wait + Abort>(rt: &R, alloc: Global, first: &Batch) {
     let (mut publisher, mut asker) = opened(rt, alloc, Vec::<u8>::new(alloc));
-    let none = (read_after(&publisher, &mut asker), asker.seen());
+    let none = reads(&publisher, &mut asker, 0);
     let _ = publisher.apply(rt, alloc, first);
-    let one = (read_after(&publisher, &mut asker), asker.seen());
+    let one = reads(&publisher, &mut asker, 1);
     let _ = apply_empty(rt, alloc, &mut publisher, 2);
-    let two = (read_after(&publisher, &mut asker), asker.seen());
+    let two = reads(&publisher, &mut asker, 2);
     publisher.close(rt);
-    assert!(rt; none == (0, 0) && one == (1, 1) && two == (2, 2));
+    assert_case(rt, "counts up to version", 2, none && one && two);
 }
 
 #[test]
@@ -126,17 +130,22 @@ fn caught_up_untold(rt: HostRuntime) -> Result<(), Fail> {
 fn asks_around_a_drop<R: Wait + Abort>(
     rt: &R,
     alloc: Global,
-    batches: (&Batch, &Batch),
-    requests: (&Request, &Request),
+    (first, second): (&Batch, &Batch),
+    (with, without): (&Request, &Request),
 ) {
     let (mut publisher, mut asker) = opened(rt, alloc, Vec::<u8>::new(alloc));
-    let first = publisher.apply(rt, alloc, batches.0);
-    let with = asker.ask(alloc, requests.0);
-    let second = publisher.apply(rt, alloc, batches.1);
-    let without = asker.ask(alloc, requests.1);
+    let first = publisher.apply(rt, alloc, first);
+    let has_route = is_answered(alloc, &mut asker, with, 1, Said::Route(10, 1));
+    let second = publisher.apply(rt, alloc, second);
+    let has_none = is_answered(alloc, &mut asker, without, 2, Said::NoRoute);
     publisher.close(rt);
-    assert!(rt; first == Ok(1) && route_of(&with) == Some((7, 1, 10, 1)));
-    assert!(rt; second == Ok(2) && has_no_route(&without));
+    let are_applied = first == Ok(1) && second == Ok(2);
+    assert_case(
+        rt,
+        "asked at version",
+        2,
+        are_applied && has_route && has_none,
+    );
 }
 
 #[test]
@@ -153,28 +162,29 @@ fn asked_once_the_reverse_is_dropped(rt: HostRuntime) -> Result<(), Fail> {
     Ok(())
 }
 
-/// Learns what it heard, and asks, on another thread.
+/// An asker learns what it heard, and asks, on another thread: whether it answers with the route at
+/// version 1, and knows of it then.
 fn asked_elsewhere<R: Threads>(
     rt: &R,
     alloc: Global,
     asker: Asker,
     told: Told,
     request: Request,
-) -> (Asker, Result<Answer, AskError>, u32)
+) -> (Asker, bool)
     requires { told.source ≡ asker.source }
     ensures { result.0.source ≡ asker.source }
 {
     thread::join(
         rt,
-        move || -> (Asker, Result<Answer, AskError>, u32)
+        move || -> (Asker, bool)
             requires { told.source ≡ asker.source }
             ensures { result.0.source ≡ asker.source }
         {
             let mut asker = asker;
             asker.learn(told);
-            let answer = asker.ask(alloc, &request);
-            let seen = asker.seen();
-            (asker, answer, seen)
+            let is_answered = is_answered(alloc, &mut asker, &request, 1, Said::Route(10, 1));
+            let knows = asker.seen() == 1;
+            (asker, is_answered && knows)
         },
         || {},
     )
@@ -191,11 +201,11 @@ fn goes_and_comes_back<R: Threads + Wait + Abort>(
     let (mut publisher, asker) = opened(rt, alloc, Vec::<u8>::new(alloc));
     let applied = publisher.apply(rt, alloc, first);
     let told = publisher.tell();
-    let (mut asker, answer, seen) = asked_elsewhere(rt, alloc, asker, told, request);
+    let (mut asker, is_answered) = asked_elsewhere(rt, alloc, asker, told, request);
     let met = asker.meet(publisher.tell());
     publisher.close(rt);
-    assert!(rt; applied == Ok(1) && seen == 1 && met == 1);
-    assert!(rt; route_of(&answer) == Some((7, 1, 10, 1)));
+    let holds = applied == Ok(1) && is_answered && met == 1;
+    assert_case(rt, "asked on another thread at version", 1, holds);
 }
 
 #[test]

@@ -1,4 +1,5 @@
-//! What the tests share: batches, requests, publishers, and a writer that fails.
+//! What the tests share: the one assertion, batches, requests, publishers, what answers say, and a
+//! writer that fails.
 ghost use Rattle.std.specs.Prelude.{◌≡◌};
 
 use cspf_addr::{Addr, Hops, Mask};
@@ -10,6 +11,11 @@ use std::io::{ErrorKind, Write};
 use std::process::Abort;
 use std::sync::Wait;
 use std::test::Fail;
+
+/// Stops at a case that doesn't hold, with its name and its number.
+pub(super) fn assert_case<R: Abort>(rt: &R, name: &str, number: usize, holds: bool) {
+    assert!(rt; holds, "{name} {number}");
+}
 
 pub(super) const ONE: u32 = 0x01010101; // 1.1.1.1
 
@@ -96,27 +102,51 @@ pub(super) fn opened<W: Write + Drop, R: Wait + Abort>(
     }
 }
 
-/// The id and the version of an answer, and the cost and the number of links of its route.
-pub(super) fn route_of(answer: &Result<Answer, AskError>) -> Option<(u64, u32, u64, usize)> {
-    match answer {
-        Ok(answer) => match &answer.outcome {
-            Outcome::Route(route) => {
-                Some((answer.id, answer.version, route.cost(), route.links().len()))
-            }
-            _ => None,
-        },
-        Err(_) => None,
+/// What an answer says.
+#[derive(Clone, Copy, PartialEq, Eq)]
+pub(super) enum Said {
+    /// A route's cost and its number of links.
+    Route(u64, usize),
+    NoRoute,
+    UnknownFrom,
+    UnknownTo,
+}
+
+fn said_by(outcome: &Outcome) -> Said {
+    match outcome {
+        Outcome::Route(route) => Said::Route(route.cost(), route.links().len()),
+        Outcome::NoRoute => Said::NoRoute,
+        Outcome::UnknownFrom => Said::UnknownFrom,
+        Outcome::UnknownTo => Said::UnknownTo,
     }
 }
 
-/// Whether the answer to request 7 is that version 0 doesn't have the first router.
-pub(super) fn is_of_no_batch(answer: &Result<Answer, AskError>) -> bool {
+/// Whether an answer has this id and version, and says this.
+pub(super) fn says(answer: &Result<Answer, AskError>, id: u64, version: u32, wanted: Said) -> bool {
     match answer {
         Ok(answer) => {
-            answer.id == 7 && answer.version == 0 && matches!(answer.outcome, Outcome::UnknownFrom)
+            answer.id == id && answer.version == version && said_by(&answer.outcome) == wanted
         }
         Err(_) => false,
     }
+}
+
+/// Whether an asker answers a request at this version, and says this.
+pub(super) fn is_answered(
+    alloc: Global,
+    asker: &mut Asker,
+    request: &Request,
+    version: u32,
+    wanted: Said,
+) -> bool
+    ensures { asker.new.source ≡ asker.old.source }
+{
+    says(&asker.ask(alloc, request), request.id, version, wanted)
+}
+
+/// Whether a journal has the text of batch 1 and then this one.
+pub(super) fn is_text(journal: &[u8], behind: &[u8]) -> bool {
+    journal.strip_prefix(TEXT) == Some(behind)
 }
 
 /// A request for a bandwidth at the highest priority, on links of any groups.

@@ -2,73 +2,58 @@
 ghost use Rattle.std.specs.Prelude.{◌≡◌};
 
 use super::fixtures::{
-    Narrow, TEXT, apply_empty, batch_and_request, empty_writer, first_batch, is_of_no_batch,
-    opened, route_of,
+    Narrow, Said, TEXT, apply_empty, assert_case, batch_and_request, empty_writer, first_batch,
+    is_answered, is_text, opened, says,
 };
 use cspf_model::{Batch, Request};
-use cspf_publish::{Answer, ApplyError, AskError, Asker, Publisher};
+use cspf_publish::{ApplyError, AskError, Asker, Publisher};
 use cspf_rows::batch_text;
-use std::alloc::Global;
+use std::alloc::{AllocError, Global};
 use std::io::{ErrorKind, Write};
 use std::process::Abort;
 use std::sync::Wait;
 use std::test::Fail;
 
-/// What a publisher over a writer answers to a batch and to an empty one with a number, and an asker
-/// to a request after them. The writer comes back.
-fn applied_twice<R: Wait + Abort>(
-    rt: &R,
-    alloc: Global,
-    journal: Narrow,
-    first: &Batch,
-    second: u32,
-    request: &Request,
-) -> (
-    (Result<u32, ApplyError>, Result<u32, ApplyError>),
-    Result<Answer, AskError>,
-    Narrow,
-) {
-    let (mut publisher, mut asker) = opened(rt, alloc, journal);
-    let applied = (
-        publisher.apply(rt, alloc, first),
-        apply_empty(rt, alloc, &mut publisher, second),
-    );
-    let answer = asker.ask(alloc, request);
-    (applied, answer, publisher.close(rt))
-}
-
-/// A writer's fault after some bytes of batch 1 stops the publisher, and the empty database stays
-/// published.
+/// Whether a writer's fault after some bytes of batch 1 stops the publisher, and the empty database
+/// stays published.
 fn stops_at<R: Wait + Abort>(
     rt: &R,
     alloc: Global,
     journal: Narrow,
     first: &Batch,
     request: &Request,
-) {
+) -> bool {
     let most = journal.most;
-    let (applied, answer, journal) = applied_twice(rt, alloc, journal, first, 7, request);
-    let fault = Err(ApplyError::Journal { written: most });
-    assert!(rt; applied == (fault, Err(ApplyError::Stopped)), "at {most}");
-    assert!(rt; journal.held.len() == most && TEXT.starts_with(journal.held.as_slice()));
-    assert!(rt; is_of_no_batch(&answer), "at {most}");
+    let (mut publisher, mut asker) = opened(rt, alloc, journal);
+    let fault = publisher.apply(rt, alloc, first);
+    let again = apply_empty(rt, alloc, &mut publisher, 7);
+    let is_answered = is_answered(alloc, &mut asker, request, 0, Said::UnknownFrom);
+    let held = publisher.close(rt).held;
+    let stops = fault == Err(ApplyError::Journal { written: most });
+    let is_stopped = stops && again == Err(ApplyError::Stopped);
+    is_stopped && is_answered && TEXT.get(..most) == Some(held.as_slice())
 }
 
-/// A writer fails, takes nothing or is interrupted after each number of bytes of a batch, which it
-/// takes one by one or at once.
-#[test]
-fn faults_of_the_journal(rt: HostRuntime) -> Result<(), Fail> {
-    let alloc = rt.alloc();
-    let (first, request) = batch_and_request(alloc)?;
-    let faults = [Some(ErrorKind::Other), Some(ErrorKind::Interrupted), None];
+/// How a write goes wrong: it fails, is interrupted, or takes nothing.
+const FAULTS: &[Option<ErrorKind>] = &[Some(ErrorKind::Other), Some(ErrorKind::Interrupted), None];
+
+/// A write goes wrong after each number of bytes of a batch, which are taken one by one or at once.
+fn stop_at_each_byte<R: Wait + Abort>(rt: &R, alloc: Global, first: &Batch, request: &Request) {
     for most in 0..TEXT.len() {
-        for fault in faults {
-            let slow = empty_writer(alloc, 1, most, fault);
-            stops_at(&rt, alloc, slow, &first, &request);
-            let fast = empty_writer(alloc, TEXT.len(), most, fault);
-            stops_at(&rt, alloc, fast, &first, &request);
+        for fault in FAULTS {
+            let slow = empty_writer(alloc, 1, most, *fault);
+            let fast = empty_writer(alloc, TEXT.len(), most, *fault);
+            let stops = stops_at(rt, alloc, slow, first, request)
+                && stops_at(rt, alloc, fast, first, request);
+            assert_case(rt, "a fault at", most, stops);
         }
     }
+}
+
+#[test]
+fn faults_of_the_journal(rt: HostRuntime) -> Result<(), Fail> {
+    let (first, request) = batch_and_request(rt.alloc())?;
+    stop_at_each_byte(&rt, rt.alloc(), &first, &request);
     Ok(())
 }
 
@@ -93,53 +78,88 @@ fn stops_at_batch_2<R: Wait>(rt: &R, alloc: Global, publisher: &mut Publisher<Na
     failed == Err(ApplyError::Journal { written: 3 }) && again == stopped && next == stopped
 }
 
-/// A fault in the text of batch 2 stops the publisher for good: version 1 stays published, and the
-/// journal keeps what it had by then.
-fn stops_at_version_1<R: Wait + Abort>(rt: &R, alloc: Global, first: &Batch, request: &Request) {
-    let journal = empty_writer(alloc, 1, 175, Some(ErrorKind::Other));
-    let (mut publisher, mut asker) = opened(rt, alloc, journal);
-    let applied = publisher.apply(rt, alloc, first);
-    let is_going = !publisher.is_stopped();
-    let stops = stops_at_batch_2(rt, alloc, &mut publisher);
-    let is_stopped = publisher.is_stopped();
-    let versions = versions(&mut publisher, &mut asker);
-    let answer = asker.ask(alloc, request);
+/// Whether a publisher itself answers the request with the route at version 1.
+fn is_answered_here<W: Write>(alloc: Global, publisher: &Publisher<W>, request: &Request) -> bool {
     let own = publisher
         .answer(alloc, request)
         .map_err(|_| AskError::Memory);
-    let held = publisher.close(rt).held;
-    assert!(rt; applied == Ok(1) && is_going && stops && is_stopped && versions == (1, 1, 1));
-    assert!(rt; route_of(&answer) == Some((7, 1, 10, 1)));
-    assert!(rt; route_of(&own) == Some((7, 1, 10, 1)));
-    assert!(rt; held.len() == 175 && held.starts_with(TEXT) && held.ends_with(b"end"));
+    says(&own, request.id, 1, Said::Route(10, 1))
+}
+
+/// Whether a fault in the text of batch 2 stops the publisher for good, and version 1 stays published.
+fn stays_at_version_1<R: Wait>(
+    rt: &R,
+    alloc: Global,
+    publisher: &mut Publisher<Narrow>,
+    asker: &mut Asker,
+    batch_and_request: (&Batch, &Request),
+) -> bool
+    requires { asker.old.source ≡ publisher.old.source }
+{
+    let (first, request) = batch_and_request;
+    let applied = publisher.apply(rt, alloc, first);
+    let is_going = applied == Ok(1) && !publisher.is_stopped();
+    let stops = stops_at_batch_2(rt, alloc, publisher);
+    let versions = versions(publisher, asker);
+    let is_stopped = stops && publisher.is_stopped() && versions == (1, 1, 1);
+    let is_answered = is_answered(alloc, asker, request, 1, Said::Route(10, 1));
+    is_going && is_stopped && is_answered && is_answered_here(alloc, publisher, request)
+}
+
+/// The journal keeps what it had by the fault.
+fn stop_at_version_1<R: Wait + Abort>(rt: &R, alloc: Global, first: &Batch, request: &Request) {
+    let journal = empty_writer(alloc, 1, 175, Some(ErrorKind::Other));
+    let (mut publisher, mut asker) = opened(rt, alloc, journal);
+    let asked = (first, request);
+    let stays = stays_at_version_1(rt, alloc, &mut publisher, &mut asker, asked);
+    let is_text = is_text(&publisher.close(rt).held, b"end");
+    assert_case(rt, "stopped at version", 1, stays && is_text);
 }
 
 #[test]
 fn stopped_at_a_version(rt: HostRuntime) -> Result<(), Fail> {
     let (first, request) = batch_and_request(rt.alloc())?;
-    stops_at_version_1(&rt, rt.alloc(), &first, &request);
+    stop_at_version_1(&rt, rt.alloc(), &first, &request);
     Ok(())
+}
+
+/// Whether a writer gets the texts of both batches.
+fn is_written<R: Wait + Abort>(
+    rt: &R,
+    alloc: Global,
+    journal: Narrow,
+    first: &Batch,
+    request: &Request,
+) -> bool {
+    let (mut publisher, mut asker) = opened(rt, alloc, journal);
+    let first = publisher.apply(rt, alloc, first);
+    let second = apply_empty(rt, alloc, &mut publisher, 2);
+    let is_answered = is_answered(alloc, &mut asker, request, 2, Said::Route(10, 1));
+    let held = publisher.close(rt).held;
+    first == Ok(1) && second == Ok(2) && is_answered && is_text(&held, b"end,2,0\n")
 }
 
 /// A writer that takes a byte or three at a time gets both texts.
 #[test]
 fn journal_in_pieces(rt: HostRuntime) -> Result<(), Fail> {
-    let alloc = rt.alloc();
-    let (first, request) = batch_and_request(alloc)?;
-    for width in [1, 3] {
-        let journal = empty_writer(alloc, width, usize::MAX, None);
-        let (applied, answer, journal) = applied_twice(&rt, alloc, journal, &first, 2, &request);
-        assert!(rt; applied == (Ok(1), Ok(2)) && route_of(&answer) == Some((7, 2, 10, 1)));
-        let text = journal.held;
-        assert!(rt; text.len() == 180 && text.starts_with(TEXT) && text.ends_with(b"end,2,0\n"));
+    let (first, request) = batch_and_request(rt.alloc())?;
+    for width in [1, 3].as_slice() {
+        let journal = empty_writer(rt.alloc(), *width, usize::MAX, None);
+        let is_written = is_written(&rt, rt.alloc(), journal, &first, &request);
+        assert_case(&rt, "bytes a write", *width, is_written);
     }
     Ok(())
+}
+
+/// Whether the text of a batch is that of batch 1.
+fn has_text(alloc: Global, batch: &Batch) -> Result<bool, AllocError> {
+    Ok(batch_text(alloc, batch)?.as_slice() == TEXT)
 }
 
 /// The text of a batch and of its copy are one.
 #[test]
 fn text_of_a_copy(rt: HostRuntime) -> Result<(), Fail> {
     let copy = first_batch(rt.alloc())?.copy(rt.alloc())?;
-    assert!(rt; batch_text(rt.alloc(), &copy)?.as_slice() == TEXT);
+    assert_case(&rt, "a copy of batch", 1, has_text(rt.alloc(), &copy)?);
     Ok(())
 }

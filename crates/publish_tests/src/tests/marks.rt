@@ -1,10 +1,13 @@
 //! Marks of routers without transit, which stand at each later version.
 
-use super::fixtures::{ONE, TWO, back, batch, only_link, opened, request, route_of};
+use super::fixtures::{
+    ONE, Said, TWO, assert_case, back, batch, empty_batch, is_answered, only_link, opened, request,
+};
 use cspf_addr::{Addr, Mask};
-use cspf_model::{Batch, Change, Link, LinkError, Outcome, Request};
-use cspf_publish::{Answer, AskError};
+use cspf_model::{Batch, Change, Link, LinkError, Request};
+use cspf_publish::{Asker, Publisher};
 use std::alloc::{AllocError, Global};
+use std::io::Write;
 use std::process::Abort;
 use std::sync::Wait;
 use std::test::Fail;
@@ -33,56 +36,53 @@ fn node_batch(alloc: Global, number: u32, transit: bool) -> Result<Batch, AllocE
     batch(alloc, number, &[Change::Node { router, transit }])
 }
 
-/// Two links, a mark of the router between them, an empty batch twice, the mark taken away, and an
-/// empty batch.
-fn all_batches(alloc: Global) -> Result<[Batch; 6], Fail> {
-    Ok([
-        batch(alloc, 1, &two_links()?)?,
-        node_batch(alloc, 2, false)?,
-        batch(alloc, 3, &[])?,
-        batch(alloc, 4, &[])?,
-        node_batch(alloc, 5, true)?,
-        batch(alloc, 6, &[])?,
-    ])
+/// The batch with this number of these: two links, a mark of the router between them, an empty batch
+/// twice, the mark taken away, and an empty batch.
+fn batch_at(alloc: Global, number: u32) -> Result<Batch, Fail> {
+    match number {
+        1 => Ok(batch(alloc, 1, &two_links()?)?),
+        2 => Ok(node_batch(alloc, 2, false)?),
+        5 => Ok(node_batch(alloc, 5, true)?),
+        _ => Ok(empty_batch(alloc, number)),
+    }
 }
 
 /// How the journal's text of these ends.
 const LAST: &[u8] = b"end,1,4\nnode,2.2.2.2,0\nend,2,1\nend,3,0\nend,4,0\n\
 node,2.2.2.2,1\nend,5,1\nend,6,0\n";
 
-/// Whether the answer at the version is a route where routes pass through 2.2.2.2 there, and else
-/// that there is none.
-fn is_right(answer: &Result<Answer, AskError>, version: u32) -> bool {
-    if version < 2 || version > 4 {
-        return route_of(answer) == Some((7, version, 20, 2));
-    }
-    match answer {
-        Ok(answer) => answer.version == version && matches!(answer.outcome, Outcome::NoRoute),
-        Err(_) => false,
+/// What an asker says at a version: a route where routes pass through 2.2.2.2 there, and else that
+/// there is none.
+fn said_at(version: u32) -> Said {
+    match version {
+        2..=4 => Said::NoRoute,
+        _ => Said::Route(20, 2),
     }
 }
 
 /// An asker asks after each of the batches, which are published by turns in one copy and in the
 /// other.
-fn asks_after_each<R: Wait + Abort>(rt: &R, alloc: Global, batches: &[Batch], request: &Request) {
-    let (mut publisher, mut asker) = opened(rt, alloc, Vec::<u8>::new(alloc));
-    let mut right = 0usize;
-    for batch in batches {
-        let applied = publisher.apply(rt, alloc, batch);
-        let answer = asker.ask(alloc, request);
-        if applied == Ok(batch.number) && is_right(&answer, batch.number) {
-            right = right.saturating_add(1);
-        }
+fn ask_after_each<W: Write, R: Wait + Abort>(
+    rt: &R,
+    alloc: Global,
+    publisher: &mut Publisher<W>,
+    asker: &mut Asker,
+    request: &Request,
+) -> Result<(), Fail> {
+    for number in 1..7 {
+        let applied = publisher.apply(rt, alloc, &batch_at(alloc, number)?) == Ok(number);
+        let is_answered = is_answered(alloc, asker, request, number, said_at(number));
+        assert_case(rt, "a version", number as usize, applied && is_answered);
     }
-    let text = publisher.close(rt);
-    assert_eq!(rt; right, batches.len());
-    assert!(rt; text.ends_with(LAST));
+    Ok(())
 }
 
 #[test]
 fn marks_at_each_version(rt: HostRuntime) -> Result<(), Fail> {
-    let batches = all_batches(rt.alloc())?;
     let request = request(7, ONE, THREE, 1000)?;
-    asks_after_each(&rt, rt.alloc(), &batches, &request);
-    Ok(())
+    let (mut publisher, mut asker) = opened(&rt, rt.alloc(), Vec::<u8>::new(rt.alloc()));
+    let asked = ask_after_each(&rt, rt.alloc(), &mut publisher, &mut asker, &request);
+    let ends = publisher.close(&rt).ends_with(LAST);
+    assert_case(&rt, "the journal", 0, ends);
+    asked
 }

@@ -3,7 +3,7 @@
 ghost use Rattle.std.specs.Prelude.{◌≡◌, IfSome};
 
 use super::fixtures::{
-    ONE, TEXT, TWO, batch, both_ways, is_of_no_batch, only_link, opened, request, route_of,
+    ONE, Said, TEXT, TWO, assert_case, batch, both_ways, only_link, opened, request, says,
 };
 use cspf_model::{Batch, Link, Outcome, Request};
 use cspf_publish::{Answer, ApplyError, AskError, Asker, OpenError, Publisher, open};
@@ -58,7 +58,8 @@ fn opened_at_last<R: Wait + Abort>(rt: &R, alloc: Global) -> Option<(Publisher<I
             None => panic!(rt; "no asker"),
         },
         Err((error, journal)) => {
-            assert!(rt; error != OpenError::Askers && journal.held == 0);
+            let is_refused = error != OpenError::Askers && journal.held == 0;
+            assert_case(rt, "an empty journal", journal.held, is_refused);
             if has_memory(alloc) {
                 Some(opened(rt, alloc, journal))
             } else {
@@ -102,7 +103,7 @@ fn is_of_the_link(answer: &Result<Answer, AskError>, link: &Link) -> bool {
         },
         Err(_) => &[],
     };
-    links == [*link].as_slice() && route_of(answer) == Some((7, 1, 10, 1))
+    links == [*link].as_slice() && says(answer, 7, 1, Said::Route(10, 1))
 }
 
 /// What an asker answers, at the second try where memory is there again.
@@ -126,34 +127,52 @@ fn is_answered(
         return !has_memory(alloc);
     }
     if version == 0 {
-        is_of_no_batch(answer)
+        says(answer, 7, 0, Said::UnknownFrom)
     } else {
         is_of_the_link(answer, link)
     }
 }
 
+/// Whether a publisher publishes, its asker learns of it, and then answers.
+fn answers_after<W: Write, R: Wait>(
+    rt: &R,
+    alloc: Global,
+    publisher: &mut Publisher<W>,
+    asker: &mut Asker,
+    asked: (&Batch, &Request, &Link),
+) -> bool
+    requires { asker.old.source ≡ publisher.old.source }
+{
+    let (first, request, link) = asked;
+    let applied = apply_at_last(rt, alloc, publisher, first);
+    let version = publisher.version();
+    let told = publisher.tell();
+    let versions = (told.version(), asker.meet(told));
+    let answer = ask_at_last(alloc, asker, request);
+    let is_told = versions == (version, version) && asker.seen() == version;
+    is_told && is_right(alloc, applied, version) && is_answered(alloc, &answer, version, link)
+}
+
+/// Whether a journal has the text of the batches up to version 0 or 1.
+fn has_text(journal: &InPlace, version: u32) -> bool {
+    let wanted = if version == 0 { b"" } else { TEXT };
+    journal.text.get(..journal.held) == Some(wanted)
+}
+
 /// Publishes, lets the asker learn, and asks.
-fn publishes_and_answers<R: Wait + Abort>(
+fn publish_and_answer<R: Wait + Abort>(
     rt: &R,
     alloc: Global,
     opened: (Publisher<InPlace>, Asker),
-    first: &Batch,
-    asked: (&Request, &Link),
+    asked: (&Batch, &Request, &Link),
 )
     requires { opened.1.source ≡ opened.0.source }
 {
     let (mut publisher, mut asker) = opened;
-    let (request, link) = asked;
-    let applied = apply_at_last(rt, alloc, &mut publisher, first);
+    let answers = answers_after(rt, alloc, &mut publisher, &mut asker, asked);
     let version = publisher.version();
-    let told = publisher.tell();
-    let versions = (told.version(), asker.meet(told));
-    let answer = ask_at_last(alloc, &mut asker, request);
-    let InPlace { text, held } = publisher.close(rt);
-    let wanted = if version == 0 { b"" } else { TEXT };
-    assert!(rt; is_right(alloc, applied, version) && versions == (version, version));
-    assert!(rt; is_answered(alloc, &answer, version, link) && asker.seen() == version);
-    assert!(rt; text.get(..held) == Some(wanted));
+    let has_text = has_text(&publisher.close(rt), version);
+    assert_case(rt, "at version", version as usize, answers && has_text);
 }
 
 #[test]
@@ -165,7 +184,7 @@ fn publisher_while_memory_is_refused(rt: HostRuntime) -> Result<(), Fail> {
         return Ok(());
     };
     if let Some(opened) = opened_at_last(&rt, rt.alloc()) {
-        publishes_and_answers(&rt, rt.alloc(), opened, &first, (&request, &link));
+        publish_and_answer(&rt, rt.alloc(), opened, (&first, &request, &link));
     }
     Ok(())
 }

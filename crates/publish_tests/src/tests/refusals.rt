@@ -1,10 +1,11 @@
 //! Batches and numbers of askers that are refused.
 
-use super::fixtures::{TEXT, apply_empty, batch, first_batch, only_link, opened};
+use super::fixtures::{apply_empty, assert_case, batch, first_batch, is_text, only_link, opened};
 use cspf_model::{Batch, Change, Refusal};
-use cspf_publish::{ApplyError, OpenError, open};
+use cspf_publish::{ApplyError, OpenError, Publisher, open};
 use std::alloc::Global;
 use std::io;
+use std::io::Write;
 use std::process::Abort;
 use std::sync::Wait;
 use std::test::Fail;
@@ -19,26 +20,37 @@ fn unfit_batch(alloc: Global, number: u32) -> Result<Batch, Fail> {
     Ok(batch(alloc, number, &[absent])?)
 }
 
-/// Batches with a wrong number or an absent link are refused, and leave the version and the journal.
-fn refuses_batches<R: Wait + Abort>(rt: &R, alloc: Global, first: &Batch, unfit: &Batch) {
-    let (mut publisher, _asker) = opened(rt, alloc, Vec::<u8>::new(alloc));
-    let first = publisher.apply(rt, alloc, first);
-    let second = apply_empty(rt, alloc, &mut publisher, 2);
-    let wrong = apply_empty(rt, alloc, &mut publisher, 2);
+/// Whether batches with a wrong number or an absent link are refused after two others, and leave the
+/// version.
+fn refuses_batches<W: Write, R: Wait>(
+    rt: &R,
+    alloc: Global,
+    publisher: &mut Publisher<W>,
+    first: &Batch,
+    unfit: &Batch,
+) -> bool {
+    let first = publisher.apply(rt, alloc, first) == Ok(1);
+    let second = apply_empty(rt, alloc, publisher, 2) == Ok(2);
+    let wrong = apply_empty(rt, alloc, publisher, 2);
     let refused = publisher.apply(rt, alloc, unfit);
-    let version = publisher.version();
-    let text = publisher.close(rt);
-    assert!(rt; first == Ok(1) && second == Ok(2) && version == 2);
-    assert!(rt; wrong == Err(ApplyError::WrongNumber { expected: 3 }));
-    assert!(rt; refused == Err(ApplyError::Refused(Refusal::Absent { at: 1 })));
-    assert!(rt; text.len() == 180 && text.starts_with(TEXT) && text.ends_with(b"end,2,0\n"));
+    let are_refused = wrong == Err(ApplyError::WrongNumber { expected: 3 })
+        && refused == Err(ApplyError::Refused(Refusal::Absent { at: 1 }));
+    first && second && are_refused && publisher.version() == 2
+}
+
+/// The journal has the text of the batches that were not refused.
+fn refuse_batches<R: Wait + Abort>(rt: &R, alloc: Global, first: &Batch, unfit: &Batch) {
+    let (mut publisher, _asker) = opened(rt, alloc, Vec::<u8>::new(alloc));
+    let refuses = refuses_batches(rt, alloc, &mut publisher, first, unfit);
+    let is_text = is_text(&publisher.close(rt), b"end,2,0\n");
+    assert_case(rt, "refused batches", 2, refuses && is_text);
 }
 
 #[test]
 fn refused_batches(rt: HostRuntime) -> Result<(), Fail> {
     let first = first_batch(rt.alloc())?;
     let unfit = unfit_batch(rt.alloc(), 3)?;
-    refuses_batches(&rt, rt.alloc(), &first, &unfit);
+    refuse_batches(&rt, rt.alloc(), &first, &unfit);
     Ok(())
 }
 
@@ -54,32 +66,46 @@ fn open_error<R: Wait>(rt: &R, alloc: Global, askers: usize) -> Option<(OpenErro
     }
 }
 
-/// One asker and 64 are opened. None, and 65, are refused.
+/// Numbers of askers, and how each is refused: one asker and 64 are opened, none and 65 are not.
+const ASKERS: &[(usize, Option<(OpenError, usize)>)] = &[
+    (1, None),
+    (64, None),
+    (0, Some((OpenError::Askers, 0))),
+    (65, Some((OpenError::Askers, 0))),
+];
+
 #[test]
 fn numbers_of_askers(rt: HostRuntime) {
-    for askers in [1, 64] {
-        let found = open_error(&rt, rt.alloc(), askers);
-        assert!(rt; found.is_none(), "{askers} askers");
+    for (askers, wanted) in ASKERS {
+        let found = open_error(&rt, rt.alloc(), *askers);
+        assert_case(&rt, "askers", *askers, found == *wanted);
     }
-    for askers in [0, 65] {
-        let found = open_error(&rt, rt.alloc(), askers);
-        assert!(rt; found == Some((OpenError::Askers, 0)), "{askers} askers");
+}
+
+/// Publishes a million empty batches. The number of the last one that was published is the result.
+fn publish_all<W: Write, R: Wait>(rt: &R, alloc: Global, publisher: &mut Publisher<W>) -> u32 {
+    let mut applied = 0u32;
+    for number in 1..1_000_001u32 {
+        if apply_empty(rt, alloc, publisher, number) == Ok(number) {
+            applied = number;
+        }
     }
+    applied
 }
 
 /// There are 1,000,000 versions.
 #[test]
 fn last_version(rt: HostRuntime) {
-    let alloc = rt.alloc();
-    let (mut publisher, _asker) = opened(&rt, alloc, io::sink());
-    let mut applied = 0u32;
-    for number in 1..1_000_001u32 {
-        if apply_empty(&rt, alloc, &mut publisher, number) == Ok(number) {
-            applied = number;
-        }
-    }
-    let more = apply_empty(&rt, alloc, &mut publisher, 1_000_001);
-    assert_eq!(rt; (applied, publisher.version()), (1_000_000, 1_000_000));
-    assert!(rt; more == Err(ApplyError::Exhausted));
+    let (mut publisher, _asker) = opened(&rt, rt.alloc(), io::sink());
+    let applied = publish_all(&rt, rt.alloc(), &mut publisher);
+    let more = apply_empty(&rt, rt.alloc(), &mut publisher, 1_000_001);
+    let version = publisher.version();
     publisher.close(&rt);
+    let holds = applied == 1_000_000 && more == Err(ApplyError::Exhausted);
+    assert_case(
+        &rt,
+        "a version",
+        version as usize,
+        holds && version == applied,
+    );
 }
