@@ -1,7 +1,7 @@
 //! What tables make of batches: links that are replaced, changes that are refused, and what fits a
 //! full table. The fields and keys of links and requests too.
 use super::edits::Edit::{self, Node, Put, Remove};
-use super::edits::{answer, batch_of, link};
+use super::edits::{answer, answers, assert_case, batch_of, link};
 use cspf_addr::{Addr, Hop, Hops, Mask, Prefix};
 use cspf_db::Table;
 use cspf_model::{Batch, Change, Link, LinkError, Refusal, Request, RequestError};
@@ -41,85 +41,6 @@ fn puts(alloc: Global, first: u32, end: u32) -> Result<Batch, Fail> {
     Ok(Batch { number: 1, changes })
 }
 
-// A link's ends, metric and group as numbers, and its unreserved bandwidths.
-fn fields_of(link: &Link) -> ([u32; 6], [u64; 8]) {
-    let numbers = [
-        link.from.number(),
-        link.local.number(),
-        link.to.number(),
-        link.remote.number(),
-        link.metric,
-        link.group.bits(),
-    ];
-    (numbers, link.free)
-}
-
-#[test]
-fn fields_of_links(rt: HostRuntime) -> Result<(), Fail> {
-    assert_eq!(rt; link(ONE, 5, ONE, 4).err(), Some(LinkError::SelfLink));
-    let made = fields_of(&one_to_two(5)?);
-    assert_eq!(rt; made, ([ONE, 5, TWO, 4, 10, 1], [1000; 8]));
-    Ok(())
-}
-
-#[test]
-fn keys_of_links(rt: HostRuntime) -> Result<(), Fail> {
-    let one = Addr::new(ONE);
-    let keys = (FIVE.change()?.key(), Remove(ONE, 6).change()?.key());
-    let wanted = ((one, Some(Addr::new(5))), (one, Some(Addr::new(6))));
-    assert_eq!(rt; keys, wanted);
-    Ok(())
-}
-
-#[test]
-fn refused_requests(rt: HostRuntime) {
-    let (one, none) = (Addr::new(ONE), Mask::new(0));
-    let high = Request::new(7, one, one, 8, 1, none, none, none, Hops::none());
-    let same = Request::new(7, one, one, 7, 1, none, none, none, Hops::none());
-    let wanted = (Some(RequestError::Priority), Some(RequestError::SameEnds));
-    assert_eq!(rt; (high.err(), same.err()), wanted);
-}
-
-#[test]
-fn fields_of_requests(rt: HostRuntime) -> Result<(), Fail> {
-    let (one, two, mut hops) = (Addr::new(ONE), Addr::new(TWO), Hops::none());
-    hops.push(Hop {
-        prefix: Prefix::new(two, 32)?,
-        loose: true,
-    });
-    let groups = [Mask::new(1), Mask::new(2), Mask::new(4)];
-    let [low, middle, high] = groups;
-    let request = Request::new(8, one, two, 7, 9, low, middle, high, hops)?;
-    let numbers = (request.id, request.setup, request.bandwidth);
-    let of_links = [
-        request.exclude_any,
-        request.include_any,
-        request.include_all,
-    ];
-    assert_eq!(rt; (numbers, of_links), ((8, 7, 9), groups));
-    assert_eq!(rt; (request.from, request.to, request.hops), (one, two, hops));
-    Ok(())
-}
-
-#[test]
-fn a_copied_batch(rt: HostRuntime) -> Result<(), Fail> {
-    let alloc = rt.alloc();
-    let mut batch = batch_of(alloc, &[FIVE, Remove(ONE, 6)])?;
-    let copy = batch.copy(alloc)?;
-    let _ = batch.changes.pop();
-    assert_eq!(rt; copy.number, 1);
-    let wanted = [FIVE.change()?, Remove(ONE, 6).change()?];
-    assert_eq!(rt; copy.changes.as_slice(), wanted.as_slice());
-    Ok(())
-}
-
-// A table of two links.
-fn two_links(alloc: Global) -> Result<Table, Fail> {
-    let mut table = Table::new(alloc)?;
-    table.absorb(&batch_of(alloc, &[FIVE, SEVEN])?);
-    Ok(table)
-}
-
 // The link from 1.1.1.1 by the interface 5 to 3.3.3.3, with other attributes.
 fn other_link() -> Result<Link, LinkError> {
     Link::new(
@@ -133,105 +54,231 @@ fn other_link() -> Result<Link, LinkError> {
     )
 }
 
-// That table, once one of its links is replaced by the other link.
-fn replaced(alloc: Global, new: Link) -> Result<Table, Fail> {
-    let mut table = two_links(alloc)?;
-    let changes = [Change::Put(new)].to_vec(alloc)?;
-    table.absorb(&Batch { number: 1, changes });
-    Ok(table)
+// Whether a link runs from 1.1.1.1 by the interface 5 to a router by an interface there, with this
+// metric, group and unreserved bandwidths.
+fn has_fields(link: &Link, to: (u32, u32), of_links: (u32, u32), free: [u64; 8]) -> bool {
+    let from = (link.from.number(), link.local.number());
+    let ends = from == (ONE, 5) && (link.to.number(), link.remote.number()) == to;
+    ends && (link.metric, link.group.bits()) == of_links && link.free == free
 }
 
-// The links from 1.1.1.1 by the interfaces 5 and 7.
-fn find_both(table: &Table) -> [Option<Link>; 2] {
-    let one = Addr::new(ONE);
-    let five = table.find(one, Addr::new(5));
-    [five, table.find(one, Addr::new(7))]
+// Whether a change is on the key of the link from 1.1.1.1 by this interface.
+fn is_on_key(edit: Edit, local: u32) -> Result<bool, LinkError> {
+    let (from, interface) = edit.change()?.key();
+    Ok(from.number() == ONE && interface == Some(Addr::new(local)))
+}
+
+#[test]
+fn links(rt: HostRuntime) -> Result<(), Fail> {
+    let own = link(ONE, 5, ONE, 4) == Err(LinkError::SelfLink);
+    assert_case(&rt, "a link to its own router", 0, own);
+    let (five, other) = (one_to_two(5)?, other_link()?);
+    let fields = has_fields(&five, (TWO, 4), (10, 1), [1000; 8]);
+    assert_case(&rt, "fields", 0, fields);
+    let fields = has_fields(&other, (THREE, 9), (20, 2), [0, 1, 2, 3, 4, 5, 6, 7]);
+    assert_case(&rt, "fields", 1, fields);
+    assert_case(&rt, "the key of a put", 0, is_on_key(FIVE, 5)?);
+    assert_case(
+        &rt,
+        "the key of a removal",
+        0,
+        is_on_key(Remove(ONE, 6), 6)?,
+    );
+    Ok(())
+}
+
+// Why a request with the same ends and this setup priority is refused.
+fn refusal(setup: u8) -> Option<RequestError> {
+    let (one, none) = (Addr::new(ONE), Mask::new(0));
+    Request::new(7, one, one, setup, 1, none, none, none, Hops::none()).err()
+}
+
+// A request of this number from 1.1.1.1 to 2.2.2.2.
+fn request(id: u64, hops: Hops) -> Result<Request, RequestError> {
+    let (one, two) = (Addr::new(ONE), Addr::new(TWO));
+    let (low, middle, high) = (Mask::new(1), Mask::new(2), Mask::new(4));
+    Request::new(id, one, two, 7, 9, low, middle, high, hops)
+}
+
+// Whether a request has the fields of that one.
+fn is_request(request: &Request, id: u64, hops: Hops) -> bool {
+    let numbers = request.id == id && request.setup == 7 && request.bandwidth == 9;
+    let ends = request.from.number() == ONE && request.to.number() == TWO;
+    let (exclude_any, include_any) = (request.exclude_any.bits(), request.include_any.bits());
+    let of_links = exclude_any == 1 && include_any == 2 && request.include_all.bits() == 4;
+    numbers && ends && of_links && request.hops == hops
+}
+
+#[test]
+fn requests(rt: HostRuntime) -> Result<(), Fail> {
+    let high = refusal(8) == Some(RequestError::Priority);
+    assert_case(&rt, "a setup priority", 8, high);
+    let same = refusal(7) == Some(RequestError::SameEnds);
+    assert_case(&rt, "the same ends", 7, same);
+    let (prefix, mut hops) = (Prefix::new(Addr::new(TWO), 32)?, Hops::none());
+    let loose = true;
+    hops.push(Hop { prefix, loose });
+    assert_case(&rt, "fields", 0, is_request(&request(8, hops)?, 8, hops));
+    Ok(())
+}
+
+// Whether a batch has this number and these changes.
+fn is_batch(batch: &Batch, number: u32, changes: &[Change]) -> bool {
+    batch.number == number && batch.changes.as_slice() == changes
+}
+
+// Whether the copy of a batch stays as it is when the batch loses a change.
+fn is_copied(alloc: Global, batch: &mut Batch, changes: &[Change]) -> Result<bool, Fail> {
+    let copy = batch.copy(alloc)?;
+    let _ = batch.changes.pop();
+    Ok(is_batch(&copy, 1, changes))
+}
+
+#[test]
+fn a_copied_batch(rt: HostRuntime) -> Result<(), Fail> {
+    let edits = [FIVE, Remove(ONE, 6)];
+    let wanted = [edits[0].change()?, edits[1].change()?];
+    let is_copied = is_copied(rt.alloc(), &mut batch_of(rt.alloc(), &edits)?, &wanted)?;
+    assert_case(&rt, "a copy", 0, is_copied);
+    Ok(())
+}
+
+// Whether the changes fit the table, by one call or by two, and leave these links, which are found
+// by their keys.
+fn leaves(
+    alloc: Global,
+    table: &mut Table,
+    at_once: bool,
+    changes: &[Change],
+    links: &[Link],
+) -> Result<bool, Fail> {
+    let changes = Vec::from_slice(alloc, changes)?;
+    let fits = answer(table, &Batch { number: 1, changes }, at_once) == Ok(());
+    Ok(fits && table.links() == links && are_found(table, links))
+}
+
+// Whether the links are found by their keys.
+fn are_found(table: &Table, links: &[Link]) -> bool {
+    for link in links {
+        if table.find(link.from, link.local) != Some(*link) {
+            return false;
+        }
+    }
+    true
+}
+
+// One of two links is replaced by another one with its key.
+fn replace(rt: &impl Abort, alloc: Global, table: &mut Table) -> Result<(), Fail> {
+    let (old, beside, new) = (one_to_two(5)?, one_to_two(7)?, other_link()?);
+    let both = [Change::Put(old), Change::Put(beside)];
+    let before = leaves(alloc, table, false, &both, &[old, beside])?;
+    assert_case(rt, "two links", 0, before);
+    let after = leaves(alloc, table, false, &[Change::Put(new)], &[new, beside])?;
+    assert_case(rt, "a replaced link", 0, after);
+    Ok(())
 }
 
 #[test]
 fn a_replaced_link(rt: HostRuntime) -> Result<(), Fail> {
-    let (old, beside, new) = (one_to_two(5)?, one_to_two(7)?, other_link()?);
-    let found = find_both(&two_links(rt.alloc())?);
-    assert_eq!(rt; found, [Some(old), Some(beside)]);
-    let table = replaced(rt.alloc(), new)?;
-    assert_eq!(rt; find_both(&table), [Some(new), Some(beside)]);
-    assert_eq!(rt; table.links(), [new, beside].as_slice());
+    replace(&rt, rt.alloc(), &mut Table::new(rt.alloc())?)
+}
+
+// A link and its reverse come. Then the first has another metric, and the second nothing unreserved;
+// and then the first is as it was, and its router is marked.
+fn change_attributes(rt: &impl Abort, alloc: Global, table: &mut Table) -> Result<(), Fail> {
+    let (old, mut full) = (link(ONE, 4, TWO, 5)?, link(TWO, 5, ONE, 4)?);
+    let mut dear = old;
+    dear.metric = 11;
+    let both = [Change::Put(old), Change::Put(full)];
+    assert_case(
+        rt,
+        "both",
+        0,
+        leaves(alloc, table, true, &both, &[old, full])?,
+    );
+    full.free = [0; 8];
+    let both = [Change::Put(full), Change::Put(dear)];
+    let leaves_dear = leaves(alloc, table, true, &both, &[dear, full])?;
+    assert_case(rt, "a metric", 11, leaves_dear && table.has_reverse(&dear));
+    let marked = [Change::Put(old), Node(ONE, false).change()?];
+    let leaves_old = leaves(alloc, table, true, &marked, &[old, full])?;
+    assert_case(
+        rt,
+        "a mark",
+        0,
+        leaves_old && !table.transit(Addr::new(ONE)),
+    );
     Ok(())
 }
 
 #[test]
-fn fields_of_a_replaced_link(rt: HostRuntime) -> Result<(), Fail> {
-    let table = replaced(rt.alloc(), other_link()?)?;
-    let [found, _] = find_both(&table);
-    let found = fields_of(&found.ok_or("no link")?);
-    let free = [0, 1, 2, 3, 4, 5, 6, 7];
-    assert_eq!(rt; found, ([ONE, 5, THREE, 9, 20, 2], free));
-    Ok(())
+fn new_attributes(rt: HostRuntime) -> Result<(), Fail> {
+    change_attributes(&rt, rt.alloc(), &mut Table::new(rt.alloc())?)
 }
 
-// An empty table refuses the batch for this reason, and stays empty.
-fn refuse(rt: &impl Abort, alloc: Global, batch: &Batch, refusal: Refusal) -> Result<(), Fail> {
+// Whether an empty table refuses the batch for this reason, and stays empty.
+fn refuses(alloc: Global, batch: &Batch, refusal: Refusal) -> Result<bool, Fail> {
     let mut table = Table::new(alloc)?;
-    let answer = answer(&mut table, batch, false);
-    let left = (table.links().len(), table.has_router(Addr::new(ONE)));
-    assert_eq!(rt; (answer, left), (Err(refusal), (0, false)));
-    Ok(())
+    let refuses = answer(&mut table, batch, false) == Err(refusal);
+    Ok(refuses && table.links().is_empty() && !table.has_router(Addr::new(ONE)))
 }
+
+// Two changes of which the second is on the first one's key, and a removal from an empty table.
+const REFUSED: &[(&[Edit], Refusal)] = &[
+    (&[FIVE, FIVE], Refusal::Duplicate { at: 2 }),
+    (&[Remove(ONE, 1), SEVEN], Refusal::Absent { at: 1 }),
+];
 
 #[test]
 fn refused_changes(rt: HostRuntime) -> Result<(), Fail> {
     let alloc = rt.alloc();
-    let cases = [
-        ([FIVE, FIVE], Refusal::Duplicate { at: 2 }),
-        ([Remove(ONE, 1), SEVEN], Refusal::Absent { at: 1 }),
-    ];
-    for (edits, refusal) in cases {
-        refuse(&rt, alloc, &batch_of(alloc, &edits)?, refusal)?;
+    for (at, (edits, refusal)) in REFUSED.iter().enumerate() {
+        let refuses = refuses(alloc, &batch_of(alloc, edits)?, *refusal)?;
+        assert_case(&rt, "refused", at, refuses);
     }
-    refuse(&rt, alloc, &puts(alloc, 0, 4097)?, Refusal::TooLong)
+    let is_too_long = refuses(alloc, &puts(alloc, 0, 4097)?, Refusal::TooLong)?;
+    assert_case(&rt, "too many changes", 4097, is_too_long);
+    Ok(())
 }
 
 // A table with the links whose local addresses are 0 to 16,383.
 fn full_table(alloc: Global) -> Result<Table, Fail> {
     let mut table = Table::new(alloc)?;
-    for first in [0, 4096, 8192, 12288] {
+    for first in 0..4 {
+        let first = first * 4096;
         table.absorb(&puts(alloc, first, first + 4096)?);
     }
     Ok(table)
 }
 
-// The table answers so to the changes, has 16,384 links, and then may have the first and the last.
-fn change_full(
-    rt: &impl Abort,
-    alloc: Global,
-    table: &mut Table,
-    edits: &[Edit],
-    wanted: (Result<(), Refusal>, bool, bool),
-) -> Result<(), Fail> {
-    let batch = batch_of(alloc, edits)?;
-    let answer = answer(table, &batch, false);
-    let first = table.find(Addr::new(ONE), Addr::new(0)).is_some();
-    let last = table.find(Addr::new(ONE), Addr::new(16384)).is_some();
-    assert_eq!(rt; (answer, first, last), wanted);
-    assert_eq!(rt; table.links().len(), 16384);
+// Changes, what a full table answers, and whether it then has its first link and its last one. A put
+// and a removal, in either order, leave a full table as full as it was.
+const FULL: &[(&[Edit], Result<(), Refusal>, bool, bool)] = &[
+    (&[], Ok(()), true, false),
+    (&[LAST], Err(Refusal::Full), true, false),
+    (&[Remove(ONE, 0), LAST], Ok(()), false, true),
+    (&[FIRST, Remove(ONE, 16384)], Ok(()), true, false),
+];
+
+// Whether the table has a link from 1.1.1.1 by this interface.
+fn has_link(table: &Table, local: u32) -> bool {
+    table.find(Addr::new(ONE), Addr::new(local)).is_some()
+}
+
+// Changes of a full table.
+fn change_full(rt: &impl Abort, alloc: Global, table: &mut Table) -> Result<(), Fail> {
+    for (at, (edits, wanted, first, last)) in FULL.iter().enumerate() {
+        let answers = answers(alloc, table, edits, *wanted)?;
+        let ends = has_link(table, 0) == *first && has_link(table, 16384) == *last;
+        let count = table.links().len();
+        assert_case(rt, "a full table", at, answers && ends && count == 16384);
+    }
     Ok(())
 }
 
-// A put and a removal, in either order, leave a full table as full as it was.
 #[test]
 fn a_full_table(rt: HostRuntime) -> Result<(), Fail> {
-    let alloc = rt.alloc();
-    let mut table = full_table(alloc)?;
-    let steps: [(&[Edit], (Result<(), Refusal>, bool, bool)); 4] = [
-        (&[], (Ok(()), true, false)),
-        (&[LAST], (Err(Refusal::Full), true, false)),
-        (&[Remove(ONE, 0), LAST], (Ok(()), false, true)),
-        (&[FIRST, Remove(ONE, 16384)], (Ok(()), true, false)),
-    ];
-    for (edits, wanted) in steps {
-        change_full(&rt, alloc, &mut table, edits, wanted)?;
-    }
-    Ok(())
+    change_full(&rt, rt.alloc(), &mut full_table(rt.alloc())?)
 }
 
 // Puts of a link from the router 0 to each of the routers 1 to `end`, which is left out.
@@ -243,145 +290,117 @@ fn star(alloc: Global, end: u32) -> Result<Batch, Fail> {
     Ok(Batch { number: 1, changes })
 }
 
+// Whether an empty table takes the batch only without its last change.
+fn takes_one_less(table: &mut Table, batch: &mut Batch) -> bool {
+    let more = table.check(batch);
+    let _ = batch.changes.pop();
+    let less = answer(table, batch, false);
+    more == TOO_MANY && less == Ok(()) && table.has_router(Addr::new(1023))
+}
+
 #[test]
 fn as_many_routers_as_are_kept(rt: HostRuntime) -> Result<(), Fail> {
-    let alloc = rt.alloc();
-    let mut table = Table::new(alloc)?;
-    let mut star = star(alloc, 1025)?;
-    let more = table.check(&star);
-    let _ = star.changes.pop();
-    let answers = (more, answer(&mut table, &star, false));
-    assert_eq!(rt; answers, (Err(Refusal::TooManyRouters), Ok(())));
-    assert!(rt; table.has_router(Addr::new(1023)));
+    let mut star = star(rt.alloc(), 1025)?;
+    let takes = takes_one_less(&mut Table::new(rt.alloc())?, &mut star);
+    assert_case(&rt, "routers", 1024, takes);
     Ok(())
 }
 
-// The table has these routers, or not.
-fn assert_routers(rt: &impl Abort, table: &Table, routers: &[(u32, bool)]) {
-    assert_eq!(rt; table.routers().len(), 1024);
+// Whether the table has 1,024 routers, these among them, or not.
+fn has_routers(table: &Table, routers: &[(u32, bool)]) -> bool {
     for (router, known) in routers {
-        assert_eq!(rt; table.has_router(Addr::new(*router)), *known, "{router}");
+        if table.has_router(Addr::new(*router)) != *known {
+            return false;
+        }
     }
-}
-
-// A table has one link from the router 0 to each of the routers 1 to 1,023. It answers so to the
-// changes, by one call and by two, and then has these routers, or not.
-fn change_star(
-    rt: &impl Abort,
-    alloc: Global,
-    edits: &[Edit],
-    wanted: Result<(), Refusal>,
-    routers: &[(u32, bool)],
-) -> Result<(), Fail> {
-    let batch = batch_of(alloc, edits)?;
-    for at_once in [false, true] {
-        let mut table = Table::new(alloc)?;
-        table.absorb(&star(alloc, 1024)?);
-        assert_eq!(rt; answer(&mut table, &batch, at_once), wanted, "{batch:?}");
-        assert_routers(rt, &table, routers);
-    }
-    Ok(())
+    table.routers().len() == 1024
 }
 
 const TOO_MANY: Result<(), Refusal> = Err(Refusal::TooManyRouters);
 
+// Changes of a table with one link from the router 0 to each of the routers 1 to 1,023, what it
+// answers, and which routers it has then, or not.
+const STAR: &[(&[Edit], Result<(), Refusal>, &[(u32, bool)])] = &[
+    // another router, alone and as one goes
+    (&[Put(0, 1024, 1024, 1025)], TOO_MANY, &[(1024, false)]),
+    (
+        &[Put(0, 1024, 1024, 1025), Remove(0, 1023)],
+        Ok(()),
+        &[(1024, true), (1023, false)],
+    ),
+    // a link turns to another router, which may have one too
+    (&[Put(0, 5, 2000, 4)], Ok(()), &[(2000, true), (5, false)]),
+    (
+        &[Put(0, 6, 3000, 7), Put(3000, 3001, 0, 3000)],
+        Ok(()),
+        &[(3000, true), (6, false)],
+    ),
+    // a router that stays has a link to another one
+    (&[Put(7, 7, 4000, 6)], TOO_MANY, &[(4000, false)]),
+    // two links turn
+    (
+        &[Put(0, 8, 5000, 9), Put(0, 9, 6000, 8)],
+        Ok(()),
+        &[(5000, true), (6000, true), (8, false), (9, false)],
+    ),
+];
+
+// What such a table answers to the batch, by one call or by two, and whether it then has these
+// routers, or not.
+fn change_star(
+    alloc: Global,
+    star: &Batch,
+    batch: &Batch,
+    at_once: bool,
+    routers: &[(u32, bool)],
+) -> Result<(Result<(), Refusal>, bool), Fail> {
+    let mut table = Table::new(alloc)?;
+    table.absorb(star);
+    let answer = answer(&mut table, batch, at_once);
+    Ok((answer, has_routers(&table, routers)))
+}
+
+// The changes of a star, by two calls and by one.
+fn change_stars(rt: &impl Abort, alloc: Global, star: &Batch) -> Result<(), Fail> {
+    for (at, (edits, wanted, routers)) in STAR.iter().enumerate() {
+        let batch = batch_of(alloc, edits)?;
+        let by_two = change_star(alloc, star, &batch, false, routers)?;
+        let by_one = change_star(alloc, star, &batch, true, routers)?;
+        let holds = by_two == (*wanted, true) && by_one == by_two;
+        assert_case(rt, "routers", at, holds);
+    }
+    Ok(())
+}
+
 #[test]
 fn routers_that_come_as_others_go(rt: HostRuntime) -> Result<(), Fail> {
-    let cases: [(&[Edit], Result<(), Refusal>, &[(u32, bool)]); 6] = [
-        // another router, alone and as one goes
-        (&[Put(0, 1024, 1024, 1025)], TOO_MANY, &[(1024, false)]),
-        (
-            &[Put(0, 1024, 1024, 1025), Remove(0, 1023)],
-            Ok(()),
-            &[(1024, true), (1023, false)],
-        ),
-        // a link turns to another router, which may have one too
-        (&[Put(0, 5, 2000, 4)], Ok(()), &[(2000, true), (5, false)]),
-        (
-            &[Put(0, 6, 3000, 7), Put(3000, 3001, 0, 3000)],
-            Ok(()),
-            &[(3000, true), (6, false)],
-        ),
-        // a router that stays has a link to another one
-        (&[Put(7, 7, 4000, 6)], TOO_MANY, &[(4000, false)]),
-        // two links turn
-        (
-            &[Put(0, 8, 5000, 9), Put(0, 9, 6000, 8)],
-            Ok(()),
-            &[(5000, true), (6000, true), (8, false), (9, false)],
-        ),
-    ];
-    for (edits, wanted, routers) in cases {
-        change_star(&rt, rt.alloc(), edits, wanted, routers)?;
+    change_stars(&rt, rt.alloc(), &star(rt.alloc(), 1024)?)
+}
+
+// Routers, addresses and lengths of prefixes, and whether the router owns the prefix in a table with
+// the link from 1.1.1.1 by 10.0.12.1 to 2.2.2.2.
+const OWNERS: &[(u32, u32, u8, bool)] = &[
+    (ONE, INTERFACE, 24, true),
+    (TWO, INTERFACE, 24, false),
+    (TWO, TWO, 8, true),
+    (ONE, TWO, 8, false),
+    (THREE, THREE, 8, false),
+];
+
+fn assert_owners(rt: &impl Abort, table: &Table) -> Result<(), Fail> {
+    for (at, (router, address, length, owns)) in OWNERS.iter().enumerate() {
+        let prefix = Prefix::new(Addr::new(*address), *length)?;
+        let found = table.owns(Addr::new(*router), prefix);
+        assert_case(rt, "an owner", at, found == *owns);
     }
     Ok(())
 }
 
-// The table takes both puts in one batch.
-fn put_both(
-    rt: &impl Abort,
-    alloc: Global,
-    table: &mut Table,
-    both: [Change; 2],
-) -> Result<(), Fail> {
-    let changes = both.to_vec(alloc)?;
-    let both = Batch { number: 1, changes };
-    assert_eq!(rt; table.try_absorb(&both), Ok(()));
-    Ok(())
-}
-
-// A link and its reverse come. Then the first has another metric, and the second nothing unreserved;
-// and then the first is as it was, and its router is marked.
-#[test]
-fn new_attributes(rt: HostRuntime) -> Result<(), Fail> {
-    let alloc = rt.alloc();
-    let mut table = Table::new(alloc)?;
-    let (old, mut full) = (link(ONE, 4, TWO, 5)?, link(TWO, 5, ONE, 4)?);
-    let mut dear = old;
-    dear.metric = 11;
-    put_both(
-        &rt,
-        alloc,
-        &mut table,
-        [Change::Put(old), Change::Put(full)],
-    )?;
-    full.free = [0; 8];
-    put_both(
-        &rt,
-        alloc,
-        &mut table,
-        [Change::Put(full), Change::Put(dear)],
-    )?;
-    assert_eq!(rt; table.links(), [dear, full].as_slice());
-    assert!(rt; table.has_reverse(&dear));
-    let marked = Node(ONE, false).change()?;
-    put_both(&rt, alloc, &mut table, [Change::Put(old), marked])?;
-    assert_eq!(rt; table.links(), [old, full].as_slice());
-    assert!(rt; !table.transit(Addr::new(ONE)));
-    Ok(())
-}
-
-// Which routers own an interface and other addresses, in a table with the link from 1.1.1.1 by
-// 10.0.12.1 to 2.2.2.2.
+// Which routers own an interface and other addresses.
 #[test]
 fn owners_of_prefixes(rt: HostRuntime) -> Result<(), Fail> {
-    let mut table = Table::new(rt.alloc())?;
     let one_link = [Put(ONE, INTERFACE, TWO, INTERFACE ^ 1)];
+    let mut table = Table::new(rt.alloc())?;
     table.absorb(&batch_of(rt.alloc(), &one_link)?);
-    let cases = [
-        (ONE, (INTERFACE, 24), true),
-        (TWO, (INTERFACE, 24), false),
-        (TWO, (TWO, 8), true),
-        (ONE, (TWO, 8), false),
-        (THREE, (THREE, 8), false),
-    ];
-    for (router, (address, length), owns) in cases {
-        let prefix = Prefix::new(Addr::new(address), length)?;
-        assert_eq!(rt;
-            table.owns(Addr::new(router), prefix),
-            owns,
-            "{router} {prefix:?}"
-        );
-    }
-    Ok(())
+    assert_owners(&rt, &table)
 }

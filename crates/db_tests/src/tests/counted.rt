@@ -1,7 +1,7 @@
 //! A table at work and one at rest, beside the same batches. `tests/scarce` counts how often both take
 //! memory: as often, since to look at a batch, to absorb it and to read the table take none.
 use super::edits::Edit::{self, Node, Put, Remove};
-use super::edits::{batch_of, put};
+use super::edits::{assert_case, batch_of, put};
 use cspf_addr::{Addr, Prefix};
 use cspf_db::Table;
 use cspf_model::{Batch, MOST_ROUTERS};
@@ -39,23 +39,30 @@ fn many(alloc: Global, first: u32, end: u32, routers: u32) -> Result<Batch, Fail
     Ok(Batch { number: 1, changes })
 }
 
-// Batches of few changes, and batches that fill the table, change all its links at once, and bring
-// too many routers or links.
+// Batches of one link of the router 0 after the other: the local addresses from a first one up to an
+// end, and how many other routers they lead to. The first four fill the table, the next ones change
+// its links, alike and turned, and the last ones bring too many routers, links and changes.
+const MANY: [(u32, u32, u32); 9] = [
+    (0, 4096, 1000),
+    (4096, 8192, 1000),
+    (8192, 12288, 1000),
+    (12288, 16384, 1000),
+    (0, 4096, 1000),
+    (0, 4096, 1001),
+    (0, 4096, 1100),
+    (16384, 16385, 1000),
+    (0, 4097, 1000),
+];
+
+// All of these batches.
 fn batches(alloc: Global) -> Result<Vec<Batch>, Fail> {
     let mut all = Vec::new(alloc);
-    for edits in FEW {
+    for edits in &FEW {
         all.push(batch_of(alloc, edits)?)?;
     }
-    for first in 0..4 {
-        let first = first * 4096;
-        all.push(many(alloc, first, first + 4096, 1000)?)?;
+    for (first, end, routers) in &MANY {
+        all.push(many(alloc, *first, *end, *routers)?)?;
     }
-    // alike, turned, and too many of each
-    all.push(many(alloc, 0, 4096, 1000)?)?;
-    all.push(many(alloc, 0, 4096, 1001)?)?;
-    all.push(many(alloc, 0, 4096, 1100)?)?;
-    all.push(many(alloc, 16384, 16385, 1000)?)?;
-    all.push(many(alloc, 0, 4097, 1000)?)?;
     Ok(all)
 }
 
@@ -72,6 +79,12 @@ fn reads(table: &Table, prefix: Prefix) -> usize {
         found = found.wrapping_add(usize::from(place && transit == table.transit_at(at)));
         found = found.wrapping_add(usize::from(known && table.owns(*router, prefix)));
     }
+    found.wrapping_add(reads_of_links(table))
+}
+
+// How many links are found, and their reverses.
+fn reads_of_links(table: &Table) -> usize {
+    let mut found = 0usize;
     for link in table.links() {
         let has = table.find(link.from, link.local).is_some();
         found = found.wrapping_add(usize::from(has && table.has_reverse(link)));
@@ -100,7 +113,8 @@ fn at_work(rt: HostRuntime) -> Result<(), Fail> {
     let prefix = Prefix::new(Addr::new(0), 8)?;
     let found = work(&mut table, batches.as_slice(), prefix);
     table.list_owners(&mut owners, prefix);
-    assert!(rt; found > 100_000 && owners.len() > 100, "{found} {owners:?}");
+    let holds = found > 100_000 && owners.len() > 100;
+    assert_case(&rt, "reads", found, holds);
     Ok(())
 }
 
@@ -110,9 +124,7 @@ fn at_rest(rt: HostRuntime) -> Result<(), Fail> {
     let (table, batches) = (Table::new(alloc)?, batches(alloc)?);
     let owners: Vec<u16> = Vec::with_capacity(alloc, MOST_ROUTERS)?;
     let found = reads(&table, Prefix::new(Addr::new(0), 8)?);
-    assert!(rt;
-        found == 0 && owners.is_empty() && batches.len() == 19,
-        "{found} {batches:?}"
-    );
+    let holds = found == 0 && owners.is_empty() && batches.len() == 19;
+    assert_case(&rt, "reads", found, holds);
     Ok(())
 }

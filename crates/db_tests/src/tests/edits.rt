@@ -1,10 +1,16 @@
-//! What the tests share: links that differ in their ends alone, changes by their numbers, and what a
-//! table answers to a batch.
+//! What the tests share: links that differ in their ends alone, changes by their numbers, what a
+//! table answers to a batch, and the one assertion.
 use cspf_addr::{Addr, Mask};
 use cspf_db::Table;
 use cspf_model::{Batch, Change, Link, LinkError, Refusal};
 use std::alloc::Global;
+use std::process::Abort;
 use std::test::Fail;
+
+// Stops at a case that doesn't hold, with its name and its number.
+pub(super) fn assert_case(rt: &impl Abort, name: &str, number: usize, holds: bool) {
+    assert!(rt; holds, "{name} {number}");
+}
 
 // A change.
 #[derive(Clone, Copy)]
@@ -75,4 +81,15 @@ pub(super) fn answer(table: &mut Table, batch: &Batch, at_once: bool) -> Result<
     let answer = table.check(batch);
     table.absorb(batch);
     answer
+}
+
+// Whether a table answers so to these changes in one batch, by two calls.
+pub(super) fn answers(
+    alloc: Global,
+    table: &mut Table,
+    edits: &[Edit],
+    wanted: Result<(), Refusal>,
+) -> Result<bool, Fail> {
+    let batch = batch_of(alloc, edits)?;
+    Ok(answer(table, &batch, false) == wanted)
 }

@@ -1,6 +1,6 @@
 //! Which routers have transit, after batches that mark them and take their marks away.
 use super::edits::Edit::{self, Node, Put, Remove};
-use super::edits::{answer, batch_of, drop_of, node, put};
+use super::edits::{answer, answers, assert_case, drop_of, node, put};
 use super::reverses::Draw;
 use cspf_addr::Addr;
 use cspf_db::Table;
@@ -9,32 +9,47 @@ use std::alloc::{AllocError, Global};
 use std::process::Abort;
 use std::test::Fail;
 
-// Each router is known by its Router ID, and is marked by its index where its Router ID is one of these.
-fn assert_routers(rt: &impl Abort, table: &Table, marks: &[u32]) {
+// Whether each router is known by its Router ID, and is marked by its index where its Router ID is one
+// of these.
+fn are_routers_marked(table: &Table, marks: &[u32]) -> bool {
     for (at, router) in table.routers().iter().enumerate() {
-        let found = (table.has_router(*router), !table.transit_at(at));
         let marked = marks.contains(&router.number());
-        assert_eq!(rt; found, (true, marked), "{router:?}");
-    }
-}
-
-// The addresses that are marked, all below 2,048, are these by each call, and there are this many
-// routers, all below 2,048 too.
-fn assert_marks(rt: &impl Abort, table: &Table, marks: &[u32], routers: usize) {
-    let mut known = 0usize;
-    for number in 0..2048 {
-        let marked = !table.transit(Addr::new(number));
-        assert_eq!(rt; marked, marks.contains(&number), "{number}");
-        if table.has_router(Addr::new(number)) {
-            known = known.saturating_add(1);
+        if !table.has_router(*router) || table.transit_at(at) == marked {
+            return false;
         }
     }
-    for router in table.marks() {
-        assert!(rt; marks.contains(&router.number()), "{router:?}");
+    true
+}
+
+// Whether the addresses below 2,048 that are marked are these. How many of them are routers is the
+// result, or none.
+fn count_routers(table: &Table, marks: &[u32]) -> Option<usize> {
+    let mut known = 0usize;
+    for number in 0..2048 {
+        let router = Addr::new(number);
+        if table.transit(router) == marks.contains(&number) {
+            return None;
+        }
+        known = known.saturating_add(usize::from(table.has_router(router)));
     }
-    let counts = (table.marks().len(), table.routers().len(), known);
-    assert_eq!(rt; counts, (marks.len(), routers, routers));
-    assert_routers(rt, table, marks);
+    Some(known)
+}
+
+// Whether the table lists these marks, and no others.
+fn are_listed(table: &Table, marks: &[u32]) -> bool {
+    for router in table.marks() {
+        if !marks.contains(&router.number()) {
+            return false;
+        }
+    }
+    table.marks().len() == marks.len()
+}
+
+// Whether the addresses that are marked, all below 2,048, are these by each call, and there are this
+// many routers, all below 2,048 too.
+fn are_marks(table: &Table, marks: &[u32], routers: usize) -> bool {
+    let known = count_routers(table, marks) == Some(routers) && table.routers().len() == routers;
+    known && are_listed(table, marks) && are_routers_marked(table, marks)
 }
 
 // A batch, what the table answers to it, and then which routers are marked, and how many there are.
@@ -173,35 +188,46 @@ const ROUTERS_AND_MARKS: &[Step] = &[
     (&[Remove(9, 1), Node(8, true)], Ok(()), &[1, 2, 4, 9], 2),
 ];
 
-// The steps, one after the other, on an empty table.
-fn make(rt: &impl Abort, alloc: Global, steps: &[Step]) -> Result<(), Fail> {
-    let mut table = Table::new(alloc)?;
-    for (edits, wanted, marks, routers) in steps {
-        let batch = batch_of(alloc, edits)?;
-        assert_eq!(rt; answer(&mut table, &batch, false), *wanted, "{batch:?}");
-        assert_marks(rt, &table, marks, *routers);
+// The steps, one after the other.
+fn make(
+    rt: &impl Abort,
+    alloc: Global,
+    table: &mut Table,
+    (name, steps): &(&str, &[Step]),
+) -> Result<(), Fail> {
+    for (at, (edits, wanted, marks, routers)) in steps.iter().enumerate() {
+        let holds = answers(alloc, table, edits, *wanted)? && are_marks(table, marks, *routers);
+        assert_case(rt, name, at, holds);
     }
     Ok(())
 }
 
+// The same on an empty table.
+fn make_all(rt: &impl Abort, alloc: Global, steps: &(&str, &[Step])) -> Result<(), Fail> {
+    make(rt, alloc, &mut Table::new(alloc)?, steps)
+}
+
+const STEPS: &[(&str, &[Step])] = &[
+    ("marks that come", MARKS_THAT_COME),
+    ("marks that go", MARKS_THAT_GO),
+    ("keys of marks", KEYS_OF_MARKS),
+    ("refused marks", REFUSED),
+    ("routers and marks", ROUTERS_AND_MARKS),
+];
+
 #[test]
 fn marks_after_batches(rt: HostRuntime) -> Result<(), Fail> {
-    for steps in [
-        MARKS_THAT_COME,
-        MARKS_THAT_GO,
-        KEYS_OF_MARKS,
-        REFUSED,
-        ROUTERS_AND_MARKS,
-    ] {
-        make(&rt, rt.alloc(), steps)?;
+    for steps in STEPS {
+        make_all(&rt, rt.alloc(), steps)?;
     }
     Ok(())
 }
 
 #[test]
 fn keys_of_marks(rt: HostRuntime) {
-    let keys = [node(5, false).key(), node(5, true).key()];
-    assert_eq!(rt; keys, [(Addr::new(5), None); 2]);
+    let key = (Addr::new(5), None);
+    let holds = node(5, false).key() == key && node(5, true).key() == key;
+    assert_case(&rt, "the key of a mark", 5, holds);
 }
 
 // Changes that mark the routers of a range, or take their marks away.
@@ -224,16 +250,12 @@ fn counts(table: &Table) -> [usize; 3] {
     [marked, table.marks().len(), table.routers().len()]
 }
 
-// A table with a mark of each of the addresses 0 to 1,023.
-fn full_table(rt: &impl Abort, alloc: Global) -> Result<Table, Fail> {
-    let mut table = Table::new(alloc)?;
+// Whether each of the addresses 0 to 1,023 can be marked, twice.
+fn fill(alloc: Global, table: &mut Table) -> Result<bool, AllocError> {
     let changes = nodes(alloc, 0, 1024, false)?;
     let all = Batch { number: 1, changes };
-    assert_eq!(rt; answer(&mut table, &all, false), Ok(()));
-    assert_eq!(rt; counts(&table), [1024, 1024, 0]);
-    // the same ones again
-    assert_eq!(rt; table.check(&all), Ok(()));
-    Ok(table)
+    let fits = answer(table, &all, false) == Ok(());
+    Ok(fits && counts(table) == [1024, 1024, 0] && table.check(&all) == Ok(()))
 }
 
 // Whether two addresses have transit.
@@ -244,53 +266,71 @@ fn transit_of(table: &Table, first: u32, second: u32) -> (bool, bool) {
 
 const TOO_MANY: Result<(), Refusal> = Err(Refusal::TooManyMarks);
 
-#[test]
-fn one_mark_more_than_are_kept(rt: HostRuntime) -> Result<(), Fail> {
-    let mut table = full_table(&rt, rt.alloc())?;
-    // whether 0 and 1,024 have transit after it
-    let steps = [
-        // one more, and one more in place of one that isn't marked, or twice, or beside a link
-        (
-            [Node(1024, false), Node(1025, true)],
-            TOO_MANY,
-            (false, true),
-        ),
-        (
-            [Node(1024, false), Node(1023, false)],
-            TOO_MANY,
-            (false, true),
-        ),
-        (
-            [Node(1024, false), Put(0, 0, 1, 0)],
-            TOO_MANY,
-            (false, true),
-        ),
-        // another in place of one, there and back
-        ([Node(1024, false), Node(0, true)], Ok(()), (true, false)),
-        ([Node(0, false), Node(1024, true)], Ok(()), (false, true)),
-    ];
-    for (edits, wanted, transit) in steps {
-        let batch = batch_of(rt.alloc(), &edits)?;
-        assert_eq!(rt; answer(&mut table, &batch, false), wanted, "{batch:?}");
-        let found = transit_of(&table, 0, 1024);
-        assert_eq!(rt;
-            (counts(&table), found),
-            ([1024, 1024, 0], transit),
-            "{batch:?}"
-        );
+// Changes where each of the addresses 0 to 1,023 is marked, what the table answers, and whether 0 and
+// 1,024 then have transit.
+const MORE: &[(&[Edit], Result<(), Refusal>, (bool, bool))] = &[
+    // one more, and one more in place of one that isn't marked, or twice, or beside a link
+    (
+        &[Node(1024, false), Node(1025, true)],
+        TOO_MANY,
+        (false, true),
+    ),
+    (
+        &[Node(1024, false), Node(1023, false)],
+        TOO_MANY,
+        (false, true),
+    ),
+    (
+        &[Node(1024, false), Put(0, 0, 1, 0)],
+        TOO_MANY,
+        (false, true),
+    ),
+    // another in place of one, there and back
+    (&[Node(1024, false), Node(0, true)], Ok(()), (true, false)),
+    (&[Node(0, false), Node(1024, true)], Ok(()), (false, true)),
+];
+
+// Whether a table has 1,024 marks and no routers, and 0 and 1,024, or other addresses, have transit so.
+fn is_full(table: &Table, (first, second): (u32, u32), transit: (bool, bool)) -> bool {
+    counts(table) == [1024, 1024, 0] && transit_of(table, first, second) == transit
+}
+
+// All marks are set, and then others.
+fn change_full(rt: &impl Abort, alloc: Global, table: &mut Table) -> Result<(), Fail> {
+    assert_case(rt, "marks", 1024, fill(alloc, table)?);
+    for (at, (edits, wanted, transit)) in MORE.iter().enumerate() {
+        let answers = answers(alloc, table, edits, *wanted)?;
+        let holds = answers && is_full(table, (0, 1024), *transit);
+        assert_case(rt, "more marks", at, holds);
     }
     Ok(())
 }
 
 #[test]
-fn all_marks_in_place_of_others(rt: HostRuntime) -> Result<(), Fail> {
-    let alloc = rt.alloc();
-    let mut table = full_table(&rt, alloc)?;
+fn one_mark_more_than_are_kept(rt: HostRuntime) -> Result<(), Fail> {
+    change_full(&rt, rt.alloc(), &mut Table::new(rt.alloc())?)
+}
+
+// A batch that marks the addresses 1,024 to 2,047 in place of 0 to 1,023.
+fn all_others(alloc: Global) -> Result<Batch, AllocError> {
     let mut changes = nodes(alloc, 1024, 2048, false)?;
-    changes.extend_from_slice(&nodes(alloc, 0, 1024, true)?)?;
-    table.absorb(&Batch { number: 1, changes });
-    let found = transit_of(&table, 1023, 1024);
-    assert_eq!(rt; (counts(&table), found), ([1024, 1024, 0], (true, false)));
+    for router in 0..1024 {
+        changes.push(node(router, true))?;
+    }
+    Ok(Batch { number: 1, changes })
+}
+
+// Whether all marks are set, and others then take their places.
+fn takes_others(alloc: Global, table: &mut Table) -> Result<bool, AllocError> {
+    let is_filled = fill(alloc, table)?;
+    table.absorb(&all_others(alloc)?);
+    Ok(is_filled && is_full(table, (1023, 1024), (true, false)))
+}
+
+#[test]
+fn all_marks_in_place_of_others(rt: HostRuntime) -> Result<(), Fail> {
+    let takes_others = takes_others(rt.alloc(), &mut Table::new(rt.alloc())?)?;
+    assert_case(&rt, "all marks", 1024, takes_others);
     Ok(())
 }
 
@@ -307,47 +347,67 @@ fn star(alloc: Global, count: u32) -> Result<Vec<Change>, Fail> {
 // A batch of the links of a star, marks of the routers from 0 on, and more changes.
 fn star_with_marks(alloc: Global, links: u32, marks: u32, more: &[Edit]) -> Result<Batch, Fail> {
     let mut changes = star(alloc, links)?;
-    changes.extend_from_slice(&nodes(alloc, 0, marks, false)?)?;
+    for router in 0..marks {
+        changes.push(node(router, false))?;
+    }
     for edit in more {
         changes.push(edit.change()?)?;
     }
     Ok(Batch { number: 1, changes })
 }
 
+// How many links and marks a batch has, more changes of it, what an empty table answers, and how many
+// marks and routers it has then.
+type Star = (u32, u32, &'static [Edit], Result<(), Refusal>, usize);
+
+const STARS: &[Star] = &[
+    (0, 1025, &[], TOO_MANY, 0),
+    (1024, 1025, &[], Err(Refusal::TooManyRouters), 0),
+    (1023, 1025, &[], TOO_MANY, 0),
+    (
+        0,
+        1025,
+        &[Remove(0, 1)],
+        Err(Refusal::Absent { at: 1026 }),
+        0,
+    ),
+    (
+        0,
+        1025,
+        &[Remove(0, 1), Node(0, true)],
+        Err(Refusal::Duplicate { at: 1027 }),
+        0,
+    ),
+    (0, 4096, &[], TOO_MANY, 0),
+    (0, 4096, &[Node(0, true)], Err(Refusal::TooLong), 0),
+    // as many marks and routers as are kept
+    (1023, 1024, &[], Ok(()), 1024),
+];
+
+// Whether the table answers so to the batch, and has as many marks and routers then.
+fn takes(
+    alloc: Global,
+    table: &mut Table,
+    (links, marks, more, wanted, left): &Star,
+) -> Result<bool, Fail> {
+    let batch = star_with_marks(alloc, *links, *marks, more)?;
+    let takes = answer(table, &batch, false) == *wanted;
+    Ok(takes && counts(table) == [*left; 3])
+}
+
+fn take_stars(rt: &impl Abort, alloc: Global, table: &mut Table) -> Result<(), Fail> {
+    for (at, star) in STARS.iter().enumerate() {
+        assert_case(rt, "a star with marks", at, takes(alloc, table, star)?);
+    }
+    Ok(())
+}
+
 // Too many marks are the last reason for which a batch is refused.
 #[test]
 fn marks_behind_other_refusals(rt: HostRuntime) -> Result<(), Fail> {
-    let mut table = Table::new(rt.alloc())?;
-    assert_eq!(rt; (MOST_MARKS, MOST_CHANGES), (1024, 4096));
-    let steps: [(u32, u32, &[Edit], Result<(), Refusal>, [usize; 3]); 8] = [
-        (0, 1025, &[], TOO_MANY, [0; 3]),
-        (1024, 1025, &[], Err(Refusal::TooManyRouters), [0; 3]),
-        (1023, 1025, &[], TOO_MANY, [0; 3]),
-        (
-            0,
-            1025,
-            &[Remove(0, 1)],
-            Err(Refusal::Absent { at: 1026 }),
-            [0; 3],
-        ),
-        (
-            0,
-            1025,
-            &[Remove(0, 1), Node(0, true)],
-            Err(Refusal::Duplicate { at: 1027 }),
-            [0; 3],
-        ),
-        (0, 4096, &[], TOO_MANY, [0; 3]),
-        (0, 4096, &[Node(0, true)], Err(Refusal::TooLong), [0; 3]),
-        // as many marks and routers as are kept
-        (1023, 1024, &[], Ok(()), [1024; 3]),
-    ];
-    for (links, marks, more, wanted, left) in steps {
-        let batch = star_with_marks(rt.alloc(), links, marks, more)?;
-        let answer = answer(&mut table, &batch, false);
-        assert_eq!(rt; (answer, counts(&table)), (wanted, left), "{links} {marks}");
-    }
-    Ok(())
+    let limits = MOST_MARKS == 1024 && MOST_CHANGES == 4096;
+    assert_case(&rt, "the limits", 0, limits);
+    take_stars(&rt, rt.alloc(), &mut Table::new(rt.alloc())?)
 }
 
 // A change: a new link between two of eight routers, a link of the table that is dropped, or whether
@@ -406,40 +466,44 @@ fn listed(alloc: Global, marked: &[bool; 16]) -> Result<Vec<u32>, AllocError> {
     Ok(marks)
 }
 
-// A drawn batch is absorbed where no two of its changes are on one key, and else refused. Whether it
-// is refused, and how many marks there are then, is the result.
-fn absorb_drawn(
-    rt: &impl Abort,
+// Whether the table absorbs a drawn batch where no two of its changes are on one key, and else refuses
+// it, and then has the marks that the changes leave of these.
+fn absorbs(
     alloc: Global,
     table: &mut Table,
     marked: &mut [bool; 16],
     batch: &Batch,
-) -> Result<(bool, usize), AllocError> {
-    let unfit = has_twins(&batch.changes);
-    assert_eq!(rt; answer(table, batch, false).is_err(), unfit, "{batch:?}");
-    if !unfit {
+    fits: bool,
+) -> Result<bool, AllocError> {
+    if fits {
         mark_plainly(marked, &batch.changes);
     }
     let marks = listed(alloc, marked)?;
+    let answers = answer(table, batch, false).is_ok() == fits;
     let routers = table.routers().len();
-    assert_marks(rt, table, &marks, routers);
-    Ok((unfit, marks.len()))
+    Ok(answers && are_marks(table, &marks, routers))
+}
+
+// Drawn batches. How many are refused, and how many marks the table has after them, is the result.
+fn absorb_drawn(rt: &impl Abort, alloc: Global, table: &mut Table) -> Result<(u32, usize), Fail> {
+    let (mut marked, mut draw) = ([false; 16], Draw { state: 9 });
+    let (mut refused, mut marks) = (0u32, 0usize);
+    for number in 0..200 {
+        let batch = drawn_batch(alloc, &mut draw, table)?;
+        let fits = !has_twins(&batch.changes);
+        let absorbs = absorbs(alloc, table, &mut marked, &batch, fits)?;
+        assert_case(rt, "a drawn batch", number, absorbs);
+        refused = refused.saturating_add(u32::from(!fits));
+        marks = marks.saturating_add(table.marks().len());
+    }
+    Ok((refused, marks))
 }
 
 #[test]
 fn marks_after_drawn_batches(rt: HostRuntime) -> Result<(), Fail> {
-    let alloc = rt.alloc();
-    let mut table = Table::new(alloc)?;
-    let mut marked = [false; 16];
-    let mut draw = Draw { state: 9 };
-    let (mut refused, mut marks) = (0u32, 0usize);
-    for _ in 0..200 {
-        let batch = drawn_batch(alloc, &mut draw, &table)?;
-        let (unfit, count) = absorb_drawn(&rt, alloc, &mut table, &mut marked, &batch)?;
-        refused = refused.saturating_add(u32::from(unfit));
-        marks = marks.saturating_add(count);
-    }
-    assert!(rt; refused > 10 && marks > 400, "{refused} {marks}");
+    let mut table = Table::new(rt.alloc())?;
+    let (refused, marks) = absorb_drawn(&rt, rt.alloc(), &mut table)?;
+    assert_case(&rt, "refused and marks", marks, refused > 10 && marks > 400);
     Ok(())
 }
 
@@ -453,24 +517,38 @@ fn each_second(alloc: Global, links: u32, first: u32) -> Result<Batch, Fail> {
     Ok(Batch { number: 1, changes })
 }
 
-// Each router has transit by its index where it has it by its Router ID.
-fn assert_alike(rt: &impl Abort, table: &Table) {
+// Whether each router has transit by its index where it has it by its Router ID.
+fn are_alike(table: &Table) -> bool {
     for (at, router) in table.routers().iter().enumerate() {
-        let transit = table.transit(*router);
-        assert_eq!(rt; table.transit_at(at), transit, "{router:?}");
+        if table.transit_at(at) != table.transit(*router) {
+            return false;
+        }
     }
+    true
+}
+
+// Whether each second of 1,024 routers is marked from this one on, after a batch with as many links.
+fn marks_each_second(
+    alloc: Global,
+    table: &mut Table,
+    links: u32,
+    first: u32,
+) -> Result<bool, Fail> {
+    table.absorb(&each_second(alloc, links, first)?);
+    let transit = transit_of(table, 0, 1023) == (first == 1, first == 0);
+    Ok(transit && counts(table) == [512, 512, 1024] && are_alike(table))
 }
 
 // The routers are 0 to 1,023, and each second of them is marked, from 0 on and then from 1 on.
+fn mark_each_second(rt: &impl Abort, alloc: Global, table: &mut Table) -> Result<(), Fail> {
+    let marks_even = marks_each_second(alloc, table, 1023, 0)?;
+    assert_case(rt, "each second router from", 0, marks_even);
+    let marks_odd = marks_each_second(alloc, table, 0, 1)?;
+    assert_case(rt, "each second router from", 1, marks_odd);
+    Ok(())
+}
+
 #[test]
 fn each_second_router_marked(rt: HostRuntime) -> Result<(), Fail> {
-    let mut table = Table::new(rt.alloc())?;
-    for (links, first) in [(1023, 0), (0, 1)] {
-        table.absorb(&each_second(rt.alloc(), links, first)?);
-        assert_eq!(rt; counts(&table), [512, 512, 1024]);
-        let wanted = (first == 1, first == 0);
-        assert_eq!(rt; transit_of(&table, 0, 1023), wanted);
-        assert_alike(&rt, &table);
-    }
-    Ok(())
+    mark_each_second(&rt, rt.alloc(), &mut Table::new(rt.alloc())?)
 }

@@ -1,11 +1,11 @@
 //! Which routers own an address that a prefix covers, and where their links stand, after batches that
 //! put and drop links and that move rows.
 use super::edits::Edit::{self, Put, Remove};
-use super::edits::{answer, batch_of};
+use super::edits::{answer, assert_case, batch_of};
 use super::reverses::Draw;
 use cspf_addr::{Addr, Prefix};
 use cspf_db::Table;
-use cspf_model::{Batch, MOST_ROUTERS};
+use cspf_model::{Link, MOST_ROUTERS};
 use std::alloc::{AllocError, Global};
 use std::process::Abort;
 use std::test::Fail;
@@ -32,44 +32,32 @@ const SEVEN_1: u32 = 0xc0a8_0701;
 
 const REMOTE: u32 = 0xac10_0001;
 
-// The owners of the prefix are the routers that own it by a look at each. How many there are is the
-// result.
-fn assert_alike(
-    rt: &impl Abort,
-    alloc: Global,
-    table: &Table,
-    prefix: Prefix,
-) -> Result<usize, AllocError> {
-    let mut wanted = Vec::new(alloc);
-    for (at, router) in table.routers().iter().enumerate() {
-        if table.owns(*router, prefix) {
-            wanted.push(at as u16)?;
-        }
-    }
+// The routers that own the prefix.
+fn listed(alloc: Global, table: &Table, prefix: Prefix) -> Result<Vec<u16>, AllocError> {
     let mut owners = Vec::with_capacity(alloc, MOST_ROUTERS)?;
     table.list_owners(&mut owners, prefix);
-    assert_eq!(rt; owners.as_slice(), wanted.as_slice(), "{prefix:?}");
-    Ok(wanted.len())
+    Ok(owners)
+}
+
+// Whether these routers, and no others, own the prefix by a look at each router.
+fn are_owners(table: &Table, owners: &[u16], prefix: Prefix) -> bool {
+    let mut owners = owners.iter();
+    for (at, router) in table.routers().iter().enumerate() {
+        if table.owns(*router, prefix) && owners.next() != Some(&(at as u16)) {
+            return false;
+        }
+    }
+    owners.next().is_none()
 }
 
 // A prefix by its address and length, and the routers that own it by their indexes.
 type Case = (u32, u8, &'static [u16]);
 
-// The routers of each case own its prefix, and no others.
-fn assert_owners(
-    rt: &impl Abort,
-    alloc: Global,
-    table: &Table,
-    cases: &[Case],
-) -> Result<(), Fail> {
-    for (address, length, wanted) in cases {
-        let prefix = Prefix::new(Addr::new(*address), *length)?;
-        let mut owners = Vec::with_capacity(alloc, MOST_ROUTERS)?;
-        table.list_owners(&mut owners, prefix);
-        assert_eq!(rt; owners.as_slice(), *wanted, "{prefix:?}");
-        assert_alike(rt, alloc, table, prefix)?;
-    }
-    Ok(())
+// Whether the routers of a case own its prefix, and no others.
+fn is_owned(alloc: Global, table: &Table, (address, length, wanted): &Case) -> Result<bool, Fail> {
+    let prefix = Prefix::new(Addr::new(*address), *length)?;
+    let owners = listed(alloc, table, prefix)?;
+    Ok(owners.as_slice() == *wanted && are_owners(table, &owners, prefix))
 }
 
 // A table with four links from the first router, one from the second, and none from the third.
@@ -129,63 +117,120 @@ const OWNERS_AFTER_GO: &[Case] = &[
     (0, 0, &[0, 1]),
 ];
 
-#[test]
-fn owners_after_batches(rt: HostRuntime) -> Result<(), Fail> {
-    let steps: [(&[Edit], &[Case]); 3] = [
-        (&[], OWNERS),
-        (MOVE, OWNERS_AFTER_MOVE),
-        (GO, OWNERS_AFTER_GO),
-    ];
-    for (edits, cases) in steps {
-        let mut table = Table::new(rt.alloc())?;
-        let first = answer(&mut table, &batch_of(rt.alloc(), LINKS)?, true);
-        let second = answer(&mut table, &batch_of(rt.alloc(), edits)?, true);
-        assert_eq!(rt; (first, second), (Ok(()), Ok(())));
-        assert_owners(&rt, rt.alloc(), &table, cases)?;
+// A name, a batch after the links, and the owners then.
+const STEPS: &[(&str, &[Edit], &[Case])] = &[
+    ("owners", &[], OWNERS),
+    ("owners after a move", MOVE, OWNERS_AFTER_MOVE),
+    ("owners after a router goes", GO, OWNERS_AFTER_GO),
+];
+
+// Whether the table takes these changes by one call.
+fn takes(alloc: Global, table: &mut Table, edits: &[Edit]) -> Result<bool, Fail> {
+    Ok(answer(table, &batch_of(alloc, edits)?, true) == Ok(()))
+}
+
+// The links, one batch after them, and the owners then.
+fn make(
+    rt: &impl Abort,
+    alloc: Global,
+    table: &mut Table,
+    (name, edits, cases): &(&str, &[Edit], &[Case]),
+) -> Result<(), Fail> {
+    let fits = takes(alloc, table, LINKS)? && takes(alloc, table, edits)?;
+    for (at, case) in cases.iter().enumerate() {
+        let is_owned = is_owned(alloc, table, case)?;
+        assert_case(rt, name, at, fits && is_owned);
     }
     Ok(())
 }
 
-// The links from each router stand where a look at each of the links finds them.
-fn assert_spans(rt: &impl Abort, table: &Table) {
-    for (at, router) in table.routers().iter().enumerate() {
-        let mut out = table.out_at(at).iter();
-        for link in table.links().iter().filter(|link| link.from == *router) {
-            assert_eq!(rt; out.next(), Some(link), "{router:?}");
+// The same on an empty table.
+fn make_all(
+    rt: &impl Abort,
+    alloc: Global,
+    step: &(&str, &[Edit], &[Case]),
+) -> Result<(), Fail> {
+    make(rt, alloc, &mut Table::new(alloc)?, step)
+}
+
+#[test]
+fn owners_after_batches(rt: HostRuntime) -> Result<(), Fail> {
+    for step in STEPS {
+        make_all(&rt, rt.alloc(), step)?;
+    }
+    Ok(())
+}
+
+// Whether the links from a router, and no others, are these.
+fn are_links_from(table: &Table, router: Addr, out: &[Link]) -> bool {
+    let mut out = out.iter();
+    for link in table.links() {
+        if link.from == router && out.next() != Some(link) {
+            return false;
         }
-        assert_eq!(rt; out.next(), None, "{router:?}");
+    }
+    out.next().is_none()
+}
+
+// Whether the links from each router stand where a look at each of the links finds them.
+fn are_spans(table: &Table) -> bool {
+    for (at, router) in table.routers().iter().enumerate() {
+        if !are_links_from(table, *router, table.out_at(at)) {
+            return false;
+        }
+    }
+    true
+}
+
+// Whether a drawn prefix has its owners. How many there are is the result then.
+fn count_owners(
+    alloc: Global,
+    table: &Table,
+    address: u32,
+    length: u8,
+) -> Result<Option<usize>, Fail> {
+    let prefix = Prefix::new(Addr::new(address), length)?;
+    let owners = listed(alloc, table, prefix)?;
+    if are_owners(table, &owners, prefix) {
+        Ok(Some(owners.len()))
+    } else {
+        Ok(None)
     }
 }
 
-// A drawn batch is absorbed, and drawn prefixes have their owners. The most that one has is the result.
-fn absorb_drawn(
-    rt: &impl Abort,
-    alloc: Global,
-    table: &mut Table,
-    draw: &mut Draw,
-    batch: &Batch,
-) -> Result<usize, Fail> {
-    assert_eq!(rt; table.try_absorb(batch), Ok(()));
-    assert_spans(rt, table);
+// The lengths of drawn prefixes.
+const LENGTHS: &[u8] = &[0, 27, 29, 30, 31, 32];
+
+// Whether drawn prefixes of each length have their owners. The most that one has is the result then.
+fn most_owners(alloc: Global, table: &Table, draw: &mut Draw) -> Result<Option<usize>, Fail> {
     let mut most = 0;
-    for length in [0, 27, 29, 30, 31, 32] {
-        let prefix = Prefix::new(Addr::new(draw.below(64)), length)?;
-        most = assert_alike(rt, alloc, table, prefix)?.max(most);
+    for length in LENGTHS {
+        match count_owners(alloc, table, draw.below(64), *length)? {
+            Some(count) => most = most.max(count),
+            None => return Ok(None),
+        }
     }
-    Ok(most)
+    Ok(Some(most))
+}
+
+// Drawn batches of a few changes. The most routers that own a drawn prefix is the result.
+fn absorb_drawn(rt: &impl Abort, alloc: Global, table: &mut Table) -> Result<usize, Fail> {
+    let mut draw = Draw { state: 11 };
+    let mut owners = 0;
+    for number in 0..150 {
+        let count = draw.below(6) as usize + 1;
+        let fits = table.try_absorb(&draw.batch(alloc, table, count, 40)?) == Ok(());
+        let most = most_owners(alloc, table, &mut draw)?;
+        let holds = fits && are_spans(table) && most.is_some();
+        assert_case(rt, "a drawn batch", number, holds);
+        owners = most.unwrap_or(0).max(owners);
+    }
+    Ok(owners)
 }
 
 #[test]
 fn owners_after_drawn_batches(rt: HostRuntime) -> Result<(), Fail> {
-    let alloc = rt.alloc();
-    let mut table = Table::new(alloc)?;
-    let mut draw = Draw { state: 11 };
-    let mut owners = 0;
-    for _ in 0..150 {
-        let count = draw.below(6) as usize + 1;
-        let batch = draw.batch(alloc, &table, count, 40)?;
-        owners = absorb_drawn(&rt, alloc, &mut table, &mut draw, &batch)?.max(owners);
-    }
-    assert!(rt; owners > 5, "{owners}");
+    let owners = absorb_drawn(&rt, rt.alloc(), &mut Table::new(rt.alloc())?)?;
+    assert_case(&rt, "owners", owners, owners > 5);
     Ok(())
 }

@@ -1,7 +1,7 @@
 //! Where the reverses of links are, after batches that put and drop them and that move rows.
 use super::edits::Edit::{self, Put, Remove};
-use super::edits::{answer, batch_of, link};
-use cspf_addr::Mask;
+use super::edits::{answer, answers, assert_case, link};
+use cspf_addr::{Addr, Mask};
 use cspf_db::{NO_LINK, Table};
 use cspf_model::{Batch, Change, Link, LinkError};
 use std::alloc::{AllocError, Global};
@@ -36,33 +36,38 @@ fn plain_reverse(links: &[Link], link: &Link) -> Option<usize> {
     None
 }
 
-// The link has the reverse that a plain search finds, or none. Whether it has one is the result.
-fn assert_reverse(rt: &impl Abort, table: &Table, link: &Link, reverse: u16) -> bool {
-    let wanted = plain_reverse(table.links(), link);
-    let found = if reverse == NO_LINK {
-        None
-    } else {
-        Some(usize::from(reverse))
-    };
-    let has_one = wanted.is_some();
-    let found = (found, table.has_reverse(link));
-    assert_eq!(rt; found, (wanted, has_one), "{link:?}");
-    has_one
+// The index that stands for a reverse, or for none.
+fn index_of(reverse: Option<usize>) -> usize {
+    reverse.unwrap_or(usize::from(NO_LINK))
 }
 
-// So it is for each link of the table. How many have a reverse is the result.
-fn assert_reverses(rt: &impl Abort, table: &Table) -> u32 {
+// Whether each of these links has the reverse that a plain search finds, or none. How many have one is
+// the result then.
+fn count_out(table: &Table, out: &[Link], reverses: &[u16]) -> Option<u32> {
     let mut both = 0u32;
-    for (at, router) in table.routers().iter().enumerate() {
-        let (out, reverses) = (table.out_at(at), table.reverses_at(at));
-        assert_eq!(rt; out.len(), reverses.len(), "{router:?}");
-        for (link, reverse) in out.iter().zip(reverses) {
-            if assert_reverse(rt, table, link, *reverse) {
-                both = both.saturating_add(1);
-            }
+    for (link, reverse) in out.iter().zip(reverses) {
+        let wanted = plain_reverse(table.links(), link);
+        let has_one = wanted.is_some();
+        if index_of(wanted) != usize::from(*reverse) || table.has_reverse(link) != has_one {
+            return None;
         }
+        both = both.saturating_add(u32::from(has_one));
     }
-    both
+    if out.len() == reverses.len() {
+        Some(both)
+    } else {
+        None
+    }
+}
+
+// Whether so it is for each link of the table. How many have a reverse is the result then.
+fn count_reverses(table: &Table) -> Option<u32> {
+    let mut both = 0u32;
+    for at in 0..table.routers().len() {
+        let (out, reverses) = (table.out_at(at), table.reverses_at(at));
+        both = both.saturating_add(count_out(table, out, reverses)?);
+    }
+    Some(both)
 }
 
 // The indexes of the reverses of all links, in order.
@@ -156,25 +161,44 @@ const MOVED: &[Step] = &[
     ),
 ];
 
-// The steps, one after the other, on an empty table.
-fn make(rt: &impl Abort, alloc: Global, steps: &[Step]) -> Result<(), Fail> {
-    let mut table = Table::new(alloc)?;
-    let there = link(20, 1, 30, 2)?;
-    for (edits, reverses, has_back) in steps {
-        let batch = batch_of(alloc, edits)?;
-        let found = (answer(&mut table, &batch, false), table.has_reverse(&there));
-        assert_eq!(rt; found, (Ok(()), *has_back), "{batch:?}");
-        let found = reverses_of(alloc, &table)?;
-        assert_eq!(rt; found.as_slice(), *reverses, "{batch:?}");
-        assert_reverses(rt, &table);
+// Whether the table takes the step's batch, and has these reverses then.
+fn takes(alloc: Global, table: &mut Table, step: &Step) -> Result<bool, Fail> {
+    let (edits, reverses, has_back) = step;
+    let answers = answers(alloc, table, edits, Ok(()))?;
+    let holds = answers && table.has_reverse(&link(20, 1, 30, 2)?) == *has_back;
+    let found = reverses_of(alloc, table)?;
+    Ok(holds && found.as_slice() == *reverses && count_reverses(table).is_some())
+}
+
+// The steps, one after the other.
+fn make(
+    rt: &impl Abort,
+    alloc: Global,
+    table: &mut Table,
+    (name, steps): &(&str, &[Step]),
+) -> Result<(), Fail> {
+    for (at, step) in steps.iter().enumerate() {
+        assert_case(rt, name, at, takes(alloc, table, step)?);
     }
     Ok(())
 }
 
+// The same on an empty table.
+fn make_all(rt: &impl Abort, alloc: Global, steps: &(&str, &[Step])) -> Result<(), Fail> {
+    make(rt, alloc, &mut Table::new(alloc)?, steps)
+}
+
+const STEPS: &[(&str, &[Step])] = &[
+    ("reverses that come", COME),
+    ("reverses that come and go", COME_AND_GO),
+    ("replaced reverses", REPLACED),
+    ("moved reverses", MOVED),
+];
+
 #[test]
 fn reverses_after_batches(rt: HostRuntime) -> Result<(), Fail> {
-    for steps in [COME, COME_AND_GO, REPLACED, MOVED] {
-        make(&rt, rt.alloc(), steps)?;
+    for steps in STEPS {
+        make_all(&rt, rt.alloc(), steps)?;
     }
     Ok(())
 }
@@ -187,6 +211,12 @@ fn has_key(changes: &[Change], change: &Change) -> bool {
         }
     }
     false
+}
+
+// A put of a link with attributes of its own.
+fn turned(from: Addr, local: Addr, to: Addr, remote: Addr) -> Result<Change, LinkError> {
+    let link = Link::new(from, local, to, remote, 30, Mask::new(4), [5; 8])?;
+    Ok(Change::Put(link))
 }
 
 // Draws numbers, the same each time.
@@ -230,24 +260,8 @@ impl Draw {
         match kind {
             0 | 1 | 2 => Ok(Change::Put(back(&old)?)),
             3 => Ok(Change::Remove { from, local }),
-            4 => Ok(Change::Put(Link::new(
-                old.to,
-                other.local,
-                from,
-                other.remote,
-                30,
-                Mask::new(4),
-                [5; 8],
-            )?)),
-            5 if other.to != from => Ok(Change::Put(Link::new(
-                from,
-                local,
-                other.to,
-                other.remote,
-                30,
-                Mask::new(4),
-                [5; 8],
-            )?)),
+            4 => turned(old.to, other.local, from, other.remote),
+            5 if other.to != from => turned(from, local, other.to, other.remote),
             _ => Ok(Change::Put(other)),
         }
     }
@@ -274,39 +288,56 @@ impl Draw {
     }
 }
 
-// A drawn batch is absorbed, and each link has its reverse. How many have one is the result.
-fn absorb_drawn(rt: &impl Abort, table: &mut Table, batch: &Batch, count: usize) -> u32 {
-    let found = (batch.changes.len(), answer(table, batch, false));
-    assert_eq!(rt; found, (count, Ok(())));
-    assert_reverses(rt, table)
+// Draws a batch of this many changes, which the table absorbs, so that each link has its reverse. How
+// many have one is the result then.
+fn absorb_drawn(
+    alloc: Global,
+    table: &mut Table,
+    draw: &mut Draw,
+    count: usize,
+    interfaces: u32,
+) -> Result<Option<u32>, Fail> {
+    let batch = draw.batch(alloc, table, count, interfaces)?;
+    let fits = batch.changes.len() == count && answer(table, &batch, false) == Ok(());
+    Ok(if fits { count_reverses(table) } else { None })
+}
+
+// Drawn batches of a few changes. How many links have reverses after them, all in all, is the result.
+fn absorb_many(rt: &impl Abort, alloc: Global, table: &mut Table) -> Result<u32, Fail> {
+    let mut draw = Draw { state: 7 };
+    let mut all = 0u32;
+    for number in 0..200 {
+        let count = draw.below(20) as usize + 1;
+        let both = absorb_drawn(alloc, table, &mut draw, count, 12)?;
+        assert_case(rt, "a drawn batch", number, both.is_some());
+        all = all.saturating_add(both.unwrap_or(0));
+    }
+    Ok(all)
 }
 
 #[test]
 fn reverses_after_drawn_batches(rt: HostRuntime) -> Result<(), Fail> {
-    let alloc = rt.alloc();
-    let mut table = Table::new(alloc)?;
-    let mut draw = Draw { state: 7 };
-    let mut both = 0u32;
-    for _ in 0..200 {
-        let count = draw.below(20) as usize + 1;
-        let batch = draw.batch(alloc, &table, count, 12)?;
-        both = both.saturating_add(absorb_drawn(&rt, &mut table, &batch, count));
-    }
-    assert!(rt; both > 2000, "{both}");
+    let both = absorb_many(&rt, rt.alloc(), &mut Table::new(rt.alloc())?)?;
+    assert_case(&rt, "reverses", both as usize, both > 2000);
     Ok(())
+}
+
+// Drawn batches of 300 changes. How many links have reverses after the last is the result.
+fn absorb_long(rt: &impl Abort, alloc: Global, table: &mut Table) -> Result<u32, Fail> {
+    let mut draw = Draw { state: 8 };
+    let mut last = 0;
+    for number in 0..4 {
+        let both = absorb_drawn(alloc, table, &mut draw, 300, 100)?;
+        assert_case(rt, "a long batch", number, both.is_some());
+        last = both.unwrap_or(0);
+    }
+    Ok(last)
 }
 
 // A batch of this many changes rewrites the rows at once.
 #[test]
 fn reverses_after_a_long_batch(rt: HostRuntime) -> Result<(), Fail> {
-    let alloc = rt.alloc();
-    let mut table = Table::new(alloc)?;
-    let mut draw = Draw { state: 8 };
-    let mut both = 0;
-    for _ in 0..4 {
-        let batch = draw.batch(alloc, &table, 300, 100)?;
-        both = absorb_drawn(&rt, &mut table, &batch, 300);
-    }
-    assert!(rt; both > 50, "{both}");
+    let both = absorb_long(&rt, rt.alloc(), &mut Table::new(rt.alloc())?)?;
+    assert_case(&rt, "reverses", both as usize, both > 50);
     Ok(())
 }

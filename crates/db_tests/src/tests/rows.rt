@@ -1,7 +1,7 @@
 //! The rows of a table, and which routers they run between, after batches that put and drop links in
 //! any order.
 use super::edits::Edit::{Put, Remove};
-use super::edits::{batch_of, link};
+use super::edits::{assert_case, batch_of, link};
 use cspf_addr::Addr;
 use cspf_db::Table;
 use cspf_model::{Batch, Change, Link, LinkError};
@@ -27,7 +27,8 @@ fn nth(order: u32, i: u32) -> u32 {
 
 // Puts all links, or drops each third one, in the given order.
 fn change_all(alloc: Global, table: &mut Table, order: u32, put: bool) -> Result<(), Fail> {
-    for first in [0, 4096, 8192, 12288] {
+    for part in 0..4 {
+        let first = part * 4096;
         let mut changes = Vec::new(alloc);
         for i in first..first + 4096 {
             let link = numbered(nth(order, i))?;
@@ -43,51 +44,59 @@ fn change_all(alloc: Global, table: &mut Table, order: u32, put: bool) -> Result
     Ok(())
 }
 
-// The links are those that are left, in order of the key.
-fn assert_links(rt: &impl Abort, table: &Table, dropped: bool) -> Result<(), Fail> {
+// Whether a row is the link of this number.
+fn is_numbered(row: Option<&Link>, n: u32) -> Result<bool, LinkError> {
+    let link = numbered(n)?;
+    Ok(match row {
+        Some(row) => row.from == link.from && row.local == link.local && row.to == link.to,
+        None => false,
+    })
+}
+
+// Whether the links are those that are left, in order of the key.
+fn are_links(table: &Table, dropped: bool) -> Result<bool, LinkError> {
     let mut rows = table.links().iter();
     for n in 0..16384 {
         if dropped && n % 16 % 3 == 0 {
             continue;
         }
-        let link = numbered(n)?;
-        let row = rows.next().ok_or("a link is missing")?;
-        assert_eq!(rt;
-            (row.from, row.local, row.to),
-            (link.from, link.local, link.to)
-        );
+        if !is_numbered(rows.next(), n)? {
+            return Ok(false);
+        }
     }
-    assert!(rt; rows.next().is_none());
-    Ok(())
+    Ok(rows.next().is_none())
 }
 
-// Each of the links is from a router, and has the index of the router that it runs to.
-fn assert_ends(
-    rt: &impl Abort,
-    routers: &[Addr],
-    from: Addr,
-    out: &[Link],
-    ends: &[u16],
-) -> Result<(), Fail> {
+// Whether each of the links is from a router, and has the index of the router that it runs to.
+fn are_ends(routers: &[Addr], from: Addr, out: &[Link], ends: &[u16]) -> bool {
     for (link, end) in out.iter().zip(ends) {
-        let to = routers.get(*end as usize).ok_or("no such router")?;
-        assert_eq!(rt; (link.from, link.to), (from, *to));
+        if link.from != from || routers.get(*end as usize) != Some(&link.to) {
+            return false;
+        }
     }
-    Ok(())
+    out.len() == ends.len()
 }
 
-// Each router has its own links, and each link the index of the router that it runs to.
-fn assert_routers(rt: &impl Abort, table: &Table, count: usize) -> Result<(), Fail> {
-    let routers = table.routers();
-    assert_eq!(rt; routers.len(), 1024);
-    for (at, router) in routers.iter().enumerate() {
-        let (out, ends) = (table.out_at(at), table.ends_at(at));
-        let counts = [out.len(), table.out(*router).len(), ends.len()];
-        let found = (table.place_of(*router), counts);
-        assert_eq!(rt; found, (Some(at), [count; 3]));
-        assert_ends(rt, routers, *router, out, ends)?;
+// Whether a router of this index has its own links, and each link the index of the router that it runs
+// to. Its number of links is then the result.
+fn count_of_links(table: &Table, at: usize, router: Addr) -> Option<usize> {
+    let (out, ends) = (table.out_at(at), table.ends_at(at));
+    let is_one = table.place_of(router) == Some(at) && table.out(router).len() == out.len();
+    if is_one && are_ends(table.routers(), router, out, ends) {
+        Some(out.len())
+    } else {
+        None
     }
-    Ok(())
+}
+
+// Whether there are 1,024 routers, each with this many links.
+fn are_routers(table: &Table, count: usize) -> bool {
+    for (at, router) in table.routers().iter().enumerate() {
+        if count_of_links(table, at, *router) != Some(count) {
+            return false;
+        }
+    }
+    table.routers().len() == 1024
 }
 
 // All links are put, or each third one is dropped, and then the rows are those that are left.
@@ -99,41 +108,60 @@ fn assert_rows(
     put: bool,
 ) -> Result<(), Fail> {
     change_all(alloc, table, order, put)?;
-    assert_links(rt, table, !put)?;
-    assert_routers(rt, table, if put { 16 } else { 10 })
+    let holds = are_links(table, !put)? && are_routers(table, if put { 16 } else { 10 });
+    assert_case(rt, "rows in order", order as usize, holds);
+    Ok(())
+}
+
+// All links are put in one order, and dropped in another.
+fn put_and_drop(rt: &impl Abort, alloc: Global, table: &mut Table, order: u32) -> Result<(), Fail> {
+    assert_rows(rt, alloc, table, order, true)?;
+    assert_rows(rt, alloc, table, 2 - order, false)
+}
+
+// The same on an empty table.
+fn put_and_drop_all(rt: &impl Abort, alloc: Global, order: u32) -> Result<(), Fail> {
+    put_and_drop(rt, alloc, &mut Table::new(alloc)?, order)
 }
 
 #[test]
 fn rows_in_any_order(rt: HostRuntime) -> Result<(), Fail> {
-    let alloc = rt.alloc();
-    for order in [0, 1, 2] {
-        let mut table = Table::new(alloc)?;
-        assert_rows(&rt, alloc, &mut table, order, true)?;
-        assert_rows(&rt, alloc, &mut table, 2 - order, false)?;
+    for order in 0..3 {
+        put_and_drop_all(&rt, rt.alloc(), order)?;
     }
     Ok(())
 }
 
-// The places of the routers 1 and 2, how many links each has, and how many routers there are.
-fn places(table: &Table) -> ([Option<usize>; 2], [usize; 3]) {
-    let (one, two) = (Addr::new(1), Addr::new(2));
-    let links = (table.out(one).len(), table.out(two).len());
-    let counts = [links.0, links.1, table.routers().len()];
-    ([table.place_of(one), table.place_of(two)], counts)
+// Whether the routers 1 and 2 have these places and no links, and there are as many routers.
+fn has_places(table: &Table, one: Option<usize>, two: Option<usize>, routers: usize) -> bool {
+    let (first, second) = (Addr::new(1), Addr::new(2));
+    let places = table.place_of(first) == one && table.place_of(second) == two;
+    let no_links = table.out(first).is_empty() && table.out(second).is_empty();
+    places && no_links && table.routers().len() == routers
+}
+
+// A link runs to the router 1, and is dropped.
+fn come_and_go(rt: &impl Abort, alloc: Global, table: &mut Table) -> Result<(), Fail> {
+    table.absorb(&batch_of(alloc, &[Put(0, 0, 1, 0)])?);
+    assert_case(
+        rt,
+        "a router that comes",
+        1,
+        has_places(table, Some(1), None, 2),
+    );
+    table.absorb(&batch_of(alloc, &[Remove(0, 0)])?);
+    assert_case(
+        rt,
+        "a router that goes",
+        1,
+        has_places(table, None, None, 0),
+    );
+    Ok(())
 }
 
 #[test]
 fn routers_that_come_and_go(rt: HostRuntime) -> Result<(), Fail> {
-    let mut table = Table::new(rt.alloc())?;
-    let steps = [
-        (Put(0, 0, 1, 0), ([Some(1), None], [0, 0, 2])),
-        (Remove(0, 0), ([None, None], [0, 0, 0])),
-    ];
-    for (edit, wanted) in steps {
-        table.absorb(&batch_of(rt.alloc(), &[edit])?);
-        assert_eq!(rt; places(&table), wanted);
-    }
-    Ok(())
+    come_and_go(&rt, rt.alloc(), &mut Table::new(rt.alloc())?)
 }
 
 // Puts or removes the links between these pairs of routers in one batch.
@@ -155,34 +183,19 @@ fn change_pairs(
     Ok(())
 }
 
-// Each of the links is from a router, and has the index of the router that it runs to among these.
-fn assert_named(
-    rt: &impl Abort,
-    names: &[u32],
-    from: u32,
-    out: &[Link],
-    ends: &[u16],
-) -> Result<(), Fail> {
-    for (link, end) in out.iter().zip(ends) {
-        let to = names.get(*end as usize).ok_or("no such router")?;
-        assert_eq!(rt; (link.from.number(), link.to.number()), (from, *to));
+// Whether the routers are these, and each link has the index of the router that it runs to.
+fn are_listed(table: &Table, names: &[u32]) -> bool {
+    let mut wanted = names.iter();
+    for (at, router) in table.routers().iter().enumerate() {
+        let is_named = wanted.next() == Some(&router.number());
+        if !is_named || count_of_links(table, at, *router).is_none() {
+            return false;
+        }
     }
-    Ok(())
+    table.routers().len() == names.len()
 }
 
-// The routers are these, and each link has the index of the router that it runs to.
-fn assert_listed(rt: &impl Abort, table: &Table, names: &[u32]) -> Result<(), Fail> {
-    assert_eq!(rt; table.routers().len(), names.len());
-    for (at, name) in names.iter().enumerate() {
-        let (out, ends) = (table.out_at(at), table.ends_at(at));
-        let found = (table.place_of(Addr::new(*name)), out.len());
-        assert_eq!(rt; found, (Some(at), ends.len()));
-        assert_named(rt, names, *name, out, ends)?;
-    }
-    Ok(())
-}
-
-const MANY: [(u32, u32); 18] = [
+const MANY: &[(u32, u32)] = &[
     (1, 2),
     (2, 3),
     (3, 4),
@@ -203,30 +216,33 @@ const MANY: [(u32, u32); 18] = [
     (34, 1),
 ];
 
-const ALL: [u32; 22] = [
+const ALL: &[u32] = &[
     1, 2, 3, 4, 5, 6, 7, 8, 9, 10, 11, 12, 13, 14, 20, 21, 22, 30, 31, 32, 33, 34,
 ];
 
-#[test]
-fn routers_between_others(rt: HostRuntime) -> Result<(), Fail> {
-    let alloc = rt.alloc();
-    let mut table = Table::new(alloc)?;
-    // pairs that are joined or parted, and the routers after it
-    let steps: [(&[(u32, u32)], bool, &[u32]); 6] = [
-        (&[(10, 30), (30, 20), (20, 10)], true, &[10, 20, 30]),
-        (
-            &[(30, 5), (15, 40), (10, 25)],
-            true,
-            &[5, 10, 15, 20, 25, 30, 40],
-        ),
-        (&[(30, 5)], false, &[10, 15, 20, 25, 30, 40]),
-        (&[(15, 40), (10, 25)], false, &[10, 20, 30]),
-        (&MANY, true, &ALL),
-        (&MANY, false, &[10, 20, 30]),
-    ];
-    for (pairs, put, names) in steps {
-        change_pairs(alloc, &mut table, pairs, put)?;
-        assert_listed(&rt, &table, names)?;
+// Pairs that are joined or parted, and the routers after it.
+const STEPS: &[(&[(u32, u32)], bool, &[u32])] = &[
+    (&[(10, 30), (30, 20), (20, 10)], true, &[10, 20, 30]),
+    (
+        &[(30, 5), (15, 40), (10, 25)],
+        true,
+        &[5, 10, 15, 20, 25, 30, 40],
+    ),
+    (&[(30, 5)], false, &[10, 15, 20, 25, 30, 40]),
+    (&[(15, 40), (10, 25)], false, &[10, 20, 30]),
+    (MANY, true, ALL),
+    (MANY, false, &[10, 20, 30]),
+];
+
+fn join_and_part(rt: &impl Abort, alloc: Global, table: &mut Table) -> Result<(), Fail> {
+    for (at, (pairs, put, names)) in STEPS.iter().enumerate() {
+        change_pairs(alloc, table, pairs, *put)?;
+        assert_case(rt, "pairs of routers", at, are_listed(table, names));
     }
     Ok(())
+}
+
+#[test]
+fn routers_between_others(rt: HostRuntime) -> Result<(), Fail> {
+    join_and_part(&rt, rt.alloc(), &mut Table::new(rt.alloc())?)
 }

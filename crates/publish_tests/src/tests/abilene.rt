@@ -7,7 +7,7 @@
 //! wait for a bounded number of turns, and no assertion rests on it: an asker may end before the
 //! first batch is published.
 
-use super::fixtures::{batch, request};
+use super::fixtures::{assert_case, batch, request};
 use cspf_addr::{Addr, Mask};
 use cspf_db::Table;
 use cspf_model::{Batch, Change, Link, LinkError, Outcome, Request};
@@ -63,7 +63,7 @@ const NEW_YORK: u32 = 0xc633640b; // 198.51.100.11
 
 /// The least costs from Seattle to New York at some versions, which were worked out with another
 /// program: circuits that fail make it 706 or 1,133 more.
-const COSTS: [(usize, u64); 6] = [
+const COSTS: &[(usize, u64)] = &[
     (1, 4242),
     (6, 4948),
     (7, 4242),
@@ -100,9 +100,9 @@ fn link_of(from: u32, to: u32, metric: u32) -> Result<Link, LinkError> {
 /// The batch of the whole network.
 fn whole_network(alloc: Global) -> Result<Batch, Fail> {
     let mut changes = Vec::new(alloc);
-    for (a, b, metric) in CIRCUITS {
-        changes.push(Change::Put(link_of(a, b, metric)?))?;
-        changes.push(Change::Put(link_of(b, a, metric)?))?;
+    for (a, b, metric) in &CIRCUITS {
+        changes.push(Change::Put(link_of(*a, *b, *metric)?))?;
+        changes.push(Change::Put(link_of(*b, *a, *metric)?))?;
     }
     Ok(Batch { number: 1, changes })
 }
@@ -138,19 +138,30 @@ fn all_batches(alloc: Global) -> Result<Vec<Batch>, Fail> {
     Ok(all)
 }
 
+/// Adds what the search finds in a plain table at each version from 0 on.
+fn add_outcomes(
+    alloc: Global,
+    table: &mut Table,
+    batches: &[Batch],
+    request: &Request,
+    all: &mut Vec<Outcome>,
+) -> Result<(), AllocError> {
+    all.push(best(alloc, table, request)?)?;
+    for batch in batches {
+        table.absorb(batch);
+        all.push(best(alloc, table, request)?)?;
+    }
+    Ok(())
+}
+
 /// What the search finds in a plain table at each version from 0 on.
 fn outcomes_in_order(
     alloc: Global,
     batches: &[Batch],
     request: &Request,
 ) -> Result<Vec<Outcome>, AllocError> {
-    let mut table = Table::new(alloc)?;
     let mut all = Vec::new(alloc);
-    all.push(best(alloc, &table, request)?)?;
-    for batch in batches {
-        table.absorb(batch);
-        all.push(best(alloc, &table, request)?)?;
-    }
+    add_outcomes(alloc, &mut Table::new(alloc)?, batches, request, &mut all)?;
     Ok(all)
 }
 
@@ -314,14 +325,19 @@ fn clients_of(alloc: Global, askers: Vec<Asker>) -> Result<Vec<Client>, AllocErr
 }
 
 /// All answers of an asker were right, and the last one is of the last version.
-fn is_right<R: Abort>(rt: &R, number: usize, client: &Client) {
+fn assert_right<R: Abort>(rt: &R, number: usize, client: &Client) {
     if let Some(fault) = client.fault {
         panic!(rt; "asker {number}: {fault:?}")
     }
-    assert!(rt;
-        client.right == ASKS && client.version == VERSIONS,
-        "asker {number}"
-    );
+    let is_last = client.right == ASKS && client.version == VERSIONS;
+    assert_case(rt, "asker", number, is_last);
+}
+
+/// So it is for each asker.
+fn assert_all_right<R: Abort>(rt: &R, clients: &[Client]) {
+    for (number, client) in clients.iter().enumerate() {
+        assert_right(rt, number, client);
+    }
 }
 
 /// A publisher without a batch, and a client for each of its askers.
@@ -335,45 +351,57 @@ fn opened<R: Wait + Abort>(rt: &R, alloc: Global) -> (Publisher<Vec<u8>>, Vec<Cl
     }
 }
 
+/// Asks once more.
+fn ask_last(alloc: Global, shared: &Shared<'_>, clients: &mut [Client]) {
+    for client in clients.iter_mut() {
+        client.version = ask_again(alloc, shared, client).unwrap_or(0);
+    }
+}
+
 /// Publishes while the askers ask. Then the last version alone is there to be asked.
 fn run<R: Threads + Wait + Abort + Sync>(rt: &R, alloc: Global, shared: &Shared<'_>) {
     let (mut publisher, mut clients) = opened(rt, alloc);
     let last = publish_and_ask(rt, alloc, shared, &mut clients, &mut publisher);
-    for client in clients.iter_mut() {
-        client.version = ask_again(alloc, shared, client).unwrap_or(0);
-    }
+    ask_last(alloc, shared, &mut clients);
     publisher.close(rt);
-    assert!(rt; last == VERSIONS && clients.len() == ASKERS);
-    for (number, client) in clients.iter().enumerate() {
-        is_right(rt, number, client);
-    }
+    let is_last = last == VERSIONS && clients.len() == ASKERS;
+    assert_case(rt, "the last version", last as usize, is_last);
+    assert_all_right(rt, &clients);
 }
 
 /// The outcomes have the least costs.
-fn are_best<R: Abort>(rt: &R, outcomes: &[Outcome]) {
+fn assert_costs<R: Abort>(rt: &R, outcomes: &[Outcome]) {
     for (version, cost) in COSTS {
-        assert!(rt;
-            cost_at(outcomes, version) == Some(cost),
-            "version {version}"
-        );
+        let is_best = cost_at(outcomes, *version) == Some(*cost);
+        assert_case(rt, "the cost at version", *version, is_best);
     }
+}
+
+/// Asks for these outcomes of the batches.
+fn ask_of<R: Threads + Wait + Abort + Sync>(
+    rt: &R,
+    alloc: Global,
+    batches: &[Batch],
+    request: &Request,
+    outcomes: &[Outcome],
+) {
+    let (asked, published) = (AtomicU64::new(0), AtomicU64::new(0));
+    let shared = Shared {
+        batches,
+        request,
+        outcomes,
+        asked: &asked,
+        published: &published,
+    };
+    run(rt, alloc, &shared);
 }
 
 #[test]
 fn asked_while_circuits_fail(rt: HostRuntime) -> Result<(), Fail> {
-    let alloc = rt.alloc();
-    let batches = all_batches(alloc)?;
     let request = request(1, SEATTLE, NEW_YORK, 1000)?;
-    let outcomes = outcomes_in_order(alloc, &batches, &request)?;
-    are_best(&rt, &outcomes);
-    let (asked, published) = (AtomicU64::new(0), AtomicU64::new(0));
-    let shared = Shared {
-        batches: &batches,
-        request: &request,
-        outcomes: &outcomes,
-        asked: &asked,
-        published: &published,
-    };
-    run(&rt, alloc, &shared);
+    let batches = all_batches(rt.alloc())?;
+    let outcomes = outcomes_in_order(rt.alloc(), &batches, &request)?;
+    assert_costs(&rt, &outcomes);
+    ask_of(&rt, rt.alloc(), &batches, &request, &outcomes);
     Ok(())
 }
