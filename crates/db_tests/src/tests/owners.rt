@@ -41,13 +41,16 @@ fn listed(alloc: Global, table: &Table, prefix: Prefix) -> Result<Vec<u16>, Allo
 
 // Whether these routers, and no others, own the prefix by a look at each router.
 fn are_owners(table: &Table, owners: &[u16], prefix: Prefix) -> bool {
-    let mut owners = owners.iter();
+    let mut count = 0usize;
     for (at, router) in table.routers().iter().enumerate() {
-        if table.owns(*router, prefix) && owners.next() != Some(&(at as u16)) {
-            return false;
+        if table.owns(*router, prefix) {
+            if owners.get(count) != Some(&(at as u16)) {
+                return false;
+            }
+            count = count.saturating_add(1);
         }
     }
-    owners.next().is_none()
+    count == owners.len()
 }
 
 // A prefix by its address and length, and the routers that own it by their indexes.
@@ -145,11 +148,7 @@ fn make(
 }
 
 // The same on an empty table.
-fn make_all(
-    rt: &impl Abort,
-    alloc: Global,
-    step: &(&str, &[Edit], &[Case]),
-) -> Result<(), Fail> {
+fn make_all(rt: &impl Abort, alloc: Global, step: &(&str, &[Edit], &[Case])) -> Result<(), Fail> {
     make(rt, alloc, &mut Table::new(alloc)?, step)
 }
 
@@ -163,13 +162,16 @@ fn owners_after_batches(rt: HostRuntime) -> Result<(), Fail> {
 
 // Whether the links from a router, and no others, are these.
 fn are_links_from(table: &Table, router: Addr, out: &[Link]) -> bool {
-    let mut out = out.iter();
+    let mut count = 0usize;
     for link in table.links() {
-        if link.from == router && out.next() != Some(link) {
-            return false;
+        if link.from == router {
+            if out.get(count) != Some(link) {
+                return false;
+            }
+            count = count.saturating_add(1);
         }
     }
-    out.next().is_none()
+    count == out.len()
 }
 
 // Whether the links from each router stand where a look at each of the links finds them.

@@ -77,22 +77,17 @@ fn are_ends(routers: &[Addr], from: Addr, out: &[Link], ends: &[u16]) -> bool {
     out.len() == ends.len()
 }
 
-// Whether a router of this index has its own links, and each link the index of the router that it runs
-// to. Its number of links is then the result.
-fn count_of_links(table: &Table, at: usize, router: Addr) -> Option<usize> {
-    let (out, ends) = (table.out_at(at), table.ends_at(at));
+// Whether a router has this index and its own links, each with the index of the router that it runs to.
+fn has_links(table: &Table, at: usize, router: Addr, out: &[Link], ends: &[u16]) -> bool {
     let is_one = table.place_of(router) == Some(at) && table.out(router).len() == out.len();
-    if is_one && are_ends(table.routers(), router, out, ends) {
-        Some(out.len())
-    } else {
-        None
-    }
+    is_one && are_ends(table.routers(), router, out, ends)
 }
 
 // Whether there are 1,024 routers, each with this many links.
 fn are_routers(table: &Table, count: usize) -> bool {
     for (at, router) in table.routers().iter().enumerate() {
-        if count_of_links(table, at, *router) != Some(count) {
+        let (out, ends) = (table.out_at(at), table.ends_at(at));
+        if out.len() != count || !has_links(table, at, *router, out, ends) {
             return false;
         }
     }
@@ -116,7 +111,7 @@ fn assert_rows(
 // All links are put in one order, and dropped in another.
 fn put_and_drop(rt: &impl Abort, alloc: Global, table: &mut Table, order: u32) -> Result<(), Fail> {
     assert_rows(rt, alloc, table, order, true)?;
-    assert_rows(rt, alloc, table, 2 - order, false)
+    assert_rows(rt, alloc, table, 2u32.saturating_sub(order), false)
 }
 
 // The same on an empty table.
@@ -185,10 +180,10 @@ fn change_pairs(
 
 // Whether the routers are these, and each link has the index of the router that it runs to.
 fn are_listed(table: &Table, names: &[u32]) -> bool {
-    let mut wanted = names.iter();
     for (at, router) in table.routers().iter().enumerate() {
-        let is_named = wanted.next() == Some(&router.number());
-        if !is_named || count_of_links(table, at, *router).is_none() {
+        let (out, ends) = (table.out_at(at), table.ends_at(at));
+        let is_named = names.get(at) == Some(&router.number());
+        if !is_named || !has_links(table, at, *router, out, ends) {
             return false;
         }
     }
