@@ -191,9 +191,10 @@ const ROUTERS_AND_MARKS: &[Step] = &[
 // The steps, one after the other.
 fn make(
     rt: &impl Abort,
+    name: &str,
+    steps: &[Step],
     alloc: Global,
     table: &mut Table,
-    (name, steps): &(&str, &[Step]),
 ) -> Result<(), Fail> {
     for (at, (edits, wanted, marks, routers)) in steps.iter().enumerate() {
         let holds = answers(alloc, table, edits, *wanted)? && are_marks(table, marks, *routers);
@@ -203,8 +204,8 @@ fn make(
 }
 
 // The same on an empty table.
-fn make_all(rt: &impl Abort, alloc: Global, steps: &(&str, &[Step])) -> Result<(), Fail> {
-    make(rt, alloc, &mut Table::new(alloc)?, steps)
+fn make_all(rt: &impl Abort, name: &str, steps: &[Step], alloc: Global) -> Result<(), Fail> {
+    make(rt, name, steps, alloc, &mut Table::new(alloc)?)
 }
 
 const STEPS: &[(&str, &[Step])] = &[
@@ -217,8 +218,8 @@ const STEPS: &[(&str, &[Step])] = &[
 
 #[test]
 fn marks_after_batches(rt: HostRuntime) -> Result<(), Fail> {
-    for steps in STEPS {
-        make_all(&rt, rt.alloc(), steps)?;
+    for (name, steps) in STEPS {
+        make_all(&rt, name, steps, rt.alloc())?;
     }
     Ok(())
 }

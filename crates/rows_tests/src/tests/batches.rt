@@ -113,19 +113,19 @@ fn rows_behind_batches_are_counted(rt: HostRuntime) {
     assert_case(&rt, b"more", more == Err(ReadError::TooManyRows));
 }
 
-/// Whether a reader gives a batch, and then fails.
-fn gives_and_fails(journal: &mut JournalReader<Pieces<'_>>, batch: &mut Batch) -> bool
-    requires { CanRead journal.old }
-{
-    gives_batch(journal, batch) && journal.read_batch(batch) == Err(ReadError::Device)
-}
-
 /// Texts of a batch, and of what comes after it.
 const FAILING: &[&[u8]] = &[
     b"end,1,0\n",
     b"end,1,0\nnode,1.1.1.1,0\n",
     b"end,1,0\nfoo\n",
 ];
+
+/// Whether a reader gives a batch, and then fails.
+fn gives_and_fails(journal: &mut JournalReader<Pieces<'_>>, batch: &mut Batch) -> bool
+    requires { CanRead journal.old }
+{
+    gives_batch(journal, batch) && journal.read_batch(batch) == Err(ReadError::Device)
+}
 
 #[test]
 fn readers_that_fail_behind_a_batch(rt: HostRuntime) {

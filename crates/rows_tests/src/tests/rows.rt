@@ -211,30 +211,23 @@ fn put() -> Result<Row, LinkError> {
     Ok(Row::Put(link))
 }
 
+/// What a row says that marks that router, or takes its mark away.
+fn node(transit: bool) -> Row {
+    let router = Addr::new(ROUTER);
+    Row::Node { router, transit }
+}
+
 #[test]
 fn what_changes_and_an_end_say(rt: HostRuntime) -> Result<(), Fail> {
+    let alloc = rt.alloc();
     let (from, local) = (Addr::new(ROUTER), Addr::new(INTERFACE));
-    let router = from;
     let (number, count) = (7, u32::MAX);
-    let drop = Row::Remove { from, local };
-    let transit = false;
-    let stub = Row::Node { router, transit };
-    let transit = true;
-    assert_row(&rt, rt.alloc(), PUT, put()?)?;
-    assert_row(&rt, rt.alloc(), b"drop,1.2.3.4,10.0.12.1", drop)?;
-    assert_row(
-        &rt,
-        rt.alloc(),
-        b"end,7,4294967295",
-        Row::End { number, count },
-    )?;
-    assert_row(&rt, rt.alloc(), b"node,1.2.3.4,0", stub)?;
-    assert_row(
-        &rt,
-        rt.alloc(),
-        b"node,1.2.3.4,1",
-        Row::Node { router, transit },
-    )
+    let (drop, end) = (Row::Remove { from, local }, Row::End { number, count });
+    assert_row(&rt, alloc, PUT, put()?)?;
+    assert_row(&rt, alloc, b"drop,1.2.3.4,10.0.12.1", drop)?;
+    assert_row(&rt, alloc, b"end,7,4294967295", end)?;
+    assert_row(&rt, alloc, b"node,1.2.3.4,0", node(false))?;
+    assert_row(&rt, alloc, b"node,1.2.3.4,1", node(true))
 }
 
 /// What a row says that asks for a route from that router with these masks and hops.
