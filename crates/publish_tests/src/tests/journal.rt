@@ -123,14 +123,14 @@ fn stopped_at_a_version(rt: HostRuntime) -> Result<(), Fail> {
     Ok(())
 }
 
-/// Whether a writer gets the texts of both batches.
+/// Whether a writer of this width gets the texts of both batches.
 fn is_written<R: Wait + Abort>(
     rt: &R,
     alloc: Global,
-    journal: Narrow,
-    first: &Batch,
-    request: &Request,
+    width: usize,
+    (first, request): (&Batch, &Request),
 ) -> bool {
+    let journal = empty_writer(alloc, width, usize::MAX, None);
     let (mut publisher, mut asker) = opened(rt, alloc, journal);
     let first = publisher.apply(rt, alloc, first);
     let second = apply_empty(rt, alloc, &mut publisher, 2);
@@ -144,8 +144,7 @@ fn is_written<R: Wait + Abort>(
 fn journal_in_pieces(rt: HostRuntime) -> Result<(), Fail> {
     let (first, request) = batch_and_request(rt.alloc())?;
     for width in [1, 3].as_slice() {
-        let journal = empty_writer(rt.alloc(), *width, usize::MAX, None);
-        let is_written = is_written(&rt, rt.alloc(), journal, &first, &request);
+        let is_written = is_written(&rt, rt.alloc(), *width, (&first, &request));
         assert_case(&rt, "bytes a write", *width, is_written);
     }
     Ok(())
