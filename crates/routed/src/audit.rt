@@ -1,24 +1,21 @@
 //! `routed audit` checks a file of replies against a journal and a file of requests.
 
-use crate::devices::{flush, opened, output};
-use crate::noted::FileName;
-use crate::options::{CommandOption, CommandText, JOURNAL, REPLIES, REQUESTS};
+use crate::devices::{Output, opened};
+use crate::options::{Asked, Call, CommandOption, CommandText, JOURNAL, REPLIES, REQUESTS};
 use crate::stopped::{Ran, ended};
-use clap::ArgMatches;
 use cspf_serve::run_audit;
-
-/// The word of the command.
-pub const NAME: &str = "audit";
 
 /// The command with its options.
 pub const COMMAND: CommandText = CommandText {
-    name: NAME,
+    asked: Asked::Audit,
+    name: "audit",
     about: "Checks a file of replies against a journal and a file of requests",
     help: HELP,
     options: &[
-        CommandOption::File(JOURNAL, "The file of batches"),
-        CommandOption::File(REQUESTS, "The file of requests"),
-        CommandOption::File(REPLIES, "The file of replies"),
+        CommandOption::Journal,
+        CommandOption::Requests,
+        CommandOption::Replies,
+        CommandOption::Explain,
     ],
 };
 
@@ -57,42 +54,21 @@ Status:
   3  out of memory, or a file or another device failed; the last line of standard error is
      routed: stopped, and with --explain the line before it says why";
 
-/// What the words of the command say.
-#[derive(Clone, Copy)]
-pub struct AuditWords<'a> {
-    /// The file of batches.
-    pub journal: FileName<'a>,
-    /// The file of requests.
-    pub requests: FileName<'a>,
-    replies: FileName<'a>,
-}
-
-impl<'a> AuditWords<'a> {
-    /// The words that `clap` found.
-    pub(crate) fn read(words: &ArgMatches<'a>) -> Option<AuditWords<'a>> {
-        Some(AuditWords {
-            journal: FileName::read(words, JOURNAL)?,
-            requests: FileName::read(words, REQUESTS)?,
-            replies: FileName::read(words, REPLIES)?,
-        })
-    }
-
-    /// Checks the replies, and writes each fault on standard output. All files are opened before a row
-    /// is read.
-    pub(crate) fn judge(self, rt: &HostRuntime) -> Ran<'a> {
-        let mut out = output(rt)?;
-        let mut journal = opened(rt, self.journal)?;
-        let mut requests = opened(rt, self.requests)?;
-        let mut replies = opened(rt, self.replies)?;
-        let ran = run_audit(
-            rt.alloc(),
-            &mut journal,
-            &mut requests,
-            &mut replies,
-            &mut out,
-        );
-        flush(&mut out)?;
-        let read = journal.fault().or(requests.fault()).or(replies.fault());
-        ended(ran, read.or(out.fault()))
-    }
+/// Checks the replies, and writes each fault on standard output. All files are opened before a row is
+/// read.
+pub(crate) fn judge(call: &Call<'_, '_>, out: &mut Output<'_>) -> Ran {
+    let mut journal = opened(call, JOURNAL)?;
+    let mut requests = opened(call, REQUESTS)?;
+    let mut replies = opened(call, REPLIES)?;
+    let ran = run_audit(
+        call.rt.alloc(),
+        &mut journal,
+        &mut requests,
+        &mut replies,
+        out,
+    );
+    ended(
+        ran,
+        journal.fault().or(requests.fault()).or(replies.fault()),
+    )
 }

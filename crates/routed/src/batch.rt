@@ -1,27 +1,24 @@
 //! `routed batch` applies the batches of a journal, and answers a file of requests.
 
-use crate::devices::{flush, opened, output};
-use crate::noted::FileName;
-use crate::options::{ACCEPT_TORN, CommandOption, CommandText, JOURNAL, REQUESTS, WorkerCount};
+use crate::devices::{Output, opened};
+use crate::options::{ACCEPT_TORN, Asked, Call, CommandOption, CommandText, JOURNAL, REQUESTS};
 use crate::stopped::{Ran, ended};
-use clap::ArgMatches;
 use cspf_serve::{NoGate, run_batch};
 use std::sync::Wait;
 use std::thread::Threads;
 
-/// The word of the command.
-pub const NAME: &str = "batch";
-
 /// The command with its options.
 pub const COMMAND: CommandText = CommandText {
-    name: NAME,
+    asked: Asked::Batch,
+    name: "batch",
     about: "Applies the batches of a journal, and answers requests on standard output",
     help: HELP,
     options: &[
-        CommandOption::File(JOURNAL, "The file of batches"),
-        CommandOption::File(REQUESTS, "The file of requests"),
+        CommandOption::Journal,
+        CommandOption::Requests,
         CommandOption::Workers,
         CommandOption::AcceptTorn,
+        CommandOption::Explain,
     ],
 };
 
@@ -50,47 +47,24 @@ Status:
   3  out of memory, or a file or another device failed; the last line of standard error is
      routed: stopped, and with --explain the line before it says why";
 
-/// What the words of the command say.
-#[derive(Clone, Copy)]
-pub struct BatchWords<'a> {
-    /// The file of batches.
-    pub journal: FileName<'a>,
-    /// The file of requests.
-    pub requests: FileName<'a>,
-    workers: WorkerCount,
-    /// Whether torn rows of the journal are left out.
-    pub accept_torn: bool,
-}
-
-impl<'a> BatchWords<'a> {
-    /// The words that `clap` found.
-    pub(crate) fn read(words: &ArgMatches<'a>) -> Option<BatchWords<'a>> {
-        Some(BatchWords {
-            journal: FileName::read(words, JOURNAL)?,
-            requests: FileName::read(words, REQUESTS)?,
-            workers: WorkerCount::read(words)?,
-            accept_torn: words.get_flag(ACCEPT_TORN),
-        })
-    }
-
-    /// Applies the batches and answers the requests on standard output. The files are opened before a
-    /// row is read.
-    pub(crate) fn answer<T: Threads + Wait + Sync>(self, rt: &HostRuntime, handle: &T) -> Ran<'a> {
-        let mut out = output(rt)?;
-        let mut journal = opened(rt, self.journal)?;
-        let mut requests = opened(rt, self.requests)?;
-        let ran = run_batch(
-            handle,
-            rt.alloc(),
-            &mut journal,
-            &mut requests,
-            &mut out,
-            self.workers.count(),
-            self.accept_torn,
-            &NoGate,
-        );
-        flush(&mut out)?;
-        let noted = journal.fault().or(requests.fault()).or(out.fault());
-        ended(ran, noted)
-    }
+/// Applies the batches and answers the requests on standard output. The files are opened before a row
+/// is read.
+pub(crate) fn answer<T: Threads + Wait + Sync>(
+    call: &Call<'_, '_>,
+    handle: &T,
+    out: &mut Output<'_>,
+) -> Ran {
+    let mut journal = opened(call, JOURNAL)?;
+    let mut requests = opened(call, REQUESTS)?;
+    let ran = run_batch(
+        handle,
+        call.rt.alloc(),
+        &mut journal,
+        &mut requests,
+        out,
+        call.workers(),
+        call.has(ACCEPT_TORN),
+        &NoGate,
+    );
+    ended(ran, journal.fault().or(requests.fault()))
 }

@@ -3,14 +3,16 @@
 ghost use Rattle.std.specs.Prelude.{◌≡◌, ◌<◌, ◌≤◌, length, IfOk, vec_len};
 
 use crate::bounded::{Bounded, Cause};
-use crate::noted::{Action, FileName, Name};
+use crate::ends::{say, say_at, say_of, stop};
+use crate::noted::Fault;
+use crate::options::{CLIENT, Call, EXPLAIN, JOURNAL};
+use crate::statuses::REFUSED;
 use crate::stopped::Stopped;
 use cspf_serve::{Client, MOST_ASKERS, Replies};
-use std::alloc::{AllocError, Global};
 use std::fs::{File, OpenOptions};
 use std::io::Write;
 use std::os::unix::fs::MetadataExt;
-use std::{fmt, fs, io};
+use std::{fs, io};
 
 /// A client's file of requests, as `--explain` names it.
 const REQUESTS: &str = "a client's requests";
@@ -21,134 +23,150 @@ const REPLIES: &str = "a client's replies";
 /// The files of a client.
 #[derive(Clone, Copy)]
 pub struct ClientNames<'a> {
-    /// The file of its requests.
-    pub requests: FileName<'a>,
-    /// The file of its replies.
-    pub replies: FileName<'a>,
+    /// The path of the file of its requests.
+    pub requests: &'a str,
+    /// The path of the file of its replies.
+    pub replies: &'a str,
 }
 
-/// Why the names of files are refused.
-#[derive(Clone, Copy)]
-pub enum NamesError<'a> {
-    /// Memory was refused.
-    Memory,
-    /// A client doesn't have two names.
-    Pair,
-    /// There are no clients, or too many.
-    Count,
-    /// Two names are of one file, of which one is written.
-    Twice(&'a str),
-    /// A file of replies has bytes, which the replies would write over.
-    Full(&'a str),
-}
-
-impl<'a> From<AllocError> for NamesError<'a> {
-    fn from(_refused: AllocError) -> NamesError<'a> {
-        NamesError::Memory
-    }
-}
-
-impl<'a> fmt::Display for NamesError<'a> {
-    fn fmt<W: fmt::Write>(&self, f: &mut fmt::Formatter<W>) -> fmt::Result {
-        match self {
-            NamesError::Memory => f.write_str("out of memory"),
-            NamesError::Pair => f.write_str("a client is IN=OUT"),
-            NamesError::Count => write!(f, "there are 1 to {MOST_ASKERS} clients"),
-            NamesError::Twice(path) => write!(f, "a file is named twice: {path}"),
-            NamesError::Full(path) => write!(f, "an OUT has to be empty or new: {path}"),
+impl<'a> ClientNames<'a> {
+    /// The files that a word `IN=OUT` names. Where it doesn't, both names are empty.
+    pub(crate) fn read(word: &'a str) -> ClientNames<'a> {
+        match word.split_once('=') {
+            Some((requests, replies)) => ClientNames { requests, replies },
+            None => ClientNames {
+                requests: "",
+                replies: "",
+            },
         }
     }
 }
 
-/// The files of a client, which a word `IN=OUT` names.
-fn read_names<'a>(word: &'a str) -> Option<ClientNames<'a>> {
-    let (requests, replies) = word.split_once('=')?;
-    if requests.is_empty() || replies.is_empty() {
-        return None;
-    }
-    Some(ClientNames {
-        requests: FileName {
-            word: REQUESTS,
-            path: requests,
-        },
-        replies: FileName {
-            word: REPLIES,
-            path: replies,
-        },
-    })
-}
-
-/// The files of all clients, where each has two names.
-fn read_all<'a>(
-    alloc: Global,
-    words: &[&'a str],
-) -> Result<Option<Vec<ClientNames<'a>>>, AllocError> {
-    let mut all = Vec::with_capacity(alloc, words.len())?;
-    for word in words {
-        match read_names(word) {
-            Some(names) => all.push(names)?,
-            None => return Ok(None),
-        }
-    }
-    Ok(Some(all))
-}
-
-/// The files of all clients. Nothing is opened, so that a refusal leaves all files as they are.
-pub(crate) fn client_names<'a>(
-    rt: &HostRuntime,
-    journal: &'a str,
-    words: &[&'a str],
-) -> Result<Vec<ClientNames<'a>>, NamesError<'a>>
-    ensures { IfOk result (λ names. (0 < vec_len names) × (vec_len names ≤ MOST_ASKERS)) }
+/// Refuses no clients, too many, and files that can't be used. Nothing is opened, so that a refusal
+/// leaves all files as they are.
+pub(crate) fn check_clients(call: &Call<'_, '_>, words: &[&str]) -> Result<(), Stopped>
+    ensures { IfOk result (λ _. (0 < length words.now) × (length words.now ≤ MOST_ASKERS)) }
 {
-    let Some(clients) = read_all(rt.alloc(), words)? else {
-        return Err(NamesError::Pair);
+    check_names(call.rt, words)?;
+    if words.is_empty() || words.len() > MOST_ASKERS {
+        let _ = eprintln!(call.rt; "routed: there are 1 to {MOST_ASKERS} clients");
+        return Err(Stopped::Said(REFUSED));
+    }
+    check_shared(call, words)?;
+    check_empty(call.rt, words)
+}
+
+/// Refuses a client without two names.
+fn check_names(rt: &HostRuntime, words: &[&str]) -> Result<(), Stopped> {
+    for word in words {
+        let names = ClientNames::read(word);
+        if names.requests.is_empty() || names.replies.is_empty() {
+            say(rt, &"a client is IN=OUT");
+            return Err(Stopped::Said(REFUSED));
+        }
+    }
+    Ok(())
+}
+
+/// Refuses two names of one file, of which one is written.
+fn check_shared(call: &Call<'_, '_>, words: &[&str]) -> Result<(), Stopped> {
+    let mut all = Vec::new(call.rt.alloc());
+    add(call.rt, &mut all, call.value(JOURNAL), true)?;
+    for word in words {
+        add_client(call.rt, &mut all, ClientNames::read(word))?;
+    }
+    Ok(())
+}
+
+/// Adds the files of a client to those that a run names.
+fn add_client<'a>(
+    rt: &HostRuntime,
+    all: &mut Vec<Named<'a>>,
+    names: ClientNames<'a>,
+) -> Result<(), Stopped> {
+    add(rt, all, names.requests, false)?;
+    add(rt, all, names.replies, true)
+}
+
+/// Adds a file, unless an earlier one shares it.
+fn add<'a>(
+    rt: &HostRuntime,
+    all: &mut Vec<Named<'a>>,
+    path: &'a str,
+    is_written: bool,
+) -> Result<(), Stopped> {
+    let named = Named {
+        path,
+        is_written,
+        place: place_of(rt, path),
     };
-    if clients.is_empty() || clients.len() > MOST_ASKERS {
-        return Err(NamesError::Count);
+    if named.is_among(all) {
+        say_of(rt, "a file is named twice", &path);
+        return Err(Stopped::Said(REFUSED));
     }
-    let named = named_by(rt, journal, &clients)?;
-    if let Some(path) = shared(&named) {
-        return Err(NamesError::Twice(path));
+    match all.push(named) {
+        Ok(()) => Ok(()),
+        Err(_) => Err(Stopped::Memory),
     }
-    match clients
-        .iter()
-        .find(|client| has_bytes(rt, client.replies.path))
-    {
-        Some(client) => Err(NamesError::Full(client.replies.path)),
-        None => Ok(clients),
+}
+
+/// Refuses a file of replies that has bytes, which the replies would write over.
+fn check_empty(rt: &HostRuntime, words: &[&str]) -> Result<(), Stopped> {
+    for word in words {
+        let path = ClientNames::read(word).replies;
+        if has_bytes(rt, path) {
+            say_of(rt, "an OUT has to be empty or new", &path);
+            return Err(Stopped::Said(REFUSED));
+        }
     }
+    Ok(())
 }
 
 /// Where a file is: its device and inode, or those of its folder and its name there while it isn't
 /// there.
-#[derive(Clone, Copy, PartialEq, Eq)]
+#[derive(Clone, Copy)]
 struct Place<'a> {
     device: u64,
     inode: u64,
     new: Option<&'a str>,
 }
 
+impl<'a> Place<'a> {
+    /// Where the file of this name is, if the system says.
+    fn read(rt: &HostRuntime, path: &str, new: Option<&'a str>) -> Option<Place<'a>> {
+        match fs::metadata(rt, path) {
+            Ok(found) => Some(Place {
+                device: found.dev(),
+                inode: found.ino(),
+                new,
+            }),
+            Err(_) => None,
+        }
+    }
+
+    /// Whether both are one.
+    fn is(self, other: Place<'_>) -> bool {
+        self.device == other.device && self.inode == other.inode && self.new == other.new
+    }
+}
+
 /// Where the file of this name is, if the system says.
 fn place_of<'a>(rt: &HostRuntime, path: &'a str) -> Option<Place<'a>> {
-    if let Ok(found) = fs::metadata(rt, path) {
-        return Some(Place {
-            device: found.dev(),
-            inode: found.ino(),
-            new: None,
-        });
+    let found = Place::read(rt, path, None);
+    if found.is_some() {
+        return found;
     }
-    let (folder, name) = match path.rsplit_once('/') {
+    let (folder, name) = folder_of(path);
+    Place::read(rt, folder, Some(name))
+}
+
+/// The folder of a file, and its name there.
+fn folder_of(path: &str) -> (&str, &str) {
+    match path.rsplit_once('/') {
         Some(("", name)) => ("/", name),
         Some((folder, name)) => (folder, name),
         None => (".", path),
-    };
-    let found = fs::metadata(rt, folder).ok()?;
-    Some(Place {
-        device: found.dev(),
-        inode: found.ino(),
-        new: Some(name),
-    })
+    }
 }
 
 /// A file that a run reads or writes.
@@ -160,48 +178,28 @@ struct Named<'a> {
 }
 
 impl<'a> Named<'a> {
-    /// The file of this name.
-    fn new(rt: &HostRuntime, path: &'a str, is_written: bool) -> Named<'a> {
-        Named {
-            path,
-            is_written,
-            place: place_of(rt, path),
-        }
-    }
-
     /// Whether both are one name, or one file of which one is written.
     fn is_shared(&self, other: &Named<'a>) -> bool {
         if self.path == other.path {
             return true;
         }
-        (self.is_written || other.is_written) && self.place.is_some() && self.place == other.place
-    }
-}
-
-/// The journal, and the files of all clients.
-fn named_by<'a>(
-    rt: &HostRuntime,
-    journal: &'a str,
-    clients: &[ClientNames<'a>],
-) -> Result<Vec<Named<'a>>, AllocError> {
-    let mut all = Vec::new(rt.alloc());
-    all.push(Named::new(rt, journal, true))?;
-    for client in clients {
-        all.push(Named::new(rt, client.requests.path, false))?;
-        all.push(Named::new(rt, client.replies.path, true))?;
-    }
-    Ok(all)
-}
-
-/// The first name of a file that an earlier one shares.
-fn shared<'a>(all: &[Named<'a>]) -> Option<&'a str> {
-    for index in 0..all.len() {
-        let named = all[index];
-        if all[..index].iter().any(|other| named.is_shared(other)) {
-            return Some(named.path);
+        match (self.place, other.place) {
+            (Some(place), Some(others)) => {
+                (self.is_written || other.is_written) && place.is(others)
+            }
+            _ => false,
         }
     }
-    None
+
+    /// Whether one of these is it.
+    fn is_among(&self, others: &[Named<'a>]) -> bool {
+        for other in others {
+            if self.is_shared(other) {
+                return true;
+            }
+        }
+        false
+    }
 }
 
 /// Whether this is a plain file with bytes.
@@ -245,38 +243,55 @@ impl Replies for Closing {
 /// What `serve` takes of a client: its files, opened.
 pub type OpenClient = Client<Bounded<File>, Closing>;
 
+/// A file of a client, if it could be opened. With `--explain` it says why not.
+fn opened(
+    call: &Call<'_, '_>,
+    word: &'static str,
+    path: &str,
+    made: io::Result<File>,
+) -> Result<File, Stopped> {
+    match made {
+        Ok(file) => Ok(file),
+        Err(error) => {
+            if call.has(EXPLAIN) {
+                let fault = Fault {
+                    device: word,
+                    action: "open",
+                    error,
+                };
+                say_at(call.rt, word, path, &fault);
+            }
+            Err(Stopped::Said(stop(call.rt)))
+        }
+    }
+}
+
 /// The files of a client, opened: that of its requests first.
-fn open_client<'a>(rt: &HostRuntime, names: ClientNames<'a>) -> Result<OpenClient, Stopped<'a>> {
-    let (requests, cause) = match File::open(rt, names.requests.path) {
-        Ok(file) => Bounded::new(rt.alloc(), file)?,
-        Err(error) => return Err(Stopped::by(Name::File(names.requests), Action::Open, error)),
-    };
+fn open_client(call: &Call<'_, '_>, names: ClientNames<'_>) -> Result<OpenClient, Stopped> {
+    let made = File::open(call.rt, names.requests);
+    let file = opened(call, REQUESTS, names.requests, made)?;
+    let (requests, cause) = Bounded::new(call.rt.alloc(), file)?;
     let made = OpenOptions::new()
         .write(true)
         .create(true)
-        .open(rt, names.replies.path);
-    match made {
-        Ok(file) => Ok(Client {
-            requests,
-            replies: Closing {
-                file: Some(file),
-                cause,
-            },
-        }),
-        Err(error) => Err(Stopped::by(Name::File(names.replies), Action::Open, error)),
+        .open(call.rt, names.replies);
+    match opened(call, REPLIES, names.replies, made) {
+        Ok(file) => {
+            let file = Some(file);
+            let replies = Closing { file, cause };
+            Ok(Client { requests, replies })
+        }
+        Err(why) => Err(why),
     }
 }
 
 /// The files of all clients, opened one after the other.
-pub(crate) fn open_clients<'a>(
-    rt: &HostRuntime,
-    names: &[ClientNames<'a>],
-) -> Result<Vec<OpenClient>, Stopped<'a>>
-    ensures { IfOk result (λ clients. vec_len clients ≡ length names.now) }
+pub(crate) fn open_clients(call: &Call<'_, '_>, words: &[&str]) -> Result<Vec<OpenClient>, Stopped>
+    ensures { IfOk result (λ clients. vec_len clients ≡ length words.now) }
 {
-    let mut clients = Vec::with_capacity(rt.alloc(), names.len())?;
-    for client in names {
-        let Ok(()) = clients.push(open_client(rt, *client)?) else {
+    let mut clients = Vec::with_capacity(call.rt.alloc(), words.len())?;
+    for word in words {
+        let Ok(()) = clients.push(open_client(call, ClientNames::read(word))?) else {
             return Err(Stopped::Memory);
         };
     }

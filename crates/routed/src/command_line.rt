@@ -1,15 +1,13 @@
-//! The command line: which command it names, and what the words after it say.
+//! The command line: which command it names, and how that is run.
 
-use crate::audit::AuditWords;
-use crate::batch::BatchWords;
+use crate::devices::{finish, held_places, output};
 use crate::ends::end;
-use crate::live::LiveWords;
-use crate::refused_rows::RowFiles;
-use crate::serve::ServeWords;
-use crate::snapshot::SnapshotWords;
+use crate::options::{Asked, Call, CommandText};
+use crate::statuses::REFUSED;
+use crate::stopped::Ran;
 use crate::{audit, batch, live, serve, snapshot, solve};
 use clap::{ArgMatches, Command, Error};
-use std::alloc::Global;
+use std::alloc::{AllocError, Global};
 use std::sync::Wait;
 use std::thread::Threads;
 
@@ -19,79 +17,81 @@ const VERSION: &str = "0.9.0";
 /// What help says of the program.
 const ABOUT: &str = "A path computation server over a traffic engineering database";
 
-/// The command that the words of the command line name.
-pub(crate) fn parse<'a>(alloc: Global, words: &'a [String]) -> Result<ArgMatches<'a>, Error> {
+/// The commands, in the order of help. No other function names their texts, which are dear to prove.
+fn texts() -> &'static [CommandText] {
+    &[
+        solve::COMMAND,
+        batch::COMMAND,
+        live::COMMAND,
+        serve::COMMAND,
+        snapshot::COMMAND,
+        audit::COMMAND,
+    ]
+}
+
+/// The program without its commands.
+fn bare<'a>(alloc: Global) -> Command<'a> {
     Command::new(alloc, "routed")
         .about(ABOUT)
         .version(VERSION)
         .after_help(solve::HELP)
         .subcommand_required(true)
-        .subcommand(solve::COMMAND.command(alloc)?)?
-        .subcommand(batch::COMMAND.command(alloc)?)?
-        .subcommand(live::COMMAND.command(alloc)?)?
-        .subcommand(serve::COMMAND.command(alloc)?)?
-        .subcommand(snapshot::COMMAND.command(alloc)?)?
-        .subcommand(audit::COMMAND.command(alloc)?)?
-        .try_get_matches_from(words)
 }
 
-/// A command with what its words say.
-#[derive(Clone, Copy)]
-pub enum Asked<'m, 'a> {
-    Solve,
-    Batch(BatchWords<'a>),
-    Live(LiveWords<'a>),
-    Serve(ServeWords<'m, 'a>),
-    Snapshot(SnapshotWords<'a>),
-    Audit(AuditWords<'a>),
-}
-
-impl<'m, 'a> Asked<'m, 'a> {
-    /// The command of this name, with the words that `clap` found. None where a required word is
-    /// missing, which `clap` refuses itself.
-    pub(crate) fn read(name: &str, words: &'m ArgMatches<'a>) -> Option<Asked<'m, 'a>> {
-        Some(match name {
-            batch::NAME => Asked::Batch(BatchWords::read(words)?),
-            live::NAME => Asked::Live(LiveWords::read(words)?),
-            serve::NAME => Asked::Serve(ServeWords::read(words)?),
-            snapshot::NAME => Asked::Snapshot(SnapshotWords::read(words)?),
-            audit::NAME => Asked::Audit(AuditWords::read(words)?),
-            _ => Asked::Solve,
-        })
+/// The program as `clap` takes it.
+fn program<'a>(alloc: Global) -> Result<Command<'a>, AllocError> {
+    let mut program = bare(alloc);
+    for text in texts() {
+        program = program.subcommand(text.command(alloc)?)?;
     }
+    Ok(program)
+}
 
-    /// Runs the command, and returns the status. With `explain` it says why a run stops, or which row
-    /// a file is refused for.
-    pub(crate) fn run<T: Threads + Wait + Sync>(
-        self,
-        rt: &HostRuntime,
-        handle: &T,
-        explain: bool,
-    ) -> u8 {
-        let files = self.row_files();
-        // Each run ends in its branch: what the branches answer has unlike lifetimes.
-        match self {
-            Asked::Solve => end(rt, solve::answer(rt), files, explain),
-            Asked::Batch(words) => end(rt, words.answer(rt, handle), files, explain),
-            Asked::Live(words) => end(rt, words.answer(rt, handle), files, explain),
-            Asked::Serve(words) => end(rt, words.serve(rt, handle, explain), files, explain),
-            Asked::Snapshot(words) => end(rt, words.write(rt), files, explain),
-            Asked::Audit(words) => end(rt, words.judge(rt), files, explain),
+/// The command that the words of the command line name.
+pub(crate) fn parse<'a>(alloc: Global, words: &'a [String]) -> Result<ArgMatches<'a>, Error> {
+    program(alloc)?.try_get_matches_from(words)
+}
+
+/// Does what a command line that was accepted asks for, and returns the status.
+pub(crate) fn obey<'m, T: Threads + Wait + Sync>(
+    rt: &'m HostRuntime,
+    handle: &T,
+    found: &'m ArgMatches<'_>,
+) -> u8 {
+    let Some((name, words)) = found.subcommand() else {
+        return REFUSED;
+    };
+    for text in texts() {
+        if text.name == name {
+            return run(&Call { rt, words }, handle, text);
         }
     }
+    REFUSED
+}
 
-    /// The files whose rows may be refused. Where torn rows are accepted, a journal is none of them.
-    fn row_files(self) -> RowFiles<'a> {
-        let (journal, requests) = match self {
-            Asked::Solve | Asked::Serve(_) => (None, None),
-            Asked::Batch(words) => {
-                let journal = (!words.accept_torn).then_some(words.journal);
-                (journal, Some(words.requests))
-            }
-            Asked::Live(words) => (Some(words.updates), Some(words.requests)),
-            Asked::Snapshot(words) => ((!words.accept_torn).then_some(words.journal), None),
-            Asked::Audit(words) => (Some(words.journal), Some(words.requests)),
-        };
-        RowFiles { journal, requests }
-    }
+/// Runs a command, and returns the status.
+fn run<T: Threads + Wait + Sync>(call: &Call<'_, '_>, handle: &T, text: &CommandText) -> u8 {
+    let ran = match text.asked {
+        Asked::Solve => solve::answer(call.rt),
+        Asked::Serve => serve::answer(call, handle),
+        Asked::Live => {
+            // The new journal isn't taken for a standard stream that is closed.
+            let _held = held_places(call.rt);
+            run_buffered(call, handle, Asked::Live)
+        }
+        asked => run_buffered(call, handle, asked),
+    };
+    end(call, ran, text.options)
+}
+
+/// Runs a command whose lines are written when they fill a buffer.
+fn run_buffered<T: Threads + Wait + Sync>(call: &Call<'_, '_>, handle: &T, asked: Asked) -> Ran {
+    let mut out = output(call.rt)?;
+    let ran = match asked {
+        Asked::Batch => batch::answer(call, handle, &mut out),
+        Asked::Live => live::answer(call, handle, &mut out),
+        Asked::Snapshot => snapshot::write(call, &mut out),
+        _ => audit::judge(call, &mut out),
+    };
+    finish(&mut out, ran)
 }

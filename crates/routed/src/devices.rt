@@ -1,8 +1,9 @@
 //! The files and the standard streams of a run, each with its name.
 
 use crate::limited::Limited;
-use crate::noted::{Action, FileName, Name, Noted};
-use crate::stopped::Stopped;
+use crate::noted::Noted;
+use crate::options::{Call, JOURNAL};
+use crate::stopped::{Ran, Stopped};
 use std::fs::{File, OpenOptions};
 use std::io;
 use std::io::{BufWriter, Printer, Write};
@@ -17,12 +18,15 @@ pub const OUTPUT: &str = "standard output";
 const NOTHING: &str = "/dev/null";
 
 /// Standard output with a buffer.
-pub type Output<'a, 'r> = Noted<'a, BufWriter<Printer<'r, HostRuntime>>>;
+pub type Output<'r> = Noted<BufWriter<Printer<'r, HostRuntime>>>;
+
+/// A journal that is made.
+pub type JournalFile = Noted<Limited<File>>;
 
 /// Standard output with a buffer.
-pub(crate) fn output<'a, 'r>(rt: &'r HostRuntime) -> Result<Output<'a, 'r>, Stopped<'a>> {
+pub(crate) fn output<'r>(rt: &'r HostRuntime) -> Result<Output<'r>, Stopped> {
     match BufWriter::new(rt.alloc(), io::writer(rt)) {
-        Ok(writer) => Ok(Noted::new(Name::Stream(OUTPUT), writer)),
+        Ok(writer) => Ok(Noted::new(OUTPUT, writer)),
         Err(_) => Err(Stopped::Memory),
     }
 }
@@ -43,48 +47,46 @@ pub(crate) struct HeldPlaces {
 
 /// Opens the three files.
 pub(crate) fn held_places(rt: &HostRuntime) -> HeldPlaces {
-    let input = held_place(rt);
-    let output = held_place(rt);
-    let error = held_place(rt);
     HeldPlaces {
-        _input: input,
-        _output: output,
-        _error: error,
+        _input: held_place(rt),
+        _output: held_place(rt),
+        _error: held_place(rt),
     }
 }
 
-/// A file to read.
-pub(crate) fn opened<'a>(
-    rt: &HostRuntime,
-    file: FileName<'a>,
-) -> Result<Noted<'a, File>, Stopped<'a>> {
-    let name = Name::File(file);
-    match File::open(rt, file.path) {
-        Ok(file) => Ok(Noted::new(name, file)),
-        Err(error) => Err(Stopped::by(name, Action::Open, error)),
+/// The file that an option gives, to read.
+pub(crate) fn opened(call: &Call<'_, '_>, option: &'static str) -> Result<Noted<File>, Stopped> {
+    match File::open(call.rt, call.value(option)) {
+        Ok(file) => Ok(Noted::new(option, file)),
+        Err(error) => Err(Stopped::at(option, "open", error)),
     }
 }
 
-/// A journal to write, which isn't there yet.
-pub(crate) fn created<'a>(
-    rt: &HostRuntime,
-    file: FileName<'a>,
-) -> Result<Noted<'a, Limited<File>>, Stopped<'a>> {
-    let name = Name::File(file);
+/// The journal to write, which isn't there yet.
+pub(crate) fn created(call: &Call<'_, '_>) -> Result<JournalFile, Stopped> {
     let made = OpenOptions::new()
         .write(true)
         .create_new(true)
-        .open(rt, file.path);
+        .open(call.rt, call.value(JOURNAL));
     match made {
-        Ok(file) => Ok(Noted::new(name, Limited::new(rt, file))),
-        Err(error) => Err(Stopped::by(name, Action::Open, error)),
+        Ok(file) => Ok(Noted::new(JOURNAL, Limited::new(call.rt, file))),
+        Err(error) => Err(Stopped::at(JOURNAL, "open", error)),
     }
 }
 
-/// Flushes a writer.
-pub(crate) fn flush<'a, W: Write>(writer: &mut Noted<'a, W>) -> Result<(), Stopped<'a>> {
+/// What a run answers once a writer is flushed. An error of the writer comes before one of the run.
+pub(crate) fn flushed<W: Write>(writer: &mut Noted<W>, ran: Ran) -> Ran {
     match writer.flush() {
-        Ok(()) => Ok(()),
-        Err(error) => Err(Stopped::by(writer.name(), Action::Flush, error)),
+        Ok(()) => ran,
+        Err(error) => Err(Stopped::at(writer.name(), "flush", error)),
+    }
+}
+
+/// What a run answers once standard output is flushed. Where it stops for a device that hasn't been
+/// named, that is standard output.
+pub(crate) fn finish(out: &mut Output<'_>, ran: Ran) -> Ran {
+    match flushed(out, ran) {
+        Ok(status) => Ok(status),
+        Err(why) => Err(why.by(None, out.fault())),
     }
 }

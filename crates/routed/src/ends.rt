@@ -1,8 +1,25 @@
 //! How a run ends: its status, and what is said of it on standard error.
 
-use crate::refused_rows::RowFiles;
+use crate::options::{Call, CommandOption, EXPLAIN};
+use crate::refused_rows::explain_rows;
 use crate::statuses::{STOPPED, UNFIT};
-use crate::stopped::Ran;
+use crate::stopped::{Ran, Stopped};
+use std::fmt;
+
+/// Says something.
+pub(crate) fn say<W: fmt::Display>(rt: &HostRuntime, what: &W) {
+    let _ = eprintln!(rt; "routed: {what}");
+}
+
+/// Says something of what has this name.
+pub(crate) fn say_of<W: fmt::Display>(rt: &HostRuntime, name: &str, what: &W) {
+    let _ = eprintln!(rt; "routed: {name}: {what}");
+}
+
+/// Says something of a file: the option that gives it or what it is for, and its path.
+pub(crate) fn say_at<W: fmt::Display>(rt: &HostRuntime, word: &str, path: &str, what: &W) {
+    let _ = eprintln!(rt; "routed: {word} {path}: {what}");
+}
 
 /// Says that a run stops, and answers its status.
 pub(crate) fn stop(rt: &HostRuntime) -> u8 {
@@ -10,21 +27,40 @@ pub(crate) fn stop(rt: &HostRuntime) -> u8 {
     STOPPED
 }
 
-/// The status of a run. With `explain` it says why the run stopped, or which row its files are refused
-/// for.
-pub(crate) fn end<'a>(rt: &HostRuntime, ran: Ran<'a>, files: RowFiles<'a>, explain: bool) -> u8 {
+/// The status of a run. With `--explain` it says why the run stopped, or which row its files are
+/// refused for. These are the command's options.
+pub(crate) fn end(call: &Call<'_, '_>, ran: Ran, options: &[CommandOption]) -> u8 {
+    let explain = call.has(EXPLAIN);
     match ran {
         Ok(status) => {
-            if status == UNFIT && explain {
-                files.explain(rt);
+            if explain && status == UNFIT {
+                explain_rows(call, options);
             }
             status
         }
+        Err(Stopped::Said(status)) => status,
         Err(why) => {
             if explain {
-                let _ = eprintln!(rt; "routed: {why}");
+                explain_stop(call, why);
             }
-            stop(rt)
+            stop(call.rt)
         }
+    }
+}
+
+/// Says why a run stopped.
+fn explain_stop(call: &Call<'_, '_>, why: Stopped) {
+    let rt = call.rt;
+    match why {
+        Stopped::Memory => say(rt, &"out of memory"),
+        Stopped::Device(fault) => match call.words.get_str(fault.device) {
+            Some(path) => say_at(rt, fault.device, path, &fault),
+            None => say_of(rt, fault.device, &fault),
+        },
+        Stopped::Solve(error) => say(rt, &error),
+        Stopped::Stream(error) => say(rt, &error),
+        Stopped::Run(error) => say(rt, &error),
+        Stopped::Serve(error) => say(rt, &error),
+        Stopped::Said(_) => {}
     }
 }

@@ -12,11 +12,25 @@ const FILE_SIZE: &str = "Max file size";
 
 /// The most bytes that a file of this process may have, if the system says.
 fn most_bytes(rt: &HostRuntime) -> Option<u64> {
-    let limits = fs::read_to_string(rt, LIMITS).ok()?;
-    let line = limits
-        .lines()
-        .find_map(|line| line.strip_prefix(FILE_SIZE))?;
-    line.split_whitespace().next()?.parse().ok()
+    match fs::read_to_string(rt, LIMITS) {
+        Ok(limits) => limit_in(limits.as_str()),
+        Err(_) => None,
+    }
+}
+
+/// The limit that the lines of a process's limits say.
+fn limit_in(limits: &str) -> Option<u64> {
+    for line in limits.lines() {
+        if let Some(limit) = line.strip_prefix(FILE_SIZE) {
+            return first_number(limit);
+        }
+    }
+    None
+}
+
+/// The number that a text begins with, after spaces.
+fn first_number(text: &str) -> Option<u64> {
+    text.split_whitespace().next()?.parse().ok()
 }
 
 /// A writer to a new file. A write that begins at the limit of a file's size is an error, where the

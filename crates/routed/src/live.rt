@@ -1,27 +1,24 @@
 //! `routed live` applies batches to a new journal while it answers a file of requests.
 
-use crate::devices::{created, flush, held_places, opened, output};
-use crate::noted::FileName;
-use crate::options::{CommandOption, CommandText, JOURNAL, REQUESTS, UPDATES, WorkerCount};
+use crate::devices::{Output, created, flushed, opened};
+use crate::options::{Asked, Call, CommandOption, CommandText, REQUESTS, UPDATES};
 use crate::stopped::{Ran, ended};
-use clap::ArgMatches;
 use cspf_serve::{NoGate, run_live_rows};
 use std::sync::Wait;
 use std::thread::Threads;
 
-/// The word of the command.
-pub const NAME: &str = "live";
-
 /// The command with its options.
 pub const COMMAND: CommandText = CommandText {
-    name: NAME,
+    asked: Asked::Live,
+    name: "live",
     about: "Applies batches to a new journal while requests are answered on standard output",
     help: HELP,
     options: &[
-        CommandOption::File(UPDATES, "The file of batches to apply"),
-        CommandOption::File(REQUESTS, "The file of requests"),
-        CommandOption::File(JOURNAL, "The file of batches to make"),
+        CommandOption::Updates,
+        CommandOption::Requests,
+        CommandOption::NewJournal,
         CommandOption::Workers,
+        CommandOption::Explain,
     ],
 };
 
@@ -56,51 +53,29 @@ Status:
   3  out of memory, a file or another device failed, or the journal exists already; the last line of
      standard error is routed: stopped, and with --explain the line before it says why";
 
-/// What the words of the command say.
-#[derive(Clone, Copy)]
-pub struct LiveWords<'a> {
-    /// The file of batches to apply.
-    pub updates: FileName<'a>,
-    /// The file of requests.
-    pub requests: FileName<'a>,
-    journal: FileName<'a>,
-    workers: WorkerCount,
-}
-
-impl<'a> LiveWords<'a> {
-    /// The words that `clap` found.
-    pub(crate) fn read(words: &ArgMatches<'a>) -> Option<LiveWords<'a>> {
-        Some(LiveWords {
-            updates: FileName::read(words, UPDATES)?,
-            requests: FileName::read(words, REQUESTS)?,
-            journal: FileName::read(words, JOURNAL)?,
-            workers: WorkerCount::read(words)?,
-        })
-    }
-
-    /// Applies the batches and answers the requests on standard output. The files are opened before a
-    /// row is read, the journal last. A journal that is there already is left as it is.
-    pub(crate) fn answer<T: Threads + Wait + Sync>(self, rt: &HostRuntime, handle: &T) -> Ran<'a> {
-        let mut out = output(rt)?;
-        let _held = held_places(rt);
-        let mut updates = opened(rt, self.updates)?;
-        let mut requests = opened(rt, self.requests)?;
-        let mut journal = created(rt, self.journal)?;
-        let (ran, _journal) = run_live_rows(
-            handle,
-            rt.alloc(),
-            &mut updates,
-            &mut requests,
-            &mut journal,
-            &mut out,
-            self.workers.count(),
-            &NoGate,
-        );
-        let kept = flush(&mut journal);
-        flush(&mut out)?;
-        kept?;
-        // A write to the journal that fails refuses a batch, and stops nothing.
-        let noted = updates.fault().or(requests.fault()).or(out.fault());
-        ended(ran, noted)
-    }
+/// Applies the batches and answers the requests on standard output. The files are opened before a row
+/// is read, the journal last. A journal that is there already is left as it is.
+pub(crate) fn answer<T: Threads + Wait + Sync>(
+    call: &Call<'_, '_>,
+    handle: &T,
+    out: &mut Output<'_>,
+) -> Ran {
+    let mut updates = opened(call, UPDATES)?;
+    let mut requests = opened(call, REQUESTS)?;
+    let mut journal = created(call)?;
+    let (ran, _journal) = run_live_rows(
+        handle,
+        call.rt.alloc(),
+        &mut updates,
+        &mut requests,
+        &mut journal,
+        out,
+        call.workers(),
+        &NoGate,
+    );
+    // A write to the journal that fails refuses a batch, and stops nothing.
+    flushed(
+        &mut journal,
+        ended(ran, updates.fault().or(requests.fault())),
+    )
 }

@@ -24,27 +24,14 @@ mod solve;
 mod statuses;
 mod stopped;
 
-use clap::ArgMatches;
 use clap::error::ErrorKind;
-use command_line::{Asked, parse};
+use command_line::{obey, parse};
 use ends::stop;
-use options::EXPLAIN;
 use statuses::REFUSED;
 use std::process::ExitCode;
 use std::sync::Wait;
 use std::thread::Threads;
 use std::{env, io};
-
-/// Does what a command line that was accepted asks for.
-fn obey<T: Threads + Wait + Sync>(rt: &HostRuntime, handle: &T, found: &ArgMatches<'_>) -> u8 {
-    let Some((name, words)) = found.subcommand() else {
-        return REFUSED;
-    };
-    match Asked::read(name, words) {
-        Some(asked) => asked.run(rt, handle, words.get_flag(EXPLAIN)),
-        None => REFUSED,
-    }
-}
 
 /// Does what the words of the command line ask for. Where standard error is closed, nobody sees why
 /// they are refused.

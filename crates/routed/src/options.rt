@@ -33,8 +33,16 @@ const WORKERS: &str = "workers";
 /// An option of a command.
 #[derive(Clone, Copy)]
 pub enum CommandOption {
-    /// A required file: the option's name, and what help says of it.
-    File(&'static str, &'static str),
+    /// The journal that is read.
+    Journal,
+    /// The journal that is made.
+    NewJournal,
+    /// The batches to apply.
+    Updates,
+    /// The requests.
+    Requests,
+    /// The replies.
+    Replies,
     /// The two files of each client.
     Clients,
     /// How many workers answer.
@@ -46,73 +54,91 @@ pub enum CommandOption {
 }
 
 impl CommandOption {
+    /// Its name.
+    pub(crate) fn name(self) -> &'static str {
+        match self {
+            CommandOption::Journal | CommandOption::NewJournal => JOURNAL,
+            CommandOption::Updates => UPDATES,
+            CommandOption::Requests => REQUESTS,
+            CommandOption::Replies => REPLIES,
+            CommandOption::Clients => CLIENT,
+            CommandOption::Workers => WORKERS,
+            CommandOption::AcceptTorn => ACCEPT_TORN,
+            CommandOption::Explain => EXPLAIN,
+        }
+    }
+
+    /// What help says of it.
+    fn help(self) -> &'static str {
+        match self {
+            CommandOption::Journal => "The file of batches",
+            CommandOption::NewJournal => "The file of batches to make",
+            CommandOption::Updates => "The file of batches to apply",
+            CommandOption::Requests => "The file of requests",
+            CommandOption::Replies => "The file of replies",
+            CommandOption::Clients => {
+                "The files of a client's requests and replies; once for each client"
+            }
+            CommandOption::Workers => "How many workers answer, 1 to 64",
+            CommandOption::AcceptTorn => "Leave out the rows after the last whole batch",
+            CommandOption::Explain => {
+                "Say on standard error why a run stops, or which row a file is refused for"
+            }
+        }
+    }
+
+    /// Whether it gives a file of rows which may be refused.
+    pub(crate) fn has_rows(self) -> bool {
+        matches!(
+            self,
+            CommandOption::Journal | CommandOption::Updates | CommandOption::Requests
+        )
+    }
+
     /// The option as `clap` takes it.
     fn arg<'a>(self, alloc: Global) -> Arg<'a> {
+        let arg = named(alloc, self.name(), self.help());
         match self {
-            CommandOption::File(name, help) => {
-                required(alloc, name, "FILE", ArgAction::Set, help)
-            }
-            CommandOption::Clients => required(
-                alloc,
-                CLIENT,
-                "IN=OUT",
-                ArgAction::Append,
-                "The files of a client's requests and replies; once for each client",
-            ),
-            CommandOption::Workers => workers(alloc),
-            CommandOption::AcceptTorn => flag(
-                alloc,
-                ACCEPT_TORN,
-                "Leave out the rows after the last whole batch",
-            ),
-            CommandOption::Explain => flag(
-                alloc,
-                EXPLAIN,
-                "Say on standard error why a run stops, or which row a file is refused for",
-            ),
+            CommandOption::Clients => required(arg, "IN=OUT").action(ArgAction::Append),
+            CommandOption::Workers => workers(arg),
+            CommandOption::AcceptTorn | CommandOption::Explain => arg.action(ArgAction::SetTrue),
+            _ => required(arg, "FILE"),
         }
     }
 }
 
-/// An option that is required: its name, that of its value, what a second one does, and what help says of
-/// it.
-fn required<'a>(
-    alloc: Global,
-    name: &'static str,
-    value: &'static str,
-    action: ArgAction,
-    help: &'static str,
-) -> Arg<'a> {
-    Arg::new(alloc, name)
-        .long(name)
-        .value_name(value)
-        .required(true)
-        .action(action)
-        .help(help)
+/// An option by its name, and what help says of it.
+fn named<'a>(alloc: Global, name: &'static str, help: &'static str) -> Arg<'a> {
+    Arg::new(alloc, name).long(name).help(help)
 }
 
-/// The option that says how many workers answer.
-fn workers<'a>(alloc: Global) -> Arg<'a> {
-    Arg::new(alloc, WORKERS)
-        .long(WORKERS)
-        .value_name("N")
+/// The option with a value that is required, which help calls so.
+fn required<'a>(arg: Arg<'a>, value: &'static str) -> Arg<'a> {
+    arg.value_name(value).required(true)
+}
+
+/// The option with a number of workers.
+fn workers<'a>(arg: Arg<'a>) -> Arg<'a> {
+    arg.value_name("N")
         .value_parser(value_parser!(u8).range(1..=MOST_ASKERS as i64))
         .default_value("1")
-        .action(ArgAction::Set)
-        .help("How many workers answer, 1 to 64")
 }
 
-/// An option without a value: its name, and what help says of it.
-fn flag<'a>(alloc: Global, name: &'static str, help: &'static str) -> Arg<'a> {
-    Arg::new(alloc, name)
-        .long(name)
-        .action(ArgAction::SetTrue)
-        .help(help)
+/// The command that a command line names.
+#[derive(Clone, Copy)]
+pub enum Asked {
+    Solve,
+    Batch,
+    Live,
+    Serve,
+    Snapshot,
+    Audit,
 }
 
-/// What help says of a command, and its options beside `--explain`, which each has as the last.
+/// What help says of a command, and its options.
 #[derive(Clone, Copy)]
 pub struct CommandText {
+    pub asked: Asked,
     pub name: &'static str,
     pub about: &'static str,
     pub help: &'static str,
@@ -128,31 +154,33 @@ impl CommandText {
         for option in self.options {
             command = command.arg(option.arg(alloc))?;
         }
-        command.arg(CommandOption::Explain.arg(alloc))
+        Ok(command)
     }
 }
 
-/// How many workers answer: 1 to 64.
+/// A call of a command: the process, and the words after the command's.
 #[derive(Clone, Copy)]
-pub struct WorkerCount {
-    count: usize,
-    ghost within: { (0 < count) × (count ≤ MOST_ASKERS) },
+pub struct Call<'m, 'a> {
+    pub rt: &'m HostRuntime,
+    pub words: &'m ArgMatches<'a>,
 }
 
-impl WorkerCount {
-    /// The number that the words give. None outside these bounds, which `clap` refuses itself.
-    pub(crate) fn read(words: &ArgMatches<'_>) -> Option<WorkerCount> {
-        let count = words.get_one::<u8>(WORKERS)? as usize;
-        if count == 0 || count > MOST_ASKERS {
-            return None;
-        }
-        Some(WorkerCount { count })
+impl<'m, 'a> Call<'m, 'a> {
+    /// The value of an option. `clap` refuses a command line that lacks one, and none is read as empty.
+    pub(crate) fn value(&self, option: &str) -> &'a str {
+        self.words.get_str(option).unwrap_or("")
     }
 
-    /// Their number.
-    pub(crate) fn count(self) -> usize
+    /// Whether a flag is set.
+    pub(crate) fn has(&self, flag: &str) -> bool {
+        self.words.get_flag(flag)
+    }
+
+    /// How many workers answer. `clap` refuses a number outside these bounds itself.
+    pub(crate) fn workers(&self) -> usize
         ensures { (0 < result) × (result ≤ MOST_ASKERS) }
     {
-        self.count
+        let count = self.words.get_one::<u8>(WORKERS).unwrap_or(1) as usize;
+        count.clamp(1, MOST_ASKERS)
     }
 }

@@ -1,6 +1,7 @@
 //! Which row a file of rows is refused for, as `--explain` says it. The file is read once more for it.
 
-use crate::noted::{FileName, Name};
+use crate::ends::say_at;
+use crate::options::{ACCEPT_TORN, Call, CommandOption, REQUESTS};
 use cspf_rows::{MOST_ROWS, Row, RowError, open_records};
 use csv::{ByteRecord, Reader};
 use std::alloc::Global;
@@ -48,24 +49,37 @@ impl fmt::Display for RefusedRow {
     }
 }
 
-/// How far the rows of a journal have come.
+/// How far the rows of a file have come: a journal, or a file of requests.
 #[derive(Clone, Copy)]
 struct Progress {
+    is_journal: bool,
     batches: u32,
     changes: u32,
+    /// The first row that is refused.
+    refused: Option<RefusedRow>,
 }
 
 impl Progress {
-    /// Takes the next row, or says why it belongs to no whole batch.
-    fn take(&mut self, fields: &ByteRecord) -> Option<Why> {
-        match Row::read(fields) {
+    /// Takes the next row, unless one is refused.
+    fn take(&mut self, row: u32, fields: &ByteRecord) {
+        if self.refused.is_none() {
+            if let Some(why) = self.refusal(Row::read(fields)) {
+                self.refused = Some(RefusedRow { row, why });
+            }
+        }
+    }
+
+    /// Takes a row, or says why it is refused.
+    fn refusal(&mut self, read: Result<Row, RowError>) -> Option<Why> {
+        match read {
             Err(error) => Some(Why::Row(error)),
-            Ok(Row::Ask(_)) => Some(Why::Row(RowError::Kind)),
-            Ok(Row::End { number, count }) => self.end(number, count),
-            Ok(_) => {
+            Ok(Row::Ask(_)) if !self.is_journal => None,
+            Ok(Row::End { number, count }) if self.is_journal => self.end(number, count),
+            Ok(Row::Put(_) | Row::Remove { .. } | Row::Node { .. }) if self.is_journal => {
                 self.changes = self.changes.saturating_add(1);
                 None
             }
+            Ok(_) => Some(Why::Row(RowError::Kind)),
         }
     }
 
@@ -85,66 +99,62 @@ impl Progress {
         None
     }
 
-    /// Whether changes are left where this is the last row.
-    fn last(self, row: u32) -> Option<RefusedRow> {
-        let why = Why::Unended {
-            changes: self.changes,
-        };
-        (self.changes > 0).then_some(RefusedRow { row, why })
+    /// The row that is refused where this is the last one: changes may be left.
+    fn last(&self, row: u32) -> Option<RefusedRow> {
+        if self.refused.is_some() || self.changes == 0 {
+            return self.refused;
+        }
+        Some(RefusedRow {
+            row,
+            why: Why::Unended {
+                changes: self.changes,
+            },
+        })
     }
 }
 
-/// The row after the last one that a file may have, if there is one.
-fn one_too_many<R: Read>(rows: &mut Reader<R>, fields: &mut ByteRecord) -> Option<RefusedRow> {
-    let is_there = rows.read_byte_record(fields).ok()?;
-    is_there.then_some(RefusedRow {
-        row: MOST_ROWS + 1,
-        why: Why::TooMany,
-    })
+/// Whether there is a next row, if it can be read.
+fn is_next<R: Read>(rows: &mut Reader<R>, fields: &mut ByteRecord) -> Option<bool> {
+    rows.read_byte_record(fields).ok()
 }
 
-/// The row that a journal is refused for. None where it can't be read to its end.
-fn of_journal<R: Read + Drop>(alloc: Global, journal: R) -> Option<RefusedRow> {
-    let mut rows = open_records(alloc, journal);
+/// The row that a file is refused for: a journal, or a file of requests. None where it can't be read to
+/// its end.
+fn refused_row<R: Read + Drop>(alloc: Global, file: R, is_journal: bool) -> Option<RefusedRow> {
+    let mut rows = open_records(alloc, file);
     let mut fields = ByteRecord::new(alloc);
+    refused_of(&mut rows, &mut fields, is_journal)
+}
+
+/// The row that these are refused for.
+fn refused_of<R: Read>(
+    rows: &mut Reader<R>,
+    fields: &mut ByteRecord,
+    is_journal: bool,
+) -> Option<RefusedRow> {
     let mut progress = Progress {
+        is_journal,
         batches: 0,
         changes: 0,
+        refused: None,
     };
-    let mut torn = None;
     for row in 1..=MOST_ROWS {
-        if !rows.read_byte_record(&mut fields).ok()? {
-            return torn.or(progress.last(row - 1));
+        if !is_next(rows, fields)? {
+            return progress.last(row - 1);
         }
-        if torn.is_none() {
-            torn = progress.take(&fields).map(|why| RefusedRow { row, why });
+        progress.take(row, fields);
+        // More rows of a journal are refused, whatever came before them.
+        if !is_journal && progress.refused.is_some() {
+            return progress.refused;
         }
     }
-    // More rows are refused, whatever came before them.
-    one_too_many(&mut rows, &mut fields)
-        .or(torn)
-        .or(progress.last(MOST_ROWS))
-}
-
-/// The row that a file of requests is refused for. None where it can't be read to its end.
-fn of_requests<R: Read + Drop>(alloc: Global, requests: R) -> Option<RefusedRow> {
-    let mut rows = open_records(alloc, requests);
-    let mut fields = ByteRecord::new(alloc);
-    for row in 1..=MOST_ROWS {
-        if !rows.read_byte_record(&mut fields).ok()? {
-            return None;
-        }
-        let why = match Row::read(&fields) {
-            Ok(Row::Ask(_)) => continue,
-            Ok(_) => RowError::Kind,
-            Err(error) => error,
-        };
-        return Some(RefusedRow {
-            row,
-            why: Why::Row(why),
-        });
+    match is_next(rows, fields) {
+        Some(true) => Some(RefusedRow {
+            row: MOST_ROWS + 1,
+            why: Why::TooMany,
+        }),
+        _ => progress.last(MOST_ROWS),
     }
-    one_too_many(&mut rows, &mut fields)
 }
 
 /// A file that can be read once more. What isn't a plain file can't.
@@ -155,35 +165,32 @@ fn again(rt: &HostRuntime, path: &str) -> Option<File> {
     File::open(rt, path).ok()
 }
 
-/// The files of rows that a run reads, where it has them.
-#[derive(Clone, Copy)]
-pub struct RowFiles<'a> {
-    /// That of batches.
-    pub journal: Option<FileName<'a>>,
-    /// That of requests.
-    pub requests: Option<FileName<'a>>,
-}
-
-impl<'a> RowFiles<'a> {
-    /// Says which row the first of the files that are refused is refused for.
-    pub(crate) fn explain(self, rt: &HostRuntime) {
-        if let Some((file, row)) = self.refused(rt) {
-            let name = Name::File(file);
-            let _ = eprintln!(rt; "routed: {name}: {row}");
+/// Says which row the first of the files that are refused is refused for. Some of these options give
+/// files.
+pub(crate) fn explain_rows(call: &Call<'_, '_>, options: &[CommandOption]) {
+    for option in options {
+        if option.has_rows() && !is_accepted(call, option.name()) {
+            return;
         }
     }
+}
 
-    /// The first file that is refused, and the row.
-    fn refused(self, rt: &HostRuntime) -> Option<(FileName<'a>, RefusedRow)> {
-        if let Some(name) = self.journal {
-            let file = again(rt, name.path)?;
-            if let Some(row) = of_journal(rt.alloc(), file) {
-                return Some((name, row));
-            }
+/// Says which row the file that an option gives is refused for. Returns whether the next file may be
+/// refused.
+fn is_accepted(call: &Call<'_, '_>, option: &'static str) -> bool {
+    let is_journal = option != REQUESTS;
+    if is_journal && call.has(ACCEPT_TORN) {
+        return true;
+    }
+    let path = call.value(option);
+    let Some(file) = again(call.rt, path) else {
+        return false;
+    };
+    match refused_row(call.rt.alloc(), file, is_journal) {
+        Some(row) => {
+            say_at(call.rt, option, path, &row);
+            false
         }
-        let name = self.requests?;
-        let file = again(rt, name.path)?;
-        let row = of_requests(rt.alloc(), file)?;
-        Some((name, row))
+        None => true,
     }
 }

@@ -1,31 +1,28 @@
 //! `routed serve` publishes updates as they come in on standard input, and answers clients meanwhile.
 //! Each client has two files: one for its requests and one for its replies.
-ghost use Rattle.std.specs.Prelude.{◌<◌, ◌≤◌, length};
+ghost use Rattle.std.specs.Prelude.{◌<◌, ◌≤◌, length, vec_len};
 
-use crate::bounded::{Unfit, unfit_of};
-use crate::client_files::{ClientNames, Closing, NamesError, client_names, open_clients};
-use crate::devices::{INPUT, OUTPUT, created, flush, held_places};
-use crate::noted::{FileName, Name, Noted};
-use crate::options::{CLIENT, CommandOption, CommandText, JOURNAL};
-use crate::statuses::REFUSED;
+use crate::bounded::unfit_of;
+use crate::client_files::{ClientNames, Closing, OpenClient, check_clients, open_clients};
+use crate::devices::{INPUT, JournalFile, OUTPUT, created, flushed, held_places};
+use crate::noted::Noted;
+use crate::options::{Asked, CLIENT, Call, CommandOption, CommandText, EXPLAIN};
 use crate::stopped::{Ran, Stopped};
-use clap::ArgMatches;
 use cspf_serve::{ClientError, MOST_ASKERS, Served, ServedClient, StreamError, run_serve};
 use std::sync::Wait;
 use std::thread::Threads;
 use std::{fmt, io};
 
-/// The word of the command.
-pub const NAME: &str = "serve";
-
 /// The command with its options.
 pub const COMMAND: CommandText = CommandText {
-    name: NAME,
+    asked: Asked::Serve,
+    name: "serve",
     about: "Publishes the updates of standard input as they come in, and answers clients meanwhile",
     help: HELP,
     options: &[
-        CommandOption::File(JOURNAL, "The file of batches to make"),
+        CommandOption::NewJournal,
         CommandOption::Clients,
+        CommandOption::Explain,
     ],
 };
 
@@ -64,62 +61,45 @@ Status:
      error is routed: stopped, and with --explain the line before it says why
 With --explain a line says of each client that ended before its rows did why it ended.";
 
-/// What the words of the command say.
-#[derive(Clone, Copy)]
-pub struct ServeWords<'m, 'a> {
-    journal: FileName<'a>,
-    clients: &'m [&'a str],
-}
-
-impl<'m, 'a> ServeWords<'m, 'a> {
-    /// The words that `clap` found.
-    pub(crate) fn read(words: &'m ArgMatches<'a>) -> Option<ServeWords<'m, 'a>> {
-        Some(ServeWords {
-            journal: FileName::read(words, JOURNAL)?,
-            clients: words.get_strs(CLIENT)?,
-        })
-    }
-
-    /// Serves if the files can be used.
-    pub(crate) fn serve<T: Threads + Wait + Sync>(
-        self,
-        rt: &HostRuntime,
-        handle: &T,
-        explain: bool,
-    ) -> Ran<'a> {
-        match client_names(rt, self.journal.path, self.clients) {
-            Ok(names) => serve(rt, handle, self.journal, &names, explain),
-            Err(NamesError::Memory) => Err(Stopped::Memory),
-            Err(why) => {
-                let _ = eprintln!(rt; "routed: {why}");
-                Ok(REFUSED)
-            }
-        }
-    }
+/// Serves if the files can be used.
+pub(crate) fn answer<T: Threads + Wait + Sync>(call: &Call<'_, '_>, handle: &T) -> Ran {
+    let words = call.words.get_strs(CLIENT).unwrap_or(&[]);
+    check_clients(call, words)?;
+    let _held = held_places(call.rt);
+    serve(call, handle, words)
 }
 
 /// Publishes the updates of standard input, each in the new journal first, and answers the clients
 /// meanwhile. The files are opened before a row is read, the journal last.
-fn serve<'a, T: Threads + Wait + Sync>(
-    rt: &HostRuntime,
-    handle: &T,
-    journal: FileName<'a>,
-    names: &[ClientNames<'a>],
-    explain: bool,
-) -> Ran<'a>
-    requires { (0 < length names.now) × (length names.now ≤ MOST_ASKERS) }
+fn serve<T: Threads + Wait + Sync>(call: &Call<'_, '_>, handle: &T, words: &[&str]) -> Ran
+    requires { (0 < length words.now) × (length words.now ≤ MOST_ASKERS) }
 {
-    let _held = held_places(rt);
-    let clients = open_clients(rt, names)?;
-    let mut updates = Noted::new(Name::Stream(INPUT), rt.reader());
-    let mut said = Noted::new(Name::Stream(OUTPUT), io::writer(rt));
-    let mut journal = created(rt, journal)?;
+    let clients = open_clients(call, words)?;
+    let mut journal = created(call)?;
+    let ran = run(call, handle, &mut journal, clients, words);
+    flushed(&mut journal, ran)
+}
+
+/// Runs over the updates and the clients. With `--explain` it says which clients ended before their
+/// rows did.
+fn run<T: Threads + Wait + Sync>(
+    call: &Call<'_, '_>,
+    handle: &T,
+    journal: &mut JournalFile,
+    clients: Vec<OpenClient>,
+    words: &[&str],
+) -> Ran
+    requires { (0 < vec_len clients) × (vec_len clients ≤ MOST_ASKERS) }
+{
+    let rt = call.rt;
+    let mut updates = Noted::new(INPUT, rt.reader());
+    let mut said = Noted::new(OUTPUT, io::writer(rt));
     let ran = run_serve(
         handle,
         rt.alloc(),
         &mut updates,
         &mut said,
-        &mut journal,
+        journal,
         clients,
     );
     match ran {
@@ -131,47 +111,41 @@ fn serve<'a, T: Threads + Wait + Sync>(
                 journal: _,
                 clients,
             } = served;
-            if explain {
-                explain_ends(rt, names, &clients);
+            if call.has(EXPLAIN) {
+                explain_ends(rt, words, &clients);
             }
-            flush(&mut journal)?;
             match ended {
                 Ok(()) => Ok(status),
-                Err(error) => Err(Stopped::streaming(error, updates.fault(), said.fault())),
+                Err(error) => Err(Stopped::Stream(error).by(updates.fault(), said.fault())),
             }
         }
-        Err((error, _said, _journal, _clients)) => Err(Stopped::serving(error)),
+        Err((error, _said, _journal, _clients)) => Err(Stopped::Serve(error)),
     }
 }
 
 /// Says which clients ended before their rows did, and why.
-fn explain_ends(rt: &HostRuntime, names: &[ClientNames<'_>], clients: &[ServedClient<Closing>]) {
-    let mut number: usize = 1;
-    for (client, names) in clients.iter().zip(names) {
-        if let Err(error) = client.end {
-            explain_end(rt, number, names, unfit_of(&client.replies.cause), error);
+fn explain_ends(rt: &HostRuntime, words: &[&str], clients: &[ServedClient<Closing>]) {
+    for index in 0..words.len() {
+        if let Some(client) = clients.get(index) {
+            explain_end(rt, index.saturating_add(1), words[index], client);
         }
-        number = number.saturating_add(1);
     }
 }
 
-/// Says why a client ended before its rows did: its rows aren't fit, or this error came. The file is
-/// said too, if it is of one.
-fn explain_end(
-    rt: &HostRuntime,
-    number: usize,
-    names: &ClientNames<'_>,
-    unfit: Option<Unfit>,
-    error: ClientError,
-) {
-    let requests = names.requests.path;
-    match (error, unfit) {
-        (ClientError::Stream(StreamError::Read), Some(unfit)) => {
-            say_end(rt, number, requests, &unfit)
-        }
-        (ClientError::Stream(StreamError::Read), None) => say_end(rt, number, requests, &error),
-        (ClientError::Stream(StreamError::Write | StreamError::Flush), _) => {
-            say_end(rt, number, names.replies.path, &error)
+/// Says why a client ended before its rows did, if it did: its rows aren't fit, or an error came. The
+/// file is said too, if it is of one.
+fn explain_end(rt: &HostRuntime, number: usize, word: &str, client: &ServedClient<Closing>) {
+    let Err(error) = client.end else {
+        return;
+    };
+    let names = ClientNames::read(word);
+    match error {
+        ClientError::Stream(StreamError::Read) => match unfit_of(&client.replies.cause) {
+            Some(unfit) => say_end(rt, number, names.requests, &unfit),
+            None => say_end(rt, number, names.requests, &error),
+        },
+        ClientError::Stream(StreamError::Write | StreamError::Flush) => {
+            say_end(rt, number, names.replies, &error)
         }
         _ => {
             let _ = eprintln!(rt; "routed: client {number}: {error}");

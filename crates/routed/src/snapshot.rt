@@ -1,23 +1,20 @@
 //! `routed snapshot` writes a few batches that make the last database of a journal from an empty one.
 
-use crate::devices::{flush, opened, output};
-use crate::noted::FileName;
-use crate::options::{ACCEPT_TORN, CommandOption, CommandText, JOURNAL};
+use crate::devices::{Output, opened};
+use crate::options::{ACCEPT_TORN, Asked, Call, CommandOption, CommandText, JOURNAL};
 use crate::stopped::{Ran, ended};
-use clap::ArgMatches;
 use cspf_serve::run_snapshot;
-
-/// The word of the command.
-pub const NAME: &str = "snapshot";
 
 /// The command with its options.
 pub const COMMAND: CommandText = CommandText {
-    name: NAME,
+    asked: Asked::Snapshot,
+    name: "snapshot",
     about: "Writes a few batches that make the last database of a journal from an empty one",
     help: HELP,
     options: &[
-        CommandOption::File(JOURNAL, "The file of batches"),
+        CommandOption::Journal,
         CommandOption::AcceptTorn,
+        CommandOption::Explain,
     ],
 };
 
@@ -43,30 +40,9 @@ Status:
   3  out of memory, or a file or another device failed; the last line of standard error is
      routed: stopped, and with --explain the line before it says why";
 
-/// What the words of the command say.
-#[derive(Clone, Copy)]
-pub struct SnapshotWords<'a> {
-    /// The file of batches.
-    pub journal: FileName<'a>,
-    /// Whether its torn rows are left out.
-    pub accept_torn: bool,
-}
-
-impl<'a> SnapshotWords<'a> {
-    /// The words that `clap` found.
-    pub(crate) fn read(words: &ArgMatches<'a>) -> Option<SnapshotWords<'a>> {
-        Some(SnapshotWords {
-            journal: FileName::read(words, JOURNAL)?,
-            accept_torn: words.get_flag(ACCEPT_TORN),
-        })
-    }
-
-    /// Writes the batches on standard output.
-    pub(crate) fn write(self, rt: &HostRuntime) -> Ran<'a> {
-        let mut out = output(rt)?;
-        let mut journal = opened(rt, self.journal)?;
-        let ran = run_snapshot(rt.alloc(), &mut journal, &mut out, self.accept_torn);
-        flush(&mut out)?;
-        ended(ran, journal.fault().or(out.fault()))
-    }
+/// Writes the batches on standard output.
+pub(crate) fn write(call: &Call<'_, '_>, out: &mut Output<'_>) -> Ran {
+    let mut journal = opened(call, JOURNAL)?;
+    let ran = run_snapshot(call.rt.alloc(), &mut journal, out, call.has(ACCEPT_TORN));
+    ended(ran, journal.fault())
 }

@@ -1,21 +1,19 @@
 //! `routed solve` answers the rows of standard input, each line when it is known.
 
-use crate::devices::{INPUT, OUTPUT, flush};
-use crate::noted::{Name, Noted};
-use crate::options::CommandText;
+use crate::devices::{INPUT, OUTPUT, flushed};
+use crate::noted::Noted;
+use crate::options::{Asked, CommandOption, CommandText};
 use crate::stopped::{Ran, Stopped};
 use cspf_serve::run_solve;
 use std::io;
 
-/// The word of the command.
-pub const NAME: &str = "solve";
-
 /// The command with its options.
 pub const COMMAND: CommandText = CommandText {
-    name: NAME,
+    asked: Asked::Solve,
+    name: "solve",
     about: "Answers the rows of standard input on standard output",
     help: HELP,
-    options: &[],
+    options: &[CommandOption::Explain],
 };
 
 /// What help says below its options, and below those of the program.
@@ -61,14 +59,11 @@ are answered by
 
 /// Answers the rows of standard input on standard output. Lines that were written before a fault stay
 /// written.
-pub(crate) fn answer<'a>(rt: &HostRuntime) -> Ran<'a> {
-    let mut reader = Noted::new(Name::Stream(INPUT), rt.reader());
-    let mut out = Noted::new(Name::Stream(OUTPUT), io::writer(rt));
+pub(crate) fn answer(rt: &HostRuntime) -> Ran {
+    let mut reader = Noted::new(INPUT, rt.reader());
+    let mut out = Noted::new(OUTPUT, io::writer(rt));
     match run_solve(rt.alloc(), &mut reader, &mut out) {
-        Ok(summary) => {
-            flush(&mut out)?;
-            Ok(summary.status())
-        }
-        Err(error) => Err(Stopped::solving(error, reader.fault(), out.fault())),
+        Ok(summary) => flushed(&mut out, Ok(summary.status())),
+        Err(error) => Err(Stopped::Solve(error).by(reader.fault(), out.fault())),
     }
 }

@@ -1,114 +1,70 @@
 //! Why the program stops: what `--explain` says before its last line.
 
-use crate::noted::{Action, Fault, Name};
+use crate::noted::Fault;
 use cspf_serve::{RunError, ServedError, SolveError, StreamError};
 use std::alloc::AllocError;
-use std::{fmt, io};
+use std::io;
 
 /// Why the program stops.
-#[derive(Drop)]
-pub enum Stopped<'a> {
+#[derive(Clone, Copy)]
+pub enum Stopped {
     /// Memory was refused.
     Memory,
     /// A call on a file or a stream failed.
-    Device(Fault<'a>),
-    /// Another error of `solve`.
+    Device(Fault),
+    /// An error of `solve`.
     Solve(SolveError),
-    /// Another error of the updates of `serve`.
+    /// An error of the updates of `serve`.
     Stream(StreamError),
-    /// Another error of `batch`, `live`, `snapshot` or `audit`.
+    /// An error of `batch`, `live`, `snapshot` or `audit`.
     Run(RunError),
     /// An error of `serve` before it began.
     Serve(ServedError),
+    /// All has been said, and this is the status.
+    Said(u8),
 }
 
 /// What a run answers: a status, or why the program stops.
-pub type Ran<'a> = Result<u8, Stopped<'a>>;
+pub type Ran = Result<u8, Stopped>;
 
-impl<'a> Stopped<'a> {
+impl Stopped {
     /// This call on this device failed.
-    pub(crate) fn by(name: Name<'a>, action: Action, error: io::Error) -> Stopped<'a> {
-        Stopped::Device(Fault::new(name, action, error))
+    pub(crate) fn at(device: &'static str, action: &'static str, error: io::Error) -> Stopped {
+        Stopped::Device(Fault {
+            device,
+            action,
+            error,
+        })
     }
 
-    /// The error of `solve`, where these are the last calls on its devices that failed.
-    pub(crate) fn solving(
-        error: SolveError,
-        read: Option<Fault<'a>>,
-        written: Option<Fault<'a>>,
-    ) -> Stopped<'a> {
-        let noted = match &error {
-            SolveError::Memory => return Stopped::Memory,
-            SolveError::Read => read,
-            SolveError::Write { .. } => written,
+    /// Names the device of a run that stops for one. These are the last calls that failed, if any: of
+    /// the devices that are read, and of those that are written.
+    pub(crate) fn by(self, read: Option<Fault>, written: Option<Fault>) -> Stopped {
+        let noted = match self {
+            Stopped::Run(RunError::Device) => read.or(written),
+            Stopped::Solve(SolveError::Read) | Stopped::Stream(StreamError::Read) => read,
+            Stopped::Solve(SolveError::Write { .. })
+            | Stopped::Stream(StreamError::Write | StreamError::Flush) => written,
+            _ => None,
         };
         match noted {
             Some(fault) => Stopped::Device(fault),
-            None => Stopped::Solve(error),
-        }
-    }
-
-    /// The error of the updates of `serve`, where these are the last calls on their streams that failed.
-    pub(crate) fn streaming(
-        error: StreamError,
-        read: Option<Fault<'a>>,
-        written: Option<Fault<'a>>,
-    ) -> Stopped<'a> {
-        let noted = match &error {
-            StreamError::Memory => return Stopped::Memory,
-            StreamError::Read => read,
-            StreamError::Write | StreamError::Flush => written,
-            StreamError::TooManyRows => None,
-        };
-        match noted {
-            Some(fault) => Stopped::Device(fault),
-            None => Stopped::Stream(error),
-        }
-    }
-
-    /// The error of `serve` before it began.
-    pub(crate) fn serving(error: ServedError) -> Stopped<'a> {
-        match error {
-            ServedError::Run(error) => Stopped::running(error, None),
-            error => Stopped::Serve(error),
-        }
-    }
-
-    /// The error of `batch`, `live`, `snapshot` or `audit`, where this is the call on a device that
-    /// failed, if any.
-    pub(crate) fn running(error: RunError, noted: Option<Fault<'a>>) -> Stopped<'a> {
-        match (error, noted) {
-            (RunError::Memory, _) => Stopped::Memory,
-            (RunError::Device, Some(fault)) => Stopped::Device(fault),
-            (error, _) => Stopped::Run(error),
+            None => self,
         }
     }
 }
 
-/// What a run of `batch`, `live`, `snapshot` or `audit` answered, where this is the call on a device
-/// that failed, if any.
-pub(crate) fn ended<'a>(ran: Result<u8, RunError>, noted: Option<Fault<'a>>) -> Ran<'a> {
+/// What a run of `batch`, `live`, `snapshot` or `audit` answered, where this is the last call on its
+/// inputs that failed, if any.
+pub(crate) fn ended(ran: Result<u8, RunError>, read: Option<Fault>) -> Ran {
     match ran {
         Ok(status) => Ok(status),
-        Err(error) => Err(Stopped::running(error, noted)),
+        Err(error) => Err(Stopped::Run(error).by(read, None)),
     }
 }
 
-impl<'a> From<AllocError> for Stopped<'a> {
-    fn from(_refused: AllocError) -> Stopped<'a> {
+impl From<AllocError> for Stopped {
+    fn from(_refused: AllocError) -> Stopped {
         Stopped::Memory
-    }
-}
-
-impl<'a> fmt::Display for Stopped<'a> {
-    fn fmt<W: fmt::Write>(&self, f: &mut fmt::Formatter<W>) -> fmt::Result {
-        match self {
-            Stopped::Memory => f.write_str("out of memory"),
-            Stopped::Device(fault) => write!(f, "{fault}"),
-            Stopped::Solve(error) => write!(f, "{error}"),
-            Stopped::Stream(error) => write!(f, "{error}"),
-            Stopped::Run(error) => write!(f, "{error}"),
-            Stopped::Serve(error) => write!(f, "{error}"),
-        }
     }
 }
