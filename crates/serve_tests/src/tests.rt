@@ -1,16 +1,22 @@
-//! What the tests of runs share: scripts, readers in pieces, and writers that take so much.
+//! What the tests of runs share: scripts and tables, readers in pieces, and writers that take so much.
 
 mod batches;
+mod clients;
 mod limits;
 mod live_rows;
 mod memory;
 mod scripts;
+mod workers;
 
 use std::alloc::{AllocError, Global};
 use std::io;
 use std::io::{ErrorKind, Read, Write};
 
-/// What a byte of a script stands for.
+/// What a byte of a script stands for. `P` is the row that puts the link from 1.1.1.1 to 2.2.2.2, and
+/// `Q` the one that puts its reverse with no bandwidth. `F` is
+/// eight bandwidths of 1000, and `O` eight of 0. `Z` is three masks of no group, `H` seven hops, and
+/// `B` a byte order mark. `X` and `Y` are bytes that are no text, and `N` is the byte 0. `R` is a
+/// carriage return, `|` a line feed, and `_` nothing.
 fn spelled(byte: &u8) -> &[u8] {
     match *byte {
         b'P' => {
@@ -22,6 +28,12 @@ fn spelled(byte: &u8) -> &[u8] {
         b'Z' => b"0x0,0x0,0x0",
         b'H' => b"0.0.0.0/0l 0.0.0.0/0l 0.0.0.0/0l 0.0.0.0/0l 0.0.0.0/0l 0.0.0.0/0l 0.0.0.0/0l",
         b'B' => b"\xef\xbb\xbf",
+        b'X' => b"\xff\xfe",
+        b'Y' => b"\xc3",
+        b'N' => b"\0",
+        b'R' => b"\r",
+        b'|' => b"\n",
+        b'_' => b"",
         _ => std::slice::from_ref(byte),
     }
 }
@@ -33,6 +45,32 @@ fn bytes_of(alloc: Global, script: &[u8]) -> Result<Vec<u8>, AllocError> {
         bytes.extend_from_slice(spelled(byte))?;
     }
     Ok(bytes)
+}
+
+/// The first field of a line of a table, and the others.
+fn cut(line: &str) -> (&str, &str) {
+    line.split_once(" > ").unwrap_or((line, ""))
+}
+
+/// The bytes of the first field of a line of a table, and the other fields.
+fn cut_bytes(alloc: Global, line: &str) -> Result<(Vec<u8>, &str), AllocError> {
+    let (field, others) = cut(line);
+    Ok((bytes_of(alloc, field.as_bytes())?, others))
+}
+
+/// Up to four numbers of a field, which has a space between each two.
+fn numbers_of(field: &str) -> [u32; 4] {
+    let mut numbers = [0u32; 4];
+    let mut index = 0usize;
+    for byte in field.as_bytes() {
+        if *byte == b' ' {
+            index = index.saturating_add(1);
+        } else if let Some(number) = numbers.get_mut(index) {
+            let digit = byte.wrapping_sub(b'0') as u32;
+            *number = number.wrapping_mul(10).wrapping_add(digit);
+        }
+    }
+    numbers
 }
 
 /// Gives its text a number of times, a few bytes a read, and fails after a number of bytes.

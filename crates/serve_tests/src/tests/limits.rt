@@ -2,11 +2,9 @@
 
 use super::scripts::is_answered;
 use cspf_model::Refusal;
-use cspf_serve::{BatchRefusal, NoGate, run_batch, run_live_rows};
+use cspf_serve::BatchRefusal;
 use std::alloc::{AllocError, Global};
 use std::fmt::Write;
-use std::process::Abort;
-use std::test::Fail;
 
 /// A row that puts a link whose local address has this number.
 fn put_link(text: &mut String, number: u32) -> Result<(), AllocError> {
@@ -57,7 +55,7 @@ const LINES_OF_LINKS: &str =
     "batch 1 refused: long\nversion 1\nversion 2\nversion 3\nversion 4\nbatch 5 refused: full\nversion 5\n";
 
 #[test]
-fn as_many_links_as_are_kept(rt: HostRuntime) -> Result<(), Fail> {
+fn as_many_links_as_are_kept(rt: HostRuntime) -> Result<(), AllocError> {
     let script = script_of(rt.alloc(), &LINKS)?;
     let counts = [20_491, 5, 0, 2];
     assert!(rt; is_run(rt.alloc(), script.as_str(), LINES_OF_LINKS, counts));
@@ -70,58 +68,23 @@ fn write_mark(text: &mut String, number: u32) -> Result<(), AllocError> {
     write!(text, "node,{a}.{b}.{c}.{d},0\n")
 }
 
-/// A batch of as many marks as are kept, and one of one more.
+/// A batch of as many marks as are kept, one of one more, and one of one in place of another.
 fn script_of_marks(alloc: Global) -> Result<String, AllocError> {
     let mut text = String::new(alloc);
     for number in 0..1024 {
         write_mark(&mut text, number)?;
     }
-    text.push_str("end,1,1024\nnode,0.0.4.0,0\nend,2,1\n")?;
+    text.push_str(
+        "end,1,1024\nnode,0.0.4.0,0\nend,2,1\nnode,0.0.4.0,0\nnode,0.0.0.0,1\nend,2,2\n",
+    )?;
     Ok(text)
 }
 
 #[test]
-fn as_many_marks_as_are_kept(rt: HostRuntime) -> Result<(), Fail> {
-    let (alloc, none): (Global, &[u8]) = (rt.alloc(), b"");
-    let mut script = script_of_marks(alloc)?;
-    let mut held = Vec::new(alloc);
-    let rows = script.as_bytes();
-    let found = run_batch(&rt, alloc, rows, none, &mut held, 1, false, &NoGate);
-    let lines: &[u8] = b"version 1\nbatch 2 refused: marks\n";
-    assert!(rt; found == Ok(2) && held.as_slice() == lines);
-    // one more in place of another
-    script.push_str("node,0.0.4.0,0\nnode,0.0.0.0,1\nend,2,2\n")?;
+fn as_many_marks_as_are_kept(rt: HostRuntime) -> Result<(), AllocError> {
+    let script = script_of_marks(rt.alloc())?;
     let lines = "version 1\nbatch 2 refused: marks\nversion 2\n";
-    assert!(rt; is_run(alloc, script.as_str(), lines, [1030, 2, 0, 1]));
-    Ok(())
-}
-
-/// As many changes as a batch may have.
-const WHOLE: [(u32, u32, &str); 1] = [(0, 4096, "end,1,4096\n")];
-
-/// The journal's text of a batch is the updates' own, which spells all as a journal does.
-#[test]
-fn a_whole_batch_goes_live(rt: HostRuntime) -> Result<(), Fail> {
-    let (alloc, none): (Global, &[u8]) = (rt.alloc(), b"");
-    let updates = script_of(alloc, &WHOLE)?;
-    assert!(rt; updates.len() > 262_144);
-    let mut held = Vec::new(alloc);
-    let kept: Vec<u8> = Vec::new(alloc);
-    let rows = updates.as_bytes();
-    let (found, kept) = run_live_rows(&rt, alloc, rows, none, kept, &mut held, 1, &NoGate);
-    assert!(rt; found == Ok(0) && held.as_slice() == b"applied 1\n".as_slice());
-    assert!(rt; kept.as_slice() == updates.as_bytes());
-    Ok(())
-}
-
-#[test]
-fn a_whole_batch_of_a_journal(rt: HostRuntime) -> Result<(), Fail> {
-    let (alloc, none): (Global, &[u8]) = (rt.alloc(), b"");
-    let journal = script_of(alloc, &WHOLE)?;
-    let mut held = Vec::new(alloc);
-    let rows = journal.as_bytes();
-    let found = run_batch(&rt, alloc, rows, none, &mut held, 1, false, &NoGate);
-    assert!(rt; found == Ok(0) && held.as_slice() == b"version 1\n".as_slice());
+    assert!(rt; is_run(rt.alloc(), script.as_str(), lines, [1030, 2, 0, 1]));
     Ok(())
 }
 
@@ -136,7 +99,7 @@ const LINES_OF_CHANGES: &str =
     "batch 1 refused: counted 5000\nbatch 1 refused: long\nunended 5000\n";
 
 #[test]
-fn counts_past_what_is_kept(rt: HostRuntime) -> Result<(), Fail> {
+fn counts_past_what_is_kept(rt: HostRuntime) -> Result<(), AllocError> {
     let script = script_of(rt.alloc(), &CHANGES)?;
     let counts = [15_002, 0, 0, 3];
     assert!(rt; is_run(rt.alloc(), script.as_str(), LINES_OF_CHANGES, counts));
@@ -162,54 +125,39 @@ fn long_script(alloc: Global) -> Result<String, AllocError> {
 }
 
 #[test]
-fn long_rows(rt: HostRuntime) -> Result<(), Fail> {
+fn long_rows(rt: HostRuntime) -> Result<(), AllocError> {
     let script = long_script(rt.alloc())?;
     let lines = "row 1 refused: fields\nrow 2 refused: number 2\nversion 1\n";
     assert!(rt; is_run(rt.alloc(), script.as_str(), lines, [3, 1, 0, 2]));
     Ok(())
 }
 
-/// Fails where a refusal's word is another.
-fn has_word<R: Abort>(
-    rt: &R,
-    alloc: Global,
-    refusal: BatchRefusal,
-    word: &str,
-) -> Result<(), AllocError> {
-    assert!(rt; refusal.to_string(alloc)?.as_str() == word, "{word}");
-    Ok(())
+/// Whether a refusal has this word.
+fn has_word(alloc: Global, refusal: BatchRefusal, word: &str) -> Result<bool, AllocError> {
+    let found = refusal.to_string(alloc)?;
+    Ok(found.as_str() == word)
 }
 
 #[test]
-fn words_of_refusals(rt: HostRuntime) -> Result<(), Fail> {
-    let alloc = rt.alloc();
-    has_word(&rt, alloc, BatchRefusal::Exhausted, "exhausted")?;
-    has_word(
-        &rt,
-        alloc,
-        BatchRefusal::WrongNumber { expected: 2 },
-        "expected 2",
-    )?;
-    has_word(
-        &rt,
-        alloc,
-        BatchRefusal::WrongCount { counted: 0 },
-        "counted 0",
-    )?;
-    Ok(())
-}
-
-#[test]
-fn words_of_unfit_batches(rt: HostRuntime) -> Result<(), Fail> {
-    for (why, word) in [
-        (Refusal::TooLong, "long"),
-        (Refusal::Duplicate { at: 2 }, "duplicate 2"),
-        (Refusal::Absent { at: 4096 }, "absent 4096"),
-        (Refusal::Full, "full"),
-        (Refusal::TooManyRouters, "routers"),
-        (Refusal::TooManyMarks, "marks"),
+fn words_of_refusals(rt: HostRuntime) -> Result<(), AllocError> {
+    for (refusal, word) in [
+        (BatchRefusal::Exhausted, "exhausted"),
+        (BatchRefusal::WrongNumber { expected: 2 }, "expected 2"),
+        (BatchRefusal::WrongCount { counted: 0 }, "counted 0"),
+        (BatchRefusal::Unfit(Refusal::TooLong), "long"),
+        (
+            BatchRefusal::Unfit(Refusal::Duplicate { at: 2 }),
+            "duplicate 2",
+        ),
+        (
+            BatchRefusal::Unfit(Refusal::Absent { at: 4096 }),
+            "absent 4096",
+        ),
+        (BatchRefusal::Unfit(Refusal::Full), "full"),
+        (BatchRefusal::Unfit(Refusal::TooManyRouters), "routers"),
+        (BatchRefusal::Unfit(Refusal::TooManyMarks), "marks"),
     ] {
-        has_word(&rt, rt.alloc(), BatchRefusal::Unfit(why), word)?;
+        assert!(rt; has_word(rt.alloc(), refusal, word)?, "{word}");
     }
     Ok(())
 }

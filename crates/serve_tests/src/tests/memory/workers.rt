@@ -1,8 +1,8 @@
 //! Memory is refused, as by `rt try --test --fail-alloc N -- memory`: a call answers in full, or that
 //! memory is refused, and then its askers still answer. Where it is refused before, the test ends.
-ghost use Rattle.std.specs.Prelude.{◌≡◌, ◌≤◌, All, IfOk, vec_len};
+ghost use Rattle.std.specs.Prelude.{◌≡◌, ◌≤◌, All, IfOk, length, vec_len};
 
-use super::fixtures::{both_ways, request};
+use crate::tests::workers::fixtures::{both_ways, request};
 use cspf_model::{Batch, Outcome, Request};
 use cspf_publish::{Answer, ApplyError, AskError, Asker, OpenError, Publisher, open};
 use cspf_serve::{Live, NoGate, ServeError, answer_all, run_live};
@@ -129,15 +129,57 @@ fn still_answers(alloc: Global, asker: &mut Asker, requests: &[Request], version
 }
 
 /// Whether these are two askers that still answer.
-fn still_answer(alloc: Global, askers: Vec<Asker>, requests: &[Request], version: u32) -> bool {
-    let two = askers.len() == 2;
-    for asker in askers {
-        let mut asker = asker;
-        if !still_answers(alloc, &mut asker, requests, version) {
-            return false;
-        }
+fn still_answer(alloc: Global, askers: &mut [Asker], requests: &[Request], version: u32) -> bool {
+    let [first, second] = askers else {
+        return false;
+    };
+    still_answers(alloc, first, requests, version)
+        && still_answers(alloc, second, requests, version)
+}
+
+/// Whether two workers answer in full at this version, or memory is refused, and the askers.
+fn answered<R: Threads + Sync>(
+    rt: &R,
+    alloc: Global,
+    askers: Vec<Asker>,
+    requests: &[Request],
+    version: u32,
+) -> (bool, Vec<Asker>)
+    requires askers { vec_len askers ≡ 2 }
+    requires requests { length requests.now ≤ 1000 }
+{
+    match answer_all(rt, alloc, askers, requests, &NoGate) {
+        Ok(answers) => (
+            are_right(&answers.list, requests.len(), version, version)
+                && are_drawn_once(&answers.drawn, requests.len()),
+            answers.askers,
+        ),
+        Err((error, askers)) => (error == ServeError::Memory, askers),
     }
-    two
+}
+
+/// Whether a batch is published, or memory refused for it, and two workers then answer.
+fn answer_after<R: Threads + Wait + Sync>(
+    rt: &R,
+    alloc: Global,
+    opened: (Publisher<Vec<u8>>, Vec<Asker>),
+    first: &Batch,
+    requests: &[Request],
+) -> bool
+    requires askers { vec_len opened.1 ≡ 2 }
+    requires requests { length requests.now ≤ 1000 }
+{
+    let (mut publisher, askers) = opened;
+    let applied = publisher.apply(rt, alloc, first);
+    let version = publisher.version();
+    let published = match version {
+        0 => applied == Err(ApplyError::Memory),
+        _ => applied == Ok(1),
+    };
+    let (right, mut askers) = answered(rt, alloc, askers, requests, version);
+    let answered = still_answer(alloc, &mut askers, requests, version);
+    publisher.close(rt);
+    published && version <= 1 && right && answered
 }
 
 /// Two workers answer `count` requests, once the batch is published.
@@ -145,37 +187,21 @@ fn answers<R: Threads + Wait + Abort + Sync>(
     rt: &R,
     alloc: Global,
     count: usize,
-) -> Result<(), AllocError> {
+) -> Result<bool, AllocError> {
     let (first, all) = (batch(rt, alloc, 1)?, requests(rt, alloc, count)?);
-    let (mut publisher, askers) = opened(rt, alloc)?;
-    let applied = publisher.apply(rt, alloc, &first);
-    let version = publisher.version();
-    let (right, askers) = match answer_all(rt, alloc, askers, all.as_slice(), &NoGate) {
-        Ok(answers) => {
-            let right = are_right(&answers.list, count, version, version)
-                && are_drawn_once(&answers.drawn, count);
-            (right, answers.askers)
-        }
-        Err((error, askers)) => (error == ServeError::Memory, askers),
-    };
-    let answered = still_answer(alloc, askers, all.as_slice(), version);
-    publisher.close(rt);
-    let refused = version == 0 && applied == Err(ApplyError::Memory);
-    assert!(rt; refused || version == 1 && applied == Ok(1), "published");
-    assert!(rt; right, "answered");
-    assert!(rt; answered, "answered after");
-    Ok(())
+    let opened = opened(rt, alloc)?;
+    Ok(answer_after(rt, alloc, opened, &first, all.as_slice()))
 }
 
 #[test]
 fn two_requests(rt: HostRuntime) {
-    let _before = answers(&rt, rt.alloc(), 2);
+    assert!(rt; answers(&rt, rt.alloc(), 2) != Ok(false));
 }
 
 /// What each worker answered grows while the other asks.
 #[test]
 fn hundred_requests(rt: HostRuntime) {
-    let _before = answers(&rt, rt.alloc(), 100);
+    assert!(rt; answers(&rt, rt.alloc(), 100) != Ok(false));
 }
 
 /// The publisher and the askers of a live run over some requests and batches, and whether they are
@@ -208,34 +234,39 @@ fn parts_of(
     (right, publisher, askers)
 }
 
+/// Whether two workers answer requests while batches are applied, and their askers then do.
+fn answer_beside<R: Threads + Wait + Sync>(
+    rt: &R,
+    alloc: Global,
+    opened: (Publisher<Vec<u8>>, Vec<Asker>),
+    batches: &[Batch],
+    requests: &[Request],
+) -> bool
+    requires askers { vec_len opened.1 ≡ 2 }
+    requires source { All (λ a. a.source ≡ opened.0.source) opened.1.items }
+    requires requests { length requests.now ≤ 1000 }
+{
+    let (publisher, askers) = opened;
+    let ran = run_live(rt, alloc, publisher, askers, batches, requests, &NoGate);
+    let (right, publisher, mut askers) = match ran {
+        Ok(live) => parts_of(live, requests.len(), batches.len()),
+        Err((error, publisher, askers)) => (error == ServeError::Memory, publisher, askers),
+    };
+    let version = publisher.version();
+    let answered = still_answer(alloc, &mut askers, requests, version);
+    let journal = publisher.close(rt);
+    right && answered && is_journal(&journal, version)
+}
+
 /// Two workers answer five requests while batches are applied.
 fn runs_live<R: Threads + Wait + Abort + Sync>(
     rt: &R,
     alloc: Global,
     batches: &[Batch],
-) -> Result<(), AllocError> {
+) -> Result<bool, AllocError> {
     let all = requests(rt, alloc, 5)?;
-    let (publisher, askers) = opened(rt, alloc)?;
-    let ran = run_live(
-        rt,
-        alloc,
-        publisher,
-        askers,
-        batches,
-        all.as_slice(),
-        &NoGate,
-    );
-    let (right, publisher, askers) = match ran {
-        Ok(live) => parts_of(live, 5, batches.len()),
-        Err((error, publisher, askers)) => (error == ServeError::Memory, publisher, askers),
-    };
-    let version = publisher.version();
-    let answered = still_answer(alloc, askers, all.as_slice(), version);
-    let journal = publisher.close(rt);
-    assert!(rt; right, "run");
-    assert!(rt; answered, "answered after");
-    assert!(rt; is_journal(&journal, version), "journal");
-    Ok(())
+    let opened = opened(rt, alloc)?;
+    Ok(answer_beside(rt, alloc, opened, batches, all.as_slice()))
 }
 
 /// Whether a journal has the texts of the first batches.
@@ -250,23 +281,23 @@ fn is_journal(journal: &[u8], version: u32) -> bool {
 fn runs_one_batch<R: Threads + Wait + Abort + Sync>(
     rt: &R,
     alloc: Global,
-) -> Result<(), AllocError> {
+) -> Result<bool, AllocError> {
     runs_live(rt, alloc, &[batch(rt, alloc, 1)?])
 }
 
 fn runs_two_batches<R: Threads + Wait + Abort + Sync>(
     rt: &R,
     alloc: Global,
-) -> Result<(), AllocError> {
+) -> Result<bool, AllocError> {
     runs_live(rt, alloc, &[batch(rt, alloc, 1)?, batch(rt, alloc, 2)?])
 }
 
 #[test]
 fn one_batch(rt: HostRuntime) {
-    let _before = runs_one_batch(&rt, rt.alloc());
+    assert!(rt; runs_one_batch(&rt, rt.alloc()) != Ok(false));
 }
 
 #[test]
 fn two_batches(rt: HostRuntime) {
-    let _before = runs_two_batches(&rt, rt.alloc());
+    assert!(rt; runs_two_batches(&rt, rt.alloc()) != Ok(false));
 }

@@ -1,3 +1,5 @@
+//! Workers that ask once their publisher is closed.
+
 ghost use Rattle.std.specs.Prelude.{◌<◌, ◌≤◌, length};
 ghost use Rattle.cspf_work.specs.declared.limits.TheConstants.{MOST_REQUESTS};
 
@@ -37,21 +39,31 @@ fn are_as_told(askers: &[Asker]) -> bool {
     }
 }
 
+/// Whether there is no entry for them, and the askers come back as they were.
+fn have_no_entry<R: Threads + Wait + Abort + Sync>(
+    rt: &R,
+    alloc: Global,
+    batch: &Batch,
+    requests: &[Request],
+) -> bool
+    requires { length requests.now ≤ MOST_REQUESTS }
+{
+    match ask_closed(rt, alloc, batch, requests) {
+        Ok(_) => false,
+        Err((error, askers)) => error == ServeError::NoEntry && are_as_told(&askers),
+    }
+}
+
 /// After a close there is no entry, and the askers come back as they were.
 #[test]
 fn no_entry(rt: HostRuntime) -> Result<(), Fail> {
     let batch = link_batch(rt.alloc(), 1)?;
     for count in [1, 3] {
         let all = requests(rt.alloc(), count)?;
-        match ask_closed(&rt, rt.alloc(), &batch, all.as_slice()) {
-            Ok(_) => panic!(rt; "answered"),
-            Err((error, askers)) => {
-                assert!(rt;
-                    error == ServeError::NoEntry && are_as_told(&askers),
-                    "{count}"
-                );
-            }
-        }
+        assert!(rt;
+            have_no_entry(&rt, rt.alloc(), &batch, all.as_slice()),
+            "{count}"
+        );
     }
     Ok(())
 }

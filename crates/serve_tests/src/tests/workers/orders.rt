@@ -1,11 +1,13 @@
 //! In which order workers reach a request, ask and answer, and that any number of them answers all.
 
-ghost use Rattle.std.specs.Prelude.{◌<◌, ◌≤◌};
+ghost use Rattle.std.specs.Prelude.{◌<◌, ◌≤◌, length};
 ghost use Rattle.cspf_publish.specs.declared.limits.TheConstants.{MOST_ASKERS};
+ghost use Rattle.cspf_work.specs.declared.limits.TheConstants.{MOST_REQUESTS};
 
 use super::counts::wait_for;
 use super::fixtures::{link_batch, opened, requests};
 use super::live::run_and_close;
+use cspf_model::{Batch, Request};
 use cspf_publish::{Answer, ApplyError};
 use cspf_serve::{Gate, RunError, run_live_rows};
 use std::alloc::{AllocError, Global};
@@ -101,38 +103,41 @@ fn are_of(list: &[Answer], versions: (u32, u32)) -> bool {
 
 /// Two requests of one worker are held on one side of their asks: whether their answers are of these
 /// versions.
-fn answers_held<R: Threads + Wait + Abort + Sync>(
+fn are_held<R: Threads + Wait + Abort + Sync>(
     rt: &R,
     alloc: Global,
+    batches: &[Batch],
+    requests: &[Request],
     before: bool,
     versions: (u32, u32),
-) -> Result<bool, Fail> {
-    let batches = [link_batch(alloc, 1)?, link_batch(alloc, 2)?];
-    let all = requests(alloc, 2)?;
+) -> bool
+    requires { length requests.now ≤ MOST_REQUESTS }
+{
     let order = Order::new(before);
     let journal = OrderJournal {
         held: Vec::new(alloc),
         order: &order,
     };
     let opened = opened(rt, alloc, journal, 1);
-    let left = run_and_close(rt, alloc, opened, &batches, all.as_slice(), &order);
-    let stopped = left.fault == Some(ApplyError::Journal { written: 0 });
-    Ok(stopped && left.version == 1 && order.has_held(2) && are_of(&left.list, versions))
+    let left = run_and_close(rt, alloc, opened, batches, requests, &order);
+    left.fault == Some(ApplyError::Journal { written: 0 })
+        && left.version == 1
+        && order.has_held(2)
+        && are_of(&left.list, versions)
 }
 
-/// The first request is asked before the first batch is published, since that waits until the gate
-/// hears of the answer.
+/// The first request is asked before the first batch is published, where that waits until the gate
+/// hears of the answer. It is asked after it, where it waits for that once it is reached.
 #[test]
-fn answered_comes_after_the_ask(rt: HostRuntime) -> Result<(), Fail> {
-    assert!(rt; answers_held(&rt, rt.alloc(), false, (0, 1))?);
-    Ok(())
-}
-
-/// The first request is asked after the first batch is published, since it waits for that once it is
-/// reached.
-#[test]
-fn reached_comes_before_the_ask(rt: HostRuntime) -> Result<(), Fail> {
-    assert!(rt; answers_held(&rt, rt.alloc(), true, (1, 1))?);
+fn reached_and_answered_are_around_the_ask(rt: HostRuntime) -> Result<(), Fail> {
+    let batches = [link_batch(rt.alloc(), 1)?, link_batch(rt.alloc(), 2)?];
+    let all = requests(rt.alloc(), 2)?;
+    for (before, versions) in [(false, (0, 1)), (true, (1, 1))] {
+        assert!(rt;
+            are_held(&rt, rt.alloc(), &batches, all.as_slice(), before, versions),
+            "{before}"
+        );
+    }
     Ok(())
 }
 
@@ -210,17 +215,15 @@ fn is_held<T: Threads + Wait + Sync>(
 
 /// Sixty-four workers answer as one does.
 #[test]
-fn any_number_of_workers(rt: HostRuntime) -> Result<(), Fail> {
+fn any_number_of_workers(rt: HostRuntime) -> Result<(), AllocError> {
     let requests = request_rows(rt.alloc())?;
     let lines = lines_at_version_1(rt.alloc())?;
-    let input = (UPDATES, requests.as_bytes());
-    assert!(rt;
-        is_held(&rt, rt.alloc(), input, 1, lines.as_bytes()),
-        "by one worker"
-    );
-    assert!(rt;
-        is_held(&rt, rt.alloc(), input, 64, lines.as_bytes()),
-        "by 64 workers"
-    );
+    let (input, lines) = ((UPDATES, requests.as_bytes()), lines.as_bytes());
+    for workers in [1, 64] {
+        assert!(rt;
+            is_held(&rt, rt.alloc(), input, workers, lines),
+            "{workers}"
+        );
+    }
     Ok(())
 }

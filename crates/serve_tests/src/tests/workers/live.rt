@@ -102,18 +102,21 @@ impl<'a> Write for MeetingJournal<'a> {
     }
 }
 
-/// A batch is applied where nothing is asked.
+/// Whether a batch is applied where nothing is asked.
+fn applies<R: Threads + Wait + Abort + Sync>(rt: &R, alloc: Global, batches: &[Batch]) -> bool {
+    let opened = opened(rt, alloc, Vec::<u8>::new(alloc), 1);
+    let left = run_and_close(rt, alloc, opened, batches, &[], &NoGate);
+    left.journal.len() == 172
+        && (left.version, left.applied, left.fault.is_none()) == (1, 1, true)
+        && left.list.is_empty()
+        && left.askers.len() == 1
+        && are_at_version_1(&left.askers)
+}
+
 #[test]
 fn applies_alone(rt: HostRuntime) -> Result<(), Fail> {
-    let batch = link_batch(rt.alloc(), 1)?;
-    let opened = opened(&rt, rt.alloc(), Vec::<u8>::new(rt.alloc()), 1);
-    let left = run_and_close(&rt, rt.alloc(), opened, &[batch], &[], &NoGate);
-    assert_eq!(rt;
-        (left.journal.len(), left.version, left.applied),
-        (172, 1, 1)
-    );
-    assert!(rt; left.fault.is_none() && left.list.is_empty());
-    assert!(rt; left.askers.len() == 1 && are_at_version_1(&left.askers));
+    let batches = [link_batch(rt.alloc(), 1)?];
+    assert!(rt; applies(&rt, rt.alloc(), &batches));
     Ok(())
 }
 
@@ -131,41 +134,45 @@ fn is_one_answer(list: &[Answer], version: u32) -> bool {
     }
 }
 
-/// A request is answered while an empty batch with this number is applied to the database of one
-/// link. The result is how many batches are applied, the version at the end, and why the batch is
-/// refused.
+/// A request is answered while batches are applied to the database of one link. The result is how
+/// many are applied, the version at the end, and why one is refused.
+fn applied_beside<R: Threads + Wait + Abort + Sync>(
+    rt: &R,
+    alloc: Global,
+    first: &Batch,
+    batches: &[Batch],
+    requests: &[Request],
+) -> (u32, u32, Option<ApplyError>)
+    requires { length requests.now ≤ MOST_REQUESTS }
+{
+    let (mut publisher, mut askers) = opened(rt, alloc, Vec::<u8>::new(alloc), 1);
+    assert!(rt; publisher.apply(rt, alloc, first) == Ok(1));
+    askers[0].learn(publisher.tell());
+    let left = run_and_close(rt, alloc, (publisher, askers), batches, requests, &NoGate);
+    assert!(rt; is_one_answer(&left.list, left.version));
+    (left.applied, left.version, left.fault)
+}
+
+/// Whether an empty batch with this number is applied, or refused, beside a request.
 fn applies_beside<R: Threads + Wait + Abort + Sync>(
     rt: &R,
     alloc: Global,
     number: u32,
-) -> Result<(u32, u32, Option<ApplyError>), Fail> {
+    wanted: (u32, u32, Option<ApplyError>),
+) -> Result<bool, Fail> {
     let first = link_batch(alloc, 1)?;
     let all = requests(alloc, 1)?;
-    let next = Batch {
-        number,
-        changes: Vec::new(alloc),
-    };
-    let (mut publisher, mut askers) = opened(rt, alloc, Vec::<u8>::new(alloc), 1);
-    assert!(rt; publisher.apply(rt, alloc, &first) == Ok(1));
-    askers[0].learn(publisher.tell());
-    let left = run_and_close(
-        rt,
-        alloc,
-        (publisher, askers),
-        &[next],
-        all.as_slice(),
-        &NoGate,
-    );
-    assert!(rt; is_one_answer(&left.list, left.version));
-    Ok((left.applied, left.version, left.fault))
+    let changes = Vec::new(alloc);
+    let batches = [Batch { number, changes }];
+    Ok(applied_beside(rt, alloc, &first, &batches, all.as_slice()) == wanted)
 }
 
 /// The next batch is applied, and one with another number is refused.
 #[test]
 fn applies_the_next(rt: HostRuntime) -> Result<(), Fail> {
-    assert_eq!(rt; applies_beside(&rt, rt.alloc(), 2)?, (1, 2, None));
+    assert!(rt; applies_beside(&rt, rt.alloc(), 2, (1, 2, None))?);
     let refused = Some(ApplyError::WrongNumber { expected: 2 });
-    assert_eq!(rt; applies_beside(&rt, rt.alloc(), 3)?, (0, 1, refused));
+    assert!(rt; applies_beside(&rt, rt.alloc(), 3, (0, 1, refused))?);
     Ok(())
 }
 
@@ -181,24 +188,37 @@ fn are_around_a_batch(list: &[Answer]) -> bool {
     }
 }
 
-/// The publisher writes a batch while a worker is between two requests.
-#[test]
-fn applies_at_once(rt: HostRuntime) -> Result<(), Fail> {
-    let batch = link_batch(rt.alloc(), 1)?;
-    let all = requests(rt.alloc(), 2)?;
+/// Whether the publisher writes a batch while a worker is between two requests.
+fn applies_between<R: Threads + Wait + Abort + Sync>(
+    rt: &R,
+    alloc: Global,
+    batches: &[Batch],
+    requests: &[Request],
+) -> bool
+    requires { length requests.now ≤ MOST_REQUESTS }
+{
     let meeting = Meeting {
         asked: AtomicU64::new(0),
         written: AtomicU64::new(0),
         faults: AtomicU64::new(0),
     };
     let journal = MeetingJournal {
-        held: Vec::new(rt.alloc()),
+        held: Vec::new(alloc),
         meeting: &meeting,
     };
-    let opened = opened(&rt, rt.alloc(), journal, 1);
-    let asked = all.as_slice();
-    let left = run_and_close(&rt, rt.alloc(), opened, &[batch], asked, &meeting);
-    assert!(rt; left.journal.held.len() == 172 && left.applied == 1 && left.fault.is_none());
-    assert!(rt; meeting.faults.load(Ordering::SeqCst) == 0 && are_around_a_batch(&left.list));
+    let opened = opened(rt, alloc, journal, 1);
+    let left = run_and_close(rt, alloc, opened, batches, requests, &meeting);
+    left.journal.held.len() == 172
+        && left.applied == 1
+        && left.fault.is_none()
+        && meeting.faults.load(Ordering::SeqCst) == 0
+        && are_around_a_batch(&left.list)
+}
+
+#[test]
+fn applies_at_once(rt: HostRuntime) -> Result<(), Fail> {
+    let batches = [link_batch(rt.alloc(), 1)?];
+    let all = requests(rt.alloc(), 2)?;
+    assert!(rt; applies_between(&rt, rt.alloc(), &batches, all.as_slice()));
     Ok(())
 }

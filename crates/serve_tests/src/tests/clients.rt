@@ -8,7 +8,7 @@ ghost use Rattle.std.specs.Prelude.{◌≡◌};
 ghost use Rattle.cspf_client.specs.ServingStates.{IsReady};
 
 use cspf_addr::{Addr, Mask};
-use cspf_client::{Client, Replies, ServedClient, ServingClient};
+use cspf_client::{Client, ClientError, Replies, ServedClient, ServingClient};
 use cspf_model::{Batch, Change, Link};
 use cspf_publish::{Publisher, open};
 use std::alloc::Global;
@@ -103,4 +103,17 @@ fn served<R: Wait + Abort>(
     serving.meet(publisher.tell());
     publisher.close(rt);
     serving.close()
+}
+
+/// Whether a client has these replies and this end, with so many rows refused.
+fn is_left(
+    left: &ServedClient<Narrow>,
+    replies: &[u8],
+    end: Result<(), ClientError>,
+    refused: u64,
+) -> bool {
+    left.replies.held.as_slice() == replies
+        && left.end == end
+        && left.refused == refused
+        && left.replies.ends == 1
 }

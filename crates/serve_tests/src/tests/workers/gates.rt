@@ -1,0 +1,326 @@
+//! What workers tell their gate, and how many of them work at once.
+
+ghost use Rattle.std.specs.Prelude.{◌<◌, ◌≤◌, length};
+ghost use Rattle.cspf_publish.specs.declared.limits.TheConstants.{MOST_ASKERS};
+ghost use Rattle.cspf_work.specs.declared.limits.TheConstants.{MOST_REQUESTS};
+
+use super::alone::answered_with_a_link;
+use super::counts::{Counts, are_ones, wait_for, zeros};
+use super::fixtures::{link_batch, opened, requests};
+use super::live::run_and_close;
+use cspf_model::{Batch, Request};
+use cspf_serve::{Gate, run_batch, run_live_rows};
+use std::alloc::{AllocError, Global};
+use std::fmt::Write;
+use std::process::Abort;
+use std::sync::Wait;
+use std::sync::atomic::{AtomicU64, Ordering};
+use std::test::Fail;
+use std::thread::Threads;
+
+/// Which run answers requests.
+#[derive(Clone, Copy)]
+enum Run {
+    /// `run_batch` over no journal.
+    Batch,
+    /// `run_live_rows` over no updates.
+    Live,
+}
+
+/// The rows of `count` requests over the database without a link.
+fn rows_of(alloc: Global, count: usize) -> Result<String, AllocError> {
+    let mut rows = String::new(alloc);
+    for id in 0..count {
+        write!(rows, "ask,{id},1.1.1.1,2.2.2.2,0,0,0x0,0x0,0x0,\n")?;
+    }
+    Ok(rows)
+}
+
+/// The lines of a run over them.
+fn lines_of(alloc: Global, run: Run, count: usize) -> Result<String, AllocError> {
+    let mut lines = String::new(alloc);
+    for id in 0..count {
+        write!(lines, "ask {id} v0 unknown-from\n")?;
+    }
+    lines.push_str(match run {
+        Run::Batch => "",
+        Run::Live => "applied 0\n",
+    })?;
+    Ok(lines)
+}
+
+/// Whether a run over no journal and some requests writes these lines.
+fn batch_run_writes<G: Gate + Sync, T: Threads + Wait + Sync>(
+    rt: &T,
+    alloc: Global,
+    asked: &[u8],
+    lines: &[u8],
+    workers: usize,
+    gate: &G,
+) -> bool
+    requires { (0 < workers) × (workers ≤ MOST_ASKERS) }
+{
+    let none: &[u8] = b"";
+    let mut held = Vec::new(alloc);
+    let found = run_batch(rt, alloc, none, asked, &mut held, workers, false, gate);
+    found == Ok(0) && held.as_slice() == lines
+}
+
+/// Whether a run over no updates and some requests writes these lines, and no journal.
+fn live_run_writes<G: Gate + Sync, T: Threads + Wait + Sync>(
+    rt: &T,
+    alloc: Global,
+    asked: &[u8],
+    lines: &[u8],
+    workers: usize,
+    gate: &G,
+) -> bool
+    requires { (0 < workers) × (workers ≤ MOST_ASKERS) }
+{
+    let none: &[u8] = b"";
+    let mut held = Vec::new(alloc);
+    let kept: Vec<u8> = Vec::new(alloc);
+    let (found, kept) = run_live_rows(rt, alloc, none, asked, kept, &mut held, workers, gate);
+    found == Ok(0) && held.as_slice() == lines && kept.is_empty()
+}
+
+/// Whether a run over nothing but `count` requests answers them, by this many workers, with their
+/// lines.
+fn answers<G: Gate + Sync, T: Threads + Wait + Sync>(
+    rt: &T,
+    alloc: Global,
+    run: Run,
+    count: usize,
+    workers: usize,
+    gate: &G,
+) -> Result<bool, AllocError>
+    requires { (0 < workers) × (workers ≤ MOST_ASKERS) }
+{
+    let rows = rows_of(alloc, count)?;
+    let lines = lines_of(alloc, run, count)?;
+    let (asked, lines) = (rows.as_bytes(), lines.as_bytes());
+    Ok(match run {
+        Run::Batch => batch_run_writes(rt, alloc, asked, lines, workers, gate),
+        Run::Live => live_run_writes(rt, alloc, asked, lines, workers, gate),
+    })
+}
+
+/// Whether as many workers as requests, each of which is held until all are reached, answer them.
+fn answers_at_once<T: Threads + Wait + Sync>(
+    rt: &T,
+    alloc: Global,
+    run: Run,
+    count: usize,
+) -> Result<bool, AllocError>
+    requires { (0 < count) × (count ≤ MOST_ASKERS) }
+{
+    let gate = Counts::new(alloc, count)?;
+    Ok(answers(rt, alloc, run, count, count, &gate)? && gate.is_whole())
+}
+
+/// All workers run at once, and it is the caller's gate that they tell.
+#[test]
+fn at_once(rt: HostRuntime) -> Result<(), AllocError> {
+    for count in [2, 64] {
+        assert!(rt;
+            answers_at_once(&rt, rt.alloc(), Run::Batch, count)?
+                && answers_at_once(&rt, rt.alloc(), Run::Live, count)?,
+            "{count}"
+        );
+    }
+    Ok(())
+}
+
+/// Counts how often each index comes, and waits for nobody.
+#[derive(Drop)]
+struct Tally {
+    reached: Vec<AtomicU64>,
+    answered: Vec<AtomicU64>,
+    /// How often an index comes that no request has.
+    others: AtomicU64,
+}
+
+impl Tally {
+    fn new(alloc: Global, count: usize) -> Result<Tally, AllocError> {
+        Ok(Tally {
+            reached: zeros(alloc, count)?,
+            answered: zeros(alloc, count)?,
+            others: AtomicU64::new(0),
+        })
+    }
+
+    /// Whether each index comes once before its ask and once after it.
+    fn is_whole(&self) -> bool {
+        are_ones(&self.reached)
+            && are_ones(&self.answered)
+            && self.others.load(Ordering::SeqCst) == 0
+    }
+}
+
+impl Gate for Tally {
+    fn reached(&self, _worker: usize, index: usize) {
+        let word = self.reached.get(index).unwrap_or(&self.others);
+        word.fetch_add(1, Ordering::SeqCst);
+    }
+
+    fn answered(&self, _worker: usize, index: usize) {
+        let word = self.answered.get(index).unwrap_or(&self.others);
+        word.fetch_add(1, Ordering::SeqCst);
+    }
+}
+
+/// Whether `count` requests come once before their asks and once after them.
+fn tells_of_each<T: Threads + Wait + Sync>(
+    rt: &T,
+    alloc: Global,
+    count: usize,
+) -> Result<bool, AllocError> {
+    let tally = Tally::new(alloc, count)?;
+    Ok(answers(rt, alloc, Run::Batch, count, 3, &tally)? && tally.is_whole())
+}
+
+/// More requests than are answered before lines are written: the gate hears of each by its index
+/// among all of them.
+#[test]
+fn what_workers_tell_of_many_rows(rt: HostRuntime) -> Result<(), AllocError> {
+    assert!(rt; tells_of_each(&rt, rt.alloc(), 32_768 * 2 + 3)?);
+    Ok(())
+}
+
+/// Notes what each worker says, in its order, as hexadecimal digits. 1, 3, 5 and 7 are reaching the
+/// requests 0 to 3, and 2, 4, 6 and 8 having their answers. Holds request 0 until the others are
+/// answered.
+#[derive(Drop)]
+struct Notes {
+    words: Vec<AtomicU64>,
+    /// What is said of a worker that isn't there.
+    others: AtomicU64,
+    /// How many of the requests 1 to 3 are answered.
+    answered: AtomicU64,
+    faults: AtomicU64,
+}
+
+impl Notes {
+    fn new(alloc: Global, workers: usize) -> Result<Notes, AllocError> {
+        Ok(Notes {
+            words: zeros(alloc, workers)?,
+            others: AtomicU64::new(0),
+            answered: AtomicU64::new(0),
+            faults: AtomicU64::new(0),
+        })
+    }
+
+    fn note(&self, worker: usize, digit: u64) {
+        let word = self.words.get(worker).unwrap_or(&self.others);
+        let noted = word.load(Ordering::SeqCst);
+        word.store(noted.wrapping_mul(16).wrapping_add(digit), Ordering::SeqCst);
+    }
+
+    /// Whether one worker asks request 0, and the other meanwhile the requests 1, 2 and 3.
+    fn are_of_four_requests(&self) -> bool {
+        match self.words.as_slice() {
+            [first, second] => {
+                let noted = (first.load(Ordering::SeqCst), second.load(Ordering::SeqCst));
+                (noted == (0x12, 0x345678) || noted == (0x345678, 0x12))
+                    && self.others.load(Ordering::SeqCst) == 0
+                    && self.faults.load(Ordering::SeqCst) == 0
+            }
+            _ => false,
+        }
+    }
+}
+
+impl Gate for Notes {
+    fn reached(&self, worker: usize, index: usize) {
+        self.note(worker, (index as u64).wrapping_mul(2).wrapping_add(1));
+        if index == 0 {
+            wait_for(&self.answered, 3, &self.faults);
+        }
+    }
+
+    fn answered(&self, worker: usize, index: usize) {
+        self.note(worker, (index as u64).wrapping_mul(2).wrapping_add(2));
+        if index != 0 {
+            self.answered.fetch_add(1, Ordering::SeqCst);
+        }
+    }
+}
+
+/// Whether one worker drew 0, and the other 1, 2 and 3.
+fn are_zero_and_the_others(drawn: &[Vec<usize>]) -> bool {
+    let [first, second] = drawn else {
+        return false;
+    };
+    let (zero, others) = if first.len() == 1 {
+        (first, second)
+    } else {
+        (second, first)
+    };
+    zero.as_slice() == [0].as_slice() && others.as_slice() == [1, 2, 3].as_slice()
+}
+
+/// Whether one of two workers draws request 0, and the other the others.
+fn tell_of_four<R: Threads + Wait + Abort + Sync>(
+    rt: &R,
+    alloc: Global,
+    batch: &Batch,
+    requests: &[Request],
+    notes: &Notes,
+) -> bool
+    requires { length requests.now ≤ MOST_REQUESTS }
+{
+    match answered_with_a_link(rt, alloc, batch, 2, requests, notes) {
+        Some(answers) => notes.are_of_four_requests() && are_zero_and_the_others(&answers.drawn),
+        None => false,
+    }
+}
+
+#[test]
+fn what_workers_tell(rt: HostRuntime) -> Result<(), Fail> {
+    let batch = link_batch(rt.alloc(), 1)?;
+    let all = requests(rt.alloc(), 4)?;
+    let notes = Notes::new(rt.alloc(), 2)?;
+    assert!(rt; tell_of_four(&rt, rt.alloc(), &batch, all.as_slice(), &notes));
+    Ok(())
+}
+
+/// The same of a live run, which applies a batch.
+fn tell_of_four_live<R: Threads + Wait + Abort + Sync>(
+    rt: &R,
+    alloc: Global,
+    batches: &[Batch],
+    requests: &[Request],
+    notes: &Notes,
+) -> bool
+    requires { length requests.now ≤ MOST_REQUESTS }
+{
+    let opened = opened(rt, alloc, Vec::<u8>::new(alloc), 2);
+    let left = run_and_close(rt, alloc, opened, batches, requests, notes);
+    left.list.len() == 4 && left.applied == 1 && notes.are_of_four_requests()
+}
+
+#[test]
+fn what_live_workers_tell(rt: HostRuntime) -> Result<(), Fail> {
+    let batches = [link_batch(rt.alloc(), 1)?];
+    let all = requests(rt.alloc(), 4)?;
+    let notes = Notes::new(rt.alloc(), 2)?;
+    assert!(rt; tell_of_four_live(&rt, rt.alloc(), &batches, all.as_slice(), &notes));
+    Ok(())
+}
+
+/// The same of a run over rows.
+fn tell_of_rows<T: Threads + Wait + Sync>(
+    rt: &T,
+    alloc: Global,
+    run: Run,
+) -> Result<bool, AllocError> {
+    let notes = Notes::new(alloc, 2)?;
+    Ok(answers(rt, alloc, run, 4, 2, &notes)? && notes.are_of_four_requests())
+}
+
+#[test]
+fn what_workers_tell_of_rows(rt: HostRuntime) -> Result<(), AllocError> {
+    assert!(rt; tell_of_rows(&rt, rt.alloc(), Run::Batch)?);
+    assert!(rt; tell_of_rows(&rt, rt.alloc(), Run::Live)?);
+    Ok(())
+}
