@@ -5,10 +5,10 @@ use cspf_ero::EroError;
 use cspf_model::{Change, Refusal};
 use cspf_rows::{HopsFault, RowError};
 use cspf_stream::{BatchRefusal, OpenChanges, StreamLine, refused_row};
-use std::test::Fail;
+use std::alloc::{AllocError, Global};
 
 #[test]
-fn lines_of_refused_rows(rt: HostRuntime) -> Result<(), Fail> {
+fn lines_of_refused_rows(rt: HostRuntime) -> Result<(), AllocError> {
     let wanted: [(u64, RowError, &[u8]); 6] = [
         (1, RowError::Kind, b"row 1 refused: kind\n"),
         (
@@ -34,16 +34,19 @@ fn lines_of_refused_rows(rt: HostRuntime) -> Result<(), Fail> {
         ),
     ];
     for (place, error, line) in wanted {
-        assert!(rt;
-            refused_row(rt.alloc(), place, error)?.as_slice() == line,
-            "{place}"
-        );
+        assert!(rt; is_line_of(rt.alloc(), place, error, line)?, "{place}");
     }
     Ok(())
 }
 
+/// Whether a refused row at this place has this line.
+fn is_line_of(alloc: Global, place: u64, error: RowError, line: &[u8]) -> Result<bool, AllocError> {
+    let found = refused_row(alloc, place, error)?;
+    Ok(found.as_slice() == line)
+}
+
 #[test]
-fn lines_of_streams(rt: HostRuntime) -> Result<(), Fail> {
+fn lines_of_streams(rt: HostRuntime) -> Result<(), AllocError> {
     let unfit = BatchRefusal::Unfit(Refusal::Absent { at: 3 });
     let cut = BatchRefusal::Journal { written: 40 };
     let wanted: [(StreamLine, &[u8]); 5] = [
@@ -66,18 +69,20 @@ fn lines_of_streams(rt: HostRuntime) -> Result<(), Fail> {
         (StreamLine::TooManyRows, b"too many rows\n"),
     ];
     for (line, text) in wanted {
-        assert!(rt; line.bytes(rt.alloc())?.as_slice() == text);
+        assert!(rt; has_text(rt.alloc(), line, text)?);
     }
     Ok(())
 }
 
-/// Changes are open until they are cleared.
-#[test]
-fn lines_of_open_changes(rt: HostRuntime) -> Result<(), Fail> {
-    let mut changes = OpenChanges::new(rt.alloc());
-    let wanted: [&[u8]; 3] = [b"", b"unended 1\n", b"unended 2\n"];
-    for text in wanted {
-        assert!(rt; changes.last_line(rt.alloc())?.as_slice() == text);
+fn has_text(alloc: Global, line: StreamLine, text: &[u8]) -> Result<bool, AllocError> {
+    let found = line.bytes(alloc)?;
+    Ok(found.as_slice() == text)
+}
+
+/// So many open changes.
+fn opened(alloc: Global, count: u32) -> Result<OpenChanges, AllocError> {
+    let mut changes = OpenChanges::new(alloc);
+    for _ in 0..count {
         if changes.count < 9 {
             changes.add(Change::Node {
                 router: Addr::new(1),
@@ -85,7 +90,23 @@ fn lines_of_open_changes(rt: HostRuntime) -> Result<(), Fail> {
             })?;
         }
     }
+    Ok(changes)
+}
+
+/// Whether so many open changes have this line at the end, and none once they are cleared.
+fn has_last_line(alloc: Global, count: u32, text: &[u8]) -> Result<bool, AllocError> {
+    let mut changes = opened(alloc, count)?;
+    let line = changes.last_line(alloc)?;
     changes.clear();
-    assert!(rt; changes.last_line(rt.alloc())?.is_empty());
+    let cleared = changes.last_line(alloc)?;
+    Ok(line.as_slice() == text && cleared.is_empty())
+}
+
+/// Changes are open until they are cleared.
+#[test]
+fn lines_of_open_changes(rt: HostRuntime) -> Result<(), AllocError> {
+    assert!(rt; has_last_line(rt.alloc(), 0, b"")?);
+    assert!(rt; has_last_line(rt.alloc(), 1, b"unended 1\n")?);
+    assert!(rt; has_last_line(rt.alloc(), 2, b"unended 2\n")?);
     Ok(())
 }

@@ -1,2 +1,0 @@
-mod audits;
-mod memory;

@@ -1,0 +1,4 @@
+mod audits;
+mod memory;
+mod snapshots;
+mod streams;

@@ -1,3 +1,0 @@
-mod replays;
-mod snapshots;
-mod tables;
