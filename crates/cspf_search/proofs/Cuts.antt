@@ -113,7 +113,7 @@ module _ (d : Database) (q : Request) where
       reached_cut _ _ r [] (leg ∷ rest) (record { arrives = target.target; within = (reached_inside _ _ r, tt) }, are) (omega arith)
 
   -- each link of a walk to the tail-end that passes only through routers with transit runs on
-  run_on : (a : ℕ) (w : List Link) → AreJoined a w → AllByRecursion (HasTransit d) (routers_passed w) → end_of a w ≡ q.to → AllByRecursion (RunsOn d q) w
+  pub run_on : (a : ℕ) (w : List Link) → AreJoined a w → AllByRecursion (HasTransit d) (routers_passed w) → end_of a w ≡ q.to → AllByRecursion (RunsOn d q) w
   run_on a [] joined passed end = tt
   run_on a (l ∷ []) joined passed end = (inr end, tt)
   run_on a (l ∷ (m ∷ w)) joined passed end = (inl (subst (HasTransit d) joined.1.0 passed.0), run_on l.to (m ∷ w) joined.1 passed.1 end)

@@ -42,7 +42,7 @@ filtered p (k ∷ ls) =
     (All-weaker (λ l. p l ≡ true → Contains (filter p ls) l) (λ l. p l ≡ true → Contains (filter p (k ∷ ls)) l) (λ l h e. kept_tail p k ls l (h e)) ls (filtered p ls))
 
 module _ (d : Database) (place : ℕ) where
-  kept_of : (l : Link) → Contains (links_from_index d place) l → Contains (links_of d) l
+  pub kept_of : (l : Link) → Contains (links_from_index d place) l → Contains (links_of d) l
   kept_of l h =
       All-contains (Contains (links_of d)) (links_from_index d place) l
       (All-filter (λ k. nat_eq k.from (slice_index (router_list d) place)) (Contains (links_of d)) (links_of d) (All-contains_itself (links_of d))) h
@@ -52,7 +52,7 @@ module _ (d : Database) (place : ℕ) where
       All-contains (λ l. nat_eq l.from (slice_index (router_list d) place) ≡ true → Contains (links_from_index d place) l) (links_of d) l
       (filtered (λ k. nat_eq k.from (slice_index (router_list d) place)) (links_of d)) h (eq-eqb l.from (slice_index (router_list d) place) from)
 
-  runs_from : (row : ℕ) (l : Link) → slice_get (links_from_index d place) row ≡ Some l → l.from ≡ slice_index (router_list d) place
+  pub runs_from : (row : ℕ) (l : Link) → slice_get (links_from_index d place) row ≡ Some l → l.from ≡ slice_index (router_list d) place
   runs_from row l e =
       let within = slice_get_within (links_from_index d place) row l e in
       let passes = filter_passes (λ k. nat_eq k.from (slice_index (router_list d) place)) (links_of d) row l within in

@@ -24,3 +24,4 @@ pub mod LegBounds
 mod Broken
 pub mod LegTargets
 pub mod Trees
+pub mod TightWalks

@@ -12,3 +12,4 @@ pub mod RoundSteps
 pub mod Source
 pub mod Trees
 pub mod TreeSteps
+pub mod TightWalks

@@ -22,6 +22,7 @@ mod search;
 mod strict;
 mod tree;
 mod tree_steps;
+mod walk;
 
 pub use cspf_model::{MOST_ROUTE_LINKS, Outcome, Route};
 pub use laws::trees_are_shared;

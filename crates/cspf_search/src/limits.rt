@@ -18,3 +18,6 @@ pub(crate) const ROOM_FOR_WAITING: usize = 512;
 
 /// The capacity for settled nodes at the start.
 pub(crate) const ROOM_FOR_NODES: usize = 64;
+
+/// The capacity for the links of a walk at the start.
+pub(crate) const ROOM_FOR_LINKS: usize = 16;

@@ -33,6 +33,7 @@ use crate::limits::{NO_WAY, ROOM_FOR_NODES, ROOM_FOR_WAITING};
 use crate::query::Query;
 use crate::rounds::{Round, first};
 use crate::tree::Tree;
+use crate::walk::walk_by_tree;
 use cspf_db::Table;
 use cspf_graph::{find_roles, listed};
 use cspf_model::{MOST_ROUTERS, Outcome, Request, Route};
@@ -234,7 +235,7 @@ fn searched<'a>(
 }
 
 /// The best answer to a request in the table's database, by one of both searches, with a tree if
-/// there is one.
+/// there is one. Where the tree gives the least route, nothing is searched.
 fn best_by(
     alloc: Global,
     table: &Table,
@@ -253,6 +254,9 @@ fn best_by(
     let Some(to) = table.place_of(request.to) else {
         return Ok(Outcome::UnknownTo);
     };
+    if let Some(route) = walk_by_tree(alloc, table, request, tree, from, to)? {
+        return Ok(Outcome::Route(route));
+    }
     let roles = find_roles(alloc, table, request, from, to)?;
     let query = Query {
         table,
@@ -277,8 +281,9 @@ pub fn best(alloc: Global, table: &Table, request: &Request) -> Result<Outcome, 
 }
 
 /// The answer of `best`, by a tree for the request's tail-end and its affinities in the same
-/// database, which `Tree::grow` makes. The tree has the bounds in the last leg, so fewer routers are
-/// settled.
+/// database, which `Tree::grow` makes. Without hops, the bounds of the tree may give the least
+/// route alone, and then nothing is searched. Else they are the bounds in the last leg, so fewer
+/// routers are settled.
 pub fn best_by_tree(
     alloc: Global,
     table: &Table,

@@ -23,10 +23,10 @@ pub struct Tree {
 }
 
 impl Tree {
-    ghost use Rattle.std.specs.Prelude.{IfOk, IfSome, IfNone};
+    ghost use Rattle.std.specs.Prelude.{◌<◌, IfOk, IfSome, IfNone};
     ghost use Rattle.cspf_model.specs.declared.request.Request.{Request as Asked};
     ghost use Rattle.cspf_model.specs.Database.{IsRouterOf};
-    ghost use Rattle.cspf_search.specs.Trees.{IsTree, ShareTrees};
+    ghost use Rattle.cspf_search.specs.Trees.{IsTree, ShareTrees, tree_bound};
 
     /// The tree for the tail-end and the affinities of a request, unless no link begins or ends at
     /// the tail-end. It is the same for each request that shares them.
@@ -48,5 +48,13 @@ impl Tree {
         let edge = ring.edge(table.routers().len());
         let Ring { near, .. } = ring;
         Ok(Some(Tree { near, edge }))
+    }
+
+    /// The bound of the router at an index in the list of routers.
+    pub(crate) fn bound(&self, place: usize) -> u32
+        requires { place < MOST_ROUTERS }
+        ensures { result ≡ tree_bound self.now place }
+    {
+        self.near[place].min(self.edge)
     }
 }

@@ -1,7 +1,7 @@
 //! The search against the direction of the links by which a tree grows. It settles all routers, and
 //! asks of a link only the affinities and the reverse.
 
-ghost use Rattle.std.specs.Prelude.{◌≡◌, ◌≢◌, ◌<◌, ℕ, false, OnOk, length, slice_index};
+ghost use Rattle.std.specs.Prelude.{◌≡◌, ◌≢◌, ◌<◌, ◌↔◌, ℕ, IsTrue, OnOk, length, slice_index};
 ghost use Rattle.cspf_columns.specs.declared.limits.TheConstants.{NO_LINK};
 ghost use Rattle.cspf_model.specs.declared.limits.TheConstants.{MOST_ROUTERS};
 ghost use Rattle.cspf_model.specs.Database.{AreLinksOf};
@@ -72,10 +72,10 @@ fn walk(
 }
 
 /// Whether a way to the tail-end may lead over the router at an index, or end there.
-fn may_lead_over(table: &Table, any: &Request, to: usize) -> bool
+pub(crate) fn may_lead_over(table: &Table, any: &Request, to: usize) -> bool
     requires { to < length (router_list table.now) }
-    ensures { result ≡ false → MayLeadOver table.now any.now (slice_index (router_list table.now) to)
-        → ⊥ }
+    ensures { IsTrue result
+        ↔ MayLeadOver table.now any.now (slice_index (router_list table.now) to) }
 {
     table.transit_at(to) || table.routers()[to] == any.to
 }

@@ -21,24 +21,34 @@ fn draw(seed: &mut u32) -> u32 {
     x
 }
 
-// A link over two interfaces, of a metric from 0 to 3, that has unreserved bandwidth or not.
-fn drawn_link(seed: &mut u32, from: (u32, u32), to: (u32, u32)) -> Row {
-    let metric = draw(seed) % 4;
+// A metric, in a network of a kind: from 0 to 3, so that routes tie; all 1; or from 1 to 1,000.
+fn drawn_metric(seed: &mut u32, kind: u32) -> u32 {
+    match kind {
+        0 => draw(seed) % 4,
+        1 => 1,
+        _ => 1 + draw(seed) % 1000,
+    }
+}
+
+// A link over two interfaces, in a network of a kind, that has unreserved bandwidth or not.
+fn drawn_link(seed: &mut u32, kind: u32, from: (u32, u32), to: (u32, u32)) -> Row {
+    let metric = drawn_metric(seed, kind);
     let free = if draw(seed) % 8 == 0 { 0 } else { 1000 };
     (router(from.0), from.1, router(to.0), to.1, metric, free)
 }
 
 // A network of 12 routers with 24 links and the reverses of all but some of them.
 fn drawn(alloc: Global, seed: &mut u32) -> Result<Vec<Row>, Fail> {
+    let kind = draw(seed) % 3;
     let mut rows = Vec::new(alloc);
     for number in 0..24 {
         let from = draw(seed) % 12;
         let to = (from + 1 + draw(seed) % 11) % 12;
         let local = (draw(seed) % 4) * 256 + number;
         let remote = (draw(seed) % 4) * 256 + 128 + number;
-        rows.push(drawn_link(seed, (from, local), (to, remote)))?;
+        rows.push(drawn_link(seed, kind, (from, local), (to, remote)))?;
         if draw(seed) % 10 > 0 {
-            rows.push(drawn_link(seed, (to, remote), (from, local)))?;
+            rows.push(drawn_link(seed, kind, (to, remote), (from, local)))?;
         }
     }
     Ok(rows)

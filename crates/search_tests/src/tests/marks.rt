@@ -55,9 +55,24 @@ const ROUND: &[Case] = &[
     (&[TWO, NINE], (ONE, NINE), b"", UnknownTo),
 ];
 
+// From ONE to FOUR by TWO and by THREE at the same cost, but nothing is unreserved to THREE. So the
+// bounds of a tree fall by just the metric over the links by TWO, even where TWO is marked.
+const EQUAL: &[Row] = &[
+    (ONE, 0x0a00_0c01, TWO, 0x0a00_0c02, 1, 1000),
+    (TWO, 0x0a00_1802, FOUR, 0x0a00_1804, 1, 1000),
+    (ONE, 0x0a00_0d01, THREE, 0x0a00_0d03, 1, 0),
+    (THREE, 0x0a00_2203, FOUR, 0x0a00_2204, 1, 1000),
+];
+
+const BY_ONE_WAY: &[Case] = &[
+    (&[], (ONE, FOUR), b"", Route(2, BY_TWO)),
+    (&[TWO], (ONE, FOUR), b"", NoRoute),
+];
+
 #[test]
 fn routes_round_marked_routers(rt: HostRuntime) -> Result<(), Fail> {
-    assert_networks(&rt, rt.alloc(), &[(SQUARE, true, ROUND)])
+    let networks = [(SQUARE, true, ROUND), (EQUAL, true, BY_ONE_WAY)];
+    assert_networks(&rt, rt.alloc(), &networks)
 }
 
 const BY_HOP: &[u8] = b"2.2.2.2/32l";

@@ -1,0 +1,263 @@
+-- Where one link alone is tight at each router on the way, the walk of these links is the least route.
+use Rattle.std.proofs.Common.{◌≡◌, ◌≢◌, inl, inr, ℕ, ◌+◌, ◌^◌, ◌<◌, ◌≤◌, Some, List, [], ◌∷◌, ◌++◌, ◌⊎◌, length, map, slice_get, slice_index, slice_index_or, refl, sym, ap, subst, ◌∙◌, arith, append_assoc, append-nil}
+use Rattle.std.specs.List.{All}
+use Rattle.std.specs.Ordering.{nat_cmp, ordering_then}
+use Rattle.std.specs.declared.cmp.Ordering.{Ordering}
+use Rattle.std.specs.declared.cmp.Ordering.TheVariants.{Less, Equal}
+use Rattle.std.proofs.lemmas.Bool.{cases_lt}
+use Rattle.std.proofs.lemmas.Cmp.{tied_itself}
+use Rattle.std.proofs.lemmas.Bool.Decides.{nat_tests}
+use Rattle.std.proofs.lemmas.List.{length-append}
+use Rattle.std.proofs.lemmas.List.Sums.{sum_by-cons}
+use Rattle.std.proofs.lemmas.List.Elements.{All-contains, at_from_Contains}
+use Rattle.std.proofs.lemmas.Option.{get_or_from_slice_get, same_Some, slice_get_past, slice_get_read, slice_get-get_or, slice_get_within}
+use Rattle.cspf_columns.specs.declared.limits.TheConstants.{NO_LINK}
+use Rattle.cspf_model.specs.declared.link.Link.{Link}
+use Rattle.cspf_model.specs.declared.request.Request.{Request}
+use Rattle.cspf_model.specs.Database.{Database, AreLinksOf, IsLinkOf, IsRouterOf}
+use Rattle.cspf_model.specs.Admissible.{IsAdmissible, IsAdmitted, MayLeave}
+use Rattle.cspf_model.specs.Walks.{cost_of, walk_cmp}
+use Rattle.cspf_model.specs.Routes.{IsRoute}
+use Rattle.cspf_model.specs.Best.{IsBestRoute}
+use Rattle.cspf_model.specs.RouteLinks.{IsKept}
+use Rattle.cspf_model.specs.Targets.{IsLoose}
+use Rattle.cspf_db.specs.Index.{links_from_index, links_of, router_list, IsReverseAt}
+use Rattle.cspf_graph.specs.Lists.{AreListed, IsIndexOf, router_at}
+use Rattle.cspf_graph.specs.Roles.{MayEnter}
+use Rattle.cspf_search.specs.declared.edge.Edge.{Edge}
+use Rattle.cspf_search.specs.declared.tree.Tree.{Tree}
+use Rattle.cspf_search.specs.Settled.{locals_cmp}
+use Rattle.cspf_search.specs.Source.{IsEdge}
+use Rattle.cspf_search.specs.States.{by_link, Reaches, starts, steps, end_state}
+use Rattle.cspf_search.specs.TightWalks.{AreSlack, GoesOn, IsNextTight, IsSole, IsTight, IsTightWalk, IsWayOn}
+use Rattle.cspf_search.specs.Trees.{IsInClass, IsTree, MayLeadOver, tree_bound}
+use Rattle.cspf_search.proofs.Answered.{route_linked, route_some}
+use Rattle.cspf_search.proofs.Cuts.{reached_walk, reaches_route, route_reaches, run_on}
+use Rattle.cspf_search.proofs.Expanded.{kept_from, kept_of, runs_from}
+use Rattle.cspf_search.proofs.Reversed.{has_reverse, reverse_of_row}
+use Rattle.cspf_search.proofs.Taken.{end_of_row}
+use Rattle.cspf_search.proofs.Orders.{cost_of-push, walks_total}
+use Rattle.cspf_graph.proofs.RouterIndexes.{one_place}
+
+-- a walk that costs more isn't before another, and neither is one that has more links at the same cost
+
+cost_first : (a b : ℕ) (o : Ordering) → b < a → ordering_then (nat_cmp a b) o ≡ Less → ⊥
+cost_first a b o h less = grind (arith, nat_tests)
+
+links_first : (a b m n : ℕ) (o : Ordering) → a ≡ b → n < m → ordering_then (nat_cmp a b) (ordering_then (nat_cmp m n) o) ≡ Less → ⊥
+links_first a b m n o e h less = grind (arith, nat_tests)
+
+-- the cost of a link and those after it
+cost_of-cons : (l : Link) (links : List Link) → cost_of (l ∷ links) ≡ l.metric + cost_of links
+cost_of-cons l links = sum_by-cons (λ (l : Link). l.metric) l links
+
+-- a router of the database has an index in the list of routers
+place_for : (d : Database) → AreListed d → (router : ℕ) → IsRouterOf d router → (place : ℕ) × IsIndexOf d router place
+place_for d listed router known =
+    let at = at_from_Contains (router_list d) router ((listed.known router).1 known) in
+    (at.0, record { within = at.1; is = at.2 0 })
+
+-- the router at the end of an admissible link has an index
+to_place : (d : Database) (q : Request) → AreListed d → (l : Link) → IsAdmissible d q l → (place : ℕ) × IsIndexOf d l.to place
+to_place d q listed l a = place_for d listed l.to (l, a.link, inr refl)
+
+-- an admissible link is in the request's class
+in_class : (d : Database) (q : Request) (l : Link) → IsAdmissible d q l → IsInClass d q l
+in_class d q l a = record { link = a.link; reverse = a.usable.reverse; affinity = a.usable.admitted.affinity }
+
+module _ (d : Database) (q : Request) (tree : Tree) (listed : AreListed d) (is : IsTree d q tree) where
+  -- a way on costs at least the bound of its router
+  at_least : (router place : ℕ) → IsIndexOf d router place → (links : List Link) → IsWayOn d q router links → tree_bound tree place ≤ cost_of links
+  at_least router place at [] way =
+      let end : IsIndexOf d q.to place = subst (λ r. IsIndexOf d r place) way.end at in
+      omega (arith, is.end place end)
+  at_least router place at (l ∷ links) way =
+      let to = to_place d q listed l way.links.0 in
+      let from : IsIndexOf d l.from place = subst (λ r. IsIndexOf d r place) (sym way.joined.0) at in
+      let rest = at_least l.to to.0 to.1 links (record { links = way.links.1; joined = way.joined.1; over = way.over.1; end = way.end }) in
+      let within = is.links place to.0 l (in_class d q l way.links.0) way.over.0 from to.1 in
+      omega (arith, rest, within.0, cost_of-cons l links)
+
+  -- where it costs no more, its first link is tight, and what follows costs just the bound there
+  first_tight : (router place : ℕ) → IsIndexOf d router place → (l : Link) (links : List Link) → IsWayOn d q router (l ∷ links)
+      → cost_of (l ∷ links) ≡ tree_bound tree place
+      → IsTight d q tree place l × ((end : ℕ) → IsIndexOf d l.to end → cost_of links ≡ tree_bound tree end)
+  first_tight router place at l links way cost =
+      let from : IsIndexOf d l.from place = subst (λ r. IsIndexOf d r place) (sym way.joined.0) at in
+      let after : IsWayOn d q l.to links = record { links = way.links.1; joined = way.joined.1; over = way.over.1; end = way.end } in
+      let low = λ (end : ℕ) (to : IsIndexOf d l.to end). at_least l.to end to links after in
+      let within = λ (end : ℕ) (to : IsIndexOf d l.to end). is.links place end l (in_class d q l way.links.0) way.over.0 from to in (
+        record { usable = way.links.0.usable; over = way.over.0; falls = λ end to. omega (arith, low end to, (within end to).0, cost, cost_of-cons l links) },
+        λ end to. omega (arith, low end to, (within end to).0, cost, cost_of-cons l links),
+      )
+
+  -- a route is a way on from the head-end
+  route_way : (route : List Link) → IsRoute d q route → IsWayOn d q q.from route
+  route_way route is_route =
+      let end = (reached_walk d q route (end_state q) (route_reaches d q route is_route)).1 in
+      record {
+        links = is_route.is_walk.links;
+        joined = is_route.is_walk.joined;
+        over = run_on d q q.from route is_route.is_walk.joined is_route.is_walk.transit end;
+        end = end;
+      }
+
+  module _ (from : ℕ) (there : IsIndexOf d q.from from) where
+    -- the walk of no links
+    pub tight_none : IsTightWalk d q tree from [] from
+    tight_none = record {
+      within = there.within;
+      reaches = rw there.is starts;
+      leaves = inl (inr refl);
+      cost = omega arith;
+      first = λ route is_route cost. record { rest = route; whole = refl; way = rw there.is (route_way route is_route); cost = cost };
+    }
+
+    -- one more link, the only tight one there
+    module _ (of : AreLinksOf d (links_of d)) (loose : length q.hops ≡ 0) (to : ℕ) (end : IsIndexOf d q.to to) (walk : List Link) (place : ℕ)
+        (before : IsTightWalk d q tree from walk place) (on : place ≢ to) (edge : Edge) (sole : IsSole d q tree place edge) where
+      abbrev l : Link
+      l = edge.link.now
+
+      here : IsIndexOf d (router_at d place) place
+      here = record { within = before.within; is = refl }
+
+      not_end : router_at d place ≡ q.to → ⊥
+      not_end e = on (one_place d listed q.to place to (subst (λ r. IsIndexOf d r place) e here) end)
+
+      runs : l.from ≡ router_at d place
+      runs = runs_from d place edge.row l sole.is_edge.row
+
+      link_of : IsLinkOf d l
+      link_of =
+          let within = slice_get_within (links_from_index d place) edge.row l sole.is_edge.row in
+          let read = get_or_from_slice_get (links_from_index d place) edge.row l l sole.is_edge.row in
+          All-contains (IsLinkOf d) (links_of d) l of.each (kept_of d place l (edge.row, within, read))
+
+      leaves : MayLeave d (router_at d place) (length walk)
+      leaves = elim before.leaves [ inl may ↦ may | inr e ↦ absurd (not_end e) ]
+
+      enters : MayEnter d q 1 l.to
+      enters = record { inside = inl (subst IsLoose (sym (slice_get_past q.hops 0 (omega (arith, loose)))) tt); through = sole.tight.over }
+
+      reaches_on : Reaches d q (walk ++ (l ∷ [])) (record { leg = 1; router = router_at d edge.end })
+      reaches_on =
+          let so_far : Reaches d q walk (record { leg = 1; router = l.from }) = rw runs before.reaches in
+          let leaves_link : MayLeave d l.from (length walk) = rw runs leaves in
+          rw sole.is_edge.end.is (steps so_far (by_link l (record { link = link_of; usable = sole.tight.usable }) enters leaves_link))
+
+      leaves_on : MayLeave d (router_at d edge.end) (length (walk ++ (l ∷ []))) ⊎ (router_at d edge.end ≡ q.to)
+      leaves_on =
+          elim sole.tight.over [
+            | inl transit ↦ inl (inl (rw sole.is_edge.end.is transit))
+            | inr e ↦ inr (sole.is_edge.end.is ∙ e)
+          ]
+
+      -- what a route takes after the walk begins with the link
+      goes_on : (rest : List Link) → IsWayOn d q (router_at d place) rest → cost_of rest ≡ tree_bound tree place → (route : List Link) → route ≡ walk ++ rest
+          → GoesOn d q tree (walk ++ (l ∷ [])) edge.end route
+      goes_on [] way cost route whole = absurd (not_end way.end)
+      goes_on (m ∷ rest) way cost route whole =
+          let tight = first_tight (router_at d place) place here m rest way cost in
+          let at = kept_from d place m (of.whole m way.links.0.link) way.joined.0 in
+          let read : slice_get (links_from_index d place) at.0 ≡ Some m = slice_get-get_or (links_from_index d place) at.0 m at.1 ∙ ap Some at.2 in
+          let same : m ≡ l = same_Some m l (sym read ∙ ap (slice_get (links_from_index d place)) (sole.sole at.0 m read tight.0) ∙ sole.is_edge.row) in
+          let there_on : m.to ≡ router_at d edge.end = ap (λ (k : Link). k.to) same ∙ sym sole.is_edge.end.is in
+          let after : IsWayOn d q m.to rest = record { links = way.links.1; joined = way.joined.1; over = way.over.1; end = way.end } in
+          record {
+            rest = rest;
+            whole = whole ∙ ap (λ (k : Link). walk ++ (k ∷ rest)) same ∙ sym (append_assoc walk (l ∷ []) rest);
+            way = subst (λ r. IsWayOn d q r rest) there_on after;
+            cost = tight.1 edge.end (record { within = sole.is_edge.end.within; is = sym there_on });
+          }
+
+      pub tight_more : IsTightWalk d q tree from (walk ++ (l ∷ [])) edge.end
+      tight_more = record {
+        within = sole.is_edge.end.within;
+        reaches = reaches_on;
+        leaves = leaves_on;
+        cost = omega (arith, cost_of-push walk l, before.cost, sole.tight.falls edge.end sole.is_edge.end);
+        first = λ route is_route cost. let b = before.first route is_route cost in goes_on b.rest b.way b.cost route b.whole;
+      }
+
+    -- at the tail-end
+    module _ (loose : length q.hops ≡ 0) (to : ℕ) (end : IsIndexOf d q.to to) (walk : List Link) (at : IsTightWalk d q tree from walk to) where
+      is_route : IsRoute d q walk
+      is_route =
+          let leg : 1 ≡ length q.hops + 1 = omega (arith, loose) in
+          let there_now : Reaches d q walk (record { leg = 1; router = q.to }) = subst (λ (r : ℕ). Reaches d q walk (record { leg = 1; router = r })) end.is at.reaches in
+          reaches_route d q walk (subst (λ (k : ℕ). Reaches d q walk (record { leg = k; router = q.to })) leg there_now)
+
+      cost_is : cost_of walk ≡ tree_bound tree from
+      cost_is = omega (arith, at.cost, is.end to end)
+
+      -- a route that begins with the walk isn't before it
+      longer_later : (rest other : List Link) → other ≡ walk ++ rest → cost_of other ≡ cost_of walk → walk_cmp other walk ≢ Less
+      longer_later [] other whole cost less =
+          let same : other ≡ walk = whole ∙ append-nil walk in
+          let tied : walk_cmp walk walk ≡ Equal = tied_itself walks_total walk in
+          absurd (let found : walk_cmp walk walk ≡ Less = subst (λ w. walk_cmp w walk ≡ Less) same less in cc)
+      longer_later (m ∷ rest) other whole cost less =
+          let long : length walk < length other = omega (arith, ap (λ (w : List Link). length w) whole, length-append walk (m ∷ rest)) in
+          links_first (cost_of other) (cost_of walk) (length other) (length walk) (locals_cmp other walk) cost long less
+
+      least : (other : List Link) → IsRoute d q other → walk_cmp other walk ≢ Less
+      least other route less =
+          let low = at_least q.from from there other (route_way other route) in
+          elim (cases_lt (cost_of walk) (cost_of other)) [
+            | inl dear ↦ cost_first (cost_of other) (cost_of walk) (ordering_then (nat_cmp (length other) (length walk)) (locals_cmp other walk)) dear less
+            | inr no_more ↦
+                let cost : cost_of other ≡ tree_bound tree from = omega (arith, low, no_more, cost_is) in
+                let b = at.first other route cost in
+                longer_later b.rest other b.whole (cost ∙ sym cost_is) less
+          ]
+
+      pub tight_best : IsBestRoute d q walk
+      tight_best = record { is_route = is_route; least = least }
+
+      pub tight_kept : length walk ≤ 8184 → (cost : ℕ) → cost ≡ tree_bound tree from → cost < 2 ^ 45 → IsKept walk cost
+      tight_kept most cost same small = record {
+        some = route_some d q walk is_route;
+        most = most;
+        linked = route_linked d q walk is_route;
+        cost = same ∙ sym cost_is;
+        small = small;
+      }
+
+-- a link that is the first tight one, and after which none is, is the only one
+pub one_tight : (d : Database) (q : Request) (tree : Tree) (place : ℕ) (edge : Edge) → IsNextTight d q tree place 0 edge
+    → AreSlack d q tree place (edge.row + 1) (length (links_from_index d place)) → IsSole d q tree place edge
+one_tight d q tree place edge next after = record {
+  is_edge = next.is_edge;
+  tight = next.tight;
+  sole = λ row l here tight.
+      elim (cases_lt row edge.row) [
+        | inl lt ↦ absurd (omega (arith, next.slack row l lt here tight))
+        | inr ge ↦ omega (arith, ge, after row l (slice_get_within (links_from_index d place) row l here) here tight)
+      ];
+}
+
+-- what the columns tell of a tight link
+module _ (d : Database) (q : Request) (tree : Tree) (listed : AreListed d) (of : AreLinksOf d (links_of d)) (place : ℕ) (edge : Edge) (is : IsEdge d place edge) where
+  pub tight_is : tree_bound tree place ≡ edge.metric + tree_bound tree edge.end → edge.reverse ≢ NO_LINK → IsAdmitted q edge.link.now
+      → MayLeadOver d q (slice_index (router_list d) edge.end) → IsTight d q tree place edge.link.now
+  tight_is falls back admitted over = record {
+    usable = record { admitted = admitted; reverse = has_reverse d of edge.link.now edge.reverse is.reverse back };
+    over = rw (← is.end.is) over;
+    falls = λ end to.
+        let same : end ≡ edge.end = one_place d listed edge.link.now.to end edge.end to is.end in
+        omega (arith, falls, edge.same, ap (tree_bound tree) same);
+  }
+
+  pub tight_over : IsTight d q tree place edge.link.now → MayLeadOver d q (slice_index (router_list d) edge.end)
+  tight_over tight = rw is.end.is tight.over
+
+-- a link beside the index of the router at its end and that of its reverse
+pub beside_row : (d : Database) (place : ℕ) (links : List Link) → links ≡ links_from_index d place → (ends : List ℕ) → All (λ end. end < length (router_list d)) ends
+    → map (λ end. slice_index (router_list d) end) ends ≡ map (λ (l : Link). l.to) (links_from_index d place) → (reverses : List ℕ)
+    → ((nth : ℕ) (e : Link) → nth < length (links_from_index d place) → IsReverseAt d (slice_index_or (links_from_index d place) nth e) (slice_index_or reverses nth 0))
+    → (row : ℕ) (l : Link) (end : ℕ) → row < length links → l ≡ slice_index_or links row l → end ≡ slice_index ends row
+    → (slice_get (links_from_index d place) row ≡ Some l) × IsIndexOf d l.to end × IsReverseAt d l (slice_index reverses row)
+beside_row d place links same ends within each reverses beside row l end lt is at =
+    let here : slice_get (links_from_index d place) row ≡ Some l = rw same at (slice_get_read links (length links) row l refl lt is) in
+    (here, end_of_row d ends links within (each ∙ ap (map (λ (l : Link). l.to)) (sym same)) row l end lt is at, reverse_of_row d place reverses beside row l here)

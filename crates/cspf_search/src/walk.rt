@@ -1,0 +1,150 @@
+//! The route that the bounds of a tree alone give. A link that the request may use is tight where
+//! the bound falls over it by just its metric. Each route that costs no more than the bound of the
+//! head-end takes tight links alone. So where there is one such link at each router on the way,
+//! they are the least route, and no search is needed.
+
+ghost use Rattle.std.specs.Prelude.{◌≡◌, ◌<◌, ◌↔◌, IfNone, IfOk, IfSome, IsTrue, length};
+ghost use Rattle.cspf_model.specs.Best.{IsBestRoute};
+ghost use Rattle.cspf_model.specs.Database.{AreLinksOf};
+ghost use Rattle.cspf_db.specs.Index.{links_from_index, links_of, router_list};
+ghost use Rattle.cspf_graph.specs.Lists.{AreListed, IsIndexOf};
+ghost use Rattle.cspf_search.specs.Source.{IsEdge};
+ghost use Rattle.cspf_search.specs.TightWalks.{AreSlack, IsNextTight, IsSole, IsTight};
+ghost use Rattle.cspf_search.specs.Trees.{IsTree};
+
+use crate::edge::Edge;
+use crate::limits::ROOM_FOR_LINKS;
+use crate::tree::Tree;
+use crate::tree_steps::may_lead_over;
+use cspf_db::{NO_LINK, Table};
+use cspf_graph::accepts;
+use cspf_model::{Request, Route};
+use std::alloc::{AllocError, Global};
+
+/// Whether a link from the router at an index is tight for the request. The bounds are compared
+/// first, since they tell most links.
+fn is_tight(table: &Table, request: &Request, tree: &Tree, place: usize, edge: Edge<'_>) -> bool
+    requires listed { AreListed table.now }
+    requires links { AreLinksOf table.now (links_of table.now) }
+    requires within { place < length (router_list table.now) }
+    requires edge { IsEdge table.now place edge }
+    ensures { IsTrue result
+        ↔ IsTight table.now request.now tree.now place edge.entry.link.now }
+{
+    let ahead = u64::from(edge.metric) + u64::from(tree.bound(edge.end));
+    if u64::from(tree.bound(place)) != ahead || edge.reverse == NO_LINK {
+        return false;
+    }
+    accepts(edge.link, request) && may_lead_over(table, request, edge.end)
+}
+
+/// The first tight link from the router at an index, from a row on, if there is one.
+fn tight_from<'a>(
+    table: &'a Table,
+    request: &Request,
+    tree: &Tree,
+    place: usize,
+    first: usize,
+) -> Option<Edge<'a>>
+    requires listed { AreListed table.now }
+    requires links { AreLinksOf table.now (links_of table.now) }
+    requires within { place < length (router_list table.now) }
+    ensures some { IfSome result (IsNextTight table.now request.now tree.now place first) }
+    ensures none { IfNone result (AreSlack table.now request.now tree.now place first
+        (length (links_from_index table.now place))) }
+{
+    let links = table.out_at(place);
+    let ends = table.ends_at(place);
+    let reverses = table.reverses_at(place);
+    for row in first..links.len() {
+        let link = &links[row];
+        let end = ends[row];
+        let reverse = reverses[row];
+        let edge = Edge {
+            row,
+            link,
+            metric: link.metric,
+            end: usize::from(end),
+            reverse,
+        };
+        if is_tight(table, request, tree, place, edge) {
+            return Some(edge);
+        }
+    }
+    None
+}
+
+/// The one tight link from the router at an index, unless none or more than one is tight.
+fn sole<'a>(table: &'a Table, request: &Request, tree: &Tree, place: usize) -> Option<Edge<'a>>
+    requires listed { AreListed table.now }
+    requires links { AreLinksOf table.now (links_of table.now) }
+    requires within { place < length (router_list table.now) }
+    ensures { IfSome result (IsSole table.now request.now tree.now place) }
+{
+    let edge = tight_from(table, request, tree, place, 0)?;
+    match tight_from(table, request, tree, place, edge.row + 1) {
+        None => Some(edge),
+        Some(_) => None,
+    }
+}
+
+/// The route along the tight links from the head-end, if each router on the way has just one and
+/// they lead to the tail-end. The request has no hops. The head-end and the tail-end are given by
+/// their index in the list of routers.
+fn follow(
+    alloc: Global,
+    table: &Table,
+    request: &Request,
+    tree: &Tree,
+    from: usize,
+    to: usize,
+) -> Result<Option<Route>, AllocError>
+    requires listed { AreListed table.now }
+    requires links { AreLinksOf table.now (links_of table.now) }
+    requires tree { IsTree table.now request.now tree.now }
+    requires hops { length request.now.hops ≡ 0 }
+    requires from { IsIndexOf table.now request.now.from from }
+    requires to { IsIndexOf table.now request.now.to to }
+    ensures { IfOk result (λ found. IfSome found (IsBestRoute table.now request.now)) }
+{
+    let mut links = Vec::with_capacity(alloc, ROOM_FOR_LINKS)?;
+    let mut place = from;
+    for _taken in 0..table.routers().len() {
+        if place == to {
+            // A route may be kept for long, so it has no room for more links.
+            let kept = Vec::from_slice(alloc, links.as_slice())?;
+            let cost = u64::from(tree.bound(from));
+            return Ok(Some(Route::new(kept, cost)));
+        }
+        let Some(edge) = sole(table, request, tree, place) else {
+            return Ok(None);
+        };
+        links.push(*edge.link)?;
+        place = edge.end;
+    }
+    Ok(None)
+}
+
+/// The least route of a request without hops, if the bounds of a tree for its tail-end and its
+/// affinities give it without a search. There is none with hops or without a tree. The head-end and
+/// the tail-end are given by their index in the list of routers.
+pub(crate) fn walk_by_tree(
+    alloc: Global,
+    table: &Table,
+    request: &Request,
+    tree: Option<&Tree>,
+    from: usize,
+    to: usize,
+) -> Result<Option<Route>, AllocError>
+    requires listed { AreListed table.now }
+    requires links { AreLinksOf table.now (links_of table.now) }
+    requires tree { IfSome tree (λ tree. IsTree table.now request.now tree.now) }
+    requires from { IsIndexOf table.now request.now.from from }
+    requires to { IsIndexOf table.now request.now.to to }
+    ensures { IfOk result (λ found. IfSome found (IsBestRoute table.now request.now)) }
+{
+    match tree {
+        Some(tree) if request.hops.is_empty() => follow(alloc, table, request, tree, from, to),
+        _ => Ok(None),
+    }
+}
