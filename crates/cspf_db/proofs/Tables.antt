@@ -7,3 +7,5 @@ pub mod MarkChanges
 pub mod TransitColumn
 pub mod Plans
 pub mod SeenRows
+pub mod Shapes
+pub mod Reshaping

@@ -3,4 +3,5 @@ pub use Rattle.cspf_columns.specs.Index
 pub mod Owners
 pub mod Plans
 pub mod Replays
+pub mod Shapes
 pub mod Tables

@@ -3,3 +3,4 @@ pub mod Parts
 pub mod RouterSets
 pub mod AddressRanges
 pub mod Tallies
+pub mod Reshaping

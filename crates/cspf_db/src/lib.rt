@@ -16,4 +16,4 @@ pub use cspf_model::{
     worked_unknown_ends,
 };
 pub use replay::{UnfitBatch, replay_into};
-pub use table::{Plan, Table};
+pub use table::{Plan, Table, shapes_tell_routers};

@@ -21,6 +21,7 @@ mod changes;
 mod fit;
 mod marks;
 mod plan;
+mod shape;
 mod transits;
 
 use crate::limits::ROOM_FOR_MARKS;
@@ -35,6 +36,7 @@ use cspf_columns::{Columns, NO_LINK, Scratch};
 use cspf_model::{Batch, Link, MOST_ROUTERS, Refusal};
 use marks::{change_marks, is_marked};
 pub use plan::Plan;
+pub use shape::shapes_tell_routers;
 use std::alloc::{AllocError, Global};
 use std::marker::Model;
 use transits::list_transits;

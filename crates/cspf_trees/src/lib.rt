@@ -5,11 +5,13 @@
 #![tactic(auto)]
 
 mod class;
+mod laws;
 mod limits;
 mod tree_row;
 mod tree_table;
 mod trees;
 
+pub use laws::trees_outlast_bandwidth;
 pub use limits::MOST_TREES;
 pub use tree_table::TreeTable;
 pub use trees::Trees;

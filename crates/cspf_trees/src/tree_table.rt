@@ -64,16 +64,18 @@ impl TreeTable {
         self.trees.best(alloc, &self.table, request)
     }
 
-    /// As `Table::try_absorb`. No tree is kept over a batch that is absorbed.
+    /// As `Table::try_absorb`. Trees are kept over a batch of unreserved bandwidths alone, and over
+    /// no other that is absorbed.
     pub fn try_absorb(&mut self, batch: &Batch) -> Result<(), Refusal>
         ensures ok { OnOk result (Fits self.old batch.now) }
         ensures changed { OnOk result (self.new ≡ after_changes self.old batch.now.changes) }
         ensures err { IfErr result (λ refusal. IsRefusal self.old batch.now refusal) }
         ensures same { OnErr result (self.new ≡ self.old) }
     {
-        match self.table.try_absorb(batch) {
-            Ok(()) => {
-                self.trees.clear();
+        match self.table.plan(batch) {
+            Ok(plan) => {
+                self.trees.keep_over(&self.table, batch);
+                self.table.absorb_planned(batch, plan);
                 Ok(())
             }
             Err(why) => Err(why),

@@ -3,10 +3,11 @@
 ghost use Rattle.std.specs.Prelude.{◌≤◌, All};
 
 use crate::class::{class_of, first_row};
+use crate::laws::trees_outlast_bandwidth;
 use crate::limits::MOST_TREES;
 use crate::tree_row::{TreeRow, ask, empty_rows, find};
 use cspf_db::Table;
-use cspf_model::{Outcome, Request};
+use cspf_model::{Batch, Outcome, Request};
 use cspf_search::{best, best_by_tree};
 use std::alloc::{AllocError, Global};
 
@@ -40,6 +41,7 @@ fn counted(count: usize, had: bool, has: bool) -> usize {
 impl Trees {
     ghost use Rattle.std.specs.Prelude.{◌≡◌, ◌<◌, length, slice_index_or, true, IfOk, IfSome};
     ghost use Rattle.cspf_model.specs.Best.{IsBestAnswer};
+    ghost use Rattle.cspf_model.specs.Changes.{after_changes};
     ghost use Rattle.cspf_model.specs.Outcome.{answer_of};
     ghost use Rattle.cspf_model.specs.Database.{Database};
     ghost use Rattle.cspf_trees.specs.declared.tree_row.TreeRow.{TreeRow as OneTreeRow};
@@ -69,6 +71,20 @@ impl Trees {
             self.rows.clear();
             self.count = 0;
         }
+    }
+
+    /// Keeps the trees of a table's database for the one after a batch, if that differs in
+    /// unreserved bandwidths alone. Else it leaves none to search by.
+    pub(crate) fn keep_over(&mut self, table: &Table, batch: &Batch)
+        requires { AreTreesOf table.now self.old }
+        ensures { AreTreesOf (after_changes table.now batch.now.changes) self.new }
+    {
+        // Law: a tree of a database is one of each with the same shape.
+        trees_outlast_bandwidth();
+        if !table.changes_shape(batch) {
+            return;
+        }
+        self.clear();
     }
 
     /// Makes the rows if there are none yet. Returns whether there are rows.

@@ -5,3 +5,4 @@ mod marks;
 mod owners;
 mod reverses;
 mod rows;
+mod shapes;

@@ -96,10 +96,10 @@ fn reads_of_links(table: &Table) -> usize {
 fn work(table: &mut Table, batches: &[Batch], prefix: Prefix) -> usize {
     let mut found = 0usize;
     for batch in batches {
-        let fits = table.check(batch).is_ok();
+        let (fits, reshapes) = (table.check(batch).is_ok(), table.changes_shape(batch));
         let taken = table.try_absorb(batch).is_ok();
         table.absorb(batch);
-        found = found.wrapping_add(usize::from(fits == taken));
+        found = found.wrapping_add(usize::from(fits == taken && reshapes));
         found = found.wrapping_add(reads(table, prefix));
     }
     found

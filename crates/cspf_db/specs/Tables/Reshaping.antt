@@ -1,0 +1,22 @@
+-- Private: which changes change the shape of a database.
+use Rattle.std.specs.Prelude.{Bool, false, not, ◌&&◌, cond, nat_eq, is_some}
+use Rattle.std.specs.Option.{option_map_or}
+use Rattle.std.specs.FinSet as set
+use Rattle.cspf_model.specs.declared.batch.Change.{Change}
+use Rattle.cspf_model.specs.declared.batch.Change.TheVariants.{Put, Remove, Node}
+use Rattle.cspf_model.specs.Database.{Database, key_of, link_at}
+use Rattle.cspf_db.specs.Shapes.{Shape, shape_of}
+
+-- whether the shapes are one
+abbrev pub is_shape : Shape → Shape → Bool
+is_shape s t =
+    nat_eq s.from t.from && nat_eq s.local t.local && nat_eq s.to t.to && nat_eq s.remote t.remote
+    && nat_eq s.metric t.metric && nat_eq s.group t.group
+
+-- A put changes the shape unless a link of this shape is there. A removal changes it where a link is
+-- there. A change of a mark changes it unless the router is marked so already.
+abbrev pub reshapes : Database → Change → Bool
+reshapes d (Put l) = not (option_map_or (λ m. is_shape (shape_of m) (shape_of l)) (link_at d (key_of l)) false)
+reshapes d (Remove from local) = is_some (link_at d (from, local))
+reshapes d (Node router transit) =
+    cond transit (set.contains d.marks router) (not (set.contains d.marks router))

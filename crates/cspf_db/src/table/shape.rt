@@ -1,0 +1,63 @@
+//! Whether a batch changes more of a database than unreserved bandwidths.
+ghost use Rattle.std.specs.Prelude.{◌≡◌, true, false};
+ghost use Rattle.std.specs.List.{list_any};
+ghost use Rattle.cspf_model.specs.Changes.{after_changes, Fits};
+ghost use Rattle.cspf_db.specs.Shapes.{HaveOneShape, ShapesTellRouters, shape_of};
+ghost use Rattle.cspf_db.specs.Tables.Reshaping.{is_shape, reshapes};
+
+use crate::Table;
+use cspf_model::{Batch, Change, Link};
+
+/// Law: databases with the same marks, whose links differ in their unreserved bandwidths alone,
+/// have one list of routers.
+pub fn shapes_tell_routers()
+    ensures { ShapesTellRouters }
+{}
+
+/// Whether the links differ in their unreserved bandwidths at most.
+fn is_shaped_as(link: &Link, other: &Link) -> bool
+    ensures { result ≡ is_shape (shape_of link.now) (shape_of other.now) }
+{
+    link.from == other.from
+        && link.local == other.local
+        && link.to == other.to
+        && link.remote == other.remote
+        && link.metric == other.metric
+        && link.group == other.group
+}
+
+impl Table {
+    /// Whether the change changes more than unreserved bandwidths.
+    fn reshapes(&self, change: &Change) -> bool
+        ensures { result ≡ reshapes self.now change.now }
+    {
+        match change {
+            Change::Put(link) => match self.find(link.from, link.local) {
+                Some(row) => !is_shaped_as(&row, link),
+                None => true,
+            },
+            Change::Remove { from, local } => self.find(*from, *local).is_some(),
+            Change::Node { router, transit } => self.transit(*router) != *transit,
+        }
+    }
+
+    /// Whether one of the changes does.
+    fn any_reshapes(&self, changes: &[Change]) -> bool
+        ensures { result ≡ list_any (reshapes self.now) changes.now }
+    {
+        changes.iter().any(|change| self.reshapes(change))
+    }
+
+    /// Whether the batch changes more of the database than unreserved bandwidths: which links or
+    /// marks there are, where a link ends, its metric or its groups. Whether the batch fits isn't
+    /// looked at: of one that doesn't, `true` says nothing. It takes no memory, and at most one
+    /// binary search for each change, up to the first that changes more.
+    pub fn changes_shape(&self, batch: &Batch) -> bool
+        ensures kept { result ≡ false
+            → HaveOneShape self.now (after_changes self.now batch.now.changes) }
+        ensures changed { result ≡ true → Fits self.now batch.now
+            → ¬ HaveOneShape self.now (after_changes self.now batch.now.changes) }
+    {
+        self.any_reshapes(&batch.changes)
+    }
+}

@@ -1,0 +1,104 @@
+-- A tree of a database is one of each database with its shape.
+use Rattle.std.proofs.Common.{◌≡◌, ℕ, ◌<◌, ◌⊎◌, IsTrue, Option, Some, None, IfSome, length, slice_index, slice_index_or, refl, sym, ap, subst, inl, inr, ◌∙◌}
+use Rattle.std.specs.Prelude.{◌≢◌, bit_and, bit_xor}
+use Rattle.std.specs.Option.{option_map}
+use Rattle.std.specs.FinSet as set
+use Rattle.cspf_model.specs.declared.link.Link.{Link}
+use Rattle.cspf_model.specs.declared.request.Request.{Request}
+use Rattle.cspf_model.specs.Database.{Database, key_of, link_at, IsLinkOf, IsReverse}
+use Rattle.cspf_model.specs.Admissible.{HasAffinity}
+use Rattle.cspf_db.specs.Index.{router_list}
+use Rattle.cspf_db.specs.Shapes.{shape_of, HaveOneShape, ShapesTellRouters}
+use Rattle.cspf_graph.specs.Lists.{IsIndexOf}
+use Rattle.cspf_search.specs.declared.tree.Tree.{Tree}
+use Rattle.cspf_search.specs.Settled.{IsWithin}
+use Rattle.cspf_search.specs.Trees.{IsInClass, IsTree, MayLeadOver, tree_bound}
+use Rattle.cspf_trees.specs.declared.tree_row.TreeRow.{TreeRow}
+use Rattle.cspf_trees.specs.declared.trees.Trees.{Trees}
+use Rattle.cspf_trees.specs.Classes.{HasClass}
+use Rattle.cspf_trees.specs.Trees.{AreTreesOf}
+use Rattle.cspf_trees.specs.Laws.{TreesOutlastBandwidth}
+
+-- a link of a database, of the shape of another link
+record HasShapeOf (d : Database) (l : Link) : Type 0 where
+  link : Link
+  is_link : IsLinkOf d link
+  shape : shape_of link ≡ shape_of l
+
+-- where a link of a shape is at the key
+at_key : (d : Database) (l : Link) (o : Option Link) → link_at d (key_of l) ≡ o → option_map shape_of o ≡ Some (shape_of l) → HasShapeOf d l
+at_key d l None at is = absurd (cc)
+at_key d l (Some m) at is =
+    let same : shape_of m ≡ shape_of l = cc in
+    record {
+      link = m;
+      is_link = ap (link_at d) (λ i. ((same i).from, (same i).local)) ∙ at;
+      shape = same;
+    }
+
+-- links with the shape of a link and with that of its reverse are each other's reverse
+reversed : (l m r s : Link) → shape_of m ≡ shape_of l → shape_of s ≡ shape_of r → IsReverse l r → IsReverse m s
+reversed l m r s there back is = record {
+  from = ap (λ t. t.from) back ∙ is.from ∙ sym (ap (λ t. t.to) there);
+  local = ap (λ t. t.local) back ∙ is.local ∙ sym (ap (λ t. t.remote) there);
+  to = ap (λ t. t.to) back ∙ is.to ∙ sym (ap (λ t. t.from) there);
+  remote = ap (λ t. t.remote) back ∙ is.remote ∙ sym (ap (λ t. t.local) there);
+}
+
+-- links of one group pass the same affinities
+passes : (q : Request) (l m : Link) → l.group ≡ m.group → HasAffinity q l → HasAffinity q m
+passes q l m same is = record {
+  exclude_any = subst (λ g. bit_and g q.exclude_any ≡ 0) same is.exclude_any;
+  include_any = subst (λ g. (q.include_any ≡ 0) ⊎ (bit_and g q.include_any ≢ 0)) same is.include_any;
+  include_all = subst (λ g. (q.include_all ≡ 0) ⊎ (bit_xor (bit_and g q.include_all) q.include_all ≡ 0)) same is.include_all;
+}
+
+module _ (d e : Database) (one : HaveOneShape d e) (routers : router_list e ≡ router_list d) where
+  -- a link of the one database has its shape in the other
+  there_too : (l : Link) → IsLinkOf e l → HasShapeOf d l
+  there_too l at = at_key d l (link_at d (key_of l)) refl (sym (one.links (key_of l)) ∙ ap (option_map shape_of) at)
+
+  -- a link in the class is in the class there
+  in_class_too : (q : Request) (l : Link) → IsInClass e q l → (m : HasShapeOf d l) → IsInClass d q m.link
+  in_class_too q l is m =
+      let back = there_too is.reverse.0 is.reverse.1 in
+      record {
+        link = m.is_link;
+        reverse = (back.link, back.is_link, reversed l m.link is.reverse.0 back.link m.shape back.shape is.reverse.2);
+        affinity = passes q l m.link (sym (ap (λ t. t.group) m.shape)) is.affinity;
+      }
+
+  -- a router has its index there
+  index_too : (router there place : ℕ) → there ≡ router → IsIndexOf e router place → IsIndexOf d there place
+  index_too router there place same is = record {
+    within = subst (λ rs. place < length rs) routers is.within;
+    is = sym (ap (λ rs. slice_index rs place) routers) ∙ is.is ∙ sym same;
+  }
+
+  -- a way may lead over it there
+  over_too : (q : Request) (router there : ℕ) → there ≡ router → MayLeadOver e q router → MayLeadOver d q there
+  over_too q router there same (inl transit) = inl (λ marked. transit (subst (λ r. IsTrue (set.contains e.marks r)) same (subst (λ s. IsTrue (set.contains s there)) (sym one.marks) marked)))
+  over_too q router there same (inr end) = inr (same ∙ end)
+
+  -- so a tree is one of the other database
+  tree_too : (q : Request) (tree : Tree) → IsTree d q tree → IsTree e q tree
+  tree_too q tree is = record {
+    links = λ u w l in_class over from to.
+        let m = there_too l in_class.link in
+        let shape = m.shape in
+        subst (IsWithin (tree_bound tree u) (tree_bound tree w)) (ap (λ t. t.metric) shape)
+        (is.links u w m.link (in_class_too q l in_class m) (over_too q l.to m.link.to (ap (λ t. t.to) shape) over) (index_too l.from m.link.from u (ap (λ t. t.from) shape) from) (index_too l.to m.link.to w (ap (λ t. t.to) shape) to));
+    end = λ place at. is.end place (index_too q.to q.to place refl at);
+  }
+
+pub trees_outlast : ShapesTellRouters → TreesOutlastBandwidth
+trees_outlast tells d e q tree one is = tree_too d e one (tells d e one) q tree is
+
+-- the tree of a row
+row_kept : (d e : Database) (row : TreeRow) → TreesOutlastBandwidth → HaveOneShape d e → (o : Option Tree) → IfSome o (λ tree. (q : Request) → HasClass q row.class → IsTree d q tree) → IfSome o (λ tree. (q : Request) → HasClass q row.class → IsTree e q tree)
+row_kept d e row law one None is = tt
+row_kept d e row law one (Some tree) is = λ q class. law d e q tree one (is q class)
+
+-- trees of a database are those of each database with its shape
+pub trees_kept : (d e : Database) (trees : Trees) → TreesOutlastBandwidth → HaveOneShape d e → AreTreesOf d trees → AreTreesOf e trees
+trees_kept d e trees law one are k r h now = row_kept d e (slice_index_or trees.rows.items k r) law one _ (are k r h now)
