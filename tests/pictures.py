@@ -116,6 +116,7 @@ def routes(checks):
     ends = shapes(picture, "to")[0].get("d").split("l")[0]
     checks.same("the diamond is round the tail-end", ends, f"M{at['2.2.2.2'][0]:.1f} {at['2.2.2.2'][1] - 14:.1f}")
     several(checks)
+    of_books(checks)
     for name, replies, ask in (("no such reply", REPLY, "8"), ("no route in it", "ask 7 v1 none\n", "7"),
                                ("a route of another network", REPLY.replace("0a000002", "0a000003"), "7"),
                                ("another cost", REPLY.replace("cost=10", "cost=11"), "7")):
@@ -123,6 +124,18 @@ def routes(checks):
         checks.true(f"{name} is refused", status == 1 and picture == "" and said.startswith("draw: "), said)
     status, picture, said = draw(PAIR + "end,1,2\ndrop,2.2.2.2,10.0.0.2\nend,2,1\n", "--ask", "7", replies=REPLY)
     checks.true("a route over a link of one way is refused", status == 1 and picture == "" and said.startswith("draw: "), said)
+
+
+def of_books(checks):
+    """Of the lines of a book the last route that was placed is drawn."""
+    placed = REPLY.replace("ask 7 v1", "place 7 v2")
+    for name, more in (("alone", ""), ("before it found none", "place 7 v2 none\nplace 7 refused: twice\n"), ("and lost", "lost 7\nbase 2 v3\nover 1.1.1.1,10.0.0.1 7\n")):
+        status, picture, said = draw(PAIR + "end,1,2\n", "--ask", "7", replies=f"base 1 v1\n{placed}{more}")
+        checks.same(f"a route of a book {name}", (status, said, hovers(picture, "route")), (0, "", ["place 7 v2: 1.1.1.1 to 2.2.2.2, cost 10, 1 link"]))
+    again = placed.replace("v2", "v1").replace("0a000002", "0a000009") + placed
+    checks.same("the last route of a book", hovers(draw(PAIR + "end,1,2\n", "--ask", "7", replies=again)[1], "route"), ["place 7 v2: 1.1.1.1 to 2.2.2.2, cost 10, 1 link"])
+    status, picture, said = draw(PAIR + "end,1,2\n", "--ask", "7", replies="place 7 v1 none\n")
+    checks.same("a book that placed nothing", (status, picture, said), (1, "", "draw: no reply to 7\n"))
 
 
 def several(checks):

@@ -296,21 +296,19 @@ class Network:
                     heapq.heappush(heap, (cost + link["metric"], count + 1, leg, locals_ + (link["local"],), drawn, to, walk + (link,)))
         return None
 
-    def answer(self, version, request):
-        """The reply line, without its line feed."""
-        head = f"ask {request['id']} v{version}"
+    def outcome(self, request):
+        """The links of the least route, or the word that says why there is none."""
         routers = self.routers()
         if request["from"] not in routers:
-            return f"{head} unknown-from"
+            return "unknown-from"
         if request["to"] not in routers:
-            return f"{head} unknown-to"
+            return "unknown-to"
         walk = self.least(request)
-        if walk is None:
-            return f"{head} none"
-        stops = [request["from"], *(link["to"] for link in walk)]
-        again = "no" if len(set(stops)) == len(stops) else "yes"
-        cost = sum(link["metric"] for link in walk)
-        return f"{head} route cost={cost} hops={len(walk)} again={again} ero={object_of(walk)}"
+        return "none" if walk is None else walk
+
+    def answer(self, version, request):
+        """The reply line, without its line feed."""
+        return f"ask {request['id']} v{version} {outcome_text(request, self.outcome(request))}"
 
     def change(self, fields):
         """A put, drop or node row takes effect at once."""
@@ -320,6 +318,16 @@ class Network:
     def reply(self, version, text):
         """The reply line to the text of an ask row."""
         return self.answer(version, row(next(records(text)))[1])
+
+
+def outcome_text(request, outcome):
+    """What a reply line says of an outcome."""
+    if isinstance(outcome, str):
+        return outcome
+    stops = [request["from"], *(link["to"] for link in outcome)]
+    again = "no" if len(set(stops)) == len(stops) else "yes"
+    cost = sum(link["metric"] for link in outcome)
+    return f"route cost={cost} hops={len(outcome)} again={again} ero={object_of(outcome)}"
 
 
 def may_leave(network, router, count):

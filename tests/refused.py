@@ -39,8 +39,8 @@ def lines_of(versions):
 CAUSES = {
     "malloc": rb"(routed: (out of memory|client 1: no thread)\n)?",  # nothing while the command line is read; a thread takes memory too
     "read": rb"routed: (standard input|(journal|updates|requests|replies) /\S+): read: Input/output error \(os error 5\)\n",
-    "write": rb"routed: standard output: (write|flush): No space left on device \(os error 28\)\n",
-    "open": rb"routed: (journal|updates|requests|replies|a client's requests|a client's replies) /\S+: open: Too many open files \(os error 24\)\n",
+    "write": rb"routed: (standard output|keep /\S+): (write|flush): No space left on device \(os error 28\)\n",
+    "open": rb"routed: (journal|updates|requests|replies|keep|a client's requests|a client's replies) /\S+: open: Too many open files \(os error 24\)\n",
     "thread": rb"routed: a worker couldn't be started\n",
     "break": rb"routed: [a-z ]*(/\S+)?: (read|write|flush): Interrupted system call \(os error 4\)\n",
 }

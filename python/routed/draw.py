@@ -16,7 +16,7 @@ from .swept import overbooked_before
 
 def walk_of(links, marks, reply):
     """The links of a reply's route: each leads to the next address of its object, and has its reverse. They pass through no mark."""
-    found = re.fullmatch(r"ask \d+ v\d+ route cost=(\d+) hops=\d+ again=\w+ ero=([0-9a-f]+)", reply)
+    found = re.fullmatch(r"(?:ask|place) \d+ v\d+ route cost=(\d+) hops=\d+ again=\w+ ero=([0-9a-f]+)", reply)
     if not found:
         raise ValueError(f"no route in the reply: {reply}")
     data = bytes.fromhex(found[2])[4:]
@@ -35,11 +35,11 @@ def walk_of(links, marks, reply):
 
 
 def read_routes(asked, links, marks):
-    """The routes of the replies that are asked for."""
+    """The routes of the replies that are asked for. In the lines of a book these are the last routes that it placed."""
     if len(asked.ask) > len(ROUTE_STYLES):
         raise ValueError(f"at most {len(ROUTE_STYLES)} routes")
     with open(asked.replies) as lines:
-        replies = {line.split()[1]: line.strip() for line in lines if re.match(r"ask \d", line)}
+        replies = {line.split()[1]: line.strip() for line in lines if re.match(r"ask \d|place \d+ v\d+ route ", line)}
     absent = [ask for ask in asked.ask if ask not in replies]
     if absent:
         raise ValueError(f"no reply to {absent[0]}")
@@ -71,7 +71,7 @@ def options(words):
     asked = argparse.ArgumentParser(prog="draw", description=__doc__.split("\n\n")[0])
     asked.add_argument("rows", help="the file of rows or the journal")
     asked.add_argument("--version", type=version, metavar="N", help="the network after batch N, by default the last")
-    asked.add_argument("--replies", metavar="FILE", help="reply lines of routed")
+    asked.add_argument("--replies", metavar="FILE", help="reply lines of routed, or the lines of a book")
     asked.add_argument("--ask", action="append", default=[], metavar="ID", help=f"draw the route of this reply; at most {len(ROUTE_STYLES)} times")
     asked.add_argument("--overbooked", metavar="FILE", help="lines of a sweep: mark the links that it says are overbooked while nothing fails")
     positions.add_options(asked)

@@ -127,9 +127,10 @@ impl Row {
         Ok(Row::End { number, count })
     }
 
-    /// The row of 10 fields that asks for a route.
+    /// The row of 10 fields that asks for a route, whatever the first field says. So another format can
+    /// have rows with these fields.
     #[tactic(auto, using(crate::proofs::AttributeLemmas::refused_ends), unfolding(crate::specs::Rows::ask_row_of))]
-    fn ask(fields: &ByteRecord) -> Result<Row, RowError>
+    pub fn ask(fields: &ByteRecord) -> Result<Row, RowError>
         ensures { result ≡ ask_row_of (fields_of fields.now) }
     {
         fields_of_links_and_requests();

@@ -5,7 +5,7 @@ use crate::ends::end;
 use crate::options::{Asked, Call, CommandText};
 use crate::statuses::REFUSED;
 use crate::stopped::Ran;
-use crate::{audit, batch, live, serve, snapshot, solve};
+use crate::{audit, batch, book, live, serve, snapshot, solve};
 use clap::{ArgMatches, Command, Error};
 use std::alloc::{AllocError, Global};
 use std::sync::Wait;
@@ -26,6 +26,7 @@ fn texts() -> &'static [CommandText] {
         serve::COMMAND,
         snapshot::COMMAND,
         audit::COMMAND,
+        book::COMMAND,
     ]
 }
 
@@ -73,6 +74,7 @@ pub(crate) fn obey<'m, T: Threads + Wait + Sync>(
 fn run<T: Threads + Wait + Sync>(call: &Call<'_, '_>, handle: &T, text: &CommandText) -> u8 {
     let ran = match text.asked {
         Asked::Solve => solve::answer(call.rt),
+        Asked::Book => book::answer(call),
         Asked::Serve => serve::answer(call, handle),
         Asked::Live => {
             // The new journal isn't taken for a standard stream that is closed.

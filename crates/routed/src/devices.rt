@@ -2,7 +2,7 @@
 
 use crate::limited::Limited;
 use crate::noted::Noted;
-use crate::options::{Call, JOURNAL};
+use crate::options::Call;
 use crate::stopped::{Ran, Stopped};
 use std::fs::{File, OpenOptions};
 use std::io;
@@ -20,8 +20,8 @@ const NOTHING: &str = "/dev/null";
 /// Standard output with a buffer.
 pub type Output<'r> = Noted<BufWriter<Printer<'r, HostRuntime>>>;
 
-/// A journal that is made.
-pub type JournalFile = Noted<Limited<File>>;
+/// A file that is made.
+pub type NewFile = Noted<Limited<File>>;
 
 /// Standard output with a buffer.
 pub(crate) fn output<'r>(rt: &'r HostRuntime) -> Result<Output<'r>, Stopped> {
@@ -62,15 +62,15 @@ pub(crate) fn opened(call: &Call<'_, '_>, option: &'static str) -> Result<Noted<
     }
 }
 
-/// The journal to write, which isn't there yet.
-pub(crate) fn created(call: &Call<'_, '_>) -> Result<JournalFile, Stopped> {
+/// The file that an option gives, to write. It isn't there yet.
+pub(crate) fn created(call: &Call<'_, '_>, option: &'static str) -> Result<NewFile, Stopped> {
     let made = OpenOptions::new()
         .write(true)
         .create_new(true)
-        .open(call.rt, call.value(JOURNAL));
+        .open(call.rt, call.value(option));
     match made {
-        Ok(file) => Ok(Noted::new(JOURNAL, Limited::new(call.rt, file))),
-        Err(error) => Err(Stopped::at(JOURNAL, "open", error)),
+        Ok(file) => Ok(Noted::new(option, Limited::new(call.rt, file))),
+        Err(error) => Err(Stopped::at(option, "open", error)),
     }
 }
 

@@ -58,6 +58,7 @@ fn explain_stop(call: &Call<'_, '_>, why: Stopped) {
             None => say_of(rt, fault.device, &fault),
         },
         Stopped::Solve(error) => say(rt, &error),
+        Stopped::Book(error) => say(rt, &error),
         Stopped::Stream(error) => say(rt, &error),
         Stopped::Run(error) => say(rt, &error),
         Stopped::Serve(error) => say(rt, &error),

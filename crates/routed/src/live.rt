@@ -1,7 +1,7 @@
 //! `routed live` applies batches to a new journal while it answers a file of requests.
 
 use crate::devices::{Output, created, flushed, opened};
-use crate::options::{Asked, Call, CommandOption, CommandText, REQUESTS, UPDATES};
+use crate::options::{Asked, Call, CommandOption, CommandText, JOURNAL, REQUESTS, UPDATES};
 use crate::stopped::{Ran, ended};
 use cspf_serve::{NoGate, run_live_rows};
 use std::sync::Wait;
@@ -62,7 +62,7 @@ pub(crate) fn answer<T: Threads + Wait + Sync>(
 ) -> Ran {
     let mut updates = opened(call, UPDATES)?;
     let mut requests = opened(call, REQUESTS)?;
-    let mut journal = created(call)?;
+    let mut journal = created(call, JOURNAL)?;
     let (ran, _journal) = run_live_rows(
         handle,
         call.rt.alloc(),

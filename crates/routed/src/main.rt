@@ -1,6 +1,6 @@
 //! `routed` answers route requests over a traffic engineering database. `command_line.rt` reads
-//! which of the six commands is meant: `solve`, `batch`, `live`, `serve`, `snapshot` or `audit`.
-//! Each has its file.
+//! which of the seven commands is meant: `solve`, `batch`, `live`, `serve`, `snapshot`, `audit` or
+//! `book`. Each has its file.
 //!
 //! The status is 0, or 2 where anything was refused or a fault was found. It is 1 where the command
 //! line was refused, and 3 where memory was refused or a device failed.
@@ -8,6 +8,7 @@
 
 mod audit;
 mod batch;
+mod book;
 mod bounded;
 mod client_files;
 mod command_line;

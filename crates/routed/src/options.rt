@@ -18,6 +18,9 @@ pub const UPDATES: &str = "updates";
 /// The option that names the file of replies.
 pub const REPLIES: &str = "replies";
 
+/// The option that names the file of the rows that `book` accepts.
+pub const KEEP: &str = "keep";
+
 /// The flag that leaves out the rows after the last whole batch.
 pub const ACCEPT_TORN: &str = "accept-torn";
 
@@ -43,6 +46,8 @@ pub enum CommandOption {
     Requests,
     /// The replies.
     Replies,
+    /// The file of accepted rows, which is made.
+    Keep,
     /// The two files of each client.
     Clients,
     /// How many workers answer.
@@ -61,6 +66,7 @@ impl CommandOption {
             CommandOption::Updates => UPDATES,
             CommandOption::Requests => REQUESTS,
             CommandOption::Replies => REPLIES,
+            CommandOption::Keep => KEEP,
             CommandOption::Clients => CLIENT,
             CommandOption::Workers => WORKERS,
             CommandOption::AcceptTorn => ACCEPT_TORN,
@@ -76,6 +82,7 @@ impl CommandOption {
             CommandOption::Updates => "The file of batches to apply",
             CommandOption::Requests => "The file of requests",
             CommandOption::Replies => "The file of replies",
+            CommandOption::Keep => "The file to make of the rows that are accepted",
             CommandOption::Clients => {
                 "The files of a client's requests and replies; once for each client"
             }
@@ -100,6 +107,7 @@ impl CommandOption {
         let arg = named(alloc, self.name(), self.help());
         match self {
             CommandOption::Clients => required(arg, "IN=OUT").action(ArgAction::Append),
+            CommandOption::Keep => arg.value_name("FILE"),
             CommandOption::Workers => workers(arg),
             CommandOption::AcceptTorn | CommandOption::Explain => arg.action(ArgAction::SetTrue),
             _ => required(arg, "FILE"),
@@ -133,6 +141,7 @@ pub enum Asked {
     Serve,
     Snapshot,
     Audit,
+    Book,
 }
 
 /// What help says of a command, and its options.
@@ -169,6 +178,11 @@ impl<'m, 'a> Call<'m, 'a> {
     /// The value of an option. `clap` refuses a command line that lacks one, and none is read as empty.
     pub(crate) fn value(&self, option: &str) -> &'a str {
         self.words.get_str(option).unwrap_or("")
+    }
+
+    /// Whether an option is given.
+    pub(crate) fn gives(&self, option: &str) -> bool {
+        self.words.get_str(option).is_some()
     }
 
     /// Whether a flag is set.

@@ -4,9 +4,9 @@ ghost use Rattle.std.specs.Prelude.{◌<◌, ◌≤◌, length, vec_len};
 
 use crate::bounded::unfit_of;
 use crate::client_files::{ClientNames, Closing, OpenClient, check_clients, open_clients};
-use crate::devices::{INPUT, JournalFile, OUTPUT, created, flushed, held_places};
+use crate::devices::{INPUT, NewFile, OUTPUT, created, flushed, held_places};
 use crate::noted::Noted;
-use crate::options::{Asked, CLIENT, Call, CommandOption, CommandText, EXPLAIN};
+use crate::options::{Asked, CLIENT, Call, CommandOption, CommandText, EXPLAIN, JOURNAL};
 use crate::stopped::{Ran, Stopped};
 use cspf_serve::{ClientError, MOST_ASKERS, Served, ServedClient, StreamError, run_serve};
 use std::sync::Wait;
@@ -75,7 +75,7 @@ fn serve<T: Threads + Wait + Sync>(call: &Call<'_, '_>, handle: &T, words: &[&st
     requires { (0 < length words.now) × (length words.now ≤ MOST_ASKERS) }
 {
     let clients = open_clients(call, words)?;
-    let mut journal = created(call)?;
+    let mut journal = created(call, JOURNAL)?;
     let ran = run(call, handle, &mut journal, clients, words);
     flushed(&mut journal, ran)
 }
@@ -85,7 +85,7 @@ fn serve<T: Threads + Wait + Sync>(call: &Call<'_, '_>, handle: &T, words: &[&st
 fn run<T: Threads + Wait + Sync>(
     call: &Call<'_, '_>,
     handle: &T,
-    journal: &mut JournalFile,
+    journal: &mut NewFile,
     clients: Vec<OpenClient>,
     words: &[&str],
 ) -> Ran

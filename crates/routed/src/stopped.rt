@@ -1,6 +1,7 @@
 //! Why the program stops: what `--explain` says before its last line.
 
 use crate::noted::Fault;
+use cspf_book_run::BookError;
 use cspf_serve::{RunError, ServedError, SolveError, StreamError};
 use std::alloc::AllocError;
 use std::io;
@@ -12,8 +13,10 @@ pub enum Stopped {
     Memory,
     /// A call on a file or a stream failed.
     Device(Fault),
-    /// An error of `solve`.
+    /// An error of `solve`, or one of `book` that `solve` has, too.
     Solve(SolveError),
+    /// Another error of `book`.
+    Book(BookError),
     /// An error of the updates of `serve`.
     Stream(StreamError),
     /// An error of `batch`, `live`, `snapshot` or `audit`.
@@ -44,6 +47,7 @@ impl Stopped {
             Stopped::Run(RunError::Device) => read.or(written),
             Stopped::Solve(SolveError::Read) | Stopped::Stream(StreamError::Read) => read,
             Stopped::Solve(SolveError::Write { .. })
+            | Stopped::Book(BookError::Keep { .. })
             | Stopped::Stream(StreamError::Write | StreamError::Flush) => written,
             _ => None,
         };

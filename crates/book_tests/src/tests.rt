@@ -1,0 +1,4 @@
+mod absorbing;
+mod memory;
+mod networks;
+mod placing;

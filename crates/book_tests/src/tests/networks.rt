@@ -1,0 +1,169 @@
+//! A triangle of routers, and batches and requests over it.
+
+use cspf_addr::{Addr, Mask, parse_hops};
+use cspf_book::{Book, PlaceError};
+use cspf_model::{Batch, Change, Link, MOST_VERSIONS, Outcome, Request};
+use std::alloc::Global;
+
+pub(super) const ONE: u32 = 0x0101_0101;
+
+pub(super) const TWO: u32 = 0x0202_0202;
+
+pub(super) const THREE: u32 = 0x0303_0303;
+
+/// A change of the triangle.
+#[derive(Clone, Copy)]
+pub(super) enum Edit {
+    /// The link from one router to another comes, of these groups, with this bandwidth.
+    Put(u32, u32, u32, [u64; 8]),
+    /// The link from 1.1.1.1 to 3.3.3.3 runs to this router, to the interface of 3.3.3.3 to that one.
+    Turn(u32, u32),
+    /// The link from one router to another goes.
+    Drop(u32, u32),
+    /// The router has transit from now on, or has none.
+    Node(u32, bool),
+}
+
+use Edit::Put;
+
+const FREE: [u64; 8] = [1000; 8];
+
+/// A link and its reverse between each two of the routers, with 1,000 bytes per second at each priority.
+const TRIANGLE: &[Edit] = &[
+    Put(ONE, TWO, 0, FREE),
+    Put(TWO, ONE, 0, FREE),
+    Put(TWO, THREE, 0, FREE),
+    Put(THREE, TWO, 0, FREE),
+    Put(ONE, THREE, 0, FREE),
+    Put(THREE, ONE, 0, FREE),
+];
+
+/// The interface of the first of two routers on the link to the second.
+pub(super) fn interface(from: u32, to: u32) -> Addr {
+    Addr::new(from.wrapping_add(to.wrapping_mul(16)))
+}
+
+/// A link from one router to another with the metric 10.
+fn link(
+    from: u32,
+    local: Addr,
+    to: u32,
+    remote: Addr,
+    groups: u32,
+    free: [u64; 8],
+) -> Option<Link> {
+    let groups = Mask::new(groups);
+    Link::new(
+        Addr::new(from),
+        local,
+        Addr::new(to),
+        remote,
+        10,
+        groups,
+        free,
+    )
+    .ok()
+}
+
+/// The change of the database.
+fn change(edit: &Edit) -> Option<Change> {
+    match *edit {
+        Edit::Put(from, to, groups, free) => {
+            let put = link(
+                from,
+                interface(from, to),
+                to,
+                interface(to, from),
+                groups,
+                free,
+            )?;
+            Some(Change::Put(put))
+        }
+        Edit::Turn(to, of) => {
+            let put = link(
+                ONE,
+                interface(ONE, THREE),
+                to,
+                interface(THREE, of),
+                0,
+                FREE,
+            )?;
+            Some(Change::Put(put))
+        }
+        Edit::Drop(from, to) => Some(Change::Remove {
+            from: Addr::new(from),
+            local: interface(from, to),
+        }),
+        Edit::Node(router, transit) => Some(Change::Node {
+            router: Addr::new(router),
+            transit,
+        }),
+    }
+}
+
+/// A batch of these changes, or none where memory is refused.
+pub(super) fn batch(alloc: Global, edits: &[Edit]) -> Option<Batch> {
+    let mut changes = Vec::new(alloc);
+    for edit in edits {
+        changes.push(change(edit)?).ok()?;
+    }
+    Some(Batch { number: 1, changes })
+}
+
+/// Whether the book's base absorbs the batch.
+pub(super) fn is_absorbed(book: &mut Book, batch: &Batch) -> bool {
+    book.version() < MOST_VERSIONS && book.try_absorb(batch).is_ok()
+}
+
+/// A book over the triangle, or none where memory is refused.
+pub(super) fn book(alloc: Global) -> Option<Book> {
+    let batch = batch(alloc, TRIANGLE)?;
+    let mut book = Book::new(alloc).ok()?;
+    if is_absorbed(&mut book, &batch) {
+        Some(book)
+    } else {
+        None
+    }
+}
+
+/// A request from the first router to the third at setup priority 7, along links that aren't of group 1.
+fn request(id: u64, bandwidth: u64, hops: &[u8]) -> Option<Request> {
+    let none = Mask::new(0);
+    let (from, to) = (Addr::new(ONE), Addr::new(THREE));
+    let hops = parse_hops(hops).ok()?;
+    Request::new(id, from, to, 7, bandwidth, Mask::new(1), none, none, hops).ok()
+}
+
+/// How many links the route has that such a request is placed along, or 0 where there is none, or why it
+/// isn't placed.
+pub(super) fn placed(
+    alloc: Global,
+    book: &mut Book,
+    id: u64,
+    bandwidth: u64,
+    hops: &[u8],
+    hold: u8,
+) -> Option<Result<usize, PlaceError>> {
+    let request = request(id, bandwidth, hops)?;
+    if request.setup != 7 || hold > 7 || book.version() >= MOST_VERSIONS {
+        return None;
+    }
+    match book.place(alloc, &request, hold) {
+        Ok(Outcome::Route(route)) => Some(Ok(route.links().len())),
+        Ok(_) => Some(Ok(0)),
+        Err(why) => Some(Err(why)),
+    }
+}
+
+/// Whether the placement with this id is released.
+pub(super) fn is_released(book: &mut Book, id: u64) -> bool {
+    book.version() < MOST_VERSIONS && book.release(id).is_ok()
+}
+
+/// What the effective database has on the link from one router to another.
+pub(super) fn left(book: &Book, from: u32, to: u32) -> [u64; 8] {
+    match book.effective().find(Addr::new(from), interface(from, to)) {
+        Some(link) => link.free,
+        None => [0; 8],
+    }
+}

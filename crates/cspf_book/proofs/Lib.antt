@@ -1,0 +1,20 @@
+-- The lemmas of this crate.
+pub mod Figures
+pub mod EffectiveLinks
+pub mod KeyTests
+pub mod AlikeDatabases
+pub mod Currents
+pub mod OneLink
+pub mod Ids
+pub mod TwiceUsed
+pub mod Covered
+pub mod TableLimits
+pub mod StateParts
+pub mod Placing
+pub mod ChangedBases
+pub mod RouteWalks
+pub mod LostRanks
+pub mod OverLists
+pub mod OneLostList
+pub mod UntouchedRoutes
+pub mod KeptSums

@@ -1,0 +1,146 @@
+-- One effective link, and how it is put in place of another.
+use Rattle.std.proofs.Common.{◌≡◌, ◌≢◌, ℕ, zero, suc, ◌-◌, ◌<◌, min, Bool, true, false, cond, Option, Some, None, is_some, List, [], ◌∷◌, length, slice_index, slice_set, slice_index_or, refl, sym, ap, ◌∙◌, arith}
+use Rattle.std.proofs.Math.Nat.{ℕ_set}
+use mathlib.Core.HLevel.{is_prop→PathP, ¬_prop}
+use Rattle.std.specs.Ordering.{eq_by_cmp}
+use Rattle.std.specs.List.{IsDistinct}
+use Rattle.std.specs.Option.{option_map}
+use Rattle.std.specs.FinMap as map
+use Rattle.cspf_model.specs.declared.link.Link.{Link}
+use Rattle.cspf_model.specs.declared.batch.Change.{Change}
+use Rattle.cspf_model.specs.declared.batch.Change.TheVariants.{Put}
+use Rattle.cspf_model.specs.Numbered.{NumberedChanges}
+use Rattle.cspf_model.specs.Database.{Database, Key, key_of, key_cmp, link_at, link_count, router_count, mark_count, AreAtTheirKeys}
+use Rattle.cspf_model.specs.Changes.{after_change, after_changes, IsPresent, Fits}
+use Rattle.cspf_model.specs.Fields.{HasLinkFields, fields_of_link}
+use Rattle.cspf_model.proofs.Databases.Keys.{keys_total, keys_same}
+use Rattle.cspf_model.proofs.Routes.FieldRecords.{links_said}
+use Rattle.cspf_book.specs.declared.placement.Placement.{Placement}
+use Rattle.cspf_book.specs.Placements.{ends_of_link, counted}
+use Rattle.cspf_book.specs.Effective.{figure, figures, effective_link}
+use Rattle.cspf_book.specs.Alike.{AreAlike, IsWithinLimits}
+use Rattle.cspf_book.proofs.AlikeDatabases.{alike_itself, alike_is_some, alike_put, alike_routers}
+
+-- links with the same attributes are one
+pub same_link : (l m : Link) → fields_of_link l ≡ fields_of_link m → l ≡ m
+same_link l m e = λ i. record {
+  from = (e i).from;
+  local = (e i).local;
+  to = (e i).to;
+  remote = (e i).remote;
+  metric = (e i).metric;
+  group = (e i).group;
+  free = (e i).free;
+  eight = is_prop→PathP (λ j. length (e j).free ≡ 8) (λ j. ℕ_set (length (e j).free) 8) l.eight m.eight i;
+  two_ends = is_prop→PathP (λ j. (e j).from ≢ (e j).to) (λ j. ¬_prop) l.two_ends m.two_ends i;
+}
+
+-- eight figures, each the lesser of the one before it and of what is left
+pub eight_figures : (free : List ℕ) (held : ℕ → ℕ) (a b c d e f g h : ℕ) → a ≡ slice_index free 0 - held 0
+    → b ≡ min a (slice_index free 1 - held 1) → c ≡ min b (slice_index free 2 - held 2)
+    → d ≡ min c (slice_index free 3 - held 3) → e ≡ min d (slice_index free 4 - held 4)
+    → f ≡ min e (slice_index free 5 - held 5) → g ≡ min f (slice_index free 6 - held 6)
+    → h ≡ min g (slice_index free 7 - held 7) → a ∷ b ∷ c ∷ d ∷ e ∷ f ∷ g ∷ h ∷ [] ≡ figures free held
+eight_figures free held a b c d e f g h pa pb pc pd pe pf pg ph =
+    let first : a ≡ figure free held 0 = pa in
+    let second : b ≡ figure free held 1 = pb ∙ ap (λ x. min x (slice_index free 1 - held 1)) first in
+    let third : c ≡ figure free held 2 = pc ∙ ap (λ x. min x (slice_index free 2 - held 2)) second in
+    let fourth : d ≡ figure free held 3 = pd ∙ ap (λ x. min x (slice_index free 3 - held 3)) third in
+    let fifth : e ≡ figure free held 4 = pe ∙ ap (λ x. min x (slice_index free 4 - held 4)) fourth in
+    let sixth : f ≡ figure free held 5 = pf ∙ ap (λ x. min x (slice_index free 5 - held 5)) fifth in
+    let seventh : g ≡ figure free held 6 = pg ∙ ap (λ x. min x (slice_index free 6 - held 6)) sixth in
+    let eighth : h ≡ figure free held 7 = ph ∙ ap (λ x. min x (slice_index free 7 - held 7)) seventh in
+    λ i. first i ∷ second i ∷ third i ∷ fourth i ∷ fifth i ∷ sixth i ∷ seventh i ∷ eighth i ∷ []
+
+-- a link with the effective figures is the effective link
+pub effective_from : (placements : List Placement) (l r : Link) (free : List ℕ)
+    → HasLinkFields r (record (fields_of_link l) { free = free }) → free ≡ figures l.free (counted placements (key_of l))
+    → r ≡ effective_link placements l
+unfolding effective_link
+effective_from placements l r free has e =
+    same_link r (effective_link placements l) ((links_said r (record (fields_of_link l) { free = free })).0 has
+    ∙ ap (λ f. record (fields_of_link l) { free = f }) e)
+
+-- to write over the only change
+pub one_change : (cs : List Change) (c : Change) → length cs ≡ 1 → slice_set cs 0 c ≡ c ∷ []
+one_change [] c e = absurd (omega arith)
+one_change (x ∷ []) c e = refl
+one_change (x ∷ y ∷ cs) c e = absurd (omega arith)
+
+-- a batch of one put over an alike link fits
+pub one_fits : (d : Database) (l : Link) (b : NumberedChanges) → IsWithinLimits d
+    → option_map ends_of_link (link_at d (key_of l)) ≡ Some (ends_of_link l) → b.changes ≡ Put l ∷ [] → Fits d b
+unfolding IsDistinct
+one_fits d l b within there is =
+    let alike = alike_put d d l (alike_itself d) there in
+    let after : after_changes d b.changes ≡ after_change d (Put l) = ap (after_changes d) is in record {
+      short = omega (arith, ap length is);
+      once = rw is (tt, tt);
+      present = rw is (λ k c h. only k c h);
+      links = omega (arith, ap link_count after, alike.count, within.links);
+      routers = omega (arith, ap router_count after, alike_routers d (after_change d (Put l)) alike within.keyed, within.routers);
+      marks = omega (arith, ap mark_count after, within.marks);
+    }
+  where
+    only : (k : ℕ) (c : Change) → k < 1 → IsPresent d (slice_index_or (Put l ∷ []) k c)
+    only zero c h = tt
+    only (suc k) c h = absurd (omega arith)
+
+-- a link with other bandwidths has the ends of the link
+pub ends_from : (l r : Link) (free : List ℕ) → HasLinkFields r (record (fields_of_link l) { free = free }) → ends_of_link r ≡ ends_of_link l
+ends_from l r free has =
+    ap (λ f. ((f.from, f.local), f.to)) ((links_said r (record (fields_of_link l) { free = free })).0 has)
+
+-- a link with the ends of the base's link at its key
+module _ (base old : Database) (k : Key) (keyed : AreAtTheirKeys base) (alike : AreAlike base old) (l m : Link) where
+  ends_there : link_at base k ≡ Some l → ends_of_link m ≡ ends_of_link l
+      → option_map ends_of_link (link_at base (key_of m)) ≡ Some (ends_of_link m)
+  ends_there is ends =
+      ap (λ j. option_map ends_of_link (link_at base j)) (ap (λ (e : Key × ℕ). e.0) ends ∙ keyed k l is)
+      ∙ ap (option_map ends_of_link) is ∙ ap Some (sym ends)
+
+  -- it takes the place of one that is alike
+  pub ends_there_too : link_at base k ≡ Some l → ends_of_link m ≡ ends_of_link l
+      → option_map ends_of_link (link_at old (key_of m)) ≡ Some (ends_of_link m)
+  ends_there_too is ends = alike.ends (key_of m) ∙ ends_there is ends
+
+  pub alike_with : (new : Database) → link_at base k ≡ Some l → ends_of_link m ≡ ends_of_link l → new ≡ after_change old (Put m)
+      → AreAlike base new
+  alike_with new is ends put = rw put (alike_put base old m alike (ends_there is ends))
+
+-- an effective link has the key of its link
+pub key_of-effective_link : (placements : List Placement) (l : Link) → key_of (effective_link placements l) ≡ key_of l
+unfolding effective_link
+key_of-effective_link placements l = refl
+
+-- the effective link of a link of the base at its key
+module _ (base old : Database) (placements : List Placement) (k : Key) (keyed : AreAtTheirKeys base) (alike : AreAlike base old) where
+  -- what is there once it is put
+  pub at_put : (l : Link) (new : Database) → link_at base k ≡ Some l → new ≡ after_change old (Put (effective_link placements l)) → (q : Key)
+      → link_at new q ≡ cond (eq_by_cmp key_cmp q k) (option_map (effective_link placements) (link_at base q)) (link_at old q)
+  at_put l new is put q =
+      ap (λ (d : Database). link_at d q) put
+      ∙ map.get-insert keys_total old.links (key_of (effective_link placements l)) (effective_link placements l) q
+      ∙ ap (λ j. cond (eq_by_cmp key_cmp q j) (Some (effective_link placements l)) (link_at old q)) (key_of-effective_link placements l ∙ keyed k l is)
+      ∙ chosen (eq_by_cmp key_cmp q k) refl
+    where
+      chosen : (t : Bool) → eq_by_cmp key_cmp q k ≡ t
+          → cond t (Some (effective_link placements l)) (link_at old q) ≡ cond t (option_map (effective_link placements) (link_at base q)) (link_at old q)
+      chosen true tie = sym (ap (option_map (effective_link placements)) (ap (link_at base) (keys_same q k tie) ∙ is))
+      chosen false off = refl
+
+  -- where the base has no link, nothing is put
+  pub at_none : link_at base k ≡ None → (q : Key)
+      → link_at old q ≡ cond (eq_by_cmp key_cmp q k) (option_map (effective_link placements) (link_at base q)) (link_at old q)
+  at_none none q = chosen (eq_by_cmp key_cmp q k) refl
+    where
+      is_none : (o : Option Link) → is_some o ≡ false → o ≡ None
+      is_none (Some x) e = absurd (cc)
+      is_none None e = refl
+
+      chosen : (t : Bool) → eq_by_cmp key_cmp q k ≡ t → link_at old q ≡ cond t (option_map (effective_link placements) (link_at base q)) (link_at old q)
+      chosen true tie =
+          let nothing : link_at base q ≡ None = ap (link_at base) (keys_same q k tie) ∙ none in
+          is_none (link_at old q) (alike_is_some (link_at old q) (link_at base q) (alike.ends q) ∙ ap is_some nothing)
+          ∙ sym (ap (option_map (effective_link placements)) nothing)
+      chosen false off = refl

@@ -1,0 +1,37 @@
+-- How a link that a route uses twice is found.
+use Rattle.std.proofs.Common.{◌≡◌, ◌↔◌, ℕ, ◌+◌, ◌<◌, true, false, List, [], ◌∷◌, length, map, drop, slice_index_or, refl, sym, ap, ◌∙◌}
+use Rattle.std.specs.Ordering.{eq_by_cmp}
+use Rattle.std.specs.List.{AllByRecursion}
+use Rattle.std.proofs.lemmas.Bool.{or_parts, or_from, false≢true}
+use Rattle.std.proofs.lemmas.List.{at_drop_more}
+use Rattle.std.proofs.lemmas.Map.Keys.{IsDistinct-head, IsDistinct-tail, IsDistinct-cons}
+use Rattle.cspf_model.specs.declared.link.Link.{Link}
+use Rattle.cspf_model.specs.Database.{Key, key_of, key_cmp, HaveOwnKeys}
+use Rattle.cspf_book.specs.Placements.{has_key}
+use Rattle.cspf_book.proofs.KeyTests.{same_key_test}
+
+-- no link has the key exactly where each key differs from it
+clear : (k : Key) (links : List Link) → has_key links k ≡ false → AllByRecursion (λ y. eq_by_cmp key_cmp k y ≡ false) (map key_of links)
+clear k [] e = tt
+clear k (l ∷ ls) e = let parts = or_parts _ _ e in (same_key_test k (key_of l) ∙ parts.0, clear k ls parts.1)
+
+none_has : (k : Key) (links : List Link) → AllByRecursion (λ y. eq_by_cmp key_cmp k y ≡ false) (map key_of links) → has_key links k ≡ false
+none_has k [] all = refl
+none_has k (l ∷ ls) all = or_from _ _ (sym (same_key_test k (key_of l)) ∙ all.0) (none_has k ls all.1)
+
+-- one more link was looked at: its key differs from those after it, or is one of them
+module _ (links : List Link) (i : ℕ) (within : i < length links) (l : Link) (is : l ≡ slice_index_or links i l)
+    (whole : HaveOwnKeys (drop i links) ↔ HaveOwnKeys links) where
+  behind : HaveOwnKeys (drop i links) ≡ HaveOwnKeys (l ∷ drop (i + 1) links)
+  behind = ap HaveOwnKeys (at_drop_more (λ ls. ls) links i l within ∙ ap (λ (x : Link). x ∷ drop (i + 1) links) (sym is))
+
+  pub passed : has_key (drop (i + 1) links) (key_of l) ≡ false → HaveOwnKeys (drop (i + 1) links) ↔ HaveOwnKeys links
+  passed e = (
+    λ rest. whole.0 (coe 1 0 (k. behind k) (IsDistinct-cons (eq_by_cmp key_cmp) (key_of l) (map key_of (drop (i + 1) links)) (clear (key_of l) (drop (i + 1) links) e) rest)),
+    λ all. IsDistinct-tail (eq_by_cmp key_cmp) (key_of l) (map key_of (drop (i + 1) links)) (coe 0 1 (k. behind k) (whole.1 all)),
+  )
+
+  pub shared : has_key (drop (i + 1) links) (key_of l) ≡ true → HaveOwnKeys links → ⊥
+  shared e all =
+      let head = IsDistinct-head (eq_by_cmp key_cmp) (key_of l) (map key_of (drop (i + 1) links)) (coe 0 1 (k. behind k) (whole.1 all)) in
+      false≢true (sym (none_has (key_of l) (drop (i + 1) links) head) ∙ e)

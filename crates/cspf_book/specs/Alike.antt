@@ -1,0 +1,54 @@
+-- Private: databases that differ in attributes of their links alone, and where an effective database is
+-- up to date.
+use Rattle.std.specs.Prelude.{◌≡◌, ◌≤◌, Bool, false, cond, List, [], ◌∷◌}
+use Rattle.std.specs.Ordering.{eq_by_cmp}
+use Rattle.std.specs.List.{list_any}
+use Rattle.std.specs.Option.{option_map}
+use Rattle.cspf_model.specs.declared.link.Link.{Link}
+use Rattle.cspf_model.specs.declared.batch.Change.{Change}
+use Rattle.cspf_model.specs.declared.batch.Change.TheVariants.{Put, Remove, Node}
+use Rattle.cspf_model.specs.declared.limits.TheConstants.{MOST_LINKS, MOST_ROUTERS, MOST_MARKS}
+use Rattle.cspf_model.specs.Database.{Database, Key, key_cmp, link_at, link_count, router_count, mark_count, AreAtTheirKeys}
+use Rattle.cspf_book.specs.declared.placement.Placement.{Placement}
+use Rattle.cspf_book.specs.Placements.{ends_of_link, has_key}
+use Rattle.cspf_book.specs.Effective.{effective_link}
+
+-- the second database has links at the same keys that run to the same routers, as many links, and the
+-- same marks
+pub record AreAlike (d e : Database) : Type 0 where
+  pub marks : e.marks ≡ d.marks
+  pub count : link_count e ≡ link_count d
+  pub ends : (k : Key) → option_map ends_of_link (link_at e k) ≡ option_map ends_of_link (link_at d k)
+
+-- the second database has at the key the effective link of what the base has there
+abbrev pub IsCurrentAt : Database → List Placement → Database → Key → Type 0
+IsCurrentAt base placements d k = link_at d k ≡ option_map (effective_link placements) (link_at base k)
+
+-- at one key the second database becomes so, and elsewhere it stays as it was
+abbrev pub IsCurrentNowAt : Database → List Placement → Database → Database → Key → Type 0
+IsCurrentNowAt base placements old new key =
+    (k : Key) → link_at new k
+    ≡ cond (eq_by_cmp key_cmp k key) (option_map (effective_link placements) (link_at base k)) (link_at old k)
+
+-- so it is at all keys but those of these links
+abbrev pub IsCurrentBut : Database → List Placement → Database → List Link → Type 0
+IsCurrentBut base placements d links =
+    (k : Key) → has_key links k ≡ false → IsCurrentAt base placements d k
+
+-- the change puts a link with this key
+abbrev pub puts_key : Key → Change → Bool
+puts_key k (Put l) = has_key (l ∷ []) k
+puts_key k (Remove from local) = false
+puts_key k (Node router transit) = false
+
+-- so it is at all keys but those of the links that these changes put
+abbrev pub IsCurrentButPut : Database → List Placement → Database → List Change → Type 0
+IsCurrentButPut base placements d changes =
+    (k : Key) → list_any (puts_key k) changes ≡ false → IsCurrentAt base placements d k
+
+-- what holds of the database of each table
+pub record IsWithinLimits (d : Database) : Type 0 where
+  pub links : link_count d ≤ MOST_LINKS
+  pub routers : router_count d ≤ MOST_ROUTERS
+  pub marks : mark_count d ≤ MOST_MARKS
+  pub keyed : AreAtTheirKeys d

@@ -1,0 +1,79 @@
+-- What a book holds, and what a placing makes of it.
+use Rattle.std.specs.Prelude.{◌≡◌, ◌+◌, ◌<◌, ◌≤◌, ℕ, List, [], ◌∷◌, ◌++◌, length, sum_by, refl}
+use Rattle.std.specs.Coded.{Coded, code_by, coded×, coded_ℕ, coded_list}
+use Rattle.cspf_model.specs.declared.link.Link.{Link}
+use Rattle.cspf_model.specs.declared.request.Request.{Request}
+use Rattle.cspf_model.specs.Database.{Database, HaveOwnKeys}
+use Rattle.cspf_model.specs.DatabaseCode.{database_code}
+use Rattle.cspf_model.specs.Best.{Answer, unknown_from, unknown_to, no_route, route, IsBestAnswer}
+use Rattle.cspf_book.specs.declared.limits.TheConstants.{MOST_PLACEMENTS, MOST_ROUTES_LINKS}
+use Rattle.cspf_book.specs.declared.error.PlaceError.{PlaceError}
+use Rattle.cspf_book.specs.declared.error.PlaceError.TheVariants.{Memory, Full, TooManyLinks, Twice}
+use Rattle.cspf_book.specs.declared.placement.Placement.{Placement}
+use Rattle.cspf_book.specs.contracts.placement.Placement.{the_row}
+use Rattle.cspf_book.specs.Placements.{others}
+use Rattle.cspf_book.specs.Effective.{effective}
+
+-- the base, how many base batches, placements and releases were accepted, and the placements in the
+-- order in which they were placed
+pub record BookState : Type 0 where
+  pub base : Database
+  pub version : ℕ
+  pub placements : List Placement
+
+-- a book's state is stored as its parts
+abbrev pub state_code : Coded BookState
+state_code =
+    code_by (Database × (ℕ × List Placement))
+    (coded× database_code (coded× coded_ℕ (coded_list the_row.coded)))
+    (λ s. (s.base, (s.version, s.placements))) (λ p. record { base = p.0; version = p.1.0; placements = p.1.1 }) (λ _. refl)
+
+-- the effective database that a request is placed in: without the earlier placement of its id
+abbrev pub effective_beside : BookState → ℕ → Database
+effective_beside s id = effective s.base (others id s.placements)
+
+-- the placement is of this request with this holding priority, along this walk
+pub record IsPlacementOf (q : Request) (priority : ℕ) (walk : List Link) (p : Placement) : Type 0 where
+  pub request : p.request ≡ q
+  pub hold : p.hold ≡ priority
+  pub route : p.route ≡ walk
+
+-- how many links the routes of placements have
+abbrev pub links_placed : List Placement → ℕ
+links_placed placements = sum_by (λ p. length p.route) placements
+
+-- the book has room for one more placement besides those of other ids
+abbrev pub HasRoomFor : BookState → ℕ → Type 0
+HasRoomFor s id = length (others id s.placements) < MOST_PLACEMENTS
+
+-- the request is placed along this walk: its placement takes the place of the one with its id
+pub record IsPlacedAlong (old : BookState) (q : Request) (hold : ℕ) (walk : List Link) (new : BookState)
+    : Type 0 where
+  pub own_keys : HaveOwnKeys walk
+  pub few_links : links_placed (others q.id old.placements) + length walk ≤ MOST_ROUTES_LINKS
+  pub placement : Placement
+  pub is_its : IsPlacementOf q hold walk placement
+  pub placements : new.placements ≡ others q.id old.placements ++ placement ∷ []
+  pub base : new.base ≡ old.base
+  pub version : new.version ≡ old.version + 1
+
+-- what an answer makes of the book: a route is placed, and else nothing changes
+abbrev pub IsAnswerPlaced : BookState → Request → ℕ → Answer → BookState → Type 0
+IsAnswerPlaced old q hold unknown_from new = new ≡ old
+IsAnswerPlaced old q hold unknown_to new = new ≡ old
+IsAnswerPlaced old q hold no_route new = new ≡ old
+IsAnswerPlaced old q hold (route walk) new = IsPlacedAlong old q hold walk new
+
+-- Why a request isn't placed. Either memory was refused, or the book has as many placements of other
+-- ids as it may have. Or it has fewer, and the best answer is a route that uses a link twice, or one that
+-- uses each of its links once but is longer than the routes of the others leave room for.
+abbrev pub IsPlaceError : BookState → Request → PlaceError → Type 0
+IsPlaceError s q Memory = Unit {0}
+IsPlaceError s q Full = MOST_PLACEMENTS ≤ length (others q.id s.placements)
+IsPlaceError s q Twice =
+    HasRoomFor s q.id
+    × (walk : List Link) × IsBestAnswer (effective_beside s q.id) q (route walk) × ¬ HaveOwnKeys walk
+IsPlaceError s q TooManyLinks =
+    HasRoomFor s q.id
+    × (walk : List Link) × IsBestAnswer (effective_beside s q.id) q (route walk) × HaveOwnKeys walk
+    × (MOST_ROUTES_LINKS < links_placed (others q.id s.placements) + length walk)

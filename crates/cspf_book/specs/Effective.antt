@@ -1,0 +1,44 @@
+-- The effective database: the base with what its placements leave of its bandwidths.
+use Rattle.std.specs.Prelude.{◌≡◌, ℕ, zero, suc, ◌-◌, min, List, [], ◌∷◌, length, map, slice_index, refl}
+use Rattle.std.specs.FinMap as map
+use Rattle.cspf_model.specs.declared.link.Link.{Link}
+use Rattle.cspf_model.specs.Database.{Database, key_of, key_cmp}
+use Rattle.cspf_book.specs.declared.placement.Placement.{Placement}
+use Rattle.cspf_book.specs.Placements.{counted}
+
+-- The figure at a priority, where the base has these bandwidths and this much is counted at each
+-- priority: the least, over that and all more important priorities, of what the base has there less
+-- what is counted there, never below 0.
+abbrev pub figure : List ℕ → (ℕ → ℕ) → ℕ → ℕ
+figure free held zero = slice_index free zero - held zero
+figure free held (suc p) = min (figure free held p) (slice_index free (suc p) - held (suc p))
+
+-- the figures at the priorities 0 to 7
+abbrev pub figures : List ℕ → (ℕ → ℕ) → List ℕ
+figures free held = map (figure free held) (0 ∷ 1 ∷ 2 ∷ 3 ∷ 4 ∷ 5 ∷ 6 ∷ 7 ∷ [])
+
+-- a link with other bandwidths
+abbrev pub with_free : Link → (free : List ℕ) → length free ≡ 8 → Link
+with_free l free eight = record {
+  from = l.from;
+  local = l.local;
+  to = l.to;
+  remote = l.remote;
+  metric = l.metric;
+  group = l.group;
+  free = free;
+  eight = eight;
+  two_ends = l.two_ends;
+}
+
+-- a link of the base with its effective figures: what the placements leave of its bandwidths
+unfoldable pub effective_link : List Placement → Link → Link
+effective_link placements l =
+    with_free l (figures l.free (counted placements (key_of l))) refl
+
+-- the effective database has the base's keys with the effective links, and the base's marks
+abbrev pub effective : Database → List Placement → Database
+effective base placements = record {
+  links = map.from_entries {R = key_cmp} (map (λ e. (e.0, effective_link placements e.1)) (map.entries base.links));
+  marks = base.marks;
+}

@@ -1,0 +1,27 @@
+-- Private: how a book keeps its state.
+use Rattle.std.specs.Prelude.{◌≡◌, ◌≤◌, ◌*◌, ◌^◌, ℕ, List, length, map, nat_eq}
+use Rattle.std.specs.List.{IsDistinct}
+use Rattle.cspf_book.specs.declared.limits.TheConstants.{MOST_PLACEMENTS, MOST_ROUTES_LINKS}
+use Rattle.cspf_book.specs.declared.placement.Placement.{Placement}
+use Rattle.cspf_book.specs.declared.book.Book.TheInside.{Inside}
+use Rattle.cspf_book.specs.Placements.{id_of, counted}
+use Rattle.cspf_book.specs.Kept.{IsCountOf}
+use Rattle.cspf_model.specs.Database.{Key}
+use Rattle.cspf_book.specs.Effective.{effective}
+use Rattle.cspf_book.specs.BookState.{links_placed}
+
+-- no two placements have one id
+abbrev pub HaveDistinctIds : List Placement → Type 0
+HaveDistinctIds placements = IsDistinct nat_eq (map id_of placements)
+
+-- The effective table and the sums are up to date. No version adds more than 2 ^ 64 to a sum. No two
+-- placements share an id, and neither they nor their links are too many. There is room for one change.
+pub record IsBook (a : Inside) : Type 0 where
+  pub current : a.effective ≡ effective a.base a.placements.items
+  pub sums : IsCountOf a.counts a.placements.items
+  pub small : (k : Key) (priority : ℕ) → counted a.placements.items k priority ≤ a.version * 2 ^ 64
+  pub own_ids : HaveDistinctIds a.placements.items
+  pub few : length a.placements.items ≤ MOST_PLACEMENTS
+  pub links : a.links ≡ links_placed a.placements.items
+  pub few_links : a.links ≤ MOST_ROUTES_LINKS
+  pub one : length a.one.changes ≡ 1

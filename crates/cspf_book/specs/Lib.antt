@@ -1,0 +1,12 @@
+-- What placements count, the effective database, the book, and their laws.
+pub mod Placements
+pub mod Effective
+pub mod Alike
+pub mod BookState
+pub mod OverLinks
+pub mod LostRoutes
+pub mod Following
+pub mod Laws
+pub mod Offers
+pub mod Kept
+pub mod Inside

@@ -1,0 +1,39 @@
+-- Private: what a request is offered in a database, and why its route isn't placed.
+use Rattle.std.specs.Prelude.{◌≤◌, ◌<◌, ℕ, Option, Some, None, List, length}
+use Rattle.cspf_model.specs.declared.link.Link.{Link}
+use Rattle.cspf_model.specs.declared.request.Request.{Request}
+use Rattle.cspf_model.specs.Database.{Database, HaveOwnKeys}
+use Rattle.cspf_model.specs.Best.{Answer, unknown_from, unknown_to, no_route, route, IsBestAnswer}
+use Rattle.cspf_book.specs.declared.error.PlaceError.{PlaceError}
+use Rattle.cspf_book.specs.declared.error.PlaceError.TheVariants.{Memory, Full, TooManyLinks, Twice}
+use Rattle.cspf_book.specs.declared.placement.Placement.{Placement}
+use Rattle.cspf_book.specs.BookState.{IsPlacementOf}
+
+-- the placement that an answer offers: a route that uses no link twice and leaves that much room, and
+-- else none
+abbrev pub IsOffered : Request → ℕ → ℕ → Answer → Option Placement → Type 0
+IsOffered q hold room unknown_from (Some p) = ⊥
+IsOffered q hold room unknown_from None = Unit {0}
+IsOffered q hold room unknown_to (Some p) = ⊥
+IsOffered q hold room unknown_to None = Unit {0}
+IsOffered q hold room no_route (Some p) = ⊥
+IsOffered q hold room no_route None = Unit {0}
+IsOffered q hold room (route walk) None = ⊥
+IsOffered q hold room (route walk) (Some p) =
+    HaveOwnKeys walk × IsPlacementOf q hold walk p × (length walk ≤ room)
+
+-- why a walk isn't placed where there is room for that many links
+abbrev pub IsWalkRefused : ℕ → List Link → PlaceError → Type 0
+IsWalkRefused room walk Memory = Unit {0}
+IsWalkRefused room walk Full = ⊥
+IsWalkRefused room walk Twice = ¬ HaveOwnKeys walk
+IsWalkRefused room walk TooManyLinks = HaveOwnKeys walk × (room < length walk)
+
+-- why a request is offered nothing: memory, or the best answer is a walk that isn't placed
+abbrev pub IsOfferRefused : Database → Request → ℕ → PlaceError → Type 0
+IsOfferRefused d q room Memory = Unit {0}
+IsOfferRefused d q room Full = ⊥
+IsOfferRefused d q room Twice =
+    (walk : List Link) × IsBestAnswer d q (route walk) × ¬ HaveOwnKeys walk
+IsOfferRefused d q room TooManyLinks =
+    (walk : List Link) × IsBestAnswer d q (route walk) × HaveOwnKeys walk × (room < length walk)

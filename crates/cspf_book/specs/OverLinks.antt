@@ -1,0 +1,37 @@
+-- Where changes of the base leave a link with less bandwidth than placements hold there.
+use Rattle.std.specs.Prelude.{ℕ, Bool, List, [], ◌∷◌, filter, map, nat_lt, slice_index}
+use Rattle.std.specs.List.{flat_map}
+use Rattle.cspf_model.specs.declared.link.Link.{Link}
+use Rattle.cspf_model.specs.declared.batch.Change.{Change}
+use Rattle.cspf_model.specs.declared.batch.Change.TheVariants.{Put, Remove, Node}
+use Rattle.cspf_model.specs.Database.{key_of}
+use Rattle.cspf_book.specs.declared.over.Over.{Over}
+use Rattle.cspf_book.specs.declared.placement.Placement.{Placement}
+use Rattle.cspf_book.specs.Placements.{counted}
+
+-- the priorities 0 to 7
+abbrev pub priorities : List ℕ
+priorities = 0 ∷ 1 ∷ 2 ∷ 3 ∷ 4 ∷ 5 ∷ 6 ∷ 7 ∷ []
+
+-- the link's unreserved bandwidth at the priority is less than what is counted on its key
+abbrev pub is_over : List Placement → Link → ℕ → Bool
+is_over placements l priority =
+    nat_lt (slice_index l.free priority) (counted placements (key_of l) priority)
+
+-- a link's key with a priority
+abbrev pub over_at : Link → ℕ → Over
+over_at l priority = record { from = l.from; local = l.local; priority = priority }
+
+-- the link's key with each such priority, in order
+abbrev pub over_on : List Placement → Link → List Over
+over_on placements l = map (over_at l) (filter (is_over placements l) priorities)
+
+-- the same of the link that a change puts
+abbrev pub over_by : List Placement → Change → List Over
+over_by placements (Put l) = over_on placements l
+over_by placements (Remove from local) = []
+over_by placements (Node router transit) = []
+
+-- the same of all links that changes put, in the order of the changes
+abbrev pub over : List Placement → List Change → List Over
+over placements changes = flat_map (over_by placements) changes

@@ -1,0 +1,286 @@
+//! A book: a base database, the placements over it, and the effective database that they leave.
+
+ghost use Rattle.std.specs.Prelude.{◌≡◌, ◌+◌, ◌<◌, [], IsTrue, IfOk, IfErr, OnOk, OnErr};
+ghost use Rattle.cspf_model.specs.Best.{IsBestAnswer};
+ghost use Rattle.cspf_model.specs.Changes.{no_links, after_changes, Fits};
+ghost use Rattle.cspf_model.specs.Outcome.{answer_of};
+ghost use Rattle.cspf_model.specs.Refusals.{IsRefusal};
+ghost use Rattle.cspf_model.specs.declared.limits.TheConstants.{MOST_VERSIONS};
+ghost use Rattle.cspf_book.specs.Placements.{has_id, others, counted};
+ghost use Rattle.cspf_book.specs.Effective.{effective};
+ghost use Rattle.cspf_book.specs.BookState.{effective_beside, HasRoomFor, IsAnswerPlaced, IsPlaceError};
+ghost use Rattle.cspf_book.specs.OverLinks.{over};
+ghost use Rattle.cspf_book.specs.LostRoutes.{AreLost};
+
+use crate::counts::Counts;
+use crate::effective_links::{refresh_puts, within_limits};
+use crate::error::{Absent, PlaceError};
+use crate::limits::{MOST_PLACEMENTS, MOST_ROUTES_LINKS};
+use crate::lost::lost;
+use crate::moves::{
+    enter_at, forget_at, index_of, links_at, put_in, set_aside, set_back, take_out,
+};
+use crate::offer::offer_counted;
+use crate::over::{Over, find_over};
+use crate::placement::Placement;
+use cspf_addr::Addr;
+use cspf_db::Table;
+use cspf_model::{Batch, Change, Outcome, Refusal, Request};
+use cspf_search::best;
+use std::alloc::{AllocError, Global};
+use std::marker::Model;
+
+/// A base database and the placements over it. A request is placed along the best route in the
+/// effective database, and holds its bandwidth there from then on. Nothing is preempted.
+#[derive(Drop)]
+pub struct Book {
+    base: Table,
+    effective: Table,
+    placements: Vec<Placement>,
+    counts: Counts,
+    links: usize,
+    version: u32,
+    one: Batch,
+}
+
+impl Model for Book {
+    ghost use Rattle.cspf_book.specs.BookState.{BookState, state_code};
+
+    ghost Value = { BookState };
+
+    ghost coded = { state_code };
+
+    ghost use Rattle.cspf_book.specs.Inside.{IsBook};
+
+    ghost view = { λ a. record { base = a.base; version = a.version; placements = a.placements.items } };
+
+    ghost invariant = { IsBook };
+}
+
+impl Book {
+    /// Version 0, with the empty database and no placements.
+    pub fn new(alloc: Global) -> Result<Book, AllocError>
+        ensures { IfOk result (λ book. book ≡ record { base = no_links; version = 0; placements = [] }) }
+    {
+        let mut changes = Vec::new(alloc);
+        changes.push(Change::Remove {
+            from: Addr::new(0),
+            local: Addr::new(0),
+        })?;
+        Ok(Book {
+            base: Table::new(alloc)?,
+            effective: Table::new(alloc)?,
+            placements: Vec::new(alloc),
+            counts: Counts::new(alloc),
+            links: 0,
+            version: 0,
+            one: Batch { number: 0, changes },
+        })
+    }
+
+    /// How many base batches, placements and releases were accepted.
+    pub fn version(&self) -> u32
+        ensures { result ≡ self.now.version }
+    {
+        self.version
+    }
+
+    /// The base: the database that the base's batches make.
+    pub fn base(&self) -> &Table
+        ensures { result.now ≡ self.now.base }
+    {
+        &self.base
+    }
+
+    /// The effective database: the base with what the placements leave of its bandwidths.
+    pub fn effective(&self) -> &Table
+        ensures { result.now ≡ effective self.now.base self.now.placements }
+    {
+        &self.effective
+    }
+
+    /// The placements, in the order in which they were placed.
+    pub fn placements(&self) -> &[Placement]
+        ensures { result.now ≡ self.now.placements }
+    {
+        self.placements.as_slice()
+    }
+
+    /// What is counted on the link with this key at a priority.
+    pub fn counted(&self, from: Addr, local: Addr, priority: u8) -> u128
+        ensures { result ≡ counted self.now.placements (from, local) priority }
+    {
+        self.counts.sum(from, local, priority.min(7))
+    }
+
+    /// The best answer to a request in the effective database. It reserves nothing.
+    pub fn ask(&self, alloc: Global, request: &Request) -> Result<Outcome, AllocError>
+        ensures { IfOk result (λ outcome. IsBestAnswer (effective self.now.base self.now.placements)
+            request.now (answer_of outcome)) }
+    {
+        best(alloc, &self.effective, request)
+    }
+
+    /// The links that the batch puts with less unreserved bandwidth than is counted on their keys:
+    /// each in the batch's order, with each priority at which it has less, from 0 to 7. Whether the
+    /// batch fits isn't looked at.
+    pub fn over(&self, alloc: Global, batch: &Batch) -> Result<Vec<Over>, AllocError>
+        ensures { IfOk result (λ list. list.items ≡ over self.now.placements batch.now.changes) }
+    {
+        find_over(alloc, &self.counts, &batch.changes)
+    }
+
+    /// The ids of the placements whose routes the base admits now, and doesn't after the changes of
+    /// the batch: least important first, by holding priority from 7 down to 0, then by id.
+    /// Bandwidth doesn't matter. Whether the batch fits isn't looked at.
+    pub fn lost(&self, alloc: Global, batch: &Batch) -> Result<Vec<u64>, AllocError>
+        ensures { IfOk result (λ ids. AreLost self.now.base
+            (after_changes self.now.base batch.now.changes) self.now.placements ids.items) }
+    {
+        lost(alloc, &self.base, &self.placements, &batch.changes)
+    }
+
+    /// Makes all changes of a batch in the base where it fits, and else changes nothing. The
+    /// placements stay, also where the base now has less than they hold. It takes no memory.
+    pub fn try_absorb(&mut self, batch: &Batch) -> Result<(), Refusal>
+        requires { self.old.version < MOST_VERSIONS }
+        ensures ok { OnOk result (Fits self.old.base batch.now) }
+        ensures changed { OnOk result (self.new ≡ record {
+          base = after_changes self.old.base batch.now.changes;
+          version = self.old.version + 1;
+          placements = self.old.placements;
+        }) }
+        ensures err { IfErr result (λ refusal. IsRefusal self.old.base batch.now refusal) }
+        ensures same { OnErr result (self.new ≡ self.old) }
+    {
+        self.base.try_absorb(batch)?;
+        within_limits(&self.base);
+        self.effective.absorb(batch);
+        refresh_puts(
+            &mut self.effective,
+            &mut self.one,
+            &self.base,
+            &self.counts,
+            &batch.changes,
+        );
+        self.version += 1;
+        Ok(())
+    }
+
+    /// Places a request: finds the best answer at setup priority 7 in the effective database
+    /// without the placement of its id. A route becomes its placement, in place of that one.
+    /// Where there is no route, or after an error, nothing changes.
+    pub fn place(
+        &mut self,
+        alloc: Global,
+        request: &Request,
+        hold: u8,
+    ) -> Result<Outcome, PlaceError>
+        requires setup { request.now.setup ≡ 7 }
+        requires hold { hold < 8 }
+        requires room { self.old.version < MOST_VERSIONS }
+        ensures best { IfOk result (λ outcome.
+            IsBestAnswer (effective_beside self.old request.now.id) request.now (answer_of outcome)) }
+        ensures few { OnOk result (HasRoomFor self.old request.now.id) }
+        ensures placed { IfOk result (λ outcome.
+            IsAnswerPlaced self.old request.now hold (answer_of outcome) self.new) }
+        ensures why { IfErr result (λ why. IsPlaceError self.old request.now why) }
+        ensures same { OnErr result (self.new ≡ self.old) }
+    {
+        let at = index_of(&self.placements, request.id);
+        if at == MOST_PLACEMENTS {
+            return Err(PlaceError::Full);
+        }
+        self.placements.reserve(1)?;
+        enter_at(&mut self.counts, &self.placements, at)?;
+        let kept = self.links - links_at(&self.placements, at);
+        set_aside(
+            &mut self.effective,
+            &mut self.one,
+            &self.base,
+            &mut self.counts,
+            &self.placements,
+            at,
+        );
+        let room = MOST_ROUTES_LINKS - kept;
+        match offer_counted(
+            alloc,
+            &self.effective,
+            &mut self.counts,
+            request,
+            hold,
+            room,
+        ) {
+            Ok((outcome, offered)) => match offered {
+                Some(placement) => {
+                    take_out(&mut self.placements, at);
+                    self.links = kept + placement.route.links().len();
+                    put_in(
+                        &mut self.effective,
+                        &mut self.one,
+                        &self.base,
+                        &mut self.counts,
+                        &mut self.placements,
+                        placement,
+                    );
+                    self.version += 1;
+                    Ok(outcome)
+                }
+                None => {
+                    set_back(
+                        &mut self.effective,
+                        &mut self.one,
+                        &self.base,
+                        &mut self.counts,
+                        &self.placements,
+                        at,
+                    );
+                    Ok(outcome)
+                }
+            },
+            Err(why) => {
+                set_back(
+                    &mut self.effective,
+                    &mut self.one,
+                    &self.base,
+                    &mut self.counts,
+                    &self.placements,
+                    at,
+                );
+                Err(why)
+            }
+        }
+    }
+
+    /// Releases the placement with this id. Where there is none, nothing changes. It takes no
+    /// memory.
+    pub fn release(&mut self, id: u64) -> Result<(), Absent>
+        requires { self.old.version < MOST_VERSIONS }
+        ensures ok { OnOk result (IsTrue (has_id id self.old.placements)) }
+        ensures released { OnOk result (self.new ≡ record {
+          base = self.old.base;
+          version = self.old.version + 1;
+          placements = others id self.old.placements;
+        }) }
+        ensures absent { OnErr result (¬ IsTrue (has_id id self.old.placements)) }
+        ensures same { OnErr result (self.new ≡ self.old) }
+    {
+        let at = index_of(&self.placements, id);
+        if at == self.placements.len() {
+            return Err(Absent);
+        }
+        set_aside(
+            &mut self.effective,
+            &mut self.one,
+            &self.base,
+            &mut self.counts,
+            &self.placements,
+            at,
+        );
+        forget_at(&mut self.counts, &self.placements, at);
+        self.links -= links_at(&self.placements, at);
+        take_out(&mut self.placements, at);
+        self.version += 1;
+        Ok(())
+    }
+}

@@ -1,0 +1,192 @@
+//! What placements count on links, kept as sums at the links' keys.
+
+ghost use Rattle.std.specs.Prelude.{◌≡◌, ◌+◌, ◌^◌, ◌<◌, ◌≤◌, ℕ, cond, [], is_some, nat_le, slice_index, IsSome, OnOk};
+ghost use Rattle.std.specs.BTreeMap.{get};
+ghost use Rattle.cspf_model.specs.Database.{key_cmp};
+ghost use Rattle.cspf_book.specs.Kept.{sums_at, sum_at, IsCountOf, AreSmall, IsWithinSums, HasKeys, KeepsKeys, HasSameSums, HasSumsAt, HasMoreAt, HasMoreAlong};
+
+use crate::counting::has_key;
+use crate::placement::Placement;
+use cspf_addr::Addr;
+use cspf_model::Link;
+use std::alloc::{AllocError, Global};
+use std::collections::BTreeMap;
+
+/// At keys of links, the sum of the bandwidths that are counted there at each priority. At other
+/// keys nothing is.
+#[derive(Drop)]
+pub(crate) struct Counts {
+    sums: BTreeMap<(u32, u32), [u128; 8]>,
+}
+
+/// The sums, with the bandwidth added at each priority from `hold` on.
+fn raised(mut sums: [u128; 8], hold: u8, bandwidth: u64) -> [u128; 8]
+    requires { (p : ℕ) → p < 8 → slice_index sums p < 2 ^ 127 }
+    ensures { (p : ℕ) → p < 8
+        → slice_index result p ≡ slice_index sums p + cond (nat_le hold p) bandwidth 0 }
+{
+    for priority in hold..8 {
+        sums[usize::from(priority)] += u128::from(bandwidth);
+    }
+    sums
+}
+
+/// The sums, with the bandwidth taken from each priority from `hold` on.
+fn lowered(mut sums: [u128; 8], hold: u8, bandwidth: u64) -> [u128; 8]
+    requires { (p : ℕ) → p < 8 → cond (nat_le hold p) bandwidth 0 ≤ slice_index sums p }
+    ensures { (p : ℕ) → p < 8
+        → slice_index sums p ≡ slice_index result p + cond (nat_le hold p) bandwidth 0 }
+{
+    for priority in hold..8 {
+        sums[usize::from(priority)] -= u128::from(bandwidth);
+    }
+    sums
+}
+
+impl Counts {
+    /// Nothing is counted. It takes no memory.
+    pub(crate) fn new(alloc: Global) -> Counts
+        ensures { IsCountOf result [] }
+    {
+        Counts {
+            sums: BTreeMap::new(alloc),
+        }
+    }
+
+    /// What is counted on the link with this key at each priority.
+    pub(crate) fn sums(&self, from: Addr, local: Addr) -> [u128; 8]
+        ensures { result ≡ sums_at self.now (from, local) }
+    {
+        match self.sums.get(&(from.number(), local.number())) {
+            Some(sums) => *sums,
+            None => [0; 8],
+        }
+    }
+
+    /// What is counted on the link with this key at a priority.
+    pub(crate) fn sum(&self, from: Addr, local: Addr, priority: u8) -> u128
+        requires { priority < 8 }
+        ensures { result ≡ sum_at self.now (from, local) priority }
+    {
+        let sums = self.sums(from, local);
+        sums[usize::from(priority)]
+    }
+
+    /// Whether there are sums at this key.
+    fn has(&self, from: Addr, local: Addr) -> bool
+        ensures { result ≡ is_some (get key_cmp self.now.sums (from, local)) }
+    {
+        self.sums.contains_key(&(from.number(), local.number()))
+    }
+
+    /// Puts other sums in place of those at this key. It takes no memory.
+    fn put(&mut self, from: Addr, local: Addr, sums: [u128; 8])
+        requires { IsSome (get key_cmp self.old.sums (from, local)) }
+        ensures { HasSumsAt self.old self.new (from, local) sums }
+    {
+        let _ = self.sums.insert((from.number(), local.number()), sums);
+    }
+
+    /// Has places for the sums of these links. Where there were none, they are 0. After an error
+    /// some may be there.
+    pub(crate) fn enter(&mut self, links: &[Link]) -> Result<(), AllocError>
+        ensures sums { HasSameSums self.old self.new }
+        ensures kept { KeepsKeys self.old self.new }
+        ensures keys { OnOk result (HasKeys self.new links.now) }
+    {
+        for link in links {
+            self.enter_one(link.from, link.local)?;
+        }
+        Ok(())
+    }
+
+    /// Has a place for the sums at this key. Where there was none, they are 0.
+    fn enter_one(&mut self, from: Addr, local: Addr) -> Result<(), AllocError>
+        ensures sums { HasSameSums self.old self.new }
+        ensures kept { KeepsKeys self.old self.new }
+        ensures there { OnOk result (IsSome (get key_cmp self.new.sums (from, local))) }
+    {
+        if !self.has(from, local) {
+            self.sums.insert((from.number(), local.number()), [0; 8])?;
+        }
+        Ok(())
+    }
+
+    /// Takes away the sums of these links where nothing is counted at any priority.
+    pub(crate) fn forget(&mut self, links: &[Link])
+        ensures { HasSameSums self.old self.new }
+    {
+        for link in links {
+            self.forget_one(link.from, link.local);
+        }
+    }
+
+    /// Takes away the sums at this key if nothing is counted at any priority.
+    fn forget_one(&mut self, from: Addr, local: Addr)
+        ensures { HasSameSums self.old self.new }
+    {
+        let sums = self.sums(from, local);
+        if sums == [0; 8] {
+            let _ = self.sums.remove(&(from.number(), local.number()));
+        }
+    }
+
+    /// Counts a bandwidth on the link with this key, at each priority from `hold` on. It takes no
+    /// memory.
+    fn raise(&mut self, from: Addr, local: Addr, hold: u8, bandwidth: u64)
+        requires there { IsSome (get key_cmp self.old.sums (from, local)) }
+        requires small { (p : ℕ) → p < 8 → sum_at self.old (from, local) p < 2 ^ 127 }
+        ensures sums { HasMoreAt self.old self.new (from, local) hold bandwidth }
+        ensures kept { KeepsKeys self.old self.new }
+    {
+        let sums = self.sums(from, local);
+        self.put(from, local, raised(sums, hold, bandwidth));
+    }
+
+    /// Counts a bandwidth no more on the link with this key.
+    fn lower(&mut self, from: Addr, local: Addr, hold: u8, bandwidth: u64)
+        requires { (p : ℕ) → p < 8
+            → cond (nat_le hold p) bandwidth 0 ≤ sum_at self.old (from, local) p }
+        ensures sums { HasMoreAt self.new self.old (from, local) hold bandwidth }
+        ensures kept { KeepsKeys self.old self.new }
+    {
+        if self.has(from, local) {
+            let sums = self.sums(from, local);
+            self.put(from, local, lowered(sums, hold, bandwidth));
+        }
+    }
+
+    /// Counts a placement: on each link of its route, once, its bandwidth. It takes no memory.
+    pub(crate) fn add(&mut self, placement: &Placement)
+        requires keys { HasKeys self.old placement.now.route }
+        requires small { AreSmall self.old }
+        ensures sums { HasMoreAlong self.old self.new placement.now.route placement.now.hold
+            placement.now.request.bandwidth }
+        ensures kept { KeepsKeys self.old self.new }
+        ensures narrow { placement.now.request.bandwidth < 2 ^ 64 }
+    {
+        let bandwidth = placement.request.bandwidth;
+        let links = placement.route.links();
+        for (i, link) in links.iter().enumerate() {
+            if !has_key(&links[..i], link.from, link.local) {
+                self.raise(link.from, link.local, placement.hold, bandwidth);
+            }
+        }
+    }
+
+    /// Counts a placement no more. It takes no memory.
+    pub(crate) fn take(&mut self, placement: &Placement)
+        requires { IsWithinSums self.old placement.now }
+        ensures sums { HasMoreAlong self.new self.old placement.now.route placement.now.hold
+            placement.now.request.bandwidth }
+        ensures kept { KeepsKeys self.old self.new }
+    {
+        let bandwidth = placement.request.bandwidth;
+        let links = placement.route.links();
+        for (i, link) in links.iter().enumerate() {
+            if !has_key(&links[..i], link.from, link.local) {
+                self.lower(link.from, link.local, placement.hold, bandwidth);
+            }
+        }
+    }
+}

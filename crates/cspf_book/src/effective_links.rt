@@ -1,0 +1,159 @@
+//! The effective links, and the table of them, which is kept up to date link by link.
+
+ghost use Rattle.std.specs.Prelude.{◌≡◌, ◌-◌, ◌<◌, min, List, length, slice_index};
+ghost use Rattle.std.specs.Option.{option_map};
+ghost use Rattle.cspf_model.specs.declared.batch.Change.TheVariants.{Put};
+ghost use Rattle.cspf_model.specs.Database.{key_of, link_at};
+ghost use Rattle.cspf_model.specs.Fields.{HasLinkFields, fields_of_link};
+ghost use Rattle.cspf_model.specs.Changes.{after_change};
+ghost use Rattle.cspf_book.specs.declared.placement.Placement.{Placement as Placed};
+ghost use Rattle.cspf_book.specs.Placements.{ends_of_link};
+ghost use Rattle.cspf_book.specs.Effective.{effective, effective_link};
+ghost use Rattle.cspf_book.specs.Alike.{AreAlike, IsCurrentBut, IsCurrentButPut, IsCurrentNowAt, IsWithinLimits};
+ghost use Rattle.cspf_book.specs.Kept.{IsCountOf};
+
+use crate::counts::Counts;
+use cspf_addr::Addr;
+use cspf_db::Table;
+use cspf_model::{Batch, Change, Link};
+
+/// What is left of a link's bandwidth at a priority where this much is counted at each.
+fn left(link: &Link, sums: [u128; 8], priority: u8) -> u64
+    requires { priority < 8 }
+    ensures { result ≡ slice_index link.now.free priority - slice_index sums priority }
+{
+    let held = sums[usize::from(priority)];
+    let free = link.free[usize::from(priority)];
+    u128::from(free).saturating_sub(held) as u64
+}
+
+/// The lesser of what is left at a priority and the figure before it.
+fn lesser(link: &Link, sums: [u128; 8], priority: u8, least: u64) -> u64
+    requires { priority < 8 }
+    ensures { result ≡ min least (slice_index link.now.free priority - slice_index sums priority) }
+{
+    let figure = left(link, sums, priority);
+    if figure < least { figure } else { least }
+}
+
+/// The link with what is left of its bandwidths by what is counted.
+fn effective_link(counts: &Counts, link: &Link) -> Link
+    ensures effective { (placements : List Placed) → IsCountOf counts.now placements
+        → result ≡ effective_link placements link.now }
+    ensures ends { ends_of_link result ≡ ends_of_link link.now }
+{
+    let sums = counts.sums(link.from, link.local);
+    let first = left(link, sums, 0);
+    let second = lesser(link, sums, 1, first);
+    let third = lesser(link, sums, 2, second);
+    let fourth = lesser(link, sums, 3, third);
+    let fifth = lesser(link, sums, 4, fourth);
+    let sixth = lesser(link, sums, 5, fifth);
+    let seventh = lesser(link, sums, 6, sixth);
+    let eighth = lesser(link, sums, 7, seventh);
+    with_free(
+        link,
+        [first, second, third, fourth, fifth, sixth, seventh, eighth],
+    )
+}
+
+/// The link with other bandwidths.
+fn with_free(link: &Link, free: [u64; 8]) -> Link
+    ensures { HasLinkFields result (record (fields_of_link link.now) { free = free }) }
+{
+    Link {
+        from: link.from,
+        local: link.local,
+        to: link.to,
+        remote: link.remote,
+        metric: link.metric,
+        group: link.group,
+        free,
+    }
+}
+
+/// What holds of the database of a table.
+pub(crate) fn within_limits(table: &Table)
+    ensures { IsWithinLimits table.now }
+{
+    let _ = table.links();
+    let _ = table.marks();
+}
+
+/// Puts a link in place of one with its key that runs to the same router. It takes no memory.
+fn put_over(table: &mut Table, one: &mut Batch, link: Link)
+    requires one { length one.old.changes ≡ 1 }
+    requires there { option_map ends_of_link (link_at table.old (key_of link)) ≡ Some (ends_of_link link) }
+    ensures put { table.new ≡ after_change table.old (Put link) }
+    ensures one { length one.new.changes ≡ 1 }
+{
+    within_limits(table);
+    one.changes[0] = Change::Put(link);
+    table.absorb(one);
+}
+
+/// Brings the effective link with this key up to date.
+fn refresh(
+    table: &mut Table,
+    one: &mut Batch,
+    base: &Table,
+    counts: &Counts,
+    from: Addr,
+    local: Addr,
+)
+    requires one { length one.old.changes ≡ 1 }
+    requires alike { AreAlike base.now table.old }
+    ensures one { length one.new.changes ≡ 1 }
+    ensures alike { AreAlike base.now table.new }
+    ensures at { (placements : List Placed) → IsCountOf counts.now placements
+        → IsCurrentNowAt base.now placements table.old table.new (from, local) }
+{
+    within_limits(base);
+    if let Some(link) = base.find(from, local) {
+        put_over(table, one, effective_link(counts, &link));
+    }
+}
+
+/// Brings the effective links with the keys of these links up to date, and so the whole table,
+/// where all others are.
+pub(crate) fn refresh_links(
+    table: &mut Table,
+    one: &mut Batch,
+    base: &Table,
+    counts: &Counts,
+    links: &[Link],
+)
+    requires one { length one.old.changes ≡ 1 }
+    requires alike { AreAlike base.now table.old }
+    ensures one { length one.new.changes ≡ 1 }
+    ensures current { (placements : List Placed) → IsCountOf counts.now placements
+        → IsCurrentBut base.now placements table.old links.now
+        → table.new ≡ effective base.now placements }
+{
+    for link in links {
+        refresh(table, one, base, counts, link.from, link.local);
+    }
+}
+
+/// Brings the effective links up to date that changes put, and so the whole table, where all others
+/// are.
+pub(crate) fn refresh_puts(
+    table: &mut Table,
+    one: &mut Batch,
+    base: &Table,
+    counts: &Counts,
+    changes: &[Change],
+)
+    requires one { length one.old.changes ≡ 1 }
+    requires alike { AreAlike base.now table.old }
+    ensures one { length one.new.changes ≡ 1 }
+    ensures current { (placements : List Placed) → IsCountOf counts.now placements
+        → IsCurrentButPut base.now placements table.old changes.now
+        → table.new ≡ effective base.now placements }
+{
+    for change in changes {
+        if let Change::Put(link) = change {
+            refresh(table, one, base, counts, link.from, link.local);
+        }
+    }
+}

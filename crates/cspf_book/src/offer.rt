@@ -1,0 +1,118 @@
+//! What a request is offered: the best answer and, where it is a route that may be placed, the
+//! placement.
+
+ghost use Rattle.std.specs.Prelude.{◌≡◌, ◌↔◌, ◌<◌, ◌≤◌, IfOk, IfErr, IfSome, IsTrue, length};
+ghost use Rattle.cspf_model.specs.Best.{IsBestAnswer, route};
+ghost use Rattle.cspf_model.specs.Database.{HaveOwnKeys};
+ghost use Rattle.cspf_model.specs.Outcome.{answer_of};
+ghost use Rattle.cspf_book.specs.BookState.{IsPlacementOf};
+ghost use Rattle.cspf_book.specs.Offers.{IsOffered, IsWalkRefused, IsOfferRefused};
+ghost use Rattle.cspf_book.specs.Kept.{HasSameSums, KeepsKeys, HasKeys};
+
+use crate::counting::has_key;
+use crate::counts::Counts;
+use crate::error::PlaceError;
+use crate::placement::Placement;
+use cspf_db::Table;
+use cspf_model::{Link, Outcome, Request, Route};
+use cspf_search::best;
+use std::alloc::{AllocError, Global};
+
+/// Whether no two of the links have one key.
+pub(crate) fn has_own_keys(links: &[Link]) -> bool
+    ensures { IsTrue result ↔ HaveOwnKeys links.now }
+{
+    for (i, link) in links.iter().enumerate() {
+        if has_key(&links[i + 1..], link.from, link.local) {
+            return false;
+        }
+    }
+    true
+}
+
+/// A route along the same links.
+fn copy_of(alloc: Global, route: &Route) -> Result<Route, AllocError>
+    ensures { IfOk result (λ copy. copy ≡ route.now) }
+{
+    let links = Vec::from_slice(alloc, route.links())?;
+    Ok(Route::new(links, route.cost()))
+}
+
+/// The placement of a request along a route, where there is room for that many links.
+fn placement_on(
+    alloc: Global,
+    route: &Route,
+    request: &Request,
+    hold: u8,
+    room: usize,
+) -> Result<Placement, PlaceError>
+    requires { hold < 8 }
+    ensures own_keys { IfOk result (λ p. HaveOwnKeys route.now) }
+    ensures placement { IfOk result (λ p. IsPlacementOf request.now hold route.now p) }
+    ensures room { IfOk result (λ p. length route.now ≤ room) }
+    ensures refused { IfErr result (λ why. IsWalkRefused room route.now why) }
+{
+    if !has_own_keys(route.links()) {
+        return Err(PlaceError::Twice);
+    }
+    if route.links().len() > room {
+        return Err(PlaceError::TooManyLinks);
+    }
+    Ok(Placement {
+        request: *request,
+        hold,
+        route: copy_of(alloc, route)?,
+    })
+}
+
+/// The best answer to a request in the table's database and, where it is a route that may be
+/// placed, its placement, where there is room for that many links.
+fn offer(
+    alloc: Global,
+    table: &Table,
+    request: &Request,
+    hold: u8,
+    room: usize,
+) -> Result<(Outcome, Option<Placement>), PlaceError>
+    requires { hold < 8 }
+    ensures best { IfOk result (λ offered. IsBestAnswer table.now request.now (answer_of offered.0)) }
+    ensures placement { IfOk result (λ offered.
+        IsOffered request.now hold room (answer_of offered.0) offered.1) }
+    ensures refused { IfErr result (λ why. IsOfferRefused table.now request.now room why) }
+{
+    match best(alloc, table, request)? {
+        Outcome::Route(route) => {
+            let placement = placement_on(alloc, &route, request, hold, room)?;
+            Ok((Outcome::Route(route), Some(placement)))
+        }
+        other => Ok((other, None)),
+    }
+}
+
+/// What `offer` answers, with places for the sums of the offered placement's links. The sums stay.
+pub(crate) fn offer_counted(
+    alloc: Global,
+    table: &Table,
+    counts: &mut Counts,
+    request: &Request,
+    hold: u8,
+    room: usize,
+) -> Result<(Outcome, Option<Placement>), PlaceError>
+    requires { hold < 8 }
+    ensures best { IfOk result (λ offered. IsBestAnswer table.now request.now (answer_of offered.0)) }
+    ensures placement { IfOk result (λ offered.
+        IsOffered request.now hold room (answer_of offered.0) offered.1) }
+    ensures refused { IfErr result (λ why. IsOfferRefused table.now request.now room why) }
+    ensures sums { HasSameSums counts.old counts.new }
+    ensures kept { KeepsKeys counts.old counts.new }
+    ensures keys { IfOk result (λ offered. IfSome offered.1 (λ p. HasKeys counts.new p.route)) }
+{
+    let (outcome, offered) = offer(alloc, table, request, hold, room)?;
+    match offered {
+        Some(placement) => {
+            counts.enter(placement.route.links())?;
+            Ok((outcome, Some(placement)))
+        }
+        None => Ok((outcome, None)),
+    }
+}

@@ -1,0 +1,195 @@
+-- What is counted stays covered until the next base batch, and later wherever no `over` line was written.
+use Rattle.std.proofs.Common.{◌≡◌, ◌⊎◌, ℕ, zero, suc, ◌+◌, ◌<◌, ◌≤◌, List, [], ◌∷◌, ◌++◌, Result, Ok, Err, IfOk, inl, inr, sym, ap, subst, ◌∙◌, append_assoc, arith}
+use Rattle.std.specs.List.{Contains, flat_map}
+use Rattle.cspf_model.specs.Best.{Answer, unknown_from, unknown_to, no_route, route, IsBestAnswer}
+use Rattle.cspf_model.specs.Walks.{IsWalk}
+use Rattle.cspf_model.specs.Database.{IsLinkOf}
+use Rattle.cspf_model.specs.declared.link.Link.{Link}
+use Rattle.cspf_model.specs.declared.request.Request.{Request}
+use Rattle.cspf_rows.specs.declared.row_error.RowError.{RowError}
+use Rattle.cspf_stream.specs.RowAnswers.{AreAnswered}
+use Rattle.cspf_stream.specs.Steps.{step_of}
+use Rattle.cspf_stream.specs.declared.step.Step.{Step}
+use Rattle.cspf_stream.specs.declared.step.Step.TheVariants as step
+use Rattle.cspf_book.specs.declared.placement.Placement.{Placement}
+use Rattle.cspf_book.specs.Placements.{others}
+use Rattle.cspf_book.specs.Effective.{effective}
+use Rattle.cspf_book.specs.BookState.{BookState, effective_beside, IsAnswerPlaced}
+use Rattle.cspf_book.specs.declared.over.Over.{Over}
+use Rattle.cspf_book.specs.OverLinks.{over, over_at}
+use Rattle.cspf_book.specs.Laws.{IsCovered, PlacingKeepsCovered, ReleasingKeepsCovered, AbsorbingKeepsCovered}
+use Rattle.cspf_book_run.specs.declared.book_row.BookRow.{BookRow}
+use Rattle.cspf_book_run.specs.declared.book_row.BookRow.TheVariants as book_row
+use Rattle.cspf_book_run.specs.BookRows.{book_row_of}
+use Rattle.cspf_book_run.specs.BookLines.{over_line, lost_line, base_line}
+use Rattle.cspf_book_run.specs.BookScript.{BookRunState, book_start, book_answers, after_base_batch, AreBaseLines, IsBookStepAnswered, IsBookRowAnswered}
+use Rattle.cspf_book_run.specs.BookScriptLaws.{IsBookCovered, IsSaidOver, RowsKeepCovered, RowsCoverOrSay}
+use Rattle.cspf_book_run.specs.BookStates.{IsReadable}
+use Rattle.cspf_book_run.proofs.BookRowLemmas.{readable_row}
+
+-- the laws of what is covered that this rests on
+pub record KeepCovered : Type 0 where
+  pub placing : PlacingKeepsCovered
+  pub releasing : ReleasingKeepsCovered
+  pub absorbing : AbsorbingKeepsCovered
+
+-- at the start nothing is counted
+pub covered_at_first : IsBookCovered book_start.book
+covered_at_first l priority there below = omega arith
+
+-- the link is covered where the base has it, or this holds
+abbrev CoveredOr : Type 0 → BookState → Link → ℕ → Type 0
+CoveredOr X b l priority = IsLinkOf b.base l → IsCovered b.placements l priority ⊎ X
+
+-- ---- where a line is among others
+
+-- a part after others is a part of all
+later_part : (first before m after : List ℕ) → first ++ (before ++ m ++ after) ≡ first ++ before ++ m ++ after
+later_part first before m after = sym (append_assoc first (before ++ m) after) ∙ ap (λ (z : List ℕ). z ++ after) (sym (append_assoc first before m))
+
+said_among : (xs : List Over) (x : Over) → Contains xs x
+    → (before : List ℕ) × (after : List ℕ) × (flat_map over_line xs ≡ before ++ over_line x ++ after)
+said_among [] x (k, within, is) = absurd (omega arith)
+said_among (y ∷ ys) x (zero, within, is) = ([], flat_map over_line ys, ap (λ (z : Over). over_line z ++ flat_map over_line ys) is)
+said_among (y ∷ ys) x (suc k, within, is) =
+    let rest = said_among ys x (k, omega arith, is) in
+    (over_line y ++ rest.0, rest.1, ap (λ (z : List ℕ). over_line y ++ z) rest.2 ∙ later_part (over_line y) rest.0 (over_line x) rest.1)
+
+module _ (l : Link) (priority : ℕ) where
+  abbrev text : List ℕ
+  text = over_line (over_at l priority)
+
+  -- a line that is among some is so before others
+  said_first : (lines first second : List ℕ) → lines ≡ first ++ second → IsSaidOver first l priority → IsSaidOver lines l priority
+  said_first lines first second split (before, after, is) = (
+    before,
+    after ++ second,
+    split ∙ ap (λ (z : List ℕ). z ++ second) is ∙ append_assoc (before ++ text) after second,
+  )
+
+  -- and after others
+  said_second : (lines first second : List ℕ) → lines ≡ first ++ second → IsSaidOver second l priority → IsSaidOver lines l priority
+  said_second lines first second split (before, after, is) = (
+    first ++ before,
+    after,
+    split ∙ ap (λ (z : List ℕ). first ++ z) is ∙ later_part first before text after,
+  )
+
+  -- ---- what rows do to the link
+
+  -- What rows do: a link that isn't covered afterwards wasn't before, or they accept a base batch and say so.
+  pub record KeepsCover (s t : BookRunState) (lines : List ℕ) : Type 1 where
+    pub batches : s.batches ≤ t.batches
+    pub cover : (X : Type 0) → CoveredOr X s.book l priority
+        → CoveredOr (X ⊎ ((s.batches < t.batches) × IsSaidOver lines l priority)) t.book l priority
+
+  -- where no base batch is accepted
+  kept : (s t : BookRunState) (lines : List ℕ) → t.batches ≡ s.batches
+      → ((X : Type 0) → CoveredOr X s.book l priority → CoveredOr X t.book l priority) → KeepsCover s t lines
+  kept s t lines batches keeps = record {
+    batches = omega (arith, batches);
+    cover = λ X covered there. elim (keeps X covered there) [ inl c ↦ inl c | inr x ↦ inr (inl x) ];
+  }
+
+  -- the book stays
+  stays : (s t : BookRunState) (lines : List ℕ) → t.batches ≡ s.batches → t.book ≡ s.book → KeepsCover s t lines
+  stays s t lines batches book = kept s t lines batches (λ X covered. subst (λ (b : BookState). CoveredOr X b l priority) (sym book) covered)
+
+  module _ (laws : KeepCovered) (below : priority < 8) where
+    -- a placing keeps covered what is covered
+    placing_covers : (old new : BookState) (q : Request) (hold : ℕ) (answer : Answer) → q.setup ≡ 7
+        → IsBestAnswer (effective_beside old q.id) q answer → IsAnswerPlaced old q hold answer new
+        → (X : Type 0) → CoveredOr X old l priority → CoveredOr X new l priority
+    placing_covers old new q hold unknown_from lowest best is X covered = subst (λ (b : BookState). CoveredOr X b l priority) (sym is) covered
+    placing_covers old new q hold unknown_to lowest best is X covered = subst (λ (b : BookState). CoveredOr X b l priority) (sym is) covered
+    placing_covers old new q hold no_route lowest best is X covered = subst (λ (b : BookState). CoveredOr X b l priority) (sym is) covered
+    placing_covers old new q hold (route walk) lowest best is X covered = λ there.
+        let p : Placement = is.placement in
+        let same = is.is_its.request in
+        let of_q : IsWalk (effective old.base (others q.id old.placements)) q walk = best.1.is_route.is_walk in
+        let of_p : IsWalk (effective old.base (others p.request.id old.placements)) p.request walk =
+        subst (λ (x : Request). IsWalk (effective old.base (others x.id old.placements)) x walk) (sym same) of_q in
+        let along : IsWalk (effective old.base (others p.request.id old.placements)) p.request p.route =
+        subst (λ (w : List Link). IsWalk (effective old.base (others p.request.id old.placements)) p.request w) (sym is.is_its.route) of_p in
+        let there_before = rw is.base at there in
+        elim (covered there_before) [
+          | inl c ↦
+              let more = laws.placing old.base old.placements p (ap (λ (x : Request). x.setup) same ∙ lowest) along l priority there_before below c in
+              inl (subst (λ (ps : List Placement). IsCovered ps l priority) (ap (λ (x : Request). others x.id old.placements ++ p ∷ []) same ∙ sym is.placements) more)
+          | inr x ↦ inr x
+        ]
+
+    -- changes of the base keep covered what is covered, or say so
+    absorbing_covers : (s t : BookRunState) (number : ℕ) (line : List ℕ) → AreBaseLines s number line → t ≡ after_base_batch s → KeepsCover s t line
+    absorbing_covers s t number line (ids, lost, is) after = rw after (record {
+      batches = omega arith;
+      cover = λ X covered there. elim (laws.absorbing s.book.base s.book.placements s.changes l priority there below) [
+        | inl was ↦ elim (covered was) [ inl c ↦ inl c | inr x ↦ inr (inl x) ]
+        | inr after ↦ elim after [
+          | inl c ↦ inl c
+          | inr named ↦
+              let said = said_among (over s.book.placements s.changes) (over_at l priority) named in
+              let first : List ℕ = flat_map over_line (over s.book.placements s.changes) in
+              let second : List ℕ = flat_map lost_line ids in
+              let third : List ℕ = base_line number (s.book.version + 1) in
+              inr (inr (omega arith, said_first line first (second ++ third) (is ∙ append_assoc first second third) said))
+        ]
+      ];
+    })
+
+    step_covers : (s t : BookRunState) (row : Step) (line : List ℕ) → IsBookStepAnswered s row line t → KeepsCover s t line
+    step_covers s t (step.Change c) line a = stays s t line (ap (λ (x : BookRunState). x.batches) a.1) (ap (λ (x : BookRunState). x.book) a.1)
+    step_covers s t (step.Ask q) line a = stays s t line (ap (λ (x : BookRunState). x.batches) a.3) (ap (λ (x : BookRunState). x.book) a.3)
+    step_covers s t (step.End number count) line (inl (accepted, lines, after)) = absorbing_covers s t number line lines after
+    step_covers s t (step.End number count) line (inr (why, unaccepted, is, line_is, after)) =
+        stays s t line (ap (λ (x : BookRunState). x.batches) after) (ap (λ (x : BookRunState). x.book) after)
+
+    row_covers : (place : ℕ) (s t : BookRunState) (r : Result BookRow RowError) (line : List ℕ)
+        → IfOk r IsReadable → IsBookRowAnswered place s r line t → KeepsCover s t line
+    row_covers place s t (Err error) line readable a = stays s t line (ap (λ (x : BookRunState). x.batches) a.1) (ap (λ (x : BookRunState). x.book) a.1)
+    row_covers place s t (Ok (book_row.Base row)) line readable a = step_covers s t (step_of row) line a
+    row_covers place s t (Ok (book_row.Place q hold)) line readable (inl (x, after)) =
+        kept s t line (ap (λ (y : BookRunState). y.batches) after) (placing_covers s.book t.book q hold x.answer readable.0 x.best x.placed)
+    row_covers place s t (Ok (book_row.Place q hold)) line readable (inr (why, is, line_is, after)) =
+        stays s t line (ap (λ (x : BookRunState). x.batches) after) (ap (λ (x : BookRunState). x.book) after)
+    row_covers place s t (Ok (book_row.Release id)) line readable (inl (room, has, line_is, after)) =
+        let book = ap (λ (x : BookRunState). x.book) after in
+        kept s t line (ap (λ (x : BookRunState). x.batches) after) (λ X covered. subst (λ (b : BookState). CoveredOr X b l priority) (sym book)
+        (λ there. elim (covered there) [ inl c ↦ inl (laws.releasing s.book.placements id l priority c) | inr x ↦ inr x ]))
+    row_covers place s t (Ok (book_row.Release id)) line readable (inr (why, is, line_is, after)) =
+        stays s t line (ap (λ (x : BookRunState). x.batches) after) (ap (λ (x : BookRunState). x.book) after)
+
+    rows_cover : (place : ℕ) (s t : BookRunState) (rows : List (List (List ℕ))) (lines : List ℕ)
+        → AreAnswered book_answers place s rows lines t → KeepsCover s t lines
+    unfolding AreAnswered
+    rows_cover place s t [] lines a = stays s t lines (ap (λ (x : BookRunState). x.batches) a.1) (ap (λ (x : BookRunState). x.book) a.1)
+    rows_cover place s t (fields ∷ rows) lines a =
+        let first = row_covers place s a.1 (book_row_of fields) a.0 (readable_row fields) a.3 in
+        let rest = rows_cover (suc place) a.1 t rows a.2 a.5 in
+        record {
+          batches = omega (arith, first.batches, rest.batches);
+          cover = λ X covered there. elim (rest.cover (X ⊎ ((s.batches < a.1.batches) × IsSaidOver a.0 l priority)) (first.cover X covered) there) [
+            | inl c ↦ inl c
+            | inr other ↦ elim other [
+              | inl before ↦ elim before [
+                | inl x ↦ inr (inl x)
+                | inr said ↦ inr (inr (omega (arith, said.0, rest.batches), said_first lines a.0 a.2 a.4 said.1))
+              ]
+              | inr said ↦ inr (inr (omega (arith, said.0, first.batches), said_second lines a.0 a.2 a.4 said.1))
+            ]
+          ];
+        }
+
+pub rows_keep_covered : KeepCovered → RowsKeepCovered
+rows_keep_covered laws place s t rows lines a same covered = λ l priority there below.
+    elim ((rows_cover l priority laws below place s t rows lines a).cover ⊥ (λ was. inl (covered l priority was below)) there) [
+      | inl c ↦ c
+      | inr other ↦ elim other [ inl none ↦ absurd none | inr said ↦ absurd (omega (arith, said.0, same)) ]
+    ]
+
+pub rows_cover_or_say : KeepCovered → RowsCoverOrSay
+rows_cover_or_say laws place s t rows lines a covered l priority there below =
+    elim ((rows_cover l priority laws below place s t rows lines a).cover ⊥ (λ was. inl (covered l priority was below)) there) [
+      | inl c ↦ inl c
+      | inr other ↦ elim other [ inl none ↦ absurd none | inr said ↦ inr said.1 ]
+    ]

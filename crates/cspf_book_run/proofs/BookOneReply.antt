@@ -1,0 +1,206 @@
+-- Rows to a book are answered in one way.
+use Rattle.std.proofs.Common.{◌≡◌, ℕ, suc, ◌<◌, ◌++◌, List, [], ◌∷◌, take, drop, IsTrue, Result, Ok, Err, inl, inr, refl, sym, ap, subst, ◌∙◌, codes, arith}
+use Rattle.std.proofs.Math.Bridge.{le_prop}
+use Rattle.cspf_model.specs.Best.{Answer, unknown_from, unknown_to, no_route, route, IsBestAnswer}
+use Rattle.cspf_model.specs.Database.{HaveOwnKeys}
+use Rattle.cspf_model.specs.Laws.{OneBestAnswer, OneRefusal}
+use Rattle.cspf_model.specs.declared.link.Link.{Link}
+use Rattle.cspf_model.specs.declared.request.Request.{Request}
+use Rattle.cspf_ero.specs.ReplyLine.{HasOneReplyLine}
+use Rattle.cspf_rows.specs.declared.row_error.RowError.{RowError}
+use Rattle.cspf_stream.specs.RowAnswers.{AreAnswered}
+use Rattle.cspf_stream.specs.Steps.{step_of}
+use Rattle.cspf_stream.specs.declared.step.Step.{Step}
+use Rattle.cspf_stream.specs.declared.step.Step.TheVariants as step
+use Rattle.cspf_stream.specs.declared.batch_refusal.BatchRefusal.{BatchRefusal}
+use Rattle.cspf_stream.specs.declared.batch_refusal.BatchRefusal.TheVariants as refusal
+use Rattle.cspf_book.specs.declared.placement.Placement.{Placement}
+use Rattle.cspf_book.specs.Placements.{has_id}
+use Rattle.cspf_book.specs.BookState.{BookState, effective_beside, IsAnswerPlaced, IsPlacedAlong, IsPlacementOf}
+use Rattle.cspf_book_run.specs.declared.book_row.BookRow.{BookRow}
+use Rattle.cspf_book_run.specs.declared.book_row.BookRow.TheVariants as book_row
+use Rattle.cspf_book_run.specs.declared.refusals.PlaceRefusal.{PlaceRefusal}
+use Rattle.cspf_book_run.specs.declared.refusals.PlaceRefusal.TheVariants as unplaced
+use Rattle.cspf_book_run.specs.declared.refusals.ReleaseRefusal.{ReleaseRefusal}
+use Rattle.cspf_book_run.specs.declared.refusals.ReleaseRefusal.TheVariants as unreleased
+use Rattle.cspf_book_run.specs.BookLines.{IsPlaceReply}
+use Rattle.cspf_book_run.specs.BookRows.{book_row_of}
+use Rattle.cspf_book_run.specs.BookScript.{BookRunState, book_start, book_answers, open_base_batch, after_answer, IsBaseRefusal, IsBaseEndAnswered, IsAskAnswered, IsPlaceRefusal, IsPlaceAnswered, IsPlaceTaken, IsReleaseRefusal, IsReleaseTaken, IsBookStepAnswered, IsBookRowAnswered}
+use Rattle.cspf_book_run.specs.BookScriptLaws.{BooksHaveOneReply}
+use Rattle.cspf_book_run.proofs.LostOnce.{lost_once}
+
+abbrev pub SameBookReply : List ℕ → BookRunState → List ℕ → BookRunState → Type 0
+SameBookReply l s m t = (l ≡ m) × (s ≡ t)
+
+refusal_once : OneRefusal → (s : BookRunState) (number count : ℕ) (why other : BatchRefusal)
+    → IsBaseRefusal s number count why → IsBaseRefusal s number count other → why ≡ other
+refusal_once one s number count refusal.Stopped other a b = absurd a
+refusal_once one s number count refusal.Memory other a b = absurd a
+refusal_once one s number count (refusal.Journal written) other a b = absurd a
+refusal_once one s number count why refusal.Stopped a b = absurd b
+refusal_once one s number count why refusal.Memory a b = absurd b
+refusal_once one s number count why (refusal.Journal written) a b = absurd b
+refusal_once one s number count refusal.Exhausted refusal.Exhausted a b = refl
+refusal_once one s number count refusal.Exhausted (refusal.WrongNumber e) a b = absurd (omega (arith, a, b.0))
+refusal_once one s number count refusal.Exhausted (refusal.WrongCount k) a b = absurd (omega (arith, a, b.0))
+refusal_once one s number count refusal.Exhausted (refusal.Unfit w) a b = absurd (omega (arith, a, b.0))
+refusal_once one s number count (refusal.WrongNumber e) refusal.Exhausted a b = absurd (omega (arith, a.0, b))
+refusal_once one s number count (refusal.WrongNumber e) (refusal.WrongNumber f) a b = ap refusal.WrongNumber (a.2 ∙ sym b.2)
+refusal_once one s number count (refusal.WrongNumber e) (refusal.WrongCount k) a b = absurd (a.1 b.1)
+refusal_once one s number count (refusal.WrongNumber e) (refusal.Unfit w) a b = absurd (a.1 b.1)
+refusal_once one s number count (refusal.WrongCount k) refusal.Exhausted a b = absurd (omega (arith, a.0, b))
+refusal_once one s number count (refusal.WrongCount k) (refusal.WrongNumber e) a b = absurd (b.1 a.1)
+refusal_once one s number count (refusal.WrongCount k) (refusal.WrongCount l) a b = ap refusal.WrongCount (a.3 ∙ sym b.3)
+refusal_once one s number count (refusal.WrongCount k) (refusal.Unfit w) a b = absurd (a.2 b.2)
+refusal_once one s number count (refusal.Unfit w) refusal.Exhausted a b = absurd (omega (arith, a.0, b))
+refusal_once one s number count (refusal.Unfit w) (refusal.WrongNumber e) a b = absurd (b.1 a.1)
+refusal_once one s number count (refusal.Unfit w) (refusal.WrongCount k) a b = absurd (b.2 a.2)
+refusal_once one s number count (refusal.Unfit w) (refusal.Unfit v) a b =
+    ap refusal.Unfit (one s.book.base (open_base_batch s number) w v a.3 b.3)
+
+end_once : OneRefusal → (s : BookRunState) (number count : ℕ) (l m : List ℕ) (t u : BookRunState)
+    → IsBaseEndAnswered s number count l t → IsBaseEndAnswered s number count m u → SameBookReply l t m u
+end_once one s number count l m t u (inl (a, (ids, lost, line), after)) (inl (b, (others, lost2, line2), after2)) =
+    let same = lost_once _ _ s.book.placements ids others lost lost2 in
+    (line ∙ rw same (sym line2), after ∙ sym after2)
+end_once one s number count l m t u (inl a) (inr b) = absurd (b.1 a.0)
+end_once one s number count l m t u (inr a) (inl b) = absurd (a.1 b.0)
+end_once one s number count l m t u (inr a) (inr b) =
+    (a.3 ∙ rw (refusal_once one s number count a.0 b.0 a.2 b.2) (sym b.3), a.4 ∙ sym b.4)
+
+ask_once : OneBestAnswer → HasOneReplyLine → (s : BookRunState) (q : Request) (l m : List ℕ) (t u : BookRunState)
+    → IsAskAnswered s q l t → IsAskAnswered s q m u → SameBookReply l t m u
+ask_once best reply s q l m t u a b =
+    let same : a.0 ≡ b.0 = best _ q a.0 b.0 a.1 b.1 in
+    (reply q.id _ b.0 l m (rw same at a.2) b.2, a.3 ∙ sym b.3)
+
+-- ---- placings
+
+-- placements of the same parts
+abbrev made : (q : Request) (hold : ℕ) (walk : List Link) → hold < 8 → Placement
+made q hold walk below = record { request = q; hold = hold; route = walk; priority = below }
+
+placement_once : (q : Request) (hold : ℕ) (walk : List Link) (p r : Placement) → IsPlacementOf q hold walk p → IsPlacementOf q hold walk r → p ≡ r
+placement_once q hold walk p r a b =
+    let holds : p.hold ≡ r.hold = a.hold ∙ sym b.hold in
+    let same : (below : r.hold < 8) → made p.request p.hold p.route p.priority ≡ made p.request r.hold p.route below =
+    subst (λ h. (below : h < 8) → made p.request p.hold p.route p.priority ≡ made p.request h p.route below) holds
+    (λ below. ap (made p.request p.hold p.route) (le_prop p.priority below)) in
+    same r.priority
+    ∙ ap (λ (x : Request). made x r.hold p.route r.priority) (a.request ∙ sym b.request)
+    ∙ ap (λ (w : List Link). made r.request r.hold w r.priority) (a.route ∙ sym b.route)
+
+same_book : (a b : BookState) → a.base ≡ b.base → a.version ≡ b.version → a.placements ≡ b.placements → a ≡ b
+same_book a b base version placements = λ i. record { base = base i; version = version i; placements = placements i }
+
+book_once : (old : BookState) (q : Request) (hold : ℕ) (answer : Answer) (a b : BookState) → IsAnswerPlaced old q hold answer a → IsAnswerPlaced old q hold answer b → a ≡ b
+book_once old q hold unknown_from a b x y = x ∙ sym y
+book_once old q hold unknown_to a b x y = x ∙ sym y
+book_once old q hold no_route a b x y = x ∙ sym y
+book_once old q hold (route walk) a b x y =
+    let one = placement_once q hold walk x.placement y.placement x.is_its y.is_its in
+    same_book a b (x.base ∙ sym y.base) (x.version ∙ sym y.version) (x.placements ∙ rw one (sym y.placements))
+
+place_reply_once : HasOneReplyLine → (id version : ℕ) (answer : Answer) (l m : List ℕ) → IsPlaceReply id version answer l → IsPlaceReply id version answer m → l ≡ m
+place_reply_once reply id version answer l m (rest, is, line) (rest2, is2, line2) =
+    let same = reply id version answer (codes "ask" ++ rest) (codes "ask" ++ rest2) is is2 in
+    let rests : rest ≡ rest2 = ap (drop 3) same in
+    line ∙ rw rests (sym line2)
+
+-- an answered request isn't refused
+module _ (best : OneBestAnswer) (s : BookRunState) (q : Request) (hold : ℕ) where
+  -- the answer is another one than this route, or it is placed
+  other_answer : (l : List ℕ) (book : BookState) (a : IsPlaceAnswered s q hold l book) (walk : List Link) → IsBestAnswer (effective_beside s.book q.id) q (route walk) → IsPlacedAlong s.book q hold walk book
+  other_answer l book a walk is = subst (λ (x : Answer). IsAnswerPlaced s.book q hold x book) (best _ q a.answer (route walk) a.best is) a.placed
+
+  not_refused : (l : List ℕ) (book : BookState) → IsPlaceAnswered s q hold l book → (why : PlaceRefusal) → IsPlaceRefusal s q why → ⊥
+  not_refused l book a unplaced.Exhausted r = omega (arith, a.room, r)
+  not_refused l book a unplaced.Full (room, full) = omega (arith, a.few, full)
+  not_refused l book a unplaced.Links (room, (few, walk, is, own, many)) = let placed = other_answer l book a walk is in omega (arith, placed.few_links, many)
+  not_refused l book a unplaced.Twice (room, (few, walk, is, twice)) = twice (other_answer l book a walk is).own_keys
+
+  walk_once : (walk other : List Link) → IsBestAnswer (effective_beside s.book q.id) q (route walk) → IsBestAnswer (effective_beside s.book q.id) q (route other) → walk ≡ other
+  walk_once walk other a b = let same : route walk ≡ route other = best _ q (route walk) (route other) a b in cc
+
+  place_refusal_once : (why other : PlaceRefusal) → IsPlaceRefusal s q why → IsPlaceRefusal s q other → why ≡ other
+  place_refusal_once unplaced.Exhausted unplaced.Exhausted a b = refl
+  place_refusal_once unplaced.Exhausted unplaced.Full a b = absurd (omega (arith, a, b.0))
+  place_refusal_once unplaced.Exhausted unplaced.Links a b = absurd (omega (arith, a, b.0))
+  place_refusal_once unplaced.Exhausted unplaced.Twice a b = absurd (omega (arith, a, b.0))
+  place_refusal_once unplaced.Full unplaced.Exhausted a b = absurd (omega (arith, a.0, b))
+  place_refusal_once unplaced.Full unplaced.Full a b = refl
+  place_refusal_once unplaced.Full unplaced.Links (room, full) (room2, r) = absurd (omega (arith, full, r.0))
+  place_refusal_once unplaced.Full unplaced.Twice (room, full) (room2, r) = absurd (omega (arith, full, r.0))
+  place_refusal_once unplaced.Links unplaced.Exhausted a b = absurd (omega (arith, a.0, b))
+  place_refusal_once unplaced.Links unplaced.Full (room, r) (room2, full) = absurd (omega (arith, full, r.0))
+  place_refusal_once unplaced.Links unplaced.Links a b = refl
+  place_refusal_once unplaced.Links unplaced.Twice (room, (few, walk, is, own, many)) (room2, (few2, other, is2, twice)) = absurd (twice (subst HaveOwnKeys (walk_once walk other is is2) own))
+  place_refusal_once unplaced.Twice unplaced.Exhausted a b = absurd (omega (arith, a.0, b))
+  place_refusal_once unplaced.Twice unplaced.Full (room, r) (room2, full) = absurd (omega (arith, full, r.0))
+  place_refusal_once unplaced.Twice unplaced.Links (room2, (few2, other, is2, twice)) (room, (few, walk, is, own, many)) = absurd (twice (subst HaveOwnKeys (walk_once walk other is is2) own))
+  place_refusal_once unplaced.Twice unplaced.Twice a b = refl
+
+  answer_once : HasOneReplyLine → (l m : List ℕ) (a b : BookState) → IsPlaceAnswered s q hold l a → IsPlaceAnswered s q hold m b → (l ≡ m) × (a ≡ b)
+  answer_once reply l m a b x y =
+      let same : x.answer ≡ y.answer = best _ q x.answer y.answer x.best y.best in
+      let book : a ≡ b = book_once s.book q hold y.answer a b (subst (λ (z : Answer). IsAnswerPlaced s.book q hold z a) same x.placed) y.placed in
+      let first : IsPlaceReply q.id b.version y.answer l =
+      subst (λ (c : BookState). IsPlaceReply q.id c.version y.answer l) book (subst (λ (z : Answer). IsPlaceReply q.id a.version z l) same x.reply) in
+      (place_reply_once reply q.id b.version y.answer l m first y.reply, book)
+
+  place_once : HasOneReplyLine → (l m : List ℕ) (t u : BookRunState) → IsPlaceTaken s q hold l t → IsPlaceTaken s q hold m u → SameBookReply l t m u
+  place_once reply l m t u (inl (x, after)) (inl (y, after2)) =
+      let same = answer_once reply l m t.book u.book x y in
+      (same.0, after ∙ ap (after_answer s) same.1 ∙ sym after2)
+  place_once reply l m t u (inl (x, after)) (inr (why, r, line, after2)) = absurd (not_refused l t.book x why r)
+  place_once reply l m t u (inr (why, r, line, after2)) (inl (x, after)) = absurd (not_refused m u.book x why r)
+  place_once reply l m t u (inr (why, r, line, after)) (inr (why2, r2, line2, after2)) =
+      (line ∙ rw (place_refusal_once why why2 r r2) (sym line2), after ∙ sym after2)
+
+-- ---- releases
+
+release_refusal_once : (s : BookRunState) (id : ℕ) (why other : ReleaseRefusal) → IsReleaseRefusal s id why → IsReleaseRefusal s id other → why ≡ other
+release_refusal_once s id unreleased.Exhausted unreleased.Exhausted a b = refl
+release_refusal_once s id unreleased.Exhausted unreleased.Absent a b = absurd (omega (arith, a, b.0))
+release_refusal_once s id unreleased.Absent unreleased.Exhausted a b = absurd (omega (arith, a.0, b))
+release_refusal_once s id unreleased.Absent unreleased.Absent a b = refl
+
+not_released : (s : BookRunState) (id : ℕ) (why : ReleaseRefusal) → s.book.version < 1000000 → IsTrue (has_id id s.book.placements) → IsReleaseRefusal s id why → ⊥
+not_released s id unreleased.Exhausted room has r = omega (arith, room, r)
+not_released s id unreleased.Absent room has r = r.1 has
+
+release_once : (s : BookRunState) (id : ℕ) (l m : List ℕ) (t u : BookRunState) → IsReleaseTaken s id l t → IsReleaseTaken s id m u → SameBookReply l t m u
+release_once s id l m t u (inl (room, has, line, after)) (inl (room2, has2, line2, after2)) = (line ∙ sym line2, after ∙ sym after2)
+release_once s id l m t u (inl (room, has, line, after)) (inr (why, r, line2, after2)) = absurd (not_released s id why room has r)
+release_once s id l m t u (inr (why, r, line2, after2)) (inl (room, has, line, after)) = absurd (not_released s id why room has r)
+release_once s id l m t u (inr (why, r, line, after)) (inr (why2, r2, line2, after2)) =
+    (line ∙ rw (release_refusal_once s id why why2 r r2) (sym line2), after ∙ sym after2)
+
+-- ---- rows
+
+step_once : OneBestAnswer → HasOneReplyLine → OneRefusal → (s : BookRunState) (row : Step) (l m : List ℕ) (t u : BookRunState)
+    → IsBookStepAnswered s row l t → IsBookStepAnswered s row m u → SameBookReply l t m u
+step_once best reply one s (step.Change c) l m t u a b = (a.0 ∙ sym b.0, a.1 ∙ sym b.1)
+step_once best reply one s (step.End number count) l m t u a b = end_once one s number count l m t u a b
+step_once best reply one s (step.Ask q) l m t u a b = ask_once best reply s q l m t u a b
+
+pub book_row_once : OneBestAnswer → HasOneReplyLine → OneRefusal → (place : ℕ) (s : BookRunState) (r : Result BookRow RowError) (l m : List ℕ) (t u : BookRunState)
+    → IsBookRowAnswered place s r l t → IsBookRowAnswered place s r m u → SameBookReply l t m u
+book_row_once best reply one place s (Err error) l m t u a b = (a.0 ∙ sym b.0, a.1 ∙ sym b.1)
+book_row_once best reply one place s (Ok (book_row.Base row)) l m t u a b = step_once best reply one s (step_of row) l m t u a b
+book_row_once best reply one place s (Ok (book_row.Place q hold)) l m t u a b = place_once best s q hold reply l m t u a b
+book_row_once best reply one place s (Ok (book_row.Release id)) l m t u a b = release_once s id l m t u a b
+
+all_once : OneBestAnswer → HasOneReplyLine → OneRefusal → (place : ℕ) (s : BookRunState) (rows : List (List (List ℕ))) (l m : List ℕ) (t u : BookRunState)
+    → AreAnswered book_answers place s rows l t → AreAnswered book_answers place s rows m u → SameBookReply l t m u
+unfolding AreAnswered
+all_once best reply one place s [] l m t u a b = (a.0 ∙ sym b.0, a.1 ∙ sym b.1)
+all_once best reply one place s (fields ∷ rows) l m t u a b =
+    let step = book_row_once best reply one place s (book_row_of fields) a.0 b.0 a.1 b.1 a.3 b.3 in
+    let rest = all_once best reply one (suc place) b.1 rows a.2 b.2 t u (subst (λ (x : BookRunState). AreAnswered book_answers (suc place) x rows a.2 t) step.1 a.5) b.5 in
+    (a.4 ∙ rw (step.0, rest.0) (sym b.4), rest.1)
+
+pub book_run_once : OneBestAnswer → HasOneReplyLine → OneRefusal → BooksHaveOneReply
+book_run_once best reply one rows l m a b x y =
+    let same = all_once best reply one 1 book_start (take 1000000 rows) x.replies y.replies x.after y.after x.answered y.answered in
+    (x.whole ∙ rw (same.0, same.1) (sym y.whole), x.counts ∙ rw same.1 (sym y.counts))

@@ -1,0 +1,448 @@
+-- What is kept of rows makes their book again.
+use Rattle.std.proofs.Common.{◌≡◌, ◌==◌, ℕ, zero, suc, ◌+◌, ◌≤◌, ◌<◌, ◌^◌, ◌⊎◌, Bool, true, false, cond, List, [], ◌∷◌, ◌++◌, map, length, codes, slice_index, Result, Ok, Err, inl, inr, refl, sym, ap, subst, ◌∙◌, append_assoc, append-nil, eq-eqb, arith}
+use Rattle.std.proofs.lemmas.Bool.{cases_Bool, eqb-true}
+use Rattle.std.proofs.lemmas.Grind.{flat_map-append}
+use Rattle.std.proofs.lemmas.List.{length-append, length-map}
+use Rattle.std.proofs.lemmas.Slice.Eq.{bytes_eq-Decides}
+use Rattle.std.specs.List.{flat_map, AllByRecursion}
+use Rattle.std.specs.Result.{result_map_both}
+use Rattle.std.specs.Str.{bytes_eq}
+use Rattle.csv.specs.Records.{field_at}
+use Rattle.csv.specs.Writing.{default_writer, row_text}
+use Rattle.cspf_addr.specs.MaskText.{SpellsMask, mask_text, AreMasksRead, AreMasksReadBack}
+use Rattle.cspf_addr.proofs.MaskLemmas.{short_value}
+use Rattle.cspf_model.specs.Best.{Answer, unknown_from, unknown_to, no_route, route}
+use Rattle.cspf_model.specs.declared.batch.Change.{Change}
+use Rattle.cspf_model.specs.declared.batch.Change.TheVariants as change
+use Rattle.cspf_model.specs.declared.link.Link.{Link}
+use Rattle.cspf_model.specs.declared.request.Request.{Request}
+use Rattle.cspf_rows.specs.BatchText.{change_fields, batch_records}
+use Rattle.cspf_rows.specs.FieldValues.{field, number_at}
+use Rattle.cspf_rows.specs.JournalLaws.{IsChangeInRange}
+use Rattle.cspf_rows.specs.Records.{rows_of}
+use Rattle.cspf_rows.specs.Rows.{ask_row_of, row_of}
+use Rattle.cspf_rows.specs.Says.{AreRowsRead, Says, SaysPut}
+use Rattle.cspf_rows.specs.Written.{end_fields, ArePutsReadBack, AreDropsReadBack, AreNodesReadBack, AreEndsReadBack}
+use Rattle.cspf_rows.specs.declared.row.Row.{Row}
+use Rattle.cspf_rows.specs.declared.row.Row.TheVariants as row
+use Rattle.cspf_rows.specs.declared.row_error.RowError.{RowError}
+use Rattle.cspf_rows.specs.declared.row_error.RowError.TheVariants as error
+use Rattle.cspf_stream.specs.RowAnswers.{AreAnswered}
+use Rattle.cspf_stream.specs.Steps.{step_of}
+use Rattle.cspf_stream.specs.declared.step.Step.{Step}
+use Rattle.cspf_stream.specs.declared.step.Step.TheVariants as step
+use Rattle.cspf_book.specs.BookState.{BookState, IsAnswerPlaced}
+use Rattle.cspf_book_run.specs.declared.book_row.BookRow.{BookRow}
+use Rattle.cspf_book_run.specs.declared.book_row.BookRow.TheVariants as book_row
+use Rattle.cspf_book_run.specs.BookRows.{at_lowest_setup, placed_as_asked, place_row_of, release_row_of, book_row_of}
+use Rattle.cspf_book_run.specs.BookScript.{BookRunState, book_start, book_answers, open_base_batch, after_open_change, after_answer, after_base_batch, IsBaseAccepted, AreBaseLines, IsPlaceAnswered, IsBookStepAnswered, IsBookRowAnswered}
+use Rattle.cspf_book_run.specs.Kept.{kept_answers, kept_of, text_of_row, text_of_step}
+use Rattle.cspf_book_run.specs.KeptLaws.{KeptIsTheBook}
+use Rattle.cspf_book_run.proofs.KeptTexts.{StartsPlain, IsPlainRecord, kept_cut, change_plain, end_plain, lines_rows, rows_start}
+
+-- the laws of rows that this rests on
+pub record ReadsRows : Type 0 where
+  pub read : AreRowsRead
+  pub puts : ArePutsReadBack
+  pub drops : AreDropsReadBack
+  pub nodes : AreNodesReadBack
+  pub ends : AreEndsReadBack
+  pub masks : AreMasksRead
+  pub back : AreMasksReadBack
+
+-- ---- the range of what a row says
+
+-- the numbers of what a row asks for are those of its types
+abbrev IsStepInRange : Step → Type 0
+IsStepInRange (step.Change c) = IsChangeInRange c
+IsStepInRange (step.End number count) = (number < 2 ^ 32) × (count < 2 ^ 32)
+IsStepInRange (step.Ask q) = Unit {0}
+
+free_in_range : (fields : List (List ℕ)) (link : Link) → SaysPut fields link → (p : ℕ) → p < 8 → slice_index link.free p < 2 ^ 64
+free_in_range fields link s zero below = s.free_0.small
+free_in_range fields link s (suc zero) below = s.free_1.small
+free_in_range fields link s (suc (suc zero)) below = s.free_2.small
+free_in_range fields link s (suc (suc (suc zero))) below = s.free_3.small
+free_in_range fields link s (suc (suc (suc (suc zero)))) below = s.free_4.small
+free_in_range fields link s (suc (suc (suc (suc (suc zero))))) below = s.free_5.small
+free_in_range fields link s (suc (suc (suc (suc (suc (suc zero)))))) below = s.free_6.small
+free_in_range fields link s (suc (suc (suc (suc (suc (suc (suc zero))))))) below = s.free_7.small
+free_in_range fields link s (suc (suc (suc (suc (suc (suc (suc (suc p)))))))) below = absurd (omega arith)
+
+mask_small : (text : List ℕ) (n : ℕ) → SpellsMask text n → n < 2 ^ 32
+mask_small text n s = rw s.value (short_value s.digits s.most s.hexadecimal)
+
+row_in_range : (fields : List (List ℕ)) (r : Row) → Says fields r → IsStepInRange (step_of r)
+row_in_range fields (row.Put link) s = (
+  record {
+    from = s.from.small;
+    local = s.local.small;
+    to = s.to.small;
+    remote = s.remote.small;
+    metric = s.metric.small;
+    free = free_in_range fields link s;
+  },
+  mask_small (field fields 7) link.group s.group,
+)
+row_in_range fields (row.Remove from local) s = (s.from.small, s.local.small)
+row_in_range fields (row.Node router transit) s = s.router.small
+row_in_range fields (row.End number count) s = (s.number.small, s.has.small)
+row_in_range fields (row.Ask q) s = tt
+
+-- ---- the kinds of rows
+
+-- what a record says to a book is what it says by its first field
+abbrev IsOfKind : List (List ℕ) → Type 0
+IsOfKind fields =
+    ((field fields 1 ≡ codes "place") × (book_row_of fields ≡ place_row_of fields))
+    ⊎ (((field fields 1 ≡ codes "release") × (book_row_of fields ≡ release_row_of fields)) ⊎ (book_row_of fields ≡ result_map_both book_row.Base (λ e. e) (row_of fields)))
+
+kinds : (fields : List (List ℕ)) → IsOfKind fields
+unfolding book_row_of
+kinds fields = elim (cases_Bool (bytes_eq (field fields 1) (codes "place"))) [
+  | inl place ↦ inl ((bytes_eq-Decides (field fields 1) (codes "place")).0 place, rw place refl)
+  | inr other ↦ elim (cases_Bool (bytes_eq (field fields 1) (codes "release"))) [
+    | inl release ↦ inr (inl ((bytes_eq-Decides (field fields 1) (codes "release")).0 release, rw (other, release) refl))
+    | inr none ↦ inr (inr (rw (other, none) refl))
+  ]
+]
+
+counted : (b : Bool) (x : Result BookRow RowError) (r : BookRow) → cond b x (Err error.Fields) ≡ Ok r → (b ≡ true) × (x ≡ Ok r)
+counted true x r is = (refl, is)
+counted false x r is = absurd (cc)
+
+-- the rows that are made of one that asks, of an id, and of one of the base
+abbrev read_as : BookRow → Result BookRow RowError
+read_as r = Ok r
+
+ok_same : (x y : BookRow) → read_as x ≡ read_as y → x ≡ y
+ok_same x y e = cc
+
+of_asked : (x : Result Row RowError) (r : BookRow) → placed_as_asked x ≡ Ok r → (q : Request) × (hold : ℕ) × (r ≡ book_row.Place q hold)
+of_asked (Ok (row.Ask q)) r is = (at_lowest_setup q, q.setup, sym (ok_same (book_row.Place (at_lowest_setup q) q.setup) r is))
+of_asked (Ok (row.Put link)) r is = absurd (cc)
+of_asked (Ok (row.Remove from local)) r is = absurd (cc)
+of_asked (Ok (row.Node router transit)) r is = absurd (cc)
+of_asked (Ok (row.End number count)) r is = absurd (cc)
+of_asked (Err e) r is = absurd (cc)
+
+of_id : (x : Result ℕ RowError) (r : BookRow) → result_map_both book_row.Release (λ e. e) x ≡ Ok r → (id : ℕ) × (r ≡ book_row.Release id)
+of_id (Ok id) r is = (id, sym (ok_same (book_row.Release id) r is))
+of_id (Err e) r is = absurd (cc)
+
+of_base : (x : Result Row RowError) (r : BookRow) → result_map_both book_row.Base (λ e. e) x ≡ Ok r → (b : Row) × (r ≡ book_row.Base b) × (x ≡ Ok b)
+of_base (Ok b) r is = (b, sym (ok_same (book_row.Base b) r is), refl)
+of_base (Err e) r is = absurd (cc)
+
+-- a row that places, that releases, and of the base
+from_place : (fields : List (List ℕ)) (r : BookRow) → place_row_of fields ≡ Ok r → (q : Request) × (hold : ℕ) × (r ≡ book_row.Place q hold) × (length fields ≡ 10)
+from_place fields r is =
+    let n = counted (length fields == 10) (placed_as_asked (ask_row_of fields)) r is in
+    let made = of_asked (ask_row_of fields) r n.1 in
+    (made.0, made.1, made.2, eqb-true (length fields) 10 n.0)
+
+from_release : (fields : List (List ℕ)) (r : BookRow) → release_row_of fields ≡ Ok r → (id : ℕ) × (r ≡ book_row.Release id) × (length fields ≡ 2)
+from_release fields r is =
+    let n = counted (length fields == 2) (result_map_both book_row.Release (λ e. e) (number_at fields 2)) r is in
+    let made = of_id (number_at fields 2) r n.1 in
+    (made.0, made.1, eqb-true (length fields) 2 n.0)
+
+-- a row of the base is one that is read of the record
+base_of : (fields : List (List ℕ)) (b : Row) → IsOfKind fields → book_row_of fields ≡ Ok (book_row.Base b) → row_of fields ≡ Ok b
+base_of fields b (inl place) is =
+    let made = from_place fields (book_row.Base b) (sym place.1 ∙ is) in absurd (let e : book_row.Base b ≡ book_row.Place made.0 made.1 = made.2 in cc)
+base_of fields b (inr (inl release)) is =
+    let made = from_release fields (book_row.Base b) (sym release.1 ∙ is) in absurd (let e : book_row.Base b ≡ book_row.Release made.0 = made.1 in cc)
+base_of fields b (inr (inr base)) is =
+    let made = of_base (row_of fields) (book_row.Base b) (sym base ∙ is) in
+    let same : book_row.Base b ≡ book_row.Base made.0 = made.1 in
+    let one : b ≡ made.0 = cc in
+    made.2 ∙ ap Ok (sym one)
+
+-- a record of two fields or more that begins with a word
+word_first : (fields : List (List ℕ)) (word : List ℕ) → 2 ≤ length fields → field fields 1 ≡ word → (second : List ℕ) × (others : List (List ℕ)) × (fields ≡ word ∷ second ∷ others)
+unfolding field_at
+word_first [] word two is = absurd (omega arith)
+word_first (x ∷ []) word two is = absurd (omega arith)
+word_first (x ∷ y ∷ ys) word two is = (y, ys, ap (λ w. w ∷ y ∷ ys) is)
+
+place_of : (fields : List (List ℕ)) (q : Request) (hold : ℕ) → IsOfKind fields → book_row_of fields ≡ Ok (book_row.Place q hold) → StartsPlain fields
+place_of fields q hold (inl place) is =
+    let made = from_place fields (book_row.Place q hold) (sym place.1 ∙ is) in
+    let w = word_first fields (codes "place") (omega (arith, made.3)) place.0 in
+    record { a = 112; b = 108; c = 97; word = 99 ∷ 101 ∷ []; second = w.0; others = w.1; is = w.2; no_mark = refl; plain = refl }
+place_of fields q hold (inr (inl release)) is =
+    let made = from_release fields (book_row.Place q hold) (sym release.1 ∙ is) in absurd (let e : book_row.Place q hold ≡ book_row.Release made.0 = made.1 in cc)
+place_of fields q hold (inr (inr base)) is =
+    let made = of_base (row_of fields) (book_row.Place q hold) (sym base ∙ is) in absurd (let e : book_row.Place q hold ≡ book_row.Base made.0 = made.1 in cc)
+
+release_of : (fields : List (List ℕ)) (id : ℕ) → IsOfKind fields → book_row_of fields ≡ Ok (book_row.Release id) → StartsPlain fields
+release_of fields id (inl place) is =
+    let made = from_place fields (book_row.Release id) (sym place.1 ∙ is) in absurd (let e : book_row.Release id ≡ book_row.Place made.0 made.1 = made.2 in cc)
+release_of fields id (inr (inl release)) is =
+    let made = from_release fields (book_row.Release id) (sym release.1 ∙ is) in
+    let w = word_first fields (codes "release") (omega (arith, made.2)) release.0 in
+    record { a = 114; b = 101; c = 108; word = 101 ∷ 97 ∷ 115 ∷ 101 ∷ []; second = w.0; others = w.1; is = w.2; no_mark = refl; plain = refl }
+release_of fields id (inr (inr base)) is =
+    let made = of_base (row_of fields) (book_row.Release id) (sym base ∙ is) in absurd (let e : book_row.Release id ≡ book_row.Base made.0 = made.1 in cc)
+
+-- ---- rows that are answered one after the other
+
+append_answered : (xs ys : List (List (List ℕ))) (p : ℕ) (s m t : BookRunState) (l k : List ℕ) → AreAnswered book_answers p s xs l m
+    → ((q : ℕ) → AreAnswered book_answers q m ys k t) → AreAnswered book_answers p s (xs ++ ys) (l ++ k) t
+unfolding AreAnswered
+append_answered [] ys p s m t l k a rest =
+    subst (λ (x : BookRunState). AreAnswered book_answers p x ys (l ++ k) t) a.1 (subst (λ (z : List ℕ). AreAnswered book_answers p m ys (z ++ k) t) (sym a.0) (rest p))
+append_answered (x ∷ xs) ys p s m t l k a rest =
+    (a.0, a.1, a.2 ++ k, a.3, ap (λ (z : List ℕ). z ++ k) a.4 ∙ append_assoc a.0 a.2 k, append_answered xs ys (suc p) a.1 m t a.2 k a.5 rest)
+
+one_answered : (p : ℕ) (s t : BookRunState) (fields : List (List ℕ)) (line : List ℕ) → book_answers p s fields line t → AreAnswered book_answers p s (fields ∷ []) line t
+unfolding AreAnswered
+one_answered p s t fields line a = (line, t, [], a, sym (append-nil line), (refl, refl))
+
+none_answered : (p : ℕ) (s t : BookRunState) → t ≡ s → AreAnswered book_answers p s [] [] t
+unfolding AreAnswered
+none_answered p s t same = (refl, same)
+
+-- a state with these changes open
+abbrev opened : BookRunState → List Change → BookRunState
+opened s cs = record s { changes = cs }
+
+module _ (laws : ReadsRows) where
+  spelled : (bits : ℕ) → bits < 2 ^ 32 → SpellsMask (mask_text bits) bits
+  spelled bits small = (laws.masks (mask_text bits) bits).0 (laws.back bits small)
+
+  -- the record of a change opens the change
+  change_taken : (p : ℕ) (s : BookRunState) (c : Change) → IsChangeInRange c → book_answers p s (change_fields c) [] (after_open_change s c)
+  unfolding book_row_of field_at
+  change_taken p s (change.Put link) range = rw (laws.puts link (mask_text link.group) range.0 (spelled link.group range.1)) (refl, refl)
+  change_taken p s (change.Remove from local) range = rw (laws.drops from local range.0 range.1) (refl, refl)
+  change_taken p s (change.Node router transit) range = rw (laws.nodes router transit range) (refl, refl)
+
+  changes_taken : (cs : List Change) (p : ℕ) (s : BookRunState) → AllByRecursion IsChangeInRange cs → AreAnswered book_answers p s (map change_fields cs) [] (opened s (s.changes ++ cs))
+  unfolding AreAnswered
+  changes_taken [] p s range = (refl, ap (opened s) (append-nil s.changes))
+  changes_taken (c ∷ cs) p s range = (
+    [],
+    after_open_change s c,
+    [],
+    change_taken p s c range.0,
+    refl,
+    subst (λ (opens : List Change). AreAnswered book_answers (suc p) (after_open_change s c) (map change_fields cs) [] (opened s opens)) (append_assoc s.changes (c ∷ []) cs)
+        (changes_taken cs (suc p) (after_open_change s c) range.1),
+  )
+
+  -- the end row of a batch that is accepted
+  end_taken : (p : ℕ) (s : BookRunState) (number count : ℕ) (line : List ℕ) → number < 2 ^ 32 → length s.changes < 2 ^ 32 → IsBaseAccepted s number count → AreBaseLines s number line
+      → (answers : ℕ) → let from : BookRunState = record { book = s.book; batches = s.batches; changes = s.changes; answers = answers; refused = 0 } in
+      book_answers p from (end_fields number (length s.changes)) line (after_base_batch from)
+  unfolding book_row_of field_at
+  end_taken p s number count line small few accepted lines answers =
+      rw (laws.ends number (length s.changes) small few)
+      (inl (record { room = accepted.room; next = accepted.next; counted = refl; fits = accepted.fits }, lines, refl))
+
+  records_plain : (cs : List Change) (number count : ℕ) → AllByRecursion IsChangeInRange cs → number < 2 ^ 32 → count < 2 ^ 32
+      → AllByRecursion IsPlainRecord (map change_fields cs ++ (end_fields number count ∷ []))
+  records_plain [] number count range small few = (end_plain number count small few, tt)
+  records_plain (c ∷ cs) number count range small few = (change_plain c spelled range.0, records_plain cs number count range.1 small few)
+
+-- ---- what is kept of rows
+
+-- the state of a run over what is kept, between what is kept of two rows
+abbrev bare : BookState → ℕ → ℕ → BookRunState
+bare book batches answers = record { book = book; batches = batches; changes = []; answers = answers; refused = 0 }
+
+-- What is kept of a number of rows are records, and a run over them goes on to the same book. With the open
+-- changes they are no more than the rows.
+record Remakes (n : ℕ) (s t : BookRunState) (text : List ℕ) : Type 0 where
+  records : List (List (List ℕ))
+  is : text ≡ flat_map (row_text default_writer) records
+  plain : AllByRecursion StartsPlain records
+  few : length records + length t.changes ≤ length s.changes + n
+  runs : (a : ℕ) → (b : ℕ) × (lines : List ℕ) × ((p : ℕ) → AreAnswered book_answers p (bare s.book s.batches a) records lines (bare t.book t.batches b))
+
+bare_same : (s t : BookRunState) (a : ℕ) → t.book ≡ s.book → t.batches ≡ s.batches → bare t.book t.batches a ≡ bare s.book s.batches a
+bare_same s t a book batches = ap (λ (b : BookState). bare b t.batches a) book ∙ ap (λ (n : ℕ). bare s.book n a) batches
+
+nothing_kept : (s t : BookRunState) (text : List ℕ) → t.book ≡ s.book → t.batches ≡ s.batches → length t.changes ≤ length s.changes + 1
+    → Remakes 1 s t (cond (t.book.version == s.book.version) [] text)
+nothing_kept s t text book batches few = record {
+  records = [];
+  is = rw (eq-eqb t.book.version s.book.version (ap (λ (b : BookState). b.version) book)) refl;
+  plain = tt;
+  few = omega (arith, few);
+  runs = λ a. (a, [], λ p. none_answered p (bare s.book s.batches a) (bare t.book t.batches a) (bare_same s t a book batches));
+}
+
+another_version : (old new : ℕ) → new ≡ old + 1 → (new == old) ≡ false
+another_version old new rises = elim (cases_Bool (new == old)) [ inl same ↦ absurd (omega (arith, eqb-true new old same, rises)) | inr other ↦ other ]
+
+-- the row itself is kept
+row_kept : (s t : BookRunState) (fields : List (List ℕ)) (line : List ℕ) (more : ℕ → ℕ) → t.book.version ≡ s.book.version + 1 → length t.changes ≤ length s.changes → StartsPlain fields
+    → ((p a : ℕ) → book_answers p (bare s.book s.batches a) fields line (bare t.book t.batches (more a)))
+    → Remakes 1 s t (cond (t.book.version == s.book.version) [] (row_text default_writer fields))
+row_kept s t fields line more rises few starts answered = record {
+  records = fields ∷ [];
+  is = rw (another_version s.book.version t.book.version rises) (sym (append-nil (row_text default_writer fields)));
+  plain = (starts, tt);
+  few = omega (arith, few);
+  runs = λ a. (more a, line, λ p. one_answered p (bare s.book s.batches a) (bare t.book t.batches (more a)) fields line (answered p a));
+}
+
+-- the open changes are in range
+abbrev AreOpenInRange : BookRunState → Type 0
+AreOpenInRange s = AllByRecursion IsChangeInRange s.changes
+
+one_more_in_range : (cs : List Change) (c : Change) → AllByRecursion IsChangeInRange cs → IsChangeInRange c → AllByRecursion IsChangeInRange (cs ++ c ∷ [])
+one_more_in_range [] c range here = (here, tt)
+one_more_in_range (x ∷ cs) c range here = (range.0, one_more_in_range cs c range.1 here)
+
+same_changes : (s t : BookRunState) → t.changes ≡ s.changes → AreOpenInRange s → AreOpenInRange t
+same_changes s t same range = subst (AllByRecursion IsChangeInRange) (sym same) range
+
+module _ (laws : ReadsRows) where
+  batch_kept : (s t : BookRunState) (number count : ℕ) (line : List ℕ) → AreOpenInRange s → number < 2 ^ 32 → count < 2 ^ 32 → IsBaseAccepted s number count → AreBaseLines s number line
+      → t ≡ after_base_batch s → Remakes 1 s t (cond (t.book.version == s.book.version) [] (text_of_step s (step.End number count)))
+  batch_kept s t number count line range small few accepted lines after =
+      let short : length s.changes < 2 ^ 32 = omega (arith, accepted.counted, few) in
+      let all = records_plain laws s.changes number (length s.changes) range small short in
+      let version = ap (λ (x : BookRunState). x.book.version) after in
+      let none = ap (λ (x : BookRunState). x.changes) after in
+      record {
+        records = batch_records (open_base_batch s number);
+        is = rw (another_version s.book.version t.book.version version) (lines_rows (batch_records (open_base_batch s number)) all);
+        plain = rows_start (batch_records (open_base_batch s number)) all;
+        few = rw none (simp (length-append, length-map) (omega arith));
+        runs = λ a. (
+          a,
+          line,
+          λ p.
+              let from : BookRunState = record { book = s.book; batches = s.batches; changes = s.changes; answers = a; refused = 0 } in
+              let ended : (q : ℕ) → AreAnswered book_answers q from (end_fields number (length s.changes) ∷ []) line (after_base_batch from) =
+              λ q. one_answered q from (after_base_batch from) (end_fields number (length s.changes)) line (end_taken laws q s number count line small short accepted lines a) in
+              subst (λ (x : BookRunState). AreAnswered book_answers p (bare s.book s.batches a) (batch_records (open_base_batch s number)) line (bare x.book x.batches a)) (sym after)
+              (append_answered (map change_fields s.changes) (end_fields number (length s.changes) ∷ []) p (bare s.book s.batches a) from (after_base_batch from) [] line
+              (changes_taken laws s.changes p (bare s.book s.batches a) range) ended),
+        );
+      }
+
+  step_remakes : (s t : BookRunState) (r : Step) (line : List ℕ) → AreOpenInRange s → IsStepInRange r → IsBookStepAnswered s r line t
+      → Remakes 1 s t (cond (t.book.version == s.book.version) [] (text_of_step s r)) × AreOpenInRange t
+  step_remakes s t (step.Change c) line range here a =
+      let opens = ap (λ (x : BookRunState). x.changes) a.1 in (
+        nothing_kept s t [] (ap (λ (x : BookRunState). x.book) a.1) (ap (λ (x : BookRunState). x.batches) a.1) (rw opens (simp length-append (omega arith))),
+        subst (AllByRecursion IsChangeInRange) (sym opens) (one_more_in_range s.changes c range here),
+      )
+  step_remakes s t (step.Ask q) line range here a =
+      let opens = ap (λ (x : BookRunState). x.changes) a.3 in (
+        nothing_kept s t [] (ap (λ (x : BookRunState). x.book) a.3) (ap (λ (x : BookRunState). x.batches) a.3) (rw opens (omega arith)),
+        same_changes s t opens range,
+      )
+  step_remakes s t (step.End number count) line range here (inl (accepted, lines, after)) = (
+    batch_kept s t number count line range here.0 here.1 accepted lines after,
+    subst (AllByRecursion IsChangeInRange) (sym (ap (λ (x : BookRunState). x.changes) after)) tt,
+  )
+  step_remakes s t (step.End number count) line range here (inr (why, kept, is, line_is, after)) =
+      let opens = ap (λ (x : BookRunState). x.changes) after in (
+        nothing_kept s t (text_of_step s (step.End number count)) (ap (λ (x : BookRunState). x.book) after) (ap (λ (x : BookRunState). x.batches) after) (rw opens (omega arith)),
+        subst (AllByRecursion IsChangeInRange) (sym opens) tt,
+      )
+
+  -- a row that places, by its answer
+  placed_remakes : (s t : BookRunState) (fields : List (List ℕ)) (q : Request) (hold : ℕ) (line : List ℕ) (x : IsPlaceAnswered s q hold line t.book) (answer : Answer) → IsAnswerPlaced s.book q hold answer t.book
+      → t ≡ after_answer s t.book → book_row_of fields ≡ Ok (book_row.Place q hold) → Remakes 1 s t (cond (t.book.version == s.book.version) [] (row_text default_writer fields))
+  placed_remakes s t fields q hold line x unknown_from placed after is =
+      nothing_kept s t (row_text default_writer fields) placed (ap (λ (y : BookRunState). y.batches) after) (rw (ap (λ (y : BookRunState). y.changes) after) (omega arith))
+  placed_remakes s t fields q hold line x unknown_to placed after is =
+      nothing_kept s t (row_text default_writer fields) placed (ap (λ (y : BookRunState). y.batches) after) (rw (ap (λ (y : BookRunState). y.changes) after) (omega arith))
+  placed_remakes s t fields q hold line x no_route placed after is =
+      nothing_kept s t (row_text default_writer fields) placed (ap (λ (y : BookRunState). y.batches) after) (rw (ap (λ (y : BookRunState). y.changes) after) (omega arith))
+  placed_remakes s t fields q hold line x (route walk) placed after is =
+      row_kept s t fields line (λ a. a + 1) placed.version (rw (ap (λ (y : BookRunState). y.changes) after) (omega arith)) (place_of fields q hold (kinds fields) is) (λ p a.
+      subst (λ (r : Result BookRow RowError). IsBookRowAnswered p (bare s.book s.batches a) r line (bare t.book t.batches (a + 1))) (sym is)
+      (inl (
+        record { room = x.room; few = x.few; answer = x.answer; best = x.best; placed = x.placed; reply = x.reply },
+        ap (λ (n : ℕ). bare t.book n (a + 1)) (ap (λ (y : BookRunState). y.batches) after),
+      )))
+
+  row_remakes : (p : ℕ) (s t : BookRunState) (fields : List (List ℕ)) (r : Result BookRow RowError) (line : List ℕ) → AreOpenInRange s → book_row_of fields ≡ r → IsBookRowAnswered p s r line t
+      → Remakes 1 s t (cond (t.book.version == s.book.version) [] (text_of_row s fields r)) × AreOpenInRange t
+  row_remakes p s t fields (Err e) line range is a =
+      let opens = ap (λ (x : BookRunState). x.changes) a.1 in (
+        nothing_kept s t [] (ap (λ (x : BookRunState). x.book) a.1) (ap (λ (x : BookRunState). x.batches) a.1) (rw opens (omega arith)),
+        same_changes s t opens range,
+      )
+  row_remakes p s t fields (Ok (book_row.Base b)) line range is a =
+      step_remakes s t (step_of b) line range (row_in_range fields b ((laws.read fields b).0 (base_of fields b (kinds fields) is))) a
+  row_remakes p s t fields (Ok (book_row.Place q hold)) line range is (inl (x, after)) = (
+    placed_remakes s t fields q hold line x x.answer x.placed after is,
+    same_changes s t (ap (λ (y : BookRunState). y.changes) after) range,
+  )
+  row_remakes p s t fields (Ok (book_row.Place q hold)) line range is (inr (why, refused, line_is, after)) =
+      let opens = ap (λ (x : BookRunState). x.changes) after in (
+        nothing_kept s t (row_text default_writer fields) (ap (λ (x : BookRunState). x.book) after) (ap (λ (x : BookRunState). x.batches) after) (rw opens (omega arith)),
+        same_changes s t opens range,
+      )
+  row_remakes p s t fields (Ok (book_row.Release id)) line range is (inl (room, has, line_is, after)) =
+      let opens = ap (λ (x : BookRunState). x.changes) after in (
+        row_kept s t fields line (λ a. a) (ap (λ (x : BookRunState). x.book.version) after) (rw opens (omega arith)) (release_of fields id (kinds fields) is) (λ q a.
+            subst (λ (r : Result BookRow RowError). IsBookRowAnswered q (bare s.book s.batches a) r line (bare t.book t.batches a)) (sym is)
+            (inl (room, has, line_is, ap (λ (x : BookRunState). bare x.book x.batches a) after))),
+        same_changes s t opens range,
+      )
+  row_remakes p s t fields (Ok (book_row.Release id)) line range is (inr (why, refused, line_is, after)) =
+      let opens = ap (λ (x : BookRunState). x.changes) after in (
+        nothing_kept s t (row_text default_writer fields) (ap (λ (x : BookRunState). x.book) after) (ap (λ (x : BookRunState). x.batches) after) (rw opens (omega arith)),
+        same_changes s t opens range,
+      )
+
+plain_append : (xs ys : List (List (List ℕ))) → AllByRecursion StartsPlain xs → AllByRecursion StartsPlain ys → AllByRecursion StartsPlain (xs ++ ys)
+plain_append [] ys a b = b
+plain_append (x ∷ xs) ys a b = (a.0, plain_append xs ys a.1 b)
+
+both_remake : (n k : ℕ) (s m t : BookRunState) (x y : List ℕ) → Remakes n s m x → Remakes k m t y → Remakes (n + k) s t (x ++ y)
+both_remake n k s m t x y a b = record {
+  records = a.records ++ b.records;
+  is = rw (a.is, b.is) (sym (flat_map-append (row_text default_writer) a.records b.records));
+  plain = plain_append a.records b.records a.plain b.plain;
+  few = simp length-append (omega (arith, a.few, b.few));
+  runs = λ from.
+      let first = a.runs from in
+      let second = b.runs first.0 in
+      (second.0, first.1 ++ second.1, λ p. append_answered a.records b.records p (bare s.book s.batches from) (bare m.book m.batches first.0) (bare t.book t.batches second.0) first.1 second.1 (first.2 p) second.2);
+}
+
+no_rows : (s t : BookRunState) (text : List ℕ) → text ≡ [] → t ≡ s → Remakes 0 s t text
+no_rows s t text none same = record {
+  records = [];
+  is = none;
+  plain = tt;
+  few = rw same (omega arith);
+  runs = λ a. (a, [], λ p. none_answered p (bare s.book s.batches a) (bare t.book t.batches a) (ap (λ (x : BookRunState). bare x.book x.batches a) same));
+}
+
+rows_remake : ReadsRows → (rows : List (List (List ℕ))) (p : ℕ) (s t : BookRunState) (text : List ℕ) → AreOpenInRange s → AreAnswered kept_answers p s rows text t → Remakes (length rows) s t text
+unfolding AreAnswered
+rows_remake laws [] p s t text range a = no_rows s t text a.0 a.1
+rows_remake laws (fields ∷ rows) p s t text range (kept, next, more, (line, answer, kept_is), whole, rest) =
+    let first = row_remakes laws p s next fields (book_row_of fields) line range refl answer in
+    let others = rows_remake laws rows (suc p) next t more first.1 rest in
+    let both = both_remake 1 (length rows) s next t (kept_of s fields next) more first.0 others in
+    let count : 1 + length rows ≡ suc (length rows) = omega arith in
+    rw (whole, kept_is) (subst (λ (n : ℕ). Remakes n s t (kept_of s fields next ++ more)) count both)
+
+pub kept_is_book : ReadsRows → KeptIsTheBook
+kept_is_book laws rows text t a =
+    let all = rows_remake laws rows 1 book_start t text tt a in
+    let run = all.runs 0 in
+    let cut : rows_of text ≡ all.records = ap rows_of all.is ∙ kept_cut all.records all.plain in
+    record {
+      few = rw cut (omega (arith, all.few));
+      lines = run.1;
+      after = bare t.book t.batches run.0;
+      answered = rw cut (run.2 1);
+      book = refl;
+      batches = refl;
+      changes = refl;
+      refused = refl;
+    }

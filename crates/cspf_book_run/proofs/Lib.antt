@@ -1,0 +1,12 @@
+-- The lemmas of this crate's proofs.
+pub mod BookRowLemmas
+pub mod PlaceLines
+pub mod BookSteps
+pub mod PlaceSteps
+pub mod KeptSteps
+pub mod BookRun
+pub mod LostOnce
+pub mod BookOneReply
+pub mod BookCovered
+pub mod KeptTexts
+pub mod KeptBook

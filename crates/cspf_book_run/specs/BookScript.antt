@@ -1,0 +1,230 @@
+-- The lines of a stream of rows to a book, from its bytes to bytes, and the summary of its run.
+use Rattle.std.specs.Prelude.{◌≡◌, ◌≢◌, ℕ, ◌+◌, ◌<◌, ◌≤◌, ◌⊎◌, Bool, IsTrue, List, [], ◌∷◌, ◌++◌, take, length, Result, Ok, Err}
+use Rattle.std.specs.List.{flat_map}
+use Rattle.cspf_model.specs.declared.batch.Change.{Change}
+use Rattle.cspf_model.specs.declared.limits.TheConstants.{MOST_VERSIONS}
+use Rattle.cspf_model.specs.declared.request.Request.{Request}
+use Rattle.cspf_model.specs.Best.{Answer, IsBestAnswer}
+use Rattle.cspf_model.specs.Changes.{Fits, after_changes, no_links}
+use Rattle.cspf_model.specs.Numbered.{NumberedChanges}
+use Rattle.cspf_model.specs.Refusals.{IsRefusal}
+use Rattle.cspf_ero.specs.ReplyLine.{IsReply}
+use Rattle.cspf_rows.specs.declared.limits.TheConstants.{MOST_ROWS}
+use Rattle.cspf_rows.specs.declared.row_error.RowError.{RowError}
+use Rattle.cspf_rows.specs.Records.{rows_of}
+use Rattle.cspf_stream.specs.declared.batch_refusal.BatchRefusal.{BatchRefusal}
+use Rattle.cspf_stream.specs.declared.batch_refusal.BatchRefusal.TheVariants as refusal
+use Rattle.cspf_stream.specs.Lines.{refused_batch_line}
+use Rattle.cspf_stream.specs.RefusedRows.{refused_row_line}
+use Rattle.cspf_stream.specs.RowAnswers.{AnswersOf, AreAnswered}
+use Rattle.cspf_stream.specs.Steps.{step_of}
+use Rattle.cspf_stream.specs.declared.step.Step.{Step}
+use Rattle.cspf_stream.specs.declared.step.Step.TheVariants as step
+use Rattle.cspf_solve.specs.declared.summary.Summary.{Summary}
+use Rattle.cspf_solve.specs.Script.{is_too_many, last_line, unended_count}
+use Rattle.cspf_book.specs.declared.error.PlaceError.TheVariants.{Full, TooManyLinks, Twice}
+use Rattle.cspf_book.specs.Placements.{has_id, others}
+use Rattle.cspf_book.specs.Effective.{effective}
+use Rattle.cspf_book.specs.BookState.{BookState, effective_beside, HasRoomFor, IsAnswerPlaced, IsPlaceError}
+use Rattle.cspf_book.specs.LostRoutes.{AreLost}
+use Rattle.cspf_book.specs.OverLinks.{over}
+use Rattle.cspf_book_run.specs.BookLines.{over_line, lost_line, base_line, IsPlaceReply, released_line, refused_place_line, refused_release_line}
+use Rattle.cspf_book_run.specs.BookRows.{book_row_of}
+use Rattle.cspf_book_run.specs.declared.book_row.BookRow.{BookRow}
+use Rattle.cspf_book_run.specs.declared.book_row.BookRow.TheVariants as book_row
+use Rattle.cspf_book_run.specs.declared.refusals.PlaceRefusal.{PlaceRefusal}
+use Rattle.cspf_book_run.specs.declared.refusals.PlaceRefusal.TheVariants as unplaced
+use Rattle.cspf_book_run.specs.declared.refusals.ReleaseRefusal.{ReleaseRefusal}
+use Rattle.cspf_book_run.specs.declared.refusals.ReleaseRefusal.TheVariants as unreleased
+
+-- the state between two rows
+pub record BookRunState : Type 0 where
+  -- the base, its version and its placements
+  pub book : BookState
+  -- how many base batches were accepted
+  pub batches : ℕ
+  -- the open changes, which no end row has taken yet
+  pub changes : List Change
+  -- how many requests were answered, of those that are asked and of those that are placed
+  pub answers : ℕ
+  -- how many rows, batches, placings and releases were refused
+  pub refused : ℕ
+
+-- before the first row: version 0, the empty base, no placements and no open changes
+abbrev pub book_start : BookRunState
+book_start = record {
+  book = record { base = no_links; version = 0; placements = [] };
+  batches = 0;
+  changes = [];
+  answers = 0;
+  refused = 0;
+}
+
+-- the open changes as the base batch with this number
+abbrev pub open_base_batch : BookRunState → ℕ → NumberedChanges
+open_base_batch s number = record { number = number; changes = s.changes }
+
+-- something is refused: the book and the open changes stay
+abbrev pub after_refusal : BookRunState → BookRunState
+after_refusal s = record s { refused = s.refused + 1 }
+
+-- one more open change
+abbrev pub after_open_change : BookRunState → Change → BookRunState
+after_open_change s c = record s { changes = s.changes ++ c ∷ [] }
+
+-- the open changes are made in the base, and none are open; the placements stay
+abbrev pub after_base_batch : BookRunState → BookRunState
+after_base_batch s = record s {
+  book = record {
+    base = after_changes s.book.base s.changes;
+    version = s.book.version + 1;
+    placements = s.book.placements;
+  };
+  batches = s.batches + 1;
+  changes = [];
+}
+
+-- the open changes are dropped: the book stays
+abbrev pub after_refused_base_batch : BookRunState → BookRunState
+after_refused_base_batch s = record s { changes = []; refused = s.refused + 1 }
+
+-- a request is answered
+abbrev pub after_answer : BookRunState → BookState → BookRunState
+after_answer s book = record s { book = book; answers = s.answers + 1 }
+
+-- a placement is released
+abbrev pub after_release : BookRunState → ℕ → BookRunState
+after_release s id = record s {
+  book = record {
+    base = s.book.base;
+    version = s.book.version + 1;
+    placements = others id s.book.placements;
+  };
+}
+
+-- The open changes are accepted as the base batch with this number and this count where all is right.
+-- The version is below 1,000,000, the number is the next of a base batch, the count is right, and the
+-- batch fits the base.
+pub record IsBaseAccepted (s : BookRunState) (number count : ℕ) : Type 0 where
+  pub room : s.book.version < MOST_VERSIONS
+  pub next : number ≡ s.batches + 1
+  pub counted : count ≡ length s.changes
+  pub fits : Fits s.book.base (open_base_batch s number)
+
+-- Why the open changes are refused as the base batch with this number and this count: the first of
+-- these that applies. A run has no journal, and it ends where memory is refused.
+abbrev pub IsBaseRefusal : BookRunState → ℕ → ℕ → BatchRefusal → Type 0
+IsBaseRefusal s number count refusal.Stopped = ⊥
+IsBaseRefusal s number count refusal.Exhausted = MOST_VERSIONS ≤ s.book.version
+IsBaseRefusal s number count (refusal.WrongNumber expected) =
+    (s.book.version < MOST_VERSIONS) × (number ≢ s.batches + 1) × (expected ≡ s.batches + 1)
+IsBaseRefusal s number count (refusal.WrongCount counted) =
+    (s.book.version < MOST_VERSIONS) × (number ≡ s.batches + 1) × (count ≢ length s.changes) × (counted ≡ length s.changes)
+IsBaseRefusal s number count (refusal.Unfit why) =
+    (s.book.version < MOST_VERSIONS) × (number ≡ s.batches + 1) × (count ≡ length s.changes)
+    × IsRefusal s.book.base (open_base_batch s number) why
+IsBaseRefusal s number count refusal.Memory = ⊥
+IsBaseRefusal s number count (refusal.Journal written) = ⊥
+
+-- The lines of a base batch that is accepted: the links on which more is counted than they have, the
+-- placements whose routes are lost, and the batch.
+abbrev pub AreBaseLines : BookRunState → ℕ → List ℕ → Type 0
+AreBaseLines s number lines =
+    (ids : List ℕ) × AreLost s.book.base (after_changes s.book.base s.changes) s.book.placements ids
+    × (lines ≡ flat_map over_line (over s.book.placements s.changes) ++ flat_map lost_line ids ++ base_line number (s.book.version + 1))
+
+-- an end row is answered by the lines of its batch, or by the refusal of the batch
+abbrev pub IsBaseEndAnswered : BookRunState → ℕ → ℕ → List ℕ → BookRunState → Type 0
+IsBaseEndAnswered s number count line after =
+    (IsBaseAccepted s number count × AreBaseLines s number line × (after ≡ after_base_batch s))
+    ⊎ ((why : BatchRefusal) × (¬ IsBaseAccepted s number count) × IsBaseRefusal s number count why
+    × (line ≡ refused_batch_line number why) × (after ≡ after_refused_base_batch s))
+
+-- a request is asked of the effective database
+abbrev pub IsAskAnswered : BookRunState → Request → List ℕ → BookRunState → Type 0
+IsAskAnswered s q line after =
+    (answer : Answer) × IsBestAnswer (effective s.book.base s.book.placements) q answer
+    × IsReply q.id s.book.version answer line × (after ≡ after_answer s s.book)
+
+-- why a request isn't placed: the first of these that applies
+abbrev pub IsPlaceRefusal : BookRunState → Request → PlaceRefusal → Type 0
+IsPlaceRefusal s q unplaced.Exhausted = MOST_VERSIONS ≤ s.book.version
+IsPlaceRefusal s q unplaced.Full = (s.book.version < MOST_VERSIONS) × IsPlaceError s.book q Full
+IsPlaceRefusal s q unplaced.Links = (s.book.version < MOST_VERSIONS) × IsPlaceError s.book q TooManyLinks
+IsPlaceRefusal s q unplaced.Twice = (s.book.version < MOST_VERSIONS) × IsPlaceError s.book q Twice
+
+-- The request is answered in the effective database without the placement of its id, and a route is
+-- placed. This is the book afterwards, and its version is that of the line. Before there was room.
+pub record IsPlaceAnswered (s : BookRunState) (q : Request) (hold : ℕ) (line : List ℕ) (book : BookState) : Type 0 where
+  pub room : s.book.version < MOST_VERSIONS
+  pub few : HasRoomFor s.book q.id
+  pub answer : Answer
+  pub best : IsBestAnswer (effective_beside s.book q.id) q answer
+  pub placed : IsAnswerPlaced s.book q hold answer book
+  pub reply : IsPlaceReply q.id book.version answer line
+
+-- a request to place is answered, or it is refused and the book stays
+abbrev pub IsPlaceTaken : BookRunState → Request → ℕ → List ℕ → BookRunState → Type 0
+IsPlaceTaken s q hold line after =
+    (IsPlaceAnswered s q hold line after.book × (after ≡ after_answer s after.book))
+    ⊎ ((why : PlaceRefusal) × IsPlaceRefusal s q why × (line ≡ refused_place_line q.id why) × (after ≡ after_refusal s))
+
+-- why no placement with this id is released: the first of these that applies
+abbrev pub IsReleaseRefusal : BookRunState → ℕ → ReleaseRefusal → Type 0
+IsReleaseRefusal s id unreleased.Exhausted = MOST_VERSIONS ≤ s.book.version
+IsReleaseRefusal s id unreleased.Absent = (s.book.version < MOST_VERSIONS) × (¬ IsTrue (has_id id s.book.placements))
+
+-- a placement is released, or it is refused and the book stays
+abbrev pub IsReleaseTaken : BookRunState → ℕ → List ℕ → BookRunState → Type 0
+IsReleaseTaken s id line after =
+    ((s.book.version < MOST_VERSIONS) × IsTrue (has_id id s.book.placements)
+    × (line ≡ released_line id (s.book.version + 1)) × (after ≡ after_release s id))
+    ⊎ ((why : ReleaseRefusal) × IsReleaseRefusal s id why × (line ≡ refused_release_line id why) × (after ≡ after_refusal s))
+
+-- a row of the base, or one that asks, is answered, by what it asks for
+abbrev pub IsBookStepAnswered : BookRunState → Step → List ℕ → BookRunState → Type 0
+IsBookStepAnswered s (step.Change c) line after = (line ≡ []) × (after ≡ after_open_change s c)
+IsBookStepAnswered s (step.End number count) line after = IsBaseEndAnswered s number count line after
+IsBookStepAnswered s (step.Ask q) line after = IsAskAnswered s q line after
+
+-- a row that is read is answered these lines
+abbrev pub IsBookRowTaken : BookRunState → BookRow → List ℕ → BookRunState → Type 0
+IsBookRowTaken s (book_row.Base row) line after = IsBookStepAnswered s (step_of row) line after
+IsBookRowTaken s (book_row.Place q hold) line after = IsPlaceTaken s q hold line after
+IsBookRowTaken s (book_row.Release id) line after = IsReleaseTaken s id line after
+
+-- the lines that the row at a place, from 1, is answered, and the state after it
+abbrev pub IsBookRowAnswered : ℕ → BookRunState → Result BookRow RowError → List ℕ → BookRunState → Type 0
+IsBookRowAnswered place s (Err error) line after = (line ≡ refused_row_line place error) × (after ≡ after_refusal s)
+IsBookRowAnswered place s (Ok row) line after = IsBookRowTaken s row line after
+
+-- how each row is answered, by its fields
+abbrev pub book_answers : AnswersOf BookRunState
+book_answers place s fields line after = IsBookRowAnswered place s (book_row_of fields) line after
+
+-- rows are answered one after the other, from the first state to this one
+abbrev pub AreBookRowsAnswered : List (List (List ℕ)) → List ℕ → BookRunState → Type 0
+AreBookRowsAnswered rows lines after = AreAnswered book_answers 1 book_start rows lines after
+
+-- the summary of a run over this many rows that ends in a state
+abbrev pub book_summary_of : ℕ → BookRunState → Bool → Summary
+book_summary_of rows s too_many = record {
+  rows = rows;
+  version = s.book.version;
+  answers = s.answers;
+  refused = s.refused + unended_count too_many s.changes;
+  too_many = too_many;
+}
+
+-- A run over rows: the first 1,000,000 of them are answered one after the other, and then comes the
+-- last line.
+pub record IsBookRun (rows : List (List (List ℕ))) (lines : List ℕ) (summary : Summary) : Type 0 where
+  pub replies : List ℕ
+  pub after : BookRunState
+  pub answered : AreBookRowsAnswered (take MOST_ROWS rows) replies after
+  pub whole : lines ≡ replies ++ last_line (is_too_many rows) after.changes
+  pub counts : summary ≡ book_summary_of (length (take MOST_ROWS rows)) after (is_too_many rows)
+
+-- a run over the rows of a stream of bytes
+abbrev pub IsBookScript : List ℕ → List ℕ → Summary → Type 0
+IsBookScript bytes lines summary = IsBookRun (rows_of bytes) lines summary

@@ -1,0 +1,45 @@
+-- What is kept of the rows that a run accepts: from it the book can be made again.
+use Rattle.std.specs.Prelude.{◌≡◌, ◌==◌, if◌then◌else◌, ℕ, List, [], take, Result, Ok, Err}
+use Rattle.csv.specs.Writing.{default_writer, row_text}
+use Rattle.cspf_rows.specs.declared.limits.TheConstants.{MOST_ROWS}
+use Rattle.cspf_rows.specs.declared.row_error.RowError.{RowError}
+use Rattle.cspf_rows.specs.BatchText.{batch_text}
+use Rattle.cspf_stream.specs.RowAnswers.{AnswersOf, AreAnswered}
+use Rattle.cspf_stream.specs.Steps.{step_of}
+use Rattle.cspf_stream.specs.declared.step.Step.{Step}
+use Rattle.cspf_stream.specs.declared.step.Step.TheVariants as step
+use Rattle.cspf_book_run.specs.BookRows.{book_row_of}
+use Rattle.cspf_book_run.specs.BookScript.{BookRunState, book_answers, book_start, open_base_batch}
+use Rattle.cspf_book_run.specs.declared.book_row.BookRow.{BookRow}
+use Rattle.cspf_book_run.specs.declared.book_row.BookRow.TheVariants as book_row
+
+-- what is kept of a row of the base, where it makes a version: of an end row the text of its batch
+abbrev pub text_of_step : BookRunState → Step → List ℕ
+text_of_step s (step.Change c) = []
+text_of_step s (step.End number count) = batch_text (open_base_batch s number)
+text_of_step s (step.Ask q) = []
+
+-- what is kept of a row, where it makes a version: of one that places or releases its own text
+abbrev pub text_of_row : BookRunState → List (List ℕ) → Result BookRow RowError → List ℕ
+text_of_row s fields (Err e) = []
+text_of_row s fields (Ok (book_row.Base row)) = text_of_step s (step_of row)
+text_of_row s fields (Ok (book_row.Place q hold)) = row_text default_writer fields
+text_of_row s fields (Ok (book_row.Release id)) = row_text default_writer fields
+
+-- What is kept of the row with these fields, by the states before and after it. A row is accepted where it
+-- makes a version: an end row whose batch is accepted, a row that places a route, and one that releases.
+-- Nothing is kept of others.
+abbrev pub kept_of : BookRunState → List (List ℕ) → BookRunState → List ℕ
+kept_of s fields t = if t.book.version == s.book.version then [] else text_of_row s fields (book_row_of fields)
+
+-- the row at a place, from 1, is answered, and this is kept of it
+abbrev pub kept_answers : AnswersOf BookRunState
+kept_answers place s fields text t = (line : List ℕ) × book_answers place s fields line t × (text ≡ kept_of s fields t)
+
+-- rows are answered one after the other, from the first state to this one, and this is kept of them
+abbrev pub AreBookRowsKept : List (List (List ℕ)) → List ℕ → BookRunState → Type 0
+AreBookRowsKept rows text after = AreAnswered kept_answers 1 book_start rows text after
+
+-- this is kept of the rows of a run, of which the first 1,000,000 are answered
+abbrev pub IsKeptText : List (List (List ℕ)) → List ℕ → Type 0
+IsKeptText rows text = (after : BookRunState) × AreBookRowsKept (take MOST_ROWS rows) text after

@@ -1,0 +1,12 @@
+-- The words of this crate's contracts.
+pub mod BookRows
+pub mod BookLines
+pub mod BookEnds
+pub mod BookScript
+pub mod Kept
+pub mod BookOutput
+pub mod BookScriptLaws
+pub mod KeptLaws
+pub mod BookStates
+pub mod BookRowsEnds
+pub mod KeptStates

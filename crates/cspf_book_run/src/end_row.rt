@@ -1,0 +1,32 @@
+ghost use Rattle.std.specs.Prelude.{◌≤◌, IfSome, IfNone};
+ghost use Rattle.cspf_book_run.specs.BookEnds.{IsRightBookEnd, IsWrongBookEnd};
+
+use cspf_model::MOST_VERSIONS;
+use cspf_stream::BatchRefusal;
+
+/// Why an end row is refused before its batch is looked at, if it is: at this version, after this many
+/// base batches, with this many open changes.
+pub(crate) fn wrong_end(
+    version: u32,
+    batches: u32,
+    number: u32,
+    count: u32,
+    changes: u64,
+) -> Option<BatchRefusal>
+    requires { batches ≤ version }
+    ensures wrong { IfSome result (λ why. IsWrongBookEnd version batches number count changes why) }
+    ensures right { IfNone result (IsRightBookEnd version batches number count changes) }
+{
+    if version >= MOST_VERSIONS {
+        return Some(BatchRefusal::Exhausted);
+    }
+    if number != batches + 1 {
+        return Some(BatchRefusal::WrongNumber {
+            expected: batches + 1,
+        });
+    }
+    if u64::from(count) != changes {
+        return Some(BatchRefusal::WrongCount { counted: changes });
+    }
+    None
+}

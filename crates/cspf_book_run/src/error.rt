@@ -1,0 +1,29 @@
+use cspf_solve::SolveError;
+use std::alloc::AllocError;
+use thiserror::Error;
+
+/// Why a run to a book stops before the end of its rows.
+#[derive(Clone, Copy, Debug, PartialEq, Eq, Error)]
+pub enum BookError {
+    /// Memory was refused, or a read or a write of the rows or lines failed.
+    #[error("{0}")]
+    Run(SolveError),
+    /// What is kept of an accepted row wasn't written whole.
+    #[error("a write of an accepted row failed after {written} bytes")]
+    Keep {
+        /// How many bytes of what is kept of the row were written.
+        written: usize,
+    },
+}
+
+impl From<AllocError> for BookError {
+    ghost use Rattle.std.specs.Prelude.{◌≡◌};
+    ghost use Rattle.cspf_solve.specs.declared.error.SolveError.TheVariants as solve_error;
+    ghost use Rattle.cspf_book_run.specs.declared.error.BookError.TheVariants as book_error;
+
+    ghost from_gives = { λ _ error. error ≡ book_error.Run solve_error.Memory };
+
+    fn from(_refused: AllocError) -> BookError {
+        BookError::Run(SolveError::Memory)
+    }
+}

@@ -1,0 +1,121 @@
+//! The lines of a book, the line feed of each included.
+
+ghost use Rattle.std.specs.Prelude.{◌≡◌, ◌≤◌, ◌++◌, drop, length, IfOk, OnOk};
+ghost use Rattle.std.specs.List.{flat_map};
+ghost use Rattle.cspf_model.specs.Outcome.{answer_of};
+ghost use Rattle.cspf_book_run.specs.BookLines.{over_line, lost_line, base_line, released_line, refused_place_line, refused_release_line, IsPlaceReply};
+
+use crate::refusals::{PlaceRefusal, ReleaseRefusal};
+use cspf_book::Over;
+use cspf_ero::reply_line;
+use cspf_model::Outcome;
+use std::alloc::{AllocError, Global};
+
+/// The lines of a base batch that is accepted: of the links with less than is counted on them, of the
+/// placements whose routes are lost, and of the batch.
+pub(crate) fn base_lines(
+    alloc: Global,
+    over: &[Over],
+    lost: &[u64],
+    number: u32,
+    version: u32,
+) -> Result<Vec<u8>, AllocError>
+    ensures { IfOk result (λ lines. lines.items ≡ flat_map over_line over.now
+        ++ flat_map lost_line lost.now ++ base_line number version) }
+{
+    let mut lines = Vec::new(alloc);
+    write_over(alloc, &mut lines, over)?;
+    write_lost(alloc, &mut lines, lost)?;
+    let last = format!(in alloc; "base {number} v{version}\n")?;
+    lines.extend_from_slice(last.as_bytes())?;
+    Ok(lines)
+}
+
+/// Writes the line of each link with less than is counted on it.
+fn write_over(alloc: Global, lines: &mut Vec<u8>, over: &[Over]) -> Result<(), AllocError>
+    ensures { OnOk result (lines.new.items ≡ lines.old.items ++ flat_map over_line over.now) }
+{
+    for it in over {
+        let line = line_of_over(alloc, it)?;
+        lines.extend_from_slice(line.as_slice())?;
+    }
+    Ok(())
+}
+
+/// The line of a link with less than is counted on it.
+fn line_of_over(alloc: Global, over: &Over) -> Result<Vec<u8>, AllocError>
+    ensures { IfOk result (λ line. line.items ≡ over_line over.now) }
+{
+    let (from, local, priority) = (over.from, over.local, over.priority);
+    Ok(format!(in alloc; "over {from},{local} {priority}\n")?.into_bytes())
+}
+
+/// Writes the line of each placement whose route is lost.
+fn write_lost(alloc: Global, lines: &mut Vec<u8>, lost: &[u64]) -> Result<(), AllocError>
+    ensures { OnOk result (lines.new.items ≡ lines.old.items ++ flat_map lost_line lost.now) }
+{
+    for id in lost {
+        let line = line_of_lost(alloc, *id)?;
+        lines.extend_from_slice(line.as_slice())?;
+    }
+    Ok(())
+}
+
+/// The line of a placement whose route is lost.
+fn line_of_lost(alloc: Global, id: u64) -> Result<Vec<u8>, AllocError>
+    ensures { IfOk result (λ line. line.items ≡ lost_line id) }
+{
+    Ok(format!(in alloc; "lost {id}\n")?.into_bytes())
+}
+
+/// The line of a request that was to be placed, which is answered at a version.
+pub(crate) fn place_line(
+    alloc: Global,
+    id: u64,
+    version: u32,
+    outcome: &Outcome,
+) -> Result<Vec<u8>, AllocError>
+    ensures { IfOk result (λ line. IsPlaceReply id version (answer_of outcome.now) line.items) }
+{
+    let asked = reply_line(alloc, id, version, outcome)?;
+    let mut line = Vec::from_slice(alloc, b"place")?;
+    line.extend_from_slice(after_word(asked.as_slice()))?;
+    Ok(line)
+}
+
+/// What follows the word `ask`.
+fn after_word(line: &[u8]) -> &[u8]
+    requires { 3 ≤ length line.now }
+    ensures { result.now ≡ drop 3 line.now }
+{
+    &line[3..]
+}
+
+/// The line of a request that isn't placed.
+pub(crate) fn refused_place(
+    alloc: Global,
+    id: u64,
+    why: PlaceRefusal,
+) -> Result<Vec<u8>, AllocError>
+    ensures { IfOk result (λ line. line.items ≡ refused_place_line id why) }
+{
+    Ok(format!(in alloc; "place {id} refused: {why}\n")?.into_bytes())
+}
+
+/// The line of a placement that is released, which makes this version.
+pub(crate) fn released(alloc: Global, id: u64, version: u32) -> Result<Vec<u8>, AllocError>
+    ensures { IfOk result (λ line. line.items ≡ released_line id version) }
+{
+    Ok(format!(in alloc; "released {id} v{version}\n")?.into_bytes())
+}
+
+/// The line of a placement that isn't released.
+pub(crate) fn refused_release(
+    alloc: Global,
+    id: u64,
+    why: ReleaseRefusal,
+) -> Result<Vec<u8>, AllocError>
+    ensures { IfOk result (λ line. line.items ≡ refused_release_line id why) }
+{
+    Ok(format!(in alloc; "release {id} refused: {why}\n")?.into_bytes())
+}

@@ -1,0 +1,61 @@
+//! Why a book refuses to place or to release.
+ghost use Rattle.std.specs.Prelude.{◌≡◌};
+
+use std::error::Error;
+use std::fmt;
+
+/// Why a request isn't placed.
+#[derive(Clone, Copy, Debug, PartialEq, Eq)]
+pub enum PlaceRefusal {
+    /// The version is 1,000,000.
+    Exhausted,
+    /// The book has as many placements of other ids as it may have.
+    Full,
+    /// The routes of all placements would have more links than they may have.
+    Links,
+    /// The best route uses a link twice.
+    Twice,
+}
+
+impl fmt::Display for PlaceRefusal {
+    ghost use Rattle.std.specs.Prelude.{Some};
+    ghost use Rattle.cspf_book_run.specs.BookLines.{place_words};
+
+    ghost output = { λ refusal. Some (place_words refusal) };
+
+    fn fmt<W: fmt::Write>(&self, f: &mut fmt::Formatter<W>) -> fmt::Result {
+        match self {
+            PlaceRefusal::Exhausted => f.write_str("exhausted"),
+            PlaceRefusal::Full => f.write_str("full"),
+            PlaceRefusal::Links => f.write_str("links"),
+            PlaceRefusal::Twice => f.write_str("twice"),
+        }
+    }
+}
+
+impl Error for PlaceRefusal {}
+
+/// Why nothing is released.
+#[derive(Clone, Copy, Debug, PartialEq, Eq)]
+pub enum ReleaseRefusal {
+    /// The version is 1,000,000.
+    Exhausted,
+    /// No placement has the id.
+    Absent,
+}
+
+impl fmt::Display for ReleaseRefusal {
+    ghost use Rattle.std.specs.Prelude.{Some};
+    ghost use Rattle.cspf_book_run.specs.BookLines.{release_words};
+
+    ghost output = { λ refusal. Some (release_words refusal) };
+
+    fn fmt<W: fmt::Write>(&self, f: &mut fmt::Formatter<W>) -> fmt::Result {
+        match self {
+            ReleaseRefusal::Exhausted => f.write_str("exhausted"),
+            ReleaseRefusal::Absent => f.write_str("absent"),
+        }
+    }
+}
+
+impl Error for ReleaseRefusal {}

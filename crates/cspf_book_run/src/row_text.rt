@@ -1,0 +1,40 @@
+//! The text of a row, as it is kept.
+
+ghost use Rattle.std.specs.Prelude.{◌≡◌, ◌==◌, ◌++◌, [], if◌then◌else◌, IfOk};
+ghost use Rattle.csv.specs.Records.{fields_of};
+ghost use Rattle.csv.specs.Writing.{default_writer, row_text, writer_under, writer_pending};
+
+use csv::{ByteRecord, Writer};
+use std::alloc::{AllocError, Global};
+
+/// The fields of a row as `csv` writes them: with a comma between each two, and a line feed. A field is in
+/// quotes only where it has a comma, a quotation mark or the end of a line.
+pub(crate) fn row_text(alloc: Global, fields: &ByteRecord) -> Result<Vec<u8>, AllocError>
+    ensures { IfOk result (λ text. text.items ≡ row_text default_writer (fields_of fields.now)) }
+{
+    let mut rows = Writer::from_writer(Vec::new(alloc));
+    match rows.write_byte_record(fields) {
+        Ok(()) => written(rows),
+        Err(_refused) => Err(AllocError),
+    }
+}
+
+/// All that was written to a writer.
+fn written(rows: Writer<Vec<u8>>) -> Result<Vec<u8>, AllocError>
+    ensures { IfOk result (λ text. text.items ≡ (writer_under rows).items ++ writer_pending rows) }
+{
+    match rows.into_inner() {
+        Ok(text) => Ok(text),
+        Err(_refused) => Err(AllocError),
+    }
+}
+
+/// The text where the version is another one than before, and else nothing.
+pub(crate) fn text_if_new(mut text: Vec<u8>, before: u32, after: u32) -> Vec<u8>
+    ensures { result.items ≡ (if after == before then [] else text.items) }
+{
+    if after == before {
+        text.clear();
+    }
+    text
+}

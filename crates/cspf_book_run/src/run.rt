@@ -1,0 +1,163 @@
+//! The run of `book`: one stream of rows in, the lines of each out, and what is kept of them.
+
+ghost use Rattle.std.specs.Prelude.{◌≡◌, ℕ, ◌+◌, ◌*◌, ◌^◌, ◌≤◌, List, true, None, IfOk, IfErr, IfSome};
+ghost use Rattle.std.specs.Io.KnownBytes.{Appends};
+ghost use Rattle.csv.specs.Reading.{has_failed};
+ghost use Rattle.cspf_rows.specs.Records.{rows_of, rows_left, IsPlain};
+ghost use Rattle.cspf_solve.specs.declared.error.SolveError.TheVariants.{Read as IsRead};
+ghost use Rattle.cspf_solve.specs.Script.{last_line};
+ghost use Rattle.cspf_book_run.specs.declared.error.BookError.TheVariants.{Run as IsOfRun};
+ghost use Rattle.cspf_book_run.specs.BookScript.{BookRunState, book_start, IsBookRun, IsBookScript, book_summary_of};
+ghost use Rattle.cspf_book_run.specs.Kept.{IsKeptText};
+ghost use Rattle.cspf_book_run.specs.BookOutput.{IsBookOutputAtError};
+ghost use Rattle.cspf_book_run.specs.BookStates.{KeepsBook, AreBookCounts, IsBookBefore};
+ghost use Rattle.cspf_book_run.specs.BookRowsEnds.{IsBookRowsEnd, IsBookEndCut, book_end};
+
+use crate::book_rows::BookRows;
+use crate::error::BookError;
+use crate::kept_rows::KeptRows;
+use cspf_rows::{MOST_ROWS, open_records, put_all};
+use cspf_solve::{SolveError, Summary};
+use cspf_stream::{StreamError, answer_first_rows};
+use csv::Reader;
+use std::alloc::Global;
+use std::io::{Read, Write};
+
+/// Reads a stream of rows to a book and writes the lines of each when they are known, in one write where
+/// the writer takes them whole. `IsBookScript` defines the lines, and when something is refused. At most
+/// 1,000,000 rows are read. Before the lines of a row that is accepted, what is kept of it goes to `keep`,
+/// as `IsKeptText` defines it. Returns `keep`, too.
+///
+/// After an error the writer has the lines of a prefix of the rows. After a failed write it may
+/// also have a part of the next text, but not all of it. `Read` comes from a read that failed and
+/// `Write` from a write that failed or took no bytes. `Keep` comes from such a write to `keep`, which may
+/// then have a part of what is kept of the next row; that row has no line. Nothing is flushed.
+pub fn run_book<R: Read + Drop, W: Write, K: Write>(
+    alloc: Global,
+    reader: R,
+    writer: &mut W,
+    keep: K,
+) -> (Result<Summary, BookError>, K)
+    ensures whole { IfOk result.0 (λ summary. IfSome (R.remaining reader) (λ bytes.
+        (lines : List ℕ) × IsBookScript bytes lines summary
+        × Appends (W.contents writer.old) (W.contents writer.new) lines)) }
+    ensures kept { IfOk result.0 (λ _. IfSome (R.remaining reader) (λ bytes.
+        (text : List ℕ) × IsKeptText (rows_of bytes) text
+        × Appends (K.contents keep) (K.contents result.1) text)) }
+    ensures stopped { IfErr result.0 (λ error. IfSome (R.remaining reader) (λ bytes.
+        (out : List ℕ) × (text : List ℕ) × IsBookOutputAtError error (rows_of bytes) out text
+        × Appends (W.contents writer.old) (W.contents writer.new) out
+        × Appends (K.contents keep) (K.contents result.1) text)) }
+{
+    match BookRows::new(alloc) {
+        Ok(book) => {
+            let mut book = KeptRows::new(book, keep);
+            let mut rows = open_records(alloc, reader);
+            let ran = answer_all(alloc, &mut rows, &mut book, writer);
+            (ran, book.into_keep())
+        }
+        Err(_refused) => (Err(BookError::Run(SolveError::Memory)), keep),
+    }
+}
+
+/// Answers the rows that a reader has left.
+fn answer_all<R: Read, W: Write, K: Write>(
+    alloc: Global,
+    rows: &mut Reader<R>,
+    book: &mut KeptRows<K>,
+    writer: &mut W,
+) -> Result<Summary, BookError>
+    requires plain { IsPlain rows.old }
+    requires fresh { KeepsBook book.old.rows book_start }
+    requires first { IsBookBefore 1 book.old.rows }
+    requires going { book.old.fault ≡ None }
+    ensures whole { IfOk result (λ summary. IfSome (rows_left R.remaining rows.old) (λ all.
+        (lines : List ℕ) × IsBookRun all lines summary
+        × Appends (W.contents writer.old) (W.contents writer.new) lines)) }
+    ensures kept { IfOk result (λ _. IfSome (rows_left R.remaining rows.old) (λ all.
+        (text : List ℕ) × IsKeptText all text
+        × Appends (K.contents book.old.keep) (K.contents book.new.keep) text)) }
+    ensures stopped { IfErr result (λ error. IfSome (rows_left R.remaining rows.old) (λ all.
+        (out : List ℕ) × (text : List ℕ) × IsBookOutputAtError error all out text
+        × Appends (W.contents writer.old) (W.contents writer.new) out
+        × Appends (K.contents book.old.keep) (K.contents book.new.keep) text)) }
+    // Only the reader's own fault is answered `Read`.
+    ensures read { IfErr result (λ error. error ≡ IsOfRun IsRead → has_failed rows.new ≡ true) }
+{
+    let (written, ended) = answer_most(alloc, rows, book, writer);
+    finish(alloc, book.rows(), writer, written, ended?)
+}
+
+/// Answers the first 1,000,000 rows that a reader has left. Returns how many bytes of lines were written,
+/// and whether there are more rows, or why the run stops in them.
+fn answer_most<R: Read, W: Write, K: Write>(
+    alloc: Global,
+    rows: &mut Reader<R>,
+    book: &mut KeptRows<K>,
+    writer: &mut W,
+) -> (u128, Result<bool, BookError>)
+    requires plain { IsPlain rows.old }
+    requires fresh { KeepsBook book.old.rows book_start }
+    requires first { IsBookBefore 1 book.old.rows }
+    requires going { book.old.fault ≡ None }
+    ensures ends { IsBookRowsEnd (rows_left R.remaining rows.old) (record {
+      before = W.contents writer.old;
+      after = W.contents writer.new;
+      keep_before = K.contents book.old.keep;
+      keep_after = K.contents book.new.keep;
+    }) book.new.rows result.0 (has_failed rows.new) result.1 }
+    ensures small { result.0 ≤ MOST_ROWS * 2 ^ 64 }
+{
+    let limit = u64::from(MOST_ROWS);
+    let (written, ended) = answer_first_rows(&(), alloc, limit, false, rows, writer, book);
+    (written, end_after_rows(written, ended, book.fault()))
+}
+
+/// How the rows end, after `written` bytes of lines: whether there are more than are read, or why the run
+/// stops there. The fault is that of a write of what is kept.
+fn end_after_rows(
+    written: u128,
+    ended: Result<(), StreamError>,
+    fault: Option<usize>,
+) -> Result<bool, BookError>
+    ensures { result ≡ book_end written ended fault }
+{
+    if let Some(kept) = fault {
+        return Err(BookError::Keep { written: kept });
+    }
+    match ended {
+        Ok(()) => Ok(false),
+        Err(StreamError::TooManyRows) => Ok(true),
+        Err(StreamError::Memory) => Err(BookError::Run(SolveError::Memory)),
+        Err(StreamError::Read) => Err(BookError::Run(SolveError::Read)),
+        Err(StreamError::Write | StreamError::Flush) => {
+            Err(BookError::Run(SolveError::Write { written }))
+        }
+    }
+}
+
+/// Writes the last line, after `written` bytes, and returns the summary.
+fn finish<W: Write>(
+    alloc: Global,
+    book: &BookRows,
+    writer: &mut W,
+    written: u128,
+    too_many: bool,
+) -> Result<Summary, BookError>
+    requires counted { AreBookCounts book.now }
+    requires room { written ≤ MOST_ROWS * 2 ^ 64 }
+    ensures ended { IfOk result (λ summary. (s : BookRunState) → KeepsBook book.now s
+        → Appends (W.contents writer.old) (W.contents writer.new) (last_line too_many s.changes)
+        × (summary ≡ book_summary_of book.now.read s too_many)) }
+    ensures stopped { IfErr result (λ error. (s : BookRunState) → KeepsBook book.now s
+        → IsBookEndCut (last_line too_many s.changes)
+        (W.contents writer.old) (W.contents writer.new) written error) }
+{
+    let line = book.last_line(alloc, too_many)?;
+    match put_all(writer, line.as_slice()) {
+        Ok(()) => Ok(book.summary(too_many)),
+        Err(size) => Err(BookError::Run(SolveError::Write {
+            written: written + size as u128,
+        })),
+    }
+}

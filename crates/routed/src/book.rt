@@ -1,0 +1,87 @@
+//! `routed book` answers the rows of standard input over a book of placements, each line when it is known.
+
+use crate::devices::{INPUT, OUTPUT, created, flushed, held_places};
+use crate::noted::Noted;
+use crate::options::{Asked, Call, CommandOption, CommandText, KEEP};
+use crate::stopped::{Ran, Stopped};
+use cspf_book_run::{BookError, run_book};
+use std::io;
+use std::io::Write;
+
+/// The command with its options.
+pub const COMMAND: CommandText = CommandText {
+    asked: Asked::Book,
+    name: "book",
+    about: "Places requests of standard input one after the other, and counts their bandwidth",
+    help: HELP,
+    options: &[CommandOption::Keep, CommandOption::Explain],
+};
+
+/// What help says below the options.
+const HELP: &str = "\
+Rows of standard input: put, drop, node, end and ask as for routed solve, and
+  place,id,from,to,hold,bandwidth,exclude_any,include_any,include_all,hops
+      places a request along its least admissible route, where its bandwidth is held at the priorities
+      hold to 7 from then on; it takes the place of an earlier placement of the same id
+  release,id
+      takes out the placement with this id
+
+The end rows number the batches of the base from 1. Placements leave less of the base's bandwidth. What
+is asked and what is placed sees only the rest, at its own setup priority or, where it is placed, at 7.
+Nothing is preempted.
+
+Lines of standard output, each as soon as it is known:
+  over ROUTER,LOCAL P        the batch leaves the link less at priority P than is counted on it; such
+                             lines and those of lost routes come before the line of their batch
+  lost ID                    the batch takes away the route of this placement
+  base N vV                  base batch N is accepted, which makes version V
+  ask ID vV route ..         a request is answered at version V; also none, unknown-from, unknown-to
+  place ID vV route ..       a request is placed, which makes version V; or it is answered none,
+                             unknown-from or unknown-to at version V, and nothing changes
+  released ID vV             a placement is released, which makes version V
+  place ID refused: ..       twice, full, links or exhausted; release ID refused: absent or exhausted
+  row N refused: ..          and batch N refused: .., unended K, too many rows
+
+With --keep the accepted rows go to a new file, each before its lines: of a base batch its rows with the
+end row, and each row that places a route or releases. A new run makes the same book of them, and goes on:
+  cat FILE - | routed book --keep NEXT
+A file that is there already is left as it is. If a write to it fails, the row has no line and the run
+stops. The file may then end in a part of what is kept of that row. Before it is read, take out what
+follows its last whole line that begins with end, place or release.
+
+Rows may be of any length that fits in memory. Standard output must be in blocking mode. If its reader
+exits early (routed book | head -1), the status is 3. A file that reaches the limit of its size
+(ulimit -f) ends the program by the signal XFSZ, or with status 3 after trap '' XFSZ in the shell.
+
+Status:
+  0  everything was accepted
+  1  the command line was refused
+  2  a row, a batch, a placing or a release was refused, or there were more than 1,000,000 rows
+  3  out of memory, a device failed, or the file of --keep exists already; the last line of standard
+     error is routed: stopped, and with --explain the line before it says why";
+
+/// Answers the rows of standard input on standard output. With `--keep` the rows that are accepted go
+/// to a new file. Lines that were written before a fault stay written.
+pub(crate) fn answer(call: &Call<'_, '_>) -> Ran {
+    if call.gives(KEEP) {
+        // The new file isn't taken for a standard stream that is closed.
+        let _held = held_places(call.rt);
+        let mut keep = created(call, KEEP)?;
+        let ran = answer_rows(call.rt, &mut keep);
+        flushed(&mut keep, ran)
+    } else {
+        answer_rows(call.rt, &mut Noted::new(KEEP, io::sink()))
+    }
+}
+
+/// Answers the rows of standard input, and writes those that are accepted.
+fn answer_rows<K: Write>(rt: &HostRuntime, keep: &mut Noted<K>) -> Ran {
+    let mut reader = Noted::new(INPUT, rt.reader());
+    let mut out = Noted::new(OUTPUT, io::writer(rt));
+    let (ran, keep) = run_book(rt.alloc(), &mut reader, &mut out, keep);
+    match ran {
+        Ok(summary) => flushed(&mut out, Ok(summary.status())),
+        Err(BookError::Run(error)) => Err(Stopped::Solve(error).by(reader.fault(), out.fault())),
+        Err(error) => Err(Stopped::Book(error).by(None, keep.fault())),
+    }
+}
