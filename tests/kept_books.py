@@ -77,6 +77,11 @@ def refused_files(program, checks):
             found = program.run(["book", "--explain", "--keep", words], b"end,1,0\n")
             checks.same(f"kept in {os.path.basename(words)}", found, (3, b"", f"routed: {said}\n".encode() + STOPPED))
         checks.same("a file that was there", held(path), b"end,1,0\n")
+        rows, path = Kept(b"end,1,0\nend,2,0\n"), os.path.join(room, "closed")
+        found = subprocess.run(["sh", "-c", f'"{program.path}" book --keep "{path}" >&-'], input=rows.rows, capture_output=True, timeout=60)
+        checks.same("kept where standard output is closed", (found.returncode, found.stderr, held(path)), (3, STOPPED, b"end,1,0\n"))
+        found = subprocess.run(["sh", "-c", f'"{program.path}" book --keep "{path}2" <&-'], capture_output=True, timeout=60)
+        checks.same("kept where standard input is closed, which then reads as nothing", (found.returncode, found.stdout, held(f"{path}2")), (0, b"", b""))
         status, out, _ = program.run(["book", "--keep"], b"")
         checks.same("no file to keep in", (status, out), (1, b""))
 
