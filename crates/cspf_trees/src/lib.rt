@@ -12,6 +12,6 @@ mod tree_table;
 mod trees;
 
 pub use laws::trees_outlast_bandwidth;
-pub use limits::MOST_TREES;
+pub use limits::{MOST_TREES, TREE_BYTES};
 pub use tree_table::TreeTable;
 pub use trees::Trees;

@@ -1,5 +1,8 @@
-/// How many rows there are. Each has one tree at most, of 4,096 bytes of bounds.
+/// How many rows there are. Each has one tree at most.
 pub const MOST_TREES: usize = 4096;
+
+/// The bytes that the bounds of a tree take.
+pub const TREE_BYTES: usize = 6144;
 
 /// How many rows a class may be in.
 pub(crate) const WAYS: usize = 4;

@@ -8,7 +8,7 @@ ghost use Rattle.cspf_trees.specs.TreeRows.{IsAskedOf, IsEmptyTreeRow, HasTreeOf
 ghost use Rattle.cspf_trees.specs.declared.limits.TheConstants.{MOST_TREES, WAYS};
 
 use crate::class::Class;
-use crate::limits::{ASKS_FOR_A_TREE, MOST_ASKS, MOST_TREES, WAYS};
+use crate::limits::{MOST_ASKS, MOST_TREES, WAYS};
 use cspf_addr::{Addr, Mask};
 use cspf_db::Table;
 use cspf_model::Request;
@@ -63,8 +63,17 @@ fn grown(alloc: Global, table: &Table, request: &Request) -> Option<Tree>
     }
 }
 
-/// Counts one more ask of the class of a request, and grows its tree when it is due and may be grown.
-fn count(alloc: Global, table: &Table, request: &Request, may_grow: bool, row: &mut TreeRow)
+/// Whether a tree is due at so many asks.
+fn is_due(due: Option<u32>, asks: u32) -> bool {
+    match due {
+        Some(least) => asks >= least,
+        None => false,
+    }
+}
+
+/// Counts one more ask of the class of a request. Its tree is grown at the ask when it is due, if one
+/// may be grown.
+fn count(alloc: Global, table: &Table, request: &Request, due: Option<u32>, row: &mut TreeRow)
     requires class { HasClass request.now row.old.class }
     requires row { HasTreeOf table.now row.old.generation row.old }
     ensures row { HasTreeOf table.now row.old.generation row.new }
@@ -74,7 +83,7 @@ fn count(alloc: Global, table: &Table, request: &Request, may_grow: bool, row: &
     if row.asks < MOST_ASKS {
         row.asks += 1;
     }
-    if may_grow && row.asks >= ASKS_FOR_A_TREE && row.tree.is_none() {
+    if is_due(due, row.asks) && row.tree.is_none() {
         row.tree = grown(alloc, table, request);
     }
 }
@@ -87,7 +96,7 @@ pub(crate) fn ask(
     request: &Request,
     class: &Class,
     generation: u64,
-    may_grow: bool,
+    due: Option<u32>,
     row: &mut TreeRow,
 ) -> bool
     requires class { HasClass request.now class.now }
@@ -97,20 +106,20 @@ pub(crate) fn ask(
     ensures row { HasTreeOf table.now generation row.new }
     ensures asked { result ≡ true → IsAskedOf request.now generation row.new }
 {
-    if row.generation == generation && row.class == *class {
-        count(alloc, table, request, may_grow, row);
-        return true;
-    }
-    if row.generation == generation && row.asks > 0 {
+    let is_mine = row.generation == generation && row.class == *class;
+    if !is_mine && row.generation == generation && row.asks > 0 {
         row.asks -= 1;
         return false;
     }
-    *row = TreeRow {
-        generation,
-        class: *class,
-        asks: 1,
-        tree: None,
-    };
+    if !is_mine {
+        *row = TreeRow {
+            generation,
+            class: *class,
+            asks: 0,
+            tree: None,
+        };
+    }
+    count(alloc, table, request, due, row);
     true
 }
 

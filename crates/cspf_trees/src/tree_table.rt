@@ -42,9 +42,16 @@ impl TreeTable {
     pub fn new(alloc: Global) -> Result<TreeTable, AllocError>
         ensures { IfOk result (λ table. table ≡ no_links) }
     {
+        TreeTable::with_trees(alloc, MOST_TREES)
+    }
+
+    /// As `new`, with later at most this many trees.
+    pub fn with_trees(alloc: Global, most: usize) -> Result<TreeTable, AllocError>
+        ensures { IfOk result (λ table. table ≡ no_links) }
+    {
         Ok(TreeTable {
             table: Table::new(alloc)?,
-            trees: Trees::new(alloc, MOST_TREES),
+            trees: Trees::new(alloc, most),
         })
     }
 

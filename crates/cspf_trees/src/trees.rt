@@ -4,14 +4,14 @@ ghost use Rattle.std.specs.Prelude.{◌≤◌, All};
 
 use crate::class::{class_of, first_row};
 use crate::laws::trees_outlast_bandwidth;
-use crate::limits::MOST_TREES;
+use crate::limits::{ASKS_FOR_A_TREE, MOST_ASKS, MOST_TREES};
 use crate::tree_row::{TreeRow, ask, empty_rows, find};
 use cspf_db::Table;
 use cspf_model::{Batch, Outcome, Request};
 use cspf_search::{best, best_by_tree};
 use std::alloc::{AllocError, Global};
 
-/// Trees of one database, at most as many as `new` is told and `MOST_TREES`, with 4,096 bytes of bounds
+/// Trees of one database, at most as many as `new` is told and `MOST_TREES`, with `TREE_BYTES` of bounds
 /// each. A tree is grown at the eighth ask of its tail-end and affinities. Where there are as many, or
 /// memory for it is refused, requests are searched without it.
 #[derive(Drop)]
@@ -22,6 +22,8 @@ pub struct Trees {
     generation: u64,
     /// How many trees there may be.
     most: usize,
+    /// The ask of its class at which a tree is grown.
+    due: u32,
     /// How many there are, of any generation.
     count: usize,
     ghost past: { All (λ row. row.generation ≤ generation) rows.items },
@@ -53,10 +55,18 @@ impl Trees {
     pub fn new(alloc: Global, most: usize) -> Trees
         ensures { (d : Database) → AreTreesOf d result }
     {
+        Trees::from_ask(alloc, most, ASKS_FOR_A_TREE)
+    }
+
+    /// As `new`, but a tree is grown at this ask of its tail-end and affinities, at 64 at the latest.
+    pub fn from_ask(alloc: Global, most: usize, due: u32) -> Trees
+        ensures { (d : Database) → AreTreesOf d result }
+    {
         Trees {
             rows: Vec::new(alloc),
             generation: 0,
             most,
+            due: due.min(MOST_ASKS),
             count: 0,
         }
     }
@@ -119,10 +129,14 @@ impl Trees {
         let class = class_of(request);
         let generation = self.generation;
         let at = find(&self.rows, first_row(&class), &class, generation);
-        let may_grow = self.count < self.most;
+        let due = if self.count < self.most {
+            Some(self.due)
+        } else {
+            None
+        };
         let row = &mut self.rows[at];
         let had = row.tree.is_some();
-        let asked = ask(alloc, table, request, &class, generation, may_grow, row);
+        let asked = ask(alloc, table, request, &class, generation, due, row);
         let has = row.tree.is_some();
         self.count = counted(self.count, had, has);
         if asked { Some(at) } else { None }
