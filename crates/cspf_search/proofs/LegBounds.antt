@@ -1,5 +1,5 @@
 -- The bounds of the routers in a leg.
-use Rattle.std.proofs.Common.{◌≡◌, ◌≢◌, ◌⊎◌, inl, inr, ℕ, ◌+◌, ◌*◌, ◌/◌, ◌%◌, ◌^◌, ◌<◌, ◌≤◌, min, true, false, IsTrue, List, drop, length, replicate, set, slice_get, slice_index, slice_index_or, Some, refl, sym, ap, subst, ◌∙◌, arith}
+use Rattle.std.proofs.Common.{◌≡◌, ◌≢◌, ◌⊎◌, inl, inr, ℕ, ◌+◌, ◌*◌, ◌/◌, ◌%◌, ◌^◌, ◌<◌, ◌≤◌, min, Bool, true, false, IsTrue, List, drop, length, replicate, set, slice_get, slice_index, slice_index_or, Some, refl, sym, ap, subst, ◌∙◌, arith}
 use Rattle.std.proofs.lemmas.Bool.{cases_lt, false≢true}
 use Rattle.std.proofs.lemmas.List.{get_or_past, get_or-drop, get_or-replicate, length-replicate, get_or-set_other}
 use Rattle.std.proofs.lemmas.Option.{get_or_from_slice_get}
@@ -61,13 +61,12 @@ link_read all read n index link l is same at here =
     is ∙ ap (λ ls. slice_index_or ls n link) same ∙ ap (λ k. slice_index_or all k link) at ∙ get_or_from_slice_get all index l link here
 
 -- bounds may be cut at an edge that no router is beyond but those that are done
-pub cut_at_edge : (ring : Ring) (edge u w metric : ℕ)
-    → (is_done ring w ≡ true → IsWithin (bound_at ring.near.items u) (bound_at ring.near.items w) metric)
-    → (is_done ring w ≡ false → edge ≤ bound_at ring.near.items w)
-    → IsWithin (min (bound_at ring.near.items u) edge) (min (bound_at ring.near.items w) edge) metric
-cut_at_edge ring edge u w metric within least =
-    let near = ring.near.items in
-    elim (is_done ring w) as (λ b. is_done ring w ≡ b → IsWithin (min (bound_at near u) edge) (min (bound_at near w) edge) metric) [
+pub cut_at_edge : (near : List ℕ) (marks : List Bool) (edge u w metric : ℕ)
+    → (slice_index_or marks w false ≡ true → IsWithin (bound_at near u) (bound_at near w) metric)
+    → (slice_index_or marks w false ≡ false → edge ≤ bound_at near w)
+    → IsWithin (min (bound_at near u) edge) (min (bound_at near w) edge) metric
+cut_at_edge near marks edge u w metric within least =
+    elim (slice_index_or marks w false) as (λ b. slice_index_or marks w false ≡ b → IsWithin (min (bound_at near u) edge) (min (bound_at near w) edge) metric) [
       | true ↦ λ e. (
         omega (arith, (within e).0),
         λ way. elim (cases_lt (bound_at near w) NO_WAY) [
@@ -85,7 +84,7 @@ pub leg_of_ring : (d : Database) (q : Request) (leg : ℕ) (ring : Ring) (edge :
     → IsLegBound d q leg ring.near.items edge ahead
 leg_of_ring d q leg ring edge links least ahead targets = record {
   links = λ u w l admissible enters from to.
-      cut_at_edge ring edge u w l.metric (λ done. links u w done l admissible enters from to) (least w to.within);
+      cut_at_edge ring.near.items ring.done.items edge u w l.metric (λ done. links u w done l admissible enters from to) (least w to.within);
   targets = λ p h target. omega (arith, targets p h target);
 }
 

@@ -24,4 +24,5 @@ pub mod LegBounds
 mod Broken
 pub mod LegTargets
 pub mod Trees
+mod RowLocals
 pub mod TightWalks

@@ -1,5 +1,5 @@
 -- The invariant of each round of the search from a heap, and its result at the end.
-use Rattle.std.proofs.Common.{◌≡◌, ◌⊎◌, inl, inr, ℕ, zero, suc, ◌+◌, ◌-◌, ◌*◌, ◌/◌, ◌%◌, ◌≤◌, Some, None, option_map, List, [], ◌∷◌, ◌++◌, length, set, slice_get, slice_index, slice_index_or, refl, sym, ap, subst, ◌∙◌, arith}
+use Rattle.std.proofs.Common.{◌≡◌, ◌<◌, ◌⊎◌, inl, inr, ℕ, zero, suc, ◌+◌, ◌-◌, ◌*◌, ◌/◌, ◌%◌, ◌≤◌, Some, None, option_map, List, [], ◌∷◌, ◌++◌, length, set, slice_get, slice_index, slice_index_or, refl, sym, ap, subst, ◌∙◌, arith}
 use Rattle.std.specs.List.{Contains}
 use Rattle.std.proofs.lemmas.Bool.{cases_lt}
 use Rattle.std.proofs.lemmas.List.{get_or_push, get_or_read, length_push}
@@ -106,6 +106,14 @@ module _ (d : Database) (q : Request) (legs from to : ℕ) (goal : Goal) (asked 
     pub ended : ((key : HeapKey) → Contains keys key → IsLive goal labels key → ⊥) → labels_of nodes (end_state q) ≡ None → (w : List Link) → IsRoute d q w → ⊥
     ended none =
         no_route d q (labels_of nodes) before.settled (nothing_left d q asked.links asked.listed known nodes before.arena before.settled goal goal_there labels keys before.labelled before.left asked.bounds goal_end before.floor none)
+
+    -- the label of the least key comes from one of the nodes
+    pub parent_there : (i : ℕ) (rest : List HeapKey) → IsLeast d q goal labels keys i rest → (label : Label) → label ≡ slice_index_or labels i label → label.parent < length nodes
+    parent_there i rest least label at =
+        let reached =
+        popped d q asked.links asked.listed known nodes before.arena before.settled goal goal_there labels keys before.labelled before.left asked.bounds goal_end before.floor i rest least in
+        let same : label ≡ label_at labels i = get_or_read labels i label (omega (arith, least.index.low, before.labelled.many)) at no_label in
+        omega (arith, reached.parent, ap (λ (l : Label). l.parent) same)
 
     module _ (i : ℕ) (rest : List HeapKey) (least : IsLeast d q goal labels keys i rest) (node : Node) (is : node ≡ node_of d nodes (label_at labels i)) where
       reached : IsReached d nodes (CrossesBelow d q nodes (links_of d) (length nodes)) (label_at labels goal.at).rank (lift goal i) (state_at d i) (label_at labels i)

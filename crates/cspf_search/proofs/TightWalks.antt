@@ -1,20 +1,21 @@
--- Where one link alone is tight at each router on the way, the walk of these links is the least route.
+-- The walk over the first tight link of each router is the least route, where it leads to the tail-end.
 use Rattle.std.proofs.Common.{◌≡◌, ◌≢◌, inl, inr, ℕ, ◌+◌, ◌^◌, ◌<◌, ◌≤◌, Some, List, [], ◌∷◌, ◌++◌, ◌⊎◌, length, map, slice_get, slice_index, slice_index_or, refl, sym, ap, subst, ◌∙◌, arith, append_assoc, append-nil}
 use Rattle.std.specs.List.{All}
+use Rattle.std.specs.Cmp.{nat_cmp_total}
 use Rattle.std.specs.Ordering.{nat_cmp, ordering_then}
 use Rattle.std.specs.declared.cmp.Ordering.{Ordering}
-use Rattle.std.specs.declared.cmp.Ordering.TheVariants.{Less, Equal}
+use Rattle.std.specs.declared.cmp.Ordering.TheVariants.{Less, Equal, Greater}
 use Rattle.std.proofs.lemmas.Bool.{cases_lt}
 use Rattle.std.proofs.lemmas.Cmp.{tied_itself}
 use Rattle.std.proofs.lemmas.Bool.Decides.{nat_tests}
-use Rattle.std.proofs.lemmas.List.{length-append}
+use Rattle.std.proofs.lemmas.List.{length-append, length_push}
 use Rattle.std.proofs.lemmas.List.Sums.{sum_by-cons}
 use Rattle.std.proofs.lemmas.List.Elements.{All-contains, at_from_Contains}
 use Rattle.std.proofs.lemmas.Option.{get_or_from_slice_get, same_Some, slice_get_past, slice_get_read, slice_get-get_or, slice_get_within}
 use Rattle.cspf_columns.specs.declared.limits.TheConstants.{NO_LINK}
 use Rattle.cspf_model.specs.declared.link.Link.{Link}
 use Rattle.cspf_model.specs.declared.request.Request.{Request}
-use Rattle.cspf_model.specs.Database.{Database, AreLinksOf, IsLinkOf, IsRouterOf}
+use Rattle.cspf_model.specs.Database.{Database, AreAtTheirKeys, AreLinksOf, IsLinkOf, IsRouterOf}
 use Rattle.cspf_model.specs.Admissible.{IsAdmissible, IsAdmitted, MayLeave}
 use Rattle.cspf_model.specs.Walks.{cost_of, walk_cmp}
 use Rattle.cspf_model.specs.Routes.{IsRoute}
@@ -29,11 +30,12 @@ use Rattle.cspf_search.specs.declared.tree.Tree.{Tree}
 use Rattle.cspf_search.specs.Settled.{locals_cmp}
 use Rattle.cspf_search.specs.Source.{IsEdge}
 use Rattle.cspf_search.specs.States.{by_link, Reaches, starts, steps, end_state}
-use Rattle.cspf_search.specs.TightWalks.{AreSlack, GoesOn, IsNextTight, IsSole, IsTight, IsTightWalk, IsWayOn}
-use Rattle.cspf_search.specs.Trees.{IsInClass, IsTree, MayLeadOver, tree_bound}
+use Rattle.cspf_search.specs.TightWalks.{GoesOn, IsNextTight, IsTight, IsTightWalk, IsWayOn, LeavesLater}
+use Rattle.cspf_search.specs.Trees.{IsInClass, IsTree, MayLeadOver, tree_bound, tree_links}
 use Rattle.cspf_search.proofs.Answered.{route_linked, route_some}
 use Rattle.cspf_search.proofs.Cuts.{reached_walk, reaches_route, route_reaches, run_on}
 use Rattle.cspf_search.proofs.Expanded.{kept_from, kept_of, runs_from}
+use Rattle.cspf_search.proofs.RowLocals.{locals_rise}
 use Rattle.cspf_search.proofs.Reversed.{has_reverse, reverse_of_row}
 use Rattle.cspf_search.proofs.Taken.{end_of_row}
 use Rattle.cspf_search.proofs.Orders.{cost_of-push, walks_total}
@@ -46,6 +48,35 @@ cost_first a b o h less = grind (arith, nat_tests)
 
 links_first : (a b m n : ℕ) (o : Ordering) → a ≡ b → n < m → ordering_then (nat_cmp a b) (ordering_then (nat_cmp m n) o) ≡ Less → ⊥
 links_first a b m n o e h less = grind (arith, nat_tests)
+
+-- where both tie, the local addresses decide
+locals_decide : (a b m n : ℕ) (o : Ordering) → a ≡ b → m ≡ n → o ≡ Greater → ordering_then (nat_cmp a b) (ordering_then (nat_cmp m n) o) ≡ Less → ⊥
+locals_decide a b m n o e same greater less = grind (arith, nat_tests)
+
+local_first : (a b : ℕ) (o : Ordering) → b < a → ordering_then (nat_cmp a b) o ≡ Greater
+local_first a b o h = grind (arith, nat_tests)
+
+parts_greater : (front : List Link) (m l : Link) (rest on : List Link) → l.local < m.local → locals_cmp (front ++ (m ∷ rest)) (front ++ (l ∷ on)) ≡ Greater
+parts_greater [] m l rest on later = local_first m.local l.local (locals_cmp rest on) later
+parts_greater (k ∷ front) m l rest on later =
+    ap (λ o. ordering_then o (locals_cmp (front ++ (m ∷ rest)) (front ++ (l ∷ on)))) (tied_itself nat_cmp_total k.local) ∙ parts_greater front m l rest on later
+
+-- a route that leaves a walk by a later link is after it
+later_greater : (walk route : List Link) → LeavesLater walk route → locals_cmp route walk ≡ Greater
+later_greater walk route b = (λ t. locals_cmp (b.is_route t) (b.is_walk t)) ∙ parts_greater b.front b.other b.taken b.rest b.on b.later
+
+-- and after the walk with one more link
+leaves_longer : (walk route : List Link) (l : Link) → LeavesLater walk route → LeavesLater (walk ++ (l ∷ [])) route
+leaves_longer walk route l b = record {
+  front = b.front;
+  taken = b.taken;
+  other = b.other;
+  on = b.on ++ (l ∷ []);
+  rest = b.rest;
+  is_walk = ap (λ (w : List Link). w ++ (l ∷ [])) b.is_walk ∙ append_assoc b.front (b.taken ∷ b.on) (l ∷ []);
+  is_route = b.is_route;
+  later = b.later;
+}
 
 -- the cost of a link and those after it
 cost_of-cons : (l : Link) (links : List Link) → cost_of (l ∷ links) ≡ l.metric + cost_of links
@@ -66,30 +97,44 @@ in_class : (d : Database) (q : Request) (l : Link) → IsAdmissible d q l → Is
 in_class d q l a = record { link = a.link; reverse = a.usable.reverse; affinity = a.usable.admitted.affinity }
 
 module _ (d : Database) (q : Request) (tree : Tree) (listed : AreListed d) (is : IsTree d q tree) where
-  -- a way on costs at least the bound of its router
-  at_least : (router place : ℕ) → IsIndexOf d router place → (links : List Link) → IsWayOn d q router links → tree_bound tree place ≤ cost_of links
+  -- a way on costs at least the bound of its router, and has at least its links if it costs no more
+  at_least : (router place : ℕ) → IsIndexOf d router place → (links : List Link) → IsWayOn d q router links
+      → (tree_bound tree place ≤ cost_of links) × (cost_of links ≡ tree_bound tree place → tree_links tree place ≤ length links)
   at_least router place at [] way =
       let end : IsIndexOf d q.to place = subst (λ r. IsIndexOf d r place) way.end at in
-      omega (arith, is.end place end)
+      (omega (arith, is.end place end), λ cost. omega (arith, is.end_links place end))
   at_least router place at (l ∷ links) way =
       let to = to_place d q listed l way.links.0 in
       let from : IsIndexOf d l.from place = subst (λ r. IsIndexOf d r place) (sym way.joined.0) at in
       let rest = at_least l.to to.0 to.1 links (record { links = way.links.1; joined = way.joined.1; over = way.over.1; end = way.end }) in
-      let within = is.links place to.0 l (in_class d q l way.links.0) way.over.0 from to.1 in
-      omega (arith, rest, within.0, cost_of-cons l links)
-
-  -- where it costs no more, its first link is tight, and what follows costs just the bound there
-  first_tight : (router place : ℕ) → IsIndexOf d router place → (l : Link) (links : List Link) → IsWayOn d q router (l ∷ links)
-      → cost_of (l ∷ links) ≡ tree_bound tree place
-      → IsTight d q tree place l × ((end : ℕ) → IsIndexOf d l.to end → cost_of links ≡ tree_bound tree end)
-  first_tight router place at l links way cost =
-      let from : IsIndexOf d l.from place = subst (λ r. IsIndexOf d r place) (sym way.joined.0) at in
-      let after : IsWayOn d q l.to links = record { links = way.links.1; joined = way.joined.1; over = way.over.1; end = way.end } in
-      let low = λ (end : ℕ) (to : IsIndexOf d l.to end). at_least l.to end to links after in
-      let within = λ (end : ℕ) (to : IsIndexOf d l.to end). is.links place end l (in_class d q l way.links.0) way.over.0 from to in (
-        record { usable = way.links.0.usable; over = way.over.0; falls = λ end to. omega (arith, low end to, (within end to).0, cost, cost_of-cons l links) },
-        λ end to. omega (arith, low end to, (within end to).0, cost, cost_of-cons l links),
+      let class = in_class d q l way.links.0 in
+      let within = is.links place to.0 l class way.over.0 from to.1 in (
+        omega (arith, rest.0, within.0, cost_of-cons l links),
+        λ cost.
+            let falls : tree_bound tree place ≡ tree_bound tree to.0 + l.metric = omega (arith, cost, rest.0, within.0, cost_of-cons l links) in
+            omega (arith, is.fewer place to.0 l class way.over.0 from to.1 falls, rest.1 (omega (arith, falls, cost, cost_of-cons l links))),
       )
+
+  -- where it costs no more and has no more links, its first link is tight, and so is what follows
+  module _ (router place : ℕ) (at : IsIndexOf d router place) (l : Link) (links : List Link) (way : IsWayOn d q router (l ∷ links))
+      (cost : cost_of (l ∷ links) ≡ tree_bound tree place) (many : length (l ∷ links) ≡ tree_links tree place) where
+    cost_after : (end : ℕ) → IsIndexOf d l.to end → (cost_of links ≡ tree_bound tree end) × (length links ≡ tree_links tree end)
+    cost_after end to =
+        let from : IsIndexOf d l.from place = subst (λ r. IsIndexOf d r place) (sym way.joined.0) at in
+        let low = at_least l.to end to links (record { links = way.links.1; joined = way.joined.1; over = way.over.1; end = way.end }) in
+        let class = in_class d q l way.links.0 in
+        let within = is.links place end l class way.over.0 from to in
+        let same : cost_of links ≡ tree_bound tree end = omega (arith, low.0, within.0, cost, cost_of-cons l links) in
+        let falls : tree_bound tree place ≡ tree_bound tree end + l.metric = omega (arith, same, cost, cost_of-cons l links) in
+        (same, omega (arith, low.1 same, is.fewer place end l class way.over.0 from to falls, many))
+
+    first_tight : IsTight d q tree place l
+    first_tight = record {
+      usable = way.links.0.usable;
+      over = way.over.0;
+      falls = λ end to. omega (arith, (cost_after end to).0, cost, cost_of-cons l links);
+      fewer = λ end to. omega (arith, (cost_after end to).1, many);
+    }
 
   -- a route is a way on from the head-end
   route_way : (route : List Link) → IsRoute d q route → IsWayOn d q q.from route
@@ -110,12 +155,13 @@ module _ (d : Database) (q : Request) (tree : Tree) (listed : AreListed d) (is :
       reaches = rw there.is starts;
       leaves = inl (inr refl);
       cost = omega arith;
-      first = λ route is_route cost. record { rest = route; whole = refl; way = rw there.is (route_way route is_route); cost = cost };
+      many = omega arith;
+      first = λ route is_route cost many. inl (record { rest = route; whole = refl; way = rw there.is (route_way route is_route); cost = cost; many = many });
     }
 
-    -- one more link, the only tight one there
-    module _ (of : AreLinksOf d (links_of d)) (loose : length q.hops ≡ 0) (to : ℕ) (end : IsIndexOf d q.to to) (walk : List Link) (place : ℕ)
-        (before : IsTightWalk d q tree from walk place) (on : place ≢ to) (edge : Edge) (sole : IsSole d q tree place edge) where
+    -- one more link, the first tight one there
+    module _ (of : AreLinksOf d (links_of d)) (keyed : AreAtTheirKeys d) (loose : length q.hops ≡ 0) (to : ℕ) (end : IsIndexOf d q.to to) (walk : List Link) (place : ℕ)
+        (before : IsTightWalk d q tree from walk place) (on : place ≢ to) (edge : Edge) (next : IsNextTight d q tree place edge) where
       abbrev l : Link
       l = edge.link.now
 
@@ -126,58 +172,83 @@ module _ (d : Database) (q : Request) (tree : Tree) (listed : AreListed d) (is :
       not_end e = on (one_place d listed q.to place to (subst (λ r. IsIndexOf d r place) e here) end)
 
       runs : l.from ≡ router_at d place
-      runs = runs_from d place edge.row l sole.is_edge.row
+      runs = runs_from d place edge.row l next.is_edge.row
 
       link_of : IsLinkOf d l
       link_of =
-          let within = slice_get_within (links_from_index d place) edge.row l sole.is_edge.row in
-          let read = get_or_from_slice_get (links_from_index d place) edge.row l l sole.is_edge.row in
+          let within = slice_get_within (links_from_index d place) edge.row l next.is_edge.row in
+          let read = get_or_from_slice_get (links_from_index d place) edge.row l l next.is_edge.row in
           All-contains (IsLinkOf d) (links_of d) l of.each (kept_of d place l (edge.row, within, read))
 
       leaves : MayLeave d (router_at d place) (length walk)
       leaves = elim before.leaves [ inl may ↦ may | inr e ↦ absurd (not_end e) ]
 
       enters : MayEnter d q 1 l.to
-      enters = record { inside = inl (subst IsLoose (sym (slice_get_past q.hops 0 (omega (arith, loose)))) tt); through = sole.tight.over }
+      enters = record { inside = inl (subst IsLoose (sym (slice_get_past q.hops 0 (omega (arith, loose)))) tt); through = next.tight.over }
 
       reaches_on : Reaches d q (walk ++ (l ∷ [])) (record { leg = 1; router = router_at d edge.end })
       reaches_on =
           let so_far : Reaches d q walk (record { leg = 1; router = l.from }) = rw runs before.reaches in
           let leaves_link : MayLeave d l.from (length walk) = rw runs leaves in
-          rw sole.is_edge.end.is (steps so_far (by_link l (record { link = link_of; usable = sole.tight.usable }) enters leaves_link))
+          rw next.is_edge.end.is (steps so_far (by_link l (record { link = link_of; usable = next.tight.usable }) enters leaves_link))
 
       leaves_on : MayLeave d (router_at d edge.end) (length (walk ++ (l ∷ []))) ⊎ (router_at d edge.end ≡ q.to)
       leaves_on =
-          elim sole.tight.over [
-            | inl transit ↦ inl (inl (rw sole.is_edge.end.is transit))
-            | inr e ↦ inr (sole.is_edge.end.is ∙ e)
+          elim next.tight.over [
+            | inl transit ↦ inl (inl (rw next.is_edge.end.is transit))
+            | inr e ↦ inr (next.is_edge.end.is ∙ e)
           ]
 
-      -- what a route takes after the walk begins with the link
-      goes_on : (rest : List Link) → IsWayOn d q (router_at d place) rest → cost_of rest ≡ tree_bound tree place → (route : List Link) → route ≡ walk ++ rest
-          → GoesOn d q tree (walk ++ (l ∷ [])) edge.end route
-      goes_on [] way cost route whole = absurd (not_end way.end)
-      goes_on (m ∷ rest) way cost route whole =
-          let tight = first_tight (router_at d place) place here m rest way cost in
+      -- what a route takes after the walk begins with the link, or with a later one
+      goes_on : (rest : List Link) → IsWayOn d q (router_at d place) rest → cost_of rest ≡ tree_bound tree place → length rest ≡ tree_links tree place → (route : List Link) → route ≡ walk ++ rest
+          → GoesOn d q tree (walk ++ (l ∷ [])) edge.end route ⊎ LeavesLater (walk ++ (l ∷ [])) route
+      goes_on [] way cost many route whole = absurd (not_end way.end)
+      goes_on (m ∷ rest) way cost many route whole =
+          let tight = first_tight (router_at d place) place here m rest way cost many in
+          let after = cost_after (router_at d place) place here m rest way cost many in
           let at = kept_from d place m (of.whole m way.links.0.link) way.joined.0 in
           let read : slice_get (links_from_index d place) at.0 ≡ Some m = slice_get-get_or (links_from_index d place) at.0 m at.1 ∙ ap Some at.2 in
-          let same : m ≡ l = same_Some m l (sym read ∙ ap (slice_get (links_from_index d place)) (sole.sole at.0 m read tight.0) ∙ sole.is_edge.row) in
-          let there_on : m.to ≡ router_at d edge.end = ap (λ (k : Link). k.to) same ∙ sym sole.is_edge.end.is in
-          let after : IsWayOn d q m.to rest = record { links = way.links.1; joined = way.joined.1; over = way.over.1; end = way.end } in
-          record {
-            rest = rest;
-            whole = whole ∙ ap (λ (k : Link). walk ++ (k ∷ rest)) same ∙ sym (append_assoc walk (l ∷ []) rest);
-            way = subst (λ r. IsWayOn d q r rest) there_on after;
-            cost = tight.1 edge.end (record { within = sole.is_edge.end.within; is = sym there_on });
-          }
+          elim (cases_lt at.0 edge.row) [
+            | inl lt ↦ absurd (next.slack at.0 m lt read tight)
+            | inr ge ↦ elim (cases_lt edge.row at.0) [
+              | inl gt ↦ inr (record {
+                front = walk;
+                taken = l;
+                other = m;
+                on = [];
+                rest = rest;
+                is_walk = refl;
+                is_route = whole;
+                later = locals_rise d keyed place edge.row at.0 l m next.is_edge.row read gt;
+              })
+              | inr le ↦
+                  let row : at.0 ≡ edge.row = omega (arith, ge, le) in
+                  let same : m ≡ l = same_Some m l (sym read ∙ ap (slice_get (links_from_index d place)) row ∙ next.is_edge.row) in
+                  let there_on : m.to ≡ router_at d edge.end = ap (λ (k : Link). k.to) same ∙ sym next.is_edge.end.is in
+                  let way_on : IsWayOn d q m.to rest = record { links = way.links.1; joined = way.joined.1; over = way.over.1; end = way.end } in
+                  let rank = after edge.end (record { within = next.is_edge.end.within; is = sym there_on }) in
+                  inl (record {
+                    rest = rest;
+                    whole = whole ∙ ap (λ (k : Link). walk ++ (k ∷ rest)) same ∙ sym (append_assoc walk (l ∷ []) rest);
+                    way = subst (λ r. IsWayOn d q r rest) there_on way_on;
+                    cost = rank.0;
+                    many = rank.1;
+                  })
+            ]
+          ]
 
       pub tight_more : IsTightWalk d q tree from (walk ++ (l ∷ [])) edge.end
       tight_more = record {
-        within = sole.is_edge.end.within;
+        within = next.is_edge.end.within;
         reaches = reaches_on;
         leaves = leaves_on;
-        cost = omega (arith, cost_of-push walk l, before.cost, sole.tight.falls edge.end sole.is_edge.end);
-        first = λ route is_route cost. let b = before.first route is_route cost in goes_on b.rest b.way b.cost route b.whole;
+        cost = omega (arith, cost_of-push walk l, before.cost, next.tight.falls edge.end next.is_edge.end);
+        many = omega (arith, length_push walk l, before.many, next.tight.fewer edge.end next.is_edge.end);
+        first = λ route is_route cost many.
+            elim (before.first route is_route cost many) [
+              | inl b ↦ goes_on b.rest b.way b.cost b.many route b.whole
+              | inr b ↦ inr (leaves_longer walk route l b)
+            ];
       }
 
     -- at the tail-end
@@ -190,6 +261,9 @@ module _ (d : Database) (q : Request) (tree : Tree) (listed : AreListed d) (is :
 
       cost_is : cost_of walk ≡ tree_bound tree from
       cost_is = omega (arith, at.cost, is.end to end)
+
+      many_is : length walk ≡ tree_links tree from
+      many_is = omega (arith, at.many, is.end_links to end)
 
       -- a route that begins with the walk isn't before it
       longer_later : (rest other : List Link) → other ≡ walk ++ rest → cost_of other ≡ cost_of walk → walk_cmp other walk ≢ Less
@@ -207,9 +281,16 @@ module _ (d : Database) (q : Request) (tree : Tree) (listed : AreListed d) (is :
           elim (cases_lt (cost_of walk) (cost_of other)) [
             | inl dear ↦ cost_first (cost_of other) (cost_of walk) (ordering_then (nat_cmp (length other) (length walk)) (locals_cmp other walk)) dear less
             | inr no_more ↦
-                let cost : cost_of other ≡ tree_bound tree from = omega (arith, low, no_more, cost_is) in
-                let b = at.first other route cost in
-                longer_later b.rest other b.whole (cost ∙ sym cost_is) less
+                let cost : cost_of other ≡ tree_bound tree from = omega (arith, low.0, no_more, cost_is) in
+                elim (cases_lt (length walk) (length other)) [
+                  | inl long ↦ links_first (cost_of other) (cost_of walk) (length other) (length walk) (locals_cmp other walk) (cost ∙ sym cost_is) long less
+                  | inr short ↦
+                      let many : length other ≡ tree_links tree from = omega (arith, low.1 cost, short, many_is) in
+                      elim (at.first other route cost many) [
+                        | inl b ↦ longer_later b.rest other b.whole (cost ∙ sym cost_is) less
+                        | inr b ↦ locals_decide (cost_of other) (cost_of walk) (length other) (length walk) (locals_cmp other walk) (cost ∙ sym cost_is) (many ∙ sym many_is) (later_greater walk other b) less
+                      ]
+                ]
           ]
 
       pub tight_best : IsBestRoute d q walk
@@ -224,29 +305,17 @@ module _ (d : Database) (q : Request) (tree : Tree) (listed : AreListed d) (is :
         small = small;
       }
 
--- a link that is the first tight one, and after which none is, is the only one
-pub one_tight : (d : Database) (q : Request) (tree : Tree) (place : ℕ) (edge : Edge) → IsNextTight d q tree place 0 edge
-    → AreSlack d q tree place (edge.row + 1) (length (links_from_index d place)) → IsSole d q tree place edge
-one_tight d q tree place edge next after = record {
-  is_edge = next.is_edge;
-  tight = next.tight;
-  sole = λ row l here tight.
-      elim (cases_lt row edge.row) [
-        | inl lt ↦ absurd (omega (arith, next.slack row l lt here tight))
-        | inr ge ↦ omega (arith, ge, after row l (slice_get_within (links_from_index d place) row l here) here tight)
-      ];
-}
-
 -- what the columns tell of a tight link
 module _ (d : Database) (q : Request) (tree : Tree) (listed : AreListed d) (of : AreLinksOf d (links_of d)) (place : ℕ) (edge : Edge) (is : IsEdge d place edge) where
-  pub tight_is : tree_bound tree place ≡ edge.metric + tree_bound tree edge.end → edge.reverse ≢ NO_LINK → IsAdmitted q edge.link.now
+  pub tight_is : tree_bound tree place ≡ edge.metric + tree_bound tree edge.end → tree_links tree place ≡ tree_links tree edge.end + 1 → edge.reverse ≢ NO_LINK → IsAdmitted q edge.link.now
       → MayLeadOver d q (slice_index (router_list d) edge.end) → IsTight d q tree place edge.link.now
-  tight_is falls back admitted over = record {
+  tight_is falls fewer back admitted over = record {
     usable = record { admitted = admitted; reverse = has_reverse d of edge.link.now edge.reverse is.reverse back };
     over = rw (← is.end.is) over;
     falls = λ end to.
         let same : end ≡ edge.end = one_place d listed edge.link.now.to end edge.end to is.end in
         omega (arith, falls, edge.same, ap (tree_bound tree) same);
+    fewer = λ end to. omega (arith, fewer, ap (tree_links tree) (one_place d listed edge.link.now.to end edge.end to is.end));
   }
 
   pub tight_over : IsTight d q tree place edge.link.now → MayLeadOver d q (slice_index (router_list d) edge.end)

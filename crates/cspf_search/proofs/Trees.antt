@@ -1,21 +1,20 @@
 -- Trees: what requests share, and the bounds of the last leg.
-use Rattle.std.proofs.Common.{◌≡◌, inl, inr, ℕ, suc, ◌+◌, ◌<◌, ◌≤◌, min, true, false, List, length, set, sym, ap, subst, ◌∙◌, refl, arith}
+use Rattle.std.proofs.Common.{◌≡◌, ◌⊎◌, inl, inr, ℕ, suc, ◌+◌, ◌<◌, ◌≤◌, nat_lt, if◌then◌else◌, Bool, true, false, List, replicate, slice_index_or, length, set, sym, ap, subst, ◌∙◌, refl, arith}
 use Rattle.std.proofs.lemmas.Bool.{cases_lt, false≢true}
-use Rattle.std.proofs.lemmas.List.{get_or-set_other}
+use Rattle.std.proofs.lemmas.Bool.Decides.{nat_tests}
+use Rattle.std.proofs.lemmas.List.{get_or_past, get_or-replicate, get_or-set_other, length-replicate}
 use Rattle.cspf_model.specs.declared.link.Link.{Link}
 use Rattle.cspf_model.specs.declared.request.Request.{Request}
 use Rattle.cspf_model.specs.Database.{Database}
 use Rattle.cspf_model.specs.Targets.{IsTarget}
 use Rattle.cspf_db.specs.Index.{router_list}
 use Rattle.cspf_graph.specs.Lists.{AreListed, IsIndexOf, router_at}
-use Rattle.cspf_search.specs.declared.limits.TheConstants.{NO_WAY}
-use Rattle.cspf_search.specs.declared.ring.Ring.{Ring}
+use Rattle.cspf_search.specs.declared.tree_ring.TreeRing.{TreeRing}
 use Rattle.cspf_search.specs.declared.tree.Tree.{Tree}
 use Rattle.cspf_search.specs.States.{LeadsOn}
-use Rattle.cspf_search.specs.Settled.{IsWithin}
-use Rattle.cspf_search.specs.Bounds.{Falls, IsLegBound, bound_at, is_done}
-use Rattle.cspf_search.specs.Trees.{IsInClass, IsTree, MayLeadOver, ShareTrees, TreesAreShared}
-use Rattle.cspf_search.specs.TreeSteps.{AreLinksPassed, AreTreeBounds, IsTreeRing}
+use Rattle.cspf_search.specs.Bounds.{IsLegBound, bound_at}
+use Rattle.cspf_search.specs.Trees.{IsInClass, IsTree, MayLeadOver, ShareTrees, TreesAreShared, tree_bound, tree_links}
+use Rattle.cspf_search.specs.TreeSteps.{AreLinksPassed, AreTreeBounds, IsRankWithin, IsTreeRing, TreeFalls, is_settled_there}
 use Rattle.cspf_search.proofs.Cuts.{last_target}
 use Rattle.cspf_search.proofs.LegBounds.{cut_at_edge}
 use Rattle.cspf_graph.proofs.RouterIndexes.{one_place, same_or_not}
@@ -52,26 +51,41 @@ pub shared_tree : TreesAreShared
 shared_tree d q r tree share is = record {
   links = λ u w l in_r over from at. is.links u w l (same_class d q r share l in_r) (rw share.to at over) from at;
   end = λ place there. is.end place (rw share.to at there);
+  fewer = λ u w l in_r over from at. is.fewer u w l (same_class d q r share l in_r) (rw share.to at over) from at;
+  end_links = λ place there. is.end_links place (rw share.to at there);
 }
 
+-- no router of a new list is marked
+pub none_at : (count w : ℕ) → slice_index_or (replicate count false) w false ≡ false
+none_at count w =
+    elim (cases_lt w count) [
+      | inl lt ↦ get_or-replicate count w false false lt
+      | inr past ↦ get_or_past (replicate count false) w false (omega (arith, past, length-replicate count false))
+    ]
+
 -- where no router is done, nothing has to hold of the links that arrive
-pub none_done_yet : (d : Database) (q : Request) (ring : Ring) → ((w : ℕ) → is_done ring w ≡ false) → IsTreeRing d q ring
+pub none_done_yet : (d : Database) (q : Request) (ring : TreeRing) → ((w : ℕ) → is_settled_there ring w ≡ false) → IsTreeRing d q ring
 none_done_yet d q ring none u w on l in_q over from to = absurd (false≢true (sym (none w) ∙ on))
 
--- it stays the ring of a tree where bounds fall, and where only its heap changes
-pub fallen_tree : (d : Database) (q : Request) (old new : Ring) → Falls old new → IsTreeRing d q old → IsTreeRing d q new
+-- it stays the ring of a tree where ranks fall, and where only its heap changes
+pub fallen_tree : (d : Database) (q : Request) (old new : TreeRing) → TreeFalls old new → IsTreeRing d q old → IsTreeRing d q new
 fallen_tree d q old new falls ring u w on l in_q over from end =
     let kept = falls.kept w on in
     let within = ring u w kept.0 l in_q over from end in
-    (omega (arith, within.0, falls.lower u, kept.1), λ way. omega (arith, within.1 (omega (arith, way, kept.1)), falls.lower u))
+    let low = falls.lower u in (
+      (omega (arith, within.0.0, low.0, kept.1), λ way. omega (arith, within.0.1 (omega (arith, way, kept.1)), low.0)),
+      λ just.
+          let same : bound_at new.near.items u ≡ bound_at old.near.items u = omega (arith, just, within.0.0, low.0, kept.1) in
+          omega (arith, low.1 same, within.1 (omega (arith, just, same, kept.1)), kept.2),
+    )
 
-pub same_tree : (d : Database) (q : Request) (old new : Ring) → new.near ≡ old.near → new.done ≡ old.done → IsTreeRing d q old → IsTreeRing d q new
-same_tree d q old new near marks ring u w on l in_q over from end =
-    rw near (ring u w (rw marks at on) l in_q over from end)
+pub same_tree : (d : Database) (q : Request) (old new : TreeRing) → new.near ≡ old.near → new.links ≡ old.links → new.done ≡ old.done → IsTreeRing d q old → IsTreeRing d q new
+same_tree d q old new near links marks ring u w on l in_q over from end =
+    rw (near, links) (ring u w (rw marks at on) l in_q over from end)
 
 -- a router that no way may lead over has no links to look at
-pub none_over : (d : Database) (q : Request) (to : ℕ) (ring : Ring) → IsTreeRing d q ring → ((router : ℕ) → IsIndexOf d router to → MayLeadOver d q router → ⊥)
-    → AreTreeBounds d q ring.near.items (set ring.done.items to true)
+pub none_over : (d : Database) (q : Request) (to : ℕ) (ring : TreeRing) → IsTreeRing d q ring → ((router : ℕ) → IsIndexOf d router to → MayLeadOver d q router → ⊥)
+    → AreTreeBounds d q ring.near.items ring.links.items (set ring.done.items to true)
 none_over d q to ring is shut u w on l in_q over from end =
     elim (same_or_not w to) [
       | inl here ↦ absurd (shut l.to (subst (IsIndexOf d l.to) here end) over)
@@ -79,26 +93,63 @@ none_over d q to ring is shut u w on l in_q over from end =
     ]
 
 -- all links that arrive at one more router were looked at
-pub one_more_done : (d : Database) (q : Request) (to base : ℕ) (old new : Ring) → IsTreeRing d q old → Falls old new → AreLinksPassed d q base new to
-    → bound_at new.near.items to ≡ base → AreTreeBounds d q new.near.items (set new.done.items to true)
-one_more_done d q to base old new ring falls passed same u w on l in_q over from end =
+pub one_more_done : (d : Database) (q : Request) (to base count : ℕ) (old new : TreeRing) → IsTreeRing d q old → TreeFalls old new → AreLinksPassed d q base count new to
+    → bound_at new.near.items to ≡ base → count ≤ bound_at new.links.items to + 1 → AreTreeBounds d q new.near.items new.links.items (set new.done.items to true)
+one_more_done d q to base count old new ring falls passed same more u w on l in_q over from end =
     elim (same_or_not w to) [
       | inl here ↦
           let low = passed u l in_q from (subst (IsIndexOf d l.to) here end) in
           let is : bound_at new.near.items w ≡ bound_at new.near.items to = ap (bound_at new.near.items) here in
-          (omega (arith, low.0, is, same), λ way. low.1 (omega (arith, way, is, same)))
+          let links : bound_at new.links.items w ≡ bound_at new.links.items to = ap (bound_at new.links.items) here in (
+            (omega (arith, low.0.0, is, same), λ way. low.0.1 (omega (arith, way, is, same))),
+            λ just. omega (arith, low.1 (omega (arith, just, is, same)), more, links),
+          )
       | inr ne ↦
           fallen_tree d q old new falls ring u w (sym (get_or-set_other new.done.items to w true false ne) ∙ on) l in_q over from end
     ]
 
+-- a router is before the edge, or has no number of links
+links_told : (tree : Tree) (place : ℕ)
+    → ((bound_at tree.near.items place < tree.edge) × (tree_links tree place ≡ bound_at tree.links.items place)) ⊎ ((tree.edge ≤ bound_at tree.near.items place) × (tree_links tree place ≡ 0))
+links_told tree place =
+    let near = bound_at tree.near.items place in
+    let links = bound_at tree.links.items place in
+    elim (nat_lt near tree.edge) as (λ b. nat_lt near tree.edge ≡ b → ((near < tree.edge) × ((if b then links else 0) ≡ links)) ⊎ ((tree.edge ≤ near) × ((if b then links else 0) ≡ 0))) [
+      | true ↦ λ e. inl (grind (arith, nat_tests), refl)
+      | false ↦ λ e. inr (grind (arith, nat_tests), refl)
+    ] refl
+
+-- the numbers of links of a tree are within a link to a router that is done, or left out
+links_within : (tree : Tree) (marks : List Bool) (u w metric : ℕ)
+    → (slice_index_or marks w false ≡ true → IsRankWithin (bound_at tree.near.items u) (bound_at tree.links.items u) (bound_at tree.near.items w) (bound_at tree.links.items w + 1) metric)
+    → (slice_index_or marks w false ≡ false → tree.edge ≤ bound_at tree.near.items w)
+    → tree_bound tree u ≡ tree_bound tree w + metric → tree_links tree u ≤ tree_links tree w + 1
+links_within tree marks u w metric within least just =
+    elim (links_told tree u) [
+      | inr far ↦ omega (arith, far.1)
+      | inl near ↦ elim (links_told tree w) [
+        | inr far ↦ absurd (omega (arith, just, near.0, far.0))
+        | inl ahead ↦ elim (slice_index_or marks w false) as (λ b. slice_index_or marks w false ≡ b → tree_links tree u ≤ tree_links tree w + 1) [
+          | true ↦ λ e. omega (arith, near.1, ahead.1, (within e).1 (omega (arith, just, near.0, ahead.0)))
+          | false ↦ λ e. absurd (omega (arith, least e, ahead.0))
+        ] refl
+      ]
+    ]
+
 -- a tree from its ring
-pub tree_of_ring : (d : Database) (q : Request) (ring : Ring) (tree : Tree) → tree.near ≡ ring.near → IsTreeRing d q ring
-    → ((w : ℕ) → w < length (router_list d) → is_done ring w ≡ false → tree.edge ≤ bound_at ring.near.items w)
-    → AreListed d → (to : ℕ) → IsIndexOf d q.to to → bound_at ring.near.items to ≡ 0 → IsTree d q tree
-tree_of_ring d q ring tree same is least listed to end zero = record {
+pub tree_of_ring : (d : Database) (q : Request) (ring : TreeRing) (tree : Tree) → tree.near ≡ ring.near → tree.links ≡ ring.links → IsTreeRing d q ring
+    → ((w : ℕ) → w < length (router_list d) → is_settled_there ring w ≡ false → tree.edge ≤ bound_at ring.near.items w)
+    → AreListed d → (to : ℕ) → IsIndexOf d q.to to → bound_at ring.near.items to ≡ 0 → bound_at ring.links.items to ≡ 0 → IsTree d q tree
+tree_of_ring d q ring tree same many is least listed to end zero none = record {
   links = λ u w l in_q over from at.
-      rw same (cut_at_edge ring tree.edge u w l.metric (λ done. is u w done l in_q over from at) (least w at.within));
+      rw same (cut_at_edge ring.near.items ring.done.items tree.edge u w l.metric (λ done. (is u w done l in_q over from at).0) (least w at.within));
   end = λ place there.
       let here : place ≡ to = one_place d listed q.to place to there end in
       rw (same, here) (omega (arith, zero));
+  fewer = λ u w l in_q over from at.
+      links_within tree ring.done.items u w l.metric (λ done. rw (same, many) (is u w done l in_q over from at)) (λ left. rw same (least w at.within left));
+  end_links = λ place there.
+      let here : place ≡ to = one_place d listed q.to place to there end in
+      let empty : bound_at tree.links.items place ≡ 0 = rw (many, here) none in
+      elim (links_told tree place) [ inl near ↦ near.1 ∙ empty | inr far ↦ far.1 ];
 }

@@ -1,6 +1,6 @@
 -- Private words of the search: a tree of lower bounds, which requests with one tail-end and the same
 -- affinities share.
-use Rattle.std.specs.Prelude.{◌≡◌, ℕ, ◌⊎◌, min}
+use Rattle.std.specs.Prelude.{◌≡◌, ℕ, ◌+◌, ◌≤◌, ◌⊎◌, min, nat_lt, if◌then◌else◌}
 use Rattle.cspf_model.specs.declared.link.Link.{Link}
 use Rattle.cspf_model.specs.declared.request.Request.{Request}
 use Rattle.cspf_model.specs.Database.{Database, HasReverse, HasTransit, IsLinkOf}
@@ -33,14 +33,24 @@ MayLeadOver d q router = HasTransit d router ⊎ (router ≡ q.to)
 abbrev pub tree_bound : Tree → ℕ → ℕ
 tree_bound tree place = min (bound_at tree.near.items place) tree.edge
 
+-- the least number of links that a tree has for the router at an index, which is 0 where the edge is the
+-- bound
+abbrev pub tree_links : Tree → ℕ → ℕ
+tree_links tree place = if nat_lt (bound_at tree.near.items place) tree.edge then bound_at tree.links.items place else 0
+
 -- A tree for the tail-end and the affinities of a request, in a database. No link in the class to a
 -- router that a way may lead over lowers the bound by more than its metric, or from `NO_WAY` to a bound
--- that says that there is a way. At the tail-end the bound is 0. So the bound of a router is no more than
--- the cost of any way from there to the tail-end, and `NO_WAY` only where there is none.
+-- that says that there is a way. Where it lowers the bound by just its metric, it lowers the number of
+-- links by no more than one. At the tail-end both are 0. So the bound of a router is no more than the cost
+-- of any way from there to the tail-end, and `NO_WAY` only where there is none. A way that costs just the
+-- bound has at least that number of links.
 pub record IsTree (d : Database) (q : Request) (tree : Tree) : Type 0 where
   pub links : (u w : ℕ) (l : Link) → IsInClass d q l → MayLeadOver d q l.to → IsIndexOf d l.from u → IsIndexOf d l.to w
       → IsWithin (tree_bound tree u) (tree_bound tree w) l.metric
   pub end : (place : ℕ) → IsIndexOf d q.to place → tree_bound tree place ≡ 0
+  pub fewer : (u w : ℕ) (l : Link) → IsInClass d q l → MayLeadOver d q l.to → IsIndexOf d l.from u → IsIndexOf d l.to w
+      → tree_bound tree u ≡ tree_bound tree w + l.metric → tree_links tree u ≤ tree_links tree w + 1
+  pub end_links : (place : ℕ) → IsIndexOf d q.to place → tree_links tree place ≡ 0
 
 -- Law: a tree is one for each request with the same tail-end and the same affinities.
 abbrev pub TreesAreShared : Type 0

@@ -13,6 +13,7 @@ ghost use Rattle.cspf_columns.specs.declared.limits.TheConstants.{NO_LINK};
 use crate::limits::{FARTHEST, NO_WAY};
 use crate::query::Query;
 use crate::ring::Ring;
+use crate::ring_edge::least_open;
 use crate::strict::{first_broken, starts_of};
 use crate::tree::Tree;
 use cspf_db::NO_LINK;
@@ -199,7 +200,7 @@ fn begin(
 
 /// Begins the leg after the last hop: no router is done, and the tail-end, which is the router at
 /// an index, waits with the bound 0.
-pub(crate) fn begin_last(to: usize, ring: &mut Ring) -> Result<(), AllocError>
+fn begin_last(to: usize, ring: &mut Ring) -> Result<(), AllocError>
     requires { to < MOST_ROUTERS }
     ensures none { OnOk result ((w : ℕ) → is_done ring.new w ≡ false) }
     ensures target { OnOk result (bound_at ring.new.near.items to ≡ 0) }
@@ -250,7 +251,7 @@ fn leg_edge(
         IsLegBound query.entry.table.now query.entry.request.now leg_index ring.new.near.items edge ahead.now) }
 {
     search_back(query, to, leg_index, ahead, ring)?;
-    Ok(ring.edge(query.table.routers().len()))
+    Ok(least_open(&ring.near, &ring.done, query.table.routers().len()))
 }
 
 /// Sets the bound of each router in a leg, up to its edge. The states of the leg begin at an index,

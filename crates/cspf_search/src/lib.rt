@@ -17,10 +17,12 @@ mod laws;
 mod limits;
 mod query;
 mod ring;
+mod ring_edge;
 mod rounds;
 mod search;
 mod strict;
 mod tree;
+mod tree_ring;
 mod tree_steps;
 mod walk;
 

@@ -89,20 +89,4 @@ impl Ring {
         }
         None
     }
-
-    /// The least bound of those of the first `count` routers that aren't done; `NO_WAY` where all
-    /// are done.
-    pub(crate) fn edge(&self, count: usize) -> u32
-        requires { count ≤ MOST_ROUTERS }
-        ensures { (w : ℕ) → w < count → is_done self.now w ≡ false
-            → result ≤ bound_at self.now.near.items w }
-    {
-        let mut least = NO_WAY;
-        for place in 0..count {
-            let bound = self.near[place];
-            let open = if self.done[place] { NO_WAY } else { bound };
-            least = least.min(open);
-        }
-        least
-    }
 }

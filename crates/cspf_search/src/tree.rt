@@ -3,8 +3,8 @@
 ghost use Rattle.std.specs.Prelude.{◌≡◌, length};
 ghost use Rattle.cspf_model.specs.declared.limits.TheConstants.{MOST_ROUTERS};
 
-use crate::bounds::begin_last;
-use crate::ring::Ring;
+use crate::ring_edge::least_open;
+use crate::tree_ring::TreeRing;
 use crate::tree_steps::settle;
 use cspf_db::Table;
 use cspf_graph::listed;
@@ -12,21 +12,25 @@ use cspf_model::{MOST_ROUTERS, Request};
 use std::alloc::{AllocError, Global};
 
 /// For each router a lower bound of the cost from there to one tail-end, along links that pass the
-/// same affinities, whatever bandwidth they have unreserved.
+/// same affinities, whatever bandwidth they have unreserved. Beside it stands a lower bound of the
+/// number of links of the ways that cost no more.
 #[derive(Drop)]
 pub struct Tree {
     /// For each router the least cost that was found, or `NO_WAY`.
     pub(crate) near: Vec<u32>,
+    /// For each router the least number of links that was found with that cost.
+    links: Vec<u16>,
     /// The least cost of a router that was left out. No bound is above it.
     pub(crate) edge: u32,
     ghost many: { length near.items ≡ MOST_ROUTERS },
+    ghost counts: { length links.items ≡ MOST_ROUTERS },
 }
 
 impl Tree {
     ghost use Rattle.std.specs.Prelude.{◌<◌, IfOk, IfSome, IfNone};
     ghost use Rattle.cspf_model.specs.declared.request.Request.{Request as Asked};
     ghost use Rattle.cspf_model.specs.Database.{IsRouterOf};
-    ghost use Rattle.cspf_search.specs.Trees.{IsTree, ShareTrees, tree_bound};
+    ghost use Rattle.cspf_search.specs.Trees.{IsTree, ShareTrees, tree_bound, tree_links};
 
     /// The tree for the tail-end and the affinities of a request, unless no link begins or ends at
     /// the tail-end. It is the same for each request that shares them.
@@ -42,12 +46,16 @@ impl Tree {
         };
         let mut any = *request;
         any.bandwidth = 0;
-        let mut ring = Ring::new(alloc)?;
-        begin_last(to, &mut ring)?;
+        let mut ring = TreeRing::begin(alloc, to)?;
         settle(table, &any, &mut ring)?;
-        let edge = ring.edge(table.routers().len());
-        let Ring { near, .. } = ring;
-        Ok(Some(Tree { near, edge }))
+        let TreeRing {
+            near,
+            links,
+            done,
+            ..
+        } = ring;
+        let edge = least_open(&near, &done, table.routers().len());
+        Ok(Some(Tree { near, links, edge }))
     }
 
     /// The bound of the router at an index in the list of routers.
@@ -56,5 +64,18 @@ impl Tree {
         ensures { result ≡ tree_bound self.now place }
     {
         self.near[place].min(self.edge)
+    }
+
+    /// The least number of links of a way that costs no more than the bound, from the router at an
+    /// index in the list of routers. It is 0 where the edge is the bound.
+    pub(crate) fn least_links(&self, place: usize) -> u16
+        requires { place < MOST_ROUTERS }
+        ensures { result ≡ tree_links self.now place }
+    {
+        if self.near[place] < self.edge {
+            self.links[place]
+        } else {
+            0
+        }
     }
 }

@@ -1,15 +1,17 @@
 //! The route that the bounds of a tree alone give. A link that the request may use is tight where
-//! the bound falls over it by just its metric. Each route that costs no more than the bound of the
-//! head-end takes tight links alone. So where there is one such link at each router on the way,
-//! they are the least route, and no search is needed.
+//! the bound falls over it by just its metric, and the number of links by just one. A route that
+//! costs no more than the bound of the head-end, with no more links, takes tight links alone. Where
+//! two of these routes part, the one by the earlier row has the lower local address, so it is before
+//! the other. So the walk over the first tight link of each router is the least route, if it leads to
+//! the tail-end, and no search is needed.
 
-ghost use Rattle.std.specs.Prelude.{◌≡◌, ◌<◌, ◌↔◌, IfNone, IfOk, IfSome, IsTrue, length};
+ghost use Rattle.std.specs.Prelude.{◌≡◌, ◌<◌, ◌↔◌, IfOk, IfSome, IsTrue, length};
 ghost use Rattle.cspf_model.specs.Best.{IsBestRoute};
 ghost use Rattle.cspf_model.specs.Database.{AreLinksOf};
-ghost use Rattle.cspf_db.specs.Index.{links_from_index, links_of, router_list};
+ghost use Rattle.cspf_db.specs.Index.{links_of, router_list};
 ghost use Rattle.cspf_graph.specs.Lists.{AreListed, IsIndexOf};
 ghost use Rattle.cspf_search.specs.Source.{IsEdge};
-ghost use Rattle.cspf_search.specs.TightWalks.{AreSlack, IsNextTight, IsSole, IsTight};
+ghost use Rattle.cspf_search.specs.TightWalks.{IsNextTight, IsTight};
 ghost use Rattle.cspf_search.specs.Trees.{IsTree};
 
 use crate::edge::Edge;
@@ -35,28 +37,29 @@ fn is_tight(table: &Table, request: &Request, tree: &Tree, place: usize, edge: E
     if u64::from(tree.bound(place)) != ahead || edge.reverse == NO_LINK {
         return false;
     }
+    let links = u32::from(tree.least_links(edge.end)) + 1;
+    if u32::from(tree.least_links(place)) != links {
+        return false;
+    }
     accepts(edge.link, request) && may_lead_over(table, request, edge.end)
 }
 
-/// The first tight link from the router at an index, from a row on, if there is one.
+/// The first tight link from the router at an index, if there is one.
 fn tight_from<'a>(
     table: &'a Table,
     request: &Request,
     tree: &Tree,
     place: usize,
-    first: usize,
 ) -> Option<Edge<'a>>
     requires listed { AreListed table.now }
     requires links { AreLinksOf table.now (links_of table.now) }
     requires within { place < length (router_list table.now) }
-    ensures some { IfSome result (IsNextTight table.now request.now tree.now place first) }
-    ensures none { IfNone result (AreSlack table.now request.now tree.now place first
-        (length (links_from_index table.now place))) }
+    ensures { IfSome result (IsNextTight table.now request.now tree.now place) }
 {
     let links = table.out_at(place);
     let ends = table.ends_at(place);
     let reverses = table.reverses_at(place);
-    for row in first..links.len() {
+    for row in 0..links.len() {
         let link = &links[row];
         let end = ends[row];
         let reverse = reverses[row];
@@ -74,23 +77,9 @@ fn tight_from<'a>(
     None
 }
 
-/// The one tight link from the router at an index, unless none or more than one is tight.
-fn sole<'a>(table: &'a Table, request: &Request, tree: &Tree, place: usize) -> Option<Edge<'a>>
-    requires listed { AreListed table.now }
-    requires links { AreLinksOf table.now (links_of table.now) }
-    requires within { place < length (router_list table.now) }
-    ensures { IfSome result (IsSole table.now request.now tree.now place) }
-{
-    let edge = tight_from(table, request, tree, place, 0)?;
-    match tight_from(table, request, tree, place, edge.row + 1) {
-        None => Some(edge),
-        Some(_) => None,
-    }
-}
-
-/// The route along the tight links from the head-end, if each router on the way has just one and
-/// they lead to the tail-end. The request has no hops. The head-end and the tail-end are given by
-/// their index in the list of routers.
+/// The route along the first tight link of each router from the head-end on, if these lead to the
+/// tail-end. The request has no hops. The head-end and the tail-end are given by their index in the
+/// list of routers.
 fn follow(
     alloc: Global,
     table: &Table,
@@ -107,6 +96,8 @@ fn follow(
     requires to { IsIndexOf table.now request.now.to to }
     ensures { IfOk result (λ found. IfSome found (IsBestRoute table.now request.now)) }
 {
+    // By the clauses of this call a router's rows are in order of their local addresses.
+    let _rows = table.links();
     let mut links = Vec::with_capacity(alloc, ROOM_FOR_LINKS)?;
     let mut place = from;
     for _taken in 0..table.routers().len() {
@@ -116,7 +107,7 @@ fn follow(
             let cost = u64::from(tree.bound(from));
             return Ok(Some(Route::new(kept, cost)));
         }
-        let Some(edge) = sole(table, request, tree, place) else {
+        let Some(edge) = tight_from(table, request, tree, place) else {
             return Ok(None);
         };
         links.push(*edge.link)?;

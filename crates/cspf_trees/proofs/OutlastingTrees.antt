@@ -1,5 +1,5 @@
 -- A tree of a database is one of each database with its shape.
-use Rattle.std.proofs.Common.{◌≡◌, ℕ, ◌<◌, ◌⊎◌, IsTrue, Option, Some, None, IfSome, length, slice_index, slice_index_or, refl, sym, ap, subst, inl, inr, ◌∙◌}
+use Rattle.std.proofs.Common.{◌≡◌, ℕ, ◌+◌, ◌<◌, ◌⊎◌, IsTrue, Option, Some, None, IfSome, length, slice_index, slice_index_or, refl, sym, ap, subst, inl, inr, ◌∙◌}
 use Rattle.std.specs.Prelude.{◌≢◌, bit_and, bit_xor}
 use Rattle.std.specs.Option.{option_map}
 use Rattle.std.specs.FinSet as set
@@ -89,6 +89,12 @@ module _ (d e : Database) (one : HaveOneShape d e) (routers : router_list e ≡ 
         subst (IsWithin (tree_bound tree u) (tree_bound tree w)) (ap (λ t. t.metric) shape)
         (is.links u w m.link (in_class_too q l in_class m) (over_too q l.to m.link.to (ap (λ t. t.to) shape) over) (index_too l.from m.link.from u (ap (λ t. t.from) shape) from) (index_too l.to m.link.to w (ap (λ t. t.to) shape) to));
     end = λ place at. is.end place (index_too q.to q.to place refl at);
+    fewer = λ u w l in_class over from to just.
+        let m = there_too l in_class.link in
+        let shape = m.shape in
+        is.fewer u w m.link (in_class_too q l in_class m) (over_too q l.to m.link.to (ap (λ t. t.to) shape) over) (index_too l.from m.link.from u (ap (λ t. t.from) shape) from) (index_too l.to m.link.to w (ap (λ t. t.to) shape) to)
+        (just ∙ ap (λ t. tree_bound tree w + t.metric) (sym shape));
+    end_links = λ place at. is.end_links place (index_too q.to q.to place refl at);
   }
 
 pub trees_outlast : ShapesTellRouters → TreesOutlastBandwidth

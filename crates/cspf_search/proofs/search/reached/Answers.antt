@@ -14,7 +14,7 @@ use Rattle.cspf_search.specs.Frontier.{AreLabels}
 use Rattle.cspf_search.proofs.Grown.{root_nodes, root_settled}
 use Rattle.cspf_search.proofs.Heaps.{labels_open}
 use Rattle.cspf_search.proofs.Popped.{first_labels}
-use Rattle.cspf_search.proofs.Reached.{IsAsked, taken, ended, no_start, first_floor, first_left, stepped, stepped_few, node_there, at_goal, settle, still_left, floor_on, labels_on}
+use Rattle.cspf_search.proofs.Reached.{IsAsked, taken, ended, no_start, first_floor, first_left, parent_there, stepped, stepped_few, node_there, at_goal, settle, still_left, floor_on, labels_on}
 use Rattle.cspf_graph.proofs.Slices.{written_back}
 use Rattle.cspf_search.proofs.search.reached.Goals as goal
 
@@ -70,6 +70,11 @@ loop-at-init c =
         labelled = rw put after;
       };
     })
+
+pub node_of-node-requires-clause-parent : goal.node_of-node-requires-clause-parent
+node_of-node-requires-clause-parent c =
+    rw c.deref-in-Some.ensures.value
+    (parent_there _ _ _ _ _ _ c.loop-at.invariant.asked _ _ _ c.loop-at.invariant.under_way _ _ (rw c.deref-in-loop-at.ensures.value at c.in-Some.ensures.some) _ c.index.ensures)
 
 pub returns-then-at-goal : goal.returns-then-at-goal
 returns-then-at-goal c =

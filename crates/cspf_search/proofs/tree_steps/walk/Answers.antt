@@ -19,4 +19,4 @@ returns-clause-passed c u l in_class from end =
     found_back _ c.requires.links c.requires.listed _ _ _ c.ends_at-ends.ensures.within c.ends_at-ends.ensures.each c.reverses_at-reverses.ensures.each l
     in_class.link in_class.reverse u from end in
     let passed = c.loop-row.invariant.passed x.0 (omega (arith, x.1, many, c.loop-row-test.false)) in
-    subst (λ i. IsLinkPassed c.args.table.now c.args.any.now c.args.base c.loop-row.ring i (slice_index c.reverses_at-reverses.result.now x.0)) x.2 passed l x.3 in_class.affinity
+    subst (λ i. IsLinkPassed c.args.table.now c.args.any.now c.args.base c.args.count c.loop-row.ring i (slice_index c.reverses_at-reverses.result.now x.0)) x.2 passed l x.3 in_class.affinity

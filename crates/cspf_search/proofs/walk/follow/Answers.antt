@@ -30,15 +30,15 @@ returns-then-place-to c =
     (tight_best c.args.table.now c.args.request.now c.args.tree.now c.requires.listed c.requires.tree c.args.from c.requires.from c.requires.hops c.args.to c.requires.to
     c.loop-taken.links.items there)
 
-pub sole-requires-clause-within : goal.sole-requires-clause-within
-sole-requires-clause-within c = c.loop-taken.invariant.walk.within
+pub tight_from-requires-clause-within : goal.tight_from-requires-clause-within
+tight_from-requires-clause-within c = c.loop-taken.invariant.walk.within
 
 pub loop-taken-preserved : goal.loop-taken-preserved
 loop-taken-preserved c =
     let more : c.push.new.self.items ≡ c.loop-taken.links.items ++ (c.in-Some.edge.link.now ∷ []) = c.in_ok-push.ensures.items in
     record {
       walk = rw more
-          (tight_more c.args.table.now c.args.request.now c.args.tree.now c.requires.listed c.requires.tree c.args.from c.requires.from c.requires.links c.requires.hops c.args.to c.requires.to
+          (tight_more c.args.table.now c.args.request.now c.args.tree.now c.requires.listed c.requires.tree c.args.from c.requires.from c.requires.links c.links-rows.ensures.keyed c.requires.hops c.args.to c.requires.to
           c.loop-taken.links.items c.loop-taken.place c.loop-taken.invariant.walk c.if-place-to.false c.in-Some.edge c.in-Some.ensures);
       many = omega (arith, ap (λ (w : List Link). length w) more, length_push c.loop-taken.links.items c.in-Some.edge.link.now, c.loop-taken.invariant.many);
     }

@@ -13,8 +13,8 @@ is_tight-requires-clause-edge c =
     c.reverses_at-reverses.result.now c.reverses_at-reverses.ensures.each c.loop-row.row c.index-links-row.result c.from.result c.loop-row-test.true c.index-links-row.is c.from.ensures in
     record { row = x.0; end = x.1; reverse = x.2 }
 
-pub returns-then-is_tight-clause-some : goal.returns-then-is_tight-clause-some
-returns-then-is_tight-clause-some c =
+pub returns-then-is_tight : goal.returns-then-is_tight
+returns-then-is_tight c =
     let x =
     beside_row c.args.table.now c.args.place c.out_at-links.result.now c.out_at-links.ensures c.ends_at-ends.result.now c.ends_at-ends.ensures.within c.ends_at-ends.ensures.each
     c.reverses_at-reverses.result.now c.reverses_at-reverses.ensures.each c.loop-row.row c.index-links-row.result c.from.result c.loop-row-test.true c.index-links-row.is c.from.ensures in

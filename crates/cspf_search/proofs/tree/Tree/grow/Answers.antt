@@ -10,7 +10,11 @@ returns-clause-known c r share =
     let ring = c.settle.new.ring in
     let many = ap length c.routers.ensures.all in
     let to : IsIndexOf c.args.table.now c.args.request.now.to c.in-Some.to = record { within = c.in-Some.ensures.bound; is = c.in-Some.ensures.some } in
-    let zero : bound_at c.settle.new.ring.near.items c.in-Some.to ≡ 0 = omega (arith, c.in_ok-settle.ensures.lower c.in-Some.to, c.in_ok-begin_last.ensures.target) in
+    let begun = c.in_ok-ring.ensures in
+    let low = c.in_ok-settle.ensures.lower c.in-Some.to in
+    let zero : bound_at c.settle.new.ring.near.items c.in-Some.to ≡ 0 = omega (arith, low.0, begun.cost) in
+    let none : bound_at c.settle.new.ring.links.items c.in-Some.to ≡ 0 = omega (arith, low.1 (omega (arith, zero, begun.cost)), begun.count) in
+    let edge = rw (c.deref.ensures.value, c.deref-2.ensures.value) at c.least_open-edge.ensures in
     let is =
-    tree_of_ring d _ ring _ refl c.in_ok-settle.ensures.ring (λ w low. c.edge-edge.ensures w (omega (arith, low, many))) c.listed.ensures.listed c.in-Some.to to zero in
+    tree_of_ring d _ ring _ refl refl c.in_ok-settle.ensures.ring (λ w left. edge w (omega (arith, left, many))) c.listed.ensures.listed c.in-Some.to to zero none in
     shared_tree d _ r _ (record { to = share.to; exclude_any = share.exclude_any; include_any = share.include_any; include_all = share.include_all }) is
