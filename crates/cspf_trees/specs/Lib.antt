@@ -1,4 +1,6 @@
 pub mod Classes
 pub mod Laws
+pub mod LegSteps
+pub mod LegsInTurn
 pub mod TreeRows
 pub mod Trees

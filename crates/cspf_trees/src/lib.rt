@@ -6,6 +6,8 @@
 
 mod class;
 mod laws;
+mod leg_walk;
+mod legs;
 mod limits;
 mod tree_row;
 mod tree_table;

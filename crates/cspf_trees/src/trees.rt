@@ -4,6 +4,7 @@ ghost use Rattle.std.specs.Prelude.{◌≤◌, All};
 
 use crate::class::{class_of, first_row};
 use crate::laws::trees_outlast_bandwidth;
+use crate::legs::best_by_legs;
 use crate::limits::{ASKS_FOR_A_TREE, MOST_ASKS, MOST_TREES};
 use crate::tree_row::{TreeRow, ask, empty_rows, find};
 use cspf_db::Table;
@@ -142,9 +143,8 @@ impl Trees {
         if asked { Some(at) } else { None }
     }
 
-    /// The best answer to a request in the database of the trees, which is the table's: the answer
-    /// of `best` of `cspf_search`.
-    pub fn best(
+    /// The best answer to a request by the tree of its class, if its row has one.
+    pub(crate) fn best_by_row(
         &mut self,
         alloc: Global,
         table: &Table,
@@ -162,5 +162,24 @@ impl Trees {
             Some(tree) => best_by_tree(alloc, table, request, tree),
             None => best(alloc, table, request),
         }
+    }
+
+    /// The best answer to a request in the database of the trees, which is the table's: the answer
+    /// of `best` of `cspf_search`.
+    pub fn best(
+        &mut self,
+        alloc: Global,
+        table: &Table,
+        request: &Request,
+    ) -> Result<Outcome, AllocError>
+        requires { AreTreesOf table.now self.old }
+        ensures trees { AreTreesOf table.now self.new }
+        ensures best { IfOk result (λ outcome.
+            IsBestAnswer table.now request.now (answer_of outcome)) }
+    {
+        if let Some(outcome) = best_by_legs(self, alloc, table, request)? {
+            return Ok(outcome);
+        }
+        self.best_by_row(alloc, table, request)
     }
 }

@@ -1,0 +1,84 @@
+//! The walk through the first legs of a request.
+
+ghost use Rattle.std.specs.Prelude.{◌≡◌, ◌<◌, ◌≤◌, ◌^◌, ◌⊎◌, true, IfOk, [], length};
+ghost use Rattle.cspf_model.specs.Walks.{cost_of};
+ghost use Rattle.cspf_model.specs.declared.limits.TheConstants.{MOST_ROUTE_LINKS};
+
+use cspf_addr::Addr;
+use cspf_db::Table;
+use cspf_model::{Link, MOST_ROUTE_LINKS, Route};
+use std::alloc::{AllocError, Global};
+
+/// At most `MOST_ROUTE_LINKS` links that follow each other, and the router at which they end.
+#[derive(Drop)]
+pub(crate) struct LegWalk {
+    /// The router.
+    pub(crate) at: Addr,
+    /// The links.
+    pub(crate) links: Vec<Link>,
+    ghost most: { length links.items ≤ MOST_ROUTE_LINKS },
+}
+
+/// The sum of the metrics.
+fn cost_along(links: &[Link]) -> u64
+    requires { length links.now ≤ MOST_ROUTE_LINKS }
+    ensures value { result ≡ cost_of links.now }
+    ensures small { result < 2 ^ 45 }
+{
+    let mut cost = 0;
+    for link in links {
+        cost += u64::from(link.metric);
+    }
+    cost
+}
+
+impl LegWalk {
+    ghost use Rattle.cspf_model.specs.Database.{HasTransit};
+    ghost use Rattle.cspf_model.specs.RouteLinks.{AreLinked};
+    ghost use Rattle.cspf_trees.specs.LegSteps.{IsLonger};
+
+    /// No links, at a router.
+    pub(crate) fn begin(alloc: Global, at: Addr) -> LegWalk
+        ensures at { result.at ≡ at }
+        ensures links { result.links.items ≡ [] }
+    {
+        LegWalk {
+            at,
+            links: Vec::new(alloc),
+        }
+    }
+
+    /// Whether links may follow: the router has transit, or there are no links yet.
+    pub(crate) fn may_go_on(&self, table: &Table) -> bool
+        ensures { result ≡ true
+            → HasTransit table.now self.now.at ⊎ (self.now.links.items ≡ []) }
+    {
+        self.links.is_empty() || table.transit(self.at)
+    }
+
+    /// Appends the links of a route to a router, unless there would be more than `MOST_ROUTE_LINKS`.
+    /// Returns whether it did.
+    pub(crate) fn append(&mut self, route: &Route, to: Addr) -> Result<bool, AllocError>
+        ensures { IfOk result (λ fits. fits ≡ true → IsLonger route.now to self.old self.new) }
+    {
+        let links = route.links();
+        if links.len() > MOST_ROUTE_LINKS - self.links.len() {
+            return Ok(false);
+        }
+        self.links.extend_from_slice(links)?;
+        self.at = to;
+        Ok(true)
+    }
+
+    /// The route along the links.
+    pub(crate) fn route(&self, alloc: Global) -> Result<Route, AllocError>
+        requires some { 0 < length self.now.links.items }
+        requires linked { AreLinked self.now.links.items }
+        ensures { IfOk result (λ route. route ≡ self.now.links.items) }
+    {
+        // A route may be kept for long, so it has no room for more links.
+        let links = Vec::from_slice(alloc, self.links.as_slice())?;
+        let cost = cost_along(&self.links);
+        Ok(Route::new(links, cost))
+    }
+}

@@ -1,0 +1,184 @@
+//! Requests whose hops are all loose and owned by one router each. Their legs are answered in turn, each
+//! as a request without hops, so each by the tree of its own class. Together their best routes are the best
+//! route.
+
+ghost use Rattle.std.specs.Prelude.{◌≡◌, ◌≢◌, ◌+◌, ◌<◌, ◌≤◌, ◌^◌, ◌⊎◌, ℕ, true, IfOk, IfSome, [], length, slice_get};
+ghost use Rattle.std.specs.Vec.{vec_capacity};
+ghost use Rattle.cspf_model.specs.declared.limits.TheConstants.{MOST_ROUTERS, MOST_ROUTE_LINKS};
+ghost use Rattle.cspf_model.specs.Best.{IsBestAnswer};
+ghost use Rattle.cspf_model.specs.Database.{HasTransit};
+ghost use Rattle.cspf_model.specs.Outcome.{answer_of};
+ghost use Rattle.cspf_model.specs.Targets.{IsLoose};
+ghost use Rattle.cspf_model.specs.Walks.{cost_of};
+ghost use Rattle.cspf_trees.specs.LegSteps.{IsLegStep, IsLonger};
+ghost use Rattle.cspf_trees.specs.LegsInTurn.{AreSoleTargets, AsksForLeg, IsLeastSoFar, IsLegAnswer, IsSoleOwner, IsSoleTarget};
+ghost use Rattle.cspf_trees.specs.Trees.{AreTreesOf};
+
+use crate::leg_walk::LegWalk;
+use crate::trees::Trees;
+use cspf_addr::{Addr, Hops, Prefix};
+use cspf_db::Table;
+use cspf_model::{
+    Link, MOST_LEGS, MOST_ROUTE_LINKS, MOST_ROUTERS, Outcome, Request, Route, route_without_hops,
+};
+use std::alloc::{AllocError, Global};
+
+/// What is known after one more leg.
+enum LegStep {
+    /// The walk goes on to the target of the leg.
+    On,
+    /// The leg has no route, so the request has none.
+    NoRoute,
+    /// Nothing.
+    Unknown,
+}
+
+/// Whether a request has hops, all of which are loose.
+fn has_loose_hops(request: &Request) -> bool
+    ensures { result ≡ true → (at : ℕ) → IsLoose (slice_get request.now.hops at) }
+{
+    !request.hops.is_empty() && request.hops.as_slice().iter().all(|hop| hop.loose)
+}
+
+/// The router that owns a prefix, unless none or several do.
+fn sole_owner(table: &Table, prefix: Prefix, owners: &mut Vec<u16>) -> Option<Addr>
+    requires { MOST_ROUTERS ≤ vec_capacity owners.old }
+    ensures sole { IfSome result (IsSoleOwner table.now prefix) }
+    ensures room { vec_capacity owners.old ≤ vec_capacity owners.new }
+{
+    table.list_owners(owners, prefix);
+    match owners.as_slice() {
+        [at] => Some(table.routers()[usize::from(*at)]),
+        _ => None,
+    }
+}
+
+/// The target of each leg, if the request has hops, all are loose, and each leg has one target.
+fn sole_targets(
+    alloc: Global,
+    table: &Table,
+    request: &Request,
+) -> Result<Option<Vec<Addr>>, AllocError>
+    ensures { IfOk result (λ found. IfSome found (λ targets.
+        AreSoleTargets table.now request.now targets.items)) }
+{
+    if !has_loose_hops(request) {
+        return Ok(None);
+    }
+    let mut owners = Vec::with_capacity(alloc, MOST_ROUTERS)?;
+    let mut targets = Vec::with_capacity(alloc, MOST_LEGS)?;
+    for hop in request.hops.as_slice() {
+        let Some(router) = sole_owner(table, hop.prefix, &mut owners) else {
+            return Ok(None);
+        };
+        targets.push(router)?;
+    }
+    targets.push(request.to)?;
+    Ok(Some(targets))
+}
+
+/// The request for a leg of another one, from one router to another.
+fn leg_request(request: &Request, from: Addr, to: Addr) -> Request
+    requires { from ≢ to }
+    ensures { AsksForLeg request.now result from to }
+{
+    Request {
+        id: request.id,
+        from,
+        to,
+        setup: request.setup,
+        bandwidth: request.bandwidth,
+        exclude_any: request.exclude_any,
+        include_any: request.include_any,
+        include_all: request.include_all,
+        hops: Hops::none(),
+    }
+}
+
+/// The best answer to the request for a leg of another one.
+fn answer_leg(
+    trees: &mut Trees,
+    alloc: Global,
+    table: &Table,
+    request: &Request,
+    from: Addr,
+    to: Addr,
+) -> Result<Outcome, AllocError>
+    requires ends { from ≢ to }
+    requires trees { AreTreesOf table.now trees.old }
+    ensures trees { AreTreesOf table.now trees.new }
+    ensures answer { IfOk result (λ outcome.
+        IsLegAnswer table.now request.now from to (answer_of outcome)) }
+{
+    let leg = leg_request(request, from, to);
+    trees.best_by_row(alloc, table, &leg)
+}
+
+/// Goes on by one leg, from the end of the walk to the target of the leg.
+fn go_on(
+    trees: &mut Trees,
+    alloc: Global,
+    table: &Table,
+    request: &Request,
+    leg: usize,
+    to: Addr,
+    walk: &mut LegWalk,
+) -> Result<LegStep, AllocError>
+    requires trees { AreTreesOf table.now trees.old }
+    requires sole { IsSoleTarget table.now request.now leg to }
+    requires few { leg < length request.now.hops + 1 }
+    requires least { IsLeastSoFar table.now request.now leg walk.old.at walk.old.links.items }
+    ensures trees { AreTreesOf table.now trees.new }
+    ensures step { IfOk result (IsLegStep table.now request.now (leg + 1) walk.new) }
+{
+    // Law: without hops the routes are the walks to the tail-end.
+    route_without_hops();
+    if walk.at == to {
+        return Ok(LegStep::On);
+    }
+    if !walk.may_go_on(table) {
+        return Ok(LegStep::Unknown);
+    }
+    match answer_leg(trees, alloc, table, request, walk.at, to)? {
+        Outcome::Route(route) => {
+            if walk.append(&route, to)? {
+                Ok(LegStep::On)
+            } else {
+                Ok(LegStep::Unknown)
+            }
+        }
+        Outcome::NoRoute => Ok(LegStep::NoRoute),
+        Outcome::UnknownFrom | Outcome::UnknownTo => Ok(LegStep::Unknown),
+    }
+}
+
+/// The best answer to a request, if the database has both its ends, it has hops, all of them are loose,
+/// and one router owns each. There is none where a route would pass a router without transit between two
+/// legs.
+pub(crate) fn best_by_legs(
+    trees: &mut Trees,
+    alloc: Global,
+    table: &Table,
+    request: &Request,
+) -> Result<Option<Outcome>, AllocError>
+    requires { AreTreesOf table.now trees.old }
+    ensures trees { AreTreesOf table.now trees.new }
+    ensures best { IfOk result (λ found. IfSome found (λ outcome.
+        IsBestAnswer table.now request.now (answer_of outcome))) }
+{
+    let Some(targets) = sole_targets(alloc, table, request)? else {
+        return Ok(None);
+    };
+    if !table.has_router(request.from) || !table.has_router(request.to) {
+        return Ok(None);
+    }
+    let mut walk = LegWalk::begin(alloc, request.from);
+    for leg in 0..targets.len() {
+        match go_on(trees, alloc, table, request, leg, targets[leg], &mut walk)? {
+            LegStep::On => {}
+            LegStep::NoRoute => return Ok(Some(Outcome::NoRoute)),
+            LegStep::Unknown => return Ok(None),
+        }
+    }
+    Ok(Some(Outcome::Route(walk.route(alloc)?)))
+}
