@@ -1,2 +1,3 @@
 pub mod FitTest
+pub mod ShapeChanges
 pub mod Steps

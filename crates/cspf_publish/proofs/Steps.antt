@@ -12,8 +12,9 @@ use Rattle.cspf_publish.specs.BatchAbsorption.{database_with}
 use Rattle.cspf_journal.specs.Histories.{IsHistory, MayFollow}
 use Rattle.cspf_journal.specs.KnownBatches.{KnownBatches, AreFirstOf, known_with}
 use Rattle.cspf_publish.specs.Operations.{idle_batch}
+use Rattle.cspf_publish.specs.ShapeChanges.{HasShapeChanges}
 use Rattle.cspf_publish.specs.ReplicaStates.{ReplicaState, published_state, state_with}
-use Rattle.cspf_publish.specs.ReplicaRule.{HoldsBetweenSteps, HasItsDatabase, Knows, IsPublisher, HasOnePublisher, Opens, Publishes, Enters, note_of, view_with_note}
+use Rattle.cspf_publish.specs.ReplicaRule.{HoldsBetweenSteps, HasItsDatabase, CountsShapeChanges, Knows, IsPublisher, HasOnePublisher, Opens, Publishes, Enters, note_of, view_with_note}
 use Rattle.cspf_publish.specs.declared.seat_view.SeatView.{SeatView}
 use Rattle.cspf_publish.specs.declared.seat_view.SeatView.TheVariants.{New, Asker, Publisher}
 use Rattle.cspf_journal.proofs.Prefixes.{BeginsWith-self, BeginsWith-snoc, IsHistory-snoc}
@@ -88,10 +89,11 @@ is_open_by s (Asker known) knows is = absurd is
 is_open_by s (Publisher known) knows is = knows.1
 
 -- the writer's seat alone
-pub begins : (s : ReplicaState) → IsHistory s.known.batches → HasItsDatabase s → HoldsBetweenSteps s (New ∷ [])
-begins s history has = record {
+pub begins : (s : ReplicaState) → IsHistory s.known.batches → HasItsDatabase s → CountsShapeChanges s → HoldsBetweenSteps s (New ∷ [])
+begins s history has counts = record {
   history = history;
   database = has;
+  shapes = counts;
   seats = AllKnow-snoc s [] New (λ j u e. absurd (some-ne-none u (sym e))) tt;
   one_publisher = HasOnePublisher-snoc [] New (λ i j v w e f p q. absurd (some-ne-none v (sym e))) (λ p. p);
 }
@@ -101,6 +103,7 @@ pub admits : Admits HoldsBetweenSteps New
 admits s views w = record {
   history = w.history;
   database = w.database;
+  shapes = w.shapes;
   seats = AllKnow-snoc s views New w.seats tt;
   one_publisher = HasOnePublisher-snoc views New w.one_publisher (λ p. p);
 }
@@ -115,22 +118,24 @@ enters seat v s views w at = let self = AreFirstOf-self s.known in (
   record {
     history = w.history;
     database = w.database;
+    shapes = w.shapes;
     seats = AllKnow-set s views seat (Asker s.known) w.seats self;
     one_publisher = HasOnePublisher-set views seat v (Asker s.known) at w.one_publisher (λ p. absurd p);
   },
-  record { same = refl; database = w.database; later = later_of s v (w.seats seat v at); after = refl },
+  record { same = refl; database = w.database; shapes = w.shapes; later = later_of s v (w.seats seat v at); after = refl },
 )
 
 -- the publisher's first step
-pub opens : (seat : ℕ) (v : SeatView) (s next : ReplicaState) → s.is_open ≡ false → next.is_open ≡ true → next.database ≡ s.database → next.known ≡ s.known
+pub opens : (seat : ℕ) (v : SeatView) (s next : ReplicaState) → s.is_open ≡ false → next.is_open ≡ true → next.database ≡ s.database → next.known ≡ s.known → next.shape_changes ≡ s.shape_changes
     → TurnsAt HoldsBetweenSteps seat v s next Opens
-opens seat v s next was now database same views w at =
+opens seat v s next was now database same as_many views w at =
     let none : (j : ℕ) (u : SeatView) → get_elem? views j ≡ some u → IsPublisher u → ⊥ = λ j u e p. (let both : false ≡ true = sym was ∙ is_open_by s u (w.seats j u e) p in absurd cc) in
     let all : AllKnow next views = λ j u e. Knows-opens s next same u (w.seats j u e) (none j u e) in (
       Publisher next.known,
       record {
         history = subst (λ (k : KnownBatches). IsHistory k.batches) (sym same) w.history;
         database = database ∙ (w.database ∙ ap (λ (k : KnownBatches). database_after k.batches) (sym same));
+        shapes = subst (λ (k : KnownBatches). HasShapeChanges k.batches next.shape_changes) (sym same) (subst (HasShapeChanges s.known.batches) (sym as_many) w.shapes);
         seats = AllKnow-set next views seat (Publisher next.known) all (refl, now);
         one_publisher = HasOnePublisher-first views seat (Publisher next.known) none;
       },
@@ -139,8 +144,8 @@ opens seat v s next was now database same views w at =
 
 -- a batch that may come next is published
 pub publishes : LawfulByOneMore → (seat : ℕ) (v : SeatView) (s next : ReplicaState) (b : NumberedChanges) → v ≡ Publisher s.known → MayFollow s.known.batches b
-    → next.known ≡ known_with s.known.batches s.known.source b → next.is_open ≡ true → HasItsDatabase next → TurnsAt HoldsBetweenSteps seat v s next Publishes
-publishes law seat v s next b mine follows is now has views w at =
+    → next.known ≡ known_with s.known.batches s.known.source b → next.is_open ≡ true → HasItsDatabase next → CountsShapeChanges next → TurnsAt HoldsBetweenSteps seat v s next Publishes
+publishes law seat v s next b mine follows is now has counts views w at =
     let own : IsPublisher v = subst IsPublisher (sym mine) tt in
     let history : IsHistory next.known.batches = subst (λ (k : KnownBatches). IsHistory k.batches) (sym is) (IsHistory-snoc law s.known.batches b w.history follows) in
     let all : AllKnow next (set views seat (Publisher next.known)) = λ j u e. ⊎_elim
@@ -151,6 +156,7 @@ publishes law seat v s next b mine follows is now has views w at =
       record {
         history = history;
         database = has;
+        shapes = counts;
         seats = all;
         one_publisher = HasOnePublisher-set views seat v (Publisher next.known) at w.one_publisher (λ p. own);
       },
@@ -189,6 +195,7 @@ pub forks : (seat : ℕ) (v : SeatView) → Forks HoldsBetweenSteps seat v v (no
 forks seat v s views w at = record {
   history = w.history;
   database = w.database;
+  shapes = w.shapes;
   seats = AllKnow-snoc s (set views seat v) (note_of v) (AllKnow-set s views seat v w.seats (w.seats seat v at)) (note_of-Knows s v (w.seats seat v at));
   one_publisher = HasOnePublisher-snoc (set views seat v) (note_of v) (HasOnePublisher-set views seat v v at w.one_publisher (λ p. p)) (note_of-IsPublisher v);
 }
@@ -201,27 +208,29 @@ merges seat v other w s views holds at apart there =
     let one : HasOnePublisher (set views seat (view_with_note v w)) = HasOnePublisher-set views seat v (view_with_note v w) at holds.one_publisher (view_with_note-IsPublisher v w) in record {
       history = holds.history;
       database = holds.database;
+      shapes = holds.shapes;
       seats = AllKnow-set s (set views seat (view_with_note v w)) other New both tt;
       one_publisher = HasOnePublisher-set (set views seat (view_with_note v w)) other w New there one (λ p. absurd p);
     }
 
 -- a replica that takes in a batch that may come next
-pub HasItsDatabase-more : OneMoreBatch → (s : ReplicaState) (b : NumberedChanges) → HasItsDatabase s → MayFollow s.known.batches b
-    → HasItsDatabase (state_with s b (known_with s.known.batches s.known.source b))
-HasItsDatabase-more law s b has follows =
+pub HasItsDatabase-more : OneMoreBatch → (s : ReplicaState) (b : NumberedChanges) (count : ℕ) → HasItsDatabase s → MayFollow s.known.batches b
+    → HasItsDatabase (state_with s b (known_with s.known.batches s.known.source b) count)
+HasItsDatabase-more law s b count has follows =
     database_with-Fits s.database b (subst (λ (d : Database). Fits d b) (sym has) follows.fits)
     ∙ (ap (λ (d : Database). after_changes d b.changes) has ∙ sym (law s.known.batches b))
 
 -- two operations that only open the replica
 pub idle_twice : (s : ReplicaState)
-    → state_with (state_with s (idle_batch s.known).batch s.known) (idle_batch s.known).batch s.known ≡ record { database = s.database; known = s.known; is_open = true }
+    → state_with (state_with s (idle_batch s.known).batch s.known 0) (idle_batch s.known).batch s.known 0
+    ≡ record { database = s.database; known = s.known; shape_changes = 0; is_open = true }
 idle_twice s =
     let nothing : (d : Database) → database_with d (idle_batch s.known).batch ≡ d = λ d. database_with-nothing d 0 in
-    ap (λ (d : Database). (let it : ReplicaState = record { database = d; known = s.known; is_open = true } in it))
+    ap (λ (d : Database). (let it : ReplicaState = record { database = d; known = s.known; shape_changes = 0; is_open = true } in it))
     (ap (λ (d : Database). database_with d (idle_batch s.known).batch) (nothing s.database) ∙ nothing s.database)
 
 -- an open replica that has the database of its batches
-pub state_from_known : (s : ReplicaState) → HasItsDatabase s → s.is_open ≡ true → s ≡ published_state s.known
+pub state_from_known : (s : ReplicaState) → HasItsDatabase s → s.is_open ≡ true → s ≡ published_state s.known s.shape_changes
 state_from_known s has now =
-    ap (λ (d : Database). (let it : ReplicaState = record { database = d; known = s.known; is_open = s.is_open } in it)) has
-    ∙ ap (λ (x : Bool). (let it : ReplicaState = record { database = database_after s.known.batches; known = s.known; is_open = x } in it)) now
+    ap (λ (d : Database). (let it : ReplicaState = record { database = d; known = s.known; shape_changes = s.shape_changes; is_open = s.is_open } in it)) has
+    ∙ ap (λ (x : Bool). (let it : ReplicaState = record { database = database_after s.known.batches; known = s.known; shape_changes = s.shape_changes; is_open = x } in it)) now

@@ -3,6 +3,7 @@ pub use Rattle.cspf_journal.specs.KnownBatches
 pub use Rattle.cspf_journal.specs.JournalSteps
 pub use Rattle.cspf_journal.specs.Readings
 pub mod BatchAbsorption
+pub mod ShapeChanges
 pub mod ReplicaStates
 pub mod ReplicaRule
 pub mod Operations

@@ -5,4 +5,4 @@ use Rattle.cspf_publish.specs.declared.replica.PendingBatch.{PendingBatch}
 
 -- an operation that changes nothing
 abbrev pub idle_batch : KnownBatches → PendingBatch
-idle_batch known = record { batch = record { number = 0; changes = [] }; known = known }
+idle_batch known = record { batch = record { number = 0; changes = [] }; known = known; shape_changes = 0 }

@@ -8,12 +8,17 @@ use Rattle.cspf_model.specs.Changes.{database_after}
 use Rattle.cspf_journal.specs.Histories.{IsHistory, MayFollow}
 use Rattle.cspf_journal.specs.KnownBatches.{KnownBatches, AreFirstOf}
 use Rattle.cspf_publish.specs.ReplicaStates.{ReplicaState}
+use Rattle.cspf_publish.specs.ShapeChanges.{HasShapeChanges}
 use Rattle.cspf_publish.specs.declared.seat_view.SeatView.{SeatView}
 use Rattle.cspf_publish.specs.declared.seat_view.SeatView.TheVariants.{New, Asker, Publisher}
 
 -- the replica has the database of its batches
 abbrev pub HasItsDatabase : ReplicaState → Type 0
 HasItsDatabase s = s.database ≡ database_after s.known.batches
+
+-- the replica counts those of its batches that change the shape
+abbrev pub CountsShapeChanges : ReplicaState → Type 0
+CountsShapeChanges s = HasShapeChanges s.known.batches s.shape_changes
 
 -- What a seat knows: a new one nothing, an asker's a prefix of the batches that are published, and the
 -- publisher's all of them.
@@ -35,11 +40,12 @@ HasOnePublisher views =
     → IsPublisher v → IsPublisher w → i ≡ j
 
 -- The rule: the published batches are a history, and the replica that askers enter has their
--- database. Each seat knows a prefix of them, the publisher's all, and there is one publisher at
--- most.
+-- database and counts their changes of its shape. Each seat knows a prefix of them, the publisher's
+-- all, and there is one publisher at most.
 pub record HoldsBetweenSteps (s : ReplicaState) (views : List SeatView) : Type 0 where
   pub history : IsHistory s.known.batches
   pub database : HasItsDatabase s
+  pub shapes : CountsShapeChanges s
   pub seats : (seat : ℕ) (v : SeatView) → get_elem? views seat ≡ some v → Knows s v
   pub one_publisher : HasOnePublisher views
 
@@ -59,11 +65,12 @@ pub record Publishes (v : SeatView) (x y : ReplicaState) (w : SeatView) : Type 0
   pub before : v ≡ Publisher x.known
   pub after : w ≡ Publisher y.known
 
--- An asker enters a replica, which has the database of its batches. From now on it knows these, and
--- those that it knew from its last entry are a prefix of them.
+-- An asker enters a replica, which has the database of its batches and counts their changes of its
+-- shape. From now on it knows these, and those that it knew from its last entry are a prefix of them.
 pub record Enters (v : SeatView) (x y : ReplicaState) (w : SeatView) : Type 0 where
   pub same : y ≡ x
   pub database : HasItsDatabase y
+  pub shapes : CountsShapeChanges y
   pub later : (known : KnownBatches) → v ≡ Asker known → AreFirstOf y.known known
   pub after : w ≡ Asker y.known
 

@@ -2,17 +2,16 @@
 
 ghost use Rattle.std.specs.Prelude.{◌≡◌, IfOk, IfSome, IfNone};
 ghost use Rattle.left_right.specs.Sides.{view};
-ghost use Rattle.cspf_model.specs.Changes.{database_after};
 ghost use Rattle.cspf_journal.specs.KnownBatches.{KnownBatches, AreFirstOf};
 ghost use Rattle.cspf_publish.specs.Answers.{IsBestAfter};
 ghost use Rattle.cspf_publish.specs.AskerSeats.{IsAskerSeat};
+ghost use Rattle.cspf_publish.specs.ReplicaRule.{HasItsDatabase, CountsShapeChanges};
 ghost use Rattle.cspf_publish.specs.declared.seat_view.SeatView.TheVariants.{Asker as IsAsker};
 
 use crate::known_trees::KnownTrees;
 use crate::replica::Replica;
 use crate::replica_rule::{Entry, ReplicaRule};
 use crate::seat_view::SeatView;
-use cspf_db::Table;
 use cspf_journal::Known;
 use cspf_model::{Outcome, Request};
 use left_right::reader::Reader;
@@ -32,37 +31,38 @@ pub(crate) struct AskerSeat {
     pub(crate) most_trees: usize,
 }
 
-// The trees for the database of these batches, new ones with room for at most so many.
-fn trees_at(alloc: Global, known: &Known, most: usize, trees: Option<KnownTrees>) -> KnownTrees
-    requires { IfSome trees (λ old. known.now.source ≡ old.source) }
-    ensures { result ≡ known.now }
+// The trees for the database of a replica, new ones with room for at most so many.
+fn trees_at(alloc: Global, replica: &Replica, most: usize, trees: Option<KnownTrees>) -> KnownTrees
+    requires shapes { CountsShapeChanges replica.now }
+    requires source { IfSome trees (λ old. replica.now.known.source ≡ old.source) }
+    ensures { result ≡ replica.now.known }
 {
     match trees {
-        None => KnownTrees::new(alloc, known, most),
+        None => KnownTrees::new(alloc, replica, most),
         Some(old) => {
             let mut trees = old;
-            trees.enter(known);
+            trees.enter(replica);
             trees
         }
     }
 }
 
-// The result of the search in the table, which has the database of these batches, and its trees.
+// The result of the search in a replica, and the trees of its database.
 fn search(
     alloc: Global,
-    table: &Table,
+    replica: &Replica,
     request: &Request,
-    known: &Known,
     most: usize,
     trees: Option<KnownTrees>,
 ) -> (KnownTrees, Result<Outcome, AllocError>)
-    requires table { table.now ≡ database_after known.now.batches }
-    requires source { IfSome trees (λ old. known.now.source ≡ old.source) }
-    ensures trees { result.0 ≡ known.now }
-    ensures best { IfOk result.1 (IsBestAfter known.now.batches request.now) }
+    requires database { HasItsDatabase replica.now }
+    requires shapes { CountsShapeChanges replica.now }
+    requires source { IfSome trees (λ old. replica.now.known.source ≡ old.source) }
+    ensures trees { result.0 ≡ replica.now.known }
+    ensures best { IfOk result.1 (IsBestAfter replica.now.known.batches request.now) }
 {
-    let mut trees = trees_at(alloc, known, most, trees);
-    let outcome = trees.best(alloc, table, request);
+    let mut trees = trees_at(alloc, replica, most, trees);
+    let outcome = trees.best(alloc, replica, request);
     (trees, outcome)
 }
 
@@ -98,14 +98,7 @@ pub(crate) fn enter_and_search(
         Ok(reading) => {
             let replica = reading.get();
             let known = replica.known.copy();
-            let (trees, outcome) = search(
-                alloc,
-                &replica.table,
-                &request,
-                &known,
-                most_trees,
-                trees,
-            );
+            let (trees, outcome) = search(alloc, replica, &request, most_trees, trees);
             let reader = reading.leave();
             let seat = AskerSeat {
                 reader,

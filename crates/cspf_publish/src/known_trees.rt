@@ -3,69 +3,79 @@
 ghost use Rattle.std.specs.Prelude.{◌≡◌, IfOk};
 ghost use Rattle.cspf_model.specs.Changes.{database_after};
 ghost use Rattle.cspf_publish.specs.Answers.{IsBestAfter};
+ghost use Rattle.cspf_publish.specs.ReplicaRule.{HasItsDatabase, CountsShapeChanges};
 
-use cspf_db::Table;
+use crate::replica::Replica;
 use cspf_journal::Known;
 use cspf_model::{Outcome, Request};
-use cspf_trees::Trees;
+use cspf_trees::{Trees, trees_outlast_bandwidth};
 use std::alloc::{AllocError, Global};
 use std::marker::Model;
 
-/// Trees, and the batches whose database they are of.
+/// Trees, the batches whose database they are of, and how many of these change its shape.
 #[derive(Drop)]
 pub(crate) struct KnownTrees {
     trees: Trees,
     known: Known,
+    shape_changes: u32,
 }
 
 impl Model for KnownTrees {
     ghost use Rattle.cspf_model.specs.Changes.{database_after};
     ghost use Rattle.cspf_journal.specs.KnownBatches.{KnownBatches};
     ghost use Rattle.cspf_trees.specs.Trees.{AreTreesOf};
+    ghost use Rattle.cspf_publish.specs.ShapeChanges.{HasShapeChanges};
 
     ghost Value = { KnownBatches };
 
     ghost view = { λ t. t.known };
 
-    ghost invariant = { λ t. AreTreesOf (database_after t.known.batches) t.trees };
+    ghost invariant = { λ t. AreTreesOf (database_after t.known.batches) t.trees
+        × HasShapeChanges t.known.batches t.shape_changes };
 }
 
 impl KnownTrees {
-    /// No trees yet, for the database of these batches, and later at most this many.
-    pub(crate) fn new(alloc: Global, known: &Known, most: usize) -> KnownTrees
-        ensures { result ≡ known.now }
+    /// No trees yet, for the database of a replica, and later at most this many.
+    pub(crate) fn new(alloc: Global, replica: &Replica, most: usize) -> KnownTrees
+        requires { CountsShapeChanges replica.now }
+        ensures { result ≡ replica.now.known }
     {
         KnownTrees {
             trees: Trees::new(alloc, most),
-            known: known.copy(),
+            known: replica.known.copy(),
+            shape_changes: replica.shape_changes,
         }
     }
 
-    /// Goes on with the database of other batches of the same list. The trees are kept where it is the
-    /// same version.
-    pub(crate) fn enter(&mut self, known: &Known)
-        requires { known.now.source ≡ self.old.source }
-        ensures { self.new ≡ known.now }
+    /// Goes on with the database of a replica of the same list. The trees are kept where no batch
+    /// between changes more than unreserved bandwidths.
+    pub(crate) fn enter(&mut self, replica: &Replica)
+        requires source { replica.now.known.source ≡ self.old.source }
+        requires shapes { CountsShapeChanges replica.now }
+        ensures { self.new ≡ replica.now.known }
     {
-        if self.known.version() == known.version() {
-            let _same = self.known.raise(known);
-        } else {
-            self.trees.clear();
-            self.known = known.copy();
+        // Law: a tree of a database is one of each with the same shape.
+        trees_outlast_bandwidth();
+        if self.shape_changes == replica.shape_changes && self.known.raise(&replica.known) {
+            return;
         }
+        self.trees.clear();
+        self.known = replica.known.copy();
+        self.shape_changes = replica.shape_changes;
     }
 
-    /// The best answer to a request in the table's database, which is that of the batches.
+    /// The best answer to a request in a replica's database, which is that of the batches.
     pub(crate) fn best(
         &mut self,
         alloc: Global,
-        table: &Table,
+        replica: &Replica,
         request: &Request,
     ) -> Result<Outcome, AllocError>
-        requires { table.now ≡ database_after self.old.batches }
+        requires database { HasItsDatabase replica.now }
+        requires known { replica.now.known ≡ self.old }
         ensures same { self.new ≡ self.old }
         ensures best { IfOk result (IsBestAfter self.old.batches request.now) }
     {
-        self.trees.best(alloc, table, request)
+        self.trees.best(alloc, &replica.table, request)
     }
 }

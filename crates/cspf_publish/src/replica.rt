@@ -1,6 +1,9 @@
 //! The replicas of the table, and the operation that changes both.
-ghost use Rattle.std.specs.Prelude.{◌≡◌};
+ghost use Rattle.std.specs.Prelude.{◌≡◌, ◌++◌, [], ◌∷◌};
+ghost use Rattle.cspf_journal.specs.Histories.{MayFollow};
 ghost use Rattle.cspf_publish.specs.BatchAbsorption.{database_with};
+ghost use Rattle.cspf_publish.specs.ReplicaRule.{HasItsDatabase, CountsShapeChanges};
+ghost use Rattle.cspf_publish.specs.ShapeChanges.{HasShapeChanges};
 
 use cspf_db::Table;
 use cspf_journal::Known;
@@ -16,6 +19,8 @@ pub struct PendingBatch {
     pub batch: Batch,
     /// The batches up to it.
     pub known: Known,
+    /// How many of these change more than unreserved bandwidths.
+    pub shape_changes: u32,
 }
 
 /// A table, and the batches whose database it has.
@@ -25,6 +30,8 @@ pub struct Replica {
     pub table: Table,
     /// The batches that it has absorbed.
     pub known: Known,
+    /// How many of these changed more than unreserved bandwidths.
+    pub shape_changes: u32,
     /// Whether it has absorbed an operation. If so, a publisher's seat knows its batches.
     pub is_open: bool,
 }
@@ -38,7 +45,28 @@ impl Model for Replica {
 
     ghost coded = { Prim.hlevel (codes, the_row.coded) };
 
-    ghost view = { λ r. record { database = r.table; known = r.known; is_open = r.is_open } };
+    ghost view = { λ r. record {
+      database = r.table;
+      known = r.known;
+      shape_changes = r.shape_changes;
+      is_open = r.is_open;
+    } };
+}
+
+impl Replica {
+    /// How many of its batches and this one change more than unreserved bandwidths.
+    pub(crate) fn shape_changes_with(&self, batch: &Batch) -> u32
+        requires database { HasItsDatabase self.now }
+        requires shapes { CountsShapeChanges self.now }
+        requires next { MayFollow self.now.known.batches batch.now }
+        ensures { HasShapeChanges (self.now.known.batches ++ batch.now ∷ []) result }
+    {
+        if self.table.changes_shape(batch) {
+            self.shape_changes + 1
+        } else {
+            self.shape_changes
+        }
+    }
 }
 
 // Absorbs a batch. One that doesn't fit changes nothing.
@@ -55,7 +83,7 @@ impl Absorb<PendingBatch> for Replica {
 
     ghost state = { λ r. r };
 
-    ghost applied = { λ r p. state_with r p.batch p.known };
+    ghost applied = { λ r p. state_with r p.batch p.known p.shape_changes };
 
     ghost never_fails = { Unit {0} };
 
@@ -66,6 +94,7 @@ impl Absorb<PendingBatch> for Replica {
     ) -> Result<(), AllocError> {
         absorb(&mut self.table, &operation.batch);
         self.known = operation.known.copy();
+        self.shape_changes = operation.shape_changes;
         self.is_open = true;
         Ok(())
     }

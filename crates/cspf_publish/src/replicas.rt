@@ -1,5 +1,5 @@
 //! Both replicas of the table.
-ghost use Rattle.std.specs.Prelude.{◌≡◌, ◌<◌, ◌≤◌, ◌++◌, [], ◌∷◌, true, false, length, drop, All, IfOk, OnOk, IfErr, vec_len, vec_capacity};
+ghost use Rattle.std.specs.Prelude.{◌≡◌, ℕ, ◌<◌, ◌≤◌, ◌++◌, [], ◌∷◌, true, false, length, drop, All, IfOk, OnOk, IfErr, vec_len, vec_capacity};
 ghost use Rattle.std.specs.Arc.{arc_value};
 ghost use Rattle.left_right.specs.Sides.{view};
 ghost use Rattle.cspf_journal.specs.JournalSteps.{batches_of, count_of};
@@ -11,7 +11,10 @@ ghost use Rattle.cspf_journal.specs.Histories.{BeginsWith, IsHistory, MayFollow}
 ghost use Rattle.cspf_journal.specs.KnownBatches.{known_with};
 ghost use Rattle.cspf_publish.specs.Operations.{idle_batch};
 ghost use Rattle.cspf_publish.specs.ReplicaStates.{published_state};
+ghost use Rattle.cspf_publish.specs.ReplicaRule.{CountsShapeChanges};
+ghost use Rattle.cspf_publish.specs.ShapeChanges.{HasShapeChanges};
 ghost use Rattle.cspf_publish.specs.declared.limits.TheConstants.{MOST_ASKERS};
+ghost use Rattle.cspf_publish.specs.declared.replica.PendingBatch.{PendingBatch as Pending};
 ghost use Rattle.cspf_publish.specs.declared.seat_view.SeatView.TheVariants.{New as IsNew, Publisher as IsPublisher};
 
 use crate::asker_seat::ReplicaReader;
@@ -46,6 +49,7 @@ impl Model for Replicas {
     ghost use Rattle.left_right.specs.Sides.{view as seen_by};
     ghost use Rattle.cspf_journal.specs.KnownBatches.{KnownBatches};
     ghost use Rattle.cspf_publish.specs.ReplicaStates.{published_state};
+    ghost use Rattle.cspf_publish.specs.ReplicaRule.{CountsShapeChanges};
     ghost use Rattle.cspf_publish.specs.declared.seat_view.SeatView.TheVariants.{Publisher};
 
     ghost Value = { KnownBatches };
@@ -53,7 +57,8 @@ impl Model for Replicas {
     ghost view = { λ r. r.writer.desk.shown.value.known };
 
     ghost invariant = { λ r. (r.writer.desk.shown.value
-        ≡ published_state r.writer.desk.shown.value.known)
+        ≡ published_state r.writer.desk.shown.value.known r.writer.desk.shown.value.shape_changes)
+        × CountsShapeChanges r.writer.desk.shown.value
         × (seen_by r.writer.desk.place ≡ Publisher r.writer.desk.shown.value.known)
         × (drop r.writer.behind r.writer.log.items ≡ [])
         × (r.right ≡ r.writer.desk.shown.value.known)
@@ -66,12 +71,13 @@ fn open_writer<R: Wait>(writer: ReplicaWriter, rt: &R) -> ReplicaWriter
     requires empty { writer.desk.shown.value ≡ record {
       database = no_links;
       known = record { batches = []; source = writer.desk.shown.value.known.source };
+      shape_changes = 0;
       is_open = false;
     } }
     requires pending { drop writer.behind writer.log.items
         ≡ idle_batch writer.desk.shown.value.known ∷ idle_batch writer.desk.shown.value.known ∷ [] }
     ensures seat { view result.desk.place ≡ IsPublisher writer.desk.shown.value.known }
-    ensures shown { result.desk.shown.value ≡ published_state writer.desk.shown.value.known }
+    ensures shown { result.desk.shown.value ≡ published_state writer.desk.shown.value.known 0 }
     ensures pending { drop result.behind result.log.items ≡ [] }
 {
     let (writer, published) = writer.publish_as::<Opening, R>(rt);
@@ -81,24 +87,25 @@ fn open_writer<R: Wait>(writer: ReplicaWriter, rt: &R) -> ReplicaWriter
 
 // One step: the pending batch is published. The result is the new version.
 fn swap_replicas<R: Wait>(writer: ReplicaWriter, rt: &R) -> (ReplicaWriter, u32)
-    requires shown { writer.desk.shown.value ≡ published_state writer.desk.shown.value.known }
+    requires shown { writer.desk.shown.value
+        ≡ published_state writer.desk.shown.value.known writer.desk.shown.value.shape_changes }
     requires seat { view writer.desk.place ≡ IsPublisher writer.desk.shown.value.known }
-    requires pending { (b : NumberedChanges)
+    requires pending { (b : NumberedChanges) × (shape_changes : ℕ)
         × MayFollow writer.desk.shown.value.known.batches b
+        × HasShapeChanges (writer.desk.shown.value.known.batches ++ b ∷ []) shape_changes
         × (drop writer.behind writer.log.items ≡ record {
           batch = b;
           known = known_with writer.desk.shown.value.known.batches
               writer.desk.shown.value.known.source b;
+          shape_changes = shape_changes;
         } ∷ []) }
     ensures seat { view result.0.desk.place ≡ IsPublisher result.0.desk.shown.value.known }
-    ensures shown { result.0.desk.shown.value ≡ published_state result.0.desk.shown.value.known }
+    ensures shown { result.0.desk.shown.value ≡ published_state
+        result.0.desk.shown.value.known result.0.desk.shown.value.shape_changes }
+    ensures shapes { CountsShapeChanges result.0.desk.shown.value }
     ensures pending { drop result.0.behind result.0.log.items ≡ [] }
-    ensures known { (b : NumberedChanges) → drop writer.behind writer.log.items ≡ record {
-      batch = b;
-      known = known_with writer.desk.shown.value.known.batches
-          writer.desk.shown.value.known.source b;
-    } ∷ [] → result.0.desk.shown.value.known ≡ known_with
-        writer.desk.shown.value.known.batches writer.desk.shown.value.known.source b }
+    ensures known { (p : Pending) → drop writer.behind writer.log.items ≡ p ∷ []
+        → result.0.desk.shown.value.known ≡ p.known }
     ensures version { result.1 ≡ length result.0.desk.shown.value.known.batches }
 {
     // Laws: one more batch makes its changes in the database of those before it, and keeps the
@@ -121,16 +128,23 @@ fn idle_operation(alloc: Global, known: &Known) -> PendingBatch
             changes: Vec::new(alloc),
         },
         known: known.copy(),
+        shape_changes: 0,
     }
 }
 
 fn empty_replica(alloc: Global, known: &Known) -> Result<Replica, AllocError>
     ensures { IfOk result (λ r.
-        r ≡ record { database = no_links; known = known.now; is_open = false }) }
+        r ≡ record {
+          database = no_links;
+          known = known.now;
+          shape_changes = 0;
+          is_open = false;
+        }) }
 {
     Ok(Replica {
         table: Table::new(alloc)?,
         known: known.copy(),
+        shape_changes: 0,
         is_open: false,
     })
 }
@@ -161,7 +175,7 @@ fn new_writer<R: Wait>(
     requires none { known.now.batches ≡ [] }
     requires readers { (0 < readers) × (readers ≤ MOST_ASKERS) }
     ensures seat { IfOk result (λ w. view w.desk.place ≡ IsPublisher known.now) }
-    ensures shown { IfOk result (λ w. w.desk.shown.value ≡ published_state known.now) }
+    ensures shown { IfOk result (λ w. w.desk.shown.value ≡ published_state known.now 0) }
     ensures pending { IfOk result (λ w. drop w.behind w.log.items ≡ []) }
 {
     let first = empty_replica(alloc, known)?;
@@ -323,9 +337,11 @@ impl Replicas {
         ensures known { self.new ≡ recorded }
         ensures version { result ≡ length self.new.batches }
     {
+        let shape_changes = self.writer.published().shape_changes_with(&batch);
         let next = PendingBatch {
             batch,
             known: recorded,
+            shape_changes,
         };
         append(&mut self.writer, rt, next);
         let version = replace_with(&mut self.writer, rt, swap_replicas::<R>);

@@ -1,0 +1,18 @@
+-- Private: how many batches of a list change the shape of the database.
+use Rattle.std.specs.Prelude.{◌≡◌, ◌⊎◌, ℕ, ◌+◌, List, [], ◌∷◌}
+use Rattle.cspf_model.specs.Numbered.{NumberedChanges}
+use Rattle.cspf_model.specs.Database.{Database}
+use Rattle.cspf_model.specs.Changes.{no_links, after_changes}
+use Rattle.cspf_db.specs.Shapes.{HaveOneShape}
+
+-- From this database on so many of the batches change more than unreserved bandwidths.
+abbrev pub HasShapeChangesAfter : Database → List NumberedChanges → ℕ → Type 0
+HasShapeChangesAfter d [] count = count ≡ 0
+HasShapeChangesAfter d (b ∷ bs) count =
+    (HaveOneShape d (after_changes d b.changes) × HasShapeChangesAfter (after_changes d b.changes) bs count)
+    ⊎ ((¬ HaveOneShape d (after_changes d b.changes))
+    × (rest : ℕ) × (count ≡ rest + 1) × HasShapeChangesAfter (after_changes d b.changes) bs rest)
+
+-- From no links on so many of the batches change more than unreserved bandwidths.
+abbrev pub HasShapeChanges : List NumberedChanges → ℕ → Type 0
+HasShapeChanges batches count = HasShapeChangesAfter no_links batches count
