@@ -10,11 +10,13 @@ TOP = os.path.dirname(HERE)
 # The program doesn't need `alone`.
 LINES = "low: csv # below both arms\nleft: low\nalone: low\nright: low csv\nrouted: left right clap\n"
 RT = """#!/bin/sh
-echo "$*" >"$NOTES" && find . -type f | LC_ALL=C sort >>"$NOTES" && cat crates.txt >>"$NOTES"
-echo "what rt prints"
+echo "$*" >>"$NOTES"
+[ $# -gt 1 ] || { find . -type f | LC_ALL=C sort && cat crates.txt; } >>"$NOTES"
+echo "what rt prints of ${2:-all}"
 [ -z "$HANGS" ] || { trap 'kill $!; exit 1' TERM; sleep 60 & echo "$!" >"$NOTES.child"; wait; }
-[ -z "$FAILS" ] || exit 3
-mkdir -p crates/routed/out && echo proved >crates/routed/out/routed
+[ "$FAILS" != "${2:-all}" ] || exit 3
+[ -n "$FORGETS" ] || echo "$2 and the crates below passed, and that is kept. This is not the gate"
+[ $# -gt 1 ] || { mkdir -p crates/routed/out && echo proved >crates/routed/out/routed; }
 """
 
 
@@ -44,9 +46,14 @@ class Tree:
         return subprocess.Popen([f"{self.room}/tools/build"], env={**os.environ, **names}, stdout=subprocess.PIPE, stderr=subprocess.STDOUT, text=True)
 
     def run(self, **names):
+        if os.path.exists(self.notes):
+            os.remove(self.notes)
         ran = self.begun(**names)
         said = ran.communicate(timeout=60)[0]
         return ran.returncode, said.splitlines()
+
+    def noted(self):
+        return read(self.notes).splitlines()
 
 
 def read(path):
@@ -59,14 +66,19 @@ def building(checks):
         tree = Tree(room)
         failed(tree, checks)
         built(tree, checks)
+        forgotten(tree, checks)
         interrupted(tree, checks)
 
 
 def failed(tree, checks):
-    status, said = tree.run(FAILS="1")
-    checks.same("tools/build: the status is that of rt ci", status, 3)
-    checks.true("it passes on what rt ci prints, and says at last that it failed", said[0] == "what rt prints" and said[-1].startswith("FAILED in "), said)
-    checks.true("there is no program then", not os.path.exists(tree.program))
+    for name, printed in ("low", "what rt prints of low"), ("all", "what rt prints of all"):
+        status, said = tree.run(FAILS=name)
+        checks.same(f"tools/build: the status is that of the run of rt ci that fails ({name})", status, 3)
+        checks.true("it passes on what that prints, and says at last that it failed", printed in said and said[-1].startswith("FAILED in "), said)
+        checks.true("there is no program then", not os.path.exists(tree.program))
+    status, said = tree.run(FAILS="left")
+    checks.true("a crate that fails is named", status == 3 and any(line.startswith("left: FAILED in ") for line in said), said)
+    checks.true("nothing above it is begun", "ci" not in tree.noted(), tree.noted())
 
 
 def built(tree, checks):
@@ -75,8 +87,15 @@ def built(tree, checks):
     checks.true("the last line says that it is built", said[-1].startswith("built in "), said)
     checks.same("the program that rt ci built takes its place", read(tree.program), "proved\n")
     needed = [f"./crates/{name}/src/{path}" for name in ("left", "low", "right", "routed") for path in ("lib.rt", "out/kept.rt")]
-    lines = LINES.replace("alone: low\n", "")
-    checks.same("rt ci finds what the program needs, and no wrong bodies", read(tree.notes), "\n".join(["ci", "./HANDLES", "./crates.txt", *needed, lines]))
+    found, lines = tree.noted(), LINES.replace("alone: low\n", "").splitlines()
+    checks.same("each crate is proved once, the lower one first", (found[0], sorted(found[1:3])), ("ci low", ["ci left", "ci right"]))
+    checks.same("the last run finds what the program needs, and no wrong bodies", found[3:], ["ci", "./HANDLES", "./crates.txt", *needed, *lines])
+
+
+def forgotten(tree, checks):
+    status, _ = tree.run(FORGETS="1")
+    calls = [line for line in tree.noted() if line.split()[0] == "ci"]
+    checks.same("where nothing is kept, one run proves all", (status, calls), (0, ["ci low", "ci"]))
 
 
 def interrupted(tree, checks):
