@@ -1,6 +1,6 @@
 //! The walk through the first legs of a request.
 
-ghost use Rattle.std.specs.Prelude.{◌≡◌, ◌<◌, ◌≤◌, ◌^◌, ◌⊎◌, true, IfOk, [], length};
+ghost use Rattle.std.specs.Prelude.{◌≡◌, ◌+◌, ◌<◌, ◌≤◌, ◌^◌, ◌↔◌, ◌⊎◌, true, false, IfOk, IsTrue, [], length};
 ghost use Rattle.cspf_model.specs.Walks.{cost_of};
 ghost use Rattle.cspf_model.specs.declared.limits.TheConstants.{MOST_ROUTE_LINKS};
 
@@ -50,8 +50,8 @@ impl LegWalk {
 
     /// Whether links may follow: the router has transit, or there are no links yet.
     pub(crate) fn may_go_on(&self, table: &Table) -> bool
-        ensures { result ≡ true
-            → HasTransit table.now self.now.at ⊎ (self.now.links.items ≡ []) }
+        ensures { IsTrue result
+            ↔ (HasTransit table.now self.now.at ⊎ (self.now.links.items ≡ [])) }
     {
         self.links.is_empty() || table.transit(self.at)
     }
@@ -59,7 +59,10 @@ impl LegWalk {
     /// Appends the links of a route to a router, unless there would be more than `MOST_ROUTE_LINKS`.
     /// Returns whether it did.
     pub(crate) fn append(&mut self, route: &Route, to: Addr) -> Result<bool, AllocError>
-        ensures { IfOk result (λ fits. fits ≡ true → IsLonger route.now to self.old self.new) }
+        ensures longer { IfOk result (λ fits.
+            fits ≡ true → IsLonger route.now to self.old self.new) }
+        ensures full { IfOk result (λ fits. fits ≡ false
+            → MOST_ROUTE_LINKS < length self.old.links.items + length route.now) }
     {
         let links = route.links();
         if links.len() > MOST_ROUTE_LINKS - self.links.len() {

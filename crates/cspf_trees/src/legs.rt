@@ -1,16 +1,14 @@
 //! Requests whose hops are all loose and owned by one router each. Their legs are answered in turn, each
-//! as a request without hops, so each by the tree of its own class. Together their best routes are the best
-//! route.
+//! as a request without hops, so each by the tree of its own class. Together the best routes of the legs
+//! are the best route.
 
-ghost use Rattle.std.specs.Prelude.{◌≡◌, ◌≢◌, ◌+◌, ◌<◌, ◌≤◌, ◌^◌, ◌⊎◌, ℕ, true, IfOk, IfSome, [], length, slice_get};
+ghost use Rattle.std.specs.Prelude.{◌≡◌, ◌≢◌, ◌+◌, ◌<◌, ◌≤◌, ℕ, true, IfOk, IfSome, length, slice_get};
 ghost use Rattle.std.specs.Vec.{vec_capacity};
-ghost use Rattle.cspf_model.specs.declared.limits.TheConstants.{MOST_ROUTERS, MOST_ROUTE_LINKS};
+ghost use Rattle.cspf_model.specs.declared.limits.TheConstants.{MOST_ROUTERS};
 ghost use Rattle.cspf_model.specs.Best.{IsBestAnswer};
-ghost use Rattle.cspf_model.specs.Database.{HasTransit};
 ghost use Rattle.cspf_model.specs.Outcome.{answer_of};
 ghost use Rattle.cspf_model.specs.Targets.{IsLoose};
-ghost use Rattle.cspf_model.specs.Walks.{cost_of};
-ghost use Rattle.cspf_trees.specs.LegSteps.{IsLegStep, IsLonger};
+ghost use Rattle.cspf_trees.specs.LegSteps.{IsLegStep};
 ghost use Rattle.cspf_trees.specs.LegsInTurn.{AreSoleTargets, AsksForLeg, IsLeastSoFar, IsLegAnswer, IsSoleOwner, IsSoleTarget};
 ghost use Rattle.cspf_trees.specs.Trees.{AreTreesOf};
 
@@ -18,16 +16,14 @@ use crate::leg_walk::LegWalk;
 use crate::trees::Trees;
 use cspf_addr::{Addr, Hops, Prefix};
 use cspf_db::Table;
-use cspf_model::{
-    Link, MOST_LEGS, MOST_ROUTE_LINKS, MOST_ROUTERS, Outcome, Request, Route, route_without_hops,
-};
+use cspf_model::{MOST_LEGS, MOST_ROUTERS, Outcome, Request, route_without_hops};
 use std::alloc::{AllocError, Global};
 
-/// What is known after one more leg.
+/// What one more leg tells of the routes.
 enum LegStep {
-    /// The walk goes on to the target of the leg.
+    /// The walk goes on to the target of the leg, and no route is before it up to there.
     On,
-    /// The leg has no route, so the request has none.
+    /// There is no route.
     NoRoute,
     /// Nothing.
     Unknown,
@@ -152,9 +148,9 @@ fn go_on(
     }
 }
 
-/// The best answer to a request, if the database has both its ends, it has hops, all of them are loose,
-/// and one router owns each. There is none where a route would pass a router without transit between two
-/// legs.
+/// The best answer to a request whose hops are all loose and owned by one router each, leg by leg. It is
+/// `None` for other requests, and where an end is unknown, where the walk would pass a router without
+/// transit between two legs, or where it would have more than `MOST_ROUTE_LINKS` links.
 pub(crate) fn best_by_legs(
     trees: &mut Trees,
     alloc: Global,

@@ -165,7 +165,8 @@ impl Trees {
     }
 
     /// The best answer to a request in the database of the trees, which is the table's: the answer
-    /// of `best` of `cspf_search`.
+    /// of `best` of `cspf_search`. Where all hops are loose and owned by one router each, each leg is
+    /// answered by the tree of its own class.
     pub fn best(
         &mut self,
         alloc: Global,

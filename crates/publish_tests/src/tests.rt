@@ -4,5 +4,6 @@ mod fixtures;
 mod journal;
 mod marks;
 mod memory;
+mod outlasting;
 mod refusals;
 mod words;

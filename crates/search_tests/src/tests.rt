@@ -2,9 +2,11 @@
 //! ends and hops.
 
 mod drawn;
+mod legs;
 mod marks;
 mod memory;
 mod networks;
+mod shapes;
 mod strict;
 
 use cspf_addr::{Addr, Mask, parse_hops};
@@ -116,6 +118,16 @@ fn request(
     let (exclude, any, all) = (Mask::new(masks.0), Mask::new(masks.1), Mask::new(masks.2));
     let hops = parse_hops(hops)?;
     Ok(Request::new(1, from, to, setup, 1000, exclude, any, all, hops)?)
+}
+
+// The next of a row of numbers that look drawn.
+fn draw(seed: &mut u32) -> u32 {
+    let mut x = *seed;
+    x ^= (x & 0x7_ffff) << 13;
+    x ^= x >> 17;
+    x ^= (x & 0x7ff_ffff) << 5;
+    *seed = x;
+    x
 }
 
 // A failure that names both, unless two outcomes are one.

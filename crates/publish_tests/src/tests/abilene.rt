@@ -7,7 +7,7 @@
 //! wait for a bounded number of turns, and no assertion rests on it: an asker may end before the
 //! first batch is published.
 
-use super::fixtures::{assert_case, batch, request};
+use super::fixtures::{assert_case, batch, is_same, request};
 use cspf_addr::{Addr, Mask};
 use cspf_db::Table;
 use cspf_model::{Batch, Change, Link, LinkError, Outcome, Request};
@@ -170,16 +170,6 @@ fn cost_at(outcomes: &[Outcome], version: usize) -> Option<u64> {
     match outcomes.get(version) {
         Some(Outcome::Route(route)) => Some(route.cost()),
         _ => None,
-    }
-}
-
-/// Whether two outcomes are one: the same route, link by link, or both that there is none.
-fn is_same(a: &Outcome, b: &Outcome) -> bool {
-    match (a, b) {
-        (Outcome::Route(a), Outcome::Route(b)) => a.links() == b.links(),
-        (Outcome::NoRoute, Outcome::NoRoute) => true,
-        (Outcome::UnknownFrom, Outcome::UnknownFrom) => true,
-        _ => false,
     }
 }
 

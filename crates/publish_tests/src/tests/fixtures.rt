@@ -112,12 +112,22 @@ pub(super) enum Said {
     UnknownTo,
 }
 
-fn said_by(outcome: &Outcome) -> Said {
+pub(super) fn said_by(outcome: &Outcome) -> Said {
     match outcome {
         Outcome::Route(route) => Said::Route(route.cost(), route.links().len()),
         Outcome::NoRoute => Said::NoRoute,
         Outcome::UnknownFrom => Said::UnknownFrom,
         Outcome::UnknownTo => Said::UnknownTo,
+    }
+}
+
+/// Whether two outcomes are one: the same route, link by link, or both that there is none.
+pub(super) fn is_same(a: &Outcome, b: &Outcome) -> bool {
+    match (a, b) {
+        (Outcome::Route(a), Outcome::Route(b)) => a.links() == b.links(),
+        (Outcome::NoRoute, Outcome::NoRoute) => true,
+        (Outcome::UnknownFrom, Outcome::UnknownFrom) => true,
+        _ => false,
     }
 }
 

@@ -3,23 +3,13 @@
 
 ghost use Rattle.cspf_trees.specs.Trees.{AreTreesOf};
 
-use super::{Row, answered, check_same, is_same, mark, one_way, request};
+use super::{Row, answered, check_same, draw, is_same, mark, one_way, request};
 use cspf_db::Table;
 use cspf_model::{Outcome, Request};
 use cspf_search::best;
 use cspf_trees::{MOST_TREES, Trees};
 use std::alloc::{AllocError, Global};
 use std::test::Fail;
-
-// The next of a row of numbers that look drawn.
-fn draw(seed: &mut u32) -> u32 {
-    let mut x = *seed;
-    x ^= (x & 0x7_ffff) << 13;
-    x ^= x >> 17;
-    x ^= (x & 0x7ff_ffff) << 5;
-    *seed = x;
-    x
-}
 
 // A metric, in a network of a kind: from 0 to 3, so that routes tie; all 1; or from 1 to 1,000.
 fn drawn_metric(seed: &mut u32, kind: u32) -> u32 {

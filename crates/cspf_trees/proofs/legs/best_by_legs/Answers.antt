@@ -1,6 +1,6 @@
 use Rattle.std.proofs.Common.{◌≡◌, suc, length, subst, arith}
 use Rattle.cspf_trees.specs.LegsInTurn.{IsLeastSoFar}
-use Rattle.cspf_trees.proofs.LegByLeg.{best_of_legs, has_links, least_at_first}
+use Rattle.cspf_trees.proofs.LegByLeg.{best_of_legs, has_links, least_at_first, links_are_linked}
 use Rattle.cspf_trees.proofs.legs.best_by_legs.Goals as goal
 
 pub loop-leg-init : goal.loop-leg-init
@@ -23,6 +23,9 @@ route-requires-clause-some c =
     let targets = rw c.in-Some.is at c.in_ok-targets.ensures in
     let all : c.loop-leg.leg ≡ suc (length q.hops) = omega (arith, c.loop-leg-test.false, c.loop-leg.auto.leg-end, c.len-leg-end.ensures, c.in-Some.targets.ok.0, targets.number) in
     has_links d q walk.at walk.links.items (subst (λ n. IsLeastSoFar d q n walk.at walk.links.items) all c.loop-leg.invariant.least)
+
+pub route-requires-clause-linked : goal.route-requires-clause-linked
+route-requires-clause-linked c = links_are_linked c.args.table.now c.args.request.now c.loop-leg.leg c.loop-leg.walk.at c.loop-leg.walk.links.items c.loop-leg.invariant.least
 
 pub returns-clause-best : goal.returns-clause-best
 returns-clause-best c =

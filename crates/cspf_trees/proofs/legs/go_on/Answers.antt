@@ -16,9 +16,9 @@ returns-then-branch-clause-step c =
     let q = c.args.request.now in
     let walk = c.args.walk.now in
     let few : c.args.leg < suc (length q.hops) = omega (arith, c.requires.few) in
-    let longer = c.in_ok-append-in-Route.ensures c.if-branch.true in
+    let longer = c.in_ok-append-in-Route.ensures.longer c.if-branch.true in
     let answer = rw c.in-Route.is at c.in_ok-route.ensures.answer in
-    let joint = c.may_go_on.ensures c.if-not-may_go_on.false in
+    let joint = c.may_go_on.ensures.0 c.if-not-may_go_on.false in
     rw (longer.links, longer.at, add-one)
     (least_after_leg c.args.table.now q c.args.leg walk.at c.args.to c.requires.sole few walk.links.items c.route_without_hops.ensures answer.leg answer.asks c.requires.least
     joint c.in-Route.route answer.best.1)

@@ -1,0 +1,182 @@
+//! An asker asks often enough for a tree at each version. Some batches change unreserved bandwidths
+//! alone, and each other one makes a cheaper way.
+
+use super::fixtures::{ONE, Said, TWO, assert_case, batch, is_same, opened, said_by};
+use cspf_addr::{Addr, Hops, Mask};
+use cspf_db::Table;
+use cspf_model::{Batch, Change, Link, LinkError, Outcome, Request, RequestError};
+use cspf_publish::{Answer, ApplyError, AskError, Asker, Publisher};
+use cspf_search::best_by_rounds;
+use std::alloc::{AllocError, Global};
+use std::io::Write;
+use std::process::Abort;
+use std::sync::Wait;
+use std::test::Fail;
+
+const THREE: u32 = 0x03030303; // 3.3.3.3
+
+const FOUR: u32 = 0x04040404; // 4.4.4.4
+
+/// How often an asker asks at each version: once more than for a tree.
+const ASKS: usize = 9;
+
+/// The routers at both ends, and the address of the interface at the first of them. That at the
+/// other is one more.
+type Circuit = (u32, u32, u32);
+
+const ONE_FOUR: Circuit = (ONE, FOUR, 0x0a000e00);
+
+const FOUR_THREE: Circuit = (FOUR, THREE, 0x0a002b00);
+
+const ONE_TWO: Circuit = (ONE, TWO, 0x0a000c00);
+
+const TWO_THREE: Circuit = (TWO, THREE, 0x0a001700);
+
+const ONE_THREE: Circuit = (ONE, THREE, 0x0a000d00);
+
+const SECOND: Circuit = (ONE, THREE, 0x0a000d02);
+
+/// Puts of the links of a circuit both ways.
+fn puts(circuit: Circuit, metric: u32, group: u32, free: u64) -> Result<[Change; 2], LinkError> {
+    let (from, local) = (Addr::new(circuit.0), Addr::new(circuit.2));
+    let (to, remote) = (Addr::new(circuit.1), Addr::new(circuit.2 ^ 1));
+    let group = Mask::new(group);
+    Ok([
+        Change::Put(Link::new(from, local, to, remote, metric, group, [free; 8])?),
+        Change::Put(Link::new(to, remote, from, local, metric, group, [free; 8])?),
+    ])
+}
+
+/// Whether 2.2.2.2 has transit.
+fn transit(transit: bool) -> [Change; 1] {
+    let router = Addr::new(TWO);
+    [Change::Node { router, transit }]
+}
+
+/// Five circuits. One is of an excluded group, and 2.2.2.2 has no transit.
+fn network(alloc: Global) -> Result<Vec<Change>, Fail> {
+    let mut all = Vec::from_slice(alloc, &puts(ONE_FOUR, 50, 1, 1000)?)?;
+    all.extend_from_slice(&puts(FOUR_THREE, 50, 1, 1000)?)?;
+    all.extend_from_slice(&puts(ONE_TWO, 10, 1, 1000)?)?;
+    all.extend_from_slice(&puts(TWO_THREE, 40, 1, 1000)?)?;
+    all.extend_from_slice(&puts(ONE_THREE, 30, 2, 1000)?)?;
+    all.extend_from_slice(&transit(false))?;
+    Ok(all)
+}
+
+/// The batch with this number of these: the network, a circuit without bandwidth and with it,
+/// transit, another group, a lower metric, a new circuit, that without bandwidth and with it.
+fn batch_at(alloc: Global, number: u32) -> Result<Batch, Fail> {
+    match number {
+        1 => Ok(Batch {
+            number,
+            changes: network(alloc)?,
+        }),
+        2 => Ok(batch(alloc, 2, &puts(ONE_FOUR, 50, 1, 0)?)?),
+        3 => Ok(batch(alloc, 3, &puts(ONE_FOUR, 50, 1, 1000)?)?),
+        4 => Ok(batch(alloc, 4, &transit(true))?),
+        5 => Ok(batch(alloc, 5, &puts(ONE_THREE, 30, 1, 1000)?)?),
+        6 => Ok(batch(alloc, 6, &puts(TWO_THREE, 10, 1, 1000)?)?),
+        8 => Ok(batch(alloc, 8, &puts(SECOND, 5, 1, 0)?)?),
+        _ => Ok(batch(alloc, number, &puts(SECOND, 5, 1, 1000)?)?),
+    }
+}
+
+/// What is found at a version.
+fn said_at(version: u32) -> Said {
+    match version {
+        2 => Said::NoRoute,
+        1 | 3 => Said::Route(100, 2),
+        4 => Said::Route(50, 2),
+        5 => Said::Route(30, 1),
+        6 | 8 => Said::Route(20, 2),
+        _ => Said::Route(5, 1),
+    }
+}
+
+/// A batch that makes the cheapest way, and takes out a link that isn't there.
+fn unfit_batch(alloc: Global, number: u32) -> Result<Batch, Fail> {
+    let mut changes = Vec::from_slice(alloc, &puts(ONE_THREE, 1, 1, 1000)?)?;
+    changes.extend_from_slice(&[Change::Remove {
+        from: Addr::new(ONE),
+        local: Addr::new(1),
+    }])?;
+    Ok(Batch { number, changes })
+}
+
+/// Request 7, from 1.1.1.1 to 3.3.3.3, by no link of group 0x2.
+fn request() -> Result<Request, RequestError> {
+    let (from, to) = (Addr::new(ONE), Addr::new(THREE));
+    let (excluded, any) = (Mask::new(2), Mask::new(0));
+    Request::new(7, from, to, 0, 1000, excluded, any, any, Hops::none())
+}
+
+/// Whether an answer has this version and outcome.
+fn is_right(answer: &Result<Answer, AskError>, version: u32, outcome: &Outcome) -> bool {
+    match answer {
+        Ok(answer) => answer.version == version && is_same(&answer.outcome, outcome),
+        Err(_) => false,
+    }
+}
+
+/// Whether the plain search finds in a table what is wanted at a version, and an asker answers so
+/// each time.
+fn answers_alike(
+    alloc: Global,
+    asker: &mut Asker,
+    table: &Table,
+    request: &Request,
+    version: u32,
+) -> Result<bool, AllocError> {
+    let outcome = best_by_rounds(alloc, table, request)?;
+    let mut is_alike = said_by(&outcome) == said_at(version);
+    for _ in 0..ASKS {
+        is_alike = is_alike && is_right(&asker.ask(alloc, request), version, &outcome);
+    }
+    Ok(is_alike)
+}
+
+/// Whether an asker answers right after a batch, and still after one that is refused.
+fn is_right_after<W: Write, R: Wait>(
+    rt: &R,
+    alloc: Global,
+    (publisher, table): (&mut Publisher<W>, &mut Table),
+    (asker, request): (&mut Asker, &Request),
+    number: u32,
+) -> Result<bool, Fail> {
+    let next = batch_at(alloc, number)?;
+    let is_applied = publisher.apply(rt, alloc, &next) == Ok(number);
+    table.absorb(&next);
+    let is_alike = answers_alike(alloc, asker, table, request, number)?;
+    let unfit = unfit_batch(alloc, number.saturating_add(1))?;
+    let refused = publisher.apply(rt, alloc, &unfit);
+    let is_refused = matches!(refused, Err(ApplyError::Refused(_)));
+    let is_still_alike = answers_alike(alloc, asker, table, request, number)?;
+    Ok(is_applied && is_alike && is_refused && is_still_alike)
+}
+
+/// An asker answers right after each of the batches.
+fn ask_after_each<W: Write, R: Wait + Abort>(
+    rt: &R,
+    alloc: Global,
+    publisher: &mut Publisher<W>,
+    asker: &mut Asker,
+    request: &Request,
+) -> Result<(), Fail> {
+    let mut table = Table::new(alloc)?;
+    for number in 1..10 {
+        let published = (&mut *publisher, &mut table);
+        let is_right = is_right_after(rt, alloc, published, (&mut *asker, request), number)?;
+        assert_case(rt, "a version", number as usize, is_right);
+    }
+    Ok(())
+}
+
+#[test]
+fn asked_with_trees_at_each_version(rt: HostRuntime) -> Result<(), Fail> {
+    let request = request()?;
+    let (mut publisher, mut asker) = opened(&rt, rt.alloc(), Vec::<u8>::new(rt.alloc()));
+    let asked = ask_after_each(&rt, rt.alloc(), &mut publisher, &mut asker, &request);
+    publisher.close(&rt);
+    asked
+}

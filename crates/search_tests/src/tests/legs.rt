@@ -1,0 +1,277 @@
+//! Requests whose legs are answered in turn, each by the tree of its own tail-end: small networks with known
+//! routes, and drawn ones in which the plain search answers alike.
+
+ghost use Rattle.std.specs.Prelude.{◌+◌, ◌<◌};
+
+use super::Wanted::{Again, NoRoute, Route};
+use super::{Case, FOUR, ONE, Row, THREE, TWO, check_same, is_wanted, link, node, request};
+use cspf_addr::{Addr, Hop, Hops, MOST_HOPS, Mask, Prefix};
+use cspf_model::{Batch, Change, Outcome, Request};
+use cspf_search::best_by_rounds;
+use cspf_trees::TreeTable;
+use std::alloc::Global;
+use std::test::Fail;
+
+// From ONE to FOUR by TWO at a cost of 2, and by THREE at one of 4. The link between TWO and THREE has no
+// unreserved bandwidth.
+const SQUARE: [Row; 5] = [
+    (ONE, 0x0a00_0c01, TWO, 0x0a00_0c02, 1, 1000),
+    (TWO, 0x0a00_1802, FOUR, 0x0a00_1804, 1, 1000),
+    (ONE, 0x0a00_0d01, THREE, 0x0a00_0d03, 2, 1000),
+    (THREE, 0x0a00_2203, FOUR, 0x0a00_2204, 2, 1000),
+    (TWO, 0x0a00_1702, THREE, 0x0a00_1703, 1, 0),
+];
+
+const BY_TWO: &[u32] = &[0x0a00_0c02, 0x0a00_1804];
+
+const BY_THREE: &[u32] = &[0x0a00_0d03, 0x0a00_2204];
+
+// By TWO to FOUR, to THREE and back.
+const ROUND: &[u32] = &[0x0a00_0c02, 0x0a00_1804, 0x0a00_2203, 0x0a00_2204];
+
+// By TWO, back to ONE, and by THREE.
+const BACK: &[u32] = &[0x0a00_0c02, 0x0a00_0c01, 0x0a00_0d03, 0x0a00_2204];
+
+const SEVEN: &[u8] =
+    b"1.1.1.1/32l 1.1.1.1/32l 2.2.2.2/32l 2.2.2.2/32l 10.0.12.2/32l 4.4.4.4/32l 4.4.4.4/32l";
+
+const CASES: [Case; 22] = [
+    (&[], (ONE, FOUR), b"2.2.2.2/32l", Route(2, BY_TWO)),
+    (&[], (ONE, FOUR), b"3.3.3.3/32l", Route(4, BY_THREE)),
+    (&[], (ONE, FOUR), b"10.0.13.3/32l", Route(4, BY_THREE)),
+    // both ways from TWO to THREE cost 3, and the first local address decides
+    (&[], (ONE, FOUR), b"2.2.2.2/32l 3.3.3.3/32l", Again(6, BACK)),
+    (
+        &[ONE],
+        (ONE, FOUR),
+        b"2.2.2.2/32l 3.3.3.3/32l",
+        Again(6, ROUND),
+    ),
+    // two hops of one router in a row, and hops at both ends
+    (
+        &[],
+        (ONE, FOUR),
+        b"2.2.2.2/32l 10.0.24.2/32l",
+        Route(2, BY_TWO),
+    ),
+    (
+        &[],
+        (ONE, FOUR),
+        b"1.1.1.1/32l 3.3.3.3/32l",
+        Route(4, BY_THREE),
+    ),
+    (&[], (ONE, FOUR), b"4.4.4.4/32l", Route(2, BY_TWO)),
+    (
+        &[],
+        (ONE, FOUR),
+        b"4.4.4.4/32l 3.3.3.3/32l",
+        Again(6, ROUND),
+    ),
+    (&[], (ONE, FOUR), SEVEN, Route(2, BY_TWO)),
+    // back to the head-end
+    (
+        &[],
+        (ONE, FOUR),
+        b"2.2.2.2/32l 1.1.1.1/32l",
+        Again(4, &[0x0a00_0c02, 0x0a00_0c01, 0x0a00_0c02, 0x0a00_1804]),
+    ),
+    // marked routers between two legs
+    (&[TWO], (ONE, FOUR), b"2.2.2.2/32l", NoRoute),
+    (&[ONE], (ONE, FOUR), b"2.2.2.2/32l 1.1.1.1/32l", NoRoute),
+    (&[FOUR], (ONE, FOUR), b"4.4.4.4/32l 3.3.3.3/32l", NoRoute),
+    // marked ends
+    (
+        &[ONE],
+        (ONE, FOUR),
+        b"1.1.1.1/32l 2.2.2.2/32l",
+        Route(2, BY_TWO),
+    ),
+    (&[FOUR], (ONE, FOUR), b"4.4.4.4/32l", Route(2, BY_TWO)),
+    (
+        &[FOUR],
+        (ONE, FOUR),
+        b"3.3.3.3/32l 4.4.4.4/32l 10.0.34.4/32l",
+        Route(4, BY_THREE),
+    ),
+    // strict hops, with a usable link and without
+    (&[], (ONE, FOUR), b"3.3.3.3/32s", Route(4, BY_THREE)),
+    (&[], (ONE, FOUR), b"2.2.2.2/32l 3.3.3.3/32s", NoRoute),
+    // hops of two routers, and of none
+    (&[], (ONE, FOUR), b"2.0.0.0/7l", Route(2, BY_TWO)),
+    (&[TWO], (ONE, FOUR), b"2.0.0.0/7l", Route(4, BY_THREE)),
+    (&[], (ONE, FOUR), b"9.9.9.9/32l", NoRoute),
+];
+
+// The link of the other direction, with the same metric and unreserved bandwidth.
+fn back(row: &Row) -> Row {
+    let (from, local, to, remote, metric, free) = *row;
+    (to, remote, from, local, metric, free)
+}
+
+// A table with trees, after changes, which fit.
+fn table_after(alloc: Global, changes: Vec<Change>) -> Result<TreeTable, Fail> {
+    let mut table = TreeTable::new(alloc)?;
+    table.try_absorb(&Batch { number: 1, changes })?;
+    Ok(table)
+}
+
+// The square with these marked routers.
+fn square(alloc: Global, marks: &[u32]) -> Result<TreeTable, Fail> {
+    let mut changes = Vec::new(alloc);
+    for row in &SQUARE {
+        changes.push(Change::Put(link(row)?))?;
+        changes.push(Change::Put(link(&back(row))?))?;
+    }
+    for router in marks {
+        changes.push(node(*router, false))?;
+    }
+    table_after(alloc, changes)
+}
+
+// Whether a case's request is answered as it says, nine times. Trees are grown at the eighth.
+fn holds(alloc: Global, case: &Case) -> Result<bool, Fail> {
+    let (marks, ends, hops, wanted) = *case;
+    let mut table = square(alloc, marks)?;
+    let asked = request(ends, 0, (0, 0, 0), hops)?;
+    let mut all = true;
+    for _ask in 0..9 {
+        let found = table.best(alloc, &asked)?;
+        all = all && is_wanted(&found, wanted);
+    }
+    Ok(all)
+}
+
+#[test]
+fn legs_in_a_square(rt: HostRuntime) -> Result<(), Fail> {
+    for case in &CASES {
+        let as_wanted = holds(rt.alloc(), case)?;
+        assert!(rt; as_wanted, "{case:?}");
+    }
+    Ok(())
+}
+
+// The next of a row of numbers that look drawn, below a number.
+fn draw(seed: &mut u32, below: u32) -> u32
+    requires { 0 < below }
+    ensures { result < below }
+{
+    *seed = seed.wrapping_mul(1_664_525).wrapping_add(1_013_904_223);
+    (*seed >> 8) % below
+}
+
+// One of ten routers.
+fn drawn_router(seed: &mut u32) -> u32 {
+    0x0a00_0001 + draw(seed, 10)
+}
+
+// A link over interfaces of its own, with a metric from 0 to 2. It has unreserved bandwidth or not.
+fn drawn_row(seed: &mut u32, number: u32) -> Row
+    requires { number < 100 }
+{
+    let from = draw(seed, 10);
+    let to = (from + 1 + draw(seed, 9)) % 10;
+    let local = 0x0a01_0000 + 2 * number;
+    let metric = draw(seed, 3);
+    let free = if draw(seed, 8) == 0 { 0 } else { 1000 };
+    (
+        0x0a00_0001 + from,
+        local,
+        0x0a00_0001 + to,
+        local + 1,
+        metric,
+        free,
+    )
+}
+
+// A network of 20 links and most of their reverses, with at most two marked routers.
+fn drawn_table(alloc: Global, seed: &mut u32) -> Result<TreeTable, Fail> {
+    let mut changes = Vec::new(alloc);
+    for number in 0..20 {
+        let row = drawn_row(seed, number);
+        changes.push(Change::Put(link(&row)?))?;
+        if draw(seed, 10) > 0 {
+            changes.push(Change::Put(link(&back(&row))?))?;
+        }
+    }
+    let first = 0x0a00_0001 + draw(seed, 10);
+    for more in 0..draw(seed, 3) {
+        changes.push(node(first + more, false))?;
+    }
+    table_after(alloc, changes)
+}
+
+// An address of one router: that of an interface, the head-end, the tail-end, the one before, or a router.
+fn drawn_address(seed: &mut u32, ends: (u32, u32), before: u32) -> u32 {
+    match draw(seed, 8) {
+        0 => 0x0a01_0000 + draw(seed, 40),
+        1 => ends.0,
+        2 => ends.1,
+        3 => before,
+        _ => drawn_router(seed),
+    }
+}
+
+// One to seven hops. One in twenty is strict, and one in twenty has up to four routers.
+fn drawn_hops(seed: &mut u32, ends: (u32, u32)) -> Result<Hops, Fail> {
+    let mut hops = Hops::none();
+    let mut address = ends.0;
+    for _hop in 0..1 + draw(seed, 7) {
+        address = drawn_address(seed, ends, address);
+        let length = if draw(seed, 20) == 0 { 30 } else { 32 };
+        let prefix = Prefix::new(Addr::new(address), length)?;
+        let loose = draw(seed, 20) > 0;
+        if hops.len() < MOST_HOPS {
+            hops.push(Hop { prefix, loose });
+        }
+    }
+    Ok(hops)
+}
+
+// A request with hops, of one of two classes for each tail-end.
+fn drawn_request(seed: &mut u32) -> Result<Request, Fail> {
+    let from = draw(seed, 10);
+    let to = (from + 1 + draw(seed, 9)) % 10;
+    let ends = (0x0a00_0001 + from, 0x0a00_0001 + to);
+    let hops = drawn_hops(seed, ends)?;
+    let (from, to) = (Addr::new(ends.0), Addr::new(ends.1));
+    let (none, any) = (Mask::new(0), Mask::new(2 * draw(seed, 2)));
+    Ok(Request::new(1, from, to, 0, 1000, none, any, none, hops)?)
+}
+
+// What a request is answered by rounds, and three times by trees.
+fn answered_alike(
+    alloc: Global,
+    table: &mut TreeTable,
+    request: &Request,
+) -> Result<Outcome, Fail> {
+    let outcome = best_by_rounds(alloc, table.table(), request)?;
+    for _ask in 0..3 {
+        let found = table.best(alloc, request)?;
+        check_same(&outcome, &found)?;
+    }
+    Ok(outcome)
+}
+
+// How many of 40 requests in a network have a route.
+fn routes_by_legs(alloc: Global, seed: &mut u32) -> Result<u32, Fail> {
+    let mut table = drawn_table(alloc, seed)?;
+    let mut routes = 0u32;
+    for _request in 0..40 {
+        let request = drawn_request(seed)?;
+        let outcome = answered_alike(alloc, &mut table, &request)?;
+        routes = routes.saturating_add(u32::from(matches!(outcome, Outcome::Route(_))));
+    }
+    Ok(routes)
+}
+
+// Rounds and trees answer 2,000 requests alike.
+#[test]
+fn legs_in_drawn_networks(rt: HostRuntime) -> Result<(), Fail> {
+    let mut seed = 2463534242;
+    let mut routes = 0u32;
+    for _network in 0..50 {
+        routes = routes.saturating_add(routes_by_legs(rt.alloc(), &mut seed)?);
+    }
+    assert!(rt; routes > 500, "{routes}");
+    Ok(())
+}

@@ -1,0 +1,168 @@
+//! Networks of seven shapes, in which trees that are grown at the first ask answer as the plain search does.
+
+ghost use Rattle.cspf_trees.specs.Trees.{AreTreesOf};
+
+use super::{draw, is_same, request, table_of};
+use cspf_addr::{Addr, Mask};
+use cspf_db::Table;
+use cspf_model::{Change, Link};
+use cspf_search::best_by_rounds;
+use cspf_trees::{MOST_TREES, Trees};
+use std::alloc::Global;
+use std::test::Fail;
+
+// The routers of a network.
+const ROUTERS: u32 = 36;
+
+// The circuits of a network at most.
+const CIRCUITS: u32 = 140;
+
+// The routers at the ends of a circuit, by their numbers, in a network of a shape. Where both are one,
+// there is no such circuit.
+fn circuit(seed: &mut u32, shape: u32, number: u32) -> (u32, u32) {
+    match shape {
+        // a ring of all routers, and circuits between any two
+        0 if number < 36 => (number, (number + 1) % 36),
+        0 if number < 72 => (draw(seed) % 36, draw(seed) % 36),
+        // a ring with chords, routers with two circuits each to it, and others with two each to these
+        1 if number < 6 => (number, (number + 1) % 6),
+        1 if number < 9 => (number - 6, number - 3),
+        1 if number < 33 => (6 + (number - 9) / 2, draw(seed) % 6),
+        1 if number < 69 => (18 + (number - 33) / 2, 6 + draw(seed) % 12),
+        // a grid
+        2 if number < 30 => (number + number / 5, number + number / 5 + 1),
+        2 if number < 60 => (number - 30, number - 24),
+        // a ladder
+        3 if number < 34 => (number, number + 2),
+        3 if number < 52 => (2 * (number - 34), 2 * (number - 34) + 1),
+        // six spines, and leaves with three circuits each
+        4 if number < 90 => (6 + number / 3, draw(seed) % 6),
+        // a ring
+        5 if number < 36 => (number, (number + 1) % 36),
+        // four circuits from each router to the next
+        6 => (number / 4, number / 4 + 1),
+        _ => (0, 0),
+    }
+}
+
+// The address of a router by its number. Of four, two are in one prefix of 31 bits.
+fn router(number: u32) -> Addr {
+    Addr::new(0x0a00_0000 + number % ROUTERS)
+}
+
+// A metric of a kind: all 1, from 0 to 3, or from 1 to 1,000.
+fn metric(seed: &mut u32, kind: u32) -> u32 {
+    match kind {
+        0 => 1,
+        1 => draw(seed) % 4,
+        _ => 1 + draw(seed) % 1000,
+    }
+}
+
+// A link of one or two of three groups. One of 32 has no unreserved bandwidth.
+fn shaped_link(seed: &mut u32, kind: u32, from: (u32, u32), to: (u32, u32)) -> Result<Link, Fail> {
+    let room = if draw(seed) % 32 == 0 { 0 } else { 1000 };
+    let group = Mask::new(1 + draw(seed) % 3 * 2);
+    let metric = metric(seed, kind);
+    let (local, remote) = (Addr::new(from.1), Addr::new(to.1));
+    let link = Link::new(
+        router(from.0),
+        local,
+        router(to.0),
+        remote,
+        metric,
+        group,
+        [room; 8],
+    );
+    Ok(link?)
+}
+
+// A table of a network of a shape, with metrics of a kind. In a third of them a router is marked.
+fn shaped_table(alloc: Global, seed: &mut u32, shape: u32, kind: u32) -> Result<Table, Fail> {
+    let mut changes = Vec::new(alloc);
+    for number in 0..CIRCUITS {
+        let (from, to) = circuit(seed, shape, number);
+        if from == to {
+            continue;
+        }
+        let from = (from, draw(seed) % 4 * 4096 + 2 * number);
+        let to = (to, draw(seed) % 4 * 4096 + 2 * number + 1);
+        changes.push(Change::Put(shaped_link(seed, kind, from, to)?))?;
+        changes.push(Change::Put(shaped_link(seed, kind, to, from)?))?;
+    }
+    if draw(seed) % 3 == 0 {
+        changes.push(Change::Node {
+            router: router(draw(seed)),
+            transit: false,
+        })?;
+    }
+    Ok(table_of(alloc, &changes)?)
+}
+
+// Hops of one router each, and others.
+const HOPS: [&[u8]; 5] = [
+    b"10.0.0.7/32l",
+    b"10.0.0.7/32l 10.0.0.7/32l 10.0.0.30/32l",
+    b"10.0.0.21/32l 10.0.0.3/32l 10.0.0.12/32l 10.0.0.33/32l",
+    b"10.0.0.4/30l 10.0.0.16/32s",
+    b"10.0.0.0/27s",
+];
+
+// What a request excludes, and what it includes any and all of.
+const MASKS: [(u32, u32, u32); 4] = [(0, 0, 0), (0, 0, 0), (4, 0, 0), (0, 6, 1)];
+
+// Whether trees answer a request as the plain search does. One of eight requests has hops.
+fn agree(alloc: Global, seed: &mut u32, table: &Table, trees: &mut Trees) -> Result<bool, Fail>
+    requires { AreTreesOf table.now trees.old }
+    ensures { AreTreesOf table.now trees.new }
+{
+    let from = draw(seed) % ROUTERS;
+    let to = from + 1 + draw(seed) % (ROUTERS - 1);
+    let hops = match draw(seed) % 40 {
+        row @ 0..5 => HOPS[row as usize],
+        _ => b"",
+    };
+    let masks = MASKS[(draw(seed) % 4) as usize];
+    let ends = (router(from).number(), router(to).number());
+    let request = request(ends, 0, masks, hops)?;
+    let found = trees.best(alloc, table, &request)?;
+    Ok(is_same(&found, &best_by_rounds(alloc, table, &request)?))
+}
+
+// How many of 200 requests in a network trees answer as the plain search does.
+fn agreed(
+    alloc: Global,
+    seed: &mut u32,
+    shape: u32,
+    kind: u32,
+    trees: &mut Trees,
+) -> Result<u32, Fail> {
+    let table = shaped_table(alloc, seed, shape, kind)?;
+    trees.clear();
+    let mut count = 0u32;
+    for _request in 0..200 {
+        if agree(alloc, seed, &table, trees)? {
+            count = count.saturating_add(1);
+        }
+    }
+    Ok(count)
+}
+
+// Trees that are grown at the first ask answer 100,800 requests in 504 networks as the plain search does.
+#[test]
+fn shapes(rt: HostRuntime) -> Result<(), Fail> {
+    let mut seed = 2463534242;
+    let mut count = 0u32;
+    let mut trees = Trees::from_ask(rt.alloc(), MOST_TREES, 1);
+    for network in 0..504 {
+        count = count.saturating_add(agreed(
+            rt.alloc(),
+            &mut seed,
+            network % 7,
+            network / 7 % 3,
+            &mut trees,
+        )?);
+    }
+    assert!(rt; count == 504 * 200, "{count}");
+    Ok(())
+}
