@@ -28,11 +28,11 @@ def table(name):
                 yield first, [bytes_of(field) for field in others]
 
 
-def ran_live(program, updates, requests, workers):
+def ran_live(program, updates, requests, workers, *words):
     """Status, standard output and error of a live run, and its journal."""
     with tempfile.TemporaryDirectory() as room:
         kept = os.path.join(room, "kept")
-        found = program.over("live", ["--journal", kept, "--workers", workers], updates=updates, requests=requests)
+        found = program.over("live", ["--journal", kept, "--workers", workers, *words], updates=updates, requests=requests)
         with open(kept, "rb") as journal:
             return found, journal.read()
 

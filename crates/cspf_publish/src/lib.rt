@@ -26,6 +26,6 @@ pub use asker::Asker;
 pub use cspf_journal::SeenSteps;
 pub use cspf_model::MOST_VERSIONS;
 pub use errors::{ApplyError, AskError, OpenError};
-pub use limits::MOST_ASKERS;
+pub use limits::{MOST_ASKERS, MOST_TREE_MEGABYTES, TREE_MEGABYTES, trees_in};
 pub use publisher::{Publisher, open, open_over};
 pub use told::Told;

@@ -11,6 +11,7 @@ ghost use Rattle.cspf_journal.specs.Histories.{BeginsWith, IsHistory, MayFollow}
 ghost use Rattle.cspf_journal.specs.JournalSteps.{batches_of, count_of};
 ghost use Rattle.cspf_journal.specs.KnownBatches.{known_with};
 
+use crate::limits::{TREE_MEGABYTES, trees_in};
 use crate::replicas::Replicas;
 use crate::{Answer, ApplyError, Asker, MOST_ASKERS, OpenError, Told};
 use cspf_journal::{JournalWriter, Known, NewJournal, NotRecorded, SeenSteps};
@@ -47,7 +48,8 @@ impl<W> Model for Publisher<W> {
 }
 
 /// A publisher of the empty database, version 0, and 1 to 64 askers. It owns the writer of the
-/// journal. Each error gives the writer back untouched.
+/// journal. The trees of the askers take at most `TREE_MEGABYTES` of bounds. Each error gives the
+/// writer back untouched.
 pub fn open<W: Write, R: Wait>(
     rt: &R,
     alloc: Global,
@@ -64,16 +66,19 @@ pub fn open<W: Write, R: Wait>(
     ensures memory { IfErr result (λ e. IsAskerCount askers → e.0 ≡ OpenError.Memory) }
     ensures journal { IfErr result (λ e. e.1 ≡ journal) }
 {
-    open_over(rt, alloc, NewJournal::new(journal), askers)
+    let trees = trees_in(TREE_MEGABYTES);
+    open_over(rt, alloc, NewJournal::new(journal), askers, trees)
 }
 
-/// The same as `open`, over a new journal. The publisher and its askers are of the journal's source,
-/// so the journal has recorded the batches that they know.
+/// The same as `open`, over a new journal, with at most `trees` trees of all askers together, in
+/// equal parts. The publisher and its askers are of the journal's source, so the journal has recorded
+/// the batches that they know.
 pub fn open_over<W: Write, R: Wait>(
     rt: &R,
     alloc: Global,
     journal: NewJournal<W>,
     askers: usize,
+    trees: usize,
 ) -> Result<(Publisher<W>, Vec<Asker>), (OpenError, W)>
     ensures publisher { IfOk result (λ opened. (opened.0.batches ≡ [])
         × (opened.0.stopped ≡ false) × (opened.0.journal ≡ journal.writer)) }
@@ -98,7 +103,7 @@ pub fn open_over<W: Write, R: Wait>(
         Ok(replicas) => replicas,
         Err(refused) => return Err((OpenError::from(refused), journal.into_writer())),
     };
-    let all = replicas.askers(rt, room, askers);
+    let all = replicas.askers(rt, room, askers, trees);
     Ok((Publisher { replicas, journal }, all))
 }
 

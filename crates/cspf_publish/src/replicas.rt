@@ -276,8 +276,15 @@ impl Replicas {
         })
     }
 
-    /// Makes `count` askers, with `room` as their memory. They know the published batches.
-    pub(crate) fn askers<R: Wait>(&mut self, rt: &R, room: Vec<Asker>, count: usize) -> Vec<Asker>
+    /// Makes `count` askers, with `room` as their memory. They know the published batches. Together
+    /// they later have at most `trees` trees, in equal parts.
+    pub(crate) fn askers<R: Wait>(
+        &mut self,
+        rt: &R,
+        room: Vec<Asker>,
+        count: usize,
+        trees: usize,
+    ) -> Vec<Asker>
         requires { (room.items ≡ []) × (count ≤ vec_capacity room) }
         ensures same { self.new ≡ self.old }
         ensures count { vec_len result ≡ count }
@@ -285,7 +292,7 @@ impl Replicas {
     {
         let mut all = room;
         for _ in 0..count {
-            all.push_reserved(self.asker(rt, trees_of_each(count)));
+            all.push_reserved(self.asker(rt, trees_of_each(trees, count)));
         }
         all
     }

@@ -23,7 +23,7 @@ mod streams;
 pub use batch::{lines_of_a_script, run_batch};
 pub use cspf_audit::{Audit, AuditError, AuditFault, audit};
 pub use cspf_client::{Client, ClientError, Replies, ServedClient};
-pub use cspf_publish::MOST_ASKERS;
+pub use cspf_publish::{MOST_ASKERS, MOST_TREE_MEGABYTES, TREE_MEGABYTES, trees_in};
 pub use cspf_solve::{
     SolveError, Solver, Summary, rows_have_one_reply, run_solve, runs_go_on_row_by_row,
     stops_at_a_prefix,

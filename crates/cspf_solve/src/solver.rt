@@ -8,12 +8,12 @@ use crate::table_sink::TableSink;
 use cspf_model::{absorbing, one_refusal};
 use cspf_rows::{Row, RowError};
 use cspf_stream::{Answering, Rows, StreamLine};
-use cspf_trees::TreeTable;
+use cspf_trees::{MOST_TREES, TreeTable};
 use csv::ByteRecord;
 use std::alloc::{AllocError, Global};
 
 /// The state between two rows. A stream of any length takes no more memory than this and the trees of
-/// the table, which are at most 16 MiB.
+/// the table.
 #[derive(Drop)]
 pub struct Solver {
     /// The database of the batches that were accepted, and the open changes.
@@ -49,12 +49,21 @@ impl Solver {
     ghost use Rattle.cspf_solve.specs.Script.{RunState, start, at_next_row, IsRowAnswered, last_line, summary_of};
     ghost use Rattle.cspf_solve.specs.SolverStates.{KeepsRun, AreFew, AreWithinOne, AreCounted};
 
-    /// Version 0, with the empty database and no open changes.
+    /// Version 0, with the empty database and no open changes. Its table keeps at most `MOST_TREES`
+    /// trees.
     pub fn new(alloc: Global) -> Result<Solver, AllocError>
         ensures { IfOk result (λ solver. KeepsRun solver start) }
     {
+        Solver::with_trees(alloc, MOST_TREES)
+    }
+
+    /// As `new`, but its table keeps at most this many trees, and never more than `MOST_TREES`. With 0
+    /// it keeps none. The answers are the same.
+    pub fn with_trees(alloc: Global, most: usize) -> Result<Solver, AllocError>
+        ensures { IfOk result (λ solver. KeepsRun solver start) }
+    {
         let sink = TableSink {
-            table: TreeTable::new(alloc)?,
+            table: TreeTable::with_trees(alloc, most)?,
             version: 0,
         };
         Ok(Solver {

@@ -17,6 +17,7 @@ pub const COMMAND: CommandText = CommandText {
         CommandOption::Journal,
         CommandOption::Requests,
         CommandOption::Workers,
+        CommandOption::Trees,
         CommandOption::AcceptTorn,
         CommandOption::Explain,
     ],
@@ -63,6 +64,7 @@ pub(crate) fn answer<T: Threads + Wait + Sync>(
         &mut requests,
         out,
         call.workers(),
+        call.trees(),
         call.has(ACCEPT_TORN),
         &NoGate,
     );

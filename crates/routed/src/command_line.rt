@@ -73,7 +73,7 @@ pub(crate) fn obey<'m, T: Threads + Wait + Sync>(
 /// Runs a command, and returns the status.
 fn run<T: Threads + Wait + Sync>(call: &Call<'_, '_>, handle: &T, text: &CommandText) -> u8 {
     let ran = match text.asked {
-        Asked::Solve => solve::answer(call.rt),
+        Asked::Solve => solve::answer(call),
         Asked::Book => book::answer(call),
         Asked::Serve => serve::answer(call, handle),
         Asked::Live => {

@@ -18,6 +18,7 @@ pub const COMMAND: CommandText = CommandText {
         CommandOption::Requests,
         CommandOption::NewJournal,
         CommandOption::Workers,
+        CommandOption::Trees,
         CommandOption::Explain,
     ],
 };
@@ -71,6 +72,7 @@ pub(crate) fn answer<T: Threads + Wait + Sync>(
         &mut journal,
         out,
         call.workers(),
+        call.trees(),
         &NoGate,
     );
     // A write to the journal that fails refuses a batch, and stops nothing.

@@ -3,7 +3,7 @@ ghost use Rattle.std.specs.Prelude.{◌<◌, ◌≤◌};
 ghost use Rattle.cspf_publish.specs.declared.limits.TheConstants.{MOST_ASKERS};
 
 use clap::{Arg, ArgAction, ArgMatches, Command, value_parser};
-use cspf_serve::MOST_ASKERS;
+use cspf_serve::{MOST_ASKERS, MOST_TREE_MEGABYTES, TREE_MEGABYTES, trees_in};
 use std::alloc::{AllocError, Global};
 
 /// The option that names the file of batches, which `live` and `serve` make.
@@ -33,6 +33,9 @@ pub const CLIENT: &str = "client";
 /// The option that says how many workers answer.
 const WORKERS: &str = "workers";
 
+/// The option that says how many megabytes the bounds of trees may take, 2^20 bytes each.
+const TREES: &str = "trees";
+
 /// An option of a command.
 #[derive(Clone, Copy)]
 pub enum CommandOption {
@@ -52,6 +55,8 @@ pub enum CommandOption {
     Clients,
     /// How many workers answer.
     Workers,
+    /// How many megabytes the bounds of trees may take.
+    Trees,
     /// Whether the rows after the last whole batch of a journal are left out.
     AcceptTorn,
     /// Whether a run that stops says why.
@@ -69,6 +74,7 @@ impl CommandOption {
             CommandOption::Keep => KEEP,
             CommandOption::Clients => CLIENT,
             CommandOption::Workers => WORKERS,
+            CommandOption::Trees => TREES,
             CommandOption::AcceptTorn => ACCEPT_TORN,
             CommandOption::Explain => EXPLAIN,
         }
@@ -87,6 +93,9 @@ impl CommandOption {
                 "The files of a client's requests and replies; once for each client"
             }
             CommandOption::Workers => "How many workers answer, 1 to 64",
+            CommandOption::Trees => {
+                "The megabytes that trees of the search may take, 0 to 1024; no answer depends on them"
+            }
             CommandOption::AcceptTorn => "Leave out the rows after the last whole batch",
             CommandOption::Explain => {
                 "Say on standard error why a run stops, or which row a file is refused for"
@@ -109,6 +118,7 @@ impl CommandOption {
             CommandOption::Clients => required(arg, "IN=OUT").action(ArgAction::Append),
             CommandOption::Keep => arg.value_name("FILE"),
             CommandOption::Workers => workers(arg),
+            CommandOption::Trees => trees(arg),
             CommandOption::AcceptTorn | CommandOption::Explain => arg.action(ArgAction::SetTrue),
             _ => required(arg, "FILE"),
         }
@@ -130,6 +140,13 @@ fn workers<'a>(arg: Arg<'a>) -> Arg<'a> {
     arg.value_name("N")
         .value_parser(value_parser!(u8).range(1..=MOST_ASKERS as i64))
         .default_value("1")
+}
+
+/// The option with a number of megabytes.
+fn trees<'a>(arg: Arg<'a>) -> Arg<'a> {
+    arg.value_name("MB")
+        .value_parser(value_parser!(u16).range(0..=MOST_TREE_MEGABYTES as i64))
+        .default_value("64")
 }
 
 /// The command that a command line names.
@@ -196,5 +213,10 @@ impl<'m, 'a> Call<'m, 'a> {
     {
         let count = self.words.get_one::<u8>(WORKERS).unwrap_or(1) as usize;
         count.clamp(1, MOST_ASKERS)
+    }
+
+    /// How many trees there may be in the run.
+    pub(crate) fn trees(&self) -> usize {
+        trees_in(self.words.get_one::<u16>(TREES).unwrap_or(TREE_MEGABYTES))
     }
 }

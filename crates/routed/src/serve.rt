@@ -22,6 +22,7 @@ pub const COMMAND: CommandText = CommandText {
     options: &[
         CommandOption::NewJournal,
         CommandOption::Clients,
+        CommandOption::Trees,
         CommandOption::Explain,
     ],
 };
@@ -101,6 +102,7 @@ fn run<T: Threads + Wait + Sync>(
         &mut said,
         journal,
         clients,
+        call.trees(),
     );
     match ran {
         Ok(served) => {

@@ -2,7 +2,7 @@
 
 use crate::devices::{INPUT, OUTPUT, flushed};
 use crate::noted::Noted;
-use crate::options::{Asked, CommandOption, CommandText};
+use crate::options::{Asked, Call, CommandOption, CommandText};
 use crate::stopped::{Ran, Stopped};
 use cspf_serve::run_solve;
 use std::io;
@@ -13,7 +13,7 @@ pub const COMMAND: CommandText = CommandText {
     name: "solve",
     about: "Answers the rows of standard input on standard output",
     help: HELP,
-    options: &[CommandOption::Explain],
+    options: &[CommandOption::Trees, CommandOption::Explain],
 };
 
 /// What help says below its options, and below those of the program.
@@ -59,10 +59,11 @@ are answered by
 
 /// Answers the rows of standard input on standard output. Lines that were written before a fault stay
 /// written.
-pub(crate) fn answer(rt: &HostRuntime) -> Ran {
+pub(crate) fn answer(call: &Call<'_, '_>) -> Ran {
+    let rt = call.rt;
     let mut reader = Noted::new(INPUT, rt.reader());
     let mut out = Noted::new(OUTPUT, io::writer(rt));
-    match run_solve(rt.alloc(), &mut reader, &mut out) {
+    match run_solve(rt.alloc(), &mut reader, &mut out, call.trees()) {
         Ok(summary) => flushed(&mut out, Ok(summary.status())),
         Err(error) => Err(Stopped::Solve(error).by(reader.fault(), out.fault())),
     }

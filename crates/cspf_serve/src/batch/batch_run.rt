@@ -43,10 +43,11 @@ struct Streams<R, Q> {
 }
 
 /// Publishes the batches of a journal, one after the other, and then answers the requests of a
-/// stream at the last version by this many workers: `IsBatchRun`. One batch is kept at a time. Both
-/// streams are read before the first line is written. The status is 2 where anything was refused,
-/// and else 0. After an error the writer has nothing more, or the beginning of those lines, up to the
-/// reply to some request: `IsBatchRunInPart`. The writer isn't flushed.
+/// stream at the last version by this many workers, with at most `trees` trees together:
+/// `IsBatchRun`. One batch is kept at a time. Both streams are read before the first line is
+/// written. The status is 2 where anything was refused, and else 0. After an error the writer has
+/// nothing more, or the beginning of those lines, up to the reply to some request:
+/// `IsBatchRunInPart`. The writer isn't flushed.
 pub fn run_batch<
     R: Read + Drop,
     Q: Read + Drop,
@@ -60,6 +61,7 @@ pub fn run_batch<
     requests: Q,
     writer: &mut W,
     workers: usize,
+    trees: usize,
     accept_torn: bool,
     gate: &G,
 ) -> Result<u8, RunError>
@@ -86,7 +88,7 @@ pub fn run_batch<
         requests,
         accept_torn,
     };
-    answer(rt, alloc, streams, writer, workers, gate)
+    answer(rt, alloc, streams, writer, workers, trees, gate)
 }
 
 /// Publishes the batches of a journal over a journal that keeps nothing, and then answers requests
@@ -97,6 +99,7 @@ fn answer<R: Read + Drop, Q: Read + Drop, W: Write, G: Gate + Sync, T: Threads +
     streams: Streams<R, Q>,
     writer: &mut W,
     workers: usize,
+    trees: usize,
     gate: &G,
 ) -> Result<u8, RunError>
     requires workers { (0 < workers) × (workers ≤ MOST_ASKERS) }
@@ -109,7 +112,7 @@ fn answer<R: Read + Drop, Q: Read + Drop, W: Write, G: Gate + Sync, T: Threads +
     ensures error { IfErr result (IsBatchFault streams.accept_torn
         (R.remaining streams.journal) (Q.remaining streams.requests)) }
 {
-    match open_for(rt, alloc, io::sink(), workers) {
+    match open_for(rt, alloc, io::sink(), workers, trees) {
         Ok((publisher, askers)) => {
             let mut publisher = publisher;
             let lent = &mut publisher;

@@ -29,11 +29,12 @@ use std::io::{Read, Write};
 use std::sync::Wait;
 use std::thread::Threads;
 
-/// Publishes the batches of updates over a journal while this many workers answer the requests of a
-/// stream: `IsLiveRun`. Both streams are first read whole. The status is 2 where anything was
-/// refused, and else 0. The journal's writer is handed back, after an error too. It then has the
-/// text of each published batch, and after a fault of the journal a prefix of one more. After an
-/// error the contents of the other writer are unspecified. Neither is flushed.
+/// Publishes the batches of updates over a journal while this many workers answer the requests of
+/// a stream, with at most `trees` trees together: `IsLiveRun`. Both streams are first read whole.
+/// The status is 2 where anything was refused, and else 0. The journal's writer is handed back,
+/// after an error too. It then has the text of each published batch, and after a fault of the
+/// journal a prefix of one more. After an error the contents of the other writer are unspecified.
+/// Neither is flushed.
 pub fn run_live_rows<
     R: Read + Drop,
     Q: Read + Drop,
@@ -49,6 +50,7 @@ pub fn run_live_rows<
     journal: J,
     writer: &mut W,
     workers: usize,
+    trees: usize,
     gate: &G,
 ) -> (Result<u8, RunError>, J)
     requires workers { (0 < workers) × (workers ≤ MOST_ASKERS) }
@@ -66,7 +68,7 @@ pub fn run_live_rows<
         Ok(read) => read,
         Err(end) => return (refuse(alloc, end, writer), journal),
     };
-    let (publisher, askers) = match open_for(rt, alloc, journal, workers) {
+    let (publisher, askers) = match open_for(rt, alloc, journal, workers, trees) {
         Ok(opened) => opened,
         Err((error, journal)) => return (Err(error), journal),
     };

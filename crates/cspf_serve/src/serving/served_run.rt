@@ -230,12 +230,13 @@ fn answer_updates<R: Read, W: Write, J: Write, T: Wait>(
     }
 }
 
-/// A publisher over a journal, and a seat for each client.
+/// A publisher over a journal, and a seat for each client. Together these have at most `trees` trees.
 fn open_seats<J: Write, Q: Drop, V: Drop, T: Wait>(
     rt: &T,
     alloc: Global,
     journal: J,
     clients: usize,
+    trees: usize,
 ) -> Result<(Publisher<J>, Seats<Q, V>), (RunError, J)>
     requires { (0 < clients) × (clients ≤ MOST_ASKERS) }
     ensures publisher { IfOk result (λ made.
@@ -244,7 +245,7 @@ fn open_seats<J: Write, Q: Drop, V: Drop, T: Wait>(
     ensures error { IfErr result (λ e. e.0 ≡ RunError.Memory) }
     ensures journal { IfErr result (λ e. e.1 ≡ journal) }
 {
-    match open_for(rt, alloc, journal, clients) {
+    match open_for(rt, alloc, journal, clients, trees) {
         Ok((publisher, askers)) => match seat_all(alloc, askers) {
             Ok(seats) => Ok((publisher, seats)),
             Err(_) => Err((RunError::Memory, publisher.close(rt))),
@@ -280,8 +281,8 @@ fn close_run<W, J: Write, Q: Read + Drop, V: Replies + Drop, T: Wait>(
 }
 
 /// Publishes updates as they come in, each batch in the journal first, while one asker answers each
-/// client, in a thread of its own. No client waits for another, nor for the publisher. It ends when
-/// the updates and all clients have ended: `IsServedRun`.
+/// client, in a thread of its own. No client waits for another, nor for the publisher. Together they
+/// have at most `trees` trees. It ends when the updates and all clients have ended: `IsServedRun`.
 ///
 /// An error comes before anything is read, and gives back all inputs except the updates.
 pub fn run_serve<
@@ -298,6 +299,7 @@ pub fn run_serve<
     said: W,
     journal: J,
     clients: Vec<Client<Q, V>>,
+    trees: usize,
 ) -> Result<Served<W, J, V>, (ServedError, W, J, Vec<Client<Q, V>>)>
     requires { (0 < vec_len clients) × (vec_len clients ≤ MOST_ASKERS) }
     ensures served { IfOk result (IsServedRun (R.remaining updates) W.contents J.contents
@@ -305,7 +307,7 @@ pub fn run_serve<
     ensures error { IfErr result (λ e. IsServedFault (vec_len clients) e.0) }
     ensures back { IfErr result (λ e. (e.1 ≡ said) × (e.2 ≡ journal) × (e.3 ≡ clients)) }
 {
-    let (publisher, seats) = match open_seats(rt, alloc, journal, clients.len()) {
+    let (publisher, seats) = match open_seats(rt, alloc, journal, clients.len(), trees) {
         Ok(opened) => opened,
         Err((error, journal)) => return Err((ServedError::Run(error), said, journal, clients)),
     };

@@ -2,18 +2,21 @@ ghost use Rattle.std.specs.Prelude.{◌≡◌, ◌<◌, ◌≤◌, [], All, IfOk
 ghost use Rattle.cspf_publish.specs.declared.limits.TheConstants.{MOST_ASKERS};
 
 use crate::RunError;
-use cspf_publish::{Asker, Publisher, open};
+use cspf_journal::NewJournal;
+use cspf_publish::{Asker, Publisher, open_over};
 use std::alloc::Global;
 use std::io::Write;
 use std::sync::Wait;
 
-/// A new publisher over a journal, and an asker for each worker.
+/// A new publisher over a journal, and an asker for each worker. Together these have at most `trees`
+/// trees.
 #[tactic(auto, using(crate::proofs::AnswerLines::sources_of))]
 pub(crate) fn open_for<J: Write, T: Wait>(
     rt: &T,
     alloc: Global,
     journal: J,
     workers: usize,
+    trees: usize,
 ) -> Result<(Publisher<J>, Vec<Asker>), (RunError, J)>
     requires { (0 < workers) × (workers ≤ MOST_ASKERS) }
     ensures publisher { IfOk result (λ opened.
@@ -25,7 +28,7 @@ pub(crate) fn open_for<J: Write, T: Wait>(
     ensures error { IfErr result (λ e. e.0 ≡ RunError.Memory) }
     ensures journal { IfErr result (λ e. e.1 ≡ journal) }
 {
-    match open(rt, alloc, journal, workers) {
+    match open_over(rt, alloc, NewJournal::new(journal), workers, trees) {
         Ok(opened) => Ok(opened),
         Err((refused, journal)) => Err((RunError::from(refused), journal)),
     }

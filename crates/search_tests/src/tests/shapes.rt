@@ -5,7 +5,7 @@ ghost use Rattle.cspf_trees.specs.Trees.{AreTreesOf};
 use super::{draw, is_same, request, table_of};
 use cspf_addr::{Addr, Mask};
 use cspf_db::Table;
-use cspf_model::{Change, Link};
+use cspf_model::{Change, Link, Request};
 use cspf_search::best_by_rounds;
 use cspf_trees::{MOST_TREES, Trees};
 use std::alloc::Global;
@@ -111,11 +111,8 @@ const HOPS: [&[u8]; 5] = [
 // What a request excludes, and what it includes any and all of.
 const MASKS: [(u32, u32, u32); 4] = [(0, 0, 0), (0, 0, 0), (4, 0, 0), (0, 6, 1)];
 
-// Whether trees answer a request as the plain search does. One of eight requests has hops.
-fn agree(alloc: Global, seed: &mut u32, table: &Table, trees: &mut Trees) -> Result<bool, Fail>
-    requires { AreTreesOf table.now trees.old }
-    ensures { AreTreesOf table.now trees.new }
-{
+// A request between two routers. One of eight has hops.
+fn shaped_request(seed: &mut u32) -> Result<Request, Fail> {
     let from = draw(seed) % ROUTERS;
     let to = from + 1 + draw(seed) % (ROUTERS - 1);
     let hops = match draw(seed) % 40 {
@@ -124,12 +121,39 @@ fn agree(alloc: Global, seed: &mut u32, table: &Table, trees: &mut Trees) -> Res
     };
     let masks = MASKS[(draw(seed) % 4) as usize];
     let ends = (router(from).number(), router(to).number());
-    let request = request(ends, 0, masks, hops)?;
-    let found = trees.best(alloc, table, &request)?;
-    Ok(is_same(&found, &best_by_rounds(alloc, table, &request)?))
+    request(ends, 0, masks, hops)
 }
 
-// How many of 200 requests in a network trees answer as the plain search does.
+// Whether trees answer a request as the plain search does.
+fn agree(alloc: Global, table: &Table, request: &Request, trees: &mut Trees) -> Result<bool, Fail>
+    requires { AreTreesOf table.now trees.old }
+    ensures { AreTreesOf table.now trees.new }
+{
+    let found = trees.best(alloc, table, request)?;
+    Ok(is_same(&found, &best_by_rounds(alloc, table, request)?))
+}
+
+// How many of 200 requests in a table's network its trees answer as the plain search does.
+fn count_agreed(
+    alloc: Global,
+    seed: &mut u32,
+    table: &Table,
+    trees: &mut Trees,
+) -> Result<u32, Fail>
+    requires { AreTreesOf table.now trees.old }
+    ensures { AreTreesOf table.now trees.new }
+{
+    let mut count = 0u32;
+    for _request in 0..200 {
+        let request = shaped_request(seed)?;
+        if agree(alloc, table, &request, trees)? {
+            count = count.saturating_add(1);
+        }
+    }
+    Ok(count)
+}
+
+// The same in a network of a shape, with metrics of a kind. The trees are those of the network before.
 fn agreed(
     alloc: Global,
     seed: &mut u32,
@@ -139,13 +163,7 @@ fn agreed(
 ) -> Result<u32, Fail> {
     let table = shaped_table(alloc, seed, shape, kind)?;
     trees.clear();
-    let mut count = 0u32;
-    for _request in 0..200 {
-        if agree(alloc, seed, &table, trees)? {
-            count = count.saturating_add(1);
-        }
-    }
-    Ok(count)
+    count_agreed(alloc, seed, &table, trees)
 }
 
 // Trees that are grown at the first ask answer 100,800 requests in 504 networks as the plain search does.
