@@ -51,5 +51,5 @@ pub walk_most : (q : Request) (nodes : List Node) → AreNodes nodes → (legs :
 walk_most q nodes are legs count most few o at is found =
     let here = position-Some (λ n. same_state (state_of n) (record { leg = legs; router = q.to })) nodes at nowhere (sym is ∙ found) in
     let leg = ap (λ (s : State). s.leg) (same_state-true (state_of (slice_index_or nodes at nowhere)) (record { leg = legs; router = q.to }) here.1) in
-    let numbered = are.numbered at nowhere here.0 in
-    omega (arith, here.0, leg, numbered.links, numbered.few)
+    let ranked = are.ranked at nowhere here.0 in
+    omega (arith, here.0, leg, ranked.few)

@@ -1,5 +1,5 @@
 -- The states that a link or a turn leads to from a node, and the way back along parents.
-use Rattle.std.proofs.Common.{◌≡◌, ℕ, zero, suc, ◌+◌, ◌^◌, ◌<◌, ◌≤◌, ◌↔◌, Some, None, IsSome, List, [], ◌∷◌, ◌++◌, length, slice_get, slice_index_or, refl, sym, ap, subst, ◌∙◌, arith}
+use Rattle.std.proofs.Common.{◌≡◌, ℕ, zero, suc, ◌+◌, ◌*◌, ◌^◌, ◌<◌, ◌≤◌, Some, None, IsSome, List, [], ◌∷◌, ◌++◌, length, slice_get, slice_index_or, refl, sym, ap, subst, ◌∙◌, arith}
 use Rattle.std.specs.Ordering.{nat_cmp, ordering_then, is_gt}
 use Rattle.std.specs.declared.cmp.Ordering.{Ordering}
 use Rattle.std.proofs.lemmas.Cmp.{nat_list_cmp_total, tied_itself}
@@ -14,16 +14,10 @@ use Rattle.cspf_search.specs.declared.arena.Node.{Node}
 use Rattle.cspf_search.specs.States.{State}
 use Rattle.cspf_graph.specs.Roles.{MayEnter, MayTurn}
 use Rattle.cspf_search.specs.Settled.{state_cmp, locals_cmp}
-use Rattle.cspf_search.specs.Arena.{walk_with, walk_at, walks, walk_of, index_of, IsNumbered, HasLast, AreNodes, IsNext}
+use Rattle.cspf_search.specs.Arena.{walk_with, walk_at, walks, walk_of, walk_rank, index_of, IsRanked, HasLast, AreNodes, IsNext}
 use Rattle.cspf_search.specs.Frontier.{node_by}
 use Rattle.cspf_search.specs.Rounds.{CrossesBy, Turns, IsFirstOf}
 use Rattle.cspf_search.proofs.Orders.{states_total, cost_of-push, locals_cmp-last, then_assoc}
-
--- a node has the number of links of its walk, which decides whether the walk may leave a router
-pub leaves_told : (d : Database) (router : ℕ) (nodes : List Node) → AreNodes nodes → (at : ℕ) → at < length nodes → (e : Node)
-    → MayLeave d router (slice_index_or nodes at e).links ↔ MayLeave d router (length (walk_at (walks nodes) at))
-leaves_told d router nodes are at within e =
-    let links = (are.numbered at e within).links in (subst (λ k. MayLeave d router k) links, subst (λ k. MayLeave d router k) (sym links))
 
 module _ (nodes : List Node) (are : AreNodes nodes) where
   parent_at : (i : ℕ) (d : Node) → i < length nodes → (slice_index_or nodes i d).parent < length nodes
@@ -35,8 +29,8 @@ module _ (d : Database) (q : Request) (nodes : List Node) (are : AreNodes nodes)
   is : from ≡ slice_index_or nodes at from
   is = sym (get_or_from_slice_get nodes at from from there)
 
-  from_numbered : IsNumbered from (walk_at (walks nodes) at) at
-  from_numbered = subst (λ n. IsNumbered n (walk_at (walks nodes) at) at) (sym is) (are.numbered at from within)
+  from_ranked : IsRanked from (walk_at (walks nodes) at) at
+  from_ranked = subst (λ n. IsRanked n (walk_at (walks nodes) at) at) (sym is) (are.ranked at from within)
 
   from_grown : walk_at (walks nodes) at ≡ walk_of nodes from
   from_grown = are.grown at from within ∙ ap (walk_of nodes) (sym is)
@@ -46,11 +40,10 @@ module _ (d : Database) (q : Request) (nodes : List Node) (are : AreNodes nodes)
     by_next = record {
       parent = within;
       linked = λ _. refl;
-      numbered = record {
-        cost = ap (λ c. c + l.metric) from_numbered.cost ∙ sym (cost_of-push (walk_at (walks nodes) at) l);
-        links = ap (λ c. c + 1) from_numbered.links ∙ sym (length_push (walk_at (walks nodes) at) l);
-        few = omega (arith, from_numbered.few);
-        small = omega (arith, from_numbered.small);
+      ranked = record {
+        rank = omega (arith, from_ranked.rank, cost_of-push (walk_at (walks nodes) at) l, length_push (walk_at (walks nodes) at) l);
+        few = omega (arith, from_ranked.few, length_push (walk_at (walks nodes) at) l);
+        small = omega (arith, from_ranked.small, cost_of-push (walk_at (walks nodes) at) l, length_push (walk_at (walks nodes) at) l);
       };
     }
 
@@ -73,11 +66,10 @@ module _ (d : Database) (q : Request) (nodes : List Node) (are : AreNodes nodes)
   turned_next = record {
     parent = subst (λ (n : Node). n.parent < length nodes) (sym is) (parent_at nodes are at from within);
     linked = subst HasLast (sym is) (are.linked at from within);
-    numbered = record {
-      cost = from_numbered.cost ∙ ap cost_of from_grown;
-      links = from_numbered.links ∙ ap (λ (w : List Link). length w) from_grown;
-      few = omega (arith, from_numbered.few);
-      small = from_numbered.small;
+    ranked = record {
+      rank = from_ranked.rank ∙ ap walk_rank from_grown;
+      few = omega (arith, from_ranked.few, ap (λ (w : List Link). length w) from_grown);
+      small = subst (λ w. cost_of w ≤ length w * 2 ^ 32) from_grown from_ranked.small;
     };
   }
 
@@ -102,9 +94,6 @@ pub record IsBehind (nodes : List Node) (n : Node) (passed : ℕ) (count : ℕ) 
   pub left : length (walk_of nodes n) + passed ≡ count
   pub linked : passed < count → IsSome n.by
 
-pub behind_next : (nodes : List Node) (n : Node) (count : ℕ) → IsNext nodes n → n.links ≡ count → IsBehind nodes n 0 count
-behind_next nodes n count next e = record { parent = next.parent; left = omega (arith, next.numbered.links); linked = λ h. next.linked (omega arith) }
-
 module _ (nodes : List Node) (are : AreNodes nodes) (n m : Node) (within : n.parent < length nodes) (is : m ≡ slice_index_or nodes n.parent m) (l : Link)
     (by : n.by ≡ Some l) where
   -- the walk of a node is its parent's, with its own link
@@ -118,9 +107,8 @@ module _ (nodes : List Node) (are : AreNodes nodes) (n m : Node) (within : n.par
   parent_linked : 0 < length (walk_of nodes m) → IsSome m.by
   parent_linked h =
       let grown : walk_at (walks nodes) n.parent ≡ walk_of nodes m = are.grown n.parent m within ∙ ap (walk_of nodes) (sym is) in
-      let links : m.links ≡ length (walk_of nodes m) =
-      ap (λ (n : Node). n.links) is ∙ (are.numbered n.parent m within).links ∙ ap (λ (w : List Link). length w) grown in
-      subst HasLast (sym is) (are.linked n.parent m within) (omega arith)
+      let rank : m.rank ≡ walk_rank (walk_of nodes m) = ap (λ (n : Node). n.rank) is ∙ (are.ranked n.parent m within).rank ∙ ap walk_rank grown in
+      subst HasLast (sym is) (are.linked n.parent m within) (omega (arith, rank, h))
 
   pub behind_more : (passed count : ℕ) → IsBehind nodes n passed count → IsBehind nodes m (passed + 1) count
   behind_more passed count behind =
@@ -150,6 +138,14 @@ locals_of_one nodes x y l k found goal by_x by_y one h =
     ap (walk_with (walk_at (walks nodes) y.parent)) by_y ∙ ap (λ i. walk_at (walks nodes) i ++ (k ∷ [])) (sym one) in
     let all = locals_more (walk_of nodes x) (walk_of nodes y) front front l k found goal is_x is_y refl h in
     ap (λ o. ordering_then o (ordering_then (nat_cmp l.local k.local) found)) (sym (tied_itself nat_list_cmp_total (locals_of front))) ∙ all
+
+-- a walk by a link from a node has one link more
+pub one_more : (nodes : List Node) → AreNodes nodes → (x : Node) (i : ℕ) → i < length nodes → x ≡ slice_index_or nodes i x → (v : List Link) (l : Link)
+    → v ≡ walk_at (walks nodes) i ++ (l ∷ []) → length v ≡ length (walk_of nodes x) + 1
+one_more nodes are x i within is v l ev =
+    let grown : walk_at (walks nodes) i ≡ walk_of nodes x = are.grown i x within ∙ ap (walk_of nodes) (sym is) in
+    let front : v ≡ walk_of nodes x ++ (l ∷ []) = ev ∙ ap (λ u. u ++ (l ∷ [])) grown in
+    omega (arith, ap (λ (u : List Link). length u) front, length_push (walk_of nodes x) l)
 
 -- two walks by a link each from nodes, by the walks of these and then the links
 pub locals_by : (nodes : List Node) → AreNodes nodes → (x y : Node) (i j : ℕ) → i < length nodes → j < length nodes → x ≡ slice_index_or nodes i x

@@ -186,7 +186,7 @@ only_root q (suc i) s w h at is = absurd (omega arith)
 
 -- at first the start alone is settled
 pub root_nodes : (q : Request) → AreNodes (root_of q ∷ [])
-root_nodes q = nodes_root (root_of q) (record { parent = refl; by = refl }) refl refl refl
+root_nodes q = nodes_root (root_of q) (record { parent = refl; by = refl }) refl refl
 
 pub root_settled : (d : Database) (q : Request) → AreSettled d q (labels_of (root_of q ∷ []))
 root_settled d q =

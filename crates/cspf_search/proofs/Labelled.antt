@@ -8,7 +8,7 @@ use Rattle.std.proofs.lemmas.List.Quantifiers.{position-Some, all_pairs_push}
 use Rattle.cspf_model.specs.declared.link.Link.{Link}
 use Rattle.cspf_search.specs.declared.arena.Node.{Node}
 use Rattle.cspf_search.specs.States.{State}
-use Rattle.cspf_search.specs.Arena.{walk_with, walk_at, walks_after, walks, walk_of, state_of, same_state, index_of, labels_of, IsNumbered, IsRoot, HasLast, AreNodes, IsNext}
+use Rattle.cspf_search.specs.Arena.{walk_with, walk_at, walks_after, walks, walk_of, state_of, same_state, index_of, labels_of, IsRanked, IsRoot, HasLast, AreNodes, IsNext}
 use Rattle.cspf_search.proofs.Settles.{Adds}
 
 -- the walks of nodes, and one more node
@@ -143,10 +143,10 @@ module _ (nodes : List Node) (n : Node) (are : AreNodes nodes) (next : IsNext no
             by_index (λ i m. walk_at (walks (nodes ++ (n ∷ []))) i ≡ walk_of (nodes ++ (n ∷ [])) m)
             (λ i d h. walk_at-old nodes n i h ∙ are.grown i d h ∙ sym (walk_of-old nodes n (slice_index_or nodes i d) (parent_within i d h)))
             (walk_at-new nodes n ∙ sym (walk_of-old nodes n n next.parent));
-        numbered =
-            by_index (λ i m. IsNumbered m (walk_at (walks (nodes ++ (n ∷ []))) i) i)
-            (λ i d h. rw (walk_at-old nodes n i h) (are.numbered i d h))
-            (rw (walk_at-new nodes n) next.numbered);
+        ranked =
+            by_index (λ i m. IsRanked m (walk_at (walks (nodes ++ (n ∷ []))) i) i)
+            (λ i d h. rw (walk_at-old nodes n i h) (are.ranked i d h))
+            (rw (walk_at-new nodes n) next.ranked);
         apart = apart_push nodes n are.apart left;
       }
 
@@ -178,8 +178,8 @@ module _ (n : Node) (root : IsRoot n) where
   only P here zero d h = here
   only P here (suc i) d h = absurd (omega arith)
 
-  pub nodes_root : n.leg ≡ 1 → n.cost ≡ 0 → n.links ≡ 0 → AreNodes (n ∷ [])
-  nodes_root leg cost links =
+  pub nodes_root : n.leg ≡ 1 → n.rank ≡ 1 → AreNodes (n ∷ [])
+  nodes_root leg rank =
       let none : walk_with [] n.by ≡ [] = rw root.by refl in
       record {
         some = omega arith;
@@ -189,8 +189,8 @@ module _ (n : Node) (root : IsRoot n) where
         linked = only (λ i m. HasLast m) (λ some. absurd (omega arith));
         back = λ i d low high. absurd (omega arith);
         grown = only (λ i m. walk_at (walks (n ∷ [])) i ≡ walk_of (n ∷ []) m) (started n.parent n.by root.parent root.by);
-        numbered =
-            only (λ i m. IsNumbered m (walk_at (walks (n ∷ [])) i) i)
-            (record { cost = rw none cost; links = rw none links; few = omega arith; small = omega arith });
+        ranked =
+            only (λ i m. IsRanked m (walk_at (walks (n ∷ [])) i) i)
+            (rw none (record { rank = rank; few = omega arith; small = omega arith }));
         apart = λ i j d low high. absurd (omega arith);
       }

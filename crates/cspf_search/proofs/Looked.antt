@@ -1,5 +1,5 @@
 -- The first node, after one more turn or link was looked at.
-use Rattle.std.proofs.Common.{◌≡◌, inl, inr, ℕ, zero, suc, ◌+◌, ◌-◌, ◌/◌, ◌%◌, ◌^◌, ◌<◌, ◌≤◌, true, false, is_some, Option, Some, None, List, [], ◌∷◌, length, slice_get, slice_index, slice_index_or, take, refl, sym, ap, subst, ◌∙◌, arith}
+use Rattle.std.proofs.Common.{◌≡◌, inl, inr, ℕ, zero, suc, ◌+◌, ◌-◌, ◌*◌, ◌/◌, ◌%◌, ◌^◌, ◌<◌, ◌≤◌, true, false, is_some, Option, Some, None, List, [], ◌∷◌, length, slice_get, slice_index, slice_index_or, take, refl, sym, ap, subst, ◌∙◌, arith}
 use Rattle.std.specs.Option.{IsSomeAnd}
 use Rattle.std.specs.Ordering.{nat_cmp, ordering_then, is_gt}
 use Rattle.std.specs.declared.cmp.Ordering.{Ordering}
@@ -17,14 +17,15 @@ use Rattle.cspf_search.specs.declared.rounds.Look.{Look}
 use Rattle.cspf_search.specs.States.{State}
 use Rattle.cspf_graph.specs.Roles.{MayEnter, MayTurn}
 use Rattle.cspf_search.specs.Settled.{state_cmp}
-use Rattle.cspf_search.specs.Arena.{state_of, walk_of, index_of, AreNodes, IsNext}
-use Rattle.cspf_search.specs.Rounds.{CrossesBy, CrossesFrom, Turns, IsFirst, RanksBefore, earlier_of}
+use Rattle.cspf_search.specs.Arena.{state_of, walk_of, walk_rank, index_of, AreNodes, IsNext}
+use Rattle.cspf_search.specs.Rounds.{CrossesBy, CrossesFrom, Turns, IsFirst, earlier_of}
 use Rattle.cspf_search.specs.Frontier.{state_at, nowhere, node_by, IsNodeAt, NodeMayLeave}
 use Rattle.cspf_graph.specs.Lists.{IsIndexOf}
 use Rattle.cspf_search.specs.ForwardStars.{IsForwardStar}
 use Rattle.cspf_search.specs.RoundSteps.{IsLook, LeadsToRow}
 use Rattle.cspf_search.proofs.Backs.{by_next, by_first, turned_first}
 use Rattle.cspf_search.proofs.Expanded.{there, leg, no_row, no_link_crosses, turn_state, turn_only, turn_passes, turn_within, link_index, link_state, link_only, link_passes, row_kept, row_new, row_cases}
+use Rattle.cspf_search.proofs.Ranks.{walk_short}
 use Rattle.cspf_search.proofs.Firsts.{first_both, first_same, left_first}
 use Rattle.cspf_search.proofs.Taken.{end_of_row}
 
@@ -46,31 +47,24 @@ row_end d s star is row l h here end at =
     end_of_row d star.ends.now (links_from_index d (star.state % 1024)) is.within is.each row l end h
     (sym (get_or_from_slice_get (links_from_index d (star.state % 1024)) row l l here)) at
 
--- the node that a link of a metric leads to from a node
+-- the node that a link leads to from a node, by what its metric adds to the rank
 abbrev pub along : ℕ → Node → Link → ℕ → Node
-along at from l metric = record {
+along at from l added = record {
   parent = at;
   by = Some l;
   leg = from.leg;
   router = l.to;
-  cost = from.cost + metric;
-  links = from.links + 1;
+  rank = from.rank + added + 1;
 }
 
-by_cost : (a b : ℕ) (o p : Ordering) → a < b → is_gt (ordering_then (ordering_then (nat_cmp a b) o) p) ≡ false
-by_cost a b o p h = grind (arith, nat_tests)
-
-by_links : (a b m n : ℕ) (o p : Ordering) → a ≡ b → m < n → is_gt (ordering_then (ordering_then (nat_cmp a b) (ordering_then (nat_cmp m n) o)) p) ≡ false
-by_links a b m n o p e h = grind (arith, nat_tests)
+by_rank : (a b m n : ℕ) (o p : Ordering) → a * 16384 + m + 1 < b * 16384 + n + 1 → n < 16384 → is_gt (ordering_then (ordering_then (nat_cmp a b) (ordering_then (nat_cmp m n) o)) p) ≡ false
+by_rank a b m n o p less high = grind (arith, nat_tests)
 
 -- a node that ranks before a walk comes before it
-pub ranked_first : (nodes : List Node) (n : Node) → IsNext nodes n → (w : List Link) (leg cost links : ℕ) → cost ≡ cost_of w → links ≡ length w → RanksBefore n cost links
+pub ranked_first : (nodes : List Node) (n : Node) → IsNext nodes n → (w : List Link) (leg : ℕ) → n.rank < walk_rank w → length w < 16384
     → is_gt (state_cmp (n.leg, walk_of nodes n) (leg, w)) ≡ false
-ranked_first nodes n next w leg cost links is long (inl less) =
-    by_cost (cost_of (walk_of nodes n)) (cost_of w) _ _ (omega (arith, less, is, next.numbered.cost))
-ranked_first nodes n next w leg cost links is long (inr less) =
-    by_links (cost_of (walk_of nodes n)) (cost_of w) (length (walk_of nodes n)) (length w) _ _ (omega (arith, less.0, is, next.numbered.cost))
-    (omega (arith, less.1, long, next.numbered.links))
+ranked_first nodes n next w leg less short =
+    by_rank (cost_of (walk_of nodes n)) (cost_of w) (length (walk_of nodes n)) (length w) (nat_cmp n.leg leg) _ (omega (arith, less, next.ranked.rank)) short
 
 module _ (d : Database) (q : Request) (nodes : List Node) (are : AreNodes nodes) (at state : ℕ) (is : IsNodeAt d q nodes at state) where
   -- the turn
@@ -141,11 +135,11 @@ module _ (d : Database) (q : Request) (nodes : List Node) (are : AreNodes nodes)
         let enters : MayEnter d q t.leg t.router = rw x.state x.enters in
         never x.usable (subst (λ (s : State). MayEnter d q s.leg s.router) same enters))
 
-    pub link_late : l.metric < 2 ^ 32 → (from : Node) → from ≡ slice_index_or nodes at nowhere → (metric : ℕ) → metric ≡ l.metric
-        → IsSomeAnd a (λ kept. RanksBefore kept (from.cost + metric) (from.links + 1)) → IsFirst nodes (CrossesFrom d q nodes (take (row + 1) (links_from_index d (state % 1024))) at) a
-    link_late small from same metric is_metric late =
+    pub link_late : l.metric < 2 ^ 32 → (from : Node) → from ≡ slice_index_or nodes at nowhere → (added : ℕ) → added ≡ l.metric * 16384
+        → IsSomeAnd a (λ kept. kept.rank < from.rank + added + 1) → IsFirst nodes (CrossesFrom d q nodes (take (row + 1) (links_from_index d (state % 1024))) at) a
+    link_late small from same added is_added late =
         let next = by_next d q nodes are at is.within (slice_index_or nodes at nowhere) (there d q nodes at state is) l small in
-        elim a as (λ (b : Option Node). IsFirst nodes (CrossesFrom d q nodes (take row (links_from_index d (state % 1024))) at) b → IsSomeAnd b (λ kept. RanksBefore kept (from.cost + metric) (from.links + 1))
+        elim a as (λ (b : Option Node). IsFirst nodes (CrossesFrom d q nodes (take row (links_from_index d (state % 1024))) at) b → IsSomeAnd b (λ kept. kept.rank < from.rank + added + 1)
         → IsFirst nodes (CrossesFrom d q nodes (take (row + 1) (links_from_index d (state % 1024))) at) b) [
           | None ↦ λ first ranks. absurd ranks
           | Some kept ↦ λ first ranks.
@@ -154,16 +148,15 @@ module _ (d : Database) (q : Request) (nodes : List Node) (are : AreNodes nodes)
               (row_cases d q nodes at state is row l here end ends few) kept first
               (λ w t x.
               let walk = (link_only d q nodes at state is row l here end ends few w t x).1 in
-              ranked_first nodes kept first.next w t.leg (from.cost + metric) (from.links + 1)
-              ((λ i. (same i).cost + is_metric i) ∙ next.numbered.cost ∙ ap cost_of (sym walk))
-              (ap (λ (n : Node). n.links + 1) same ∙ next.numbered.links ∙ ap (λ (w : List Link). length w) (sym walk)) ranks)
+              let rank : from.rank + added + 1 ≡ walk_rank w = (λ i. (same i).rank + is_added i + 1) ∙ next.ranked.rank ∙ ap walk_rank (sym walk) in
+              ranked_first nodes kept first.next w t.leg (omega (arith, ranks, rank)) (subst (λ v. length v < 16384) (sym walk) (walk_short nodes are _ next)))
         ] before late
 
     pub link_kept : l.metric < 2 ^ 32 → index_of nodes (state_at d (state - state % 1024 + end)) ≡ None → IsUsable d q l
         → NodeMayLeave d nodes at state → MayEnter d q ((state - state % 1024 + end) / 1024 + 1) (slice_index (router_list d) ((state - state % 1024 + end) % 1024)) → (from : Node)
-        → from ≡ slice_index_or nodes at nowhere → (metric : ℕ) → metric ≡ l.metric
-        → IsFirst nodes (CrossesFrom d q nodes (take (row + 1) (links_from_index d (state % 1024))) at) (earlier_of nodes a (Some (along at from l metric)))
-    link_kept small left usable leaves enters from same metric is_metric =
+        → from ≡ slice_index_or nodes at nowhere → (added : ℕ) → added ≡ l.metric * 16384
+        → IsFirst nodes (CrossesFrom d q nodes (take (row + 1) (links_from_index d (state % 1024))) at) (earlier_of nodes a (Some (along at from l added)))
+    link_kept small left usable leaves enters from same added is_added =
         let to = link_state d q nodes at state is row l here end ends few in
         let there_enters = subst (λ (s : State). MayEnter d q s.leg s.router) (sym to) enters in
         let passes = link_passes d q nodes at state is row l here end ends few usable leaves (rw (leg d q nodes at state is) at there_enters) left in
@@ -172,7 +165,7 @@ module _ (d : Database) (q : Request) (nodes : List Node) (are : AreNodes nodes)
         let first =
         by_first d q nodes are at is.within (slice_index_or nodes at nowhere) (there d q nodes at state is) l small
         (passes.runs ∙ ap (λ (n : Node). n.router) node) usable passes.leaves there_enters (ap (index_of nodes) to ∙ left) in
-        rw (same, is_metric)
+        rw (same, is_added)
         (first_both nodes (CrossesFrom d q nodes (take row (links_from_index d (state % 1024))) at) (CrossesBy d q nodes at l) (CrossesFrom d q nodes (take (row + 1) (links_from_index d (state % 1024))) at)
         (row_kept d q nodes at state is row l here end ends few) (row_new d q nodes at state is row l here end ends few)
         (row_cases d q nodes at state is row l here end ends few) a (Some (node_by at (slice_index_or nodes at nowhere) (Some l))) before first)

@@ -1,5 +1,5 @@
 -- Ranks below which nothing leads on from a node, and the nodes that are passed over by them.
-use Rattle.std.proofs.Common.{◌≡◌, ◌⊎◌, inl, inr, ℕ, ◌+◌, ◌*◌, ◌^◌, ◌<◌, ◌≤◌, false, Option, Some, None, List, [], ◌∷◌, ◌++◌, length, set, slice_index, slice_index_or, refl, sym, ap, subst, ◌∙◌, arith, length-set}
+use Rattle.std.proofs.Common.{◌≡◌, ◌⊎◌, inl, inr, ℕ, ◌+◌, ◌*◌, ◌<◌, ◌≤◌, false, Option, Some, None, List, [], ◌∷◌, ◌++◌, length, set, refl, sym, subst, ◌∙◌, arith, length-set}
 use Rattle.std.specs.Ordering.{nat_cmp, ordering_then, is_gt}
 use Rattle.std.specs.declared.cmp.Ordering.{Ordering}
 use Rattle.std.proofs.lemmas.Bool.{cases_lt}
@@ -12,25 +12,21 @@ use Rattle.cspf_model.specs.Walks.{cost_of}
 use Rattle.cspf_db.specs.Index.{links_of}
 use Rattle.cspf_search.specs.declared.arena.Node.{Node}
 use Rattle.cspf_search.specs.States.{State}
-use Rattle.cspf_search.specs.Settled.{state_cmp}
-use Rattle.cspf_search.specs.Arena.{walk_of, AreNodes, IsNext}
-use Rattle.cspf_search.specs.Frontier.{no_rank, rank_of, walk_rank}
-use Rattle.cspf_search.specs.Rounds.{CrossesFrom, CrossesBelow, IsFirst, IsFirstOf, RanksBefore, earlier_of}
+use Rattle.cspf_search.specs.Arena.{walk_of, walk_rank, AreNodes}
+use Rattle.cspf_search.specs.Frontier.{no_rank}
+use Rattle.cspf_search.specs.Rounds.{CrossesFrom, CrossesBelow, IsFirst, earlier_of}
 use Rattle.cspf_search.specs.RoundSteps.{AreLows, IsLow, low_of}
 use Rattle.cspf_graph.proofs.RouterIndexes.{same_or_not}
 use Rattle.cspf_search.proofs.Few.{AreApart}
 use Rattle.cspf_search.proofs.Firsts.{first_both, left_first}
 use Rattle.cspf_search.proofs.Looked.{ranked_first}
 use Rattle.cspf_search.proofs.Pushed.{from_old}
-use Rattle.cspf_search.proofs.Ranks.{crossing_short, links_short, rank_is, rank_small}
+use Rattle.cspf_search.proofs.Ranks.{crossing_short, rank_is, rank_small, walk_short}
 
 -- what is no later in the order ranks no higher
 ranks_up : (a b m n : ℕ) (o p : Ordering) → m < 16384 → is_gt (ordering_then (ordering_then (nat_cmp a b) (ordering_then (nat_cmp m n) o)) p) ≡ false
     → a * 16384 + m + 1 ≤ b * 16384 + n + 1
 ranks_up a b m n o p low h = grind (arith, nat_tests)
-
-lower_rank : (a b m n : ℕ) → a * 16384 + m + 1 < b * 16384 + n + 1 → n < 16384 → (a < b) ⊎ ((a ≡ b) × (m < n))
-lower_rank a b m n less high = elim (cases_lt a b) [ inl lt ↦ inl lt | inr ge ↦ inr (omega arith, omega arith) ]
 
 module _ (d : Database) (q : Request) (nodes : List Node) (are : AreNodes nodes) (at : ℕ) (within : at < length nodes) where
   -- the first that leads on from a node has the least rank
@@ -39,7 +35,7 @@ module _ (d : Database) (q : Request) (nodes : List Node) (are : AreNodes nodes)
   low_found (Some n) first w t x =
       let next = first.next in
       let up =
-      ranks_up (cost_of (walk_of nodes n)) (cost_of w) (length (walk_of nodes n)) (length w) (nat_cmp n.leg t.leg) _ (omega (arith, next.numbered.links, links_short nodes are n next))
+      ranks_up (cost_of (walk_of nodes n)) (cost_of w) (length (walk_of nodes n)) (length w) (nat_cmp n.leg t.leg) _ (walk_short nodes are n next)
       (first.first w t x) in
       (omega (arith, rank_small nodes are n next), omega (arith, up, rank_is nodes are n next))
 
@@ -71,9 +67,8 @@ module _ (d : Database) (q : Request) (nodes : List Node) (are : AreNodes nodes)
       left_first nodes (CrossesBelow d q nodes (links_of d) at) (CrossesFrom d q nodes (links_of d) at) (CrossesBelow d q nodes (links_of d) (at + 1)) below_left below_right below_cases kept first
       (λ w t h.
       let has = is w t h in
-      let less : rank_of kept < walk_rank w = elim choice [ inl none ↦ absurd (omega (arith, none, has.0)) | inr lt ↦ omega (arith, lt, has.1) ] in
-      ranked_first nodes kept first.next w t.leg (cost_of w) (length w) refl refl
-      (lower_rank kept.cost (cost_of w) kept.links (length w) (omega (arith, less)) (crossing_short d q nodes are (links_of d) at within w t h)))
+      let less : kept.rank < walk_rank w = elim choice [ inl none ↦ absurd (omega (arith, none, has.0)) | inr lt ↦ omega (arith, lt, has.1) ] in
+      ranked_first nodes kept first.next w t.leg less (crossing_short d q nodes are (links_of d) at within w t h))
 
   pub lows_set : (lows : List ℕ) → AreLows d q nodes lows → (low : ℕ) → IsLow d q nodes at low → AreLows d q nodes (set lows at low)
   lows_set lows before low is = record {

@@ -15,13 +15,13 @@ use Rattle.cspf_search.specs.declared.goal.Goal.{Goal}
 use Rattle.cspf_search.specs.declared.labels.Label.{Label}
 use Rattle.cspf_search.specs.States.{State}
 use Rattle.cspf_search.specs.Settled.{IsNoLater}
-use Rattle.cspf_search.specs.Arena.{walk_of, state_of, index_of, AreNodes, IsNext}
-use Rattle.cspf_search.specs.Frontier.{state_at, node_of, rank_of, walk_rank, no_rank, lift, IsBeyond, IsReached, IsLabel, is_settled, is_reached, is_unreached, HeapKey, key_at, label_at, heap_key_cmp, no_label, IsKey, AreLabels, IsOffer, AreTied, HasKey, StaysAt, GoesTo}
+use Rattle.cspf_search.specs.Arena.{walk_of, walk_rank, state_of, index_of, AreNodes, IsNext}
+use Rattle.cspf_search.specs.Frontier.{state_at, node_of, no_rank, lift, IsBeyond, IsReached, IsLabel, is_settled, is_reached, is_unreached, HeapKey, key_at, label_at, heap_key_cmp, no_label, IsKey, AreLabels, IsOffer, AreTied, HasKey, StaysAt, GoesTo}
 use Rattle.cspf_graph.specs.Roles.{IsStateIndex}
 use Rattle.cspf_graph.specs.Lists.{AreListed}
 use Rattle.cspf_search.proofs.Orders.{walks_total}
 use Rattle.cspf_graph.proofs.RouterIndexes.{same_or_not}
-use Rattle.cspf_search.proofs.Ranks.{before_by_rank, before_by_locals, locals_turned, rank_parts, rank_is, walk_short, links_short, rank_small, lift_small, beyond_lower, state_apart}
+use Rattle.cspf_search.proofs.Ranks.{before_by_rank, before_by_locals, locals_turned, rank_is, walk_short, rank_small, lift_small, beyond_lower, state_apart}
 
 lowered : {A : Type 0} (cap lower ahead : ℕ) (w : List Link) → lower ≤ cap → A ⊎ IsBeyond cap ahead w → A ⊎ IsBeyond lower ahead w
 lowered cap lower ahead w h (inl a) = inl a
@@ -86,7 +86,7 @@ IsLost d nodes P cap ahead t label x =
 -- a label for another walk, which is no later than the one that the state had
 pub record IsBetter (d : Database) (nodes : List Node) (P : List Link → State → Type 0) (cap ahead : ℕ) (t : State) (old label : Label) (x : List Link) : Type 0 where
   pub offer : IsOffer d nodes label
-  pub rank : label.rank ≡ rank_of (node_of d nodes label)
+  pub rank : label.rank ≡ (node_of d nodes label).rank
   pub state : state_of (node_of d nodes label) ≡ t
   pub walk : walk_of nodes (node_of d nodes label) ≡ x
   pub no_more : label.rank ≤ old.rank
@@ -226,7 +226,7 @@ module _ (d : Database) (q : Request) (nodes : List Node) (are : AreNodes nodes)
       (λ k was. Contains-permutation (key_at key i ∷ keys) new_keys k gains.moved (Contains-append_right (key_at key i ∷ []) keys k was))
 
   -- the labels after an offer
-  pub labels_offered : (label : Label) (key : ℕ) (new : List Label) (new_keys : List HeapKey) → key ≡ label.rank + lift goal i → IsOffer d nodes label → label.rank ≡ rank_of (node_of d nodes label)
+  pub labels_offered : (label : Label) (key : ℕ) (new : List Label) (new_keys : List HeapKey) → key ≡ label.rank + lift goal i → IsOffer d nodes label → label.rank ≡ (node_of d nodes label).rank
       → state_of (node_of d nodes label) ≡ state_at d i → walk_of nodes (node_of d nodes label) ≡ x → label.rank ≤ (label_at labels i).rank → Q x (state_at d i)
       → StaysAt d nodes i label labels new keys new_keys ⊎ GoesTo d nodes i label key labels new keys new_keys → AreLabels d q nodes R goal new new_keys
   labels_offered label key new new_keys is_key offer rank state walk le passes (inl stay) =
@@ -266,7 +266,7 @@ module _ (d : Database) (q : Request) (nodes : List Node) (are : AreNodes nodes)
 
 -- a walk that ranks after the label, or after the cap, is lost
 pub lost_by_rank : (d : Database) (nodes : List Node) → AreNodes nodes → (P : List Link → State → Type 0) (cap ahead : ℕ) (t : State) (label : Label) (n : Node)
-    → IsNext nodes n → ahead < 2 ^ 46 → (label.rank < rank_of n) ⊎ (cap < rank_of n + ahead) → IsLost d nodes P cap ahead t label (walk_of nodes n)
+    → IsNext nodes n → ahead < 2 ^ 46 → (label.rank < n.rank) ⊎ (cap < n.rank + ahead) → IsLost d nodes P cap ahead t label (walk_of nodes n)
 lost_by_rank d nodes are P cap ahead t label n next low (inl late) = inr (
   λ e. let small = rank_small nodes are n next in absurd (omega (arith, e)),
   λ r.
@@ -278,15 +278,13 @@ lost_by_rank d nodes are P cap ahead t label n next low (inr late) = inl (record
   behind = omega (arith, late, rank_is nodes are n next);
 })
 
--- the label of a state that an offer ties with stands for a node of as many links
+-- the label of a state that an offer ties with stands for a node of the same rank
 pub tied_label : (d : Database) (nodes : List Node) → AreNodes nodes → (P : List Link → State → Type 0) (cap ahead : ℕ) (t : State) (old label : Label) → IsLabel d nodes P cap ahead t old
-    → IsOffer d nodes label → label.rank ≡ rank_of (node_of d nodes label) → label.rank ≡ old.rank → AreTied d nodes old label
+    → IsOffer d nodes label → label.rank ≡ (node_of d nodes label).rank → label.rank ≡ old.rank → AreTied d nodes old label
 tied_label d nodes are P cap ahead t old label (is_settled k none e) offer rank tie = absurd (omega (arith, rank, tie, none))
 tied_label d nodes are P cap ahead t old label (is_reached left r) offer rank tie = record {
   other = record { place = r.place; parent = r.parent; next = r.next };
-  links =
-      (rank_parts (node_of d nodes old).cost (node_of d nodes label).cost (node_of d nodes old).links (node_of d nodes label).links
-      (sym r.rank ∙ sym tie ∙ rank) (links_short nodes are (node_of d nodes old) r.next) (links_short nodes are (node_of d nodes label) offer.next)).1;
+  rank = sym r.rank ∙ sym tie ∙ rank;
 }
 tied_label d nodes are P cap ahead t old label (is_unreached left none first) offer rank tie =
     let small = rank_small nodes are (node_of d nodes label) offer.next in

@@ -19,10 +19,10 @@ use Rattle.cspf_search.specs.declared.limits.TheConstants.{NO_WAY}
 use Rattle.cspf_search.specs.States.{State, steps, start_of, end_state}
 use Rattle.cspf_graph.specs.Roles.{MayTurn, IsStateIndex}
 use Rattle.cspf_search.specs.Settled.{RanksNoLater, AreSettled, Crosses, IsStuck, IsFirstCrossing}
-use Rattle.cspf_search.specs.Arena.{walk_of, state_of, same_state, index_of, labels_of, AreNodes, root_of}
+use Rattle.cspf_search.specs.Arena.{walk_of, walk_rank, state_of, same_state, index_of, labels_of, AreNodes, root_of}
 use Rattle.cspf_search.specs.Rounds.{CrossesBelow}
 use Rattle.cspf_search.specs.Bounds.{AreBounds, bound_at}
-use Rattle.cspf_search.specs.Frontier.{IsFloor, state_at, nowhere, node_of, walk_rank, no_rank, lift, IsBeyond, IsReached, IsLabel, is_settled, is_reached, is_unreached, HeapKey, heap_key_cmp, key_at, label_at, IsKey, IsLive, AreLabels, IsLeast}
+use Rattle.cspf_search.specs.Frontier.{IsFloor, state_at, nowhere, node_of, no_rank, lift, IsBeyond, IsReached, IsLabel, is_settled, is_reached, is_unreached, HeapKey, heap_key_cmp, key_at, label_at, IsKey, IsLive, AreLabels, IsLeast}
 use Rattle.cspf_graph.specs.Lists.{AreListed, IsIndexOf}
 use Rattle.cspf_search.proofs.Orders.{potentials_total, rank_from_walk}
 use Rattle.cspf_search.proofs.Settles.{no_way}

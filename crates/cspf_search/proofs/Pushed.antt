@@ -1,5 +1,5 @@
 -- How one more node changes what leads on, and the labels.
-use Rattle.std.proofs.Common.{◌≡◌, ◌≢◌, inl, inr, ℕ, ◌+◌, ◌<◌, Some, None, List, [], ◌∷◌, ◌++◌, length, set, slice_get, slice_index_or, refl, sym, ap, subst, ◌∙◌, arith}
+use Rattle.std.proofs.Common.{◌≡◌, ◌≢◌, inl, inr, ℕ, ◌+◌, ◌*◌, ◌^◌, ◌<◌, ◌≤◌, Some, None, List, [], ◌∷◌, ◌++◌, length, set, slice_get, slice_index_or, refl, sym, ap, subst, ◌∙◌, arith}
 use Rattle.std.proofs.lemmas.Bool.{cases_lt}
 use Rattle.std.proofs.lemmas.List.{get_or_append_left, get_or_push, length_push, get_or-set_other}
 use Rattle.std.proofs.lemmas.List.Quantifiers.{position-Some}
@@ -15,9 +15,9 @@ use Rattle.cspf_search.specs.declared.goal.Goal.{Goal}
 use Rattle.cspf_search.specs.declared.labels.Label.{Label}
 use Rattle.cspf_search.specs.States.{State}
 use Rattle.cspf_search.specs.Settled.{IsNoLater}
-use Rattle.cspf_search.specs.Arena.{walk_of, state_of, same_state, index_of, IsNext}
+use Rattle.cspf_search.specs.Arena.{walk_of, walk_rank, state_of, same_state, index_of, IsNext}
 use Rattle.cspf_search.specs.Rounds.{CrossesFrom, CrossesBelow}
-use Rattle.cspf_search.specs.Frontier.{state_at, nowhere, node_of, rank_of, IsLabel, is_settled, is_reached, is_unreached, HeapKey, key_at, label_at, lift, no_label, AreLabels, IsLeast}
+use Rattle.cspf_search.specs.Frontier.{state_at, nowhere, node_of, IsLabel, is_settled, is_reached, is_unreached, HeapKey, key_at, label_at, lift, no_label, AreLabels, IsLeast}
 use Rattle.cspf_graph.specs.Lists.{AreListed}
 use Rattle.cspf_search.proofs.Labelled.{walk_at-old, walk_of-old, same_state-true, index_at}
 use Rattle.cspf_search.proofs.Few.{AreApart}
@@ -140,11 +140,10 @@ module _ (nodes : List Node) (n : Node) (before : AreApart nodes) (apart : AreAp
       record {
         parent = omega (arith, next.parent, length_push nodes n);
         linked = next.linked;
-        numbered = record {
-          cost = next.numbered.cost ∙ ap cost_of (sym same);
-          links = next.numbered.links ∙ ap (λ (w : List Link). length w) (sym same);
-          few = omega (arith, next.numbered.few, length_push nodes n);
-          small = next.numbered.small;
+        ranked = record {
+          rank = next.ranked.rank ∙ ap walk_rank (sym same);
+          few = omega (arith, next.ranked.few, length_push nodes n, ap (λ (w : List Link). length w) same);
+          small = subst (λ w. cost_of w ≤ length w * 2 ^ 32) (sym same) next.ranked.small;
         };
       }
 
@@ -160,7 +159,7 @@ module _ (nodes : List Node) (n : Node) (before : AreApart nodes) (apart : AreAp
         is_reached (open_new t ne left) (record {
           place = r.place;
           parent = omega (arith, r.parent, length_push nodes n);
-          rank = r.rank ∙ ap rank_of (sym same);
+          rank = r.rank ∙ ap (λ (n : Node). n.rank) (sym same);
           state = ap state_of same ∙ r.state;
           next = subst (IsNext (nodes ++ (n ∷ []))) (sym same) (next_old (node_of d nodes label) r.next);
           passes =

@@ -21,16 +21,16 @@ use Rattle.cspf_search.specs.declared.goal.Goal.{Goal}
 use Rattle.cspf_search.specs.States.{State, LeadsOn}
 use Rattle.cspf_graph.specs.Roles.{MayEnter, MayTurn, IsStateIndex}
 use Rattle.cspf_search.specs.Settled.{IsNoLater, RanksNoLater, IsConsistent, locals_cmp, IsWithin}
-use Rattle.cspf_search.specs.Arena.{walk_at, walks, walk_of, AreNodes, IsNext}
+use Rattle.cspf_search.specs.Arena.{walk_at, walks, walk_of, walk_rank, AreNodes, IsNext}
 use Rattle.cspf_search.specs.Bounds.{bound_at, AreBounds}
 use Rattle.cspf_search.specs.Rounds.{CrossesFrom}
 use Rattle.cspf_search.proofs.Labelled.{position-None}
-use Rattle.cspf_search.specs.Frontier.{state_at, nowhere, rank_of, walk_rank, no_rank, lift, IsBeyond}
+use Rattle.cspf_search.specs.Frontier.{state_at, nowhere, no_rank, lift, IsBeyond}
 use Rattle.cspf_graph.specs.Lists.{AreListed}
 
 -- numbers of less than 16,384 links
 
-pub rank_parts : (a b m n : ℕ) → a * 16384 + m + 1 ≡ b * 16384 + n + 1 → m < 16384 → n < 16384 → (a ≡ b) × (m ≡ n)
+rank_parts : (a b m n : ℕ) → a * 16384 + m + 1 ≡ b * 16384 + n + 1 → m < 16384 → n < 16384 → (a ≡ b) × (m ≡ n)
 rank_parts a b m n e low high = (omega arith, omega arith)
 
 less_cost : (a b : ℕ) (o : Ordering) → a < b → is_gt (ordering_then (nat_cmp a b) o) ≡ false
@@ -83,34 +83,37 @@ module _ (potential : State → ℕ) (s t : State) (v w : List Link) (high : len
 -- nodes
 
 module _ (nodes : List Node) (are : AreNodes nodes) (n : Node) (next : IsNext nodes n) where
-  pub rank_is : rank_of n ≡ walk_rank (walk_of nodes n)
-  rank_is = omega (arith, next.numbered.cost, next.numbered.links)
+  pub rank_is : n.rank ≡ walk_rank (walk_of nodes n)
+  rank_is = next.ranked.rank
 
   pub walk_short : length (walk_of nodes n) < 16384
-  walk_short = omega (arith, next.numbered.links, next.numbered.few, are.most)
+  walk_short = omega (arith, next.ranked.few, are.most)
 
-  pub links_short : n.links < 16384
-  links_short = omega (arith, next.numbered.few, are.most)
+  pub rank_small : n.rank + 2 ^ 46 < no_rank
+  rank_small = omega (arith, next.ranked.rank, next.ranked.small, next.ranked.few, are.most)
 
-  pub rank_small : rank_of n + 2 ^ 46 < no_rank
-  rank_small = omega (arith, next.numbered.small, next.numbered.few, are.most)
+-- nodes of one rank have walks of as many links
+pub one_length : (nodes : List Node) → AreNodes nodes → (a b : Node) → IsNext nodes a → IsNext nodes b → a.rank ≡ b.rank → length (walk_of nodes a) ≡ length (walk_of nodes b)
+one_length nodes are a b x y tie =
+    (rank_parts (cost_of (walk_of nodes a)) (cost_of (walk_of nodes b)) (length (walk_of nodes a)) (length (walk_of nodes b)) (omega (arith, x.ranked.rank, y.ranked.rank, tie))
+    (walk_short nodes are a x) (walk_short nodes are b y)).1
 
 -- the rank of a node leaves room for a link
-pub rank_at : (nodes : List Node) → AreNodes nodes → (at : ℕ) → at < length nodes → rank_of (slice_index_or nodes at nowhere) < 2 ^ 60
+pub rank_at : (nodes : List Node) → AreNodes nodes → (at : ℕ) → at < length nodes → (slice_index_or nodes at nowhere).rank < 2 ^ 60
 rank_at nodes are at within =
-    let numbered = are.numbered at nowhere within in
-    omega (arith, numbered.small, numbered.few, are.most)
+    let ranked = are.ranked at nowhere within in
+    omega (arith, ranked.rank, ranked.small, ranked.few, are.most)
 
 -- a walk that leads on from nodes is short
 pub crossing_short : (d : Database) (q : Request) (nodes : List Node) → AreNodes nodes → (links : List Link) (at : ℕ) → at < length nodes → (w : List Link) (t : State)
     → CrossesFrom d q nodes links at w t → length w < 16384
 crossing_short d q nodes are links at within w t (inl turn) =
-    let numbered = are.numbered at nowhere within in
-    omega (arith, ap (λ (w : List Link). length w) turn.walk, numbered.links, numbered.few, are.most)
+    let ranked = are.ranked at nowhere within in
+    omega (arith, ap (λ (w : List Link). length w) turn.walk, ranked.few, are.most)
 crossing_short d q nodes are links at within w t (inr by) =
-    let numbered = are.numbered at nowhere within in
+    let ranked = are.ranked at nowhere within in
     let x = by.2 in
-    omega (arith, ap (λ (w : List Link). length w) x.walk, length_push (walk_at (walks nodes) at) by.0, numbered.links, numbered.few, are.most)
+    omega (arith, ap (λ (w : List Link). length w) x.walk, length_push (walk_at (walks nodes) at) by.0, ranked.few, are.most)
 
 pub beyond_lower : (cap lower ahead : ℕ) (w : List Link) → lower ≤ cap → IsBeyond cap ahead w → IsBeyond lower ahead w
 beyond_lower cap lower ahead w h beyond = record { known = omega (arith, beyond.known); behind = omega (arith, beyond.behind) }

@@ -19,7 +19,7 @@ use Rattle.cspf_graph.specs.Roles.{MayEnter, MayTurn, IsStateIndex, IsRole}
 use Rattle.cspf_search.specs.Arena.{walk_at, walks, walk_of, state_of, index_of, AreNodes, IsNext}
 use Rattle.cspf_search.specs.Rounds.{CrossesBy, Turns, CrossesBelow}
 use Rattle.cspf_search.specs.Source.{IsEdge, IsSource}
-use Rattle.cspf_search.specs.Frontier.{state_at, nowhere, node_by, node_of, rank_of, IsNodeAt, NodeMayLeave, IsOffer, AreTied, StaysAt, GoesTo, HeapKey, label_at, lift, AreLabels, CrossesUpTo}
+use Rattle.cspf_search.specs.Frontier.{state_at, nowhere, node_by, node_of, IsNodeAt, NodeMayLeave, IsOffer, AreTied, StaysAt, GoesTo, HeapKey, label_at, lift, AreLabels, CrossesUpTo}
 use Rattle.cspf_graph.specs.Lists.{AreListed, IsIndexOf, router_at}
 use Rattle.cspf_search.proofs.Ranks.{lift_small}
 use Rattle.cspf_search.proofs.Backs.{turned_next, by_next}
@@ -78,7 +78,7 @@ module _ (source : Source) (of : IsSource source) (labels : List Label) (keys : 
   -- a label of this source, of what a link leads to, or the turn where there is none
   module _ (label : Label) (by : Option Link) (parent : label.parent ≡ at) (place : label.place ≡ state % 1024)
       (here : slice_get (links_from_index d (state % 1024)) label.row ≡ by) (next : IsNext nodes (node_by at (slice_index_or nodes at nowhere) by))
-      (rank : label.rank ≡ rank_of (node_by at (slice_index_or nodes at nowhere) by)) where
+      (rank : label.rank ≡ (node_by at (slice_index_or nodes at nowhere) by).rank) where
     label_node : node_of d nodes label ≡ node_by at (slice_index_or nodes at nowhere) by
     label_node = rw (parent, place) (ap (node_by at (slice_index_or nodes at nowhere)) here)
 
@@ -89,8 +89,8 @@ module _ (source : Source) (of : IsSource source) (labels : List Label) (keys : 
       next = subst (IsNext nodes) (sym label_node) next;
     }
 
-    label_rank : label.rank ≡ rank_of (node_of d nodes label)
-    label_rank = rank ∙ ap rank_of (sym label_node)
+    label_rank : label.rank ≡ (node_of d nodes label).rank
+    label_rank = rank ∙ ap (λ (n : Node). n.rank) (sym label_node)
 
     label_tied : (P : List Link → State → Type 0) → AreLabels d q nodes P goal labels keys → (i : ℕ) → IsStateIndex d q i → goal.floor ≤ i → label.rank ≡ (label_at labels i).rank
         → AreTied d nodes (label_at labels i) label
@@ -121,7 +121,7 @@ module _ (source : Source) (of : IsSource source) (labels : List Label) (keys : 
     turned = turned_next d q nodes are at is.within (slice_index_or nodes at nowhere) (there d q nodes at state is)
 
     pub turn_late : state / 1024 < length q.hops
-        → ((label_at labels (state + 1024)).rank < rank_of (slice_index_or nodes at nowhere)) ⊎ ((label_at labels goal.at).rank < rank_of (slice_index_or nodes at nowhere) + lift goal (state + 1024))
+        → ((label_at labels (state + 1024)).rank < (slice_index_or nodes at nowhere).rank) ⊎ ((label_at labels goal.at).rank < (slice_index_or nodes at nowhere).rank + lift goal (state + 1024))
         → AreLabels d q nodes (CrossesUpTo d q nodes at (state % 1024) 0) goal labels keys
     turn_late h late =
         labels_stay d q nodes are listed (CrossesBelow d q nodes (links_of d) at) (Turns d q nodes at) (CrossesUpTo d q nodes at (state % 1024) 0)
@@ -133,7 +133,7 @@ module _ (source : Source) (of : IsSource source) (labels : List Label) (keys : 
         (node_by at (slice_index_or nodes at nowhere) None) turned (lift_small goal (state + 1024) (before.small (state + 1024))) late))
 
     module _ (label : Label) (parent : label.parent ≡ at) (place : label.place ≡ state % 1024) (row : label.row ≡ 65535)
-        (rank : label.rank ≡ rank_of (slice_index_or nodes at nowhere)) where
+        (rank : label.rank ≡ (slice_index_or nodes at nowhere).rank) where
       past : slice_get (links_from_index d (state % 1024)) label.row ≡ None
       past = rw row (slice_get_past (links_from_index d (state % 1024)) 65535 (omega (arith, few_rows d listed (state % 1024))))
 
@@ -193,13 +193,13 @@ module _ (source : Source) (of : IsSource source) (labels : List Label) (keys : 
         ])
         goal labels keys before
 
-    pub link_late : ((label_at labels (state - state % 1024 + end)).rank < rank_of (slice_index_or nodes at nowhere) + l.metric * 16384 + 1)
-        ⊎ ((label_at labels goal.at).rank < rank_of (slice_index_or nodes at nowhere) + l.metric * 16384 + 1 + lift goal (state - state % 1024 + end))
+    pub link_late : ((label_at labels (state - state % 1024 + end)).rank < (slice_index_or nodes at nowhere).rank + l.metric * 16384 + 1)
+        ⊎ ((label_at labels goal.at).rank < (slice_index_or nodes at nowhere).rank + l.metric * 16384 + 1 + lift goal (state - state % 1024 + end))
         → AreLabels d q nodes (CrossesUpTo d q nodes at (state % 1024) (row + 1)) goal labels keys
     link_late late =
         let n : Node = node_by at (slice_index_or nodes at nowhere) (Some l) in
-        let rank : rank_of n ≡ rank_of (slice_index_or nodes at nowhere) + l.metric * 16384 + 1 = omega arith in
-        let behind : ((label_at labels (state - state % 1024 + end)).rank < rank_of n) ⊎ ((label_at labels goal.at).rank < rank_of n + lift goal (state - state % 1024 + end)) =
+        let rank : n.rank ≡ (slice_index_or nodes at nowhere).rank + l.metric * 16384 + 1 = omega arith in
+        let behind : ((label_at labels (state - state % 1024 + end)).rank < n.rank) ⊎ ((label_at labels goal.at).rank < n.rank + lift goal (state - state % 1024 + end)) =
         elim late [ inl a ↦ inl (omega (arith, a, rank)) | inr b ↦ inr (omega (arith, b, rank)) ] in
         labels_stay d q nodes are listed (CrossesUpTo d q nodes at (state % 1024) row) (CrossesBy d q nodes at l) (CrossesUpTo d q nodes at (state % 1024) (row + 1))
         (link_left d q nodes at state is row l here end ends listed.few) (link_right d q nodes at state is row l here end ends listed.few)
@@ -209,11 +209,11 @@ module _ (source : Source) (of : IsSource source) (labels : List Label) (keys : 
         (label_at labels (state - state % 1024 + end)) n along (lift_small goal (state - state % 1024 + end) (before.small (state - state % 1024 + end))) behind)
 
     module _ (label : Label) (parent : label.parent ≡ at) (place : label.place ≡ state % 1024) (at_row : label.row ≡ row)
-        (rank : label.rank ≡ rank_of (slice_index_or nodes at nowhere) + l.metric * 16384 + 1) where
+        (rank : label.rank ≡ (slice_index_or nodes at nowhere).rank + l.metric * 16384 + 1) where
       there_is : slice_get (links_from_index d (state % 1024)) label.row ≡ Some l
       there_is = rw at_row here
 
-      link_rank : label.rank ≡ rank_of (node_by at (slice_index_or nodes at nowhere) (Some l))
+      link_rank : label.rank ≡ (node_by at (slice_index_or nodes at nowhere) (Some l)).rank
       link_rank = omega (arith, rank)
 
       pub link_offer : IsOffer d nodes label

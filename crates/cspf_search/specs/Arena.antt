@@ -5,6 +5,7 @@ use Rattle.cspf_model.specs.declared.link.Link.{Link}
 use Rattle.cspf_model.specs.declared.request.Request.{Request}
 use Rattle.cspf_model.specs.Walks.{cost_of}
 use Rattle.cspf_search.specs.declared.arena.Node.{Node}
+use Rattle.cspf_search.specs.declared.limits.TheConstants.{COST_WEIGHT}
 use Rattle.cspf_search.specs.States.{State}
 use Rattle.cspf_search.specs.Settled.{Labels}
 
@@ -46,17 +47,20 @@ index_of nodes s = position (λ n. same_state (state_of n) s) nodes
 abbrev pub labels_of : List Node → Labels
 labels_of nodes s = option_map (λ i. walk_at (walks nodes) i) (index_of nodes s)
 
--- The numbers that a node has of its walk, at its index. Each link and each turn to a leg took one
+-- by cost, and then by the number of links, as one number above 0
+abbrev pub walk_rank : List Link → ℕ
+walk_rank w = cost_of w * COST_WEIGHT + length w + 1
+
+-- The rank that a node has is that of its walk. At its index each link and each turn to a leg took one
 -- node, so there are no more links and legs than nodes up to this one.
-pub record IsNumbered (n : Node) (walk : List Link) (index : ℕ) : Type 0 where
-  pub cost : n.cost ≡ cost_of walk
-  pub links : n.links ≡ length walk
-  pub few : n.links + n.leg ≤ index + 1
-  pub small : n.cost ≤ n.links * 2 ^ 32
+pub record IsRanked (n : Node) (walk : List Link) (index : ℕ) : Type 0 where
+  pub rank : n.rank ≡ walk_rank walk
+  pub few : length walk + n.leg ≤ index + 1
+  pub small : cost_of walk ≤ length walk * 2 ^ 32
 
 -- a node has a last link where its walk has a link
 abbrev pub HasLast : Node → Type 0
-HasLast n = 0 < n.links → IsSome n.by
+HasLast n = 1 < n.rank → IsSome n.by
 
 -- the first node: it has no link, and is its own parent
 pub record IsRoot (n : Node) : Type 0 where
@@ -74,15 +78,15 @@ pub record AreNodes (nodes : List Node) : Type 0 where
   pub back : (i : ℕ) (d : Node) → 0 < i → i < length nodes → (slice_index_or nodes i d).parent < i
   pub grown : (i : ℕ) (d : Node) → i < length nodes
       → walk_at (walks nodes) i ≡ walk_of nodes (slice_index_or nodes i d)
-  pub numbered : (i : ℕ) (d : Node) → i < length nodes
-      → IsNumbered (slice_index_or nodes i d) (walk_at (walks nodes) i) i
+  pub ranked : (i : ℕ) (d : Node) → i < length nodes
+      → IsRanked (slice_index_or nodes i d) (walk_at (walks nodes) i) i
   pub apart : AllPairs (λ m n. same_state (state_of m) (state_of n) ≡ false) nodes
 
 -- a node that may be appended to the others
 pub record IsNext (nodes : List Node) (n : Node) : Type 0 where
   pub parent : n.parent < length nodes
   pub linked : HasLast n
-  pub numbered : IsNumbered n (walk_of nodes n) (length nodes)
+  pub ranked : IsRanked n (walk_of nodes n) (length nodes)
 
 -- the node is in a leg of the request
 pub record IsInLeg (q : Request) (n : Node) : Type 0 where
@@ -95,4 +99,4 @@ AreInLegs q nodes = All (IsInLeg q) nodes
 
 -- the node of the start
 abbrev pub root_of : Request → Node
-root_of q = record { parent = 0; by = None; leg = 1; router = q.from; cost = 0; links = 0 }
+root_of q = record { parent = 0; by = None; leg = 1; router = q.from; rank = 1 }

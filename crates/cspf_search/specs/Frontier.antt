@@ -11,7 +11,6 @@ use Rattle.cspf_model.specs.declared.link.Link.{Link}
 use Rattle.cspf_model.specs.declared.request.Request.{Request}
 use Rattle.cspf_model.specs.Database.{Database}
 use Rattle.cspf_model.specs.Admissible.{MayLeave}
-use Rattle.cspf_model.specs.Walks.{cost_of}
 use Rattle.cspf_db.specs.Index.{router_list, links_of, links_from_index}
 use Rattle.cspf_search.specs.declared.arena.Node.{Node}
 use Rattle.cspf_search.specs.declared.goal.Goal.{Goal}
@@ -21,7 +20,7 @@ use Rattle.cspf_search.specs.States.{State}
 use Rattle.cspf_graph.specs.Roles.{IsStateIndex}
 use Rattle.cspf_graph.specs.RoleSteps.{nothing}
 use Rattle.cspf_search.specs.Settled.{Labels, IsNoLater, IsClosed, locals_cmp}
-use Rattle.cspf_search.specs.Arena.{walk_at, walks, walk_of, state_of, index_of, IsNext}
+use Rattle.cspf_search.specs.Arena.{walk_at, walks, walk_of, walk_rank, state_of, index_of, IsNext}
 use Rattle.cspf_search.specs.Rounds.{CrossesFrom, CrossesBelow}
 
 -- the state at an index: 1,024 indexes for each leg, and among them the router at its index in
@@ -31,7 +30,7 @@ state_at d i = record { leg = i / MOST_ROUTERS + 1; router = slice_index (router
 
 -- a default node for the indexes past the end of a list
 abbrev pub nowhere : Node
-nowhere = record { parent = 0; by = None; leg = 0; router = 0; cost = 0; links = 0 }
+nowhere = record { parent = 0; by = None; leg = 0; router = 0; rank = 1 }
 
 -- the node that a link leads to from a node, or the turn to the next leg where there is no link
 abbrev pub node_by : ℕ → Node → Option Link → Node
@@ -40,16 +39,14 @@ node_by at from (Some l) = record {
   by = Some l;
   leg = from.leg;
   router = l.to;
-  cost = from.cost + l.metric;
-  links = from.links + 1;
+  rank = from.rank + l.metric * COST_WEIGHT + 1;
 }
 node_by at from None = record {
   parent = from.parent;
   by = from.by;
   leg = from.leg + 1;
   router = from.router;
-  cost = from.cost;
-  links = from.links;
+  rank = from.rank;
 }
 
 -- the node that a label describes
@@ -57,13 +54,6 @@ abbrev pub node_of : Database → List Node → Label → Node
 node_of d nodes label =
     node_by label.parent (slice_index_or nodes label.parent nowhere)
     (slice_get (links_from_index d label.place) label.row)
-
--- by cost, and then by the number of links, as one number above 0
-abbrev pub rank_of : Node → ℕ
-rank_of n = n.cost * COST_WEIGHT + n.links + 1
-
-abbrev pub walk_rank : List Link → ℕ
-walk_rank w = cost_of w * COST_WEIGHT + length w + 1
 
 -- the rank of a state that nothing led to yet
 abbrev pub no_rank : ℕ
@@ -84,7 +74,7 @@ pub record IsReached (d : Database) (nodes : List Node) (P : List Link → State
     (cap ahead : ℕ) (t : State) (label : Label) : Type 0 where
   pub place : label.place < length (router_list d)
   pub parent : label.parent < length nodes
-  pub rank : label.rank ≡ rank_of (node_of d nodes label)
+  pub rank : label.rank ≡ (node_of d nodes label).rank
   pub state : state_of (node_of d nodes label) ≡ t
   pub next : IsNext nodes (node_of d nodes label)
   pub passes : P (walk_of nodes (node_of d nodes label)) t
@@ -183,10 +173,10 @@ pub record IsOffer (d : Database) (nodes : List Node) (label : Label) : Type 0 w
   pub parent : label.parent < length nodes
   pub next : IsNext nodes (node_of d nodes label)
 
--- two labels of one rank have as many links
+-- two labels describe nodes of one rank
 pub record AreTied (d : Database) (nodes : List Node) (old label : Label) : Type 0 where
   pub other : IsOffer d nodes old
-  pub links : (node_of d nodes old).links ≡ (node_of d nodes label).links
+  pub rank : (node_of d nodes old).rank ≡ (node_of d nodes label).rank
 
 -- one key more
 pub record Gains (key : HeapKey) (old new : List HeapKey) : Type 0 where

@@ -11,8 +11,8 @@ use Rattle.cspf_search.specs.States.{State}
 use Rattle.cspf_search.specs.Rounds.{CrossesFrom}
 use Rattle.cspf_search.specs.declared.rounds.Look.{Look}
 use Rattle.cspf_search.specs.declared.rounds.Round.{Round}
-use Rattle.cspf_search.specs.Arena.{AreNodes, AreInLegs, state_of}
-use Rattle.cspf_search.specs.Frontier.{IsNodeAt, no_rank, nowhere, rank_of, walk_rank}
+use Rattle.cspf_search.specs.Arena.{AreNodes, AreInLegs, state_of, walk_rank}
+use Rattle.cspf_search.specs.Frontier.{IsNodeAt, no_rank, nowhere}
 use Rattle.cspf_search.specs.ForwardStars.{AreForwardStars, AreStateMarks, IsForwardStar}
 use Rattle.cspf_search.specs.Query.{IsQuery}
 
@@ -41,7 +41,7 @@ LeadsToRow look row =
 -- the rank of a node, and more than any where there is none
 abbrev pub low_of : Option Node → ℕ
 low_of None = no_rank
-low_of (Some n) = rank_of n
+low_of (Some n) = n.rank
 
 -- nothing that leads on from the node at an index ranks below a number, and nothing leads on where
 -- that is more than any rank

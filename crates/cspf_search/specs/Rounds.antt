@@ -63,7 +63,3 @@ earlier_of nodes None b = b
 earlier_of nodes (Some a) None = Some a
 earlier_of nodes (Some a) (Some b) =
     if is_gt (state_cmp (a.leg, walk_of nodes a) (b.leg, walk_of nodes b)) then Some b else Some a
-
--- by its cost and its number of links a node is before any of this cost with this many
-abbrev pub RanksBefore : Node → ℕ → ℕ → Type 0
-RanksBefore n cost links = (n.cost < cost) ⊎ ((n.cost ≡ cost) × (n.links < links))

@@ -6,7 +6,7 @@ use Rattle.cspf_search.specs.declared.edge.Edge.{Edge}
 use Rattle.cspf_search.specs.declared.frontier.Source.{Source}
 use Rattle.cspf_search.specs.declared.labels.Label.{Label}
 use Rattle.cspf_search.specs.Arena.{AreNodes}
-use Rattle.cspf_search.specs.Frontier.{AreLabels, IsNodeAt, HeapKey, nowhere, rank_of}
+use Rattle.cspf_search.specs.Frontier.{AreLabels, IsNodeAt, HeapKey, nowhere}
 use Rattle.cspf_graph.specs.Lists.{IsIndexOf}
 use Rattle.cspf_graph.specs.Roles.{IsStateIndex}
 use Rattle.cspf_search.specs.Query.{IsQuery, CrossesBefore, CrossesToRow}
@@ -18,7 +18,7 @@ pub record IsSource (source : Source) : Type 0 where
   pub behind : source.goal.floor ≤ source.state
   pub arena : AreNodes source.nodes.now
   pub node : IsNodeAt source.query.table.now source.query.request.now source.nodes.now source.at source.state
-  pub rank : source.rank ≡ rank_of (slice_index_or source.nodes.now source.at nowhere)
+  pub rank : source.rank ≡ (slice_index_or source.nodes.now source.at nowhere).rank
 
 -- a link from the router at an index
 pub record IsEdge (d : Database) (place : ℕ) (edge : Edge) : Type 0 where

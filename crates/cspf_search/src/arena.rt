@@ -1,41 +1,66 @@
 //! The settled walks of a search. Each node has the last link of its walk and the index of the
 //! node before it, so no walk is copied.
 
-ghost use Rattle.std.specs.Prelude.{◌≡◌, ◌<◌, IfOk, length};
+ghost use Rattle.cspf_search.specs.declared.limits.TheConstants.{COST_WEIGHT};
+ghost use Rattle.std.specs.Prelude.{◌≡◌, ◌-◌, ◌/◌, ◌%◌, ◌<◌, IfOk, length};
+ghost use Rattle.cspf_model.specs.Walks.{cost_of};
 ghost use Rattle.cspf_search.specs.Settled.{locals_cmp};
 ghost use Rattle.cspf_search.specs.Arena.{AreNodes, IsNext, index_of, walk_at, walk_of, walks};
 
 use crate::last::Last;
+use crate::limits::COST_WEIGHT;
 use cspf_addr::Addr;
 use cspf_model::Link;
 use std::alloc::{AllocError, Global};
 use std::cmp::Ordering;
 
 /// A walk that the search has settled at its state: its last link, and the node of the walk before
-/// that link.
+/// that link. It has 24 bytes.
 #[derive(Drop)]
 pub(crate) struct Node<'a> {
-    /// The index of the node whose walk is this one without its last link.
-    pub(crate) parent: usize,
+    /// The rank of the walk: its cost and its number of links as one number above 0.
+    pub(crate) rank: u64,
     /// The last link. A walk of no links has none.
     pub(crate) by: Last<'a>,
-    /// The leg of the request that the walk has reached, from 1.
-    pub(crate) leg: usize,
     /// The router that the walk has reached.
     pub(crate) router: Addr,
-    /// The cost of the walk.
-    pub(crate) cost: u64,
-    /// The number of links of the walk.
-    pub(crate) links: usize,
+    /// The index of the node whose walk is this one without its last link.
+    pub(crate) parent: u16,
+    /// The leg of the request that the walk has reached, from 1.
+    pub(crate) leg: u16,
+}
+
+/// The number of links in a rank.
+fn links_in(rank: u64) -> usize
+    requires { 0 < rank }
+    ensures { result ≡ (rank - 1) % COST_WEIGHT }
+{
+    ((rank - 1) % COST_WEIGHT) as usize
+}
+
+/// The number of links of the walk of the node at an index.
+pub(crate) fn links_at(nodes: &[Node<'_>], at: usize) -> usize
+    requires arena { AreNodes nodes.now }
+    requires within { at < length nodes.now }
+    ensures { result ≡ length (walk_at (walks nodes.now) at) }
+{
+    links_in(nodes[at].rank)
+}
+
+/// The cost of the walk of the node at an index.
+pub(crate) fn cost_at(nodes: &[Node<'_>], at: usize) -> u64
+    requires arena { AreNodes nodes.now }
+    requires within { at < length nodes.now }
+    ensures { result ≡ cost_of (walk_at (walks nodes.now) at) }
+{
+    (nodes[at].rank - 1) / COST_WEIGHT
 }
 
 /// The index of the node at a router in a leg, if there is one.
 pub(crate) fn index_of(nodes: &[Node<'_>], leg: usize, router: Addr) -> Option<usize>
     ensures { result ≡ index_of nodes.now (record { leg = leg; router = router }) }
 {
-    nodes
-        .iter()
-        .position(|node| node.leg == leg && node.router == router)
+    nodes.iter().position(|node| usize::from(node.leg) == leg && node.router == router)
 }
 
 /// The links of the walk of the node at an index, in order.
@@ -48,11 +73,11 @@ pub(crate) fn links_to(
     requires within { at < length nodes.now }
     ensures { IfOk result (λ links. links.items ≡ walk_at (walks nodes.now) at) }
 {
-    let mut links = Vec::with_capacity(alloc, nodes[at].links)?;
+    let mut links = Vec::with_capacity(alloc, links_at(nodes, at))?;
     let mut index = at;
     while let Some(link) = nodes[index].by.get() {
         links.push(*link)?;
-        index = nodes[index].parent;
+        index = usize::from(nodes[index].parent);
     }
     links.reverse();
     Ok(links)
@@ -64,10 +89,10 @@ pub(crate) fn locals<'a>(nodes: &[Node<'a>], a: &Node<'a>, b: &Node<'a>) -> Orde
     requires arena { AreNodes nodes.now }
     requires first { IsNext nodes.now a.now }
     requires second { IsNext nodes.now b.now }
-    requires as_many { a.now.links ≡ b.now.links }
+    requires as_many { length (walk_of nodes.now a.now) ≡ length (walk_of nodes.now b.now) }
     ensures { result ≡ locals_cmp (walk_of nodes.now a.now) (walk_of nodes.now b.now) }
 {
-    let count = a.links;
+    let count = links_in(a.rank);
     let mut found = Ordering::Equal;
     let mut x = a;
     let mut y = b;
@@ -79,8 +104,8 @@ pub(crate) fn locals<'a>(nodes: &[Node<'a>], a: &Node<'a>, b: &Node<'a>) -> Orde
         if x.parent == y.parent {
             return found;
         }
-        x = &nodes[x.parent];
-        y = &nodes[y.parent];
+        x = &nodes[usize::from(x.parent)];
+        y = &nodes[usize::from(y.parent)];
     }
     found
 }

@@ -34,7 +34,7 @@ pub(crate) fn star_of<'a>(table: &'a Table, node: &Node<'_>) -> ForwardStar<'a>
         unreachable!();
     };
     ForwardStar {
-        state: (node.leg - 1) * MOST_ROUTERS + place,
+        state: (usize::from(node.leg) - 1) * MOST_ROUTERS + place,
         links: table.out_at(place),
         ends: table.ends_at(place),
         reverses: table.reverses_at(place),

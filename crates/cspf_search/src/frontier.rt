@@ -6,14 +6,14 @@ ghost use Rattle.std.specs.BinaryHeap.{heap_items, heap_len};
 ghost use Rattle.cspf_db.specs.Index.{links_of, links_from_index};
 ghost use Rattle.cspf_search.specs.Arena.{AreNodes, AreInLegs, walk_of};
 ghost use Rattle.cspf_search.specs.Rounds.{CrossesBelow};
-ghost use Rattle.cspf_search.specs.Frontier.{AreLabels, AreTied, CrossesUpTo, GoesTo, IsNodeAt, IsOffer, NodeMayLeave, StaysAt, label_at, node_of, nowhere, rank_of};
+ghost use Rattle.cspf_search.specs.Frontier.{AreLabels, AreTied, CrossesUpTo, GoesTo, IsNodeAt, IsOffer, NodeMayLeave, StaysAt, label_at, node_of, nowhere};
 ghost use Rattle.cspf_search.specs.Settled.{locals_cmp};
 ghost use Rattle.cspf_graph.specs.Lists.{AreListed, IsIndexOf};
 ghost use Rattle.cspf_graph.specs.Roles.{AreRoles, IsStateIndex};
 ghost use Rattle.cspf_search.specs.Source.{AreBefore, AreUpToRow, IsEdge, IsSource};
 ghost use Rattle.cspf_search.specs.Query.{IsQuery, CrossesBefore};
 
-use crate::arena::{Node, locals};
+use crate::arena::{Node, links_at, locals};
 use crate::edge::Edge;
 use crate::goal::{Goal, lift};
 use crate::labels::{Label, Waiting, link_of, node_of, put};
@@ -40,13 +40,13 @@ struct Source<'a> {
     at: usize,
     /// The index of its state.
     state: usize,
-    /// Its cost and its number of links as one number.
+    /// Its rank.
     rank: u64,
 }
 
-/// Compares the local addresses of the walks of two labels with the same number of links, from the
-/// first link on. From one node their last links decide. Only where one of them is a turn to the
-/// next leg are their nodes made.
+/// Compares the local addresses of the walks of two labels of one rank, from the first link on.
+/// From one node their last links decide. Only where one of them is a turn to the next leg are
+/// their nodes made.
 fn compare_tied<'a>(table: &'a Table, nodes: &[Node<'a>], a: &Label, b: &Label) -> Ordering
     requires arena { AreNodes nodes.now }
     requires offered { IsOffer table.now nodes.now b.now }
@@ -205,8 +205,8 @@ pub(crate) fn expand(
         goal.entry labels.new (heap_items heap.new)) }
     ensures few { OnOk result (heap_len heap.new ≤ heap_len heap.old + 1 + MOST_LINKS) }
 {
-    let count = nodes[at].links;
-    let rank = nodes[at].cost * COST_WEIGHT + count as u64 + 1;
+    let count = links_at(nodes, at);
+    let rank = nodes[at].rank;
     let source = Source {
         query,
         goal,

@@ -9,6 +9,7 @@ ghost use Rattle.cspf_search.specs.Arena.{AreNodes};
 ghost use Rattle.cspf_search.specs.Frontier.{lift, node_of, key_at, heap_key_cmp, Gains, IsKey, IsLeast, IsLive, IsOpenOf, HeapKey};
 
 use crate::arena::Node;
+use crate::edge::weight;
 use crate::goal::{Goal, lift};
 use crate::last::Last;
 use crate::limits::ROOM_FOR_WAITING;
@@ -68,24 +69,21 @@ pub(crate) fn node_of<'a>(table: &'a Table, nodes: &[Node<'a>], label: &Label) -
     requires place { label.now.place < length (router_list table.now) }
     ensures { result ≡ node_of table.now nodes.now label.now }
 {
-    let at = usize::from(label.parent);
-    let from = &nodes[at];
+    let from = &nodes[usize::from(label.parent)];
     match link_of(table, label) {
         Some(link) => Node {
-            parent: at,
+            rank: from.rank + weight(link) + 1,
             by: Last { link: Some(link) },
-            leg: from.leg,
             router: link.to,
-            cost: from.cost + u64::from(link.metric),
-            links: from.links + 1,
+            parent: label.parent,
+            leg: from.leg,
         },
         None => Node {
-            parent: from.parent,
+            rank: from.rank,
             by: from.by.same(),
-            leg: from.leg + 1,
             router: from.router,
-            cost: from.cost,
-            links: from.links,
+            parent: from.parent,
+            leg: from.leg + 1,
         },
     }
 }

@@ -6,19 +6,18 @@ ghost use Rattle.std.specs.Option.{ForSome, IsSomeAnd};
 ghost use Rattle.cspf_db.specs.Index.{links_of, links_from_index};
 ghost use Rattle.cspf_search.specs.Settled.{state_cmp};
 ghost use Rattle.cspf_search.specs.Arena.{AreNodes, AreInLegs, IsNext, state_of, index_of, walk_of};
-ghost use Rattle.cspf_search.specs.Rounds.{CrossesFrom, IsFirst, RanksBefore, earlier_of};
+ghost use Rattle.cspf_search.specs.Rounds.{CrossesFrom, IsFirst, earlier_of};
 ghost use Rattle.cspf_graph.specs.Lists.{AreListed, IsIndexOf};
 ghost use Rattle.cspf_graph.specs.Roles.{AreRoles};
-ghost use Rattle.cspf_search.specs.Frontier.{IsNodeAt, NodeMayLeave, no_rank, nowhere, rank_of, state_at};
+ghost use Rattle.cspf_search.specs.Frontier.{IsNodeAt, NodeMayLeave, no_rank, nowhere, state_at};
 ghost use Rattle.cspf_search.specs.Query.{CrossesBefore};
 ghost use Rattle.cspf_search.specs.RoundSteps.{AreLows, IsLook, IsRound, LeadsToRow, low_of};
 ghost use Rattle.cspf_search.specs.Source.{IsEdge};
 
-use crate::arena::{Node, locals};
-use crate::edge::Edge;
+use crate::arena::{Node, links_at, locals};
+use crate::edge::{Edge, weight};
 use crate::forward_star::ForwardStar;
 use crate::last::Last;
-use crate::limits::COST_WEIGHT;
 use crate::query::Query;
 use cspf_db::{NO_LINK, Table};
 use cspf_graph::{accepts, may_leave_at};
@@ -26,7 +25,7 @@ use cspf_model::{Link, MOST_ROUTERS, Request};
 use std::cmp::Ordering;
 
 /// Compares two nodes: by the cost of their walks, then by the number of links, then by the leg,
-/// then by the local addresses from the first link on.
+/// then by the local addresses from the first link on. Their ranks have the first two.
 fn compare<'a>(nodes: &[Node<'a>], a: &Node<'a>, b: &Node<'a>) -> Ordering
     requires arena { AreNodes nodes.now }
     requires first { IsNext nodes.now a.now }
@@ -34,22 +33,19 @@ fn compare<'a>(nodes: &[Node<'a>], a: &Node<'a>, b: &Node<'a>) -> Ordering
     ensures { result ≡ state_cmp (a.now.leg, walk_of nodes.now a.now)
         (b.now.leg, walk_of nodes.now b.now) }
 {
-    let rank = a
-        .cost
-        .cmp(&b.cost)
-        .then(a.links.cmp(&b.links).then(a.leg.cmp(&b.leg)));
-    if rank.is_ne() {
-        return rank;
+    let order = a.rank.cmp(&b.rank).then(a.leg.cmp(&b.leg));
+    if order.is_ne() {
+        return order;
     }
     locals(nodes, a, b)
 }
 
-/// Whether the best node ranks before any node of this cost and this number of links.
-fn is_late(best: &Option<Node<'_>>, cost: u64, links: usize) -> bool
-    ensures { IsTrue result ↔ IsSomeAnd best.now (λ kept. RanksBefore kept cost links) }
+/// Whether the best node ranks before any node of this rank.
+fn is_late(best: &Option<Node<'_>>, rank: u64) -> bool
+    ensures { IsTrue result ↔ IsSomeAnd best.now (λ kept. kept.rank < rank) }
 {
     match best {
-        Some(kept) => kept.cost < cost || (kept.cost == cost && kept.links < links),
+        Some(kept) => kept.rank < rank,
         None => false,
     }
 }
@@ -114,12 +110,11 @@ fn look_at_turn<'b>(look: Look<'_, 'b>) -> Option<Node<'b>>
     }
     let from = &nodes[look.at];
     Some(Node {
-        parent: from.parent,
+        rank: from.rank,
         by: from.by.same(),
-        leg: from.leg + 1,
         router: from.router,
-        cost: from.cost,
-        links: from.links,
+        parent: from.parent,
+        leg: from.leg + 1,
     })
 }
 
@@ -138,9 +133,8 @@ fn look_at_link<'b>(look: Look<'_, 'b>, edge: Edge<'b>, best: &mut Option<Node<'
 {
     let (nodes, state) = (look.nodes, look.star.state);
     let from = &nodes[look.at];
-    let cost = from.cost + u64::from(edge.link.metric);
-    let count = from.links + 1;
-    if is_late(best, cost, count) {
+    let rank = from.rank + weight(edge.link) + 1;
+    if is_late(best, rank) {
         return;
     }
     let role = look.query.roles[state - state % MOST_ROUTERS + edge.end];
@@ -151,14 +145,13 @@ fn look_at_link<'b>(look: Look<'_, 'b>, edge: Edge<'b>, best: &mut Option<Node<'
         return;
     }
     let node = Node {
-        parent: look.at,
+        rank,
         by: Last {
             link: Some(edge.link),
         },
-        leg: from.leg,
         router: edge.link.to,
-        cost,
-        links: count,
+        parent: look.at as u16,
+        leg: from.leg,
     };
     keep(nodes, best, node);
 }
@@ -199,7 +192,8 @@ fn look_from<'b>(look: Look<'_, 'b>) -> Option<Node<'b>>
 {
     let mut best = look_at_turn(look);
     let place = look.star.state % MOST_ROUTERS;
-    if !may_leave_at(look.query.table, place, look.nodes[look.at].links as u32) {
+    let count = links_at(look.nodes, look.at);
+    if !may_leave_at(look.query.table, place, count as u32) {
         return best;
     }
     for row in 0..look.star.links.len() {
@@ -209,25 +203,21 @@ fn look_from<'b>(look: Look<'_, 'b>) -> Option<Node<'b>>
 }
 
 /// The rank of the node, if there is one, and else more than any rank.
-fn low_of(nodes: &[Node<'_>], found: &Option<Node<'_>>) -> u64
-    requires arena { AreNodes nodes.now }
-    requires next { ForSome found.now (IsNext nodes.now) }
+fn low_of(found: &Option<Node<'_>>) -> u64
     ensures { result ≡ low_of found.now }
 {
     match found {
-        Some(node) => node.cost * COST_WEIGHT + node.links as u64 + 1,
+        Some(node) => node.rank,
         None => u64::MAX,
     }
 }
 
 /// Whether all that leads on from a node comes after the best one, where none of it ranks below the
 /// number.
-fn is_passed(nodes: &[Node<'_>], best: &Option<Node<'_>>, low: u64) -> bool
-    requires arena { AreNodes nodes.now }
-    requires next { ForSome best.now (IsNext nodes.now) }
+fn is_passed(best: &Option<Node<'_>>, low: u64) -> bool
     ensures { result ≡ true → (low ≡ no_rank) ⊎ (low_of best.now < low) }
 {
-    low == u64::MAX || low_of(nodes, best) < low
+    low == u64::MAX || low_of(best) < low
 }
 
 /// Keeps a node in place of the best one, if there is one and it comes before that.
@@ -255,7 +245,7 @@ pub(crate) fn first<'b>(round: Round<'_, 'b>, lows: &mut Vec<u64>) -> Option<Nod
 {
     let mut best = None;
     for at in 0..round.nodes.len() {
-        if is_passed(round.nodes, &best, lows[at]) {
+        if is_passed(&best, lows[at]) {
             continue;
         }
         let look = Look {
@@ -266,7 +256,7 @@ pub(crate) fn first<'b>(round: Round<'_, 'b>, lows: &mut Vec<u64>) -> Option<Nod
             star: round.stars[at],
         };
         let found = look_from(look);
-        lows[at] = low_of(round.nodes, &found);
+        lows[at] = low_of(&found);
         keep_found(round.nodes, &mut best, found);
     }
     best

@@ -21,7 +21,7 @@ ghost use Rattle.cspf_search.specs.RoundSteps.{AreLows, IsRound};
 ghost use Rattle.cspf_search.specs.Searched.{IsSearched};
 ghost use Rattle.cspf_search.specs.Trees.{IsTree};
 
-use crate::arena::{Node, index_of, links_to};
+use crate::arena::{Node, cost_at, index_of, links_to};
 use crate::bounds::bounds;
 use crate::floor::raised;
 use crate::forward_star::star_of;
@@ -45,12 +45,11 @@ fn rooted<'a>(alloc: Global, request: &'a Request) -> Result<Vec<Node<'a>>, Allo
     ensures { IfOk result (λ nodes. nodes.items ≡ root_of request.now ∷ []) }
 {
     let root = Node {
-        parent: 0,
+        rank: 1,
         by: Last { link: None },
-        leg: 1,
         router: request.from,
-        cost: 0,
-        links: 0,
+        parent: 0,
+        leg: 1,
     };
     let mut nodes = Vec::with_capacity(alloc, ROOM_FOR_NODES)?;
     nodes.push(root)?;
@@ -116,7 +115,7 @@ fn route_to(alloc: Global, nodes: &[Node<'_>], at: usize) -> Result<Route, Alloc
     ensures { IfOk result (λ route. route ≡ walk_at (walks nodes.now) at) }
 {
     let links = links_to(alloc, nodes, at)?;
-    Ok(Route::new(links, nodes[at].cost))
+    Ok(Route::new(links, cost_at(nodes, at)))
 }
 
 /// Whether the bounds say that there is no way from the state at an index.

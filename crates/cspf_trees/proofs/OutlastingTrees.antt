@@ -1,11 +1,14 @@
--- A tree of a database is one of each database with its shape.
+-- A tree of a database is one of each database with its shape, and so is an owner.
 use Rattle.std.proofs.Common.{◌≡◌, ℕ, ◌+◌, ◌<◌, ◌⊎◌, IsTrue, Option, Some, None, IfSome, length, slice_index, slice_index_or, refl, sym, ap, subst, inl, inr, ◌∙◌}
 use Rattle.std.specs.Prelude.{◌≢◌, bit_and, bit_xor}
 use Rattle.std.specs.Option.{option_map}
 use Rattle.std.specs.FinSet as set
+use Rattle.cspf_addr.specs.PrefixParts.{PrefixParts}
+use Rattle.cspf_addr.specs.Prefixes.{Covers}
 use Rattle.cspf_model.specs.declared.link.Link.{Link}
 use Rattle.cspf_model.specs.declared.request.Request.{Request}
-use Rattle.cspf_model.specs.Database.{Database, key_of, link_at, IsLinkOf, IsReverse}
+use Rattle.cspf_model.specs.Database.{Database, key_of, link_at, EndsAt, IsLinkOf, IsReverse, IsRouterOf}
+use Rattle.cspf_model.specs.Targets.{CoversAddressOf, Owns}
 use Rattle.cspf_model.specs.Admissible.{HasAffinity}
 use Rattle.cspf_db.specs.Index.{router_list}
 use Rattle.cspf_db.specs.Shapes.{shape_of, HaveOneShape, ShapesTellRouters}
@@ -13,9 +16,11 @@ use Rattle.cspf_graph.specs.Lists.{IsIndexOf}
 use Rattle.cspf_search.specs.declared.tree.Tree.{Tree}
 use Rattle.cspf_search.specs.Settled.{IsWithin}
 use Rattle.cspf_search.specs.Trees.{IsInClass, IsTree, MayLeadOver, tree_bound}
+use Rattle.cspf_trees.specs.declared.owner_row.OwnerRow.{OwnerRow}
 use Rattle.cspf_trees.specs.declared.tree_row.TreeRow.{TreeRow}
 use Rattle.cspf_trees.specs.declared.trees.Trees.{Trees}
 use Rattle.cspf_trees.specs.Classes.{HasClass}
+use Rattle.cspf_trees.specs.LegsInTurn.{IsSoleOwner}
 use Rattle.cspf_trees.specs.Trees.{AreTreesOf}
 use Rattle.cspf_trees.specs.Laws.{TreesOutlastBandwidth}
 
@@ -45,6 +50,11 @@ reversed l m r s there back is = record {
   remote = ap (λ t. t.remote) back ∙ is.remote ∙ sym (ap (λ t. t.local) there);
 }
 
+-- links of one shape end at the same routers
+ends_alike : (router : ℕ) (l m : Link) → shape_of m ≡ shape_of l → EndsAt router l → EndsAt router m
+ends_alike router l m same (inl from) = inl (ap (λ s. s.from) same ∙ from)
+ends_alike router l m same (inr to) = inr (ap (λ s. s.to) same ∙ to)
+
 -- links of one group pass the same affinities
 passes : (q : Request) (l m : Link) → l.group ≡ m.group → HasAffinity q l → HasAffinity q m
 passes q l m same is = record {
@@ -53,15 +63,51 @@ passes q l m same is = record {
   include_all = subst (λ g. (q.include_all ≡ 0) ⊎ (bit_xor (bit_and g q.include_all) q.include_all ≡ 0)) same is.include_all;
 }
 
-module _ (d e : Database) (one : HaveOneShape d e) (routers : router_list e ≡ router_list d) where
+module _ (d e : Database) (one : HaveOneShape d e) where
   -- a link of the one database has its shape in the other
   there_too : (l : Link) → IsLinkOf e l → HasShapeOf d l
   there_too l at = at_key d l (link_at d (key_of l)) refl (sym (one.links (key_of l)) ∙ ap (option_map shape_of) at)
 
+  -- a router of the one is one of the other
+  router_too : (router : ℕ) → IsRouterOf e router → IsRouterOf d router
+  router_too router is =
+      let m = there_too is.0 is.1 in
+      (m.link, m.is_link, ends_alike router is.0 m.link m.shape is.2)
+
+  -- and it has the same addresses
+  covered_too : (prefix : PrefixParts) (router : ℕ) → CoversAddressOf e prefix router → CoversAddressOf d prefix router
+  covered_too prefix router (inl own) = inl own
+  covered_too prefix router (inr by) =
+      let m = there_too by.0 by.1 in
+      inr (
+        m.link,
+        m.is_link,
+        record {
+          from = ap (λ s. s.from) m.shape ∙ by.2.from;
+          local = subst (Covers prefix) (ap (λ s. s.local) (sym m.shape)) by.2.local;
+        },
+      )
+
+  -- so it owns the same prefixes
+  owns_too : (prefix : PrefixParts) (router : ℕ) → Owns e prefix router → Owns d prefix router
+  owns_too prefix router is = record { known = router_too router is.known; covered = covered_too prefix router is.covered }
+
+-- one shape, in the other order
+in_turn : (d e : Database) → HaveOneShape d e → HaveOneShape e d
+in_turn d e one = record { marks = sym one.marks; links = λ k. sym (one.links k) }
+
+-- the only owner in a database is the only one in each database with its shape
+owner_kept : (d e : Database) (prefix : PrefixParts) (router : ℕ) → HaveOneShape d e → IsSoleOwner d prefix router → IsSoleOwner e prefix router
+owner_kept d e prefix router one is = record {
+  owns = owns_too e d (in_turn d e one) prefix router is.owns;
+  sole = λ other owns. is.sole other (owns_too d e one prefix other owns);
+}
+
+module _ (d e : Database) (one : HaveOneShape d e) (routers : router_list e ≡ router_list d) where
   -- a link in the class is in the class there
   in_class_too : (q : Request) (l : Link) → IsInClass e q l → (m : HasShapeOf d l) → IsInClass d q m.link
   in_class_too q l is m =
-      let back = there_too is.reverse.0 is.reverse.1 in
+      let back = there_too d e one is.reverse.0 is.reverse.1 in
       record {
         link = m.is_link;
         reverse = (back.link, back.is_link, reversed l m.link is.reverse.0 back.link m.shape back.shape is.reverse.2);
@@ -84,13 +130,13 @@ module _ (d e : Database) (one : HaveOneShape d e) (routers : router_list e ≡ 
   tree_too : (q : Request) (tree : Tree) → IsTree d q tree → IsTree e q tree
   tree_too q tree is = record {
     links = λ u w l in_class over from to.
-        let m = there_too l in_class.link in
+        let m = there_too d e one l in_class.link in
         let shape = m.shape in
         subst (IsWithin (tree_bound tree u) (tree_bound tree w)) (ap (λ t. t.metric) shape)
         (is.links u w m.link (in_class_too q l in_class m) (over_too q l.to m.link.to (ap (λ t. t.to) shape) over) (index_too l.from m.link.from u (ap (λ t. t.from) shape) from) (index_too l.to m.link.to w (ap (λ t. t.to) shape) to));
     end = λ place at. is.end place (index_too q.to q.to place refl at);
     fewer = λ u w l in_class over from to just.
-        let m = there_too l in_class.link in
+        let m = there_too d e one l in_class.link in
         let shape = m.shape in
         is.fewer u w m.link (in_class_too q l in_class m) (over_too q l.to m.link.to (ap (λ t. t.to) shape) over) (index_too l.from m.link.from u (ap (λ t. t.from) shape) from) (index_too l.to m.link.to w (ap (λ t. t.to) shape) to)
         (just ∙ ap (λ t. tree_bound tree w + t.metric) (sym shape));
@@ -107,4 +153,10 @@ row_kept d e row law one (Some tree) is = λ q class. law d e q tree one (is q c
 
 -- trees of a database are those of each database with its shape
 pub trees_kept : (d e : Database) (trees : Trees) → TreesOutlastBandwidth → HaveOneShape d e → AreTreesOf d trees → AreTreesOf e trees
-trees_kept d e trees law one are k r h now = row_kept d e (slice_index_or trees.rows.items k r) law one _ (are k r h now)
+unfolding AreTreesOf
+trees_kept d e trees law one are = (
+  λ k r h now. row_kept d e (slice_index_or trees.rows.items k r) law one _ (are.0 k r h now),
+  λ k r h now.
+      let row : OwnerRow = slice_index_or trees.owners.rows.items k r in
+      owner_kept d e row.prefix row.router one (are.1 k r h now),
+)

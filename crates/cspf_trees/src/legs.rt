@@ -2,21 +2,19 @@
 //! as a request without hops, so each by the tree of its own class. Together the best routes of the legs
 //! are the best route.
 
-ghost use Rattle.std.specs.Prelude.{◌≡◌, ◌≢◌, ◌+◌, ◌<◌, ◌≤◌, ℕ, true, IfOk, IfSome, length, slice_get};
-ghost use Rattle.std.specs.Vec.{vec_capacity};
-ghost use Rattle.cspf_model.specs.declared.limits.TheConstants.{MOST_ROUTERS};
+ghost use Rattle.std.specs.Prelude.{◌≡◌, ◌≢◌, ◌+◌, ◌<◌, ℕ, true, IfOk, IfSome, length, slice_get};
 ghost use Rattle.cspf_model.specs.Best.{IsBestAnswer};
 ghost use Rattle.cspf_model.specs.Outcome.{answer_of};
 ghost use Rattle.cspf_model.specs.Targets.{IsLoose};
 ghost use Rattle.cspf_trees.specs.LegSteps.{IsLegStep};
-ghost use Rattle.cspf_trees.specs.LegsInTurn.{AreSoleTargets, AsksForLeg, IsLeastSoFar, IsLegAnswer, IsSoleOwner, IsSoleTarget};
+ghost use Rattle.cspf_trees.specs.LegsInTurn.{AreSoleTargets, AsksForLeg, IsLeastSoFar, IsLegAnswer, IsSoleTarget};
 ghost use Rattle.cspf_trees.specs.Trees.{AreTreesOf};
 
 use crate::leg_walk::LegWalk;
 use crate::trees::Trees;
-use cspf_addr::{Addr, Hops, Prefix};
+use cspf_addr::{Addr, Hops};
 use cspf_db::Table;
-use cspf_model::{MOST_LEGS, MOST_ROUTERS, Outcome, Request, route_without_hops};
+use cspf_model::{MOST_LEGS, Outcome, Request, route_without_hops};
 use std::alloc::{AllocError, Global};
 
 /// What one more leg tells of the routes.
@@ -36,35 +34,24 @@ fn has_loose_hops(request: &Request) -> bool
     !request.hops.is_empty() && request.hops.as_slice().iter().all(|hop| hop.loose)
 }
 
-/// The router that owns a prefix, unless none or several do.
-fn sole_owner(table: &Table, prefix: Prefix, owners: &mut Vec<u16>) -> Option<Addr>
-    requires { MOST_ROUTERS ≤ vec_capacity owners.old }
-    ensures sole { IfSome result (IsSoleOwner table.now prefix) }
-    ensures room { vec_capacity owners.old ≤ vec_capacity owners.new }
-{
-    table.list_owners(owners, prefix);
-    match owners.as_slice() {
-        [at] => Some(table.routers()[usize::from(*at)]),
-        _ => None,
-    }
-}
-
 /// The target of each leg, if the request has hops, all are loose, and each leg has one target.
 fn sole_targets(
+    trees: &mut Trees,
     alloc: Global,
     table: &Table,
     request: &Request,
 ) -> Result<Option<Vec<Addr>>, AllocError>
-    ensures { IfOk result (λ found. IfSome found (λ targets.
+    requires { AreTreesOf table.now trees.old }
+    ensures trees { AreTreesOf table.now trees.new }
+    ensures targets { IfOk result (λ found. IfSome found (λ targets.
         AreSoleTargets table.now request.now targets.items)) }
 {
     if !has_loose_hops(request) {
         return Ok(None);
     }
-    let mut owners = Vec::with_capacity(alloc, MOST_ROUTERS)?;
     let mut targets = Vec::with_capacity(alloc, MOST_LEGS)?;
     for hop in request.hops.as_slice() {
-        let Some(router) = sole_owner(table, hop.prefix, &mut owners) else {
+        let Some(router) = trees.sole_owner(alloc, table, hop.prefix)? else {
             return Ok(None);
         };
         targets.push(router)?;
@@ -162,7 +149,7 @@ pub(crate) fn best_by_legs(
     ensures best { IfOk result (λ found. IfSome found (λ outcome.
         IsBestAnswer table.now request.now (answer_of outcome))) }
 {
-    let Some(targets) = sole_targets(alloc, table, request)? else {
+    let Some(targets) = sole_targets(trees, alloc, table, request)? else {
         return Ok(None);
     };
     if !table.has_router(request.from) || !table.has_router(request.to) {

@@ -12,3 +12,6 @@ pub(crate) const ASKS_FOR_A_TREE: u32 = 8;
 
 /// More asks of a class are not counted.
 pub(crate) const MOST_ASKS: u32 = 64;
+
+/// How many rows there are for prefixes and the routers that alone own them.
+pub(crate) const OWNER_ROWS: usize = 2048;

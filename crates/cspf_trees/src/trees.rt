@@ -6,7 +6,9 @@ use crate::class::{class_of, first_row};
 use crate::laws::trees_outlast_bandwidth;
 use crate::legs::best_by_legs;
 use crate::limits::{ASKS_FOR_A_TREE, MOST_ASKS, MOST_TREES};
+use crate::owners::Owners;
 use crate::tree_row::{TreeRow, ask, empty_rows, find};
+use cspf_addr::{Addr, Prefix};
 use cspf_db::Table;
 use cspf_model::{Batch, Outcome, Request};
 use cspf_search::{best, best_by_tree};
@@ -15,6 +17,10 @@ use std::alloc::{AllocError, Global};
 /// Trees of one database, at most as many as `new` is told and `MOST_TREES`, with `TREE_BYTES` of bounds
 /// each. A tree is grown at the eighth ask of its tail-end and affinities. Where there are as many, or
 /// memory for it is refused, requests are searched without it.
+///
+/// Beside them are the rows that count asks, which take 393,216 bytes from the first ask on. The rows of
+/// routers that alone own the prefixes of hops take 49,152 bytes from the first such hop on. Where there
+/// may be no trees there are no rows.
 #[derive(Drop)]
 pub struct Trees {
     /// The rows: none, or all of them.
@@ -27,6 +33,8 @@ pub struct Trees {
     due: u32,
     /// How many there are, of any generation.
     count: usize,
+    /// The routers that alone own the prefixes of hops.
+    owners: Owners,
     ghost past: { All (λ row. row.generation ≤ generation) rows.items },
 }
 
@@ -49,6 +57,7 @@ impl Trees {
     ghost use Rattle.cspf_model.specs.Database.{Database};
     ghost use Rattle.cspf_trees.specs.declared.tree_row.TreeRow.{TreeRow as OneTreeRow};
     ghost use Rattle.cspf_trees.specs.declared.limits.TheConstants.{MOST_TREES};
+    ghost use Rattle.cspf_trees.specs.LegsInTurn.{IsSoleOwner};
     ghost use Rattle.cspf_trees.specs.TreeRows.{IsAskedOf};
     ghost use Rattle.cspf_trees.specs.Trees.{AreTreesOf};
 
@@ -69,13 +78,16 @@ impl Trees {
             most,
             due: due.min(MOST_ASKS),
             count: 0,
+            owners: Owners::new(alloc, most > 0),
         }
     }
 
-    /// Leaves no tree to search by, so the trees are of any database. Memory is kept for later ones.
+    /// Leaves no tree to search by and no owner of a prefix, so the trees are of any database. Memory is
+    /// kept for later ones.
     pub fn clear(&mut self)
         ensures { (d : Database) → AreTreesOf d self.new }
     {
+        self.owners.clear();
         if self.generation < u64::MAX {
             self.generation += 1;
         } else {
@@ -84,8 +96,8 @@ impl Trees {
         }
     }
 
-    /// Keeps the trees of a table's database for the one after a batch, if that differs in
-    /// unreserved bandwidths alone. Else it leaves none to search by.
+    /// Keeps the trees of a table's database and the owners of prefixes for the one after a batch, if that
+    /// differs in unreserved bandwidths alone. Else it leaves none.
     pub(crate) fn keep_over(&mut self, table: &Table, batch: &Batch)
         requires { AreTreesOf table.now self.old }
         ensures { AreTreesOf (after_changes table.now batch.now.changes) self.new }
@@ -98,13 +110,17 @@ impl Trees {
         self.clear();
     }
 
-    /// Makes the rows if there are none yet. Returns whether there are rows.
+    /// Makes the rows if there are none yet and there may be trees. Returns whether there are rows.
+    #[tactic(auto, unfolding(crate::specs::Trees::AreTreesOf))]
     fn fill(&mut self, alloc: Global) -> bool
         ensures trees { (d : Database) → AreTreesOf d self.old → AreTreesOf d self.new }
         ensures many { result ≡ true → length self.new.rows.items ≡ MOST_TREES }
     {
         if self.rows.len() == MOST_TREES {
             return true;
+        }
+        if self.most == 0 {
+            return false;
         }
         match empty_rows(alloc) {
             Ok(rows) => {
@@ -116,7 +132,7 @@ impl Trees {
     }
 
     /// Asks for the class of a request. Returns the index of its row, unless other classes have all
-    /// rows that it may be in, or memory for the rows is refused.
+    /// rows that it may be in, there may be no trees, or memory for the rows is refused.
     fn ask_row(&mut self, alloc: Global, table: &Table, request: &Request) -> Option<usize>
         requires { AreTreesOf table.now self.old }
         ensures trees { AreTreesOf table.now self.new }
@@ -144,6 +160,7 @@ impl Trees {
     }
 
     /// The best answer to a request by the tree of its class, if its row has one.
+    #[tactic(auto, unfolding(crate::specs::Trees::AreTreesOf))]
     pub(crate) fn best_by_row(
         &mut self,
         alloc: Global,
@@ -162,6 +179,21 @@ impl Trees {
             Some(tree) => best_by_tree(alloc, table, request, tree),
             None => best(alloc, table, request),
         }
+    }
+
+    /// The router that alone owns a prefix, unless none or several do. It is kept for the next hop.
+    #[tactic(auto, unfolding(crate::specs::Trees::AreTreesOf))]
+    pub(crate) fn sole_owner(
+        &mut self,
+        alloc: Global,
+        table: &Table,
+        prefix: Prefix,
+    ) -> Result<Option<Addr>, AllocError>
+        requires { AreTreesOf table.now self.old }
+        ensures trees { AreTreesOf table.now self.new }
+        ensures sole { IfOk result (λ found. IfSome found (IsSoleOwner table.now prefix)) }
+    {
+        self.owners.sole_owner(alloc, table, prefix)
     }
 
     /// The best answer to a request in the database of the trees, which is the table's: the answer

@@ -150,6 +150,45 @@ fn legs_in_a_square(rt: HostRuntime) -> Result<(), Fail> {
     Ok(())
 }
 
+// Puts an interface with the address of a hop at a router, on a link that no request may take.
+fn put(router: u32, free: u64) -> Result<Change, Fail> {
+    let row = (router, 0x0a00_6301, FOUR, 0x0a00_6302, 1, free);
+    Ok(Change::Put(link(&row)?))
+}
+
+// Takes it out.
+fn out(router: u32) -> Change {
+    Change::Remove {
+        from: Addr::new(router),
+        local: Addr::new(0x0a00_6301),
+    }
+}
+
+// One table answers for a hop at TWO, then at TWO and THREE, at THREE, at TWO again, and at none.
+#[test]
+fn hop_that_moves(rt: HostRuntime) -> Result<(), Fail> {
+    let alloc = rt.alloc();
+    let mut table = square(alloc, &[])?;
+    let asked = request((ONE, FOUR), 0, (0, 0, 0), b"10.0.99.1/32l 10.0.99.1/32l")?;
+    let moves = [
+        (put(TWO, 0)?, Route(2, BY_TWO)),
+        (put(TWO, 1)?, Route(2, BY_TWO)),
+        (put(THREE, 0)?, Route(2, BY_TWO)),
+        (out(TWO), Route(4, BY_THREE)),
+        (put(TWO, 0)?, Route(2, BY_TWO)),
+        (out(THREE), Route(2, BY_TWO)),
+        (out(TWO), NoRoute),
+    ];
+    for (change, wanted) in &moves {
+        let changes = Vec::from_slice(alloc, &[*change])?;
+        table.try_absorb(&Batch { number: 2, changes })?;
+        let found = answered_alike(alloc, &mut table, &asked)?;
+        let as_wanted = is_wanted(&found, *wanted);
+        assert!(rt; as_wanted, "{change:?}");
+    }
+    Ok(())
+}
+
 // The next of a row of numbers that look drawn, below a number.
 fn draw(seed: &mut u32, below: u32) -> u32
     requires { 0 < below }

@@ -1,4 +1,4 @@
-use Rattle.std.proofs.Common.{◌≡◌, Some, option_map, sym, ap, ◌∙◌, arith}
+use Rattle.std.proofs.Common.{◌≡◌, Some, option_map, slice_index_or, sym, ap, ◌∙◌, arith}
 use Rattle.cspf_search.proofs.Backs.{walk_back, behind_more, locals_more, locals_of_one}
 use Rattle.cspf_search.proofs.arena.locals.Goals as goal
 
@@ -17,12 +17,14 @@ loop-step-preserved c =
     let arms = c.in-Some-Some in
     let by_x : c.loop-step.x.now.by ≡ Some arms.l.now = sym c.get.ensures ∙ ap (option_map _) arms.is-0 in
     let by_y : c.loop-step.y.now.by ≡ Some arms.m.now = sym c.get-in-loop-step.ensures ∙ ap (option_map _) arms.is-1 in
-    let x = walk_back nodes c.requires.arena c.loop-step.x.now c.index-nodes-x.result before.first.parent c.index-nodes-x.is arms.l.now by_x in
-    let y = walk_back nodes c.requires.arena c.loop-step.y.now c.index-nodes-y.result before.second.parent c.index-nodes-y.is arms.m.now by_y in
+    let at_x = c.index-nodes-from.is ∙ ap (λ i. slice_index_or nodes i c.index-nodes-from.result) c.from.ensures in
+    let at_y = c.index-nodes-from-in-loop-step.is ∙ ap (λ i. slice_index_or nodes i c.index-nodes-from-in-loop-step.result) c.from-in-loop-step.ensures in
+    let x = walk_back nodes c.requires.arena c.loop-step.x.now c.index-nodes-from.result before.first.parent at_x arms.l.now by_x in
+    let y = walk_back nodes c.requires.arena c.loop-step.y.now c.index-nodes-from-in-loop-step.result before.second.parent at_y arms.m.now by_y in
     let first =
-    behind_more nodes c.requires.arena c.loop-step.x.now c.index-nodes-x.result before.first.parent c.index-nodes-x.is arms.l.now by_x c.loop-step._step c.args.a.now.links before.first in
+    behind_more nodes c.requires.arena c.loop-step.x.now c.index-nodes-from.result before.first.parent at_x arms.l.now by_x c.loop-step._step c.links_in-count.result before.first in
     let second =
-    behind_more nodes c.requires.arena c.loop-step.y.now c.index-nodes-y.result before.second.parent c.index-nodes-y.is arms.m.now by_y c.loop-step._step c.args.a.now.links before.second in
+    behind_more nodes c.requires.arena c.loop-step.y.now c.index-nodes-from-in-loop-step.result before.second.parent at_y arms.m.now by_y c.loop-step._step c.links_in-count.result before.second in
     record {
       first = first;
       second = second;

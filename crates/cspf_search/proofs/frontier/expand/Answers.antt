@@ -1,12 +1,12 @@
-use Rattle.std.proofs.Common.{◌≡◌, ◌+◌, ◌%◌, List, length, slice_index, refl, ap, heap_items, arith}
+use Rattle.std.proofs.Common.{◌≡◌, ◌+◌, ◌%◌, List, length, slice_index, refl, sym, ap, subst, heap_items, arith}
 use Rattle.std.proofs.lemmas.Bool.{false≢true}
 use Rattle.std.proofs.lemmas.Option.{slice_get_read}
 use Rattle.cspf_model.specs.declared.link.Link.{Link}
+use Rattle.cspf_model.specs.Admissible.{MayLeave}
 use Rattle.cspf_db.specs.Index.{links_of, links_from_index, router_list}
 use Rattle.cspf_search.specs.Rounds.{CrossesBelow}
 use Rattle.cspf_search.specs.Frontier.{CrossesUpTo}
 use Rattle.cspf_search.proofs.Expanded.{turn_below, below_turn, all_below, below_all}
-use Rattle.cspf_search.proofs.Backs.{leaves_told}
 use Rattle.cspf_search.proofs.Offered.{labels_same}
 use Rattle.cspf_search.proofs.Reversed.{reverse_of_row}
 use Rattle.cspf_search.proofs.Taken.{end_of_row, few_rows}
@@ -33,10 +33,9 @@ returns-then-not-may_leave_at-clause-after c =
     let q = c.args.query.request.now in
     let nodes = c.args.nodes.now in
     let from = c.requires.from in
-    let told =
-    leaves_told d (slice_index (router_list d) (c.args.state % 1024)) nodes c.requires.arena c.args.at from.within c.index-nodes-at.result in
+    let router = slice_index (router_list d) (c.args.state % 1024) in
     labels_same d q nodes (CrossesUpTo d q nodes c.args.at (c.args.state % 1024) 0) (CrossesBelow d q nodes (links_of d) (c.args.at + 1)) (turn_below d q nodes c.args.at c.args.state from)
-    (below_turn d q nodes c.args.at c.args.state from (λ may. false≢true (c.if-not-may_leave_at.ensures.1 (told.1 may)))) c.args.goal c.offer_turn.new.labels
+    (below_turn d q nodes c.args.at c.args.state from (λ may. false≢true (c.if-not-may_leave_at.ensures.1 (subst (MayLeave d router) (sym c.links_at-count.ensures) may)))) c.args.goal c.offer_turn.new.labels
     (heap_items c.offer_turn.new.heap) c.in_ok-offer_turn.ensures.after
 
 pub returns-clause-after : goal.returns-clause-after

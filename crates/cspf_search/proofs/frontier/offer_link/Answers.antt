@@ -6,7 +6,7 @@ use Rattle.cspf_model.specs.Admissible.{IsUsable}
 use Rattle.cspf_db.specs.Index.{links_from_index}
 use Rattle.cspf_search.specs.declared.labels.Label.{Label}
 use Rattle.cspf_graph.specs.declared.roles.Role.{Role}
-use Rattle.cspf_search.specs.Frontier.{nowhere, rank_of, label_at}
+use Rattle.cspf_search.specs.Frontier.{nowhere, label_at}
 use Rattle.cspf_search.proofs.Expanded.{link_index}
 use Rattle.cspf_search.proofs.Heaps.{rank_read}
 use Rattle.cspf_search.proofs.Ranks.{rank_at}
@@ -81,7 +81,7 @@ overflow_cast-label-3 c =
 abbrev label_of : goal.After-offer-arg-3-1 → Label
 label_of c = record { rank = c.args.source.rank + c.from.result * 16384 + 1; parent = c.args.source.at; place = c.args.source.state % 1024; row = c.args.edge.row }
 
-rank_is : (c : goal.After-offer-arg-3-1) → (label_of c).rank ≡ rank_of (slice_index_or c.args.source.nodes.now c.args.source.at nowhere) + c.args.edge.link.now.metric * 16384 + 1
+rank_is : (c : goal.After-offer-arg-3-1) → (label_of c).rank ≡ (slice_index_or c.args.source.nodes.now c.args.source.at nowhere).rank + c.args.edge.link.now.metric * 16384 + 1
 rank_is c = omega (arith, c.requires.source.rank, c.from.ensures, c.args.edge.same)
 
 metric_fits : (c : goal.After-offer-arg-3-1) → c.args.edge.link.now.metric < 2 ^ 32
@@ -99,7 +99,7 @@ pub returns-clause-after : goal.returns-clause-after
 returns-clause-after c =
     let small : c.args.edge.link.now.metric < 2 ^ 32 = omega (arith, c.args.edge.same) in
     let label : Label = record { rank = c.args.source.rank + c.from.result * 16384 + 1; parent = c.args.source.at; place = c.args.source.state % 1024; row = c.args.edge.row } in
-    let rank : c.args.source.rank + c.from.result * 16384 + 1 ≡ rank_of (slice_index_or c.args.source.nodes.now c.args.source.at nowhere) + c.args.edge.link.now.metric * 16384 + 1 =
+    let rank : c.args.source.rank + c.from.result * 16384 + 1 ≡ (slice_index_or c.args.source.nodes.now c.args.source.at nowhere).rank + c.args.edge.link.now.metric * 16384 + 1 =
     omega (arith, c.requires.source.rank, c.from.ensures, c.args.edge.same) in
     let index = link_index c.args.source.query.table.now c.args.source.query.request.now c.args.source.nodes.now c.args.source.at c.args.source.state c.requires.source.node c.args.edge.row c.args.edge.link.now c.requires.edge.row c.args.edge.end c.requires.edge.end c.requires.source.query.listed.few in
     let blank : Label = record { rank = 0; parent = 0; place = 0; row = 0 } in

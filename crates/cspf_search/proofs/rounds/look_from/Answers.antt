@@ -1,9 +1,9 @@
-use Rattle.std.proofs.Common.{◌≡◌, ◌%◌, List, length, ap, arith}
+use Rattle.std.proofs.Common.{◌≡◌, ◌%◌, List, length, slice_index, sym, ap, subst, arith}
 use Rattle.std.proofs.lemmas.Bool.{false≢true}
 use Rattle.cspf_model.specs.declared.link.Link.{Link}
-use Rattle.cspf_db.specs.Index.{links_from_index}
+use Rattle.cspf_model.specs.Admissible.{MayLeave}
+use Rattle.cspf_db.specs.Index.{links_from_index, router_list}
 use Rattle.cspf_search.proofs.Expanded.{here_from, from_here}
-use Rattle.cspf_search.proofs.Backs.{leaves_told}
 use Rattle.cspf_search.proofs.Firsts.{first_same}
 use Rattle.cspf_search.proofs.Looked.{turn_here, here_turn}
 use Rattle.cspf_search.proofs.rounds.look_from.Goals as goal
@@ -16,7 +16,9 @@ returns c =
 
 pub returns-then-not-may_leave_at : goal.returns-then-not-may_leave_at
 returns-then-not-may_leave_at c =
+    let d = c.args.look.query.table.now in
     let arena = c.requires.look.arena in
     let from = c.requires.look.from in
-    let told = leaves_told c.args.look.query.table.now _ _ arena _ from.within c.index-look-look.result in
-    first_same _ _ _ (turn_here _ _ _ arena _ _ from) (here_turn _ _ _ arena _ _ from (λ may. false≢true (c.if-not-may_leave_at.ensures.1 (told.1 may)))) _ c.look_at_turn-best.ensures
+    let router = slice_index (router_list d) (c.args.look.star.state % 1024) in
+    first_same _ _ _ (turn_here _ _ _ arena _ _ from) (here_turn _ _ _ arena _ _ from (λ may. false≢true (c.if-not-may_leave_at.ensures.1 (subst (MayLeave d router) (sym c.links_at-count.ensures) may)))) _
+    c.look_at_turn-best.ensures

@@ -13,15 +13,15 @@ loop-hop-preserved c =
     hop_at q.hops c.as_slice-hop-items.result.now c.loop-hop.hop-index (length before) c.hop-item.result c.as_slice-hop-items.ensures c.loop-hop.invariant.number c.loop-hop-test.true c.hop-item.is in
     let loose : c.has_loose_hops.result ≡ true = c.if-not-has_loose_hops.false in
     record {
-      room = omega (arith, c.loop-hop.invariant.room, c.in-Some.ensures.room);
+      trees = c.in_ok-router.ensures.trees;
       number = omega (arith, ap length more, length_push before c.in-Some.router, c.loop-hop.invariant.number);
       each = rw more
           (targets_push d q before c.in-Some.router c.loop-hop.invariant.each
-          (hop_target d q (length before) c.hop-item.result c.in-Some.router hop (c.has_loose_hops.ensures loose (length before)) c.in-Some.ensures.sole));
+          (hop_target d q (length before) c.hop-item.result c.in-Some.router hop (c.has_loose_hops.ensures loose (length before)) (rw c.in-Some.is at c.in_ok-router.ensures.sole)));
     }
 
-pub returns : goal.returns
-returns c =
+pub returns-clause-targets : goal.returns-clause-targets
+returns-clause-targets c =
     let d = c.args.table.now in
     let q = c.args.request.now in
     let before = c.loop-hop.targets.items in

@@ -2,10 +2,10 @@ use Rattle.std.proofs.Common.{◌≡◌, ◌<◌, ℕ, slice_index, length, refl
 use Rattle.std.proofs.lemmas.List.Elements.{at_read}
 use Rattle.cspf_db.specs.Index.{router_list}
 use Rattle.cspf_trees.proofs.SoleTargets.{sole_owner_at}
-use Rattle.cspf_trees.proofs.legs.sole_owner.Goals as goal
+use Rattle.cspf_trees.proofs.owners.read_owner.Goals as goal
 
-pub returns-in-len1-clause-sole : goal.returns-in-len1-clause-sole
-returns-in-len1-clause-sole c =
+pub returns-in-len1 : goal.returns-in-len1
+returns-in-len1 c =
     let d = c.args.table.now in
     let places = c.list_owners.new.owners.items in
     let one : length places ≡ 1 = omega (arith, c.in-len1.len_at_least, c.in-len1.len_below, ap length c.as_slice.ensures.value) in

@@ -1,0 +1,7 @@
+use Rattle.std.proofs.Common.{rules}
+use Rattle.cspf_trees.specs.Trees.{AreTreesOf}
+use Rattle.cspf_trees.proofs.trees.Trees.from_ask.Goals as goal
+
+pub returns : goal.returns
+unfolding AreTreesOf
+returns c = λ d. (search rules, c.new-2.ensures d)

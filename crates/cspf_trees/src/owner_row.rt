@@ -1,0 +1,63 @@
+//! A row: a prefix, and the one router that owns it.
+
+ghost use Rattle.std.specs.Prelude.{◌≡◌, ◌<◌, All, IfOk, IfSome, length};
+ghost use Rattle.cspf_model.specs.Database.{Database};
+ghost use Rattle.cspf_trees.specs.LegsInTurn.{IsSoleOwner};
+ghost use Rattle.cspf_trees.specs.OwnerRows.{HasOwnerOf, IsEmptyOwnerRow};
+ghost use Rattle.cspf_trees.specs.declared.limits.TheConstants.{OWNER_ROWS};
+
+use crate::limits::OWNER_ROWS;
+use cspf_addr::{Addr, Prefix};
+use std::alloc::{AllocError, Global};
+
+/// A prefix, and the router that alone owns it.
+#[derive(Clone, Copy)]
+pub(crate) struct OwnerRow {
+    /// The generation of owners that the row belongs to, or 0 if it has no owner.
+    pub(crate) generation: u64,
+    /// The prefix.
+    pub(crate) prefix: Prefix,
+    /// The router.
+    pub(crate) router: Addr,
+}
+
+/// All rows, which have no owner. Any prefix and router will do, since they aren't read.
+pub(crate) fn empty_owners(
+    alloc: Global,
+    prefix: Prefix,
+    router: Addr,
+) -> Result<Vec<OwnerRow>, AllocError>
+    ensures many { IfOk result (λ rows. length rows.items ≡ OWNER_ROWS) }
+    ensures empty { IfOk result (λ rows. All IsEmptyOwnerRow rows.items) }
+{
+    let mut rows = Vec::with_capacity(alloc, OWNER_ROWS)?;
+    for _ in 0..OWNER_ROWS {
+        rows.push(OwnerRow {
+            generation: 0,
+            prefix,
+            router,
+        })?;
+    }
+    Ok(rows)
+}
+
+/// The index of the row that a prefix may be in.
+pub(crate) fn owner_index(prefix: Prefix) -> usize
+    ensures { result < OWNER_ROWS }
+{
+    let bits = u64::from(prefix.address().number()) ^ (u64::from(prefix.length()) << 32);
+    let hash = bits.wrapping_mul(0x9e37_79b9_7f4a_7c15);
+    (hash >> 53) as usize % OWNER_ROWS
+}
+
+/// The router of a row, if the row is of this generation and prefix.
+pub(crate) fn owner_in(row: &OwnerRow, generation: u64, prefix: Prefix) -> Option<Addr>
+    ensures { (d : Database) → HasOwnerOf d generation row.now
+        → IfSome result (IsSoleOwner d prefix) }
+{
+    if row.generation == generation && row.prefix == prefix {
+        Some(row.router)
+    } else {
+        None
+    }
+}

@@ -1,0 +1,136 @@
+//! The routers that alone own prefixes, of one database.
+
+ghost use Rattle.std.specs.Prelude.{◌<◌, ◌≤◌, All, IfOk, IfSome};
+ghost use Rattle.cspf_trees.specs.LegsInTurn.{IsSoleOwner};
+
+use crate::limits::OWNER_ROWS;
+use crate::owner_row::{OwnerRow, empty_owners, owner_in, owner_index};
+use cspf_addr::{Addr, Prefix};
+use cspf_db::Table;
+use cspf_model::MOST_ROUTERS;
+use std::alloc::{AllocError, Global};
+
+/// Prefixes that were asked for, each with the router that alone owns it in one database. A row has the
+/// last prefix that came to it.
+#[derive(Drop)]
+pub(crate) struct Owners {
+    /// The rows: none, or all of them.
+    rows: Vec<OwnerRow>,
+    /// The generation of the owners that are of the database, 1 or later. Rows of earlier ones count as
+    /// empty.
+    generation: u64,
+    /// Whether there may be rows.
+    keeps: bool,
+    ghost begun: { 0 < generation },
+    ghost past: { All (λ row. row.generation ≤ generation) rows.items },
+}
+
+/// The router that alone owns a prefix, unless none or several do, by a look at each router.
+fn read_owner(alloc: Global, table: &Table, prefix: Prefix) -> Result<Option<Addr>, AllocError>
+    ensures { IfOk result (λ found. IfSome found (IsSoleOwner table.now prefix)) }
+{
+    let mut owners = Vec::with_capacity(alloc, MOST_ROUTERS)?;
+    table.list_owners(&mut owners, prefix);
+    match owners.as_slice() {
+        [at] => Ok(Some(table.routers()[usize::from(*at)])),
+        _ => Ok(None),
+    }
+}
+
+impl Owners {
+    ghost use Rattle.std.specs.Prelude.{◌≡◌, true, length};
+    ghost use Rattle.cspf_model.specs.Database.{Database};
+    ghost use Rattle.cspf_trees.specs.Owners.{AreOwnersOf};
+    ghost use Rattle.cspf_trees.specs.declared.limits.TheConstants.{OWNER_ROWS};
+
+    /// No owners, so they are of any database. Later ones are kept if they may be. It takes no memory.
+    pub(crate) fn new(alloc: Global, keeps: bool) -> Owners
+        ensures { (d : Database) → AreOwnersOf d result }
+    {
+        Owners {
+            rows: Vec::new(alloc),
+            generation: 1,
+            keeps,
+        }
+    }
+
+    /// Leaves no owner to answer by, so the owners are of any database. Memory is kept for later ones.
+    pub(crate) fn clear(&mut self)
+        ensures { (d : Database) → AreOwnersOf d self.new }
+    {
+        if self.generation < u64::MAX {
+            self.generation += 1;
+        } else {
+            self.rows.clear();
+        }
+    }
+
+    /// Makes the rows if there are none yet and there may be. Returns whether there are rows. The empty
+    /// rows are made with this prefix and router.
+    fn fill(&mut self, alloc: Global, prefix: Prefix, router: Addr) -> bool
+        ensures owners { (d : Database) → AreOwnersOf d self.old → AreOwnersOf d self.new }
+        ensures many { result ≡ true → length self.new.rows.items ≡ OWNER_ROWS }
+    {
+        if self.rows.len() == OWNER_ROWS {
+            return true;
+        }
+        if !self.keeps {
+            return false;
+        }
+        match empty_owners(alloc, prefix, router) {
+            Ok(rows) => {
+                self.rows = rows;
+                true
+            }
+            Err(_refused) => false,
+        }
+    }
+
+    /// Keeps the router that alone owns a prefix, if there are rows or can be.
+    fn keep(&mut self, alloc: Global, prefix: Prefix, router: Addr)
+        ensures { (d : Database) → IsSoleOwner d prefix router
+            → AreOwnersOf d self.old → AreOwnersOf d self.new }
+    {
+        if self.fill(alloc, prefix, router) {
+            let generation = self.generation;
+            self.rows[owner_index(prefix)] = OwnerRow {
+                generation,
+                prefix,
+                router,
+            };
+        }
+    }
+
+    /// The router that alone owns a prefix, if it is kept.
+    fn kept(&self, prefix: Prefix) -> Option<Addr>
+        ensures { (d : Database) → AreOwnersOf d self.now
+            → IfSome result (IsSoleOwner d prefix) }
+    {
+        if self.rows.len() < OWNER_ROWS {
+            return None;
+        }
+        owner_in(&self.rows[owner_index(prefix)], self.generation, prefix)
+    }
+
+    /// The router that alone owns a prefix, unless none or several do. If it is not kept yet, each router
+    /// is looked at, and then it is kept.
+    pub(crate) fn sole_owner(
+        &mut self,
+        alloc: Global,
+        table: &Table,
+        prefix: Prefix,
+    ) -> Result<Option<Addr>, AllocError>
+        requires { AreOwnersOf table.now self.old }
+        ensures owners { AreOwnersOf table.now self.new }
+        ensures sole { IfOk result (λ found. IfSome found (IsSoleOwner table.now prefix)) }
+    {
+        if let Some(router) = self.kept(prefix) {
+            return Ok(Some(router));
+        }
+        let Some(router) = read_owner(alloc, table, prefix)? else {
+            return Ok(None);
+        };
+        self.keep(alloc, prefix, router);
+        Ok(Some(router))
+    }
+}
