@@ -1,4 +1,0 @@
-mod absorbing;
-mod memory;
-mod networks;
-mod placing;

@@ -1,3 +1,0 @@
-mod heads;
-mod objects;
-mod replies;

@@ -1,0 +1,4 @@
+//! Readers and audits while memory is refused.
+
+mod audits;
+mod readers;

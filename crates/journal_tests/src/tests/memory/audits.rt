@@ -1,0 +1,51 @@
+//! An audit while memory is refused: it answers in full or that memory is refused, and in full once
+//! there is memory again.
+
+use crate::tests::assert_case;
+use cspf_audit::{AuditError, AuditFault, audit};
+use std::alloc::Global;
+use std::test::Fail;
+
+/// Whether memory is given now.
+fn has_memory(alloc: Global) -> bool {
+    match Vec::from_slice(alloc, &[1u8]) {
+        Ok(bytes) => bytes.len() == 1,
+        Err(_) => false,
+    }
+}
+
+/// A link and its reverse are put, and both dropped again.
+const JOURNAL: &[u8] = b"put,1.1.1.1,10.0.12.1,2.2.2.2,10.0.12.2,10,0x1,\
+1000,1000,1000,1000,1000,1000,1000,1000\n\
+put,2.2.2.2,10.0.12.2,1.1.1.1,10.0.12.1,10,0x1,0,0,0,0,0,0,0,0\nend,1,2\n\
+drop,1.1.1.1,10.0.12.1\ndrop,2.2.2.2,10.0.12.2\nend,2,2\n";
+
+/// Three requests for it.
+const REQUESTS: &[u8] = b"ask,7,1.1.1.1,2.2.2.2,0,1000,0x0,0x0,0x0,\n\
+ask,8,1.1.1.1,2.2.2.2,0,1000,0x0,0x0,0x0,1.1.1.1/32l\n\
+ask,9,1.1.1.1,2.2.2.2,0,1000,0x0,0x0,0x0,\n";
+
+/// Replies at versions that fall, one of which is wrong. A request has none.
+const REPLIES: &[u8] = b"ask 8 v2 none\nask 7 v1 \
+route cost=10 hops=1 again=no ero=000c140101080a000c022000\napplied 2\n";
+
+/// Whether the audit finds the one good reply, and the faults.
+fn is_found(alloc: Global) -> Result<bool, AuditError> {
+    let found = audit(alloc, JOURNAL, REQUESTS, REPLIES)?;
+    let faults = [
+        AuditFault::Altered { line: 1 },
+        AuditFault::Unanswered { id: 9 },
+    ];
+    Ok(found.good == 1 && found.faults.as_slice() == faults.as_slice())
+}
+
+#[test]
+fn audits_while_memory_is_refused(rt: HostRuntime) -> Result<(), Fail> {
+    let alloc = rt.alloc();
+    let found = match is_found(alloc) {
+        Err(AuditError::Memory) => !has_memory(alloc) || is_found(alloc) == Ok(true),
+        found => found == Ok(true),
+    };
+    assert_case(&rt, REPLIES, found);
+    Ok(())
+}

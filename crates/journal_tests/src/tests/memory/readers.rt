@@ -1,0 +1,141 @@
+//! Readers while memory is refused: each call answers in full or that memory is refused, and it
+//! answers in full once there is memory again.
+
+ghost use Rattle.cspf_rows.specs.GivenBatches.{CanRead};
+
+use crate::tests::{assert_case, empty_batch};
+use cspf_addr::{Addr, Hops, Mask, parse_hops};
+use cspf_model::{Batch, Change, Link, Request, RequestError};
+use cspf_rows::{
+    JournalReader, JournalStep, ReadError, RequestsError, Rest, read_journal, read_requests,
+};
+use std::alloc::Global;
+use std::test::Fail;
+
+/// Whether memory is given now.
+fn has_memory(alloc: Global) -> bool {
+    match Vec::from_slice(alloc, &[1u8]) {
+        Ok(bytes) => bytes.len() == 1,
+        Err(_) => false,
+    }
+}
+
+/// A journal of one batch, and after it a row that breaks off.
+const TORN: &[u8] = b"put,1.1.1.1,10.0.12.1,2.2.2.2,10.0.12.2,10,0x1,\
+1000,1000,1000,1000,1000,1000,1000,1000\nend,1,1\nput,2.2.2.2,10.0.1";
+
+/// Whether the journal is read as its batch, which puts the link, and a torn rest.
+fn is_read(alloc: Global, link: &Link) -> Result<bool, ReadError> {
+    let journal = read_journal(alloc, TORN)?;
+    if journal.batches.len() != 1 || journal.rest != Rest::Torn {
+        return Ok(false);
+    }
+    let batch = &journal.batches[0];
+    Ok(batch.number == 1 && batch.changes.as_slice() == [Change::Put(*link)].as_slice())
+}
+
+/// Whether the journal is read, at the second try where memory is there again, or memory is refused
+/// for good.
+fn is_read_at_last(alloc: Global, link: &Link) -> bool {
+    let read = is_read(alloc, link);
+    if read == Err(ReadError::Memory) {
+        return !has_memory(alloc) || is_read(alloc, link) == Ok(true);
+    }
+    read == Ok(true)
+}
+
+#[test]
+fn journals_while_memory_is_refused(rt: HostRuntime) -> Result<(), Fail> {
+    let (from, local) = (Addr::new(0x0101_0101), Addr::new(0x0a00_0c01));
+    let (to, remote) = (Addr::new(0x0202_0202), Addr::new(0x0a00_0c02));
+    let link = Link::new(from, local, to, remote, 10, Mask::new(1), [1000; 8])?;
+    assert_case(&rt, b"read", is_read_at_last(rt.alloc(), &link));
+    assert_case(&rt, b"given", is_given_at_last(rt.alloc(), &link));
+    Ok(())
+}
+
+/// Whether a reader gives the journal's batch, and comes to a torn rest.
+fn gives(
+    journal: &mut JournalReader<&[u8]>,
+    batch: &mut Batch,
+    link: &Link,
+) -> Result<bool, ReadError>
+    requires { CanRead journal.old }
+{
+    if journal.read_batch(batch)? != JournalStep::Batch || batch.number != 1 {
+        return Ok(false);
+    }
+    if batch.changes.as_slice() != [Change::Put(*link)].as_slice() {
+        return Ok(false);
+    }
+    Ok(journal.read_batch(batch)? == JournalStep::End(Rest::Torn))
+}
+
+/// Whether a reader of the journal does so.
+fn is_given(alloc: Global, link: &Link) -> Result<bool, ReadError> {
+    gives(
+        &mut JournalReader::new(alloc, TORN),
+        &mut empty_batch(alloc),
+        link,
+    )
+}
+
+/// Whether the batch is given, at the second try where memory is there again, or memory is refused
+/// for good.
+fn is_given_at_last(alloc: Global, link: &Link) -> bool {
+    let given = is_given(alloc, link);
+    if given == Err(ReadError::Memory) {
+        return !has_memory(alloc) || is_given(alloc, link) == Ok(true);
+    }
+    given == Ok(true)
+}
+
+/// A request without hops, and the same with a list of hops and with an object.
+const ASKS: &[u8] = b"ask,7,1.1.1.1,2.2.2.2,0,1000,0x1,0x2,0x4,\n\
+ask,8,1.1.1.1,2.2.2.2,0,1000,0x1,0x2,0x4,10.0.0.0/8l 4.4.4.4/32s\n\
+ask,9,1.1.1.1,2.2.2.2,0,1000,0x1,0x2,0x4,ero:0014140181080a00000008010108040404042000";
+
+/// The request with this number and these hops.
+fn request(id: u64, hops: Hops) -> Result<Request, RequestError> {
+    let (from, to) = (Addr::new(0x0101_0101), Addr::new(0x0202_0202));
+    let (exclude_any, include_any) = (Mask::new(1), Mask::new(2));
+    let include_all = Mask::new(4);
+    Request::new(
+        id,
+        from,
+        to,
+        0,
+        1000,
+        exclude_any,
+        include_any,
+        include_all,
+        hops,
+    )
+}
+
+/// Whether the requests are read as these.
+fn are_read(alloc: Global, wanted: &[Request]) -> Result<bool, RequestsError> {
+    Ok(read_requests(alloc, ASKS)?.as_slice() == wanted)
+}
+
+/// Whether the requests are read, at the second try where memory is there again, or memory is
+/// refused for good.
+fn are_read_at_last(alloc: Global, wanted: &[Request]) -> bool {
+    let read = are_read(alloc, wanted);
+    if read == Err(RequestsError::Memory) {
+        return !has_memory(alloc) || are_read(alloc, wanted) == Ok(true);
+    }
+    read == Ok(true)
+}
+
+#[test]
+fn requests_while_memory_is_refused(rt: HostRuntime) -> Result<(), Fail> {
+    let hops = parse_hops(b"10.0.0.0/8l 4.4.4.4/32s")?;
+    let wanted = [
+        request(7, Hops::none())?,
+        request(8, hops)?,
+        request(9, hops)?,
+    ];
+    assert_case(&rt, b"requests", are_read_at_last(rt.alloc(), &wanted));
+    Ok(())
+}

@@ -1,0 +1,62 @@
+//! That each line is out before the next row is read.
+
+use super::{Refusals, lines_of, no_events, rows_of};
+use crate::tests::assert_case;
+use cspf_rows::open_records;
+use cspf_stream::answer_rows;
+use std::alloc::Global;
+
+const ROWS: [&[u8]; 5] = [
+    b"end,1,0\n",
+    b"put,1.1.1.1\n",
+    b"\n",
+    b"\"ask\"\n",
+    b"bye\n",
+];
+
+const ANSWERS: &[u8] = b"row 2 refused: fields\nrow 3 refused: fields\nrow 4 refused: kind\n";
+
+/// Whether each line is flushed before more is read, once for each.
+fn is_flushed_in_time(alloc: Global) -> bool {
+    let events = no_events();
+    let reader = rows_of(&ROWS, false, &events);
+    let mut writer = lines_of(alloc, 1000, 1000, &events);
+    let mut answering = Refusals {
+        refused: 0,
+        no_memory_at: 0,
+    };
+    let mut rows = open_records(alloc, reader);
+    let found = answer_rows(&(), alloc, &mut rows, &mut writer, &mut answering);
+    found == Ok(())
+        && writer.held.as_slice() == ANSWERS
+        && !events.is_late.get()
+        && events.flushes.get() == 3
+        && answering.refused == 3
+}
+
+/// Each row is answered, and its line is let out before more is read. No line is written, and
+/// nothing flushed, for a row that is answered nothing.
+#[test]
+fn lines_before_the_next_row(rt: HostRuntime) {
+    assert_case(&rt, ANSWERS, is_flushed_in_time(rt.alloc()));
+}
+
+/// Whether a stream is answered nothing.
+fn is_answered_nothing(alloc: Global, text: &[u8]) -> bool {
+    let mut written = Vec::new(alloc);
+    let mut answering = Refusals {
+        refused: 0,
+        no_memory_at: 0,
+    };
+    let mut rows = open_records(alloc, text);
+    let found = answer_rows(&(), alloc, &mut rows, &mut written, &mut answering);
+    found == Ok(()) && written.is_empty() && answering.refused == 0
+}
+
+/// A stream without rows is answered nothing.
+#[test]
+fn no_rows(rt: HostRuntime) {
+    let is_empty = is_answered_nothing(rt.alloc(), b"");
+    let are_lines = is_answered_nothing(rt.alloc(), b"\n\n");
+    assert_case(&rt, b"", is_empty && are_lines);
+}

@@ -1,0 +1,121 @@
+//! The state where a read, a row, a write or a flush fails.
+
+use super::{Refusals, lines_of, no_events, rows_of};
+use crate::tests::assert_case;
+use cspf_rows::open_records;
+use cspf_stream::{StreamError, answer_rows};
+use std::alloc::Global;
+
+const ROWS: [&[u8]; 3] = [b"a\n", b"end,1,0\n", b"b\n"];
+
+const ANSWERS: &[u8] = b"row 1 refused: kind\nrow 3 refused: kind\n";
+
+/// Where a stream goes wrong, and the state then.
+struct Fault {
+    /// The bytes that the writer takes.
+    most: usize,
+    /// The flushes that the writer makes.
+    most_flushes: u32,
+    /// At this place memory is refused.
+    no_memory_at: u64,
+    /// The error, where the read after the rows fails too.
+    error: StreamError,
+    /// The bytes that are written.
+    written: usize,
+    /// The rows that were read.
+    read: usize,
+    /// The rows that were refused.
+    refused: u64,
+}
+
+const FAULTS: [Fault; 7] = [
+    Fault {
+        most: 100,
+        most_flushes: 9,
+        no_memory_at: 0,
+        error: StreamError::Read,
+        written: 40,
+        read: 3,
+        refused: 2,
+    },
+    Fault {
+        most: 0,
+        most_flushes: 9,
+        no_memory_at: 0,
+        error: StreamError::Write,
+        written: 0,
+        read: 1,
+        refused: 1,
+    },
+    Fault {
+        most: 25,
+        most_flushes: 9,
+        no_memory_at: 0,
+        error: StreamError::Write,
+        written: 25,
+        read: 3,
+        refused: 2,
+    },
+    Fault {
+        most: 40,
+        most_flushes: 0,
+        no_memory_at: 0,
+        error: StreamError::Flush,
+        written: 20,
+        read: 1,
+        refused: 1,
+    },
+    Fault {
+        most: 40,
+        most_flushes: 1,
+        no_memory_at: 0,
+        error: StreamError::Flush,
+        written: 40,
+        read: 3,
+        refused: 2,
+    },
+    Fault {
+        most: 40,
+        most_flushes: 9,
+        no_memory_at: 2,
+        error: StreamError::Memory,
+        written: 20,
+        read: 2,
+        refused: 1,
+    },
+    Fault {
+        most: 19,
+        most_flushes: 9,
+        no_memory_at: 1,
+        error: StreamError::Memory,
+        written: 0,
+        read: 1,
+        refused: 0,
+    },
+];
+
+/// Whether a stream goes wrong with this error, so much written, and so many rows read and refused.
+fn is_stopped(alloc: Global, fault: &Fault) -> bool {
+    let events = no_events();
+    let mut reader = rows_of(&ROWS, true, &events);
+    let mut writer = lines_of(alloc, fault.most, fault.most_flushes, &events);
+    let mut answering = Refusals {
+        refused: 0,
+        no_memory_at: fault.no_memory_at,
+    };
+    let mut rows = open_records(alloc, &mut reader);
+    let found = answer_rows(&(), alloc, &mut rows, &mut writer, &mut answering);
+    found == Err(fault.error)
+        && writer.held.len() == fault.written
+        && ANSWERS.starts_with(writer.held.as_slice())
+        && rows.get_ref().at == fault.read
+        && answering.refused == fault.refused
+}
+
+#[test]
+fn what_stands_at_a_fault(rt: HostRuntime) {
+    for fault in &FAULTS {
+        let written = ANSWERS.get(..fault.written).unwrap_or(ANSWERS);
+        assert_case(&rt, written, is_stopped(rt.alloc(), fault));
+    }
+}

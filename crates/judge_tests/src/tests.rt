@@ -1,4 +1,0 @@
-mod audits;
-mod memory;
-mod snapshots;
-mod streams;

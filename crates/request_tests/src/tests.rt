@@ -1,0 +1,29 @@
+mod absorbing;
+mod addresses;
+mod graph;
+mod heads;
+mod hops;
+mod masks;
+mod memory;
+mod networks;
+mod numbers;
+mod objects;
+mod placing;
+mod prefixes;
+mod replies;
+
+use std::alloc::AllocError;
+use std::process::Abort;
+
+// Stops at a case that doesn't hold, with its name and its number.
+fn assert_case(rt: &impl Abort, name: &str, number: usize, holds: bool) {
+    assert!(rt; holds, "{name} {number}");
+}
+
+// Whether the text is written, and is this one.
+fn is_text(text: Result<String, AllocError>, wanted: &str) -> bool {
+    match text {
+        Ok(text) => text.as_str() == wanted,
+        Err(_) => false,
+    }
+}

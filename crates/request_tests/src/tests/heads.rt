@@ -1,0 +1,69 @@
+//! The heads of reply lines, and lines that have none.
+
+use super::assert_case;
+use cspf_ero::reply_head;
+
+/// Lines, and the id and the version that each begins with.
+const HEADS: &[(&[u8], u64, u32)] = &[
+    (b"ask 7 v1 none", 7, 1),
+    (b"ask 0 v0 ", 0, 0),
+    (b"ask 7 v1  v2 none\n", 7, 1),
+    (
+        b"ask 18446744073709551615 v4294967295 unknown-to",
+        u64::MAX,
+        u32::MAX,
+    ),
+];
+
+/// How many of the first lines begin so.
+fn count_heads() -> usize {
+    for (at, (line, id, version)) in HEADS.iter().enumerate() {
+        match reply_head(line) {
+            Some(head) if head.id == *id && head.version == *version => {}
+            _ => return at,
+        }
+    }
+    HEADS.len()
+}
+
+#[test]
+fn heads_are_read(rt: HostRuntime) {
+    let first = count_heads();
+    assert_case(&rt, "heads up to", first, first == HEADS.len());
+}
+
+const OTHERS: &[&[u8]] = &[
+    b"",
+    b"hello",
+    b"ask",
+    b"ask 7",
+    b"ask 7 ",
+    b"ask 7 v1",
+    b"ask 7 1 none",
+    b"ask  7 v1 none",
+    b" ask 7 v1 none",
+    b"asks 7 v1 none",
+    b"ask 07 v1 none",
+    b"ask 7 v01 none",
+    b"ask +7 v1 none",
+    b"ask 7 v none",
+    b"ask 7 v1\tnone",
+    b"ask 18446744073709551616 v1 none",
+    b"ask 7 v4294967296 none",
+];
+
+/// How many of the first lines have no head.
+fn count_others() -> usize {
+    for (at, line) in OTHERS.iter().enumerate() {
+        if reply_head(line).is_some() {
+            return at;
+        }
+    }
+    OTHERS.len()
+}
+
+#[test]
+fn other_lines_have_none(rt: HostRuntime) {
+    let first = count_others();
+    assert_case(&rt, "other lines up to", first, first == OTHERS.len());
+}

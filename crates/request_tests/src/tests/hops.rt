@@ -1,0 +1,90 @@
+//! Lists of hops that are read, refused, and as long as they may be.
+
+use super::{assert_case, is_text};
+use cspf_addr::{Addr, Hop, Hops, HopsError, MOST_HOPS, Prefix, PrefixError, parse_hops};
+use std::alloc::Global;
+
+// A hop of the prefix of this length of an address.
+fn hop(address: u32, length: u8, loose: bool) -> Result<Hop, PrefixError> {
+    let prefix = Prefix::new(Addr::new(address), length)?;
+    Ok(Hop { prefix, loose })
+}
+
+// Whether these are the hops, in this order, by each call.
+fn are_hops(hops: &Hops, wanted: &[Hop]) -> bool {
+    for (at, hop) in wanted.iter().enumerate() {
+        if hops.get(at) != Some(*hop) {
+            return false;
+        }
+    }
+    let ends = hops.len() == wanted.len() && hops.is_empty() == wanted.is_empty();
+    ends && hops.get(wanted.len()).is_none() && hops.as_slice() == wanted
+}
+
+// Whether the text is read as these hops, in this order.
+fn are_read(text: &[u8], wanted: &[Hop]) -> bool {
+    match parse_hops(text) {
+        Ok(hops) => are_hops(&hops, wanted),
+        Err(_) => false,
+    }
+}
+
+// Whether no hop, each of two and both in turn are read from their texts.
+fn are_spelled(one: &[Hop], other: &[Hop], both: &[Hop]) -> bool {
+    are_read(b"", &[])
+        && are_read(b"10.9.0.1/16s", one)
+        && are_read(b"10.0.0.0/8l", other)
+        && are_read(b"10.0.0.0/8l 10.9.0.1/16s", both)
+}
+
+// Whether the hops are written so.
+fn are_written(alloc: Global, strict: Hop, loose: Hop) -> bool {
+    is_text(strict.text(alloc), "10.9.0.0/16s") && is_text(loose.text(alloc), "10.0.0.0/8l")
+}
+
+#[test]
+fn hops_with_a_space_between(rt: HostRuntime) -> Result<(), PrefixError> {
+    let strict = hop(0x0a09_0000, 16, false)?;
+    let loose = hop(0x0a00_0000, 8, true)?;
+    let mut pushed = Hops::none();
+    pushed.push(loose);
+    let is_pushed = pushed.as_slice() == [loose].as_slice();
+    let are_spelled = are_spelled(&[strict], &[loose], &[loose, strict]);
+    let are_written = are_written(rt.alloc(), strict, loose);
+    assert_case(&rt, "hops", 2, are_spelled && are_written && is_pushed);
+    Ok(())
+}
+
+// Whether a text is refused for this part, from 1, that is no hop.
+fn is_bad(text: &[u8], at: usize) -> bool {
+    parse_hops(text) == Err(HopsError::BadHop { at })
+}
+
+// Whether a text is refused for its many parts.
+fn has_too_many(text: &[u8]) -> bool {
+    parse_hops(text) == Err(HopsError::TooManyHops)
+}
+
+const EIGHT: &[u8] =
+    b"1.0.0.0/8s 2.0.0.0/8s 3.0.0.0/8s 4.0.0.0/8s 5.0.0.0/8s 6.0.0.0/8s 7.0.0.0/8s 8.0.0.0/8s";
+
+#[test]
+fn hops_that_are_refused(rt: HostRuntime) {
+    let are_bad = is_bad(b"10.0.0.0/8l  10.0.0.0/8l", 2)
+        && is_bad(b" ", 1)
+        && is_bad(b"10.0.0.0/8", 1);
+    let are_too_many = has_too_many(EIGHT)
+        && has_too_many(b"a b c d e f g h")
+        && has_too_many(b"       ");
+    assert_case(&rt, "refused hops", 6, are_bad && are_too_many);
+}
+
+const SEVEN: &[u8] =
+    b"1.0.0.0/8s 2.0.0.0/8s 3.0.0.0/8s 4.0.0.0/8s 5.0.0.0/8s 6.0.0.0/8s 7.0.0.0/8s";
+
+#[test]
+fn as_many_hops_as_are_kept(rt: HostRuntime) {
+    let seven = parse_hops(SEVEN);
+    let holds = matches!(seven, Ok(hops) if hops.len() == MOST_HOPS);
+    assert_case(&rt, "hops", MOST_HOPS, holds);
+}

@@ -1,0 +1,155 @@
+//! Placements on the triangle: what they take, what they leave, and what they give back.
+
+use super::assert_case;
+use super::networks::{ONE, THREE, TWO, book, interface, is_released, left, placed};
+use cspf_addr::Addr;
+use cspf_book::{Book, PlaceError};
+use std::alloc::Global;
+
+/// What is asked of a book.
+#[derive(Clone, Copy)]
+enum Step {
+    /// The id, the bandwidth and the holding priority, and how many links the route has, or 0.
+    Place(u64, u64, u8, usize),
+    /// The id, and whether there is a placement with it.
+    Release(u64, bool),
+}
+
+use Step::{Place, Release};
+
+/// A step, and what is left on the direct link after it.
+type Case = (Step, [u64; 8]);
+
+const THIRD_TAKES_LONGER_WAY: &[Case] = &[
+    (
+        Place(1, 600, 5, 1),
+        [1000, 1000, 1000, 1000, 1000, 400, 400, 400],
+    ),
+    (
+        Place(2, 400, 6, 1),
+        [1000, 1000, 1000, 1000, 1000, 400, 0, 0],
+    ),
+    (
+        Place(3, 700, 0, 2),
+        [1000, 1000, 1000, 1000, 1000, 400, 0, 0],
+    ),
+    (
+        Place(4, 700, 7, 0),
+        [1000, 1000, 1000, 1000, 1000, 400, 0, 0],
+    ),
+];
+
+/// Its own bandwidth isn't counted against a request that moves. What doesn't fit leaves the earlier
+/// placement.
+const MOVES_AND_RELEASES: &[Case] = &[
+    (
+        Place(1, 600, 5, 1),
+        [1000, 1000, 1000, 1000, 1000, 400, 400, 400],
+    ),
+    (
+        Place(1, 900, 3, 1),
+        [1000, 1000, 1000, 100, 100, 100, 100, 100],
+    ),
+    (
+        Place(1, 1001, 7, 0),
+        [1000, 1000, 1000, 100, 100, 100, 100, 100],
+    ),
+    (
+        Release(2, false),
+        [1000, 1000, 1000, 100, 100, 100, 100, 100],
+    ),
+    (
+        Place(2, 100, 7, 1),
+        [1000, 1000, 1000, 100, 100, 100, 100, 0],
+    ),
+    (
+        Release(1, true),
+        [1000, 1000, 1000, 1000, 1000, 1000, 1000, 900],
+    ),
+    (Release(2, true), [1000; 8]),
+    (Release(1, false), [1000; 8]),
+];
+
+/// Whether the book answers to the step as it says.
+fn is_answer(alloc: Global, book: &mut Book, step: Step) -> bool {
+    match step {
+        Place(id, bandwidth, hold, links) => {
+            placed(alloc, book, id, bandwidth, b"", hold) == Some(Ok(links))
+        }
+        Release(id, is) => is_released(book, id) == is,
+    }
+}
+
+/// Whether it answers so to each step.
+fn are_answers(alloc: Global, book: &mut Book, cases: &[Case]) -> bool {
+    for (step, free) in cases {
+        if !is_answer(alloc, book, *step) || left(book, ONE, THREE) != *free {
+            return false;
+        }
+    }
+    true
+}
+
+/// Whether a book of these cases has this many placements then, at this version.
+fn is_book_of(alloc: Global, cases: &[Case], placements: usize, version: u32) -> bool {
+    match book(alloc) {
+        Some(mut book) => {
+            let answers = are_answers(alloc, &mut book, cases);
+            answers && book.placements().len() == placements && book.version() == version
+        }
+        None => false,
+    }
+}
+
+#[test]
+fn third_takes_longer_way(rt: HostRuntime) {
+    let is = is_book_of(rt.alloc(), THIRD_TAKES_LONGER_WAY, 3, 4);
+    assert_case(&rt, "third takes longer way", 0, is);
+}
+
+#[test]
+fn moves_and_releases(rt: HostRuntime) {
+    let is = is_book_of(rt.alloc(), MOVES_AND_RELEASES, 0, 6);
+    assert_case(&rt, "moves and releases", 0, is);
+}
+
+/// Whether 700 bytes per second through 2.2.2.2, held at priority 4, are counted on both links at 4 and
+/// 255, and not at 3.
+fn is_counted(alloc: Global, book: &mut Book) -> bool {
+    let is_placed = placed(alloc, book, 1, 700, b"2.2.2.2/32s", 4) == Some(Ok(2));
+    let first = Addr::new(ONE);
+    let second = Addr::new(TWO);
+    is_placed
+        && book.counted(first, interface(ONE, TWO), 3) == 0
+        && book.counted(first, interface(ONE, TWO), 4) == 700
+        && book.counted(second, interface(TWO, THREE), 255) == 700
+        && book.counted(second, interface(TWO, ONE), 7) == 0
+}
+
+#[test]
+fn counted_along_route(rt: HostRuntime) {
+    let alloc = rt.alloc();
+    let is = match book(alloc) {
+        Some(mut book) => is_counted(alloc, &mut book),
+        None => false,
+    };
+    assert_case(&rt, "counted", 0, is);
+}
+
+/// Whether a route to 3.3.3.3, back to 1.1.1.1, and to 3.3.3.3 again is refused.
+fn is_refused(alloc: Global, book: &mut Book) -> bool {
+    let why = placed(alloc, book, 1, 600, b"3.3.3.3/32s 1.1.1.1/32s", 7);
+    why == Some(Err(PlaceError::Twice))
+        && book.placements().is_empty()
+        && left(book, ONE, THREE) == [1000; 8]
+}
+
+#[test]
+fn route_twice_through_link(rt: HostRuntime) {
+    let alloc = rt.alloc();
+    let is = match book(alloc) {
+        Some(mut book) => is_refused(alloc, &mut book),
+        None => false,
+    };
+    assert_case(&rt, "twice through a link", 0, is);
+}

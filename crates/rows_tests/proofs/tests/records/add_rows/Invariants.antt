@@ -1,5 +1,0 @@
-use Rattle.cspf_rows.specs.Records.{IsPlain}
-use Rattle.rows_tests.proofs.tests.records.add_rows.Given as goal
-
-abbrev pub invariant-loop-row : goal.invariant-loop-row
-invariant-loop-row l = IsPlain l.rows
