@@ -137,6 +137,8 @@ class Sheet:
 
     def under(self, box):
         """How much of lines is under a box."""
+        if not self.ink:
+            return 0
         return sum(self.ink.get((column, row), 0) for column in range(int(box[0] // STEP), int(box[2] // STEP) + 1)
                    for row in range(int(box[1] // STEP), int(box[3] // STEP) + 1))
 
