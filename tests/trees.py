@@ -19,7 +19,7 @@ from versions import Versions
 
 HERE = os.path.dirname(os.path.abspath(__file__))
 TOP = os.path.dirname(HERE)
-OFTEN = 20  # rounds of all requests; the eighth of one tail-end and affinities has a tree
+OFTEN = 20  # rounds of all requests; the sixth of one tail-end and affinities has a tree
 WAYS = [[], ["--trees", "0"], ["--trees", "1"], ["--trees", "1024"]]
 WRONG = ["-1", "1025", "x", "", "1.5", "65536", "18446744073709551617"]
 CLIENTS = 3

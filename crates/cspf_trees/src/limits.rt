@@ -5,10 +5,10 @@ pub const MOST_TREES: usize = 4096;
 pub const TREE_BYTES: usize = 6144;
 
 /// How many rows a class may be in.
-pub(crate) const WAYS: usize = 4;
+pub(crate) const WAYS: usize = 32;
 
 /// The ask of its class at which a tree is grown.
-pub(crate) const ASKS_FOR_A_TREE: u32 = 8;
+pub(crate) const ASKS_FOR_A_TREE: u32 = 6;
 
 /// More asks of a class are not counted.
 pub(crate) const MOST_ASKS: u32 = 64;

@@ -15,7 +15,7 @@ use cspf_search::{best, best_by_tree};
 use std::alloc::{AllocError, Global};
 
 /// Trees of one database, at most as many as `new` is told and `MOST_TREES`, with `TREE_BYTES` of bounds
-/// each. A tree is grown at the eighth ask of its tail-end and affinities. Where there are as many, or
+/// each. A tree is grown at the sixth ask of its tail-end and affinities. Where there are as many, or
 /// memory for it is refused, requests are searched without it.
 ///
 /// Beside them are the rows that count asks, which take 393,216 bytes from the first ask on. The rows of

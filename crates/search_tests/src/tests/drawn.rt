@@ -134,7 +134,7 @@ fn without_marks(
     }
 }
 
-// A failure, unless trees answer a request this outcome, nine times. They have its tree at the eighth.
+// A failure, unless trees answer a request this outcome, nine times. They have its tree at the sixth.
 fn check_trees(
     alloc: Global,
     table: &Table,

@@ -128,7 +128,7 @@ fn square(alloc: Global, marks: &[u32]) -> Result<TreeTable, Fail> {
     table_after(alloc, changes)
 }
 
-// Whether a case's request is answered as it says, nine times. Trees are grown at the eighth.
+// Whether a case's request is answered as it says, nine times. Trees are grown at the sixth.
 fn holds(alloc: Global, case: &Case) -> Result<bool, Fail> {
     let (marks, ends, hops, wanted) = *case;
     let mut table = square(alloc, marks)?;

@@ -18,7 +18,7 @@ fn has_memory(alloc: Global) -> bool {
     }
 }
 
-// Whether nine asks for a route over the link are answered it. A tree is grown at the eighth.
+// Whether nine asks for a route over the link are answered it. A tree is grown at the sixth.
 fn are_routes(
     alloc: Global,
     table: &Table,
