@@ -89,7 +89,8 @@ fn count(alloc: Global, table: &Table, request: &Request, due: Option<u32>, row:
 }
 
 /// Asks a row for the class of a request. A row of another class is counted down, and taken over once
-/// its asks are used up. Returns whether the row is of the class now.
+/// its asks are used up. A request with hops changes no row, since a tree spares it its last leg alone.
+/// Returns whether the row is of the class now.
 pub(crate) fn ask(
     alloc: Global,
     table: &Table,
@@ -107,6 +108,9 @@ pub(crate) fn ask(
     ensures asked { result ≡ true → IsAskedOf request.now generation row.new }
 {
     let is_mine = row.generation == generation && row.class == *class;
+    if !request.hops.is_empty() {
+        return is_mine;
+    }
     if !is_mine && row.generation == generation && row.asks > 0 {
         row.asks -= 1;
         return false;

@@ -15,8 +15,8 @@ use cspf_search::{best, best_by_tree};
 use std::alloc::{AllocError, Global};
 
 /// Trees of one database, at most as many as `new` is told and `MOST_TREES`, with `TREE_BYTES` of bounds
-/// each. A tree is grown at the sixth ask of its tail-end and affinities. Where there are as many, or
-/// memory for it is refused, requests are searched without it.
+/// each. A tree is grown at the sixth ask of its tail-end and affinities without hops. Where there are
+/// as many, or memory for it is refused, requests are searched without it.
 ///
 /// Beside them are the rows that count asks, which take 393,216 bytes from the first ask on. The rows of
 /// routers that alone own the prefixes of hops take 49,152 bytes from the first such hop on. Where there
@@ -68,7 +68,8 @@ impl Trees {
         Trees::from_ask(alloc, most, ASKS_FOR_A_TREE)
     }
 
-    /// As `new`, but a tree is grown at this ask of its tail-end and affinities, at 64 at the latest.
+    /// As `new`, but a tree is grown at this ask of its tail-end and affinities without hops, at 64 at
+    /// the latest.
     pub fn from_ask(alloc: Global, most: usize, due: u32) -> Trees
         ensures { (d : Database) → AreTreesOf d result }
     {

@@ -4,6 +4,7 @@
 ghost use Rattle.cspf_trees.specs.Trees.{AreTreesOf};
 
 use super::{Row, answered, check_same, draw, is_same, mark, one_way, request};
+use cspf_addr::Hops;
 use cspf_db::Table;
 use cspf_model::{Outcome, Request};
 use cspf_search::best;
@@ -134,7 +135,52 @@ fn without_marks(
     }
 }
 
-// A failure, unless trees answer a request this outcome, nine times. They have its tree at the sixth.
+// Asks trees six times for a request without its hops, so that its class has a tree.
+fn ask_without_hops(
+    alloc: Global,
+    table: &Table,
+    request: &Request,
+    trees: &mut Trees,
+) -> Result<(), Fail>
+    requires { AreTreesOf table.now trees.old }
+    ensures { AreTreesOf table.now trees.new }
+{
+    let direct = Request {
+        id: request.id,
+        from: request.from,
+        to: request.to,
+        setup: request.setup,
+        bandwidth: request.bandwidth,
+        exclude_any: request.exclude_any,
+        include_any: request.include_any,
+        include_all: request.include_all,
+        hops: Hops::none(),
+    };
+    for _ask in 0..6 {
+        trees.best(alloc, table, &direct)?;
+    }
+    Ok(())
+}
+
+// A failure, unless trees answer a request this outcome, three times.
+fn check_asks(
+    alloc: Global,
+    table: &Table,
+    request: &Request,
+    outcome: &Outcome,
+    trees: &mut Trees,
+) -> Result<(), Fail>
+    requires { AreTreesOf table.now trees.old }
+    ensures { AreTreesOf table.now trees.new }
+{
+    for _ask in 0..3 {
+        let found = trees.best(alloc, table, request)?;
+        check_same(outcome, &found)?;
+    }
+    Ok(())
+}
+
+// The same, before its class has a tree and then by it.
 fn check_trees(
     alloc: Global,
     table: &Table,
@@ -145,11 +191,9 @@ fn check_trees(
     requires { AreTreesOf table.now trees.old }
     ensures { AreTreesOf table.now trees.new }
 {
-    for _ask in 0..9 {
-        let found = trees.best(alloc, table, request)?;
-        check_same(outcome, &found)?;
-    }
-    Ok(())
+    check_asks(alloc, table, request, outcome, trees)?;
+    ask_without_hops(alloc, table, request, trees)?;
+    check_asks(alloc, table, request, outcome, trees)
 }
 
 // Whether a request has a route, by the trees of the network too. Where there are marks, it is the one
