@@ -4,6 +4,7 @@ import pty
 import re
 import select
 import shutil
+import signal
 import socket
 import subprocess
 import sys
@@ -70,10 +71,20 @@ def got(room, path="/metrics", method="GET"):
 
 
 def exchanged(room, data):
-    with socket.socket(socket.AF_UNIX) as made:
-        made.settimeout(PATIENCE)
-        made.connect(os.path.join(room, "metrics"))
-        made.sendall(data)
+    return answered(sent(room, data))
+
+
+def sent(room, data):
+    """A connection to the place of figures on which this is sent. It is refused where too many wait to be accepted."""
+    made = socket.socket(socket.AF_UNIX)
+    made.settimeout(PATIENCE)
+    made.connect(os.path.join(room, "metrics"))
+    made.sendall(data)
+    return made
+
+
+def answered(made):
+    with made:
         said = b""
         while more := made.recv(1 << 16):
             said += more
@@ -277,24 +288,15 @@ def page(program, checks, room):
         checks.true("a reader that comes then", ("routed_version", None) in figures_of_patiently(room), "")
         checks.true("they have five seconds", time.monotonic() - began < metrics.SECONDS + 5, time.monotonic() - began)
         checks.same("and end", [taken.rest() for taken in silent], [""] * metrics.MOST)
-        found, threads = [], [threading.Thread(target=lambda: found.append(got(room)[0].splitlines()[0])) for _ in range(100)]
-        for thread in threads:
-            thread.start()
+        front.child.send_signal(signal.SIGSTOP)  # (so that none is accepted before all have come)
+        readers = [sent(room, b"GET /metrics HTTP/1.1\r\n\r\n") for _ in range(100)]
+        front.child.send_signal(signal.SIGCONT)
         checks.same("an ask beside a hundred readers", asking.talk(ASKS["route"]), "ask 1 v0 unknown-from\n")
-        for thread in threads:
-            thread.join()
-        checks.same("a hundred readers at once", found, ["HTTP/1.1 200 OK"] * 100)
+        checks.same("a hundred readers at once", [answered(made)[0].splitlines()[0] for made in readers], ["HTTP/1.1 200 OK"] * 100)
 
 
 def figures_of_patiently(room):
-    with socket.socket(socket.AF_UNIX) as made:
-        made.settimeout(PATIENCE)
-        made.connect(os.path.join(room, "metrics"))
-        made.sendall(b"GET /metrics HTTP/1.0\r\n\r\n")
-        data = b""
-        while more := made.recv(1 << 16):
-            data += more
-    return {(found[1], found[3]): found[4] for line in data.decode().splitlines() if (found := status.SAMPLE.fullmatch(line))}
+    return {(found[1], found[3]): found[4] for line in got(room)[1].splitlines() if (found := status.SAMPLE.fullmatch(line))}
 
 
 # ---- the log

@@ -10,7 +10,7 @@ import struct
 
 from .loop import READ
 
-BACKLOG = 64  # connections that wait to be accepted
+BACKLOG = 128  # connections that wait to be accepted; a UNIX socket refuses others to a client that does not wait
 PAUSE, LINGER = 0.1, 1  # seconds: until accepting is tried again, and for what a closing connection still sends
 DROPPED = 1 << 16  # bytes of that which are dropped in a turn of the loop
 

@@ -7,7 +7,7 @@ import time
 from ..log import Log
 from ..loop import READ, Loop
 from ..metrics import Figures, Page
-from ..places import Door, Stopped, hang_up, tried
+from ..places import BACKLOG, Door, Stopped, hang_up, tried
 from . import wire
 from .asks import AGAIN, Asks
 from .keys import keys, set_key
@@ -184,7 +184,7 @@ class Front:
     def run(self):
         self.is_over = False
         with tried(f"{self.options.address}:{self.options.port}: bind"):
-            listener = socket.create_server((self.options.address, self.options.port), backlog=128)
+            listener = socket.create_server((self.options.address, self.options.port), backlog=BACKLOG)
         for peer, key in keys(self.options.keys):
             with tried(f"the key of {peer}"):
                 set_key(listener, peer, key)
