@@ -9,7 +9,7 @@ mod networks;
 mod shapes;
 mod strict;
 
-use cspf_addr::{Addr, Mask, parse_hops};
+use cspf_addr::{Addr, Hops, Mask, parse_hops};
 use cspf_db::Table;
 use cspf_model::{Batch, Change, Link, Outcome, Request};
 use cspf_search::{Tree, best, best_by_rounds, best_by_tree};
@@ -118,6 +118,21 @@ fn request(
     let (exclude, any, all) = (Mask::new(masks.0), Mask::new(masks.1), Mask::new(masks.2));
     let hops = parse_hops(hops)?;
     Ok(Request::new(1, from, to, setup, 1000, exclude, any, all, hops)?)
+}
+
+// The same request without its hops.
+fn without_hops(request: &Request) -> Request {
+    Request {
+        id: request.id,
+        from: request.from,
+        to: request.to,
+        setup: request.setup,
+        bandwidth: request.bandwidth,
+        exclude_any: request.exclude_any,
+        include_any: request.include_any,
+        include_all: request.include_all,
+        hops: Hops::none(),
+    }
 }
 
 // The next of a row of numbers that look drawn.

@@ -3,8 +3,7 @@
 
 ghost use Rattle.cspf_trees.specs.Trees.{AreTreesOf};
 
-use super::{Row, answered, check_same, draw, is_same, mark, one_way, request};
-use cspf_addr::Hops;
+use super::{Row, answered, check_same, draw, is_same, mark, one_way, request, without_hops};
 use cspf_db::Table;
 use cspf_model::{Outcome, Request};
 use cspf_search::best;
@@ -145,17 +144,7 @@ fn ask_without_hops(
     requires { AreTreesOf table.now trees.old }
     ensures { AreTreesOf table.now trees.new }
 {
-    let direct = Request {
-        id: request.id,
-        from: request.from,
-        to: request.to,
-        setup: request.setup,
-        bandwidth: request.bandwidth,
-        exclude_any: request.exclude_any,
-        include_any: request.include_any,
-        include_all: request.include_all,
-        hops: Hops::none(),
-    };
+    let direct = without_hops(request);
     for _ask in 0..6 {
         trees.best(alloc, table, &direct)?;
     }

@@ -2,7 +2,7 @@
 
 ghost use Rattle.cspf_trees.specs.Trees.{AreTreesOf};
 
-use super::{draw, is_same, request, table_of};
+use super::{draw, is_same, request, table_of, without_hops};
 use cspf_addr::{Addr, Mask};
 use cspf_db::Table;
 use cspf_model::{Change, Link, Request};
@@ -124,11 +124,14 @@ fn shaped_request(seed: &mut u32) -> Result<Request, Fail> {
     request(ends, 0, masks, hops)
 }
 
-// Whether trees answer a request as the plain search does.
+// Whether trees answer a request as the plain search does. Where it has hops, it is asked without them first, so that its class has a tree.
 fn agree(alloc: Global, table: &Table, request: &Request, trees: &mut Trees) -> Result<bool, Fail>
     requires { AreTreesOf table.now trees.old }
     ensures { AreTreesOf table.now trees.new }
 {
+    if !request.hops.is_empty() {
+        trees.best(alloc, table, &without_hops(request))?;
+    }
     let found = trees.best(alloc, table, request)?;
     Ok(is_same(&found, &best_by_rounds(alloc, table, request)?))
 }
