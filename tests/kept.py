@@ -237,7 +237,7 @@ def kills(program, checks):
                 timer = threading.Timer(draw.uniform(0, SERVING if is_served else took), kill, [child, at // 2 % 4])
                 if is_served:
                     checks.same(f"start {at} is ready", child.stdout.readline(), "ready\n")
-                    took = max(took, time.monotonic() - begun)
+                    took = time.monotonic() - begun  # (not the longest: one slow start would move later kills out of starts)
                 else:
                     timer.start()
                 good = updater.bring(env["ROUTED_UPDATES"], draw, child, timer.start if is_served else lambda: None)
