@@ -316,12 +316,16 @@ def crowded(program, checks, room):
             one.recv(100)
         return held
 
+    began = time.monotonic()
     with Run(program.path, room, between=watching) as run:
+        def busy():
+            return run.said().count("the place of versions is busy")
+
         run.publish(*rows())
         client = Client(run.port, "127.0.14.1")
         client.open()
-        time.sleep(2.5)
-        checks.true("a place of versions that is full is said each second", 1 < run.said().count("the place of versions is busy") < 5, run.said())
+        wait(lambda: busy() > 2)
+        checks.true("a place of versions that is full is said each second", 2 < busy() < time.monotonic() - began + 1, run.said())
         checks.same("nothing else is said", run.said().count("has ended"), 0)
         for one in run.held:
             one.close()
