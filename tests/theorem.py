@@ -376,7 +376,8 @@ def theorem(checks):
     checks.same("how many definitions", told(small.words.values()), "5 definitions, 13 lines in 2 files")
     checks.same("what isn't there", small.lost, ["call cspf_low::put", "definition cspf_low.specs.Orders.down"])
     comments = {it.name: comment(it, SMALL) for it in small.every}
-    checks.same("the comments of definitions", (comments["IsTakenFrom"], comments["take"], comments["Shelf"]), ("the first one is taken", "IsUncited", ""))
+    found = [comments[name] for name in ("IsTakenFrom", "take", "Shelf")]
+    checks.same("the comments of definitions", found, ["the first one is taken", "IsUncited", ""])
     of_small = lambda page: list(differences(page, SMALL, low, SMALL_TIERS, {"All": "cspf_low::take"}, {"IsFew"}))
     checks.same("what is wrong with a page of that tree", of_small(SMALL_PAGE), [])
     for old, new, fault in SMALL_FAULTS:
