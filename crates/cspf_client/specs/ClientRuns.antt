@@ -6,7 +6,7 @@ use Rattle.cspf_stream.specs.declared.error.StreamError.{StreamError}
 use Rattle.cspf_stream.specs.declared.error.StreamError.TheVariants as stream_error
 use Rattle.cspf_client.specs.ClientRows.{IsClientAnswered, IsClientUnanswered}
 use Rattle.cspf_client.specs.SessionStates.{SessionState, HasGoneForward}
-use Rattle.cspf_client.specs.ServingStates.{ServingState, reader_rows}
+use Rattle.cspf_client.specs.ServingStates.{ServingState, unread_rows}
 use Rattle.cspf_client.specs.declared.error.ClientError.{ClientError}
 use Rattle.cspf_client.specs.declared.error.ClientError.TheVariants as error
 
@@ -20,10 +20,10 @@ IsStreamStopped why all s t old new =
 abbrev pub IsClientStopped : {Q V : Type 0} → (Q → Option (List ℕ)) → (V → Option (List ℕ)) → ClientError → ServingState Q V → ServingState Q V → Type 0
 IsClientStopped bytes contents (error.Stream why) old new =
     (why ≡ stream_error.Memory → new.state.no_entry ≡ false)
-    × IsStreamStopped why (reader_rows bytes old.requests) old.state new.state (contents old.replies) (contents new.replies)
+    × IsStreamStopped why (unread_rows bytes old.requests) old.state new.state (contents old.replies) (contents new.replies)
 IsClientStopped bytes contents error.NoEntry old new =
     (new.state.no_entry ≡ true)
-    × IsStreamStopped stream_error.Memory (reader_rows bytes old.requests) old.state new.state (contents old.replies) (contents new.replies)
+    × IsStreamStopped stream_error.Memory (unread_rows bytes old.requests) old.state new.state (contents old.replies) (contents new.replies)
 IsClientStopped bytes contents error.Ahead old new = ⊥
 
 -- A client was run: all rows of its requests are answered and the lines are written, or its stream
@@ -31,7 +31,7 @@ IsClientStopped bytes contents error.Ahead old new = ⊥
 abbrev pub IsClientRun : {Q V : Type 0} → (Q → Option (List ℕ)) → (V → Option (List ℕ)) → ServingState Q V → ServingState Q V → Type 0
 IsClientRun bytes contents old new =
     MatchResult new.end
-    (λ done. AreAllAnswered IsClientAnswered (reader_rows bytes old.requests) old.state new.state (contents old.replies) (contents new.replies))
+    (λ done. AreAllAnswered IsClientAnswered (unread_rows bytes old.requests) old.state new.state (contents old.replies) (contents new.replies))
     (λ why. IsClientStopped bytes contents why old new)
 
 -- The batches that a client knew before some rows are a prefix of those that it knows after them, and

@@ -1,22 +1,21 @@
 //! A client of a server: its streams, how all its rows are answered, and its result.
 
-ghost use Rattle.std.specs.Prelude.{◌≡◌, ◌<◌, None, OnOk, IfErr};
+ghost use Rattle.std.specs.Prelude.{◌≡◌, ◌<◌, None, Some, OnOk, IfErr};
 ghost use Rattle.std.specs.Option.{option_map};
 ghost use Rattle.cspf_publish.specs.KnownBatches.{AreFirstOf};
-ghost use Rattle.cspf_rows.specs.Records.{IsPlain, rows_of, rows_left};
+ghost use Rattle.cspf_rows.specs.Records.{rows_of};
 ghost use Rattle.cspf_stream.specs.RowAnswers.{AreAllAnswered};
 ghost use Rattle.cspf_client.specs.ClientRows.{IsClientAnswered};
 ghost use Rattle.cspf_client.specs.ClientRuns.{IsClientRun, IsStreamStopped};
 ghost use Rattle.cspf_client.specs.ErrorNames.{client_end_of};
 ghost use Rattle.cspf_client.specs.SessionStates.{HasGoneForward};
-ghost use Rattle.cspf_client.specs.ServingStates.{IsReady, HasMet, reader_rows};
+ghost use Rattle.cspf_client.specs.ServingStates.{IsReady, HasMet};
 
 use crate::session::Session;
 use crate::{ClientError, Replies};
 use cspf_publish::{Asker, SeenSteps, Told};
 use cspf_rows::open_records;
 use cspf_stream::{StreamError, answer_rows};
-use csv::Reader;
 use std::alloc::Global;
 use std::io::Read;
 use std::marker::Model;
@@ -34,9 +33,10 @@ pub struct Client<Q, V> {
 #[derive(Drop)]
 pub struct ServingClient<Q, V> {
     session: Session,
+    /// Not read before it runs, since a reader has a buffer that would be moved with each client.
     /// Dropped once its stream has ended, so that the writer of the requests doesn't wait for a
     /// reader.
-    requests: Option<Reader<Q>>,
+    requests: Option<Q>,
     replies: V,
     end: Result<(), ClientError>,
 }
@@ -65,22 +65,21 @@ pub struct ServedClient<V> {
     pub refused: u64,
 }
 
-/// Answers all rows that a reader has left, and drops the reader.
+/// Answers all rows of these requests, and drops their reader.
 fn answer_all<Q: Read + Drop, V: Replies>(
     alloc: Global,
-    requests: Reader<Q>,
+    requests: Q,
     replies: &mut V,
     session: &mut Session,
 ) -> Result<(), StreamError>
-    requires plain { IsPlain requests }
-    requires state { session.old.refused < 1 }
-    ensures whole { OnOk result (AreAllAnswered IsClientAnswered (rows_left Q.remaining requests)
+    requires { session.old.refused < 1 }
+    ensures whole { OnOk result (AreAllAnswered IsClientAnswered (option_map rows_of (Q.remaining requests))
         session.old session.new (V.contents replies.old) (V.contents replies.new)) }
-    ensures stopped { IfErr result (λ why. IsStreamStopped why (rows_left Q.remaining requests)
+    ensures stopped { IfErr result (λ why. IsStreamStopped why (option_map rows_of (Q.remaining requests))
         session.old session.new (V.contents replies.old) (V.contents replies.new)) }
 {
-    let mut requests = requests;
-    answer_rows(&(), alloc, &mut requests, replies, session)
+    let mut rows = open_records(alloc, requests);
+    answer_rows(&(), alloc, &mut rows, replies, session)
 }
 
 /// The result of a client, by the result of its stream and whether an entry was refused.
@@ -95,18 +94,17 @@ fn end_of(ended: Result<(), StreamError>, no_entry: bool) -> Result<(), ClientEr
 
 impl<Q: Read + Drop, V: Replies> ServingClient<Q, V> {
     /// A client whose requests aren't read yet.
-    pub fn new(alloc: Global, asker: Asker, client: Client<Q, V>) -> ServingClient<Q, V>
+    pub fn new(asker: Asker, client: Client<Q, V>) -> ServingClient<Q, V>
         ensures ready { IsReady result }
         ensures known { result.state.known ≡ asker }
         ensures steps { result.state.steps.source ≡ asker.source }
-        ensures requests { reader_rows Q.remaining result.requests
-            ≡ option_map rows_of (Q.remaining client.requests) }
+        ensures requests { result.requests ≡ Some client.requests }
         ensures replies { result.replies ≡ client.replies }
     {
         let Client { requests, replies } = client;
         ServingClient {
             session: Session::new(asker),
-            requests: Some(open_records(alloc, requests)),
+            requests: Some(requests),
             replies,
             end: Ok(()),
         }

@@ -1,6 +1,6 @@
 -- The result of a run over updates and clients: one list of published batches. The updates make it,
 -- the journal has it, and every client is answered from it.
-use Rattle.std.specs.Prelude.{◌≡◌, ℕ, ◌+◌, ◌<◌, ◌≤◌, ◌⊎◌, Bool, Option, List, [], length, All, Result, Err, MatchResult}
+use Rattle.std.specs.Prelude.{◌≡◌, ℕ, ◌+◌, ◌<◌, ◌≤◌, ◌⊎◌, Bool, Option, Some, List, [], length, All, Result, Err, MatchResult}
 use Rattle.std.specs.List.{AllZip}
 use Rattle.std.specs.Option.{option_map}
 use Rattle.std.specs.Io.KnownBytes.{Appends, Keeps}
@@ -14,7 +14,7 @@ use Rattle.cspf_publish.specs.JournalSteps.{KnownSteps, AreJournalSteps, batches
 use Rattle.cspf_client.specs.declared.client.Client.{Client}
 use Rattle.cspf_client.specs.declared.client.ServedClient.{ServedClient}
 use Rattle.cspf_client.specs.declared.error.ClientError.TheVariants.{Ahead}
-use Rattle.cspf_client.specs.ServingStates.{ServingState, IsReady, reader_rows}
+use Rattle.cspf_client.specs.ServingStates.{ServingState, IsReady}
 use Rattle.cspf_client.specs.SessionStates.{AreFirstSteps}
 use Rattle.cspf_client.specs.ClientRuns.{IsClientRun}
 use Rattle.cspf_stream.specs.RowAnswers.{AnswersOf, AreAllAnswered}
@@ -81,7 +81,7 @@ pub record IsServedClient {Q V : Type 0} (bytes : Q → Option (List ℕ)) (cont
   pub before : ServingState Q V
   pub after : ServingState Q V
   pub ready : IsReady before
-  pub requests : reader_rows bytes before.requests ≡ option_map rows_of (bytes client.requests)
+  pub requests : before.requests ≡ Some client.requests
   pub empty : before.replies ≡ client.replies
   pub run : IsClientRun bytes contents before after
   pub steps : AreFirstSteps all after.state.steps

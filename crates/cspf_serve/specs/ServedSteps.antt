@@ -1,19 +1,17 @@
 -- Private: the states between the steps of a run over updates and clients.
-use Rattle.std.specs.Prelude.{◌≡◌, ℕ, ◌<◌, ◌≤◌, ◌⊎◌, Option, List, [], All, Result, Err, length, vec_len}
+use Rattle.std.specs.Prelude.{◌≡◌, ℕ, ◌<◌, ◌≤◌, ◌⊎◌, Option, Some, List, [], All, Result, Err, length, vec_len}
 use Rattle.std.specs.List.{AllZip}
 use Rattle.std.specs.Vec.{vec_capacity}
 use mathlib.Core.List.{IsPrefix}
-use Rattle.std.specs.Option.{option_map}
 use Rattle.logbook.specs.Pages.{Book}
 use Rattle.cspf_model.specs.Numbered.{NumberedChanges}
-use Rattle.cspf_rows.specs.Records.{rows_of}
 use Rattle.cspf_publish.specs.Histories.{BeginsWith}
 use Rattle.cspf_publish.specs.JournalSteps.{KnownSteps, AreJournalSteps}
 use Rattle.cspf_publish.specs.PublisherStates.{PublisherState}
 use Rattle.cspf_client.specs.declared.client.Client.{Client}
 use Rattle.cspf_client.specs.declared.client.ServedClient.{ServedClient}
 use Rattle.cspf_client.specs.declared.error.ClientError.TheVariants.{Ahead}
-use Rattle.cspf_client.specs.ServingStates.{ServingState, IsReady, reader_rows}
+use Rattle.cspf_client.specs.ServingStates.{ServingState, IsReady}
 use Rattle.cspf_client.specs.ClientRuns.{IsClientRun}
 use Rattle.cspf_client.specs.SessionStates.{AreFirstSteps, HasGoneForward}
 use Rattle.cspf_stream.specs.declared.error.StreamError.{StreamError}
@@ -43,7 +41,7 @@ pub record IsAnswered {Q V : Type 0} (bytes : Q → Option (List ℕ)) (contents
   pub ready : IsReady before
   pub source_is : before.state.known.source ≡ source
   pub steps_source : before.state.steps.source ≡ source
-  pub requests : reader_rows bytes before.requests ≡ option_map rows_of (bytes client.requests)
+  pub requests : before.requests ≡ Some client.requests
   pub replies : before.replies ≡ client.replies
   pub run : IsClientRun bytes contents before c
   pub forward : HasGoneForward before.state c.state

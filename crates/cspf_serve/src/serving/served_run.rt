@@ -77,7 +77,7 @@ impl<Q: Read + Drop, V: Replies> Doer<Client<Q, V>> for ClientSeat {
 
     fn work(self, client: Client<Q, V>) -> ServingClient<Q, V> {
         let ClientSeat { alloc, asker } = self;
-        let mut client = ServingClient::new(alloc, asker, client);
+        let mut client = ServingClient::new(asker, client);
         client.run(alloc);
         client
     }

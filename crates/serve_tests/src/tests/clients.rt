@@ -50,7 +50,7 @@ fn seated<'a, R: Wait + Abort>(
     let client = Client { requests, replies };
     match open(rt, alloc, Vec::<u8>::new(alloc), 1) {
         Ok((publisher, mut askers)) => match askers.pop() {
-            Some(asker) => (publisher, ServingClient::new(alloc, asker, client)),
+            Some(asker) => (publisher, ServingClient::new(asker, client)),
             None => panic!(rt; "no asker"),
         },
         Err(_) => panic!(rt; "no publisher"),

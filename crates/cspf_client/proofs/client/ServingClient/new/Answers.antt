@@ -4,9 +4,8 @@ use Rattle.cspf_client.proofs.client.ServingClient.new.Goals as goal
 
 pub returns-clause-ready : goal.returns-clause-ready
 returns-clause-ready g c = record {
-  reader = c.open_records.result;
+  unread = c.args.client.requests;
   held = refl;
-  plain = c.open_records.ensures.plain;
   refused = ap (λ (s : SessionState). s.refused) c.new.ensures.state;
   entry = ap (λ (s : SessionState). s.no_entry) c.new.ensures.state;
   end = refl;
