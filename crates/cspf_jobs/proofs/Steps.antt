@@ -57,13 +57,13 @@ none_done done Ready [] [] none all = tt
 none_done done Ready (w ∷ ws) [] none all = absurd all
 none_done done Ready ws (j ∷ js) none all = absurd (omega (arith, none))
 
-module _ {W J O M P : Type 0} (done : W → J → O → Type 0) (last_done : M → Unit {0} → P → Type 0) where
+module _ {G W J O M P : Type 0} (done : W → J → O → Type 0) (last_done : M → Unit {0} → P → Type 0) where
   -- what a thread ended with, by the word
-  abbrev Ends : Result (Unit {0}) NoThread → W → J → Result O J → Type 0
+  abbrev Ends : Result G NoThread → W → J → Result O J → Type 0
   Ends said w j ended = MatchResult said (λ go. IsOkAnd ended (done w j)) (λ not. ended ≡ Err j)
 
   -- no job is left
-  pub gone_none : (Ready : W → J → Type 0) (workers : List W) (jobs : Vec J) (outputs : List O) (last : M) (said : Result (Unit {0}) NoThread) (result : Result P M)
+  pub gone_none : (Ready : W → J → Type 0) (workers : List W) (jobs : Vec J) (outputs : List O) (last : M) (said : Result G NoThread) (result : Result P M)
       → jobs.len ≡ 0 → outputs ≡ [] → AllZip Ready workers jobs.items
       → MatchResult said (λ go. IsOkAnd result (last_done last tt)) (λ not. result ≡ Err last)
       → HaveEnded done last_done workers jobs outputs last jobs said result
@@ -72,7 +72,7 @@ module _ {W J O M P : Type 0} (done : W → J → O → Type 0) (last_done : M �
   gone_none Ready workers jobs outputs last (Err not) result none no_output ready ends = (refl, ends)
 
   -- there is room for it
-  pub keeps : (workers : List W) (jobs left : Vec J) (outputs : Vec O) (last : M) (w : W) (j : J) (said : Result (Unit {0}) NoThread) (result : Result P M) (ended : Result O J)
+  pub keeps : (workers : List W) (jobs left : Vec J) (outputs : Vec O) (last : M) (w : W) (j : J) (said : Result G NoThread) (result : Result P M) (ended : Result O J)
       → HaveEnded done last_done workers jobs outputs.items last left said result → Ends said w j ended
       → jobs.len < jobs.cap → jobs.len < outputs.cap
       → MatchResult ended (λ o. outputs.len < outputs.cap) (λ k. left.len < left.cap)
@@ -84,7 +84,7 @@ module _ {W J O M P : Type 0} (done : W → J → O → Type 0) (last_done : M �
       subst (λ r. MatchResult r (λ o. outputs.len < outputs.cap) (λ k. left.len < left.cap)) (sym ends) (subst (λ (v : Vec J). v.len < v.cap) (sym gone.0) more)
 
   -- and the job is done, or is where it was
-  pub gone_more : (workers front : List W) (jobs before left kept : Vec J) (outputs more : Vec O) (last : M) (w : W) (j : J) (said : Result (Unit {0}) NoThread) (result : Result P M) (ended : Result O J)
+  pub gone_more : (workers front : List W) (jobs before left kept : Vec J) (outputs more : Vec O) (last : M) (w : W) (j : J) (said : Result G NoThread) (result : Result P M) (ended : Result O J)
       → HaveEnded done last_done front before outputs.items last left said result → Ends said w j ended
       → workers ≡ front ++ w ∷ [] → jobs.items ≡ before.items ++ j ∷ [] → before.ptr ≡ jobs.ptr → before.cap ≡ jobs.cap
       → MatchResult ended (λ o. kept ≡ left) (IsPushed left kept) → MatchResult ended (IsPushed outputs more) (λ k. more ≡ outputs)

@@ -1,11 +1,14 @@
 //! The threads, from the first that is made to the last that is joined.
 
-ghost use Rattle.std.specs.Prelude.{◌≡◌, ◌+◌, ◌<◌, ◌≤◌, [], Err, IfOk, IfErr, IsOkAnd, MatchResult, vec_len, vec_capacity};
+ghost use Rattle.std.specs.Prelude.{◌≡◌, ℕ, ◌+◌, ◌<◌, ◌≤◌, [], Err, IfOk, IfErr, IsOkAnd, MatchResult, vec_len, vec_capacity};
+ghost use Rattle.std.specs.Result.{ForOk};
 ghost use Rattle.std.specs.Vec.{vec_ptr};
 ghost use Rattle.std.specs.List.{AllZip};
-ghost use Rattle.cspf_jobs.specs.Jobs.{AreDone, HasCome, HaveEnded, IsPushed};
+ghost use Rattle.cspf_jobs.specs.Jobs.{AreDone, HasCome, HaveEnded, HaveRun, IsPushed};
 
+use crate::go::{Go, JobCount, ThreadCount};
 use crate::word::{NoThread, Said, StartWord, heard};
+use std::marker::Brand;
 use std::snapshot::Snapshot;
 use std::sync::{OnceLock, Wait};
 use std::thread;
@@ -16,15 +19,15 @@ pub trait Doer<J> {
     /// What it makes of the job.
     type Output;
 
-    /// What it needs to hold of itself and the job.
-    ghost ready: { Self → J → Type 0 };
+    /// What it needs to hold of the number of jobs that have a thread, itself and the job.
+    ghost ready: { ℕ → Self → J → Type 0 };
 
     /// What then holds of its output.
     ghost done: { Self → J → Self.Output → Type 0 };
 
-    /// Does the job.
-    fn work(self, job: J) -> Self::Output
-        requires { ready self job }
+    /// Does the job. `go` shows how many jobs have a thread.
+    fn work(self, go: &Go, job: J) -> Self::Output
+        requires { ready go.now self job }
         ensures { done self job result };
 }
 
@@ -33,15 +36,15 @@ pub trait Meanwhile {
     /// What it ends with.
     type Output;
 
-    /// What it needs to hold of itself.
-    ghost ready: { Self → Type 0 };
+    /// What it needs to hold of the number of jobs that have a thread, and itself.
+    ghost ready: { ℕ → Self → Type 0 };
 
     /// What then holds of itself before, its output, and itself after.
     ghost ran: { Self → Self.Output → Self → Type 0 };
 
-    /// Does the work.
-    fn run(&mut self) -> Self::Output
-        requires { ready self.old }
+    /// Does the work. `go` shows how many jobs have a thread.
+    fn run(&mut self, go: &Go) -> Self::Output
+        requires { ready go.now self.old }
         ensures { ran self.old result self.new };
 }
 
@@ -54,78 +57,83 @@ struct Lent<'a, M> {
 impl<'a, P, M: Meanwhile<Output = P>> Doer<()> for Lent<'a, M> {
     type Output = (&'a mut M, P);
 
-    ghost ready = { λ l _. M.Meanwhile.ready l.own.now };
+    ghost ready = { λ n l _. M.Meanwhile.ready n l.own.now };
 
     ghost done = { λ l _ r. (r.0.ghost_name ≡ l.own.ghost_name) × M.Meanwhile.ran l.own.now r.1 r.0.now };
 
-    fn work(self, _job: ()) -> (&'a mut M, P) {
+    fn work(self, go: &Go, _job: ()) -> (&'a mut M, P) {
         let Lent { own } = self;
-        let ended = own.run();
+        let ended = own.run(go);
         (own, ended)
     }
 }
 
 /// What a thread ends with: the word that it heard, and its output or its job.
 #[derive(Drop)]
-struct Came<'a, J, O> {
-    said: Said<'a>,
+pub(crate) struct Came<'a, N: JobCount, J, O> {
+    said: Said<'a, N>,
     ended: Result<O, J>,
 }
 
 /// What a thread was given.
 #[derive(Drop)]
-struct Given<'a, W, J> {
-    word: &'a StartWord,
+pub(crate) struct Given<'a, N: JobCount, W, J> {
+    word: &'a StartWord<N>,
     worker: Snapshot<W>,
     job: Snapshot<J>,
 }
 
-impl<'a, J, O, W: Doer<J, Output = O>> Promise<Came<'a, J, O>> for Given<'a, W, J> {
+impl<'a, N: JobCount, J, O, W: Doer<J, Output = O>> Promise<Came<'a, N, J, O>>
+    for Given<'a, N, W, J> {
     ghost kept_by = { λ g c. HasCome W.Doer.done g.word.now.id g.worker.value g.job.value c };
 }
 
 /// Waits for the word, and does the job if it is go.
-fn wait_and_work<'a, J, O, W: Doer<J, Output = O> + Drop, R: Wait>(
+fn wait_and_work<'a, N: JobCount, J, O, W: Doer<J, Output = O> + Drop, R: Wait>(
     rt: &R,
-    word: &'a StartWord,
+    word: &'a StartWord<N>,
     worker: W,
     job: J,
-) -> Came<'a, J, O>
-    requires { W.Doer.ready worker job }
+) -> Came<'a, N, J, O>
+    requires { W.Doer.ready N.jobs worker job }
     ensures { HasCome W.Doer.done word.now.id worker job result }
 {
     let said = heard(rt, word);
     let ended = match word.value(&said) {
-        Ok(()) => Ok(worker.work(job)),
+        Ok(all) => Ok(worker.work(all.go(), job)),
         Err(_) => Err(job),
     };
     Came { said, ended }
 }
 
-/// Says go, unless the word was said, and does the work of this thread at go.
-fn finish<'a, P, M: Doer<(), Output = P> + Drop, R: Wait>(
+/// Says the word, and does the work of this thread at go.
+fn finish<'a, N: JobCount, P, M: Doer<(), Output = P> + Drop, R: Wait>(
     rt: &R,
-    word: &'a StartWord,
+    word: &'a StartWord<N>,
+    count: ThreadCount,
     last: M,
-) -> (Said<'a>, Result<P, M>)
-    requires { M.Doer.ready last tt }
+) -> (Said<'a, N>, Result<P, M>)
+    requires all { ForOk count.made (λ n. n ≡ N.jobs) }
+    requires ready { M.Doer.ready N.jobs last tt }
     ensures word { result.0.of ≡ word.now.id }
     ensures ended { MatchResult result.0.value (λ _. IsOkAnd result.1 (M.Doer.done last tt)) (λ _. result.1 ≡ Err last) }
 {
-    let said = word.init(rt, || Ok(()));
+    let decided = count.word();
+    let said = word.init(rt, || decided);
     let ended = match word.value(&said) {
-        Ok(()) => Ok(last.work(())),
+        Ok(all) => Ok(last.work(all.go(), ())),
         Err(_) => Err(last),
     };
     (said, ended)
 }
 
-/// Makes a thread for each job, the last job first, says the word, does the work of this thread at
-/// go, and joins the threads.
+/// Makes a thread for each job, the last job first, and counts it. Then it says the word, does the
+/// work of this thread at go, and joins the threads.
 fn call_all<
     's,
     'w: 's,
     E: 's,
+    N: JobCount + Send + Sync + Drop + 's,
     J: Send + Drop + 's,
     O: Send + Drop + 's,
     W: Doer<J, Output = O> + Send + Drop + 's,
@@ -135,13 +143,16 @@ fn call_all<
 >(
     rt: &'s R,
     scope: &Scope<'s, E>,
-    word: &'w StartWord,
+    word: &'w StartWord<N>,
+    count: ThreadCount,
     workers: &mut Vec<W>,
     jobs: &mut Vec<J>,
     outputs: &mut Vec<O>,
     last: M,
-) -> (Said<'w>, Result<P, M>)
-    requires ready { AllZip W.Doer.ready workers.old.items jobs.old.items × M.Doer.ready last tt }
+) -> (Said<'w, N>, Result<P, M>)
+    requires ready { AllZip (W.Doer.ready N.jobs) workers.old.items jobs.old.items × M.Doer.ready N.jobs last tt }
+    requires count { ForOk count.made (λ n. n + vec_len jobs.old ≡ N.jobs) }
+    requires fits { N.jobs ≤ usize.MAX }
     requires none { outputs.old.items ≡ [] }
     requires room { vec_len jobs.old ≤ vec_capacity outputs.old }
     ensures word { result.0.of ≡ word.now.id }
@@ -149,7 +160,7 @@ fn call_all<
     ensures gone { HaveEnded W.Doer.done M.Doer.done workers.old.items jobs.old outputs.new.items last jobs.new result.0.value result.1 }
 {
     if jobs.is_empty() {
-        return finish(rt, word, last);
+        return finish(rt, word, count, last);
     }
     // The number of the last job, from 1.
     let number = jobs.len();
@@ -160,27 +171,18 @@ fn call_all<
         worker: Snapshot::of(&worker),
         job: Snapshot::of(&job),
     };
-    let wait = move || -> Came<'_, J, O>
-        requires { W.Doer.ready worker job }
+    let promise = Snapshot::of(&given);
+    let wait = move || -> Came<'_, N, J, O>
+        requires { W.Doer.ready N.jobs worker job }
         ensures { HasCome W.Doer.done word.entry.now.id worker job result }
     { wait_and_work(rt, word, worker, job) };
-    match scope.spawn_with(given, wait) {
-        Ok(thread) => {
-            let (said, ended) = call_all(rt, scope, word, workers, jobs, outputs, last);
-            let came = thread.join(rt);
-            said.agrees(&came.said);
-            keep(came.ended, jobs, outputs);
-            (said, ended)
-        }
-        Err(refused) => {
-            word.init(rt, || Err(NoThread { job: number }));
-            let (said, ended) = call_all(rt, scope, word, workers, jobs, outputs, last);
-            let came = (refused.value)();
-            said.agrees(&came.said);
-            keep(came.ended, jobs, outputs);
-            (said, ended)
-        }
-    }
+    let mut count = count;
+    let thread = count.add(number, scope.spawn_with(given, wait));
+    let (said, ended) = call_all(rt, scope, word, count, workers, jobs, outputs, last);
+    let came = thread.join(rt, promise);
+    said.agrees(&came.said);
+    keep(came.ended, jobs, outputs);
+    (said, ended)
 }
 
 /// Puts the output of a job, or the job, behind those of the jobs before it.
@@ -196,12 +198,12 @@ fn keep<J, O>(ended: Result<O, J>, jobs: &mut Vec<J>, outputs: &mut Vec<O>)
 }
 
 /// The refusal that the word is, of one of so many jobs.
-fn refusal<'a>(word: &'a StartWord, said: &Said<'a>, count: usize) -> NoThread
+fn refusal<'a, N: JobCount>(word: &'a StartWord<N>, said: &Said<'a, N>, count: usize) -> NoThread
     requires { (said.now.of ≡ word.now.id) × (0 < count) }
     ensures { (0 < result.job) × (result.job ≤ count) }
 {
-    let job = match *word.value(said) {
-        Ok(()) => 1,
+    let job = match word.value(said) {
+        Ok(_) => 1,
         Err(refused) => refused.job,
     };
     NoThread {
@@ -211,6 +213,7 @@ fn refusal<'a>(word: &'a StartWord, said: &Said<'a>, count: usize) -> NoThread
 
 /// As `run_all`, with work that is a value.
 fn run_with<
+    N: JobCount + Send + Sync + Drop,
     J: Send + Drop,
     O: Send + Drop,
     W: Doer<J, Output = O> + Send + Drop,
@@ -224,45 +227,70 @@ fn run_with<
     room: Vec<O>,
     last: M,
 ) -> Result<(Vec<O>, P), (NoThread, Vec<J>, M)>
-    requires ready { AllZip W.Doer.ready workers.items jobs.items × M.Doer.ready last tt }
-    requires some { 0 < vec_len jobs }
+    requires jobs { (vec_len jobs ≡ N.jobs) × (0 < N.jobs) }
+    requires ready { AllZip (W.Doer.ready N.jobs) workers.items jobs.items × M.Doer.ready N.jobs last tt }
     requires room { (room.items ≡ []) × (vec_len jobs ≤ vec_capacity room) }
-    ensures done { IfOk result (λ r. AreDone W.Doer.done workers.items jobs.items r.0.items × M.Doer.done last tt r.1) }
-    ensures number { IfErr result (λ e. (0 < e.0.job) × (e.0.job ≤ vec_len jobs)) }
-    ensures back { IfErr result (λ e. (e.1 ≡ jobs) × (e.2 ≡ last)) }
+    ensures { HaveRun W.Doer.done M.Doer.done workers.items jobs last result }
 {
-    let word = OnceLock::new();
-    let (count, heard) = (jobs.len(), &word);
-    let (said, ended, outputs, jobs) = thread::scope(
+    let word: StartWord<N> = OnceLock::new();
+    run_under(rt, &word, workers, jobs, room, last)
+}
+
+/// As `run_with`, with the word that the threads wait for.
+fn run_under<
+    'w,
+    N: JobCount + Send + Sync + Drop,
+    J: Send + Drop,
+    O: Send + Drop,
+    W: Doer<J, Output = O> + Send + Drop,
+    P,
+    M: Doer<(), Output = P> + Drop,
+    R: Threads + Wait + Sync,
+>(
+    rt: &R,
+    word: &'w StartWord<N>,
+    workers: Vec<W>,
+    jobs: Vec<J>,
+    room: Vec<O>,
+    last: M,
+) -> Result<(Vec<O>, P), (NoThread, Vec<J>, M)>
+    requires jobs { (vec_len jobs ≡ N.jobs) × (0 < N.jobs) }
+    requires ready { AllZip (W.Doer.ready N.jobs) workers.items jobs.items × M.Doer.ready N.jobs last tt }
+    requires room { (room.items ≡ []) × (vec_len jobs ≤ vec_capacity room) }
+    ensures { HaveRun W.Doer.done M.Doer.done workers.items jobs last result }
+{
+    thread::scope(
         thread::scope_env(),
         rt,
-        move |scope| -> (Said<'_>, Result<P, M>, Vec<O>, Vec<J>)
-            requires ready { AllZip W.Doer.ready workers.items jobs.items × M.Doer.ready last tt }
+        move |scope| -> Result<(Vec<O>, P), (NoThread, Vec<J>, M)>
+            requires jobs { (vec_len jobs ≡ N.jobs) × (0 < N.jobs) }
+            requires ready { AllZip (W.Doer.ready N.jobs) workers.items jobs.items × M.Doer.ready N.jobs last tt }
             requires room { (room.items ≡ []) × (vec_len jobs ≤ vec_capacity room) }
-            ensures word { result.0.of ≡ heard.entry.now.id }
-            ensures gone { HaveEnded W.Doer.done M.Doer.done workers.items jobs result.2.items last result.3 result.0.value result.1 }
+            ensures { HaveRun W.Doer.done M.Doer.done workers.items jobs last result }
         {
+            let job_count = jobs.len();
             let (mut workers, mut jobs, mut outputs) = (workers, jobs, room);
             let (said, ended) = call_all(
                 rt,
                 scope,
-                heard,
+                word,
+                ThreadCount::new(),
                 &mut workers,
                 &mut jobs,
                 &mut outputs,
                 last,
             );
-            (said, ended, outputs, jobs)
+            match ended {
+                Ok(ended) => Ok((outputs, ended)),
+                Err(last) => Err((refusal(word, &said, job_count), jobs, last)),
+            }
         },
-    );
-    match ended {
-        Ok(ended) => Ok((outputs, ended)),
-        Err(last) => Err((refusal(heard, &said, count), jobs, last)),
-    }
+    )
 }
 
 /// Does each job in a thread of its own, by the worker at its place, while this thread does its own
-/// work. No job begins before all have a thread. `room` takes the outputs.
+/// work. No job begins before all have a thread, nor does the work of this thread: each is called
+/// with a `Go` of as many threads as jobs. `room` takes the outputs.
 ///
 /// Where a thread can't be had no job begins, nor the work of this thread. All threads end, and the
 /// jobs come back.
@@ -280,14 +308,14 @@ pub fn run_all<
     room: Vec<O>,
     own: &mut M,
 ) -> Result<(Vec<O>, P), (NoThread, Vec<J>)>
-    requires ready { AllZip W.Doer.ready workers.items jobs.items × M.Meanwhile.ready own.old }
+    requires ready { AllZip (W.Doer.ready (vec_len jobs)) workers.items jobs.items × M.Meanwhile.ready (vec_len jobs) own.old }
     requires some { 0 < vec_len jobs }
     requires room { (room.items ≡ []) × (vec_len jobs ≤ vec_capacity room) }
     ensures done { IfOk result (λ r. AreDone W.Doer.done workers.items jobs.items r.0.items × M.Meanwhile.ran own.old r.1 own.new) }
     ensures number { IfErr result (λ e. (0 < e.0.job) × (e.0.job ≤ vec_len jobs)) }
     ensures back { IfErr result (λ e. (e.1 ≡ jobs) × (own.new ≡ own.old)) }
 {
-    match run_with(rt, workers, jobs, room, Lent { own }) {
+    match run_with::<Brand, _, _, _, _, _, _>(rt, workers, jobs, room, Lent { own }) {
         Ok((outputs, (own, ended))) => {
             take_back(own);
             Ok((outputs, ended))

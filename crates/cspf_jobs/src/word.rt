@@ -2,6 +2,7 @@
 
 ghost use Rattle.std.specs.Prelude.{◌≡◌};
 
+use crate::go::{GoForAll, JobCount};
 use std::sync::{OnceLock, OnceToken, Wait};
 
 /// No thread could be had for a job.
@@ -13,13 +14,13 @@ pub struct NoThread {
 }
 
 /// Whether the jobs begin. It is said once.
-pub(crate) type StartWord = OnceLock<Result<(), NoThread>>;
+pub(crate) type StartWord<N> = OnceLock<Result<GoForAll<N>, NoThread>>;
 
 /// What was said.
-pub(crate) type Said<'a> = OnceToken<'a, Result<(), NoThread>>;
+pub(crate) type Said<'a, N> = OnceToken<'a, Result<GoForAll<N>, NoThread>>;
 
 /// Waits until the word is said.
-pub(crate) fn heard<'a, R: Wait>(rt: &R, word: &'a StartWord) -> Said<'a>
+pub(crate) fn heard<'a, N: JobCount, R: Wait>(rt: &R, word: &'a StartWord<N>) -> Said<'a, N>
     ensures { result.of ≡ word.now.id }
 {
     // The first turn ends it.

@@ -21,7 +21,7 @@ use crate::RunError;
 use crate::serving::updates::Updates;
 use crate::streams::opening::open_for;
 use cspf_client::{Client, Replies, ServedClient, ServingClient};
-use cspf_jobs::{Doer, Meanwhile, NoThread, run_all};
+use cspf_jobs::{Doer, Go, Meanwhile, NoThread, run_all};
 use cspf_publish::{Asker, MOST_ASKERS, Publisher, SeenSteps};
 use cspf_rows::open_records;
 use cspf_stream::{StreamError, answer_rows, put_line};
@@ -71,11 +71,11 @@ struct ClientSeat {
 impl<Q: Read + Drop, V: Replies> Doer<Client<Q, V>> for ClientSeat {
     type Output = ServingClient<Q, V>;
 
-    ghost ready = { λ _ _. Unit {0} };
+    ghost ready = { λ _ _ _. Unit {0} };
 
     ghost done = { λ s client c. IsAnswered Q.remaining V.contents s.asker.source client c };
 
-    fn work(self, client: Client<Q, V>) -> ServingClient<Q, V> {
+    fn work(self, _go: &Go, client: Client<Q, V>) -> ServingClient<Q, V> {
         let ClientSeat { alloc, asker } = self;
         let mut client = ServingClient::new(asker, client);
         client.run(alloc);
@@ -196,11 +196,11 @@ struct Publishing<'a, R, W, J, T> {
 impl<'a, R: Read, W: Write, J: Write, T: Wait> Meanwhile for Publishing<'a, R, W, J, T> {
     type Output = Result<(), StreamError>;
 
-    ghost ready = { λ p. IsPlain p.rows × IsFresh p.updates };
+    ghost ready = { λ _ p. IsPlain p.rows × IsFresh p.updates };
 
     ghost ran = { λ p ended q. IsRunOfUpdates W.contents J.contents (rows_left R.remaining p.rows) p.said p.updates ended q.said q.updates };
 
-    fn run(&mut self) -> Result<(), StreamError> {
+    fn run(&mut self, _go: &Go) -> Result<(), StreamError> {
         answer_updates(
             self.rt,
             self.alloc,
