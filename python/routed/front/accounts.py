@@ -1,4 +1,4 @@
-"""What the connections of tools/listen bring and read: their figures, and the lines of the log."""
+"""What the connections of routed-tools listen bring and read: their figures, and the lines of the log."""
 import collections
 import os
 import re

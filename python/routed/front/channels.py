@@ -1,4 +1,4 @@
-"""The connections of tools/listen, and the streams of `routed serve` that they use.
+"""The connections of routed-tools listen, and the streams of `routed serve` that they use.
 
 One thread does everything, so nothing waits but its loop: all files are non-blocking. At each turn of the loop a
 connection gets one read and one write each way, of at most 64 KiB, so that none holds another up for longer."""
@@ -9,9 +9,9 @@ import re
 import secrets
 import time
 
+from ..net.loop import READ, WRITE
+from ..net.places import Door, hang_up, peer_of
 from .accounts import Use
-from .loop import READ, WRITE
-from .places import Door, hang_up, peer_of
 
 LONGEST = 1 << 16  # bytes of a line and of a turn; the longest row that is accepted is far shorter
 MARK = b"\xef\xbb\xbf"  # the byte order mark, which the server's reader skips at the beginning of a stream alone

@@ -10,7 +10,7 @@ import socket
 import sys
 import threading
 
-from .places import Place
+from ..net.places import Place
 
 MOST = 1 << 16
 

@@ -26,7 +26,7 @@ the server and this front. The status is the server's (128 and the signal's numb
 the command line is refused, 3 where a socket or the program can't be had. Where this front is killed the server ends by
 itself. The journal has whole batches then, and after a signal to the server maybe a beginning of one more.
 
-Example: tools/listen --journal day.journal --ask ./ask --updates ./updates
+Example: routed-tools listen --journal day.journal --ask ./ask --updates ./updates
 and in other shells: nc -N -U ./updates < examples/abilene.rows, or nc -U ./ask
 """
 import argparse
@@ -35,15 +35,15 @@ import signal
 import subprocess
 import sys
 
-from . import program
+from .. import program
+from ..model.journals import Refused, texts
+from ..net.log import LEVELS, Log
+from ..net.loop import Loop, READ
+from ..net.places import BACKLOG, Place, Stopped, tried
 from .accounts import Account
 from .channels import Channel, Listener, Updates
-from .journals import Refused, texts
-from .live_snapshots import Snapshots
-from .log import LEVELS, Log
-from .loop import Loop, READ
 from .metrics import Page
-from .places import BACKLOG, Place, Stopped, tried
+from .snapshots import Snapshots
 from .watch import Watch
 
 IDLE = 300  # seconds, at a port

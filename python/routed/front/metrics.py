@@ -5,8 +5,8 @@ for one of them to end. GET and HEAD of /metrics are answered, and everything el
 """
 import bisect
 
-from .loop import READ, WRITE
-from .places import Door, hang_up
+from ..net.loop import READ, WRITE
+from ..net.places import Door, hang_up
 
 MOST, SECONDS, HEAD = 16, 5, 8192  # connections, the time that one has, and bytes of a request
 TYPE = "text/plain; version=0.0.4; charset=utf-8"

@@ -1,4 +1,4 @@
-"""Snapshots of the journal of a server that runs, for tools/listen."""
+"""Snapshots of the journal of a server that runs, for routed-tools listen."""
 import ctypes
 import os
 import signal

@@ -9,7 +9,7 @@ import re
 import sys
 import time
 
-from .places import Place
+from ..net.places import Place
 
 MOST, SECONDS = 1 << 20, 5  # bytes of an answer, and the time for it
 SAMPLE = re.compile(r'(\w+)(?:\{(\w+)="((?:[^"\\]|\\.)*)"\})? (\S+)')

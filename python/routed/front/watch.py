@@ -4,8 +4,8 @@ A connection that doesn't read is told the newest version alone once it reads ag
 dropped. It ends with the server, or where it closes."""
 import time
 
-from .loop import READ, WRITE
-from .places import DROPPED, Door, hang_up, peer_of
+from ..net.loop import READ, WRITE
+from ..net.places import DROPPED, Door, hang_up, peer_of
 
 MOST = 256  # connections
 

@@ -1,4 +1,4 @@
-"""The event loop of tools/listen."""
+"""The event loop of the tools that have sockets."""
 import heapq
 import itertools
 import selectors

@@ -8,10 +8,10 @@ import collections
 import re
 import sys
 
+from ..model.networks import Refused, read_database, reverse_of
+from ..sweep.swept import overbooked_before
 from . import positions
 from .network_picture import ROUTE_STYLES, Route, network_picture
-from .networks import Refused, read_database, reverse_of
-from .swept import overbooked_before
 
 
 def walk_of(links, marks, reply):

@@ -6,10 +6,10 @@ one, and how many links are then overbooked. The lines come on standard input, a
 import argparse
 import sys
 
+from ..sweep.swept import failures, overbooked_before
 from . import positions, shapes
 from .canvas import BLUE, GRAY, ORANGE, RED, fit, legend, picture, text_in
 from .labels import SMALL, Sheet, Wanted, box_of
-from .swept import failures, overbooked_before
 
 KINDS = {"lost": (f"stroke:{RED};stroke-width:6", "a request loses its route"),
          "longer": (f"stroke:{BLUE};stroke-width:4", "no request loses its route, and one gets a longer one"),

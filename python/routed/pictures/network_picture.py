@@ -2,10 +2,10 @@
 import collections
 import math
 
+from ..model.networks import reverse_of
 from . import shapes
 from .canvas import BLUE, GRAY, GREEN, ORANGE, PURPLE, RED, SKY, YELLOW, fit, legend, picture
 from .labels import Sheet
-from .networks import reverse_of
 
 GROUP_COLORS = [BLUE, ORANGE, GREEN, PURPLE, SKY, YELLOW, GRAY]
 GROUP_DASHES = ["", "9 4", "3 3"]

@@ -20,7 +20,7 @@ import collections
 import os
 import re
 
-from .networks import Refused, Stopped, accepts, circuits_of, number, read_database, read_requests, reverse_of, routers_of, value
+from ..model.networks import Refused, Stopped, accepts, circuits_of, number, read_database, read_requests, reverse_of, routers_of, value
 from .solving import MOST_ASKS, Question, Solve, run
 
 ROUTE = re.compile(r"route cost=(\d+) hops=\d+ again=(?:no|yes) ero=([0-9a-f]+)")

@@ -1,4 +1,4 @@
-"""Makes one sweep of the parts of one: what `tools/sweep --part I/N` prints for I from 1 to N, one after the other.
+"""Makes one sweep of the parts of one: what `routed-tools sweep --part I/N` prints for I from 1 to N, one after the other.
 
 They come from the files that are named, else from standard input. Standard output is, byte for byte, what the sweep of all
 scenarios prints. All parts have to be there, whole, in order, and of one network. Otherwise one line on standard error says what

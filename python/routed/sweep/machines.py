@@ -11,7 +11,7 @@ import sys
 import tempfile
 import threading
 
-from .networks import Refused, Stopped
+from ..model.networks import Refused, Stopped
 from .solving import MOST_ASKS, MOST_CHANGES, MOST_ROWS, Question, checked, ended, heads_of
 
 AHEAD = 2  # tasks for each thread of Dask's workers that are handed out
@@ -52,7 +52,7 @@ class ByValue:
 
     def __reduce__(self):
         import cloudpickle
-        cloudpickle.register_pickle_by_value(sys.modules[__package__])
+        cloudpickle.register_pickle_by_value(sys.modules[__package__.partition(".")[0]])
         return cloudpickle.loads, (cloudpickle.dumps(self.sent),)
 
 

@@ -4,8 +4,8 @@ import select
 import subprocess
 import tempfile
 
-from .journals import MOST_CHANGES, MOST_ROWS  # each version takes a row, so a stream has no more versions
-from .networks import Refused, Stopped
+from ..model.journals import MOST_CHANGES, MOST_ROWS  # each version takes a row, so a stream has no more versions
+from ..model.networks import Refused, Stopped
 
 MOST_ASKS = 4096  # of a question
 

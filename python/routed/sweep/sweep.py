@@ -14,10 +14,10 @@ import re
 import signal
 import sys
 
+from ..model.networks import Refused, Stopped, circuits_of, routers_of
+from ..program import add_option, find
 from .failures import Network
 from .machines import over_dask, over_ssh
-from .networks import Refused, Stopped, circuits_of, routers_of
-from .program import add_option, find
 from .progress import Progress
 from .ranking import Ranking
 
@@ -124,7 +124,7 @@ def options(words):
     asked.add_argument("--jobs", type=count, metavar="N", help="scenarios at once, each in a process, by default 1")
     asked.add_argument("--dask", type=address, metavar="ADDRESS", help="scenarios on the workers of this scheduler of Dask's distributed")
     asked.add_argument("--ssh", metavar="LOGINS", help="scenarios on these machines by GNU parallel, given as for its -S; --jobs at once on each")
-    asked.add_argument("--part", type=part, metavar="I/N", help="only the I-th of N parts of the scenarios, for tools/join")
+    asked.add_argument("--part", type=part, metavar="I/N", help="only the I-th of N parts of the scenarios, for join")
     add_option(asked)
     given = asked.parse_args(words)
     given.program = find(given.program)

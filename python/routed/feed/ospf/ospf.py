@@ -3,7 +3,7 @@
 With a command, such as `routed solve`, the rows go to it: each line of standard input that is an ask row is passed on
 to it too, and its lines come out on standard output. Without one, rows go to standard output, and the
 lines that come back are read from standard input. A program that has a database already tells it where it is behind
-tools/listen; else --journal names its journal. docs/run/FEED.md has what is taken from where.
+routed-tools listen; else --journal names its journal. docs/run/FEED.md has what is taken from where.
 """
 import argparse
 import collections
@@ -17,13 +17,13 @@ import subprocess
 import sys
 import time
 
-from ..places import Place, Stopped
+from ...net.places import Place, Stopped
+from ..batches import Batches, Ended, journal
+from ..database import begun
+from ..figures import FeedFigures
+from ..sids import SidFile
 from .api import Api, ApiError, LSA_DELETE, LSA_UPDATE
-from .batches import Batches, Ended, journal
-from .database import begun
-from .figures import FeedFigures
 from .lsas import Lsdb, WRAPPED, outside
-from .sids import SidFile
 
 TOGETHER = 0.02  # seconds: what comes so close together isn't cut, as a removal and its new instance
 LONGEST = 1.0  # seconds that such a run of events may put a batch off
@@ -361,7 +361,7 @@ def options(words):
     asked.add_argument("--collect", type=seconds, default=0.2, metavar="S", help="seconds that changes are collected")
     asked.add_argument("--hold", type=seconds, default=20.0, metavar="S",
                        help="seconds after a connection is there that links of before are held, of which the router doesn't tell")
-    asked.add_argument("--journal", metavar="FILE", help="of the program's run, where it has batches already and isn't behind tools/listen")
+    asked.add_argument("--journal", metavar="FILE", help="of the program's run, where it has batches already and isn't behind listen")
     asked.add_argument("--metrics", type=Place, metavar="PLACE", help="where figures are read, by HTTP at /metrics")
     asked.add_argument("--sids", metavar="FILE", help="where adjacency SIDs are told, as lines sid,VERSION,ROUTER,LOCAL,LABEL; it is made anew")
     asked.add_argument("--sid-group", type=group, metavar="N", help="the administrative group, 0 to 31, of exactly the links that have an adjacency SID")
