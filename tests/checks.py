@@ -3,6 +3,7 @@ import os
 import sys
 
 TOP = os.path.dirname(os.path.dirname(os.path.abspath(__file__)))
+TOOLS = os.path.join(TOP, "tools/routed-tools")
 sys.path.insert(1, os.path.join(TOP, "python"))
 
 

@@ -1,4 +1,4 @@
-"""Tests of feeds/ospf: the rows that it makes of a router's LSAs, played by an OSPF API made here.
+"""Tests of routed-tools feed: the rows that it makes of a router's LSAs, played by an OSPF API made here.
 
 However slow the machine is, the same comes of them: the feed goes by a clock that the test moves on, once the feed has
 read all that it was sent and has nothing more to do. Where the real program is beside it, the clock is the real one,
@@ -16,14 +16,13 @@ import sys
 import tempfile
 import time
 
-from readers import dressed  # beside this file
+sys.dont_write_bytecode = True
+sys.path.insert(1, os.path.dirname(os.path.dirname(os.path.abspath(__file__))))  # for a feed in a process of its own
+from checks import TOOLS
+from tools.readers import dressed
 
 HERE = os.path.dirname(os.path.abspath(__file__))
-TOP = os.path.dirname(HERE)
-sys.dont_write_bytecode = True
-sys.path.insert(1, os.path.join(TOP, "python"))  # for a feed in a process of its own
-FEED = os.path.join(TOP, "feeds/ospf")
-LISTEN = os.path.join(TOP, "tools/listen")
+FEED = [TOOLS, "feed"]
 NAN, INFINITE = float("nan"), float("inf")
 A, B, C = "1.1.1.1", "2.2.2.2", "3.3.3.3"
 A_B, B_A = "10.0.0.0", "10.0.0.1"  # addresses of the circuit between A and B; the first ends in .0
@@ -124,7 +123,7 @@ class Router:
 def played(clock, reports, *words):
     """The feed in a process of its own, with all patience for connections and, where the ends of two pipes are given, by
     the clock that comes from the first. Each time that nothing is left to do, it says so to the second."""
-    from routed.feed import api, ospf
+    from routed.feed.ospf import api, ospf
     api.PATIENCE = PATIENCE
     if clock >= 0:
         at, count = NOON, 0
@@ -613,7 +612,7 @@ BROKEN_DROPS = [f"drop,{B},{B_C}", f"drop,{C},{C_B}"]
 
 
 def snapshot(version, rows):
-    """What `tools/listen` answers to the row `snapshot`."""
+    """What `routed-tools listen` answers to the row `snapshot`."""
     parts = [rows[first:first + 4096] for first in range(0, len(rows), 4096)]
     batches = [line for number, part in enumerate(parts, 1) for line in (*part, f"end,{number},{len(part)}")]
     return [f"version {version}", *batches, "snapshot end"]
@@ -889,10 +888,10 @@ while front in readers:
 
 
 def behind_front(program, checks):
-    """Behind the real tools/listen: a feed is killed, a circuit goes, and the next feed drops it; then the server is killed."""
+    """Behind the real routed-tools listen: a feed is killed, a circuit goes, and the next feed drops it; then the server is killed."""
     with tempfile.TemporaryDirectory() as room, contextlib.ExitStack() as clean:
         journal, ask, updates = (os.path.join(room, name) for name in ("day.journal", "ask", "updates"))
-        given = [LISTEN, "--program", program.path, "--journal", journal, "--ask", ask, "--updates", updates]
+        given = [TOOLS, "listen", "--program", program.path, "--journal", journal, "--ask", ask, "--updates", updates]
         front = subprocess.Popen(given, stdout=subprocess.PIPE)
         clean.callback(front.wait)
         clean.callback(front.terminate)
@@ -1094,24 +1093,24 @@ def once(program, checks):
     closed = socket.create_server(("127.0.0.1", 0))
     port = closed.getsockname()[1]
     closed.close()
-    ended = subprocess.run([FEED, "--port", str(port), "--once"], capture_output=True, text=True)
+    ended = subprocess.run([*FEED, "--port", str(port), "--once"], capture_output=True, text=True)
     checks.same("no router", (ended.returncode, ended.stdout, ended.stderr),
                 (1, "", f"ospf: no connection to 127.0.0.1 port {port}: Connection refused\n"))
     with socket.create_server(("127.0.0.1", 0)) as mute:
         port = mute.getsockname()[1]
-        ended = subprocess.run([FEED, "--port", str(port), "--once"], capture_output=True, text=True)
+        ended = subprocess.run([*FEED, "--port", str(port), "--once"], capture_output=True, text=True)
     wanted = rf"ospf: no connection to 127\.0\.0\.1 port {port}: it doesn't connect back to port 5\d{{4}}: timed out\n"
     checks.true("a router that doesn't connect back", ended.returncode == 1 and re.fullmatch(wanted, ended.stderr), ended)
     with open("/dev/full", "wb") as full:
         ask = f"ask,7,{A},{B},0,1000,0x0,0x0,0x0,\n"
-        ended = subprocess.run([FEED, "--port", "9", "--", program.path, "solve"], input=ask, stdout=full, stderr=subprocess.PIPE, text=True)
+        ended = subprocess.run([*FEED, "--port", "9", "--", program.path, "solve"], input=ask, stdout=full, stderr=subprocess.PIPE, text=True)
     checks.same("standard output is full", (ended.returncode, ended.stderr.splitlines()[-1:]), (1, ["ospf: standard output: No space left on device"]))
 
 
 def words(program, checks):
     """Words that are refused, programs that aren't there or end, and a second feed behind the first."""
     def ran(*given):
-        return subprocess.run([FEED, *given], stdin=subprocess.DEVNULL, capture_output=True, text=True)
+        return subprocess.run([*FEED, *given], stdin=subprocess.DEVNULL, capture_output=True, text=True)
 
     for given in (["--router", ""], ["--router", 64 * "a"], ["--router", b"\xff"], ["--router", "a..b"], ["--port", "0"], ["--port", "65536"], ["--collect", "-1"], ["--hold", "nan"], ["--collect", "inf"], ["--twice"]):
         found = ran(*given)

@@ -1,6 +1,6 @@
 """Tests of the feed's adjacency SIDs: the file that `--sids` writes, beside the batches, and the group of `--sid-group`.
 
-The router is the one that tests/feed.py plays, and its LSAs are built here.
+The router is the one that tests/feed/rows.py plays, and its LSAs are built here.
 """
 import os
 import resource
@@ -9,8 +9,8 @@ import stat
 import subprocess
 import tempfile
 
-from feed import A, A_B, B, B_A, B_C, C, FEED, HOLD, PAIR_ROWS, PATIENCE, ROUTERS, Feed, Router
-from feed import lsa, raw, removal, router_lsa, row, snapshot, te_lsa, tlv, update  # beside this file
+from feed.rows import A, A_B, B, B_A, B_C, C, FEED, HOLD, PAIR_ROWS, PATIENCE, ROUTERS, Feed, Router
+from feed.rows import lsa, raw, removal, router_lsa, row, snapshot, te_lsa, tlv, update
 
 OWN, OF_BACKUP, OF_GROUP, INDEX = 0x60, 0xe0, 0x70, 0  # flags: a local label of one link; of a backup; of links; of no label
 
@@ -147,7 +147,7 @@ def groups(checks):
     checks.same("a label alone makes no batch", told.quiet(link_lsa(B, B_A, sid(18), neighbor=A, sequence=2)), [f"sid,3,{B},{B_A},18"])
     told.end()
     for group in ("-1", "32", "x", ""):
-        ran = subprocess.run([FEED, "--sid-group", group], stdin=subprocess.DEVNULL, capture_output=True, text=True)
+        ran = subprocess.run([*FEED, "--sid-group", group], stdin=subprocess.DEVNULL, capture_output=True, text=True)
         checks.true(f"no group: {group}", ran.returncode == 2 and "Traceback" not in ran.stderr, ran)
 
 
@@ -210,9 +210,9 @@ def faults(checks):
     told.end()
     with tempfile.TemporaryDirectory() as room:
         for path, why in [("/nowhere/sids", "No such file or directory"), (room, "it is no regular file"), ("/dev/null", "it is no regular file")]:
-            ran = subprocess.run([FEED, "--sids", path], stdin=subprocess.DEVNULL, capture_output=True, text=True, timeout=PATIENCE)
+            ran = subprocess.run([*FEED, "--sids", path], stdin=subprocess.DEVNULL, capture_output=True, text=True, timeout=PATIENCE)
             checks.same(f"no file: {path}", (ran.returncode, ran.stdout, ran.stderr), (1, "", f"ospf: --sids {path}: {why}\n"))
-        ran = subprocess.run([FEED, "--once", "--sids", os.path.join(room, "sids")], stdin=subprocess.DEVNULL, capture_output=True, text=True, timeout=PATIENCE)
+        ran = subprocess.run([*FEED, "--once", "--sids", os.path.join(room, "sids")], stdin=subprocess.DEVNULL, capture_output=True, text=True, timeout=PATIENCE)
         checks.true("not with --once", ran.returncode == 2 and "--once ends before any" in ran.stderr, ran)
         checks.same("nothing is left there", os.listdir(room), [])
 

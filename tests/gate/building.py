@@ -5,8 +5,8 @@ import subprocess
 import tempfile
 import time
 
-HERE = os.path.dirname(os.path.abspath(__file__))
-TOP = os.path.dirname(HERE)
+from checks import TOP
+
 # The program doesn't need `alone`.
 LINES = "low: csv # below both arms\nleft: low\nalone: low\nright: low csv\nrouted: left right clap\n"
 RT = """#!/bin/sh

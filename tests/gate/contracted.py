@@ -1,5 +1,5 @@
 """Checks that what a change does to the public contracts of a small tree is told (tests/contracts reads them)."""
-from public import Comparison, Tree  # beside this file
+from gate.public import Comparison, Tree
 
 SMALL = {
     "crates/low/src/lib.rt": "mod shelf;\n\npub use shelf::{LEAST, Shelf, put, take};\n\n#[cfg(test)]\nmod tests;\n",

@@ -1,7 +1,7 @@
 #!/usr/bin/env python3
 """The definitions, types and limits that the contracts of the theorem's calls rest on: what has to be believed.
 
-    tests/theorem.py
+    tests/gate/theorem.py
 
 It prints each definition of specs/ with the line where it stands, then the types and limits of src/, and last how many they are.
 It begins with the words that the contracts cite, and goes from each word to those that its definition cites, until nothing new comes.
@@ -14,9 +14,10 @@ import re
 import sys
 
 sys.dont_write_bytecode = True
-from public import WORD, Item, Tree, present  # beside this file
+sys.path.insert(1, os.path.dirname(os.path.dirname(os.path.abspath(__file__))))
+from checks import TOP
+from gate.public import WORD, Item, Tree, present
 
-TOP = os.path.dirname(os.path.dirname(os.path.abspath(__file__)))
 # The calls of a publisher, of its askers and clients, and of the search: the one list that is made by hand.
 CALLS = (
     "cspf_publish::open", "cspf_publish::Publisher::apply", "cspf_publish::Publisher::tell", "cspf_publish::Publisher::close",
@@ -267,7 +268,7 @@ def main():
         for it in by_place(some):
             print(f"{what}{it.name} ({it.where})")
     for text in found.lost:
-        print(f"tests/theorem.py: there is no {text}", file=sys.stderr)
+        print(f"tests/gate/theorem.py: there is no {text}", file=sys.stderr)
     print(f"{told(found)}; {len(found.types)} types and {len(found.limits)} limits")
     return 1 if found.lost else 0
 

@@ -1,4 +1,4 @@
-"""The chain of the lab: `feeds/ospf` beside router 1, `routed serve` behind it, and a client that asks. All times are of one clock."""
+"""The chain of the lab: the feed beside router 1, `routed serve` behind it, and a client that asks. All times are of one clock."""
 import contextlib
 import os
 import re
@@ -8,7 +8,8 @@ import subprocess
 import threading
 import time
 
-from routers import CIRCUITS, ROOM, address, await_file, router_id, within  # beside this file
+from checks import TOOLS
+from lab.routers import CIRCUITS, ROOM, address, await_file, router_id, within
 
 HERE = os.path.dirname(os.path.abspath(__file__))
 ENDS = 1, 6  # the routers that the request is from and to
@@ -56,7 +57,7 @@ class Chain:
         self.program = subprocess.Popen(words, **pipes)
         await_file(self.journal, self.program, "routed serve")  # it is opened last
         self.kept = [open(path, "w", encoding="ascii") for path in (self.asks, self.replies)]
-        self.feed = subprocess.Popen([*within(ENDS[0]), os.path.join(HERE, "ospf"), "--collect", str(collect)], **pipes)
+        self.feed = subprocess.Popen([*within(ENDS[0]), TOOLS, "feed", "--collect", str(collect)], **pipes)
         for task in (self.take_rows, self.take_lines):
             threading.Thread(target=task, daemon=True).start()
 

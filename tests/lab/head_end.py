@@ -1,4 +1,4 @@
-"""`feeds/lab --pcep`: FRR's `pathd` as a head-end of `tools/pcep`, on a real OSPF network.
+"""`tests/lab/lab --pcep`: FRR's `pathd` as a head-end of `routed-tools pcep`, on a real OSPF network.
 
 What the two said is cut here from the lab's messages. Each path that was sent is the reference's at its version, with the SIDs of the
 feed's file, and comes back in a report. Where `tshark` is there, it reads the capture, too."""
@@ -11,10 +11,10 @@ import subprocess
 import tempfile
 from collections import namedtuple
 
-import reference
-import wire  # of feeds/
+from lab import wire
+from reference import formats
 
-LAB = os.path.join(os.path.dirname(os.path.dirname(os.path.abspath(__file__))), "feeds", "lab")
+LAB = os.path.join(os.path.dirname(os.path.abspath(__file__)), "lab")
 PATIENCE = 900  # seconds for a whole run of the lab
 SOON = 500  # milliseconds from before a circuit's end to the last PCUpd
 OPEN, REQUEST, REPLY, ERROR, REPORT, UPDATE, INITIATE = 1, 3, 4, 6, 10, 11, 12
@@ -133,7 +133,7 @@ def head_end(program, checks):
         found = [*said(texts["messages"])]
         starts = [at for at, one in enumerate(found) if (one.source, one.kind) == (PCE, OPEN)] + [len(found)]
         checks.same("sessions", len(starts), 4)
-        networks = reference.publish(reference.whole_batches(texts["journal"]))[0]
+        networks = formats.publish(formats.whole_batches(texts["journal"]))[0]
         for number, (start, end) in enumerate(zip(starts, starts[1:]), 1):
             session(checks, number, found[start:end], networks, texts["sids"].splitlines())
         audited(checks, texts["journal"], pairs, ran.stdout)
@@ -174,7 +174,7 @@ def session(checks, number, found, networks, sids):
         if number == 1:
             answered = {(one.ero, one.cost) for one in (made if name == MADE else replies)}
             checks.same(f"the first path of {name} is what was answered", {(one.ero, one.cost) for one in own[:1]}, answered)
-    request = reference.row(f"ask,1,{HEAD},10.0.0.6,7,{max(LSPS.values())},0x0,0x0,0x80000000,".split(","))[1]
+    request = formats.row(f"ask,1,{HEAD},10.0.0.6,7,{max(LSPS.values())},0x0,0x0,0x80000000,".split(","))[1]
     gold = [one for one in reports if one.name == MADE]
     checks.same(f"session {number}: LSPs that are made and removed", [(one.name, one.number) for one in made],
                 [[(MADE, 0)], [], [(None, gold[0].number)]][number - 1])
@@ -182,7 +182,7 @@ def session(checks, number, found, networks, sids):
     checks.same(f"session {number}: reports that {MADE} is removed", removed, [one.srp for one in made if one.number])
     for one in replies + updates:
         walk = networks[one.version].least(request)
-        ends = [[reference.address_text(link[end]) for end in ("local", "remote")] for link in walk]
+        ends = [[formats.address_text(link[end]) for end in ("local", "remote")] for link in walk]
         wanted = [[near, far, sid_of(sids, near, one.version)] for near, far in ends]
         checks.same(f"session {number}: the path at version {one.version}", hops(one.ero), wanted)
         checks.same(f"session {number}: its cost at version {one.version}", one.cost, sum(link["metric"] for link in walk))
@@ -194,7 +194,7 @@ def audited(checks, journal, pairs, text):
         rows = [ROW.fullmatch(row) for row in requests.splitlines()]
         checks.same(f"requests {number} are those of the LSPs", {row and int(row[1]) for row in rows}, {*LSPS.values()})
         judged = f"good={len(rows)} faults=0"
-        checks.same(f"the audit {number} by the reference", reference.audit(journal, requests, replies), (0, [judged]))
+        checks.same(f"the audit {number} by the reference", formats.audit(journal, requests, replies), (0, [judged]))
         checks.true(f"the audit {number}", f"audit of {len(rows)} answers: {judged}\n" in text, text)
 
 

@@ -1,5 +1,5 @@
-"""The chain of the lab with a PCE: beside router 5 `feeds/ospf`, `tools/listen` and `tools/pcep`, and at router 1 `pathd`, which asks for
-its LSPs and delegates them. What these two say is read off the wire. All times are of one clock."""
+"""The chain of the lab with a PCE: beside router 5 the feed, listen and pcep, and at router 1 `pathd`, which asks for its LSPs and
+delegates them. What these two say is read off the wire. All times are of one clock."""
 import os
 import signal
 import struct
@@ -7,13 +7,13 @@ import subprocess
 import threading
 import time
 
-from routed.pcep import wire
-import chain  # beside this file
-from chain import OWNERS, Chain, Fault
-from routers import HEAD, LSPS, MADE, PCE, ROOM, TAIL, router_id, within
+from checks import TOOLS
+from lab import chain
+from lab.chain import OWNERS, Chain, Fault
+from lab.routers import HEAD, LSPS, MADE, PCE, ROOM, TAIL, router_id, within
 
-TOP = os.path.dirname(chain.HERE)
-TOOLS = os.path.join(TOP, "tools")
+from routed.pcep import wire
+
 GROUP = "31"  # the administrative group of links that have a SID
 DELEGATED, REMOVED = 1, 4  # flags of an LSP that is reported
 
@@ -55,8 +55,8 @@ class PceChain(Chain):
         self.messages = open(lines, "w", encoding="ascii")
         self.wire = subprocess.Popen([*within(PCE), os.path.join(chain.HERE, "lab"), "--wire", told, capture],
                                      stdin=subprocess.DEVNULL, stdout=subprocess.PIPE, text=True)
-        self.feed = subprocess.Popen([*within(PCE), os.path.join(chain.HERE, "ospf"), "--collect", str(collect), "--sids", self.sids,
-                                      "--sid-group", GROUP, "--", os.path.join(TOOLS, "routed-tools"), "connect", updates],
+        self.feed = subprocess.Popen([*within(PCE), TOOLS, "feed", "--collect", str(collect), "--sids", self.sids,
+                                      "--sid-group", GROUP, "--", TOOLS, "connect", updates],
                                      stdin=subprocess.DEVNULL, stdout=subprocess.DEVNULL)
         threading.Thread(target=self.take_lines, daemon=True).start()
         self.published(lambda: None)
@@ -64,7 +64,7 @@ class PceChain(Chain):
 
     def run(self, tool, before, *words):
         """Starts a tool, and waits for its line `ready`."""
-        process = subprocess.Popen([*before, os.path.join(TOOLS, tool), *words], stdin=subprocess.DEVNULL, stdout=subprocess.PIPE,
+        process = subprocess.Popen([*before, TOOLS, tool, *words], stdin=subprocess.DEVNULL, stdout=subprocess.PIPE,
                                    text=True)
         for line in process.stdout:
             if line == "ready\n":

@@ -1,6 +1,6 @@
-"""`tools/pcep` beside `tools/listen` and the built program: PCCs of the test's own at real sockets.
+"""`routed-tools pcep` beside `routed-tools listen` and the built program: PCCs of the test's own at real sockets.
 
-Answers are judged by tests/reference.py."""
+Answers are judged by tests/reference/formats.py."""
 import os
 import random
 import re
@@ -12,15 +12,15 @@ import subprocess
 import tempfile
 import time
 
-import reference
-from pcep import NORTH, PATH, SOUTH, TOP, bandwidth, changes, hop, ip, lspa, metric, request, rows, told
-from served import PATIENCE
+from checks import TOOLS, TOP
+from pcep.sessions import NORTH, PATH, SOUTH, bandwidth, changes, hop, ip, lspa, metric, request, rows, told
+from program.served import PATIENCE
+from reference import formats
 
 from routed.pcep import replies, wire
 from routed.pcep.keys import set_key
 from routed.pcep.wire import pack, tlv
 
-PCEP = os.path.join(TOP, "tools/pcep")
 OPENED = ["Open", "Keepalive"]
 SILENT = 2  # seconds without an answer
 WATCHERS = 256  # as many as `listen` takes at its place of versions
@@ -74,7 +74,7 @@ class Client:
 
 
 class Run:
-    """`tools/listen` and `tools/pcep`."""
+    """`routed-tools listen` and `routed-tools pcep`."""
 
     def __init__(self, program, room, *words, listen=(), between=None, is_stateful=True):
         self.room, self.program, self.listen, self.words, self.version = room, program, None, listen, 0
@@ -84,7 +84,7 @@ class Run:
         places = self.places_of(ask="ask", metrics="figures", replies="replies")
         if is_stateful:
             places += self.places_of(watch="watch", journal="journal") + ["--stateful"]
-        self.pcep = subprocess.Popen([PCEP, *places, "--port", "0", *words], stdout=subprocess.PIPE,
+        self.pcep = subprocess.Popen([TOOLS, "pcep", *places, "--port", "0", *words], stdout=subprocess.PIPE,
                                      stderr=open(os.path.join(room, "said"), "wb"))
         self.port = int(self.pcep.stdout.readline().split(b":")[1])
         self.pcep.stdout.readline()
@@ -94,7 +94,7 @@ class Run:
 
     def serve(self):
         places = self.places_of(ask="ask", updates="updates", watch="watch", journal="journal")
-        self.listen = subprocess.Popen([os.path.join(TOP, "tools", "listen"), "--program", self.program, *places, *self.words],
+        self.listen = subprocess.Popen([TOOLS, "listen", "--program", self.program, *places, *self.words],
                                        stdout=subprocess.PIPE, stderr=open(os.path.join(self.room, "server"), "wb"))
         self.listen.stdout.readline()
         self.updates, self.version = socket.socket(socket.AF_UNIX), 0
@@ -240,7 +240,7 @@ def keys(program, checks, room):
     for line in ("127.0.3.1", "127.0.3.1 ", f"127.0.3.1 {'k' * 81}", "router key"):
         with open(path, "w") as file:
             file.write(f"127.0.3.2 key\n{line}\n")
-        ran = subprocess.run([PCEP, "--ask", "1", "--port", "0", "--keys", path], capture_output=True, timeout=PATIENCE)
+        ran = subprocess.run([TOOLS, "pcep", "--ask", "1", "--port", "0", "--keys", path], capture_output=True, timeout=PATIENCE)
         is_said = b"line 2 is no address with a key" in ran.stderr
         checks.same(f"TCP-MD5: refused: {line[:12]}", (ran.returncode, ran.stdout, is_said), (3, b"", True))
 
@@ -586,7 +586,7 @@ def rolled(program, checks, room):
     most, replies.MOST = replies.MOST, 100
     try:
         checks.true("replies: fewer rows than an audit reads", most <= 1_000_000)
-        network, journal = reference.Network(), "".join(f"{row}\n" for row in rows()) + f"end,1,{len([*rows()])}\n"
+        network, journal = formats.Network(), "".join(f"{row}\n" for row in rows()) + f"end,1,{len([*rows()])}\n"
         for row in rows():
             network.change(row.split(","))
         for begun_at, count in ((0, 250), (3, 100)):
@@ -656,14 +656,14 @@ PREFIXES = (32, 32, 32, 24, 30, 8)
 def drawn(program, checks, room):
     """Requests of all forms in networks that change, each answer judged by the reference at the version of its reply line."""
     draw = random.Random(89)
-    networks, sent, answers = [reference.Network()], {}, {}
+    networks, sent, answers = [formats.Network()], {}, {}
     with Run(program.path, room) as run:
         client = Client(run.port, "127.0.11.1")
         client.open()
         wait(lambda: run.figures()["sessions"] == 1)
         for number in range(40):
             before, batch = networks[-1], changes(draw, networks[-1])
-            networks.append(before.after([reference.row(row.split(",")) for row in batch]))
+            networks.append(before.after([formats.row(row.split(",")) for row in batch]))
             data = b""
             for _ in range(10):
                 sent[len(sent) + 1] = form = drawn_request(draw, len(sent) + 1)

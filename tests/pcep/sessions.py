@@ -1,6 +1,6 @@
-"""`tools/pcep` without sockets: each form of request, malformed messages, timers on a clock that the test moves, and delegated LSPs.
+"""`routed-tools pcep` without sockets: each form of request, malformed messages, timers on a clock that the test moves, and delegated LSPs.
 
-Answers come from tests/reference.py. tests/pcep_runs.py has the whole front, beside the built program."""
+Answers come from tests/reference/formats.py. tests/pcep/runs.py has the whole front, beside the built program."""
 import argparse
 import os
 import random
@@ -9,10 +9,12 @@ import socket
 import struct
 import tempfile
 
-import reference
-from reference import Network
+from checks import TOP
+from reference import formats
+from reference.formats import Network
 
-from routed.loop import Loop
+from routed.net.loop import Loop
+from routed.net.places import Place, Stopped
 from routed.pcep import pcc as connections
 from routed.pcep import wire
 from routed.pcep.asks import Asks
@@ -23,10 +25,8 @@ from routed.pcep.requests import Request
 from routed.pcep.session import Session
 from routed.pcep.wanted import request_of, wanted
 from routed.pcep.wire import pack, tlv
-from routed.places import Place, Stopped
 
 HERE = os.path.dirname(os.path.abspath(__file__))
-TOP = os.path.dirname(HERE)
 FREE = ",".join(["125000000"] * 8)
 # From 1 to 4 by 2 of cost 100, and by 3 of cost 200.
 CIRCUITS = [(1, 2, 50), (2, 4, 50), (1, 3, 100), (3, 4, 100)]
@@ -605,7 +605,7 @@ def changes(draw, network):
         free = sorted((draw.choice((500, 1000, 4000)) for _ in range(8)), reverse=True)
         for near, far in ((a, b), (b, a)):
             key = f"10.0.0.{near}", f"10.{a}.{b}.{near + 100 * which}"
-            is_there = tuple(map(reference.address_number, key)) in network.links
+            is_there = tuple(map(formats.address_number, key)) in network.links
             if is_there and draw.random() < 0.4:
                 found[key] = f"drop,{key[0]},{key[1]}"
             else:
@@ -622,7 +622,7 @@ def followed(checks, room):
     draw, front, networks, routes, faults, costs = random.Random(21), Front(room), [Network()], [], [], {True: 0, False: 0}
     for number in range(1, 81):
         batch = changes(draw, networks[-1])
-        networks.append(networks[-1].after([reference.row(row.split(",")) for row in batch]))
+        networks.append(networks[-1].after([formats.row(row.split(",")) for row in batch]))
         front.publish(*batch)
         if number % 2:  # the journal is two versions ahead
             continue
@@ -638,10 +638,10 @@ def followed(checks, room):
                 if front.network.cost(request, group, route) != wanted:
                     faults.append((version, asked, route, wanted, front.network.cost(request, group, route)))
             request, group = drawn_ask(draw)
-            asked = reference.row(f"ask,1,{request.row(group)}".split(","))[1]
+            asked = formats.row(f"ask,1,{request.row(group)}".split(","))[1]
             walk = network.least(asked)
             if walk:
-                routes.append((request, group, asked, [reference.address_text(link["remote"]) for link in walk]))
+                routes.append((request, group, asked, [formats.address_text(link["remote"]) for link in walk]))
     checks.same("routes of earlier versions", faults[:2], [])
     checks.true("some may be used, and some may not", min(costs.values()) > 100, costs)
     folder = os.path.join(room, "journals")
@@ -666,10 +666,10 @@ def drawn_ask(draw):
 def cost_of(network, asked, route):
     """The cost of a route by the reference's words; None where a link of it isn't admissible, or a marked router is passed."""
     at, cost = asked["from"], 0
-    for number, far in enumerate(map(reference.address_number, route)):
+    for number, far in enumerate(map(formats.address_number, route)):
         there = [link for link in network.links.values()
-                 if link["from"] == at and link["remote"] == far and reference.admissible(network, link, asked)]
-        if not there or not reference.may_leave(network, at, number):
+                 if link["from"] == at and link["remote"] == far and formats.admissible(network, link, asked)]
+        if not there or not formats.may_leave(network, at, number):
             return None
         at, cost = there[0]["to"], cost + min(link["metric"] for link in there)
     return cost if at == asked["to"] else None
@@ -948,7 +948,7 @@ def documented(checks, _):
         tables = file.read().partition("## What maps to what")[2].partition("\n## ")[0]
     found = [match[1] or match[2] for match in re.finditer(r"(?m)^(?:\| (?!Object)(.*?) \||- (?:\d+/\d+(?:, |: ))+(.*)$)", tables)]
     checks.same("the rows of the page", found, [*TABLE])
-    files = [open(os.path.join(HERE, name), encoding="utf-8").read() for name in ("pcep.py", "pcep_runs.py")]
+    files = [open(os.path.join(HERE, name), encoding="utf-8").read() for name in ("sessions.py", "runs.py")]
     text = "".join(file.partition("\nTABLE = {")[0] for file in files)
     for row, names in TABLE.items():
         checks.same(f"checks of the row {row}", [name for name in names if f'"{name}' not in text], [])

@@ -1,6 +1,6 @@
 """`audit` judges reply lines by a journal and requests.
 
-Its lines are the formats' own (docs/run/FORMATS.md), or computed by tests/reference.py.
+Its lines are the formats' own (docs/run/FORMATS.md), or computed by tests/reference/formats.py.
 """
 import glob
 import os
@@ -10,10 +10,9 @@ import subprocess
 import tempfile
 import time
 
-import changes
-import reference
+from checks import TOP
+from reference import changes, formats
 
-TOP = os.path.dirname(os.path.dirname(os.path.abspath(__file__)))
 FREE = ",".join(["1000"] * 8)
 MASKS = "0x0,0x0,0x0"
 LINK = f"put,1.1.1.1,10.0.12.1,2.2.2.2,10.0.12.2,10,0x1,{FREE}\n"
@@ -44,7 +43,7 @@ class Audit:
 
     def is_right(self, name, journal, requests, replies):
         """The lines of the reference are written."""
-        status, lines = reference.audit(*map(latin, (journal, requests, replies)))
+        status, lines = formats.audit(*map(latin, (journal, requests, replies)))
         self.says(name, status, "".join(f"{line}\n" for line in lines), journal, requests, replies)
 
 

@@ -1,11 +1,11 @@
 #!/usr/bin/env python3
-"""Tests of `routed book`: worked streams (tests/scripts/book), refusals, limits, and drawn streams compared with tests/book_reference.py.
+"""Tests of `routed book`: worked streams (tests/program/scripts/book), refusals, limits, and drawn streams compared with tests/reference/books.py.
 
-    tests/book.py
-    tests/book.py --full
+    tests/program/book.py
+    tests/program/book.py --full
 
 Run by itself it tries the reference alone, on all whose lines are known, and counts the drawn streams that tell each wrong book
-(tests/wrong_books.py) apart. As a part of tests/run it tries the built program beside the reference, on drawn streams and while calls are
+(tests/reference/wrong_books.py) apart. As a part of tests/run it tries the built program beside the reference, on drawn streams and while calls are
 refused, too. With --full it tries the program with the most placements, which takes a minute or more.
 """
 import argparse
@@ -20,15 +20,13 @@ import tempfile
 import time
 
 sys.dont_write_bytecode = True
-from checks import Checks  # all beside this file; this one first, as it leads to the tools
-
-import book_reference
-import kept_books
-import reference
-import wrong_books
-from changes import changed, hop_list, mark_rows, mixed, object_text, row_of, subobject
-from refusal import COMPILER, Refuser, each
-from refused import REFUSALS, is_stopped
+sys.path.insert(1, os.path.dirname(os.path.dirname(os.path.abspath(__file__))))
+from checks import Checks
+from program import kept_books
+from program.refusal import COMPILER, Refuser, each
+from program.refused import REFUSALS, is_stopped
+from reference import books, formats, wrong_books
+from reference.changes import changed, hop_list, mark_rows, mixed, object_text, row_of, subobject
 from routed.program import BUILT
 
 HERE = os.path.dirname(os.path.abspath(__file__))
@@ -54,7 +52,7 @@ def place(name, hold=7, bandwidth=1, masks=MASKS, hops="", ends="1.1.1.1,2.2.2.2
 class Reference:
     """The reference, or a wrong book made of it, as a program."""
 
-    def __init__(self, module=book_reference):
+    def __init__(self, module=books):
         self.module = module
 
     def run(self, words, rows):
@@ -77,7 +75,7 @@ def held(path):
 
 
 def worked():
-    """The streams of tests/scripts/book, each with the lines of the file beside it."""
+    """The streams of tests/program/scripts/book, each with the lines of the file beside it."""
     for name in sorted(os.listdir(SCRIPTS)):
         if name.endswith(".rows"):
             yield name, held(os.path.join(SCRIPTS, name)), held(os.path.join(SCRIPTS, name[:-5] + ".out")).decode()
@@ -214,7 +212,7 @@ def streams(program, checks):
         for kind, one in (("program", program), ("reference", len(rows) < 10 ** 7 and Reference())):
             if one:
                 checks.same(f"book: {name}: {kind}", one.run(["book"], rows), (status_of(lines), lines.encode(), b""))
-    checks.same("book: limits that are lowered: reference", lowered(book_reference), LOWERED)
+    checks.same("book: limits that are lowered: reference", lowered(books), LOWERED)
     if program:
         others(program, checks)
 
@@ -231,7 +229,7 @@ def others(program, checks):
 
 def full(path, checks):
     """65,536 placements, and one more: of another id it is refused, of the same it is moved. It is tried by hand, since each is counted anew."""
-    most = book_reference.MOST_PLACEMENTS
+    most = books.MOST_PLACEMENTS
     rows = BASE + "".join(place(name, bandwidth=0) for name in range(most))
     more = place(most) + place(most, ends="1.1.1.1,9.9.9.9") + place(0) + "release,1\n" + place(most) + place(1)
     lines = "".join(f"place {name} v{name + 2} {DIRECT}\n" for name in range(most))
@@ -390,7 +388,7 @@ def released(program, checks):
         asks = [drawn.request("ask", name, drawn.draw.randrange(8)) for name in range(20)]
         book = stream([*drawn.rows, *(f"release,{name}" for name in IDS), *asks])
         solve = stream([*base, *asks])
-        outcomes = [reference.solve(solve)[1][-20:], book_reference.book(book)[1][-20:]]
+        outcomes = [formats.solve(solve)[1][-20:], books.book(book)[1][-20:]]
         if program:
             outcomes += [program.run([command], rows)[1].decode().splitlines()[-20:] for command, rows in (("solve", solve), ("book", book))]
         for lines in outcomes:

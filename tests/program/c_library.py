@@ -1,7 +1,7 @@
 """Tests of the library for C (crates/cspf_c): its examples answer what `routed solve` must.
 
 `examples/c` and a program of wrong calls are built with the C compiler, over the library that `rt lib` leaves in crates/cspf_c/out. Their
-lines are those of `solve`, byte for byte, on all of tests/scripts and on drawn streams. Some runs are under valgrind, and each
+lines are those of `solve`, byte for byte, on all of tests/program/scripts and on drawn streams. Some runs are under valgrind, and each
 allocation of one is refused. Without the library, a C compiler or `rt` a line says that it is skipped.
 """
 import os
@@ -12,13 +12,13 @@ import subprocess
 import sys
 import tempfile
 
-import reference
-from changes import changed, script
-from large import longest_routes
-from refusal import COMPILER, Refuser, each
+from checks import TOP
+from program.large import longest_routes
+from program.refusal import COMPILER, Refuser, each
+from reference import formats
+from reference.changes import changed, script
 
 HERE = os.path.dirname(os.path.abspath(__file__))
-TOP = os.path.dirname(HERE)
 LIBRARY = os.path.join(TOP, "crates/cspf_c/out/libcspf_c.a")
 INCLUDE = os.path.join(TOP, "crates/cspf_c/include")
 WARNINGS = ["-std=c11", "-Wall", "-Wextra", "-Werror", "-pedantic"]
@@ -52,17 +52,17 @@ def ran(words, rows):
 
 def lines_of(rows):
     """What `solve` must write of rows, by the formats' own words."""
-    return "".join(f"{line}\n" for line in reference.solve(rows.decode("latin-1"))[1]).encode("latin-1")
+    return "".join(f"{line}\n" for line in formats.solve(rows.decode("latin-1"))[1]).encode("latin-1")
 
 
 def is_by_line(rows):
     """Whether each row stands on a line of its own, so that it can be given by itself."""
     text = rows.decode("latin-1")
-    return [row for line in re.findall("[^\n]*\n|[^\n]+", text) for row in reference.records(line)] == list(reference.records(text))
+    return [row for line in re.findall("[^\n]*\n|[^\n]+", text) for row in formats.records(line)] == list(formats.records(text))
 
 
 def named_scripts():
-    """Each stream of tests/scripts with what the file beside it says."""
+    """Each stream of tests/program/scripts with what the file beside it says."""
     folder = os.path.join(HERE, "scripts")
     for name in sorted(os.listdir(folder)):
         if name.endswith(".rows"):

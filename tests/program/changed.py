@@ -1,8 +1,8 @@
 #!/usr/bin/env python3
-"""Compares the built program with tests/reference.py on streams whose bytes were changed.
+"""Compares the built program with tests/reference/formats.py on streams whose bytes were changed.
 
-    tests/changed.py [--program FILE] [--changed N] [--seed S] [--jobs J]
-    tests/changed.py --wrong [--changed N] [--seed S]
+    tests/program/changed.py [--program FILE] [--changed N] [--seed S] [--jobs J]
+    tests/program/changed.py --wrong [--changed N] [--seed S]
 
 N streams are drawn and changed: scripts, journals and requests (with and without --accept-torn), updates of
 a live run by one worker, what an audit reads, and objects as hops. Beside these each worked row, journal and object is cut at each
@@ -29,10 +29,9 @@ import tempfile
 
 sys.dont_write_bytecode = True
 HERE = os.path.dirname(os.path.abspath(__file__))
-sys.path.insert(1, os.path.join(HERE, "../python"))
-import changes  # beside this file
-import reference
-import wrong
+sys.path.insert(1, os.path.dirname(HERE))
+import checks  # it leads to the tools
+from reference import changes, formats, wrong
 from routed.program import BUILT
 
 MOST_DIFFERENCES = 20
@@ -101,7 +100,7 @@ class Program:
 class Reference:
     """The reference, or a wrong program made of it, as a program."""
 
-    def __init__(self, module=reference):
+    def __init__(self, module=formats):
         self.module = module
 
     def answer(self, run, named=()):
@@ -151,9 +150,9 @@ def base(draw, worked_ones, *drawn):
 
 def replies(draw, journal, requests):
     """Reply lines that are right, each at a version of its own, among other lines that a run writes, and now and then one of no request."""
-    networks, _ = reference.publish(reference.whole_batches(journal, True))
+    networks, _ = formats.publish(formats.whole_batches(journal, True))
     lines = [f"version {version}" for version in range(1, len(networks))]
-    for request in reference.requests_of(requests):
+    for request in formats.requests_of(requests):
         version = draw.randrange(len(networks))
         lines.append(networks[version].answer(version, request))
     lines += draw.choice([[], [], [], ["ask 99 v0 none"], ["ask 99 v0 none"] * 2])

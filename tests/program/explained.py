@@ -8,9 +8,9 @@ import signal
 import subprocess
 import tempfile
 
-from versions import Versions
+from checks import TOP
+from reference.versions import Versions
 
-TOP = os.path.dirname(os.path.dirname(os.path.abspath(__file__)))
 ABSENT, FOLDER, FULL = (f"{text}\n" for text in (
     "No such file or directory (os error 2)", "Is a directory (os error 21)", "No space left on device (os error 28)"))
 PUT = "put,1.1.1.1,10.0.12.1,2.2.2.2,10.0.12.2,10,0x1,5,5,5,5,5,5,5,5\n"

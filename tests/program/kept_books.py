@@ -10,9 +10,9 @@ import tempfile
 import threading
 import time
 
-import book_reference
-from refusal import COMPILER, Refuser, each
-from refused import REFUSALS, is_stopped
+from program.refusal import COMPILER, Refuser, each
+from program.refused import REFUSALS, is_stopped
+from reference import books
 
 KILLS = 100
 STOPPED = b"routed: stopped\n"
@@ -28,7 +28,7 @@ class Kept:
 
     def __init__(self, rows):
         self.rows = rows if isinstance(rows, bytes) else rows.encode("latin-1")
-        self.status, found = book_reference.steps(self.rows.decode("latin-1"))
+        self.status, found = books.steps(self.rows.decode("latin-1"))
         self.steps = [("".join(f"{line}\n" for line in lines).encode(), text.encode()) for lines, text in found]
         self.lines = b"".join(lines for lines, _ in self.steps)
         self.text = b"".join(text for _, text in self.steps)
@@ -143,7 +143,7 @@ def killed(program, checks, rows):
     """Runs that are killed, half of them while they write byte by byte. Each line that was written has what was kept before it."""
     kept, draw, start = Kept(rows), random.Random(3), time.monotonic()
     refuser = Refuser() if COMPILER else None
-    parts, books = set(), 0
+    parts, alike = set(), 0
     with tempfile.TemporaryDirectory() as room:
         for at in range(KILLS):
             path, source = os.path.join(room, f"kept{at}"), os.path.join(room, "rows")
@@ -163,9 +163,9 @@ def killed(program, checks, rows):
             text = held(path) if os.path.exists(path) else b""
             checks.true(f"a book after kill {at}", kept.is_part(lines[0], text), (lines[0][-200:], text[-200:]))
             whole = Kept(text[:text.rfind(b"\n") + 1])
-            books += program.run(["book"], whole.rows) == (whole.status, whole.lines, b"")
+            alike += program.run(["book"], whole.rows) == (whole.status, whole.lines, b"")
             parts.add(len(text))
-    checks.same("books of what is kept after kills", books, KILLS)
+    checks.same("books of what is kept after kills", alike, KILLS)
     checks.true("the kills are spread over the run", refuser is None or len(parts) > KILLS // 3, len(parts))
     print(f"killed: {KILLS} books, {len(parts)} lengths of what is kept, in {time.monotonic() - start:.0f} s")
 

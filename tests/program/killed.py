@@ -9,9 +9,9 @@ import subprocess
 import tempfile
 import time
 
-import changes
-from refusal import COMPILER, Refuser
-from versions import Versions
+from program.refusal import COMPILER, Refuser
+from reference import changes
+from reference.versions import Versions
 
 BATCHES, KILLS, ROUTERS = 200, 100, 12
 

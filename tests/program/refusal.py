@@ -1,4 +1,4 @@
-"""Runs a program while the C library refuses its calls (tests/refuse.c)."""
+"""Runs a program while the C library refuses its calls (tests/program/refuse.c)."""
 import concurrent.futures
 import itertools
 import os

@@ -1,4 +1,4 @@
-"""The built program while the C library refuses its calls, each in turn (tests/refuse.c): it ends whole, with a named refusal, or stopped.
+"""The built program while the C library refuses its calls, each in turn (tests/program/refuse.c): it ends whole, with a named refusal, or stopped.
 
 All commands are run so. A whole run has a batch that is refused by name and the journal that this line says. A stopped one has the
 cause that `--explain` names: what `solve` wrote is a prefix of the right text, and the journal of `live` a prefix of the updates. A
@@ -9,13 +9,13 @@ import re
 import time
 from collections import Counter
 
-import reference
-from refusal import COMPILER, Refuser, each
-from reference import Network
-from snapshots import snapshot_of
-from versions import Versions
+from checks import TOP
+from program.refusal import COMPILER, Refuser, each
+from program.snapshots import snapshot_of
+from reference import formats
+from reference.formats import Network
+from reference.versions import Versions
 
-TOP = os.path.dirname(os.path.dirname(os.path.abspath(__file__)))
 ABILENE, UPDATES, REQUESTS = (os.path.join(TOP, "examples", name) for name in ("abilene.rows", "nsfnet.journal", "nsfnet.requests"))
 
 # (the kind of call, how it is refused)
@@ -127,7 +127,7 @@ class Audit:
         with open(path, "w", encoding="ascii") as file:
             file.write(replies)
         self.words = [program.path, "audit", "--journal", UPDATES, "--requests", REQUESTS, "--replies", path, "--explain"]
-        self.status, lines = reference.audit(updates, requests, replies)
+        self.status, lines = formats.audit(updates, requests, replies)
         self.lines = "".join(f"{line}\n" for line in lines).encode()
 
     def run(self, refuser, number, flags):

@@ -18,10 +18,10 @@ import tempfile
 import threading
 import time
 
-import changes
-from reference import Network, Refused, batch_text, ended, records, row, solve
-from refusal import COMPILER, Refuser
-from versions import Versions
+from program.refusal import COMPILER, Refuser
+from reference import changes
+from reference.formats import Network, Refused, batch_text, ended, records, row, solve
+from reference.versions import Versions
 
 ROUTERS, BATCHES = 12, 60
 CLIENTS = 64  # the most of one run

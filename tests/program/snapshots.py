@@ -5,8 +5,8 @@ import re
 import subprocess
 import time
 
-import changes
-from reference import MOST_CHANGES, MOST_LINKS, MOST_MARKS, MOST_ROUTERS, MOST_ROWS, Refused, batch_text, publish, whole_batches
+from reference import changes
+from reference.formats import MOST_CHANGES, MOST_LINKS, MOST_MARKS, MOST_ROUTERS, MOST_ROWS, Refused, batch_text, publish, whole_batches
 
 HERE = os.path.dirname(os.path.abspath(__file__))
 TORN = "--accept-torn"
@@ -32,7 +32,7 @@ def snapshots(program, checks):
 
 
 def held():
-    """The journals of tests/journals."""
+    """The journals of tests/program/journals."""
     folder = os.path.join(HERE, "journals")
     for name in sorted(os.listdir(folder)):
         if name.endswith(".journal"):

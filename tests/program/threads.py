@@ -1,6 +1,6 @@
-"""`routed serve` and `tools/listen` where the system refuses threads: nothing is read, published or answered, and a client without one is named.
+"""`routed serve` and `routed-tools listen` where the system refuses threads: nothing is read, published or answered, and a client without one is named.
 
-Each thread of 8 clients is refused, and some of 64, alone and with all later ones (tests/refuse.c). And a user has fewer than there are clients.
+Each thread of 8 clients is refused, and some of 64, alone and with all later ones (tests/program/refuse.c). And a user has fewer than there are clients.
 """
 import array
 import contextlib
@@ -15,9 +15,10 @@ import tempfile
 import termios
 import time
 
-from listened import TOP, Front
-from refusal import COMPILER, Refuser
-from served import CLIENTS, PATIENCE
+from checks import TOP
+from program.refusal import COMPILER, Refuser
+from program.served import CLIENTS, PATIENCE
+from tools.listened import Front
 
 FEW, SOME = 8, (1, 2, CLIENTS // 2, CLIENTS - 1, CLIENTS)  # clients of which each thread is refused, and those of 64 that are
 MOST = 20  # threads of a user, fewer than 64
@@ -144,7 +145,7 @@ def one_by_one(program, checks, refuser, room, clients, numbers):
 
 
 def listening(program, checks, refuser, room):
-    """`tools/listen` isn't ready then: it ends as its server does, and leaves no socket."""
+    """`routed-tools listen` isn't ready then: it ends as its server does, and leaves no socket."""
     class Refused:
         path = os.path.join(room, "routed")
 
@@ -155,7 +156,7 @@ def listening(program, checks, refuser, room):
             os.chmod(Refused.path, 0o700)
             with Front(Refused, room, "--clients", str(FEW)) as front:
                 status, said = front.ended()
-                name = f"tools/listen without thread {at} {more}"
+                name = f"routed-tools listen without thread {at} {more}"
                 checks.same(name, (front.first, status), ("", 3))
                 checks.true(f"{name}: a client is named", named(said, f"listen: {Refused.path} ended with status 3\n") in range(1, FEW + 1), said)
                 checks.same(f"{name}: what is left", (sorted(os.listdir(room)), sizes(front.journal)), (["journal", "routed"], {0}))
@@ -189,11 +190,11 @@ def of_a_user(program, checks, room, above):
     checks.same("nothing is written then", sizes(journal, *outs), {0})
     forget(journal)
     if os.geteuid() != 0:
-        print("threads: tools/listen isn't tried as a user of few threads, which needs root")
+        print("threads: routed-tools listen isn't tried as a user of few threads, which needs root")
         return
-    ran = subprocess.run(["tools/listen", "--program", path, "--journal", journal, "--ask", "./ask", "--updates", "./updates"], **how)
-    checks.same("tools/listen without a thread for each client", (ran.returncode, ran.stdout), (3, b""))
+    ran = subprocess.run(["tools/routed-tools", "listen", "--program", path, "--journal", journal, "--ask", "./ask", "--updates", "./updates"], **how)
+    checks.same("routed-tools listen without a thread for each client", (ran.returncode, ran.stdout), (3, b""))
     client = named(ran.stderr.decode(), f"listen: {path} ended with status 3\n")
-    checks.true("a client of tools/listen without a thread is named", client in range(1, CLIENTS + 1), ran.stderr)
+    checks.true("a client of routed-tools listen without a thread is named", client in range(1, CLIENTS + 1), ran.stderr)
     left = sorted(name for name in os.listdir(room) if not name.startswith(("asks", "lines")))
     checks.same("what is left then", (left, sizes(journal)), (["journal", "python", "routed", "tools"], {0}))

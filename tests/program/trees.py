@@ -3,7 +3,7 @@ ask often enough for trees. A reply of `live` beside updates names the version o
 
     tests/run --trees MB
 
-runs all parts by a program that adds the option to each such command (tests/option.c).
+runs all parts by a program that adds the option to each such command (tests/program/option.c).
 """
 import os
 import random
@@ -11,14 +11,14 @@ import shutil
 import subprocess
 import tempfile
 
-import changes
-from refusal import COMPILER
-from served import Serving, batches_of
-from tables import ran_live, table
-from versions import Versions
+from checks import TOP
+from program.refusal import COMPILER
+from program.served import Serving, batches_of
+from program.tables import ran_live, table
+from reference import changes
+from reference.versions import Versions
 
 HERE = os.path.dirname(os.path.abspath(__file__))
-TOP = os.path.dirname(HERE)
 OFTEN = 20  # rounds of all requests; the sixth of one tail-end and affinities has a tree
 WAYS = [[], ["--trees", "0"], ["--trees", "1"], ["--trees", "1024"]]
 WRONG = ["-1", "1025", "x", "", "1.5", "65536", "18446744073709551617"]
@@ -66,7 +66,7 @@ def worked(folder, *ends):
 
 
 def worked_words(name):
-    """The options of a journal of tests/journals."""
+    """The options of a journal of tests/program/journals."""
     path = os.path.join(HERE, "journals", name.replace(".journal", ".words"))
     return open(path, encoding="ascii").read().split() if os.path.exists(path) else []
 

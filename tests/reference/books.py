@@ -1,12 +1,12 @@
-"""What `routed book` writes, from the formats' own words (docs/run/FORMATS.md), over tests/reference.py.
+"""What `routed book` writes, from the formats' own words (docs/run/FORMATS.md), over tests/reference/formats.py.
 
 Small and slow on purpose; nothing in it is taken from the program.
 """
 import collections
 import functools
 
-import reference  # beside this file
-from reference import MOST_ROWS, MOST_VERSIONS, Network, Refused, address_text
+from reference import formats
+from reference.formats import MOST_ROWS, MOST_VERSIONS, Network, Refused, address_text
 
 PRIORITIES = range(8)  # 0 is the most important
 NOTHING = [0] * len(PRIORITIES)
@@ -20,19 +20,19 @@ MOST_ROUTES_LINKS = 1_048_576
 
 def place(fields):
     """The fields of an ask row, with the holding priority in the place of the setup priority."""
-    asked = reference.ask(fields)
+    asked = formats.ask(fields)
     return {**asked, "setup": SETUP, "hold": asked["setup"]}
 
 
 def release(fields):
-    return {"id": reference.number(fields, 2, 64)}
+    return {"id": formats.number(fields, 2, 64)}
 
 
 def row(fields):
     """The kind of a row, and what it says: five kinds are those of `routed solve`."""
     kinds = {"place": (place, 10), "release": (release, 2)}
     if fields[0] not in kinds:
-        return reference.row(fields)
+        return formats.row(fields)
     read, count = kinds[fields[0]]
     if len(fields) != count:
         raise Refused("fields")
@@ -109,7 +109,7 @@ def admits(base, placement):
         link = base.links.get(key_of(old))
         if link is None or link["to"] != old["to"]:
             return False
-        if not reference.admissible(base, link, request) or not reference.may_leave(base, link["from"], count):
+        if not formats.admissible(base, link, request) or not formats.may_leave(base, link["from"], count):
             return False
     return True
 
@@ -156,7 +156,7 @@ class Book:
             if sum(len(it.route) for it in others) + len(outcome) > MOST_ROUTES_LINKS:
                 raise Refused("links")
             self.placements, self.version = [*others, Placement(request, outcome)], self.version + 1
-        return f"place {request['id']} v{self.version} {reference.outcome_text(request, outcome)}"
+        return f"place {request['id']} v{self.version} {formats.outcome_text(request, outcome)}"
 
     def release(self, name):
         others = self.others(name)
@@ -171,7 +171,7 @@ class Book:
 def steps(rows):
     """The status of a run, and for each row its lines and what `--keep` has of it; the last line comes after them."""
     book, changes, found, is_refused = Book(), [], [], False
-    for at, fields in enumerate(reference.records(rows), 1):
+    for at, fields in enumerate(formats.records(rows), 1):
         if at > MOST_ROWS:
             return 2, [*found, (["too many rows"], "")]
         subject, version, lines, text = f"row {at}", book.version, [], ",".join(fields) + "\n"
@@ -181,7 +181,7 @@ def steps(rows):
                 changes.append((kind, content))
             elif kind == "end":
                 subject, open_ones, changes = f"batch {content['number']}", changes, []
-                lines, text = book.end(open_ones, content), reference.batch_text(content["number"], open_ones)
+                lines, text = book.end(open_ones, content), formats.batch_text(content["number"], open_ones)
             elif kind == "ask":
                 lines = [book.ask(content)]
             elif kind == "place":

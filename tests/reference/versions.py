@@ -1,7 +1,7 @@
-"""What requests are answered at each version, by tests/reference.py."""
+"""What requests are answered at each version, by tests/reference/formats.py."""
 import re
 
-from reference import Network
+from reference.formats import Network
 
 
 class Versions:

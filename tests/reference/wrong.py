@@ -4,7 +4,7 @@ import inspect
 import os
 import re
 
-REFERENCE = os.path.join(os.path.dirname(os.path.abspath(__file__)), "reference.py")
+REFERENCE = os.path.join(os.path.dirname(os.path.abspath(__file__)), "formats.py")
 
 
 def fresh():

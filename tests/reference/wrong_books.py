@@ -1,8 +1,8 @@
-"""Wrong books: tests/book_reference.py with one rule turned. What compares a program with it has to tell each apart."""
+"""Wrong books: tests/reference/books.py with one rule turned. What compares a program with it has to tell each apart."""
 import importlib.util
 import os
 
-REFERENCE = os.path.join(os.path.dirname(os.path.abspath(__file__)), "book_reference.py")
+REFERENCE = os.path.join(os.path.dirname(os.path.abspath(__file__)), "books.py")
 
 
 def fresh():
@@ -151,7 +151,7 @@ def takes_a_route_that_uses_a_link_twice(it):
             it.key_of = kept
         if isinstance(outcome, tuple) and len({kept(link) for link in outcome}) < len(outcome):
             book.placements, book.version = [*book.others(request["id"]), it.Placement(request, outcome)], book.version + 1
-            return f"place {request['id']} v{book.version} {it.reference.outcome_text(request, outcome)}"
+            return f"place {request['id']} v{book.version} {it.formats.outcome_text(request, outcome)}"
         return right(book, request)
     it.Book.place = place
 
@@ -161,7 +161,7 @@ def refuses_a_route_that_visits_a_router_twice(it):
 
     def place(book, request):
         outcome = it.effective(book.base, book.others(request["id"])).outcome(request)
-        if not isinstance(outcome, str) and "again=yes" in it.reference.outcome_text(request, outcome):
+        if not isinstance(outcome, str) and "again=yes" in it.formats.outcome_text(request, outcome):
             raise it.Refused("twice")
         return right(book, request)
     it.Book.place = place
@@ -355,11 +355,11 @@ def loses_none_by_a_reverse(it):
     right = it.admits
 
     def admits(base, placement):
-        kept, it.reference.has_reverse = it.reference.has_reverse, lambda network, link: True
+        kept, it.formats.has_reverse = it.formats.has_reverse, lambda network, link: True
         try:
             return right(base, placement)
         finally:
-            it.reference.has_reverse = kept
+            it.formats.has_reverse = kept
     it.admits = admits
 
 

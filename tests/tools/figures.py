@@ -1,4 +1,4 @@
-"""What an operator sees of `tools/listen` and of a feed: figures, the log, the place that tells versions, and one user's share."""
+"""What an operator sees of `routed-tools listen` and of a feed: figures, the log, the place that tells versions, and one user's share."""
 import os
 import pty
 import re
@@ -12,15 +12,15 @@ import tempfile
 import threading
 import time
 
-import feed as feeds
-from listened import CLIENTS, Connection, Front, admitted, busy
-from served import PATIENCE
+from checks import TOOLS, TOP
+from feed import rows as feeds
+from program.served import PATIENCE
+from tools.listened import CLIENTS, Connection, Front, admitted, busy
 
-from routed import log, metrics, status
-from routed.places import Place
+from routed.front import metrics, status
+from routed.net import log
+from routed.net.places import Place
 
-TOP = os.path.dirname(os.path.dirname(os.path.abspath(__file__)))
-TOOLS = os.path.join(TOP, "tools", "routed-tools")
 MASKS = "0x0,0x0,0x0"
 FREE = ",".join(["1000"] * 8)
 PAIR = f"put,1.1.1.1,10.0.12.1,2.2.2.2,10.0.12.2,10,0x1,{FREE}\nput,2.2.2.2,10.0.12.2,1.1.1.1,10.0.12.1,10,0x1,{FREE}\n"
@@ -48,7 +48,7 @@ def figures(program, checks):
 
 
 def seen(program, room, *words, **how):
-    """A run of tools/listen with both places, below a folder."""
+    """A run of routed-tools listen with both places, below a folder."""
     return Front(program, room, "--watch", os.path.join(room, "watch"), "--metrics", os.path.join(room, "metrics"), *words, **how)
 
 

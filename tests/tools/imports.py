@@ -4,8 +4,7 @@ import re
 import subprocess
 import tempfile
 
-HERE = os.path.dirname(os.path.abspath(__file__))
-TOP = os.path.dirname(HERE)
+from checks import TOOLS, TOP
 
 SNDLIB = """?SNDlib native format; type: network; version: 1.0
 # three sites
@@ -92,7 +91,7 @@ def run(text, *words, name="network"):
     with tempfile.TemporaryDirectory() as room:
         with open(os.path.join(room, name), "wb") as file:
             file.write(text if isinstance(text, bytes) else text.encode())
-        ran = subprocess.run([os.path.join(TOP, "tools/routed-tools"), "import", name, *words], capture_output=True, text=True, cwd=room)
+        ran = subprocess.run([TOOLS, "import", name, *words], capture_output=True, text=True, cwd=room)
         written = {it: open(os.path.join(room, it)).read() for it in sorted(os.listdir(room)) if it != name}
         return ran.returncode, ran.stdout, re.sub("(?m)^import: ", "", ran.stderr), written
 

@@ -11,20 +11,19 @@ import tempfile
 import time
 from importlib.machinery import SourceFileLoader
 
-from feed import PAIR, Router
-from kept import started
-from listened import PATIENCE, Connection
-from pcep import request
-from pcep_runs import Client
+from checks import TOP
+from feed.rows import PAIR, Router
+from pcep.runs import Client
+from pcep.sessions import request
+from tools.kept import started
+from tools.listened import PATIENCE, Connection
 
 from routed.pcep.wire import pack
 
-HERE = os.path.dirname(os.path.abspath(__file__))
-TOP = os.path.dirname(HERE)
 DEPLOY = os.path.join(TOP, "deploy")
 UNITS = sorted(name for name in os.listdir(DEPLOY) if name.endswith((".service", ".socket")))
 MOST_EXPOSED = 4.0  # of systemd-analyze security
-FILES = """bin/routed bin/routed-tools lib/python3/dist-packages/routed/listen.py lib/python3/dist-packages/routed/feed/ospf.py lib/routed/keep
+FILES = """bin/routed bin/routed-tools lib/python3/dist-packages/routed/front/listen.py lib/python3/dist-packages/routed/feed/ospf/ospf.py lib/routed/keep
 lib/routed/serve lib/routed/fed lib/systemd/system/routed-serve.service lib/systemd/system/routed-feed.service
 lib/systemd/system/routed-pcep.service share/doc/routed/examples/etc/routed/pcep.conf lib/python3/dist-packages/routed/pcep/front.py
 lib/systemd/system/routed-solve.socket lib/systemd/system/routed-solve@.service lib/sysusers.d/routed.conf lib/tmpfiles.d/routed.conf
@@ -63,10 +62,15 @@ def package(program, checks):
         for name in FILES:
             checks.true(f"it has {name}", os.path.isfile(os.path.join(empty, "usr", name)))
         checks.same("no file of Python's cache", [line for line in held if "__pycache__" in line], [])
-        modules = {name for _, _, names in os.walk(os.path.join(TOP, "python/routed")) for name in names if name.endswith(".py")}
-        installed = {name for _, _, names in os.walk(os.path.join(empty, "usr/lib/python3/dist-packages/routed")) for name in names}
-        checks.same("all modules are installed", installed, modules)
+        modules = {name for name in files_below(os.path.join(TOP, "python/routed")) if name.endswith(".py")}
+        installed = files_below(os.path.join(empty, "usr/lib/python3/dist-packages/routed"))
+        checks.same("all modules are installed, each in its folder", installed, modules)
         unpacked(program, checks, room, os.path.join(empty, "usr"))
+
+
+def files_below(folder):
+    """The files of a folder and its folders, by their paths from there."""
+    return {os.path.relpath(os.path.join(at, name), folder) for at, _, names in os.walk(folder) for name in names}
 
 
 def text_of(name):

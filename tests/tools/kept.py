@@ -12,12 +12,11 @@ import tempfile
 import threading
 import time
 
-from listened import PATIENCE, Connection
-from reference import publish, whole_batches
-from snapshots import snapshot_of
+from checks import TOP
+from program.snapshots import snapshot_of
+from reference.formats import publish, whole_batches
+from tools.listened import PATIENCE, Connection
 
-HERE = os.path.dirname(os.path.abspath(__file__))
-TOP = os.path.dirname(HERE)
 DEPLOY = os.path.join(TOP, "deploy")
 KILLS, SERVING = 100, 0.2  # and the seconds of a run in which it is killed
 FREE = ",".join(["7"] * 8)

@@ -1,4 +1,4 @@
-"""`tools/listen` by real sockets: who may connect, what connections are told, snapshots of the running journal, signals and causes.
+"""`routed-tools listen` by real sockets: who may connect, what connections are told, snapshots of the running journal, signals and causes.
 
 There are 64 connections at once, and some that don't read, flood, are idle or send no rows; journals that grow or have failed.
 """
@@ -20,18 +20,17 @@ import tempfile
 import threading
 import time
 
-import changes
-from readers import dressed
-from reference import publish, whole_batches
-from served import BATCHES, CLIENTS, PATIENCE, ROUTERS, Lines, batches_of, circuit_at, judged, reply_at, wait_for
-from snapshots import snapshot_of
-from versions import Versions
+from checks import TOOLS, TOP
+from program.served import BATCHES, CLIENTS, PATIENCE, ROUTERS, Lines, batches_of, circuit_at, judged, reply_at, wait_for
+from program.snapshots import snapshot_of
+from reference import changes
+from reference.formats import publish, whole_batches
+from reference.versions import Versions
+from tools.readers import dressed
 
-from routed import listen
+from routed.front import listen
 
-HERE = os.path.dirname(os.path.abspath(__file__))
-TOP = os.path.dirname(HERE)
-LISTEN = os.environ.get("LISTEN", os.path.join(TOP, "tools", "listen"))  # another one, to see these tests fail
+LISTEN = os.environ.get("LISTEN", f"{TOOLS} listen").split()  # another one, to see these tests fail
 FRESH = ((2, 300), (CLIENTS, 20))  # the connections of a run, and its batches
 CONNECTIONS, LEFT = 200, 20  # connections one after another, and such as go before their replies
 SIGNALS, SOON = 20, 10  # runs that are ended by SIGTERM, and the seconds that they may take on a machine that others use
@@ -92,13 +91,13 @@ class Connection:
 
 
 class Front:
-    """A run of tools/listen."""
+    """A run of routed-tools listen."""
 
     def __init__(self, program, room, *more, ask=None, updates=None, journal=None, **how):
         self.journal = os.path.join(room, "journal")
         self.ask, self.updates = (os.path.join(room, name) for name in ("ask", "updates"))
         words = ["--journal", journal or self.journal, "--ask", ask or self.ask, "--updates", updates or self.updates, *more]
-        self.child = subprocess.Popen([LISTEN, "--program", program.path, *words], stdout=subprocess.PIPE, **{"stderr": subprocess.PIPE, **how})
+        self.child = subprocess.Popen([*LISTEN, "--program", program.path, *words], stdout=subprocess.PIPE, **{"stderr": subprocess.PIPE, **how})
         self.said = Lines(self.child.stdout.fileno())
         self.errors = Lines(self.child.stderr.fileno()) if self.child.stderr else None
 
@@ -155,7 +154,7 @@ def listening(program, checks, room, versions):
     """Many connections, one too many, updates by one at a time, and a kill of the front in the middle."""
     batches, asks = batches_of(versions), [f"{ask}\n" for ask in versions.asks]
     with Front(program, room) as front:
-        checks.same("tools/listen is ready", front.first, "ready\n")
+        checks.same("routed-tools listen is ready", front.first, "ready\n")
         checks.same("its sockets are its user's alone", [os.stat(path).st_mode & 0o777 for path in (front.ask, front.updates)], [0o600] * 2)
         updating = Connection(front.updates)
         for number, batch in enumerate(batches[:20], 1):
@@ -188,7 +187,7 @@ def listening(program, checks, room, versions):
         heard = [told, *until_reset(updating.lines)]
         with open(front.journal, encoding="ascii") as kept:
             text = kept.read()
-        checks.true("the journal is whole where tools/listen is killed", text in versions.texts[27:-1], text[-200:])
+        checks.true("the journal is whole where routed-tools listen is killed", text in versions.texts[27:-1], text[-200:])
         wanted = [f"version {at}\n" for at in range(27, versions.texts.index(text) + 1 if text in versions.texts else 27)]
         checks.true("what it told before is in the journal", heard == wanted[:len(heard)], heard)
         checks.same("a client of the killed front reads its end", taken.lines.rest(), [])
@@ -223,10 +222,10 @@ def silent_peer(checks, together, updating, versions):
 def stopping(program, checks, room, versions):
     """Connections that end in the middle leave nothing to the next one; loopback TCP; modes, SIGTERM, and sockets that can't be had."""
     ask, batch = f"{versions.asks[0]}\n", versions.texts[1]
-    said = subprocess.run([LISTEN, "--help"], capture_output=True, text=True).stdout
+    said = subprocess.run([*LISTEN, "--help"], capture_output=True, text=True).stdout
     for word in ["--journal", "--begin", "--ask", "--updates", "--clients", "--mode", "--ask-mode", "--updates-mode", "--idle", "--program", "busy", "refused",
                  "snapshot end", "snapshot refused", "ready", "SIGTERM", "127.0.0.1", "[ADDRESS]:PORT", "65,536", "300"]:
-        checks.true(f"help of tools/listen names {word}", word in said, said)
+        checks.true(f"help of routed-tools listen names {word}", word in said, said)
     with Front(program, room, "--clients", "1", "--mode", "660") as front:
         checks.same("the mode of its sockets", [os.stat(path).st_mode & 0o777 for path in (front.ask, front.updates)], [0o660] * 2)
         for at in range(LEFT):
@@ -293,7 +292,7 @@ serve(sys.stdin.buffer, sys.stdout.buffer)
 
 
 def held_up(program, checks, room, versions):
-    """A connection that doesn't read holds the server's lines up, too: they don't fill the memory of tools/listen. By a program of long lines."""
+    """A connection that doesn't read holds the server's lines up, too: they don't fill the memory of routed-tools listen. By a program of long lines."""
     class Long:
         path = os.path.join(room, "routed")
 
@@ -367,7 +366,7 @@ def places(program, checks, room, versions):
     for option, those in (("--ask", wrong[:2]), ("--updates", wrong)):
         for place in those:
             given = {"--ask": "./a", "--updates": "./u", option: place}
-            words = [LISTEN, "--program", program.path, "--journal", "journal", *(word for pair in given.items() for word in pair)]
+            words = [*LISTEN, "--program", program.path, "--journal", "journal", *(word for pair in given.items() for word in pair)]
             try:
                 ran = subprocess.run(words, cwd=room, stdin=subprocess.DEVNULL, capture_output=True, text=True, timeout=5)
                 found = ran.returncode, ran.stdout, ran.stderr.splitlines()[-1:]
@@ -502,7 +501,7 @@ def idle(program, checks, room, versions):
 
 
 def network_of(versions, version):
-    """The text of a snapshot there, by tests/reference.py."""
+    """The text of a snapshot there, by tests/reference/formats.py."""
     return snapshot_of(publish(whole_batches(versions.texts[version]))[0][-1])
 
 
@@ -738,7 +737,7 @@ def causes(program, checks, room, versions):
         checks.same("a program that isn't there", (front.first, *front.ended()), ("", 3, f"listen: {absent}: No such file or directory\n"))
     checks.same("nothing is left", os.listdir(room), [])
     with open("/dev/full", "wb") as full:
-        ran = subprocess.run([LISTEN, "--program", program.path, "--journal", f"{room}/journal", "--ask", f"{room}/ask", "--updates", path],
+        ran = subprocess.run([*LISTEN, "--program", program.path, "--journal", f"{room}/journal", "--ask", f"{room}/ask", "--updates", path],
                              stdout=full, stderr=subprocess.PIPE, text=True, timeout=PATIENCE)
     checks.same("standard output is full", (ran.returncode, ran.stderr), (3, "listen: standard output: write: No space left on device\n"))
     copy = os.path.join(room, "copy")
@@ -746,7 +745,7 @@ def causes(program, checks, room, versions):
         shutil.copytree(os.path.join(TOP, folder), f"{copy}/{folder}", ignore=shutil.ignore_patterns("__pycache__"))
     shutil.copy(os.path.join(TOP, "crates.txt"), copy)
     around = {**os.environ, "PATH": os.path.dirname(sys.executable) + ":/usr/bin:/bin", "ROUTED_PROGRAM": ""}
-    ran = subprocess.run([f"{copy}/tools/listen", "--journal", absent, "--ask", f"{room}/ask", "--updates", path], capture_output=True, text=True,
+    ran = subprocess.run([f"{copy}/tools/routed-tools", "listen", "--journal", absent, "--ask", f"{room}/ask", "--updates", path], capture_output=True, text=True,
                          env=around)
     wanted = f"listen: {copy}/crates/routed/out/routed: No such file or directory (README.md says how it is built)\n"
     checks.same("a program that isn't built", (ran.returncode, ran.stdout, ran.stderr), (3, "", wanted))

@@ -1,4 +1,4 @@
-"""Tests of tools/sweep over more machines: by workers of Dask's distributed and by GNU parallel over ssh, both on this machine."""
+"""Tests of routed-tools sweep over more machines: by workers of Dask's distributed and by GNU parallel over ssh, both on this machine."""
 import contextlib
 import getpass
 import io
@@ -13,10 +13,11 @@ import tempfile
 import time
 import types
 
-from sweeps import A, ASKS, B, BEFORE, DROPS, HANGS, OF_CIRCUITS, OF_ROUTERS, RING, SWEEP, THIRD, TOP, ask, link, sweep, wrapped
+from checks import TOP
+from tools.sweeps import A, ASKS, B, BEFORE, DROPS, HANGS, OF_CIRCUITS, OF_ROUTERS, RING, SWEEP, THIRD, ask, link, sweep, wrapped
 
-from routed.machines import Connections, Lost
-from routed.networks import Stopped, read_requests
+from routed.model.networks import Stopped, read_requests
+from routed.sweep.machines import Connections, Lost
 
 WHOLE = (0, BEFORE + OF_CIRCUITS, "")
 STOPS = 'if row == "drop,1.1.1.1,10.0.14.1":\n    stop(3, "routed: stopped\\n")'  # in the second scenario
@@ -34,7 +35,7 @@ def run(python, program, *words, rows=RING, asks=ASKS, environment=None):
         for name, text in (("journal", rows), ("requests", asks)):
             with open(os.path.join(room, name), "w", encoding="ascii") as file:
                 file.write(text)
-        ran = subprocess.run([*python, SWEEP, f"{room}/journal", f"{room}/requests", "--program", program, *words],
+        ran = subprocess.run([*python, *SWEEP, f"{room}/journal", f"{room}/requests", "--program", program, *words],
                              capture_output=True, text=True, env=environment, timeout=120)
         return ran.returncode, ran.stdout, ran.stderr
 
@@ -233,7 +234,7 @@ def ended(program, checks, room, login):
         return {name for name in os.listdir(f"{room}/far") if os.path.isdir(f"{room}/far/{name}")}
 
     there = folders()
-    running = subprocess.Popen([SWEEP, f"{room}/journal", f"{room}/requests", "--program", hangs, "--ssh", login], stdout=subprocess.PIPE)
+    running = subprocess.Popen([*SWEEP, f"{room}/journal", f"{room}/requests", "--program", hangs, "--ssh", login], stdout=subprocess.PIPE)
     await_(lambda: os.path.exists(f"{room}/hangs") or running.poll() is not None)
     hung, shell = open(f"{room}/hangs").read().split()
     running.terminate()

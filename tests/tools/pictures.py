@@ -1,4 +1,4 @@
-"""Tests of tools/draw and tools/draw-failures: what a picture shows, where routers are, and that no text covers another."""
+"""Tests of routed-tools draw and routed-tools draw-failures: what a picture shows, where routers are, and that no text covers another."""
 import itertools
 import math
 import os
@@ -10,11 +10,10 @@ import subprocess
 import tempfile
 import xml.etree.ElementTree as xml
 
-from measured import by_browser, by_table, faults
-from sweeps import BEFORE, OF_CIRCUITS
+from checks import TOOLS, TOP
+from tools.measured import by_browser, by_table, faults
+from tools.sweeps import BEFORE, OF_CIRCUITS
 
-HERE = os.path.dirname(os.path.abspath(__file__))
-TOP = os.path.dirname(HERE)
 SVG = "{http://www.w3.org/2000/svg}"
 FREE = ",".join(["1000"] * 8)
 
@@ -40,7 +39,7 @@ def draw(rows, *words, places=None, replies=None, overbooked=None):
                 with open(path, "w") as file:
                     file.write(text)
                 given += [path] if option == "rows" else [option, path]
-        ran = subprocess.run([os.path.join(TOP, "tools/draw"), *given, *words], capture_output=True, text=True)
+        ran = subprocess.run([TOOLS, "draw", *given, *words], capture_output=True, text=True)
         return ran.returncode, ran.stdout, ran.stderr
 
 
@@ -284,7 +283,7 @@ def layouts(checks):
     checks.true("the largest network takes at most 10 s of processor time", took <= 10, f"{took:.1f} s")
     at = list(places_in(picture).values())
     checks.true("no router of the largest network covers another", len(at) == 1024 and least_distance(at) > 2 * 9, least_distance(at))
-    from routed.layout import lay_out
+    from routed.pictures.layout import lay_out
     grid = [(row, column) for row in range(12) for column in range(12)]
     pairs = [(one, other) for one in grid for other in ((one[0] + 1, one[1]), (one[0], one[1] + 1)) if other in set(grid)]
     at = lay_out(grid, pairs)
@@ -309,7 +308,7 @@ def draw_failures(lines, places):
     with tempfile.NamedTemporaryFile("w") as file:
         file.write(places)
         file.flush()
-        ran = subprocess.run([os.path.join(TOP, "tools/draw-failures"), "--places", file.name], input=lines, capture_output=True, text=True)
+        ran = subprocess.run([TOOLS, "draw-failures", "--places", file.name], input=lines, capture_output=True, text=True)
         return ran.returncode, ran.stdout, ran.stderr
 
 
@@ -356,7 +355,7 @@ def failures(checks):
 
 def placer(checks):
     """Texts that are placed never cover each other, what is drawn or the edge, and none stays out that has room."""
-    from routed.labels import TEXT, Sheet, Wanted, box_of, cut, spots_round, width, wrapped
+    from routed.pictures.labels import TEXT, Sheet, Wanted, box_of, cut, spots_round, width, wrapped
     drawn = random.Random(2)
     for count in (5, 60, 300):
         sheet, points = Sheet(900, 600), [(drawn.uniform(0, 900), drawn.uniform(0, 600)) for _ in range(count)]
@@ -439,10 +438,10 @@ def crowded(checks):
 def examples(program, checks):
     """The pictures of the examples' page are those that its commands draw."""
     page, found = open(os.path.join(TOP, "examples/README.md")).read(), {}
-    commands = re.findall(r"^    (.*tools/draw(?:-failures)? .*) > (examples/\S+\.svg)$", page, re.M)
+    commands = re.findall(r"^    (.*tools/routed-tools draw(?:-failures)? .*) > (examples/\S+\.svg)$", page, re.M)
     checks.true("the page draws pictures", len(commands) > 2, f"{len(commands)} commands")
     for command, path in commands:
-        command = command.replace("crates/routed/out/routed", f'"{program.path}"').replace("tools/sweep ", f'tools/sweep --program "{program.path}" ')
+        command = command.replace("crates/routed/out/routed", f'"{program.path}"').replace("routed-tools sweep ", f'routed-tools sweep --program "{program.path}" ')
         drawn = subprocess.run(command, shell=True, cwd=TOP, capture_output=True, text=True).stdout
         checks.same(path, drawn, open(os.path.join(TOP, path)).read())
         found[path] = drawn

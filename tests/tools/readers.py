@@ -1,12 +1,13 @@
-"""Tests of the one reader of journals: what it takes and refuses is what the texts of tests/scripts and tests/journals say, and each
+"""Tests of the one reader of journals: what it takes and refuses is what the texts of tests/program/scripts and tests/program/journals say, and each
 tool that reads a journal reads one with a byte order mark, carriage returns and quotes as `routed` does."""
 import os
 import re
 import subprocess
 import tempfile
 
-HERE = os.path.dirname(os.path.abspath(__file__))
-TOP = os.path.dirname(HERE)
+from checks import TOOLS, TOP
+
+WORKED = os.path.join(TOP, "tests/program")
 
 
 def dressed(rows):
@@ -16,15 +17,15 @@ def dressed(rows):
 
 
 def kept(folder, name):
-    path = os.path.join(HERE, folder, name)
+    path = os.path.join(WORKED, folder, name)
     return open(path, "rb").read() if os.path.exists(path) else b""
 
 
 def refusals(checks):
     """Row by row, by the lines of the worked streams."""
-    from routed.journals import records, refusal
+    from routed.model.journals import records, refusal
     told = set()
-    for name in sorted(os.listdir(os.path.join(HERE, "scripts"))):
+    for name in sorted(os.listdir(os.path.join(WORKED, "scripts"))):
         if name.endswith(".rows"):
             out = kept("scripts", name[:-5] + ".out").decode()
             wanted = {int(place): words for place, words in re.findall(r"(?m)^row (\d+) refused: (.*)$", out)}
@@ -50,7 +51,7 @@ def refusals(checks):
 
 def whole_batches(checks):
     """How many batches of each journal are whole, by the lines beside it."""
-    from routed.journals import Refused, batches
+    from routed.model.journals import Refused, batches
 
     def counted(text):
         count = 0
@@ -62,7 +63,7 @@ def whole_batches(checks):
         return count
 
     tried = 0
-    for name in sorted(os.listdir(os.path.join(HERE, "journals"))):
+    for name in sorted(os.listdir(os.path.join(WORKED, "journals"))):
         out, words = (kept("journals", name[:-8] + kind).decode() for kind in (".out", ".words"))
         if name.endswith(".journal") and not words and not re.search("^batch|^request", out, re.M):
             torn = re.search(r"journal torn after (\d+)", out)
@@ -72,7 +73,7 @@ def whole_batches(checks):
 
 
 def tool(name, *words):
-    ran = subprocess.run([os.path.join(TOP, "tools", name), *words], capture_output=True, text=True, timeout=60)
+    ran = subprocess.run([TOOLS, name, *words], capture_output=True, text=True, timeout=60)
     return ran.returncode, ran.stdout, ran.stderr
 
 

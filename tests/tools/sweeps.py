@@ -1,4 +1,4 @@
-"""Tests of tools/sweep and tools/join: failures worked by hand, failures by tests/reference.py, several jobs, parts, and what is refused."""
+"""Tests of routed-tools sweep and routed-tools join: failures worked by hand, failures by tests/reference/formats.py, several jobs, parts, and what is refused."""
 import contextlib
 import hashlib
 import itertools
@@ -12,15 +12,13 @@ import tempfile
 import textwrap
 import time
 
-from reference import address_number, address_text, publish, requests_of, whole_batches
+from checks import TOOLS, TOP
+from reference.formats import address_number, address_text, publish, requests_of, whole_batches
 
-from routed.failures import Network
-from routed.solving import MOST_ROWS, Solve
+from routed.sweep.failures import Network
+from routed.sweep.solving import MOST_ROWS, Solve
 
-HERE = os.path.dirname(os.path.abspath(__file__))
-TOP = os.path.dirname(HERE)
-SWEEP = os.path.join(TOP, "tools/sweep")
-JOIN = os.path.join(TOP, "tools/join")
+SWEEP = [TOOLS, "sweep"]
 MASKS = "0x0,0x0,0x0"
 
 
@@ -119,7 +117,7 @@ def sweep(program, rows, asks, *words):
         for name, text in (("journal", rows), ("requests", asks)):
             with open(os.path.join(room, name), "w", newline="") as file:
                 file.write(text)
-        ran = subprocess.run([SWEEP, f"{room}/journal", f"{room}/requests", "--program", program, *words], capture_output=True, text=True)
+        ran = subprocess.run([*SWEEP, f"{room}/journal", f"{room}/requests", "--program", program, *words], capture_output=True, text=True)
         return ran.returncode, ran.stdout, ran.stderr
 
 
@@ -233,7 +231,7 @@ def loads(program, checks):
 
 
 def plain(rows, asks, fail):
-    """What a sweep says, from the routes of tests/reference.py as they are, with no object read and each request asked in each scenario."""
+    """What a sweep says, from the routes of tests/reference/formats.py as they are, with no object read and each request asked in each scenario."""
     network, requests = publish(whole_batches(rows))[0][-1], requests_of(asks)
     version = len(whole_batches(rows))
     links = {key: network.links[key] for key in sorted(network.links)}
@@ -430,7 +428,7 @@ def jobs(program, checks):
         for name, text in (("journal", RING), ("requests", ASKS)):
             with open(os.path.join(room, name), "w") as file:
                 file.write(text)
-        running = subprocess.Popen([SWEEP, f"{room}/journal", f"{room}/requests", "--program", hangs], stdout=subprocess.PIPE)
+        running = subprocess.Popen([*SWEEP, f"{room}/journal", f"{room}/requests", "--program", hangs], stdout=subprocess.PIPE)
         while not os.path.exists(f"{room}/hangs") and running.poll() is None:
             time.sleep(0.01)
         running.terminate()
@@ -506,7 +504,7 @@ def progress(program, checks):
                 file.write(text)
         for name, is_all in (("standard error", False), ("both", True)):
             terminal, far = pty.openpty()
-            ran = subprocess.Popen([SWEEP, f"{room}/journal", f"{room}/requests", "--program", slow], stdout=far if is_all else subprocess.PIPE, stderr=far)
+            ran = subprocess.Popen([*SWEEP, f"{room}/journal", f"{room}/requests", "--program", slow], stdout=far if is_all else subprocess.PIPE, stderr=far)
             os.close(far)
             out = "" if is_all else ran.stdout.read().decode()
             said = b""
@@ -527,7 +525,7 @@ def joined(program, checks):
         return [sweep(program.path, RING, asks, "--part", f"{at}/{count}", *words)[1] for at in range(1, count + 1)]
 
     def join(text, *files):
-        ran = subprocess.run([JOIN, *files], input=text, capture_output=True, text=True)
+        ran = subprocess.run([TOOLS, "join", *files], input=text, capture_output=True, text=True)
         return ran.returncode, ran.stdout, ran.stderr
 
     digest = hashlib.sha256(f"{RING}\0{ASKS}\0circuits".encode()).hexdigest()[:16]
@@ -577,7 +575,7 @@ def joined(program, checks):
     status, _, err = join(one + two.replace("unreserved=100", "unreserved=101", 1) + last)
     checks.true("not joined: a part whose program says otherwise", status == 1 and err == f"join: part 2/3 is of {others}\n", err)
     for word in ("0/1", "2/1", "1", "1/0", "1/2/3", "-1/2", "x"):
-        ran = subprocess.run([SWEEP, "/dev/null", "/dev/null", "--part", word], capture_output=True, text=True)
+        ran = subprocess.run([*SWEEP, "/dev/null", "/dev/null", "--part", word], capture_output=True, text=True)
         checks.true(f"no part: {word}", (ran.returncode, ran.stdout) == (2, "") and "sweep: error: " in ran.stderr, ran)
 
 
@@ -594,13 +592,13 @@ def refused(program, checks):
              f"{B} and {C} have the same address 10.0.12.2, seen from {A}")):
         checks.same(name, sweep(program.path, rows, asks), (1, "", f"sweep: {words}\n"))
     for words in (["/nowhere/journal", "/dev/null"], ["/dev/null", TOP]):
-        ran = subprocess.run([SWEEP, *words, "--program", program.path], capture_output=True, text=True)
+        ran = subprocess.run([*SWEEP, *words, "--program", program.path], capture_output=True, text=True)
         checks.true(f"no file {words}", (ran.returncode, ran.stdout) == (1, "") and re.fullmatch(r"sweep: \[Errno \d+\] .*\n", ran.stderr), ran)
     for words in (["/dev/null"], *(["/dev/null", "/dev/null", *more] for more in (["--fail", "links"], ["--jobs", "0"], ["--workers", "65"]))):
-        ran = subprocess.run([SWEEP, *words], capture_output=True, text=True)
+        ran = subprocess.run([*SWEEP, *words], capture_output=True, text=True)
         checks.true(f"a command line {words}", (ran.returncode, ran.stdout) == (2, "") and "sweep: error: " in ran.stderr, ran)
     with open("/dev/full", "w") as full:
-        ran = subprocess.run([SWEEP, "/dev/null", "/dev/null", "--program", program.path], stdout=full, stderr=subprocess.PIPE, text=True)
+        ran = subprocess.run([*SWEEP, "/dev/null", "/dev/null", "--program", program.path], stdout=full, stderr=subprocess.PIPE, text=True)
         checks.same("standard output is full", (ran.returncode, ran.stderr), (1, "sweep: [Errno 28] No space left on device\n"))
     checks.same("a program that isn't there", sweep("/nowhere/routed", RING, ASKS), (3, "", "sweep: /nowhere/routed: No such file or directory\n"))
     def says(line):
@@ -646,7 +644,7 @@ def page(program, checks):
     found = re.findall(r"<!-- printed by (.*?) -->\n\n((?:    .*\n)+)", text)
     checks.true("docs/run/SWEEP.md quotes the tool", len(found) > 1, found)
     for command, quoted in found:
-        words = command.replace("tools/sweep", f'tools/sweep --program "{program.path}"')
+        words = command.replace("routed-tools sweep", f'routed-tools sweep --program "{program.path}"')
         ran = subprocess.run(words, shell=True, cwd=TOP, capture_output=True, text=True)
         checks.same(f"docs/run/SWEEP.md: {command}", (ran.stdout, ran.stderr), (re.sub("(?m)^    ", "", quoted), ""))
 

@@ -1,16 +1,16 @@
-"""Tests of tools/why as far as they need no source of FRR: it says what is missing, and its rows are answered as they are meant."""
+"""Tests of routed-tools why as far as they need no source of FRR: it says what is missing, and its rows are answered as they are meant."""
 import os
 import subprocess
 import tempfile
 
-HERE = os.path.dirname(os.path.abspath(__file__))
-TOP = os.path.dirname(HERE)
+from checks import TOOLS, TOP
+
 FILES = ["lib/cspf.c", "lib/linklist.c", "lib/memory.c", "lib/typerb.c", "configure.ac"]
 
 
 def missing(words):
     """Status, standard output, and whether standard error is one line of the tool's own, with that line."""
-    ran = subprocess.run([os.path.join(TOP, "tools/why"), *words], capture_output=True, text=True, timeout=60)
+    ran = subprocess.run([TOOLS, "why", *words], capture_output=True, text=True, timeout=60)
     lines = ran.stderr.splitlines()
     return ran.returncode, ran.stdout, len(lines) == 1 and lines[0].startswith("why: "), ran.stderr
 
