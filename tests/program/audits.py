@@ -43,8 +43,14 @@ class Audit:
 
     def is_right(self, name, journal, requests, replies):
         """The lines of the reference are written."""
-        status, lines = formats.audit(*map(latin, (journal, requests, replies)))
-        self.says(name, status, "".join(f"{line}\n" for line in lines), journal, requests, replies)
+        def wanted(some):
+            status, lines = formats.audit(*map(latin, (journal, requests, "".join(some))))
+            return status, "".join(f"{line}\n" for line in lines).encode("latin-1"), b""
+
+        def found(some):
+            return self.program.audit(journal, requests, "".join(some).encode("latin-1"))
+
+        self.checks.stream(f"audit: {name}", latin(replies).splitlines(keepends=True), found, wanted)
 
 
 FAULTS = {

@@ -367,15 +367,15 @@ def drawn(program, checks):
 
 
 def compared(program, checks, name, rows):
-    """The lines of the reference. Those of the program have to be the same; of others the first that differs is said."""
+    """The lines of the reference. Those of the program have to be the same."""
     wanted = Reference().run(["book"], rows)
-    lines = wanted[1].decode("latin-1").splitlines()
     if program:
-        found = program.run(["book"], rows.encode("latin-1"))
-        pairs = zip([*found[1].decode("latin-1").splitlines(), "(the end)"], [*lines, "(the end)"])
-        differ = next((pair for pair in pairs if pair[0] != pair[1]), None)
-        checks.true(name, found == wanted, f"status {found[0]} for {wanted[0]}, {found[2]}, first difference {differ}")
-    return lines
+        def right(some):
+            text = "".join(some)
+            return wanted if text == rows else Reference().run(["book"], text)
+
+        checks.stream(name, rows.splitlines(keepends=True), lambda some: program.run(["book"], "".join(some).encode("latin-1")), right)
+    return wanted[1].decode("latin-1").splitlines()
 
 
 def released(program, checks):

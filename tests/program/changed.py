@@ -30,8 +30,9 @@ import tempfile
 sys.dont_write_bytecode = True
 HERE = os.path.dirname(os.path.abspath(__file__))
 sys.path.insert(1, os.path.dirname(HERE))
-import checks  # it leads to the tools
+from checks import short
 from reference import changes, formats, wrong
+from reference.shortened import shortened
 from routed.program import BUILT
 
 MOST_DIFFERENCES = 20
@@ -283,37 +284,17 @@ def limit_runs():
 # ---- differences
 
 
-def shortest(parts, differs):
-    """The parts without those that a difference doesn't need. Halves are left out first, then smaller pieces."""
-    size = len(parts)
-    while size:
-        place = 0
-        while place < len(parts):
-            rest = parts[:place] + parts[place + size:]
-            if differs("".join(rest)):
-                parts = rest
-            else:
-                place += size
-        size //= 2
-    return parts
-
-
 def shorter(program, run):
     """A run with fewer lines and bytes that still differs. Long streams stay as they are."""
     texts = list(run.texts)
     for at in range(len(texts)):
-        def differs(text):
-            return compared(program, dataclasses.replace(run, texts=[*texts[:at], text, *texts[at + 1:]]))
+        def differs(parts):
+            return compared(program, dataclasses.replace(run, texts=[*texts[:at], "".join(parts), *texts[at + 1:]]))
         for cut in (lambda text: text.splitlines(keepends=True), list):
             parts = cut(texts[at])
             if len(parts) < 3000:
-                texts[at] = "".join(shortest(parts, differs))
+                texts[at] = "".join(shortened(parts, differs))
     return dataclasses.replace(run, texts=texts)
-
-
-def short(answer):
-    text = repr(answer)
-    return text if len(text) < 700 else f"{text[:350]} .. {text[-350:]}"
 
 
 def kept(run, folder):

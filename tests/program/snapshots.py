@@ -74,7 +74,12 @@ def compared(program, checks, place, journal, words, requests):
     """A journal's snapshot is the reference's, its own snapshot, and answers requests as the journal does. Answers whether there is one."""
     name = f"snapshot of journal {place} {words}"
     status, text = wanted_of(journal, bool(words))
-    checks.same(name, taken(program, journal, *words), (status, text.encode(), b""))
+
+    def right(some):
+        status, text = wanted_of("".join(some), bool(words))
+        return status, text.encode(), b""
+
+    checks.stream(name, journal.splitlines(keepends=True), lambda some: taken(program, "".join(some), *words), right)
     if status:
         return False
     checks.same(f"{name}: its own", taken(program, text), (0, text.encode(), b""))
