@@ -3,7 +3,6 @@ import contextlib
 import io
 import os
 import subprocess
-import time
 
 from checks import TOP, Checks
 from reference.shortened import shortened
@@ -29,9 +28,8 @@ def streams(checks):
         checks.same(f"shortened to {name}", shortened(rows, differs), wanted)
         checks.same(f"the rows that were shortened to {name} are as before", rows, list(range(100)))
     tries = []
-    checks.same("no time to shorten", (shortened(rows, tries.append, 0), tries), (rows, []))
-    slow = shortened(rows, lambda some: tries.append(time.sleep(0.01)) or 5 in some, 0.05)
-    checks.true("the time is up before the end", 5 in slow and 1 < len(slow) < 100 and len(tries) <= 6, (slow, len(tries)))
+    late = shortened(rows, lambda some: tries.append(some) or 5 in some, 3, lambda: len(tries))  # a second for each try
+    checks.same("the time is up after three tries", (len(tries), late), (3, [*range(32), *range(96, 100)]))
 
 
 def printed(checks):
