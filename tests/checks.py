@@ -73,6 +73,13 @@ class Checks:
         for call in self.chosen(calls):
             self.part(call.__name__, call, *given)
 
+    def parts_in(self, room, calls, *given):
+        """The same, and each function is given a folder of its own, too."""
+        for call in self.chosen(calls):
+            inner = os.path.join(room, call.__name__)
+            os.mkdir(inner)
+            self.part(call.__name__, call, *given, inner)
+
     def met(self, part):
         """Has failed where no check of the part has the name that is asked for."""
         if self.only and not self.passed + self.failed:

@@ -223,5 +223,4 @@ def sids(_, checks):
     except OSError as fault:
         print(f"skipped: the feed's SIDs, since no socket can be had: {fault}")
         return
-    for part in (lines, which, malformed, groups, refusals, held, again, faults):
-        part(checks)
+    checks.parts((lines, which, malformed, groups, refusals, held, again, faults), checks)

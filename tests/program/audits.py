@@ -293,5 +293,4 @@ def search(audit):
 
 def audits(program, checks):
     audit = Audit(program, checks)
-    for part in (worked, faults, streams, refusals, cut_journals, changed_bytes, live_runs, other_runs, files, search, speed):
-        part(audit)
+    checks.parts((worked, faults, streams, refusals, cut_journals, changed_bytes, live_runs, other_runs, files, search, speed), audit)

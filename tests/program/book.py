@@ -591,7 +591,7 @@ def keeps(program, checks):
 # ---- wrong books
 
 
-def told_apart(checks, seeds=0):
+def told_apart(_, checks, seeds=0):
     """Each wrong book is told apart by streams whose lines are known; by hand also how many drawn streams tell it apart."""
     cases = [(name, rows, (status_of(lines), lines.encode(), b"")) for name, rows, lines in [*worked(), *known()] if len(rows) < 100_000]
     streams = [(rows, Reference().run(["book"], rows)) for rows in map(drawn_stream, range(seeds))]
@@ -607,13 +607,7 @@ def told_apart(checks, seeds=0):
 
 
 def book(program, checks):
-    streams(program, checks)
-    drawn(program, checks)
-    released(program, checks)
-    full_size(program, checks)
-    for part in (pieces, dialogue, devices, command_line, refused_calls, keeps):
-        part(program, checks)
-    told_apart(checks)
+    checks.parts((streams, drawn, released, full_size, pieces, dialogue, devices, command_line, refused_calls, keeps, told_apart), program, checks)
 
 
 def main():
@@ -622,9 +616,8 @@ def main():
     if words.parse_args().full:
         full(BUILT, checks)
     else:
-        for part in (streams, drawn, released, full_size):
-            part(None, checks)
-        told_apart(checks, 20)
+        checks.parts((streams, drawn, released, full_size), None, checks)
+        told_apart(None, checks, 20)
     checks.end()
 
 

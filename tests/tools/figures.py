@@ -37,13 +37,7 @@ VERSIONS = 2000  # more lines than a socket keeps for a connection that doesn't 
 def figures(program, checks):
     start = time.monotonic()
     with tempfile.TemporaryDirectory() as room:
-        for part in (text, sums, alarms, watched, half_closed, page, logged, priorities, blocked, each, screen, of_feed, audited):
-            inner = os.path.join(room, part.__name__)
-            os.mkdir(inner)
-            try:
-                part(program, checks, inner)
-            except Exception as fault:  # the others go on
-                checks.fail(f"{part.__name__}: {type(fault).__name__}: {fault}")
+        checks.parts_in(room, (text, sums, alarms, watched, half_closed, page, logged, priorities, blocked, each, screen, of_feed, audited), program, checks)
     print(f"figures: {CLIENTS} connections, {VERSIONS} versions, {time.monotonic() - start:.0f} s")
 
 

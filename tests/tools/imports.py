@@ -96,7 +96,7 @@ def run(text, *words, name="network"):
         return ran.returncode, ran.stdout, re.sub("(?m)^import: ", "", ran.stderr), written
 
 
-def sndlib(checks):
+def sndlib(_, checks):
     both_files = ("--places", "places", "--requests", "requests")
     wanted = (0, ROWS, LISTED, {"places": PLACES, "requests": ASKS})
     checks.same("SNDlib's native format", run(SNDLIB, *both_files), wanted)
@@ -128,7 +128,7 @@ def sndlib(checks):
                                                                 "no capacity: 2 links, which have 7 bytes per second"], 3))
 
 
-def zoo(checks):
+def zoo(_, checks):
     status, rows, said, written = run(ZOO, "--places", "places")
     wanted = both(1, 2, 0, 1, 1000) + both(2, 3, 2, 1, 1250) + both(3, 2, 4, 1, 1250000000) + "end,1,6\n"
     checks.same("GraphML", (status, rows), (0, wanted))
@@ -165,7 +165,7 @@ def zoo(checks):
     checks.same("addresses above 255", (len(set(addresses)), addresses[-1]), (598, ("192.168.1.44", "10.0.2.85")))
 
 
-def refusals(checks):
+def refusals(_, checks):
     pair = node("a") + node("b")
     for name, text, why in [
             ("neither format", "put,1.1.1.1\n", "neither SNDlib's native format nor GraphML"), ("nothing", "", "neither SNDlib's native format nor GraphML"),
@@ -220,6 +220,4 @@ def examples(program, checks):
 
 
 def imports(program, checks):
-    for part in (sndlib, zoo, refusals):
-        part(checks)
-    examples(program, checks)
+    checks.parts((sndlib, zoo, refusals, examples), program, checks)

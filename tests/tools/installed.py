@@ -212,5 +212,4 @@ def manual(program, checks):
 
 
 def installed(program, checks):
-    for part in (scripts, hardened, manual, package):
-        part(program, checks)
+    checks.parts((scripts, hardened, manual, package), program, checks)

@@ -245,5 +245,4 @@ def ended(program, checks, room, login):
 
 
 def machines(program, checks):
-    for part in (connections, alone, dask, ssh):
-        part(program, checks)
+    checks.parts((connections, alone, dask, ssh), program, checks)

@@ -76,7 +76,7 @@ def names(picture):
     return [text for text in xml.fromstring(picture).iter(SVG + "text") if text.get("class") == "name"]
 
 
-def circuits(checks):
+def circuits(_, checks):
     _, picture, _ = draw(PAIR + "end,1,2\n")
     checks.same("both directions are one line", (len(shapes(picture, "circuit")), len(shapes(picture, "one-way"))), (1, 0))
     _, picture, _ = draw(PAIR + "end,1,2\ndrop,2.2.2.2,10.0.0.2\nend,2,1\n")
@@ -102,7 +102,7 @@ def circuits(checks):
     checks.true("nothing unreserved is dotted", "stroke-dasharray:1 5" in shapes(picture, "one-way")[0].get("style"))
 
 
-def routes(checks):
+def routes(_, checks):
     _, picture, _ = draw(PAIR + "end,1,2\n", "--ask", "7", replies=REPLY)
     checks.same("a route is on top of its circuit, and its ends are marked, there and in the legend", classes(picture, "circuit", "route", "from", "to"),
                 ["circuit", "route", "from", "to", "from", "to"])
@@ -156,7 +156,7 @@ def several(checks):
     checks.same("seven routes are refused", (status, picture, said), (1, "", "draw: at most 6 routes\n"))
 
 
-def overbooked(checks):
+def overbooked(_, checks):
     """Links that a sweep says are overbooked have a band under them."""
     line = "before overbooked 1.1.1.1 10.0.0.1 2.2.2.2 10.0.0.2 priority=7 asked=600 above=500 unreserved=1000\n"
     whole = "before routes=2 without=0 overbooked=1\n"
@@ -175,7 +175,7 @@ def overbooked(checks):
     checks.true("a file that is no sweep", status == 1 and picture == "" and re.fullmatch(r"draw: overbooked: \S+ has no lines of a sweep\n", said), said)
 
 
-def marks(checks):
+def marks(_, checks):
     """A router without transit is drawn otherwise, and told in the legend; no route passes through it."""
     def shown(*words, **texts):
         status, picture, said = draw(LINE + "end,1,4\nnode,2.2.2.2,0\nnode,9.9.9.9,0\nend,2,2\nnode,2.2.2.2,1\nnode,8.8.8.8,1\nend,3,2\n", *words, **texts)
@@ -190,7 +190,7 @@ def marks(checks):
     checks.same("a route to a router without transit", shown("--version", "2", "--ask", "7", replies=REPLY), (0, "", (1, True)))
 
 
-def places(checks):
+def places(_, checks):
     given = "1.1.1.1 0 0 <b>&\n2.2.2.2 1 1 East\n3.3.3.3 1 1 Nowhere\n"
     status, picture, said = draw(PAIR + "end,1,2\n", places=given)
     checks.same("names that look like markup", [text.text for text in names(picture)], ["<b>&", "East"])
@@ -273,7 +273,7 @@ def big_network(routers, circuits, seed=1):
     return "".join("".join(rows[at:at + 4096]) + f"end,{at // 4096 + 1},{len(rows[at:at + 4096])}\n" for at in range(0, len(rows), 4096))
 
 
-def layouts(checks):
+def layouts(_, checks):
     """The largest network is laid out and drawn in ten seconds of processor time. A grid is laid out as one."""
     before = resource.getrusage(resource.RUSAGE_CHILDREN)
     status, picture, said = draw(big_network(1024, 8192))
@@ -312,7 +312,7 @@ def draw_failures(lines, places):
         return ran.returncode, ran.stdout, ran.stderr
 
 
-def failures(checks):
+def failures(_, checks):
     """The failures of a ring of four routers, whose lines are worked by hand."""
     def drawn(lines, places="".join(f"{at}.{at}.{at}.{at} {at % 2} {at // 3} Router {at}\n" for at in (1, 2, 3, 4))):
         return draw_failures(lines, places)
@@ -353,7 +353,7 @@ def failures(checks):
         checks.same(f"not drawn: {name}", drawn(*given), (1, "", f"draw-failures: {why}\n"))
 
 
-def placer(checks):
+def placer(_, checks):
     """Texts that are placed never cover each other, what is drawn or the edge, and none stays out that has room."""
     from routed.pictures.labels import TEXT, Sheet, Wanted, box_of, cut, spots_round, width, wrapped
     drawn = random.Random(2)
@@ -393,8 +393,9 @@ def meets(one, other):
     return one[0] < other[2] and other[0] < one[2] and one[1] < other[3] and other[1] < one[3]
 
 
-def apart(checks, pictures):
+def apart(program, checks):
     """In none of the pictures does a text cover another or a router, or is cut: by the table, and in a browser where there is one."""
+    pictures = crowded(checks) | examples(program, checks)
     for name, picture in pictures.items():
         checks.same(f"{name}: texts", faults(picture, by_table(picture)), [])
     if not shutil.which("chromium"):
@@ -449,6 +450,4 @@ def examples(program, checks):
 
 
 def pictures(program, checks):
-    for part in (circuits, routes, overbooked, marks, places, failures, layouts, placer):
-        part(checks)
-    apart(checks, crowded(checks) | examples(program, checks))
+    checks.parts((circuits, routes, overbooked, marks, places, failures, layouts, placer, apart), program, checks)

@@ -672,5 +672,4 @@ def page(program, checks):
 
 
 def sweeps(program, checks):
-    for part in (ring, parts, loads, compared, asked, streams, jobs, progress, joined, refused, page):
-        part(program, checks)
+    checks.parts((ring, parts, loads, compared, asked, streams, jobs, progress, joined, refused, page), program, checks)
