@@ -375,6 +375,14 @@ def wrong_programs_pass(count, seed):
     return bool(left)
 
 
+def changed(program, checks):
+    """As a part of tests/run: nothing differs, and wrong programs are told apart from the reference."""
+    for words in [["--program", program.path], ["--wrong"]]:
+        ran = subprocess.run([sys.executable, os.path.abspath(__file__), *words], capture_output=True, text=True)
+        print(ran.stdout, end="")
+        checks.true(f"changed.py {words}", ran.returncode == 0, ran.stderr)
+
+
 def main():
     words = argparse.ArgumentParser(description=__doc__, formatter_class=argparse.RawDescriptionHelpFormatter)
     words.add_argument("--program", default=BUILT)
