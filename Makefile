@@ -37,14 +37,12 @@ $(PROGRAM):
 	@echo "there is no $(PROGRAM): make build makes it" >&2; exit 1
 
 install: $(PROGRAM)
-	install -d $(bin) $(lib)/routed $(modules)/feed $(modules)/pcep $(lib)/systemd/system $(lib)/sysusers.d $(lib)/tmpfiles.d
+	install -d $(bin) $(lib)/routed $(lib)/systemd/system $(lib)/sysusers.d $(lib)/tmpfiles.d
 	install -d $(share)/man/man1 $(share)/man/man5 $(share)/doc/routed/docs $(share)/doc/routed/examples/etc
 	install $(PROGRAM) $(bin)/routed
 	install tools/routed-tools $(bin)/routed-tools
 	sed -i '1s|.*|#!/usr/bin/python3|' $(bin)/routed-tools
-	install -m 644 python/routed/*.py $(modules)
-	install -m 644 python/routed/feed/*.py $(modules)/feed
-	install -m 644 python/routed/pcep/*.py $(modules)/pcep
+	for file in $$(cd python/routed && find . -name '*.py'); do install -D -m 644 python/routed/$$file $(modules)/$$file || exit 1; done
 	install deploy/keep deploy/serve deploy/fed $(lib)/routed
 	for unit in $(units); do $(placed) $$unit >$(lib)/systemd/system/$${unit##*/} || exit 1; done
 	install -m 644 deploy/sysusers.conf $(lib)/sysusers.d/routed.conf

@@ -9,17 +9,17 @@ import importlib
 import sys
 
 TOOLS = {
-    "listen": (".listen", "sockets in front of `routed serve`, for programs that come and go"),
-    "connect": (".connect", "standard input and output at a socket of listen"),
-    "status": (".status", "one screen of the figures of listen or of a feed"),
+    "listen": (".front.listen", "sockets in front of `routed serve`, for programs that come and go"),
+    "connect": (".front.connect", "standard input and output at a socket of listen"),
+    "status": (".front.status", "one screen of the figures of listen or of a feed"),
     "audit": (".audit", "`routed audit`, and how far it is"),
-    "feed": (".feed.ospf", "rows of a live network, from the OSPF API of one of its routers"),
+    "feed": (".feed.ospf.ospf", "rows of a live network, from the OSPF API of one of its routers"),
     "pcep": (".pcep.command", "routers ask by PCEP"),
-    "sweep": (".sweep", "what the failure of each circuit, router or pair of circuits does to requests"),
-    "join": (".join", "one sweep of its parts"),
-    "draw": (".draw", "a picture of a network, with the routes of replies"),
-    "draw-failures": (".draw_failures", "a picture of what circuits' failures do"),
-    "import": (".importer", "rows of a network in the format of SNDlib, or in GraphML"),
+    "sweep": (".sweep.sweep", "what the failure of each circuit, router or pair of circuits does to requests"),
+    "join": (".sweep.join", "one sweep of its parts"),
+    "draw": (".pictures.draw", "a picture of a network, with the routes of replies"),
+    "draw-failures": (".pictures.draw_failures", "a picture of what circuits' failures do"),
+    "import": (".imports.importer", "rows of a network in the format of SNDlib, or in GraphML"),
     "why": (".why", "three small networks, asked of FRR's cspf and of `routed solve`"),
 }
 

@@ -1,6 +1,6 @@
 """Asks the cspf of FRR and `routed solve` about the same three small networks, and prints what each says.
 
-    tools/why --frr DIR [cost|float|ties]
+    routed-tools why --frr DIR [cost|float|ties]
 
 DIR is the unpacked source of FRR 8.4.4. Four files of it are compiled as they are, in a temporary folder and with
 the harness below, which puts the links of the rows into FRR's database and asks as FRR's own command does. Nothing

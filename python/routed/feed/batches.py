@@ -1,6 +1,6 @@
 """Numbered batches of rows: what the program was given, and what its lines say of it."""
 import re
-from .lsas import rank
+from .ospf.lsas import rank
 
 MOST = 4096  # changes in a batch
 MOST_VAIN = 8  # refusals in a row from which nothing followed

@@ -1,8 +1,8 @@
-"""The database that a program has when the feed comes to it: as `tools/listen` tells it, or from the journal of the program's run."""
+"""The database that a program has when the feed comes to it: as listen tells it, or from the journal of the program's run."""
 import re
 import secrets
 
-from ..journals import records, refusal
+from ..model.journals import records, refusal
 from .batches import Ended, apply
 
 EARLIER = re.compile(r"(?:version|batch|row|ask) \d+( .*)?")  # lines of rows that an earlier feed sent, which it didn't read
@@ -46,7 +46,7 @@ def from_journal(path, version):
 
 
 def from_front(program, version, line):
-    """The rows by key that `tools/listen` tells. This line came first."""
+    """The rows by key that `routed-tools listen` tells. This line came first."""
     if line != f"version {version}":
         raise Ended(f"{program.name}: it is at version {version}, and its database isn't known, for it answered: {line}")
     lines = []

@@ -4,8 +4,8 @@ They are read in a thread of their own, which only reads what the feed counts.""
 import threading
 import time
 
-from ..loop import Loop
-from ..metrics import Figures, Page
+from ..front.metrics import Figures, Page
+from ..net.loop import Loop
 
 
 class FeedFigures:

@@ -7,7 +7,7 @@ import contextlib
 import os
 
 from .batches import Ended
-from .lsas import rank
+from .ospf.lsas import rank
 
 
 @contextlib.contextmanager

@@ -1,7 +1,7 @@
 """Asks of all PCCs, over a few connections to `routed-tools listen`, each with an id of its own."""
 import collections
 
-from ..loop import READ, WRITE
+from ..net.loop import READ, WRITE
 
 AGAIN, FREE_AGAIN = 0.2, 1  # seconds from one try to connect to the next, and to a server that was busy
 

@@ -11,8 +11,8 @@ LSPs. The status is 0 then, 2 where a word of the command line is refused, 3 whe
 """
 import argparse
 
-from ..log import LEVELS, Log
-from ..places import Place, Stopped
+from ..net.log import LEVELS, Log
+from ..net.places import Place, Stopped
 from .front import Front
 
 
@@ -43,7 +43,7 @@ def main(given=None):
     words.add_argument("--pccs", type=number(1, 65536), default=256, metavar="N", help="how many are connected at once (256)")
     words.add_argument("--connections", type=number(1, 64), default=4, metavar="N", help="to the place of --ask (4)")
     words.add_argument("--sids", metavar="FILE",
-                       help="adjacency SIDs, as feeds/ospf --sids writes them: segment routing (path setup type 1); needs --journal")
+                       help="adjacency SIDs, as feed --sids writes them: segment routing (path setup type 1); needs --journal")
     words.add_argument("--sid-group", dest="group", type=group, default=0, metavar="N",
                        help="links of a segment routing path are in this group")
     words.add_argument("--stateful", action="store_true", help="take LSPs that are delegated; needs --watch")

@@ -4,10 +4,10 @@ import signal
 import socket
 import time
 
-from ..log import Log
-from ..loop import READ, Loop
-from ..metrics import Figures, Page
-from ..places import BACKLOG, Door, Stopped, hang_up, tried
+from ..front.metrics import Figures, Page
+from ..net.log import Log
+from ..net.loop import READ, Loop
+from ..net.places import BACKLOG, Door, Stopped, hang_up, tried
 from . import wire
 from .asks import AGAIN, Asks
 from .keys import keys, set_key

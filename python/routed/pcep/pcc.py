@@ -1,6 +1,6 @@
 """The connection of one PCC."""
-from ..loop import READ, WRITE
-from ..places import hang_up
+from ..net.loop import READ, WRITE
+from ..net.places import hang_up
 from .session import Session
 
 FULL, MOST_ASKED = 1 << 20, 256  # bytes that wait for a PCC, and its asks: beyond them nothing is read from it

@@ -1,5 +1,5 @@
 """The place where the server tells versions."""
-from ..loop import READ
+from ..net.loop import READ
 
 BUSY_AGAIN = 1  # seconds from one try to connect to the next where the place has no room
 

@@ -2,8 +2,8 @@
 import re
 import struct
 
-from .. import journals
-from ..places import Stopped, tried
+from ..model import journals
+from ..net.places import Stopped, tried
 from . import wire
 from .requests import Request
 

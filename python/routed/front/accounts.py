@@ -1,0 +1,173 @@
+"""What the connections of routed-tools listen bring and read: their figures, and the lines of the log."""
+import collections
+import os
+import re
+import time
+from bisect import bisect_left
+from time import monotonic
+
+from .metrics import TIMES, Figures
+
+VERSIONS = JOURNAL_ROWS = 1_000_000  # the most that a run publishes, and that the commands read of a journal
+AT_ONCE = 1 << 24  # bytes of the journal that are read for one reading of the figures
+ROW = re.compile(rb"[^\r\n]+")
+END = re.compile(rb"(?m)^end,")
+OUTCOMES = [(b" route cost=", "route"), (b" none\n", "none"), (b" unknown-from\n", "unknown-from"), (b" unknown-to\n", "unknown-to")]
+OTHER = re.compile(rb"(?m)^(?:(version) (\d+)|((row|batch) \d+ refused: ([^ \n]+)[^\n]*))$")
+PLACES = ("ask", "updates", "watch", "metrics")
+
+
+class Account:
+    """Counts what the connections bring and read."""
+
+    def __init__(self, log, journal):
+        self.log, self.journal, self.version, self.published_at = log, Journal(journal), 0, None
+        self.open, self.told, self.numbers = collections.Counter(), [], collections.Counter()
+        self.figures = figures = Figures()
+        begun = time.time()
+        figures.gauge("routed_start_time_seconds", "When the server began, in seconds since 1970.", lambda: begun)
+        figures.gauge("routed_version", "The newest version.", lambda: self.version)
+        figures.gauge("routed_versions_left", "How many versions the run may still publish.", lambda: VERSIONS - self.version)
+        figures.gauge("routed_last_batch_age_seconds", "Seconds since a batch was published; absent where none was.",
+                      lambda: None if self.published_at is None else time.monotonic() - self.published_at)
+        figures.total("routed_changes_total", "Changes in the batches of the journal.", self.journal.changes)
+        figures.gauge("routed_journal_bytes", "Bytes of the journal.", self.journal.size)
+        figures.gauge("routed_journal_rows_left", "How many rows the journal may still have, so that the commands read it.",
+                      lambda: JOURNAL_ROWS - self.journal.rows)
+        figures.counter("routed_asks_total", "Requests that were answered, by their outcome.", "outcome", [it for _, it in OUTCOMES])
+        figures.times("routed_ask_seconds", "Seconds from a row of an asking connection to its line.")
+        self.asks, self.times = (figures.values[name] for name in ("routed_asks_total", "routed_ask_seconds"))  # each ask counts there
+        figures.counter("routed_refused_rows_total", "Rows that were refused, by the first word of the reason.", "word")
+        figures.counter("routed_refused_batches_total", "Batches that were refused, by the first word of the reason.", "word")
+        figures.gauge("routed_connections", "Connections that are open, by their place.", lambda: {it: self.open[it] for it in PLACES}, "place")
+        figures.counter("routed_connections_total", "Connections that were taken, by their place.", "place", PLACES)
+        figures.counter("routed_busy_total", "Connections that were told busy, by their place.", "place", PLACES)
+        figures.counter("routed_cut_off_total", "Connections that were ended: for a line that isn't passed on, or as idle.", "reason", ("line", "idle"))
+        figures.total("routed_log_dropped_total", "Lines of the log that were dropped.", lambda: log.dropped)
+
+    def published(self, version):
+        """This version is the newest one."""
+        self.version, self.published_at = version, time.monotonic()
+        for tell in self.told:
+            tell()
+
+    # ---- connections
+
+    def change(self, place, change):
+        """A connection comes, or goes."""
+        self.open[place] += change
+        if change > 0:
+            self.figures.add("routed_connections_total", 1, place)
+
+    def begin(self, place, named):
+        """A connection is taken; its number at the place."""
+        self.change(place, 1)
+        self.numbers[place] += 1
+        self.log.say("info", f"{place} {self.numbers[place]}: connected, {named}")
+        return self.numbers[place]
+
+    def end(self, place, number, what):
+        self.change(place, -1)
+        self.log.say("info", f"{place} {number}: ended, {what}")
+
+    def busy(self, place, named):
+        self.figures.add("routed_busy_total", 1, place)
+        self.log.say("info", f"{place}: busy, {named}")
+
+    def cut_off(self, place, number, reason):
+        self.figures.add("routed_cut_off_total", 1, reason)
+        self.log.say("info", f"{place} {number}: " + {"line": "refused, for a line that isn't passed on", "idle": "idle for too long"}[reason])
+
+    # ---- rows and lines
+
+    def rows(self, use, data):
+        """These bytes, whole rows, are passed on to the server."""
+        is_plain = b"\r" not in data and b"\n\n" not in data and data[0] != 10
+        count = data.count(b"\n") if is_plain else len(ROW.findall(data))  # a blank row has no line
+        use.rows += count
+        if use.place == "ask":
+            use.sent.append((monotonic(), count))
+
+    def lines(self, use, said):
+        """These lines of the server are a connection's."""
+        count = said.count(b"\n")
+        if not count:
+            return
+        use.lines += count
+        if use.place == "ask":
+            self.take_times(use.sent, count)
+        for part, outcome in OUTCOMES:
+            if found := said.count(part):
+                self.asks[outcome] += found
+                count -= found
+                if not count:
+                    return
+        if count:
+            self.others(use, said)
+
+    def take_times(self, sent, count):
+        """So many of the rows that were passed on first have their lines now."""
+        now, buckets = monotonic(), self.times
+        while count and sent:
+            at, rows = sent[0]
+            answered = rows if rows <= count else count
+            buckets[0][bisect_left(TIMES, now - at)] += answered
+            buckets[1] += (now - at) * answered
+            count -= answered
+            if answered == rows:
+                sent.popleft()
+            else:
+                sent[0] = at, rows - answered
+
+    def others(self, use, said):
+        version = None
+        for is_version, number, line, kind, word in OTHER.findall(said):
+            if is_version:
+                version = int(number)
+                self.log.say("debug", f"version {version}")
+            else:
+                batch = kind == b"batch"
+                self.figures.add(f"routed_refused_{'batches' if batch else 'rows'}_total", 1, word.decode(errors="backslashreplace"))
+                if use.number:  # else it is of what the run begins with, and ends it
+                    self.log.say("warning" if batch else "info", f"{use.place} {use.number}: {line.decode(errors='backslashreplace')}")
+        if version is not None:
+            self.published(version)
+
+
+class Use:
+    """A stream's use by one connection: what was passed on, and when the rows were that have no lines yet."""
+
+    def __init__(self, account, place, named):
+        self.account, self.place, self.begun = account, place, time.monotonic()
+        self.rows, self.lines, self.sent = 0, 0, collections.deque()
+        self.number = account.begin(place, named) if named else 0
+
+    def end(self):
+        self.account.end(self.place, self.number, f"{self.rows} rows, {self.lines} lines, {time.monotonic() - self.begun:.1f} s")
+
+
+class Journal:
+    """What the journal has so far. It is read once, as it grows."""
+
+    def __init__(self, path):
+        self.path, self.read, self.rows, self.ends = path, 0, 0, 0
+
+    def changes(self):
+        """How many rows of it are changes."""
+        try:
+            with open(self.path, "rb") as file:
+                file.seek(self.read)
+                data = file.read(AT_ONCE)
+        except OSError:  # it isn't there yet
+            data = b""
+        data = data[:data.rfind(b"\n") + 1]
+        self.read += len(data)
+        self.rows += data.count(b"\n")
+        self.ends += len(END.findall(data))
+        return self.rows - self.ends
+
+    def size(self):
+        try:
+            return os.stat(self.path).st_size
+        except OSError:
+            return 0

@@ -1,0 +1,213 @@
+"""Lets programs connect to `routed serve`: up to 64 at once ask at one socket, and one at a time brings updates at another.
+
+PLACE is the path of a UNIX socket, a port of 127.0.0.1, ADDRESS:PORT, or [ADDRESS]:PORT for IPv6. A path that has a colon
+needs a slash. There is no sign-on: at a path its mode and its folder say who may connect, at a port everybody may who
+reaches it. With port 0 the system chooses one, and a line before `ready` has it, as `updates 127.0.0.1:43211`.
+
+A connection sends rows and reads their lines (docs/run/FORMATS.md). Where no place is free for it, it reads the line `busy`
+and its end. It may shut its sending side and read on, until it is answered to its last whole line; what no line feed
+ends is dropped, and so is a byte order mark at its beginning. A line of more than 65,536 bytes or with a quotation mark
+(no row needs one, and left open it would swallow the rows of others) ends it by the line `refused`, behind the lines of
+its earlier rows. Where updates come in, so does a line whose first field isn't put, drop, node, end or ask: an HTTP
+request publishes nothing. A connection that doesn't read keeps its place and delays nobody else. An asking connection
+that neither sends nor reads for the time of --idle is ended.
+
+Where updates come in, the line `snapshot` asks for the database as it is. Behind the lines of earlier rows come
+`version V`, the rows of `routed snapshot` on the journal, which are batches from 1 on, and `snapshot end`; or else the one
+line `snapshot refused: WORDS`. Rows behind it wait for that.
+
+With --begin the batches of a file, as `routed snapshot` makes them, are published before any connection is taken.
+
+The server outlives connections: what one has published is there for the next, and N in `row N refused` counts rows of
+earlier ones and of this front too. Changes that a connection leaves open are dropped.
+
+`ready` is printed once rows are taken, and standard error has what `routed serve --explain` says. SIGTERM or SIGINT ends
+the server and this front. The status is the server's (128 and the signal's number where one ended it), 2 where a word of
+the command line is refused, 3 where a socket or the program can't be had. Where this front is killed the server ends by
+itself. The journal has whole batches then, and after a signal to the server maybe a beginning of one more.
+
+Example: routed-tools listen --journal day.journal --ask ./ask --updates ./updates
+and in other shells: nc -N -U ./updates < examples/abilene.rows, or nc -U ./ask
+"""
+import argparse
+import os
+import signal
+import subprocess
+import sys
+
+from .. import program
+from ..model.journals import Refused, texts
+from ..net.log import LEVELS, Log
+from ..net.loop import Loop, READ
+from ..net.places import BACKLOG, Place, Stopped, tried
+from .accounts import Account
+from .channels import Channel, Listener, Updates
+from .metrics import Page
+from .snapshots import Snapshots
+from .watch import Watch
+
+IDLE = 300  # seconds, at a port
+
+
+class Front:
+    """The server, and the loop that serves its connections."""
+
+    def __init__(self, options):
+        self.loop, self.options, self.listeners = Loop(), options, {}
+        self.log = Log("listen", options.log_level)
+        self.account = Account(self.log, options.journal)
+        self.snapshots, self.server, self.status = Snapshots(options.program, options.journal), None, None
+        self.is_stopped = False
+        self.channels, self.theirs = [], []  # ours, that of the updates first, and the server's ends of their pipes
+        self.signals, write = os.pipe()  # a signal is a byte here, which waits for the loop
+        os.set_blocking(write, False)
+        signal.set_wakeup_fd(write, warn_on_full_buffer=False)
+        for number in (signal.SIGTERM, signal.SIGINT, signal.SIGCHLD):
+            signal.signal(number, lambda *_: None)
+
+    def begin(self):
+        """Starts the server, and brings what it begins with. Rows are taken once it has answered one: all files are open then."""
+        batches = beginning(self.options.begin)
+        words = [self.options.program, "serve", "--explain", "--journal", self.options.journal]
+        for number in range(self.options.clients + 1):
+            (rows_out, rows_in), (lines_out, lines_in) = os.pipe(), os.pipe()
+            ours = self.loop, rows_in, lines_out, self.account
+            self.channels.append(Channel(*ours) if number else Updates(*ours, self.snapshots))
+            self.theirs += [rows_out, lines_in]
+            if number:  # inherited, an end of a pipe would stay open in the server whatever it closes: it opens its own
+                words += ["--client", "=".join(f"/proc/{os.getpid()}/fd/{end}" for end in self.theirs[-2:])]
+        with tried(self.options.program, program.hint(self.options.program)):
+            self.server = subprocess.Popen(words, stdin=self.theirs[0], stdout=self.theirs[1])
+        os.close(self.theirs.pop(1))
+        self.loop.want(self.signals, READ, self.signalled)
+        self.channels[0].to_server = "".join(batches).encode()
+        self.channels[0].ask(lambda version: self.ready(version, len(batches)))
+        self.channels[0].settle()
+
+    def close_theirs(self):
+        while self.theirs:
+            os.close(self.theirs.pop())
+
+    def ready(self, version, wanted):
+        self.close_theirs()
+        if version != wanted:
+            raise Stopped(f"{self.options.begin}: batch {version + 1} wasn't published")
+        self.account.version = version
+        for kind, listener in self.listeners.items():
+            self.serve(kind, listener)
+            place = getattr(self.options, kind)
+            if not place.path and not place.address[1]:
+                host, port = listener.getsockname()[:2]
+                say(f"{kind} {f'[{host}]' if ':' in host else host}:{port}")
+        say("ready")
+
+    def serve(self, kind, listener):
+        """Takes the connections of a place."""
+        if kind == "metrics":
+            Page(self.loop, listener, self.account.figures.text, lambda change: self.account.change("metrics", change))
+        elif kind == "watch":
+            Watch(self.loop, listener, self.account)
+        elif kind == "updates":
+            Listener(self.loop, listener, self.channels[:1], 0)
+        else:
+            Listener(self.loop, listener, self.channels[1:], idle_of(self.options), self.options.each)
+
+    def signalled(self, _):
+        numbers = os.read(self.signals, BACKLOG)
+        for number in (signal.SIGTERM, signal.SIGINT):
+            if number in numbers:
+                self.log.say("info", f"stopped by {number.name}")
+                self.server.terminate()
+                self.is_stopped = True
+        self.snapshots.look()
+        self.status = self.server.poll()
+
+    def run(self):
+        """The status of the server, once it has ended, and its last lines have been passed on."""
+        self.begin()
+        while self.status is None:
+            self.loop.turn()
+        self.close_theirs()
+        for channel in self.channels:
+            channel.read_rest()
+        if self.status and not self.is_stopped:
+            what = f"ended with status {self.status}" if self.status > 0 else f"was ended by signal {-self.status}"
+            self.log.say("error", f"{self.options.program} {what}")
+        return self.status if self.status >= 0 else 128 - self.status
+
+
+def say(line):
+    if sys.stdout:
+        with tried("standard output: write"):
+            os.write(sys.stdout.fileno(), f"{line}\n".encode())
+
+
+def beginning(path):
+    """The batches of a file that a run begins with; none where there is no file."""
+    if path is None:
+        return []
+    with tried(f"{path}: read"):
+        with open(path, "rb") as file:
+            data = file.read()
+    try:
+        return texts(data)
+    except Refused as fault:
+        raise Stopped(f"{path}: {fault}") from None
+
+
+def idle_of(options):
+    """Seconds after which an idle asking connection is ended, 0 for never."""
+    return options.idle if options.idle is not None else 0 if options.ask.path else IDLE
+
+
+def mode(text):
+    """Permissions as octal digits."""
+    value = int(text, 8)
+    if not 0 <= value <= 0o777:
+        raise ValueError
+    return value
+
+
+def seconds(text):
+    """A time that can be waited for."""
+    value = float(text)
+    if not 0 <= value <= 86400 * 366:
+        raise ValueError
+    return value
+
+
+def main(given=None):
+    """Takes the words of a command line, and answers the status."""
+    words = argparse.ArgumentParser(prog="listen", description=__doc__, formatter_class=argparse.RawDescriptionHelpFormatter)
+    words.add_argument("--journal", required=True, metavar="FILE", help="a new file, for the batches of this run")
+    words.add_argument("--begin", metavar="FILE", help="batches that are published before any connection is taken: a snapshot of the run before")
+    words.add_argument("--ask", required=True, type=Place, metavar="PLACE", help="where clients ask")
+    words.add_argument("--updates", required=True, type=Place, metavar="PLACE", help="where updates come in")
+    words.add_argument("--clients", type=int, choices=range(1, 65), default=64, metavar="N", help="how many ask at once, 1 to 64 (64)")
+    words.add_argument("--mode", type=mode, default=0o600, help="permissions of UNIX sockets, octal (600)")
+    words.add_argument("--ask-mode", type=mode, metavar="MODE", help="those of the socket where clients ask (that of --mode)")
+    words.add_argument("--updates-mode", type=mode, metavar="MODE", help="those of the socket where updates come in (that of --mode)")
+    words.add_argument("--each", type=int, choices=range(0, 65), default=0, metavar="N",
+                       help="how many asking connections one user has at once at a path, or one address at a port, 0 for any number (0)")
+    words.add_argument("--watch", type=Place, metavar="PLACE", help="where the line of each version is read")
+    words.add_argument("--metrics", type=Place, metavar="PLACE", help="where figures are read, by HTTP at /metrics")
+    words.add_argument("--log-level", choices=LEVELS, default="warning", help="which lines of the log are written (warning)")
+    words.add_argument("--idle", type=seconds, metavar="SECONDS", help=f"after which an idle asking connection is ended, 0 for never "
+                                                                      f"({IDLE} at a port, never at a path)")
+    program.add_option(words)
+    options = words.parse_args(given)
+    options.program = program.find(options.program)
+    front = Front(options)
+    try:
+        modes = {"updates": options.updates_mode, "ask": options.ask_mode, "watch": options.ask_mode, "metrics": None}
+        for kind, given in modes.items():
+            if place := getattr(options, kind):
+                front.listeners[kind] = place.bind(options.mode if given is None else given)
+        return front.run()
+    except (Stopped, OSError, MemoryError) as fault:
+        front.log.say("error", str(fault) or "out of memory")
+        return 3
+    finally:
+        front.snapshots.stop()
+        for kind in front.listeners:
+            getattr(options, kind).leave()

@@ -1,0 +1,56 @@
+"""Snapshots of the journal of a server that runs, for routed-tools listen."""
+import ctypes
+import os
+import signal
+import subprocess
+
+TAIL = 1 << 16  # bytes of a journal's end in which its last row stands
+PRCTL, PR_SET_PDEATHSIG = ctypes.CDLL(None).prctl, 1
+
+
+class Snapshots:
+    """Snapshots of the running journal, which `routed snapshot` makes beside the loop, one at a time."""
+
+    def __init__(self, program, journal):
+        self.words, self.journal, self.child = [program, "snapshot", "--accept-torn", "--explain", "--journal", journal], journal, None
+
+    def begin(self, version, say):
+        """Gives `say` all lines of a snapshot once they are there, or the one that refuses it."""
+        self.head, self.say, self.files = f"version {version}\n".encode(), say, []
+        try:
+            self.files += [os.memfd_create(name) for name in ("rows", "errors")]
+            if self.is_cut_in_an_end():
+                self.end(1, b"the journal has failed inside an end row")
+            else:
+                self.child = subprocess.Popen(self.words, stdin=subprocess.DEVNULL, stdout=self.files[0], stderr=self.files[1],
+                                              preexec_fn=die_with_us)
+        except OSError as error:
+            self.end(1, f"{error.filename or self.words[0]}: {error.strerror}".encode())
+
+    def is_cut_in_an_end(self):
+        """Whether the journal's last row could be read as the end of a batch that isn't published."""
+        with open(self.journal, "rb") as kept:
+            kept.seek(max(kept.seek(0, os.SEEK_END) - TAIL, 0))
+            return kept.read().rpartition(b"\n")[2].startswith(b"end,")
+
+    def look(self):
+        """Sees whether the program has ended."""
+        if self.child and self.child.poll() is not None:
+            rows, errors = (os.pread(file, os.fstat(file).st_size, 0) for file in self.files)
+            status, self.child = self.child.returncode, None
+            words = (rows if status == 2 else errors).partition(b"\n")[0] or (f"status {status}" if status > 0 else f"signal {-status}").encode()
+            self.end(status, words if status else rows)
+
+    def end(self, status, text):
+        for file in self.files:
+            os.close(file)
+        self.say(self.head + text + b"snapshot end\n" if status == 0 else b"snapshot refused: " + text + b"\n")
+
+    def stop(self):
+        if self.child:
+            self.child.kill()
+
+
+def die_with_us():
+    """The child of a program that is killed is killed, too."""
+    PRCTL(PR_SET_PDEATHSIG, signal.SIGKILL)

@@ -1,0 +1,1 @@
+"""Rows from networks in other programs' formats."""

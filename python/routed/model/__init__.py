@@ -1,0 +1,1 @@
+"""The network in rows: journals, links and requests."""

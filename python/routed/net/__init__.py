@@ -1,0 +1,1 @@
+"""Sockets: the event loop, where programs connect, and the log."""

@@ -1,0 +1,120 @@
+"""Draws as SVG what each circuit's failure does, from the lines that `sweep` prints of single circuits.
+
+The color of a circuit is the worst effect of its failure. Its text says how many requests lose their route, how many get a longer
+one, and how many links are then overbooked. The lines come on standard input, and the picture goes to standard output.
+"""
+import argparse
+import sys
+
+from ..sweep.swept import failures, overbooked_before
+from . import positions, shapes
+from .canvas import BLUE, GRAY, ORANGE, RED, fit, legend, picture, text_in
+from .labels import SMALL, Sheet, Wanted, box_of
+
+KINDS = {"lost": (f"stroke:{RED};stroke-width:6", "a request loses its route"),
+         "longer": (f"stroke:{BLUE};stroke-width:4", "no request loses its route, and one gets a longer one"),
+         "overbooked": (f"stroke:{ORANGE};stroke-width:4;stroke-dasharray:10 4", "no route is lost or longer, and a link is overbooked more than before"),
+         "none": (f"stroke:{GRAY};stroke-width:2", "no request and no link is worse off")}
+INK = {"lost": "#a84300", "longer": "#005a8e", "overbooked": "#8a5f00"}  # of the counts, dark enough to read
+ALONG = (0.5, 0.44, 0.56, 0.38, 0.62, 0.32, 0.68, 0.26, 0.74, 0.2, 0.8)  # where on its circuit a count may be
+IDS = 12  # of requests that are named where the pointer is
+
+
+def kind_of(failure):
+    return "lost" if failure.lost else "longer" if failure.longer else "overbooked" if failure.overbooked else "none"
+
+
+def counts_of(failure):
+    return f"{failure.lost}/{failure.longer}/{len(failure.overbooked)}"
+
+
+def between(failure, names):
+    return f"{names[failure.one]} {'–' if failure.is_circuit else 'to'} {names[failure.other]}"
+
+
+def about(failure, names, over):
+    """What is said of a circuit where the pointer is on it."""
+    says = [f"without {between(failure, names)} ({failure.link})"]
+    for count, ids, what in ((failure.lost, failure.lost_ids, "lose their route"), (failure.longer, failure.longer_ids, "get a longer one")):
+        says += [f"{count} {what}: {', '.join(ids[:IDS])}{', ..' if len(ids) > IDS else ''}"] if count else []
+    says += [f"overbooked then: {link}" for link in failure.overbooked[:IDS]]
+    says += [f"overbooked while nothing fails, at priority {it.priority}: {it.asked:,} bytes per second are asked of {it.unreserved:,}" for it in over]
+    return "\n".join(says)
+
+
+def place_counts(found, curves, sheet):
+    """Gives the counts their boxes, each on its circuit or beside it."""
+    wanted = []
+    for index, (failure, line) in enumerate(zip(found, curves)):
+        if kind_of(failure) != "none":
+            spots = [(box_of(*line.aside(aside).at(part), counts_of(failure), SMALL), against + abs(part - 0.5) * 10)
+                     for aside, against in ((0, 0), (14, 12), (-14, 12)) for part in ALONG]
+            wanted.append(Wanted(index, spots))
+    sheet.place(wanted, ink=0.3)
+
+
+def failures_picture(title, found, over, places, names):
+    """The lines of the whole picture."""
+    places, wide, high = fit(places)
+    sheet, curves, drawn = Sheet(wide, high), shapes.curves([(it.one, it.other) for it in found], places), []
+    drawn += [shapes.line("band", line.path(), shapes.BAND) for failure, line in zip(found, curves) if over[failure]]
+    for failure, line in zip(found, curves):
+        drawn.append(shapes.line(kind_of(failure), line.path(), KINDS[kind_of(failure)][0], about(failure, names, over[failure])))
+        drawn += [] if failure.is_circuit else [shapes.arrow(line, "#444", 0.8)]
+    shapes.place_names(sheet, places, names, dict.fromkeys(places, shapes.NUMBERED), curves)
+    place_counts(found, curves, sheet)
+    texts, numbers = shapes.texts_of_names(sheet, places, names)
+    drawn += list(shapes.routers(places, names, set(), numbers)) + texts
+    absent = []
+    for index, failure in enumerate(found):
+        if box := sheet.box(index):
+            drawn += [shapes.plate(box), text_in(box, counts_of(failure), "counts", SMALL, INK[kind_of(failure)])]
+        elif kind_of(failure) != "none":
+            absent.append(failure)
+    shown, more = legend(notes_of(found, over, names, absent, numbers), wide, high)
+    return picture(title, wide, high + more + 10, drawn + shown)
+
+
+def notes_of(found, over, names, absent, numbers):
+    """The legend, and what has no room in the picture."""
+    kinds = {kind_of(failure) for failure in found}
+    notes = [(shapes.sample(style), text) for kind, (style, text) in KINDS.items() if kind in kinds]
+    if not found:
+        notes.append((None, "The network has no circuits."))
+    if kinds - {"none"}:
+        notes.append((None, "l/m/o: l requests lose their route, m get a longer one, o links are overbooked more than before"))
+    if any(over.values()):
+        notes.append((shapes.sample(shapes.BAND), "overbooked while nothing fails: more is asked of it than it has unreserved"))
+    if not all(failure.is_circuit for failure in found):
+        notes.append((shapes.one_way_sample, "one direction alone"))
+    if absent:
+        notes.append((None, "Counts without room: " + ", ".join(f"{between(it, names)} {counts_of(it)}" for it in absent)))
+    return notes + shapes.number_notes(numbers, names)
+
+
+def by_circuit(found, before):
+    """What is overbooked of each circuit while nothing fails, in either direction. A line names a link by its addresses in order."""
+    def names_of(failure):
+        router, local, neighbor, remote = failure.link.split()
+        return failure.link, f"{neighbor} {remote} {router} {local}"
+    return {failure: [it for name in names_of(failure)[:2 if failure.is_circuit else 1] for it in before.get(name, ())] for failure in found}
+
+
+def main(words=None):
+    """Takes the words of a command line, and answers the status."""
+    asked = argparse.ArgumentParser(prog="draw-failures", description=__doc__, formatter_class=argparse.RawDescriptionHelpFormatter)
+    positions.add_options(asked)
+    asked.add_argument("--title", default="Failures of circuits")
+    given = asked.parse_args(words)
+    try:
+        lines = sys.stdin.read().splitlines()
+        found = failures(lines)
+        over = by_circuit(found, overbooked_before(lines))
+        routers = sorted({end for failure in found for end in (failure.one, failure.other)})
+        pairs = sorted({tuple(sorted((failure.one, failure.other))) for failure in found})
+        places, names = positions.positions(given, routers, pairs, "draw-failures")
+        print(*failures_picture(given.title, found, over, places, names), sep="\n")
+    except (ValueError, OSError) as fault:
+        print(f"draw-failures: {fault}", file=sys.stderr)
+        return 1
+    return 0

@@ -1,0 +1,1 @@
+"""Tests of the feed, beside a router that is played here."""

@@ -1,0 +1,1 @@
+"""What tests/texts, tests/contracts and tests/mutants check without a built program."""

@@ -1,0 +1,1 @@
+"""Tests of PCEP: sessions without sockets, and routers played at real ones."""

@@ -1,0 +1,1 @@
+"""Tests of the tools round `routed`, as their users run them."""

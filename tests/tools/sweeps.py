@@ -1,0 +1,675 @@
+"""Tests of routed-tools sweep and routed-tools join: failures worked by hand, failures by tests/reference/formats.py, several jobs, parts, and what is refused."""
+import contextlib
+import hashlib
+import itertools
+import os
+import pty
+import random
+import re
+import subprocess
+import sys
+import tempfile
+import textwrap
+import time
+
+from checks import TOOLS, TOP
+from reference.changes import counts_mended
+from reference.formats import Refused, address_number, address_text, publish, requests_of, whole_batches
+
+from routed.sweep.failures import Network
+from routed.sweep.solving import MOST_ROWS, Solve
+
+SWEEP = [TOOLS, "sweep"]
+MASKS = "0x0,0x0,0x0"
+
+
+def link(router, local, neighbor, remote, metric=10, group="0x1", free=100):
+    return f"put,{router},{local},{neighbor},{remote},{metric},{group},{','.join([str(free)] * 8)}\n"
+
+
+def circuit(one, other, metric=10, group="0x1", free=100):
+    """Both directions between the routers of these numbers, the lower first."""
+    ends = [(f"{number}.{number}.{number}.{number}", f"10.0.{one}{other}.{number}") for number in (one, other)]
+    return link(*ends[0], *ends[1], metric, group, free) + link(*ends[1], *ends[0], metric, group, free)
+
+
+def journal(*puts):
+    rows = "".join(puts)
+    return f"{rows}end,1,{len(rows.splitlines())}\n"
+
+
+def ask(name, head, tail, setup=7, bandwidth=60, masks=MASKS, hops=""):
+    return f"ask,{name},{head},{tail},{setup},{bandwidth},{masks},{hops}\n"
+
+
+A, B, C, D = "1.1.1.1", "2.2.2.2", "3.3.3.3", "4.4.4.4"
+AB, AD, BC, CD = (f"circuit {one}.{one}.{one}.{one} 10.0.{one}{two}.{one} {two}.{two}.{two}.{two} 10.0.{one}{two}.{two}"
+                  for one, two in ((1, 2), (1, 4), (2, 3), (3, 4)))
+RING = journal(circuit(1, 2), circuit(2, 3), circuit(3, 4), circuit(1, 4, 15, "0x2"))
+ASKS = ask(1, A, C) + ask(2, A, B, setup=3) + ask(3, D, A, bandwidth=30, masks="0x0,0x2,0x0") + ask(4, A, C, bandwidth=101)
+FULL = "priority=7 asked=60 above=60 unreserved=100"
+A_TO_B = f"overbooked {A} 10.0.12.1 {B} 10.0.12.2 {FULL}"
+BEFORE = f"""network version=1 routers=4 links=8 circuits=4 requests=4
+before without request 4 none
+before {A_TO_B}
+before routes=3 without=1 overbooked=1
+"""
+RANKED = f"""most requests 1 scenario 2 lost=1 longer=0 bandwidth=30 out {AD}
+most requests 2 scenario 1 lost=0 longer=2 bandwidth=0 out {AB}
+most requests 3 scenario 3 lost=0 longer=1 bandwidth=0 out {BC}
+most bandwidth 1 scenario 2 lost=1 longer=0 bandwidth=30 out {AD}
+most failures 1 request 1 lost=0 longer=2
+most failures 2 request 3 lost=1 longer=0
+most failures 3 request 2 lost=0 longer=1
+"""
+OF_CIRCUITS = f"""scenario 1 out {AB}
+scenario 1 longer request 1 cost=25 was=20 more=5
+scenario 1 longer request 2 cost=35 was=10 more=25
+scenario 1 overbooked {A} 10.0.14.1 {D} 10.0.14.4 {FULL}
+scenario 1 overbooked {D} 10.0.34.4 {C} 10.0.34.3 {FULL}
+scenario 1 lost=0 longer=2 most=25 overbooked=2
+scenario 2 out {AD}
+scenario 2 lost request 3 none was=15
+scenario 2 lost=1 longer=0 most=0 overbooked=0
+scenario 3 out {BC}
+scenario 3 longer request 1 cost=25 was=20 more=5
+scenario 3 lost=0 longer=1 most=5 overbooked=0
+scenario 4 out {CD}
+scenario 4 lost=0 longer=0 most=0 overbooked=0
+{RANKED}scenarios=4 lost=1 longer=2 overbooked=1
+"""
+OF_ROUTERS = f"""scenario 1 out router {A}
+scenario 1 lost request 1 unknown-from was=20
+scenario 1 lost request 2 unknown-from was=10
+scenario 1 lost request 3 unknown-to was=15
+scenario 1 lost=3 longer=0 most=0 overbooked=0
+scenario 2 out router {B}
+scenario 2 lost request 2 unknown-to was=10
+scenario 2 longer request 1 cost=25 was=20 more=5
+scenario 2 lost=1 longer=1 most=5 overbooked=0
+scenario 3 out router {C}
+scenario 3 lost request 1 unknown-to was=20
+scenario 3 lost=1 longer=0 most=0 overbooked=0
+scenario 4 out router {D}
+scenario 4 lost request 3 unknown-from was=15
+scenario 4 lost=1 longer=0 most=0 overbooked=0
+most requests 1 scenario 1 lost=3 longer=0 bandwidth=150 out router {A}
+most requests 2 scenario 2 lost=1 longer=1 bandwidth=60 out router {B}
+most requests 3 scenario 3 lost=1 longer=0 bandwidth=60 out router {C}
+most requests 4 scenario 4 lost=1 longer=0 bandwidth=30 out router {D}
+most bandwidth 1 scenario 1 lost=3 longer=0 bandwidth=150 out router {A}
+most bandwidth 2 scenario 2 lost=1 longer=1 bandwidth=60 out router {B}
+most bandwidth 3 scenario 3 lost=1 longer=0 bandwidth=60 out router {C}
+most bandwidth 4 scenario 4 lost=1 longer=0 bandwidth=30 out router {D}
+most failures 1 request 1 lost=2 longer=1
+most failures 2 request 2 lost=2 longer=0
+most failures 3 request 3 lost=2 longer=0
+scenarios=4 lost=4 longer=1 overbooked=0
+"""
+OF_PAIRS = "".join(f"scenario {place} out {one}\nscenario {place} out {other}\nscenario {place} {counts}\n" for place, one, other, counts in (
+    (1, AB, AD, "lost=3 longer=0 most=0 overbooked=0"), (2, AB, BC, "lost=1 longer=1 most=5 overbooked=0"),
+    (3, AB, CD, "lost=2 longer=0 most=0 overbooked=0"), (4, AD, BC, "lost=2 longer=0 most=0 overbooked=0"),
+    (5, AD, CD, "lost=1 longer=0 most=0 overbooked=0"), (6, BC, CD, "lost=1 longer=0 most=0 overbooked=0")))
+
+
+def sweep(program, rows, asks, *words):
+    """Status, standard output and standard error of one sweep; a path is `program`, or a shell script beside it."""
+    with tempfile.TemporaryDirectory() as room:
+        for name, text in (("journal", rows), ("requests", asks)):
+            with open(os.path.join(room, name), "w", newline="") as file:
+                file.write(text)
+        ran = subprocess.run([*SWEEP, f"{room}/journal", f"{room}/requests", "--program", program, *words], capture_output=True, text=True)
+        return ran.returncode, ran.stdout, ran.stderr
+
+
+def facts(program, rows, asks, pattern, *words):
+    """The lines of a sweep in which the pattern is found, without the ranked ones."""
+    return [line for line in sweep(program.path, rows, asks, *words)[1].splitlines() if re.search(pattern, line) and not line.startswith("most ")]
+
+
+def ring(program, checks):
+    """A ring of four routers, each failure worked by hand."""
+    for words, wanted in (((), OF_CIRCUITS), (("--fail", "routers"), OF_ROUTERS)):
+        checks.same(f"a ring {words}", sweep(program.path, RING, ASKS, *words), (0, BEFORE + wanted, ""))
+    status, out, err = sweep(program.path, RING, ASKS, "--fail", "pairs")
+    found = "".join(line for line in out.splitlines(keepends=True) if re.match(r"scenario \d+ (out|lost=)", line))
+    checks.same("pairs of a ring", (status, found, err), (0, OF_PAIRS, ""))
+    checks.same("the pairs' last line", out.splitlines()[-1:], ["scenarios=6 lost=6 longer=1 overbooked=0"])
+    again = RING + "drop,3.3.3.3,10.0.34.3\ndrop,4.4.4.4,10.0.34.4\nend,2,2\n" + circuit(3, 4) + "end,3,2"
+    quoted = again.replace(A, f'"{A}"').replace("\n", "\r\n")
+    wanted = (0, BEFORE.replace("version=1", "version=3") + OF_CIRCUITS, "")
+    found = sweep(program.path, quoted, ASKS, "--fail", "circuits")
+    checks.same("the last version, with quotes, carriage returns and no last line feed", found, wanted)
+    loaded = ask(1, A, B) + ask(2, A, B) + ask(3, A, C) + ask(4, D, B, bandwidth=30)
+    taken = {f"{A} 10.0.12.1 {B} 10.0.12.2": (("before", 180), ("scenario 4", 210)), f"{A} 10.0.14.1 {D} 10.0.14.4": (("scenario 1", 180),),
+             f"{C} 10.0.23.3 {B} 10.0.23.2": (("scenario 1", 150),), f"{D} 10.0.34.4 {C} 10.0.34.3": (("scenario 1", 210),)}
+    checks.same("a link that is overbooked has a line where it gets worse, and none where it stays or gets better",
+                sorted(facts(program, RING, loaded, " overbooked ")), sorted(
+                    f"{where} overbooked {name} priority=7 asked={asked} above=0 unreserved=100" for name, found in taken.items() for where, asked in found))
+    nothing = "network version=0 routers=0 links=0 circuits=0 requests=0\nbefore routes=0 without=0 overbooked=0\n" \
+              "scenarios=0 lost=0 longer=0 overbooked=0\n"
+    checks.same("an empty network", sweep(program.path, "", ""), (0, nothing, ""))
+
+
+def parts(program, checks):
+    """What fails as one, and in which order."""
+    one_way = journal(link(A, "10.0.12.10", B, "10.0.12.2"), link(B, "10.0.12.2", A, "10.0.12.9"), link(A, "10.0.12.9", B, "10.0.12.3"))
+    checks.same("links that don't lead to each other fail alone", facts(program, one_way, "", " out |network"), [
+        "network version=1 routers=2 links=3 circuits=3 requests=0", f"scenario 1 out link {A} 10.0.12.9 {B} 10.0.12.3",
+        f"scenario 2 out link {A} 10.0.12.10 {B} 10.0.12.2", f"scenario 3 out link {B} 10.0.12.2 {A} 10.0.12.9"])
+    wide = journal(link("10.0.0.10", "10.1.0.1", "10.0.0.9", "10.1.0.2"), link("9.0.0.1", "10.1.0.3", "10.0.0.10", "10.1.0.4"))
+    checks.same("routers come as numbers", facts(program, wide, "", " out ", "--fail", "routers"),
+                ["scenario 1 out router 9.0.0.1", "scenario 2 out router 10.0.0.9", "scenario 3 out router 10.0.0.10"])
+    many = [link(A, address_text(address_number("10.1.0.0") + at), B, address_text(address_number("10.2.0.0") + at)) for at in range(4100)]
+    back = link(B, "10.2.0.0", A, "10.1.0.0")
+    rows = journal(*many[:4096]) + "".join(many[4096:]) + back + "end,2,5\n"
+    checks.same("more removals than a batch has", facts(program, rows, ask(1, A, B), "scenario", "--fail", "routers"), [
+        f"scenario 1 out router {A}", "scenario 1 lost request 1 unknown-from was=10", "scenario 1 lost=1 longer=0 most=0 overbooked=0",
+        f"scenario 2 out router {B}", "scenario 2 lost request 1 unknown-from was=10", "scenario 2 lost=1 longer=0 most=0 overbooked=0",
+        "scenarios=2 lost=2 longer=0 overbooked=0"])
+    twins = journal(link(A, "10.0.12.1", B, "10.0.12.9", 5), link(A, "10.0.12.2", B, "10.0.12.9"), link(B, "10.0.12.9", A, "10.0.12.2"))
+    full = f"overbooked {A} 10.0.12.2 {B} 10.0.12.9 priority=7 asked=120 above=0 unreserved=100"
+    checks.same("a circuit fails beside a cheaper link of one way to the same address",
+                facts(program, twins, ask(1, A, B) + ask(2, A, B), " out | overbooked | lost request "), [
+                    f"before {full}", f"scenario 1 out link {A} 10.0.12.1 {B} 10.0.12.9",
+                    f"scenario 2 out circuit {A} 10.0.12.2 {B} 10.0.12.9",
+                    "scenario 2 lost request 1 none was=10", "scenario 2 lost request 2 none was=10"])
+    stub = journal(circuit(1, 2), link(B, "10.0.23.2", C, "10.0.23.3"))
+    checks.same("a link of one way is on no route, and its address meets hops",
+                facts(program, stub, ask(1, A, B, hops="10.0.23.2/32l") + ask(2, A, C), "without request|lost request| out "), [
+                    "before without request 2 none", "scenario 1 out circuit 1.1.1.1 10.0.12.1 2.2.2.2 10.0.12.2",
+                    "scenario 1 lost request 1 unknown-from was=10", f"scenario 2 out link {B} 10.0.23.2 {C} 10.0.23.3",
+                    "scenario 2 lost request 1 none was=10"])
+    marked = RING + f"node,{B},0\nnode,{D},0\nnode,9.9.9.9,0\nend,2,3\nnode,{D},1\nend,3,1\n"
+    checks.same("a router without transit is passed in no scenario, and is an end in each",
+                facts(program, marked, ask(1, A, C) + ask(2, A, B) + ask(3, B, D), "network|request"), [
+                    "network version=3 routers=4 links=8 circuits=4 requests=3", "scenario 1 longer request 2 cost=35 was=10 more=25",
+                    "scenario 2 lost request 1 none was=25", "scenario 3 longer request 3 cost=25 was=20 more=5", "scenario 4 lost request 1 none was=25",
+                    "scenario 4 longer request 3 cost=25 was=20 more=5"])
+    equal = journal(circuit(1, 2), circuit(2, 4), circuit(1, 3), circuit(3, 4))
+    checks.same("another route of the same cost isn't longer", facts(program, equal, ask(1, A, D), "lost=.*overbooked"),
+                [*(f"scenario {at} lost=0 longer=0 most=0 overbooked=0" for at in (1, 2, 3, 4)), "scenarios=4 lost=0 longer=0 overbooked=0"])
+
+
+def loads(program, checks):
+    """Which link of several a route takes, and what its bandwidth is counted against: one sweep, each case with routers of its own."""
+    def twins(*links):
+        """Circuits between A and B; each is a local address, and a metric, a group and what is unreserved from A to B."""
+        ends = [((A, f"10.0.12.{local}"), (B, f"10.0.12.{local + 1}"), values) for local, *values in links]
+        return "".join(link(*one, *other, *values) + link(*other, *one, free=0) for one, other, values in ends)
+
+    def full(local, priority, asked, above, unreserved=100):
+        return (f"before overbooked {A} 10.0.12.{local} {B} 10.0.12.{local + 1} "
+                f"priority={priority} asked={asked} above={above} unreserved={unreserved}\n")
+
+    three, pair = "".join(ask(at, A, B, bandwidth=40) for at in (1, 2, 3)), circuit(1, 2)
+    colors = twins((10, 5, "0x6", 100), (9, 5, "0x2", 100), (8, 5, "0x1", 100))
+    least = f"put,{A},10.0.12.1,{B},10.0.12.2,1,0x1,90,80,70,60,50,40,30,20\n" + link(B, "10.0.12.2", A, "10.0.12.1")
+    cases = [
+        ("of two links the lower address as a number", twins((10, 5, "0x1", 100), (9, 5, "0x1", 100)), three, full(9, 7, 120, 0)),
+        ("of two links the cheaper", twins((10, 4, "0x1", 100), (9, 5, "0x1", 100)), three, full(10, 7, 120, 0)),
+        ("of two links the one with room", twins((10, 5, "0x1", 100), (9, 5, "0x1", 39)), three, full(10, 7, 120, 0)),
+        *((f"the admissible link for {masks}", colors, three.replace(MASKS, masks), full(local, 7, 120, 0))
+          for masks, local in (("0x1,0x0,0x0", 9), ("0x0,0x6,0x0", 9), ("0x0,0x0,0x6", 10), ("0x0,0x0,0x0", 8))),
+        ("what just fits", pair, ask(1, A, B, bandwidth=100), ""),
+        ("a link that a route takes twice", pair, ask(1, A, B, hops=f"{B}/32l {A}/32l"), full(1, 7, 120, 0)),
+        ("the other direction is by itself", pair, ask(1, A, B) + ask(2, B, A), ""),
+        ("a worse priority takes nothing from a better one", pair, ask(1, A, B, setup=2) + ask(2, A, B, setup=6), full(1, 6, 60, 60)),
+        ("each priority has an unreserved bandwidth of its own", least, "".join(ask(setup, A, B, setup, 18) for setup in range(8)),
+         "".join(full(1, at, 18, 18 * at, 90 - 10 * at) for at in (3, 4, 5, 6, 7)))]
+
+    def of(place, text):
+        """A case's text with its own routers, addresses and ids of requests."""
+        text = text.replace(A, f"1.1.1.{place}").replace(B, f"2.2.2.{place}").replace("10.0.12.", f"10.{place}.12.")
+        return text.replace("ask,", f"ask,{place}")
+
+    rows = journal(*(of(place, rows) for place, (_, rows, _, _) in enumerate(cases, 1)))
+    asks = "".join(of(place, asks) for place, (_, _, asks, _) in enumerate(cases, 1))
+    found = facts(program, rows, asks, "^before overbooked")
+    for place, (name, _, _, wanted) in enumerate(cases, 1):
+        mine = [line for line in found if re.search(rf" [12]\.[12]\.[12]\.{place} ", line)]
+        checks.same(name, mine, of(place, wanted).splitlines())
+
+
+def plain(rows, asks, fail):
+    """What a sweep says, from the routes of tests/reference/formats.py as they are, with no object read and each request asked in each scenario."""
+    network, requests = publish(whole_batches(rows))[0][-1], requests_of(asks)
+    version = len(whole_batches(rows))
+    links = {key: network.links[key] for key in sorted(network.links)}
+
+    def name(key):
+        return " ".join(address_text(number) for number in (*key, links[key]["to"], links[key]["remote"]))
+
+    def answers(out):
+        left = type(network)({key: found for key, found in links.items() if key not in out}, network.marks)
+        walks = [left.least(request) for request in requests]
+        return [(walk is None and left.answer(0, request).split(" ", 3)[3], walk) for request, walk in zip(requests, walks)]
+
+    def overbooked(found):
+        """By link and priority, what is asked there and above, and its words."""
+        full = {}
+        for key in links:
+            taken = [(request["setup"], request["bandwidth"]) for request, (_, walk) in zip(requests, found)
+                     for each in walk or () if (each["from"], each["local"]) == key]
+            for priority in sorted({setup for setup, _ in taken}):
+                asked = sum(bandwidth for setup, bandwidth in taken if setup == priority)
+                above = sum(bandwidth for setup, bandwidth in taken if setup < priority)
+                free = links[key]["free"][priority]
+                if asked + above > free:
+                    full[key, priority] = asked + above, f"overbooked {name(key)} priority={priority} asked={asked} above={above} unreserved={free}"
+        return full
+
+    def cost(walk):
+        return sum(each["metric"] for each in walk)
+
+    ends = {key: (each["to"], each["remote"]) for key, each in links.items()}
+    whole = {frozenset((key, end)) for key, end in ends.items() if ends.get(end) == key}
+    circuits = sorted([sorted(keys) for keys in whole] + [[key] for key in links if not any(key in keys for keys in whole)])
+    if fail == "routers":
+        failing = [[(f"router {address_text(router)}", [key for key in links if router in (key[0], links[key]["to"])])]
+                   for router in sorted(network.routers())]
+    else:
+        named = [(f"{'circuit' if len(keys) == 2 else 'link'} {name(keys[0])}", keys) for keys in circuits]
+        failing = [[part] for part in named] if fail == "circuits" else list(itertools.combinations(named, 2))
+    base = answers(())
+    before, without = overbooked(base), [(request, word) for request, (word, walk) in zip(requests, base) if walk is None]
+    yield f"network version={version} routers={len(network.routers())} links={len(links)} circuits={len(circuits)} requests={len(requests)}"
+    yield from (f"before without request {request['id']} {word}" for request, word in without)
+    yield from (f"before {fact}" for _, fact in before.values())
+    yield f"before routes={len(requests) - len(without)} without={len(without)} overbooked={len(before)}"
+    totals, done = [0, 0, 0], []
+    for place, scenario in enumerate(failing, 1):
+        found = answers({key for _, keys in scenario for key in keys})
+        both = [(request["id"], old, word, new) for request, (_, old), (word, new) in zip(requests, base, found) if old is not None]
+        lost = [f"lost request {at} {word} was={cost(old)}" for at, old, word, new in both if new is None]
+        longer = [(at, cost(new), cost(old)) for at, old, _, new in both if new is not None and cost(new) > cost(old)]
+        full = [fact for at, (taken, fact) in overbooked(found).items() if at not in before or taken > before[at][0]]
+        most = max([new - old for _, new, old in longer], default=0)
+        done.append((place, [request for request, (_, old), (_, new) in zip(requests, base, found) if old is not None and new is None],
+                     [request for at, _, _ in longer for request in requests if request["id"] == at], " and ".join(part for part, _ in scenario)))
+        for fact in (*(f"out {part}" for part, _ in scenario), *lost,
+                     *(f"longer request {at} cost={new} was={old} more={new - old}" for at, new, old in longer), *full,
+                     f"lost={len(lost)} longer={len(longer)} most={most} overbooked={len(full)}"):
+            yield f"scenario {place} {fact}"
+        totals = [total + bool(counted) for total, counted in zip(totals, (lost, longer, full))]
+    yield from plain_ranking(done)
+    yield f"scenarios={len(failing)} lost={totals[0]} longer={totals[1]} overbooked={totals[2]}"
+
+
+def plain_ranking(done):
+    """The ranked lines, from all scenarios: each its place, the requests that are lost, those that get longer, and what is out."""
+    def bandwidth(lost):
+        return sum(request["bandwidth"] for request in lost)
+
+    def lines(kind, order):
+        for rank, (place, lost, longer, out) in enumerate(order[:10], 1):
+            yield f"most {kind} {rank} scenario {place} lost={len(lost)} longer={len(longer)} bandwidth={bandwidth(lost)} out {out}"
+
+    yield from lines("requests", sorted((each for each in done if each[1] or each[2]), key=lambda each: (-len(each[1]), -len(each[2]))))
+    yield from lines("bandwidth", sorted((each for each in done if each[1]), key=lambda each: (-bandwidth(each[1]), -len(each[1]), -len(each[2]))))
+    counts = [(request["id"], sum(request in each[1] for each in done), sum(request in each[2] for each in done))
+              for request in {request["id"]: request for each in done for request in each[1] + each[2]}.values()]
+    for rank, (at, lost, longer) in enumerate(sorted(counts, key=lambda each: (-each[1] - each[2], -each[1], each[0]))[:10], 1):
+        yield f"most failures {rank} request {at} lost={lost} longer={longer}"
+
+
+def compared(program, checks):
+    """The NSFNET backbone and drawn networks, whole outputs, by one job and by three."""
+    rows, asks = (open(os.path.join(TOP, f"examples/nsfnet.{kind}"), encoding="ascii").read() for kind in ("journal", "requests"))
+    one, three = ("--jobs", "1"), ("--jobs", "3", "--workers", "2")
+    for fail, words in (("circuits", one), ("circuits", three), ("routers", one), ("pairs", three)):
+        wanted = (0, "".join(f"{line}\n" for line in plain(rows, asks, fail)), "")
+        checks.same(f"NSFNET, {fail} {words}", sweep(program.path, rows, asks, "--fail", fail, *words), wanted)
+    for seed in range(4):
+        compare_drawn(program, checks, seed, ("circuits", "routers")[seed % 2])
+
+
+def compare_drawn(program, checks, seed, fail):
+    """A whole output. Where the tool's is another one, rows are left out of the journal and of the requests."""
+    def streams(some):
+        """The journal and the requests of rows."""
+        return tuple(counts_mended("".join(row for row in some if row.startswith("ask,") == is_ask)) for is_ask in (False, True))
+
+    def is_taken(some):
+        """Whether the rows that are left are a journal of batches that fit."""
+        try:
+            return publish(whole_batches(streams(some)[0]))[1] is None
+        except Refused:
+            return False
+
+    def found(some):
+        return sweep(program.path, *streams(some), "--fail", fail) if is_taken(some) else None
+
+    def wanted(some):
+        return (0, "".join(f"{line}\n" for line in plain(*streams(some), fail)), "") if is_taken(some) else None
+
+    rows, asks = drawn(random.Random(seed))
+    checks.true(f"drawn network {seed} is a journal", is_taken([rows, asks]))
+    checks.stream(f"drawn network {seed}, {fail}", (rows + asks).splitlines(keepends=True), found, wanted)
+
+
+def drawn(draw):
+    """A network of two components, with parallel circuits, links of one way and a router without transit, and requests, some with hops
+    of each kind."""
+    puts, locals_ = [], []
+    for at in range(draw.randrange(8, 14)):
+        (one, other), free = draw.sample(range(1, 7), 2) if at else (7, 8), draw.choice([10, 20, 30])  # two by themselves
+        ends = [(f"10.0.0.{number}", f"10.1.{at}.{number}") for number in (one, other)]
+        two_ways = (link(*ends[0], *ends[1], draw.randrange(1, 4), free=free), link(*ends[1], *ends[0], draw.randrange(1, 4), free=free))
+        puts += two_ways[:1 if draw.random() < 0.1 else 2]
+        locals_.append(ends[0][1])
+
+    def hop():
+        """An interface, all interfaces of one circuit or of several, a router, or all of it."""
+        return draw.choice([f"{draw.choice(locals_)}/32", f"{draw.choice(locals_)}/32", f"{draw.choice(locals_)}/24", "10.1.0.7/22", "10.1.0.0/16",
+                            f"10.0.0.{draw.randrange(1, 7)}/32", "10.0.0.0/30", "0.0.0.0/0"])
+
+    def hops():
+        texts = [f"{hop()}{draw.choice('sl')}" for _ in range(draw.choice([0, 0, 1, 1, 2]))]
+        return object_of(texts) if texts and draw.random() < 0.3 else " ".join(texts)
+
+    asks = []
+    for at in range(14):
+        head, tail = draw.sample(range(1, 7) if at else range(1, 9), 2)
+        asks.append(ask(at, f"10.0.0.{head}", f"10.0.0.{tail}", draw.randrange(8), draw.choice([5, 10, 15]), hops=hops()))
+    return journal(*puts, f"node,10.0.0.{draw.randrange(1, 7)},0\n"), "".join(asks)
+
+
+def object_of(hops):
+    """These hops as the route object that says the same."""
+    parts = [(address_number(at).to_bytes(4, "big"), int(bits[:-1]), bits[-1] == "l") for at, bits in (hop.split("/") for hop in hops)]
+    data = b"".join(bytes([1 | is_loose << 7, 8, *at, bits, 0]) for at, bits, is_loose in parts)
+    return f"ero:{((4 + len(data)).to_bytes(2, 'big') + bytes([20, 1]) + data).hex()}"
+
+
+WRAPPED = """#!{python}
+import os, signal, subprocess, sys, time
+room, words = {room!r}, sys.argv[1:]
+sys.stdout.reconfigure(write_through=False)  # a line is one write, also under PYTHONUNBUFFERED
+if words[0] != "solve":
+{first}
+    os.execv({program!r}, ["routed", *words])
+def touch(name):
+    open(f"{{room}}/{{name}}", "w").close()
+def wait(until):
+    end = time.monotonic() + 60
+    while not until():
+        if time.monotonic() > end:
+            os._exit(9)
+        time.sleep(0.01)
+def stop(status, text=""):
+    running.stdin.close()
+    running.wait()  # so that none of its lines comes behind the text
+    sys.stderr.write(text)
+    sys.stderr.flush()
+    os._exit(status)
+running = subprocess.Popen([{program!r}, "solve"], stdin=subprocess.PIPE)
+touch(f"solve.{{os.getpid()}}")
+for count, row in enumerate(iter(sys.stdin.readline, ""), 1):
+    row = row.rstrip("\\n")
+{script}
+    running.stdin.write(f"{{row}}\\n".encode())
+    running.stdin.flush()
+running.stdin.close()
+sys.exit(running.wait())
+"""
+
+
+def wrapped(program, room, script="", first=""):
+    """A program that is `routed`, and does in `solve` what the script says of each `row`, and in other commands first what `first` says."""
+    path = os.path.join(room, "wrapped")
+    with open(path, "w") as file:
+        file.write(WRAPPED.format(python=sys.executable, room=room, program=program.path,
+                                  script=textwrap.indent(script, "    "), first=textwrap.indent(first, "    ")))
+    os.chmod(path, 0o755)
+    return path
+
+
+DROPS = 'if row.startswith("drop,"):\n    '  # in a scenario
+HANGS = DROPS + ('print(os.getpid(), os.getppid(), file=open(room + "/new", "w"), flush=True); '
+                 'os.rename(room + "/new", room + "/hangs"); time.sleep(600)')
+FIRST = 'if row == "drop,1.1.1.1,10.0.12.1":\n    '  # in the first one of the ring
+THIRD = 'if row == "drop,2.2.2.2,10.0.23.2":\n    '
+
+
+def jobs(program, checks):
+    """Several scenarios are worked on at once, and their lines come in the scenarios' order."""
+    with tempfile.TemporaryDirectory() as room:
+        late = (f'{DROPS}touch(f"at.{{os.getpid()}}"); wait(lambda: sum(name.startswith("at.") for name in os.listdir(room)) > 2)\n'
+                f'{FIRST}wait(lambda: os.path.exists(room + "/third"))\n{THIRD}touch("third")')
+        found = sweep(wrapped(program, room, late), RING, ASKS, "--jobs", "3")
+        checks.same("three that wait for each other, and the first for the third", found, (0, BEFORE + OF_CIRCUITS, ""))
+        stop = wrapped(program, room, f'{THIRD}stop(3, "routed: stopped\\n")')
+        wanted = BEFORE + OF_CIRCUITS[:OF_CIRCUITS.index("scenario 3")]
+        for count in ("1", "3"):
+            checks.same(f"a program that stops in scenario 3, {count} jobs", sweep(stop, RING, ASKS, "--jobs", count),
+                        (3, wanted, f"sweep: scenario 3: {stop} ended with status 3: routed: stopped\n"))
+        gone = wrapped(program, room, f"{DROPS}os.kill(os.getppid(), signal.SIGKILL); stop(0)")
+        checks.same("a job that is ended", sweep(gone, RING, ASKS), (3, BEFORE, "sweep: scenario 1: its job was ended\n"))
+        hangs = wrapped(program, room, HANGS)
+        for name, text in (("journal", RING), ("requests", ASKS)):
+            with open(os.path.join(room, name), "w") as file:
+                file.write(text)
+        running = subprocess.Popen([*SWEEP, f"{room}/journal", f"{room}/requests", "--program", hangs], stdout=subprocess.PIPE)
+        while not os.path.exists(f"{room}/hangs") and running.poll() is None:
+            time.sleep(0.01)
+        running.terminate()
+        out, _ = running.communicate(timeout=120)  # ends where nobody has its standard output any more
+        hung = f"/proc/{open(f'{room}/hangs').read().split()[0]}"
+        end = time.monotonic() + 60
+        while os.path.exists(hung) and time.monotonic() < end:  # it is there until it is reaped
+            time.sleep(0.01)
+        alive = os.path.exists(hung)
+        checks.same("a sweep that is ended, and its program with it", (running.returncode, out, alive), (143, BEFORE.encode(), False))
+
+
+def asked(program, checks):
+    """A scenario asks the requests that it can change, of one program."""
+    hopped = RING.replace("end,1,8", circuit(1, 2, 90).replace("10.0.12.", "10.0.21.") + "end,1,10")
+    asks = (ASKS + ask(5, B, C, hops="10.0.34.3/32l") + ask(6, A, B, hops="10.0.21.0/24l 2.2.2.2/32l") + ask(7, C, D, hops=f"{C}/32s 10.0.34.0/24s")
+            + ask(8, A, B, hops=object_of(["10.0.14.0/30l"])))
+    wanted = {AB: "1268", AB.replace("10.0.12.", "10.0.21."): "6", AD: "38", BC: "15", CD: "57"}
+    with tempfile.TemporaryDirectory() as room:
+        status, out, err = sweep(wrapped(program, room, 'print(row, file=open(room + "/rows", "a"))'), hopped, asks)
+        rows = open(f"{room}/rows", encoding="ascii").read()
+        found = {}
+        for dropped, some in re.findall(r"(?m)^((?:drop,\S+\n)+)end,\d+,\d+\n((?:ask,.*\n)+)(?:put,.*\n)+end,", rows):
+            one, other = (f"{row.split(',')[1]} {row.split(',')[2]}" for row in dropped.splitlines())
+            found[f"circuit {one} {other}"] = "".join(re.findall(r"(?m)^ask,(\d+)", some))
+        checks.same("which requests are asked", found, wanted)
+        checks.same("in one program", (status, err, [name.split(".")[0] for name in os.listdir(room)].count("solve")), (0, "", 1))
+    given = Network(program.path, 1, RING.encode(), ASKS.encode())
+    text, *_ = given.outcome(1, [(AB, ((B, "10.0.12.2"),))])
+    checks.same("one direction of a circuit out, which no route takes", f"{text}\n", OF_CIRCUITS[:OF_CIRCUITS.index("scenario 2")])
+
+
+def streams(program, checks):
+    """Another program is begun before a stream has too many rows, and no program is written to that waits to be read."""
+    stream = object.__new__(Solve)
+    stream.rows, stream.process = MOST_ROWS - 5, None
+    checks.same("the last rows of a stream", (stream.has_room(5), stream.has_room(6), MOST_ROWS), (True, False, 1_000_000))
+    rows, asks = drawn(random.Random(1))
+    wanted = sweep(program.path, rows, asks, "--fail", "pairs")
+    checks.true("pairs of a drawn network", wanted[0] == 0 and wanted[1].count(" lost request ") > 50, wanted)
+    for most, least in ((60, 10), (300, 3)):
+        with tempfile.TemporaryDirectory() as room:
+            path = wrapped(program, room, f"if count > {most}:\n    stop(9)")
+            checks.same(f"streams of {most} rows", small(room, rows, asks, most, path), wanted)
+            starts = [name.split(".")[0] for name in os.listdir(room)].count("solve")
+            checks.true(f"streams of {most} rows, programs", starts >= least, starts)
+    with tempfile.TemporaryDirectory() as room:
+        many = "".join(ask(at, A, C, bandwidth=1) for at in range(5000))
+        status, out, err = sweep(wrapped(program, room), RING, many)
+        counts = re.findall(r"(?m)^scenario \d+ (lost=\d+ longer=.*)$", out)
+        checks.same("more requests and replies than pipes hold", (status, counts, err),
+                    (0, [f"lost=0 longer={longer} most={most} overbooked={full}" for longer, most, full in ((5000, 5, 2), (0, 0, 0), (5000, 5, 2), (0, 0, 0))], ""))
+
+
+def small(room, rows, asks, most, program):
+    """A sweep of pairs by this Python, with programs that take so many rows."""
+    for name, text in (("journal", rows), ("asks", asks)):
+        with open(f"{room}/{name}", "w", encoding="ascii") as file:
+            file.write(text)
+    code = ("import sys\nfrom routed import failures, solving, sweep\n"
+            f"solving.MOST_ROWS, failures.MOST_ASKS = {most}, 4\nsys.exit(sweep.main(sys.argv[1:]))")
+    ran = subprocess.run([sys.executable, "-c", code, f"{room}/journal", f"{room}/asks", "--fail", "pairs", "--program", program],
+                         capture_output=True, text=True, env={**os.environ, "PYTHONPATH": os.path.join(TOP, "python")})
+    return ran.returncode, ran.stdout, ran.stderr
+
+
+def progress(program, checks):
+    """How far it is and how long it takes is said where standard error is a terminal, and leaves no trace there."""
+    with tempfile.TemporaryDirectory() as room:
+        slow = wrapped(program, room, DROPS + "time.sleep(0.3)")
+        for name, text in (("journal", RING), ("requests", ASKS)):
+            with open(f"{room}/{name}", "w", encoding="ascii") as file:
+                file.write(text)
+        for name, is_all in (("standard error", False), ("both", True)):
+            terminal, far = pty.openpty()
+            ran = subprocess.Popen([*SWEEP, f"{room}/journal", f"{room}/requests", "--program", slow], stdout=far if is_all else subprocess.PIPE, stderr=far)
+            os.close(far)
+            out = "" if is_all else ran.stdout.read().decode()
+            said = b""
+            with contextlib.suppress(OSError):  # a terminal that nobody has any more
+                while data := os.read(terminal, 4096):
+                    said += data
+            os.close(terminal)
+            said = said.decode().replace("\r\n", "\n")
+            steps = re.findall(r"\r\033\[Ksweep: (\d) of 4 scenarios(?:, \d+ s left)?(?=\r\033\[K)", said)
+            checks.true(f"{name} on a terminal: steps", steps[:1] == ["0"] and len(steps) > 2 and steps == sorted(set(steps)), said)
+            left = re.sub(r"\r\033\[K(sweep: [^\r]*)?", "", said)
+            checks.same(f"{name} on a terminal: lines", (ran.wait(), out + left), (0, BEFORE + OF_CIRCUITS))
+
+
+def joined(program, checks):
+    """The parts of a sweep, one after the other, are the sweep; and what lacks one or is changed is refused."""
+    def parted(count, *words, asks=ASKS):
+        return [sweep(program.path, RING, asks, "--part", f"{at}/{count}", *words)[1] for at in range(1, count + 1)]
+
+    def join(text, *files):
+        ran = subprocess.run([TOOLS, "join", *files], input=text, capture_output=True, text=True)
+        return ran.returncode, ran.stdout, ran.stderr
+
+    digest = hashlib.sha256(f"{RING}\0{ASKS}\0circuits".encode()).hexdigest()[:16]
+    scenarios = re.split(r"(?<=\n)(?=scenario \d+ out|most requests 1)", OF_CIRCUITS)
+    three = parted(3)
+    ranked = [f"most requests 1 scenario 1 lost=0 longer=2 bandwidth=0 out {AB}\nmost failures 1 request 1 lost=0 longer=1\n"
+              "most failures 2 request 2 lost=0 longer=1\n",
+              f"most requests 1 scenario 2 lost=1 longer=0 bandwidth=30 out {AD}\nmost bandwidth 1 scenario 2 lost=1 longer=0 bandwidth=30 out {AD}\n"
+              "most failures 1 request 3 lost=1 longer=0\n",
+              f"most requests 1 scenario 3 lost=0 longer=1 bandwidth=0 out {BC}\nmost failures 1 request 1 lost=0 longer=1\n"]
+    checks.same("parts of a ring", three, [
+        BEFORE + scenarios[0] + ranked[0] + f"part 1/3 input={digest} scenarios=1 lost=0 longer=1 overbooked=1\n",
+        BEFORE + scenarios[1] + ranked[1] + f"part 2/3 input={digest} scenarios=1 lost=1 longer=0 overbooked=0\n",
+        BEFORE + scenarios[2] + scenarios[3] + ranked[2] + f"part 3/3 input={digest} scenarios=2 lost=0 longer=1 overbooked=0\n"])
+    for name, found, wanted in [("three parts", three, OF_CIRCUITS), ("one part", parted(1), OF_CIRCUITS), ("seven parts of four scenarios, two jobs", parted(7, "--jobs", "2"), OF_CIRCUITS),
+                                ("two parts of routers", parted(2, "--fail", "routers"), OF_ROUTERS)]:
+        checks.same(f"joined: {name}", join("".join(found)), (0, BEFORE + wanted, ""))
+    pairs = sweep(program.path, RING, ASKS, "--fail", "pairs")
+    checks.same("joined: four parts of pairs", join("".join(parted(4, "--fail", "pairs"))), pairs)
+    with tempfile.TemporaryDirectory() as room:
+        for at, text in enumerate(three):
+            with open(os.path.join(room, str(at)), "w", encoding="ascii") as file:
+                file.write(text)
+        checks.same("joined: files", join("", *(os.path.join(room, str(at)) for at in range(3))), (0, BEFORE + OF_CIRCUITS, ""))
+        status, out, err = join("", os.path.join(room, "none"))
+        checks.true("not joined: a file that isn't there", (status, out) == (1, "") and err.startswith("join: [Errno 2] "), err)
+    other, others = parted(3, asks=ASKS.replace(",30,", ",29,")), "another journal, other requests, other failures or another program"
+    one, two, last = three
+    for name, text, why in [
+            ("nothing", "", "part 1/1 isn't there"), ("without the last", one + two, "part 3/3 isn't there"),
+            ("without the first", two + last, "part 2/3 stands where part 1/3 has to be"), ("in another order", one + last + two, "part 3/3 stands where part 2/3 has to be"),
+            ("one twice", one + two + two + last, "part 2/3 stands where part 3/3 has to be"), ("one of another count", one + parted(2)[1], "part 2/2 stands where part 2/3 has to be"),
+            ("cut", one + two + BEFORE, f"a part ends by {BEFORE.splitlines()[-1]!r}, and not by a line that says which part it is"),
+            ("cut before another", one + two[:two.index("part ")] + last, "a part ends by 'most failures 1 request 3 lost=1 longer=0', and not by a line that says which part it is"),
+            ("without a scenario", one + two.replace(scenarios[1], "") + last, "part 2/3 hasn't the scenarios from 2 to 2"),
+            ("with one twice", one + two.replace(scenarios[1], 2 * scenarios[1]) + last, "part 2/3 hasn't the scenarios from 2 to 2"),
+            ("cut in the scenarios", one + two[:two.index("most ")] + last, "a part ends by 'scenario 2 lost=1 longer=0 most=0 overbooked=0', and not by a line that says which part it is"),
+            ("with scenarios behind the ranking", one + two.replace("part 2", scenarios[1] + "part 2"), "a part ends by 'most failures 1 request 3 lost=1 longer=0', and not by a line that says which part it is"),
+            *((f"without {text.split(' scenario')[0].split(' request ')[0]}", one + two.replace(text, "") + last, "part 2/3 hasn't the ranking of its scenarios")
+              for text in ranked[1].splitlines(keepends=True)),
+            ("with another count", one + two.replace("failures 1 request 3 lost=1", "failures 1 request 3 lost=2") + last, "part 2/3 hasn't the ranking of its scenarios"),
+            ("a whole sweep", BEFORE + OF_CIRCUITS, "a part ends by 'most failures 3 request 2 lost=0 longer=1', and not by a line that says which part it is")]:
+        status, _, err = join(text)
+        checks.same(f"not joined: {name}", (status, err), (1, f"join: {why}\n"))
+    status, _, err = join(one + other[1] + last)
+    checks.true("not joined: a part of other requests", status == 1 and err == f"join: part 2/3 is of {others}\n", err)
+    status, _, err = join(one + two.replace("unreserved=100", "unreserved=101", 1) + last)
+    checks.true("not joined: a part whose program says otherwise", status == 1 and err == f"join: part 2/3 is of {others}\n", err)
+    for word in ("0/1", "2/1", "1", "1/0", "1/2/3", "-1/2", "x"):
+        ran = subprocess.run([*SWEEP, "/dev/null", "/dev/null", "--part", word], capture_output=True, text=True)
+        checks.true(f"no part: {word}", (ran.returncode, ran.stdout) == (2, "") and "sweep: error: " in ran.stderr, ran)
+
+
+def refused(program, checks):
+    """Journals and requests that aren't good, and programs that don't answer."""
+    for name, rows, asks, words in (
+            ("a torn journal", RING + circuit(2, 4), ASKS, "journal torn after 1"),
+            ("a row that is none", "foo\n", ASKS, "journal torn after 0"),
+            ("a batch that doesn't fit", RING + "drop,1.1.1.1,10.0.0.9\nend,2,1\n", ASKS, "batch 2 refused: absent 1"),
+            ("a request that is none", RING, ASKS + "ask,5\n", "request row 5 refused: fields"),
+            ("a bad mask", RING, ASKS.replace("0x2", "2"), "request row 3 refused: mask 8"),
+            ("two requests of one id", RING, ASKS + ask(2, A, D), "request row 5 refused: same-id"),
+            ("neighbors of one address", journal(circuit(1, 2), link(A, "10.0.13.1", C, "10.0.12.2"), link(C, "10.0.12.2", A, "10.0.13.1")), ASKS,
+             f"{B} and {C} have the same address 10.0.12.2, seen from {A}")):
+        checks.same(name, sweep(program.path, rows, asks), (1, "", f"sweep: {words}\n"))
+    for words in (["/nowhere/journal", "/dev/null"], ["/dev/null", TOP]):
+        ran = subprocess.run([*SWEEP, *words, "--program", program.path], capture_output=True, text=True)
+        checks.true(f"no file {words}", (ran.returncode, ran.stdout) == (1, "") and re.fullmatch(r"sweep: \[Errno \d+\] .*\n", ran.stderr), ran)
+    for words in (["/dev/null"], *(["/dev/null", "/dev/null", *more] for more in (["--fail", "links"], ["--jobs", "0"], ["--workers", "65"]))):
+        ran = subprocess.run([*SWEEP, *words], capture_output=True, text=True)
+        checks.true(f"a command line {words}", (ran.returncode, ran.stdout) == (2, "") and "sweep: error: " in ran.stderr, ran)
+    with open("/dev/full", "w") as full:
+        ran = subprocess.run([*SWEEP, "/dev/null", "/dev/null", "--program", program.path], stdout=full, stderr=subprocess.PIPE, text=True)
+        checks.same("standard output is full", (ran.returncode, ran.stderr), (1, "sweep: [Errno 28] No space left on device\n"))
+    checks.same("a program that isn't there", sweep("/nowhere/routed", RING, ASKS), (3, "", "sweep: /nowhere/routed: No such file or directory\n"))
+    def says(line):
+        return f"print('version 1\\n{line}\\n\\n\\n'); sys.exit(0)"
+
+    first = "route cost=20 hops=2 again=no ero=0014140101080a000c02200001080a0017032000"
+    marked = RING.replace("end,1,8", f"node,{B},0\nend,1,9")
+    with tempfile.TemporaryDirectory() as room:
+        path = wrapped(program, room, first=f"if words[0] == 'batch':\n    {says(f'ask 1 v1 {first}')}")
+        checks.same("a program with a route through a router without transit", sweep(path, marked, ASKS),
+                    (3, "", f"sweep: {path} wrote a route that the network doesn't have, to request 1: {first}\n"))
+        for name, script, said in (
+                ("that stops", "sys.exit(print('routed: stopped', file=sys.stderr) or 3)", "{} ended with status 3: routed: stopped"),
+                ("that is ended", "os.kill(os.getpid(), signal.SIGKILL)", "{} was ended by signal 9"),
+                ("that takes no such words", "sys.exit(print(*words[5:], file=sys.stderr) or 1)", "{} ended with status 1: --workers 5"),
+                ("without a line", "sys.exit(0)", "{} wrote 0 lines, which aren't versions and 4 replies"),
+                ("with replies of another order", says("ask 2 v1 none"), "{} wrote no reply to request 1: ask 2 v1 none"),
+                ("with other words", says("ask 1 v1 nothing"), "{} wrote no reply to request 1: nothing"),
+                *((f"with a route that has {name}", says(f"ask 1 v1 {other}"),
+                   "{} wrote a route that the network doesn't have, to request 1: " + other)
+                  for name, other in (("another cost", first.replace("20", "21", 1)), ("no link", first.replace("0c02", "0c03")),
+                                      ("another end", "route cost=10 hops=1 again=no ero=000c140101080a000c022000")))):
+            path = wrapped(program, room, first=f"if words[0] == 'batch':\n    {script}")
+            checks.same(f"a program {name}", sweep(path, RING, ASKS, "--workers", "5"), (3, "", f"sweep: {said.format(path)}\n"))
+        path = wrapped(program, room, first="if words[0] == 'snapshot':\n    sys.exit(print('too many rows') or 2)")
+        checks.same("a program that makes no snapshot", sweep(path, RING, ASKS), (1, "", "sweep: too many rows\n"))
+        for name, script, said in (
+                ("that refuses a scenario", f"{DROPS}print('batch 2 refused: exhausted', flush=True); continue",
+                 "wrote 'batch 2 refused: exhausted' where 'version 2' has to be"),
+                ("that answers another version", 'if row.startswith("ask,1,"):\n    print("ask 1 v3 none", flush=True); continue',
+                 "wrote 'ask 1 v3 none' where '(version |ask 1 v)2' has to be"),
+                ("that writes a line more", 'if row == "end,3,2":\n    print("unended 1", flush=True)',
+                 "wrote (a line that nobody asked for: version 3|'unended 1' where .* has to be)"),
+                ("that stops before the network is there", 'stop(3, "routed: stopped\\n")', "ended with status 3: routed: stopped")):
+            path = wrapped(program, room, script)
+            status, out, err = sweep(path, RING, ASKS)
+            checks.true(f"a program {name}", (status, out) == (3, BEFORE) and re.fullmatch(f"sweep: scenario 1: {path} {said}\n", err), (status, out, err))
+
+
+def page(program, checks):
+    """docs/run/SWEEP.md quotes what is printed."""
+    text = open(os.path.join(TOP, "docs/run/SWEEP.md"), encoding="utf-8").read()
+    found = re.findall(r"<!-- printed by (.*?) -->\n\n((?:    .*\n)+)", text)
+    checks.true("docs/run/SWEEP.md quotes the tool", len(found) > 1, found)
+    for command, quoted in found:
+        words = command.replace("routed-tools sweep", f'routed-tools sweep --program "{program.path}"')
+        ran = subprocess.run(words, shell=True, cwd=TOP, capture_output=True, text=True)
+        checks.same(f"docs/run/SWEEP.md: {command}", (ran.stdout, ran.stderr), (re.sub("(?m)^    ", "", quoted), ""))
+
+
+def sweeps(program, checks):
+    checks.parts((ring, parts, loads, compared, asked, streams, jobs, progress, joined, refused, page), program, checks)
