@@ -10,6 +10,9 @@
 //! one for each batch that it shows. A `Known` that reads it knows as many batches from then on. Each
 //! count and each reading is a step of the journal, so a later reading finds no less.
 //!
+//! A journal gives two `CopyRight`s. Each copy of the table that its publisher keeps holds one, so there
+//! are two copies.
+//!
 //! `specs/Histories.antt` says which lists may be published, `specs/KnownBatches.antt` what is known
 //! of one, and `specs/JournalStates.antt` what a journal is in clauses. `specs/JournalSteps.antt` has
 //! the steps, and `specs/Readings.antt` what a reading finds.
@@ -34,5 +37,5 @@ pub use log_step::LogStep;
 pub use new_journal::NewJournal;
 pub use not_recorded::NotRecorded;
 pub use published_count::PublishedCount;
-pub use rights::{RightToCount, RightToShow};
+pub use rights::{CopyRight, RightToCount, RightToShow};
 pub use seen_steps::SeenSteps;

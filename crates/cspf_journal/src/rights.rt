@@ -1,4 +1,5 @@
-//! The rights to show the batches of a journal, and to count them as published.
+//! The rights to show the batches of a journal, to keep the two copies of their table, and to count them
+//! as published.
 ghost use Rattle.std.specs.Prelude.{◌≡◌, length, MatchBool};
 ghost use Rattle.cspf_model.specs.Numbered.{NumberedChanges};
 ghost use Rattle.cspf_journal.specs.Histories.{BeginsWith};
@@ -80,11 +81,39 @@ impl RightToCount {
     }
 }
 
+/// The right to keep one copy of the table of a journal's batches. Each journal gives two, and they
+/// can't be copied. Contracts see it as its journal's source. It takes no room.
+#[derive(Drop)]
+pub struct CopyRight {
+    steps: SeenSteps,
+}
+
+impl Model for CopyRight {
+    ghost use Rattle.logbook.specs.Pages.{Book, book_coded};
+
+    ghost Value = { Book };
+
+    ghost coded = { book_coded };
+
+    ghost view = { λ r. r.steps.source };
+}
+
+impl CopyRight {
+    /// A right of the source of these steps.
+    pub(crate) fn new(steps: SeenSteps) -> CopyRight
+        ensures { result ≡ steps.source }
+    {
+        CopyRight { steps }
+    }
+}
+
 /// The right to show the batches of a journal. Each journal gives one, and it can't be copied.
 #[derive(Drop)]
 pub struct RightToShow {
     right: RightToCount,
     count: PublishedCount,
+    first: CopyRight,
+    second: CopyRight,
 }
 
 impl Model for RightToShow {
@@ -95,16 +124,25 @@ impl Model for RightToShow {
 
     ghost view = { λ r. r.right };
 
-    ghost invariant = { λ r. r.count ≡ r.right.source };
+    ghost invariant = { λ r. (r.count ≡ r.right.source)
+        × (r.first ≡ r.right.source)
+        × (r.second ≡ r.right.source) };
 }
 
 impl RightToShow {
-    /// The right, and the count that it moves.
+    /// The right, the count that it moves, and the rights of two copies.
     pub(crate) fn new(right: RightToCount, count: PublishedCount) -> RightToShow
         requires { count ≡ right.source }
         ensures { result ≡ right }
     {
-        RightToShow { right, count }
+        let first = CopyRight::new(right.steps());
+        let second = CopyRight::new(right.steps());
+        RightToShow {
+            right,
+            count,
+            first,
+            second,
+        }
     }
 
     /// What is known of the journal's list when it is new: no batch.
@@ -114,12 +152,18 @@ impl RightToShow {
         self.right.known()
     }
 
-    /// The right to count what is shown, and the count that it moves.
-    pub fn split(self) -> (RightToCount, PublishedCount)
+    /// The right to count what is shown, the count that it moves, and the rights of the two copies.
+    pub fn split(self) -> (RightToCount, PublishedCount, CopyRight, CopyRight)
         ensures right { result.0 ≡ self }
         ensures count { result.1 ≡ self.source }
+        ensures copies { (result.2 ≡ self.source) × (result.3 ≡ self.source) }
     {
-        let RightToShow { right, count } = self;
-        (right, count)
+        let RightToShow {
+            right,
+            count,
+            first,
+            second,
+        } = self;
+        (right, count, first, second)
     }
 }

@@ -4,6 +4,7 @@ use mathlib.Core.Option.{some, some-ne-none}
 use lib.ListN.{get_elem?}
 use Rattle.crossbeam_utils.specs.Register.{Admits, Turns, TurnsAt, Forks, Merges}
 use Rattle.atomic_table.proofs.Lists.{at_set, at_snoc}
+use Rattle.logbook.specs.Pages.{Book}
 use Rattle.cspf_model.specs.Numbered.{NumberedChanges}
 use Rattle.cspf_model.specs.Database.{Database}
 use Rattle.cspf_model.specs.Changes.{after_changes, database_after, Fits}
@@ -14,7 +15,7 @@ use Rattle.cspf_journal.specs.KnownBatches.{KnownBatches, AreFirstOf, known_with
 use Rattle.cspf_publish.specs.Operations.{idle_batch}
 use Rattle.cspf_publish.specs.ShapeChanges.{HasShapeChanges}
 use Rattle.cspf_publish.specs.ReplicaStates.{ReplicaState, published_state, state_with}
-use Rattle.cspf_publish.specs.ReplicaRule.{HoldsBetweenSteps, HasItsDatabase, CountsShapeChanges, Knows, IsPublisher, HasOnePublisher, Opens, Publishes, Enters, note_of, view_with_note}
+use Rattle.cspf_publish.specs.ReplicaRule.{HoldsBetweenSteps, HasItsDatabase, CountsShapeChanges, IsCopyByRight, Knows, IsPublisher, HasOnePublisher, Opens, Publishes, Enters, note_of, view_with_note}
 use Rattle.cspf_publish.specs.declared.seat_view.SeatView.{SeatView}
 use Rattle.cspf_publish.specs.declared.seat_view.SeatView.TheVariants.{New, Asker, Publisher}
 use Rattle.cspf_journal.proofs.Prefixes.{BeginsWith-self, BeginsWith-snoc, IsHistory-snoc}
@@ -89,11 +90,12 @@ is_open_by s (Asker known) knows is = absurd is
 is_open_by s (Publisher known) knows is = knows.1
 
 -- the writer's seat alone
-pub begins : (s : ReplicaState) → IsHistory s.known.batches → HasItsDatabase s → CountsShapeChanges s → HoldsBetweenSteps s (New ∷ [])
-begins s history has counts = record {
+pub begins : (s : ReplicaState) → IsHistory s.known.batches → HasItsDatabase s → CountsShapeChanges s → IsCopyByRight s → HoldsBetweenSteps s (New ∷ [])
+begins s history has counts right = record {
   history = history;
   database = has;
   shapes = counts;
+  right = right;
   seats = AllKnow-snoc s [] New (λ j u e. absurd (some-ne-none u (sym e))) tt;
   one_publisher = HasOnePublisher-snoc [] New (λ i j v w e f p q. absurd (some-ne-none v (sym e))) (λ p. p);
 }
@@ -104,6 +106,7 @@ admits s views w = record {
   history = w.history;
   database = w.database;
   shapes = w.shapes;
+  right = w.right;
   seats = AllKnow-snoc s views New w.seats tt;
   one_publisher = HasOnePublisher-snoc views New w.one_publisher (λ p. p);
 }
@@ -119,6 +122,7 @@ enters seat v s views w at = let self = AreFirstOf-self s.known in (
     history = w.history;
     database = w.database;
     shapes = w.shapes;
+    right = w.right;
     seats = AllKnow-set s views seat (Asker s.known) w.seats self;
     one_publisher = HasOnePublisher-set views seat v (Asker s.known) at w.one_publisher (λ p. absurd p);
   },
@@ -127,8 +131,8 @@ enters seat v s views w at = let self = AreFirstOf-self s.known in (
 
 -- the publisher's first step
 pub opens : (seat : ℕ) (v : SeatView) (s next : ReplicaState) → s.is_open ≡ false → next.is_open ≡ true → next.database ≡ s.database → next.known ≡ s.known → next.shape_changes ≡ s.shape_changes
-    → TurnsAt HoldsBetweenSteps seat v s next Opens
-opens seat v s next was now database same as_many views w at =
+    → next.right ≡ s.right → TurnsAt HoldsBetweenSteps seat v s next Opens
+opens seat v s next was now database same as_many right views w at =
     let none : (j : ℕ) (u : SeatView) → get_elem? views j ≡ some u → IsPublisher u → ⊥ = λ j u e p. (let both : false ≡ true = sym was ∙ is_open_by s u (w.seats j u e) p in absurd cc) in
     let all : AllKnow next views = λ j u e. Knows-opens s next same u (w.seats j u e) (none j u e) in (
       Publisher next.known,
@@ -136,6 +140,7 @@ opens seat v s next was now database same as_many views w at =
         history = subst (λ (k : KnownBatches). IsHistory k.batches) (sym same) w.history;
         database = database ∙ (w.database ∙ ap (λ (k : KnownBatches). database_after k.batches) (sym same));
         shapes = subst (λ (k : KnownBatches). HasShapeChanges k.batches next.shape_changes) (sym same) (subst (HasShapeChanges s.known.batches) (sym as_many) w.shapes);
+        right = right ∙ (w.right ∙ ap (λ (k : KnownBatches). k.source) (sym same));
         seats = AllKnow-set next views seat (Publisher next.known) all (refl, now);
         one_publisher = HasOnePublisher-first views seat (Publisher next.known) none;
       },
@@ -144,8 +149,8 @@ opens seat v s next was now database same as_many views w at =
 
 -- a batch that may come next is published
 pub publishes : LawfulByOneMore → (seat : ℕ) (v : SeatView) (s next : ReplicaState) (b : NumberedChanges) → v ≡ Publisher s.known → MayFollow s.known.batches b
-    → next.known ≡ known_with s.known.batches s.known.source b → next.is_open ≡ true → HasItsDatabase next → CountsShapeChanges next → TurnsAt HoldsBetweenSteps seat v s next Publishes
-publishes law seat v s next b mine follows is now has counts views w at =
+    → next.known ≡ known_with s.known.batches s.known.source b → next.is_open ≡ true → HasItsDatabase next → CountsShapeChanges next → next.right ≡ s.right → TurnsAt HoldsBetweenSteps seat v s next Publishes
+publishes law seat v s next b mine follows is now has counts right views w at =
     let own : IsPublisher v = subst IsPublisher (sym mine) tt in
     let history : IsHistory next.known.batches = subst (λ (k : KnownBatches). IsHistory k.batches) (sym is) (IsHistory-snoc law s.known.batches b w.history follows) in
     let all : AllKnow next (set views seat (Publisher next.known)) = λ j u e. ⊎_elim
@@ -157,6 +162,7 @@ publishes law seat v s next b mine follows is now has counts views w at =
         history = history;
         database = has;
         shapes = counts;
+        right = right ∙ (w.right ∙ sym (ap (λ (k : KnownBatches). k.source) is));
         seats = all;
         one_publisher = HasOnePublisher-set views seat v (Publisher next.known) at w.one_publisher (λ p. own);
       },
@@ -196,6 +202,7 @@ forks seat v s views w at = record {
   history = w.history;
   database = w.database;
   shapes = w.shapes;
+  right = w.right;
   seats = AllKnow-snoc s (set views seat v) (note_of v) (AllKnow-set s views seat v w.seats (w.seats seat v at)) (note_of-Knows s v (w.seats seat v at));
   one_publisher = HasOnePublisher-snoc (set views seat v) (note_of v) (HasOnePublisher-set views seat v v at w.one_publisher (λ p. p)) (note_of-IsPublisher v);
 }
@@ -209,6 +216,7 @@ merges seat v other w s views holds at apart there =
       history = holds.history;
       database = holds.database;
       shapes = holds.shapes;
+      right = holds.right;
       seats = AllKnow-set s (set views seat (view_with_note v w)) other New both tt;
       one_publisher = HasOnePublisher-set (set views seat (view_with_note v w)) other w New there one (λ p. absurd p);
     }
@@ -223,14 +231,15 @@ HasItsDatabase-more law s b count has follows =
 -- two operations that only open the replica
 pub idle_twice : (s : ReplicaState)
     → state_with (state_with s (idle_batch s.known).batch s.known 0) (idle_batch s.known).batch s.known 0
-    ≡ record { database = s.database; known = s.known; shape_changes = 0; is_open = true }
+    ≡ record { right = s.right; database = s.database; known = s.known; shape_changes = 0; is_open = true }
 idle_twice s =
     let nothing : (d : Database) → database_with d (idle_batch s.known).batch ≡ d = λ d. database_with-nothing d 0 in
-    ap (λ (d : Database). (let it : ReplicaState = record { database = d; known = s.known; shape_changes = 0; is_open = true } in it))
+    ap (λ (d : Database). (let it : ReplicaState = record { right = s.right; database = d; known = s.known; shape_changes = 0; is_open = true } in it))
     (ap (λ (d : Database). database_with d (idle_batch s.known).batch) (nothing s.database) ∙ nothing s.database)
 
--- an open replica that has the database of its batches
-pub state_from_known : (s : ReplicaState) → HasItsDatabase s → s.is_open ≡ true → s ≡ published_state s.known s.shape_changes
-state_from_known s has now =
-    ap (λ (d : Database). (let it : ReplicaState = record { database = d; known = s.known; shape_changes = s.shape_changes; is_open = s.is_open } in it)) has
-    ∙ ap (λ (x : Bool). (let it : ReplicaState = record { database = database_after s.known.batches; known = s.known; shape_changes = s.shape_changes; is_open = x } in it)) now
+-- an open replica that has the database of its batches, by right of their source
+pub state_from_known : (s : ReplicaState) → HasItsDatabase s → IsCopyByRight s → s.is_open ≡ true → s ≡ published_state s.known s.shape_changes
+state_from_known s has right now =
+    ap (λ (d : Database). (let it : ReplicaState = record { right = s.right; database = d; known = s.known; shape_changes = s.shape_changes; is_open = s.is_open } in it)) has
+    ∙ (ap (λ (b : Book). (let it : ReplicaState = record { right = b; database = database_after s.known.batches; known = s.known; shape_changes = s.shape_changes; is_open = s.is_open } in it)) right
+    ∙ ap (λ (x : Bool). (let it : ReplicaState = record { right = s.known.source; database = database_after s.known.batches; known = s.known; shape_changes = s.shape_changes; is_open = x } in it)) now)

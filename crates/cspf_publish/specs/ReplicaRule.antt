@@ -33,6 +33,10 @@ IsPublisher New = ⊥
 IsPublisher (Asker known) = ⊥
 IsPublisher (Publisher known) = Unit {0}
 
+-- the replica is one of the two copies of its batches' source
+abbrev pub IsCopyByRight : ReplicaState → Type 0
+IsCopyByRight s = s.right ≡ s.known.source
+
 -- at most one seat is a publisher's
 abbrev pub HasOnePublisher : List SeatView → Type 0
 HasOnePublisher views =
@@ -40,12 +44,13 @@ HasOnePublisher views =
     → IsPublisher v → IsPublisher w → i ≡ j
 
 -- The rule: the published batches are a history, and the replica that askers enter has their
--- database and counts their changes of its shape. Each seat knows a prefix of them, the publisher's
--- all, and there is one publisher at most.
+-- database and counts their changes of its shape. It is one of the two copies of their source. Each seat
+-- knows a prefix of them, the publisher's all, and there is one publisher at most.
 pub record HoldsBetweenSteps (s : ReplicaState) (views : List SeatView) : Type 0 where
   pub history : IsHistory s.known.batches
   pub database : HasItsDatabase s
   pub shapes : CountsShapeChanges s
+  pub right : IsCopyByRight s
   pub seats : (seat : ℕ) (v : SeatView) → get_elem? views seat ≡ some v → Knows s v
   pub one_publisher : HasOnePublisher views
 

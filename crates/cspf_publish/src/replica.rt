@@ -6,7 +6,7 @@ ghost use Rattle.cspf_publish.specs.ReplicaRule.{HasItsDatabase, CountsShapeChan
 ghost use Rattle.cspf_publish.specs.ShapeChanges.{HasShapeChanges};
 
 use cspf_db::Table;
-use cspf_journal::Known;
+use cspf_journal::{CopyRight, Known};
 use cspf_model::Batch;
 use left_right::Absorb;
 use std::alloc::AllocError;
@@ -23,9 +23,11 @@ pub struct PendingBatch {
     pub shape_changes: u32,
 }
 
-/// A table, and the batches whose database it has.
+/// A table, and the batches whose database it has. It is one of the two copies of a journal's table.
 #[derive(Drop)]
 pub struct Replica {
+    /// The right to be one of these.
+    pub right: CopyRight,
     /// The table.
     pub table: Table,
     /// The batches that it has absorbed.
@@ -46,6 +48,7 @@ impl Model for Replica {
     ghost coded = { Prim.hlevel (codes, the_row.coded) };
 
     ghost view = { λ r. record {
+      right = r.right;
       database = r.table;
       known = r.known;
       shape_changes = r.shape_changes;

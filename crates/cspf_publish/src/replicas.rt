@@ -25,7 +25,7 @@ use crate::seat_view::SeatView;
 use crate::{Asker, Told};
 use core::mem::replace_with;
 use cspf_db::Table;
-use cspf_journal::{Known, PublishedCount, RightToCount, RightToShow, SeenSteps};
+use cspf_journal::{CopyRight, Known, PublishedCount, RightToCount, RightToShow, SeenSteps};
 use cspf_model::{Batch, Outcome, Refusal, Request, absorbing, lawful_batches};
 use cspf_search::best;
 use left_right::writer::Writer;
@@ -36,7 +36,8 @@ use std::sync::{Arc, Wait};
 type ReplicaWriter = Writer<Replica, PendingBatch, SeatView, ReplicaRule>;
 
 /// A pair of replicas, and the count of the batches that they show. It holds the one right to count
-/// its source's batches, so a source has one pair. It is not `Drop`: end it by `close`.
+/// its source's batches, and its replicas hold the two rights of their source, so a source has one pair.
+/// It is not `Drop`: end it by `close`.
 pub(crate) struct Replicas {
     writer: ReplicaWriter,
     right: RightToCount,
@@ -69,6 +70,7 @@ impl Model for Replicas {
 // batches.
 fn open_writer<R: Wait>(writer: ReplicaWriter, rt: &R) -> ReplicaWriter
     requires empty { writer.desk.shown.value ≡ record {
+      right = writer.desk.shown.value.known.source;
       database = no_links;
       known = record { batches = []; source = writer.desk.shown.value.known.source };
       shape_changes = 0;
@@ -132,9 +134,10 @@ fn idle_operation(alloc: Global, known: &Known) -> PendingBatch
     }
 }
 
-fn empty_replica(alloc: Global, known: &Known) -> Result<Replica, AllocError>
+fn empty_replica(alloc: Global, known: &Known, right: CopyRight) -> Result<Replica, AllocError>
     ensures { IfOk result (λ r.
         r ≡ record {
+          right = right;
           database = no_links;
           known = known.now;
           shape_changes = 0;
@@ -142,6 +145,7 @@ fn empty_replica(alloc: Global, known: &Known) -> Result<Replica, AllocError>
         }) }
 {
     Ok(Replica {
+        right,
         table: Table::new(alloc)?,
         known: known.copy(),
         shape_changes: 0,
@@ -165,21 +169,24 @@ fn append_idle(writer: &mut ReplicaWriter, alloc: Global, known: &Known) -> Resu
     Ok(())
 }
 
-// The writer of two empty replicas, after its first step.
+// The writer of two empty replicas, by the rights of their source, after its first step.
 fn new_writer<R: Wait>(
     rt: &R,
     alloc: Global,
     known: &Known,
+    rights: (CopyRight, CopyRight),
     readers: usize,
 ) -> Result<ReplicaWriter, AllocError>
     requires none { known.now.batches ≡ [] }
+    requires rights { (rights.0 ≡ known.now.source) × (rights.1 ≡ known.now.source) }
     requires readers { (0 < readers) × (readers ≤ MOST_ASKERS) }
     ensures seat { IfOk result (λ w. view w.desk.place ≡ IsPublisher known.now) }
     ensures shown { IfOk result (λ w. w.desk.shown.value ≡ published_state known.now 0) }
     ensures pending { IfOk result (λ w. drop w.behind w.log.items ≡ []) }
 {
-    let first = empty_replica(alloc, known)?;
-    let second = empty_replica(alloc, known)?;
+    let (one, other) = rights;
+    let first = empty_replica(alloc, known, one)?;
+    let second = empty_replica(alloc, known, other)?;
     let mut writer: ReplicaWriter = Writer::new(alloc, first, second, readers)?;
     if let Err(refused) = append_idle(&mut writer, alloc, known) {
         writer.take(rt);
@@ -267,10 +274,10 @@ impl Replicas {
         ensures { IfOk result (λ r. r ≡ right) }
     {
         let known = right.known();
-        let (right, count) = right.split();
+        let (right, count, one, other) = right.split();
         let count = Arc::new(alloc, count)?;
         Ok(Replicas {
-            writer: new_writer(rt, alloc, &known, readers)?,
+            writer: new_writer(rt, alloc, &known, (one, other), readers)?,
             right,
             count,
         })

@@ -13,7 +13,7 @@ overflow_add-result c =
 
 pub returns-then-changes_shape : goal.returns-then-changes_shape
 returns-then-changes_shape c =
-    let own : ReplicaState = record { database = c.self.inside.table; known = c.self.inside.known; shape_changes = c.self.inside.shape_changes; is_open = c.self.inside.is_open } in
+    let own : ReplicaState = record { right = c.self.inside.right; database = c.self.inside.table; known = c.self.inside.known; shape_changes = c.self.inside.shape_changes; is_open = c.self.inside.is_open } in
     let is : own ≡ c.args.self.now = c.self.view_is in
     let b = c.args.batch.now in
     let fits : Fits own.database b = subst (λ (s : ReplicaState). Fits s.database b) (sym is) (subst (λ d. Fits d b) (sym c.requires.database) c.requires.next.fits) in
@@ -22,7 +22,7 @@ returns-then-changes_shape c =
 
 pub returns-else-changes_shape : goal.returns-else-changes_shape
 returns-else-changes_shape c =
-    let own : ReplicaState = record { database = c.self.inside.table; known = c.self.inside.known; shape_changes = c.self.inside.shape_changes; is_open = c.self.inside.is_open } in
+    let own : ReplicaState = record { right = c.self.inside.right; database = c.self.inside.table; known = c.self.inside.known; shape_changes = c.self.inside.shape_changes; is_open = c.self.inside.is_open } in
     let is : own ≡ c.args.self.now = c.self.view_is in
     let b = c.args.batch.now in
     subst (λ (s : ReplicaState). HasShapeChanges (s.known.batches ++ b ∷ []) own.shape_changes) is
