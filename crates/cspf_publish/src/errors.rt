@@ -18,7 +18,7 @@ pub enum OpenError {
     /// Out of memory.
     #[error("out of memory")]
     Memory,
-    /// There was no place for a reader. `open` never returns it, since it makes a place for each.
+    /// There was no place for a reader. No run shows it, since `open` makes a place for each.
     #[error("no place for a reader")]
     Places,
 }

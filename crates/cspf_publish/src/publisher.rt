@@ -1,7 +1,7 @@
 //! The publisher: it checks each batch, writes its text to the journal, and then shows it to
 //! the askers.
 
-ghost use Rattle.std.specs.Prelude.{◌≡◌, ◌↔◌, ◌++◌, [], ◌∷◌, true, false, length, take, All, IfOk, OnOk, IfErr, OnErr, vec_len};
+ghost use Rattle.std.specs.Prelude.{◌≡◌, ◌↔◌, ◌⊎◌, ◌++◌, [], ◌∷◌, true, false, length, take, All, IfOk, OnOk, IfErr, OnErr, vec_len};
 ghost use Rattle.std.specs.Io.KnownBytes.{Appends};
 ghost use Rattle.cspf_publish.specs.Answers.{IsAnswerAfter};
 ghost use Rattle.cspf_publish.specs.ApplyErrors.{IsApplyError, IsNextBatch};
@@ -63,7 +63,8 @@ pub fn open<W: Write, R: Wait>(
     ensures count { IfOk result (λ opened. vec_len opened.1 ≡ askers) }
     ensures within { OnOk result (IsAskerCount askers) }
     ensures outside { IfErr result (λ e. (e.0 ≡ OpenError.Askers) ↔ ¬ IsAskerCount askers) }
-    ensures memory { IfErr result (λ e. IsAskerCount askers → e.0 ≡ OpenError.Memory) }
+    ensures memory { IfErr result (λ e. IsAskerCount askers
+        → (e.0 ≡ OpenError.Memory) ⊎ (e.0 ≡ OpenError.Places)) }
     ensures journal { IfErr result (λ e. e.1 ≡ journal) }
 {
     let trees = trees_in(TREE_MEGABYTES);
@@ -88,7 +89,8 @@ pub fn open_over<W: Write, R: Wait>(
     ensures count { IfOk result (λ opened. vec_len opened.1 ≡ askers) }
     ensures within { OnOk result (IsAskerCount askers) }
     ensures outside { IfErr result (λ e. (e.0 ≡ OpenError.Askers) ↔ ¬ IsAskerCount askers) }
-    ensures memory { IfErr result (λ e. IsAskerCount askers → e.0 ≡ OpenError.Memory) }
+    ensures memory { IfErr result (λ e. IsAskerCount askers
+        → (e.0 ≡ OpenError.Memory) ⊎ (e.0 ≡ OpenError.Places)) }
     ensures journal { IfErr result (λ e. e.1 ≡ journal.writer) }
 {
     let (journal, right) = journal.start();
@@ -103,8 +105,13 @@ pub fn open_over<W: Write, R: Wait>(
         Ok(replicas) => replicas,
         Err(refused) => return Err((OpenError::from(refused), journal.into_writer())),
     };
-    let all = replicas.askers(rt, room, askers, trees);
-    Ok((Publisher { replicas, journal }, all))
+    match replicas.askers(rt, room, askers, trees) {
+        Ok(all) => Ok((Publisher { replicas, journal }, all)),
+        Err(refused) => {
+            replicas.close(rt);
+            Err((refused, journal.into_writer()))
+        }
+    }
 }
 
 impl<W: Write> Publisher<W> {

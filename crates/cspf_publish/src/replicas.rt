@@ -22,7 +22,7 @@ use crate::limits::trees_of_each;
 use crate::replica::{PendingBatch, Replica};
 use crate::replica_rule::{FirstNote, Opening, ReplicaRule, Swap};
 use crate::seat_view::SeatView;
-use crate::{Asker, Told};
+use crate::{Asker, OpenError, Told};
 use core::mem::replace_with;
 use cspf_db::Table;
 use cspf_journal::{CopyRight, Known, PublishedCount, RightToCount, RightToShow, SeenSteps};
@@ -212,18 +212,16 @@ fn append<R: Wait>(writer: &mut ReplicaWriter, rt: &R, operation: PendingBatch)
     unreachable!()
 }
 
-// A new reader. The replicas were made with a place for each, so the first turn of the loop is the
-// last one.
-fn new_reader<R: Wait>(writer: &ReplicaWriter, rt: &R) -> ReplicaReader
-    ensures view { view result.place ≡ IsNew }
-    ensures table { result.place.table_id ≡ writer.now.desk.place.table_id }
+// A new reader. The replicas were made with a place for each.
+fn new_reader(writer: &ReplicaWriter) -> Result<ReplicaReader, OpenError>
+    ensures view { IfOk result (λ reader. view reader.place ≡ IsNew) }
+    ensures table { IfOk result (λ reader. reader.place.table_id ≡ writer.now.desk.place.table_id) }
+    ensures places { IfErr result (λ error. error ≡ OpenError.Places) }
 {
-    for _ in rt.forever() {
-        if let Ok(reader) = writer.factory().reader() {
-            return reader;
-        }
+    match writer.factory().reader() {
+        Ok(reader) => Ok(reader),
+        Err(_) => Err(OpenError::Places),
     }
-    unreachable!()
 }
 
 // A reference to the count for one more asker. There are far fewer than an `Arc` may have, so the
@@ -284,33 +282,36 @@ impl Replicas {
     }
 
     /// Makes `count` askers, with `room` as their memory. They know the published batches. Together
-    /// they later have at most `trees` trees, in equal parts.
+    /// they later have at most `trees` trees, in equal parts. It fails only where there is no place for
+    /// a reader.
     pub(crate) fn askers<R: Wait>(
         &mut self,
         rt: &R,
         room: Vec<Asker>,
         count: usize,
         trees: usize,
-    ) -> Vec<Asker>
+    ) -> Result<Vec<Asker>, OpenError>
         requires { (room.items ≡ []) × (count ≤ vec_capacity room) }
         ensures same { self.new ≡ self.old }
-        ensures count { vec_len result ≡ count }
-        ensures each { All (λ a. a ≡ self.old) result.items }
+        ensures count { IfOk result (λ all. vec_len all ≡ count) }
+        ensures each { IfOk result (λ all. All (λ a. a ≡ self.old) all.items) }
+        ensures places { IfErr result (λ error. error ≡ OpenError.Places) }
     {
         let mut all = room;
         for _ in 0..count {
-            all.push_reserved(self.asker(rt, trees_of_each(trees, count)));
+            all.push_reserved(self.asker(rt, trees_of_each(trees, count))?);
         }
-        all
+        Ok(all)
     }
 
-    fn asker<R: Wait>(&mut self, rt: &R, trees: usize) -> Asker
+    fn asker<R: Wait>(&mut self, rt: &R, trees: usize) -> Result<Asker, OpenError>
         ensures same { self.new ≡ self.old }
-        ensures asker { result ≡ self.old }
+        ensures asker { IfOk result (λ asker. asker ≡ self.old) }
+        ensures places { IfErr result (λ error. error ≡ OpenError.Places) }
     {
-        let mut reader = new_reader(&self.writer, rt);
+        let mut reader = new_reader(&self.writer)?;
         reader.learn::<FirstNote>(self.writer.tell::<FirstNote>());
-        Asker::new(reader, self.known(), share(&self.count, rt), trees)
+        Ok(Asker::new(reader, self.known(), share(&self.count, rt), trees))
     }
 
     // The batches that are published.

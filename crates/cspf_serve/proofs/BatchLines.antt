@@ -135,10 +135,10 @@ module _ (accept_torn : Bool) (kept asked : Option (List ℕ)) (published : List
       × ((batches : List NumberedChanges) → ArePublishedOrRefused batches published unfit → length batches < version)) e)
       → IfErr r (IsBatchFault accept_torn kept asked)
   batch_failed (Ok status) failed = tt
-  batch_failed (Err e) (inl fault) = inl fault
-  batch_failed (Err e) (inr (inl gave_up)) = inr (inl gave_up)
+  batch_failed (Err e) (inl fault) = inr (inl fault)
+  batch_failed (Err e) (inr (inl gave_up)) = inr (inr (inl gave_up))
   batch_failed (Err e) (inr (inr stray)) =
-      inr (inr (stray.0, stray.1, stray.2, stray_in_run kept asked stray.0 stray.1 read of_rows stray.3.0 stray.3.1))
+      inr (inr (inr (stray.0, stray.1, stray.2, stray_in_run kept asked stray.0 stray.1 read of_rows stray.3.0 stray.3.1)))
 
 -- streams that are refused give that line alone
 pub refused_alone : (accept_torn : Bool) (journal requests : Records) (line : List ℕ) → AreStreamsRefused accept_torn journal requests line

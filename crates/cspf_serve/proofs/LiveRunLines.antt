@@ -300,12 +300,12 @@ live_refused (Some kept) (Some asked) (early_end.Refused line) (Ok status) old n
 pub live_fault : (requests : Option (List ℕ)) (qs : List Request) (r : Result ℕ RunError) → IfSome requests (λ bytes. AreRequestsOf (rows_of bytes) qs)
     → IfErr r (IsRunFault (λ index version. (index < length qs) × (0 < version))) → IfErr r (IsLiveFault requests)
 live_fault requests qs (Ok status) asked fault = tt
-live_fault requests qs (Err e) asked (inl stream) = inl stream
-live_fault requests qs (Err e) asked (inr (inl worker)) = inr (inl worker)
-live_fault None qs (Err e) asked (inr (inr stray)) = inr (inr (stray.0, stray.1, stray.2, (tt, stray.3.1)))
+live_fault requests qs (Err e) asked (inl stream) = inr (inl stream)
+live_fault requests qs (Err e) asked (inr (inl worker)) = inr (inr (inl worker))
+live_fault None qs (Err e) asked (inr (inr stray)) = inr (inr (inr (stray.0, stray.1, stray.2, (tt, stray.3.1))))
 live_fault (Some bytes) qs (Err e) asked (inr (inr stray)) =
     let below = stray.3.0 in
     let same = ap length asked.asked in
     let rows = length-map (rows_of bytes) row_of in
     let asks = length-map {B = Result Row RowError} qs (λ (q : Request). Ok (row.Ask q)) in
-    inr (inr (stray.0, stray.1, stray.2, (omega (arith, below, same, rows, asks), stray.3.1)))
+    inr (inr (inr (stray.0, stray.1, stray.2, (omega (arith, below, same, rows, asks), stray.3.1))))

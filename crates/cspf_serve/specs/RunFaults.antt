@@ -30,7 +30,7 @@ IsAnsweringFault IsStray e =
     ((fault : ServeError) × (e ≡ Serve fault) × IsFaultOfWorker fault)
     ⊎ ((index : ℕ) × (version : ℕ) × (e ≡ Serve (Unaccounted index version)) × IsStray index version)
 
--- the streams, a publisher without memory or the answers end a run
+-- the streams or the answers end a run
 abbrev pub IsRunFault : (ℕ → ℕ → Type 0) → RunError → Type 0
 IsRunFault IsStray e = IsStreamFault e ⊎ IsAnsweringFault IsStray e
 
@@ -41,15 +41,15 @@ IsStrayInBatchRun accept_torn journal requests index version =
     × IfSome journal (λ kept. (batches : List NumberedChanges)
     × AreBatchesOf accept_torn (rows_of kept) batches × (length batches < version))
 
--- why a run over a journal and requests ends by an error
+-- why a run over a journal and requests ends by an error: its publisher isn't opened, or it ends later
 abbrev pub IsBatchFault : Bool → Option (List ℕ) → Option (List ℕ) → RunError → Type 0
-IsBatchFault accept_torn journal requests e = IsRunFault (IsStrayInBatchRun accept_torn journal requests) e
+IsBatchFault accept_torn journal requests e = IsOpeningFault e ⊎ IsRunFault (IsStrayInBatchRun accept_torn journal requests) e
 
 -- a request of the stream is answered at a version above those of a prefix of the updates, and so
 -- above 0
 abbrev pub IsStrayInLiveRun : Option (List ℕ) → ℕ → ℕ → Type 0
 IsStrayInLiveRun requests index version = IfSome requests (λ asked. index < length (rows_of asked)) × (0 < version)
 
--- why a run over updates and requests ends by an error
+-- why a run over updates and requests ends by an error: its publisher isn't opened, or it ends later
 abbrev pub IsLiveFault : Option (List ℕ) → RunError → Type 0
-IsLiveFault requests e = IsRunFault (IsStrayInLiveRun requests) e
+IsLiveFault requests e = IsOpeningFault e ⊎ IsRunFault (IsStrayInLiveRun requests) e

@@ -12,6 +12,7 @@ ghost use Rattle.cspf_publish.specs.PublisherStates.{PublisherState};
 ghost use Rattle.cspf_model.specs.declared.batch.Change.{Change as Changed};
 ghost use Rattle.cspf_stream.specs.OpenChanges.{AreOpen};
 ghost use Rattle.cspf_stream.specs.Lines.{end_line};
+ghost use Rattle.cspf_serve.specs.RunFaults.{IsOpeningFault};
 ghost use Rattle.cspf_serve.specs.ServedRun.{IsLastLineSaid, IsServedFault, IsServedRun, IsServedStatus, IsUpdatesRun};
 ghost use Rattle.cspf_serve.specs.ServedSteps.{AreSeats, IsAnswered, IsClosedRun, IsOfSource, IsRunOfUpdates, IsServedEnd};
 ghost use Rattle.cspf_serve.specs.Updates.{UpdatesState, no_updates};
@@ -242,7 +243,7 @@ fn open_seats<J: Write, Q: Drop, V: Drop, T: Wait>(
     ensures publisher { IfOk result (λ made.
         (made.0.batches ≡ []) × (made.0.stopped ≡ false) × (made.0.journal ≡ journal)) }
     ensures seats { IfOk result (λ made. AreSeats made.0.source clients made.1) }
-    ensures error { IfErr result (λ e. e.0 ≡ RunError.Memory) }
+    ensures error { IfErr result (λ e. IsOpeningFault e.0) }
     ensures journal { IfErr result (λ e. e.1 ≡ journal) }
 {
     match open_for(rt, alloc, journal, clients, trees) {

@@ -20,7 +20,7 @@ pub enum RunError {
     /// A read failed, or a write failed or took no bytes.
     #[error("a read or a write failed")]
     Device,
-    /// There was no place for a worker's reader. No run returns it, since `open` makes a place for each.
+    /// There was no place for a reader. No run shows it, since `open` makes a place for each.
     #[error("no place for a reader")]
     Places,
     /// The requests aren't answered.
@@ -53,7 +53,7 @@ impl From<OpenError> for RunError {
     fn from(refused: OpenError) -> RunError {
         match refused {
             OpenError::Memory => RunError::Memory,
-            // Never: a run has 1 to 64 workers, as many as may ask, and `open` makes their places.
+            // Never `Askers`: a run has 1 to 64 workers or clients, as many as may ask.
             OpenError::Askers | OpenError::Places => RunError::Places,
         }
     }

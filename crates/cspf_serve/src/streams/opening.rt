@@ -1,5 +1,6 @@
 ghost use Rattle.std.specs.Prelude.{◌≡◌, ◌<◌, ◌≤◌, [], All, IfOk, IfErr, vec_len, false};
 ghost use Rattle.cspf_publish.specs.declared.limits.TheConstants.{MOST_ASKERS};
+ghost use Rattle.cspf_serve.specs.RunFaults.{IsOpeningFault};
 
 use crate::RunError;
 use cspf_journal::NewJournal;
@@ -10,7 +11,7 @@ use std::sync::Wait;
 
 /// A new publisher over a journal, and an asker for each worker. Together these have at most `trees`
 /// trees.
-#[tactic(auto, using(crate::proofs::AnswerLines::sources_of))]
+#[tactic(auto, using(crate::proofs::AnswerLines::sources_of, crate::proofs::StreamFaults::opening))]
 pub(crate) fn open_for<J: Write, T: Wait>(
     rt: &T,
     alloc: Global,
@@ -24,8 +25,8 @@ pub(crate) fn open_for<J: Write, T: Wait>(
     ensures source { IfOk result (λ opened.
         All (λ a. a.source ≡ opened.0.source) opened.1.items) }
     ensures count { IfOk result (λ opened. vec_len opened.1 ≡ workers) }
-    // As many as that may ask, so only memory can be refused.
-    ensures error { IfErr result (λ e. e.0 ≡ RunError.Memory) }
+    // As many as that may ask, so only memory or a place for a reader can be refused.
+    ensures error { IfErr result (λ e. IsOpeningFault e.0) }
     ensures journal { IfErr result (λ e. e.1 ≡ journal) }
 {
     match open_over(rt, alloc, NewJournal::new(journal), workers, trees) {

@@ -1,5 +1,0 @@
-use Rattle.cspf_publish.proofs.replicas.new_reader.Given as goal
-
--- nothing changed
-abbrev pub invariant-loop : goal.invariant-loop
-invariant-loop g l = (goal.iterator-loop g).can_next l.iterator' × (goal.iterator-loop g).is_finite l.iterator'
