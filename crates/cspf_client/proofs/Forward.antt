@@ -37,7 +37,7 @@ forward_row place s t (Ok (row.Put link)) line a = forward_refused place row_err
 forward_row place s t (Ok (row.Remove from local)) line a = forward_refused place row_error.Kind s t line a
 forward_row place s t (Ok (row.Node router transit)) line a = forward_refused place row_error.Kind s t line a
 forward_row place s t (Ok (row.End number count)) line a = forward_refused place row_error.Kind s t line a
-forward_row place s t (Ok (row.Ask q)) line a = HasGoneForward-count s t a.reads
+forward_row place s t (Ok (row.Ask q)) line a = HasGoneForward-count place s t a.reads
 
 pub forward_unanswered : (place : ℕ) (s t : SessionState) (r : Result Row RowError) → IsClientRowUnanswered place s r t → HasGoneForward s t
 forward_unanswered place s t (Err why) a = forward_equal s t a
@@ -45,7 +45,7 @@ forward_unanswered place s t (Ok (row.Put link)) a = forward_equal s t a
 forward_unanswered place s t (Ok (row.Remove from local)) a = forward_equal s t a
 forward_unanswered place s t (Ok (row.Node router transit)) a = forward_equal s t a
 forward_unanswered place s t (Ok (row.End number count)) a = forward_equal s t a
-forward_unanswered place s t (Ok (row.Ask q)) a = HasGoneForward-count s t a.1.reads
+forward_unanswered place s t (Ok (row.Ask q)) a = HasGoneForward-count place s t a.1.reads
 
 pub forward : ClientsGoForward
 unfolding AreAnswered
@@ -57,7 +57,7 @@ abbrev Rows : Type 0
 Rows = List (List (List ℕ))
 
 -- after a row that stops the stream
-forward_row_stopped : (why : StreamError) (place : ℕ) (fields : List (List ℕ)) (s t : SessionState) (old new : Option (List ℕ))
+pub forward_row_stopped : (why : StreamError) (place : ℕ) (fields : List (List ℕ)) (s t : SessionState) (old new : Option (List ℕ))
     → IsRowStopped IsClientAnswered IsClientUnanswered why place fields s t old new → HasGoneForward s t
 forward_row_stopped stream_error.Memory place fields s t old new a = forward_unanswered place s t (row_of fields) a.0
 forward_row_stopped stream_error.Read place fields s t old new a = absurd a

@@ -1,5 +1,5 @@
 -- A client that goes forward: its batches and its steps are prefixes of later ones.
-use Rattle.std.proofs.Common.{◌≡◌, List, [], ◌∷◌, ◌++◌, refl, sym, ap, ◌∙◌, append_assoc}
+use Rattle.std.proofs.Common.{◌≡◌, ℕ, List, [], ◌∷◌, ◌++◌, refl, sym, ap, ◌∙◌, append_assoc}
 use Rattle.std.proofs.lemmas.List.{append-nil}
 use mathlib.Core.List.{IsPrefix}
 use Rattle.cspf_model.specs.Numbered.{NumberedChanges}
@@ -33,7 +33,7 @@ IsPrefix-last first others all last is = (others ++ last ∷ [], sym (append_ass
 AreFirstSteps-self : (k : KnownSteps) → AreFirstSteps k k
 AreFirstSteps-self k = record { source = refl; begins = ([], append-nil k.steps) }
 
-AreFirstSteps-trans : (a b c : KnownSteps) → AreFirstSteps b a → AreFirstSteps c b → AreFirstSteps c a
+pub AreFirstSteps-trans : (a b c : KnownSteps) → AreFirstSteps b a → AreFirstSteps c b → AreFirstSteps c a
 AreFirstSteps-trans a b c p q = record {
   source = p.source ∙ q.source;
   begins = IsPrefix-trans a.steps b.steps c.steps p.begins q.begins;
@@ -49,8 +49,8 @@ HasGoneForward-trans s t u p q = record {
 }
 
 -- a client that reads the count
-pub HasGoneForward-count : (s t : SessionState) → ReadsCount s t → HasGoneForward s t
-HasGoneForward-count s t reads =
+pub HasGoneForward-count : (place : ℕ) (s t : SessionState) → ReadsCount place s t → HasGoneForward s t
+HasGoneForward-count place s t reads =
     let up = reads.caught_up in record {
       known = AreFirstOf-trans s.known reads.mid t.known (record { source = sym up.source; begins = up.later }) reads.later;
       steps = record {

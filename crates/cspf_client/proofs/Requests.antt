@@ -16,22 +16,23 @@ use Rattle.cspf_client.specs.ClientRows.{ReadsCount, IsRequestAnswered, IsReques
 use Rattle.cspf_client.specs.SessionStates.{SessionState}
 
 -- the value of the session in clauses
-abbrev pub session : KnownBatches → KnownSteps → ℕ → Bool → SessionState
-session asker steps refused no_entry = record { known = asker; steps = steps; refused = refused; no_entry = no_entry }
+abbrev pub session : ℕ → KnownBatches → KnownSteps → ℕ → Bool → SessionState
+session client asker steps refused no_entry = record { client = client; known = asker; steps = steps; refused = refused; no_entry = no_entry }
 
-module _ (a b c : KnownBatches) (old new : KnownSteps) (count refused : ℕ) (caught_up : CatchesUp a b old new count) (source : c.source ≡ b.source) (later : BeginsWith c.batches b.batches) where
-  reads : (no_entry after : Bool) → ReadsCount (session a old refused no_entry) (session c new refused after)
+module _ (client place : ℕ) (a b c : KnownBatches) (old new : KnownSteps) (count refused : ℕ) (caught_up : CatchesUp a b old new client place count) (source : c.source ≡ b.source) (later : BeginsWith c.batches b.batches) where
+  reads : (no_entry after : Bool) → ReadsCount place (session client a old refused no_entry) (session client c new refused after)
   reads no_entry after = record {
     mid = b;
     count = count;
     caught_up = caught_up;
     later = record { source = sym source; begins = later };
+    client = refl;
     refused = refl;
   }
 
   pub request_answered : (no_entry : Bool) (q : Request) (answer : Answer) (line : List ℕ) → IsAnswerAfter c.batches q answer
       → IsReply answer.id answer.version (answer_of answer.outcome) line
-      → IsRequestAnswered q (session a old refused no_entry) line (session c new refused no_entry)
+      → IsRequestAnswered place q (session client a old refused no_entry) line (session client c new refused no_entry)
   request_answered no_entry q answer line is reply = record {
     reads = reads no_entry no_entry;
     entry = refl;
@@ -42,10 +43,10 @@ module _ (a b c : KnownBatches) (old new : KnownSteps) (count refused : ℕ) (ca
 
   -- memory is refused for the line of an answer
   pub memory_refused : (no_entry : Bool) (why : AskError) → why ≡ ask_error.Memory
-      → IsRequestUnanswered why (session a old refused no_entry) (session c new refused no_entry)
+      → IsRequestUnanswered place why (session client a old refused no_entry) (session client c new refused no_entry)
   memory_refused no_entry why is = record { reads = reads no_entry no_entry; entry = rw is refl }
 
   -- a request isn't answered, and the cause is noted
   pub unanswered : (no_entry : Bool) (why : AskError)
-      → IsRequestUnanswered why (session a old refused no_entry) (session c new refused (entry_noted no_entry why))
+      → IsRequestUnanswered place why (session client a old refused no_entry) (session client c new refused (entry_noted no_entry why))
   unanswered no_entry why = record { reads = reads no_entry (entry_noted no_entry why); entry = refl }

@@ -17,13 +17,15 @@ use Rattle.cspf_stream.specs.RefusedRows.{refused_row_line}
 use Rattle.cspf_client.specs.ErrorNames.{entry_noted}
 use Rattle.cspf_client.specs.SessionStates.{SessionState}
 
--- The client reads the count of published batches, by a step after all that it has seen. Its asker then
--- knows at least as many, and after its entry perhaps more.
-pub record ReadsCount (s t : SessionState) : Type 0 where
+-- The client reads the count of published batches for the row at this place, by a step after all that it
+-- has seen. The step names the client and the place. Its asker then knows at least as many, and after its
+-- entry perhaps more.
+pub record ReadsCount (place : ℕ) (s t : SessionState) : Type 0 where
   pub mid : KnownBatches
   pub count : ℕ
-  pub caught_up : CatchesUp s.known mid s.steps t.steps count
+  pub caught_up : CatchesUp s.known mid s.steps t.steps s.client place count
   pub later : AreFirstOf t.known mid
+  pub client : t.client ≡ s.client
   pub refused : t.refused ≡ s.refused
 
 -- The row is refused by these words, and nothing else changes.
@@ -31,11 +33,11 @@ pub record IsRefusedRow (place : ℕ) (why : RowError) (s : SessionState) (line 
   pub written : line ≡ refused_row_line place why
   pub after : t ≡ record s { refused = s.refused + 1 }
 
--- A request is answered by the best answer in the database of the batches that the asker knows
+-- The request at this place is answered by the best answer in the database of the batches that the asker knows
 -- afterwards, at their number as the version. The batches that it knew before are a prefix of them, and
--- so are those that were published when it read their count.
-pub record IsRequestAnswered (q : Request) (s : SessionState) (line : List ℕ) (t : SessionState) : Type 0 where
-  pub reads : ReadsCount s t
+-- so are those that were published when it read their count for this row.
+pub record IsRequestAnswered (place : ℕ) (q : Request) (s : SessionState) (line : List ℕ) (t : SessionState) : Type 0 where
+  pub reads : ReadsCount place s t
   pub entry : t.no_entry ≡ s.no_entry
   pub answer : Answer
   pub best : IsBestAnswer (database_after t.known.batches) q answer
@@ -45,7 +47,7 @@ pub record IsRequestAnswered (q : Request) (s : SessionState) (line : List ℕ) 
 -- counted by the steps that the client had seen.
 abbrev pub RepliesAreFresh : Type 0
 RepliesAreFresh =
-    (q : Request) (s t : SessionState) (line : List ℕ) (a : IsRequestAnswered q s line t)
+    (place : ℕ) (q : Request) (s t : SessionState) (line : List ℕ) (a : IsRequestAnswered place q s line t)
     → (count_of s.steps.steps ≤ a.reads.count) × (a.reads.count ≤ length t.known.batches)
 
 -- the line that answers a row, read or not, at this place, from 1, and the states before and after
@@ -55,16 +57,16 @@ IsClientRowAnswered place s (Ok (row.Put link)) line t = IsRefusedRow place erro
 IsClientRowAnswered place s (Ok (row.Remove from local)) line t = IsRefusedRow place error.Kind s line t
 IsClientRowAnswered place s (Ok (row.Node router transit)) line t = IsRefusedRow place error.Kind s line t
 IsClientRowAnswered place s (Ok (row.End number count)) line t = IsRefusedRow place error.Kind s line t
-IsClientRowAnswered place s (Ok (row.Ask q)) line t = IsRequestAnswered q s line t
+IsClientRowAnswered place s (Ok (row.Ask q)) line t = IsRequestAnswered place q s line t
 
 -- the line that answers the record with these fields
 abbrev pub IsClientAnswered : ℕ → SessionState → List (List ℕ) → List ℕ → SessionState → Type 0
 IsClientAnswered place s fields line t = IsClientRowAnswered place s (row_of fields) line t
 
--- A request isn't answered by this error of its ask. A refused entry is noted, and refused memory
+-- The request at this place isn't answered by this error of its ask. A refused entry is noted, and refused memory
 -- is not.
-pub record IsRequestUnanswered (why : AskError) (s t : SessionState) : Type 0 where
-  pub reads : ReadsCount s t
+pub record IsRequestUnanswered (place : ℕ) (why : AskError) (s t : SessionState) : Type 0 where
+  pub reads : ReadsCount place s t
   pub entry : t.no_entry ≡ entry_noted s.no_entry why
 
 -- the state where the row at this place isn't answered: only a request changes anything
@@ -74,7 +76,7 @@ IsClientRowUnanswered place s (Ok (row.Put link)) t = t ≡ s
 IsClientRowUnanswered place s (Ok (row.Remove from local)) t = t ≡ s
 IsClientRowUnanswered place s (Ok (row.Node router transit)) t = t ≡ s
 IsClientRowUnanswered place s (Ok (row.End number count)) t = t ≡ s
-IsClientRowUnanswered place s (Ok (row.Ask q)) t = (why : AskError) × IsRequestUnanswered why s t
+IsClientRowUnanswered place s (Ok (row.Ask q)) t = (why : AskError) × IsRequestUnanswered place why s t
 
 -- the state where the record with these fields isn't answered
 abbrev pub IsClientUnanswered : ℕ → SessionState → List (List ℕ) → SessionState → Type 0

@@ -4,9 +4,10 @@ use mathlib.Core.List.{IsPrefix}
 use Rattle.cspf_publish.specs.JournalSteps.{KnownSteps}
 use Rattle.cspf_publish.specs.KnownBatches.{KnownBatches, AreFirstOf}
 
--- The batches that its asker knows, and the steps of the journal that it has seen. How many rows were
--- refused, and whether an entry was refused.
+-- The client's number. The batches that its asker knows, and the steps of the journal that it has seen. How
+-- many rows were refused, and whether an entry was refused.
 pub record SessionState : Type 0 where
+  pub client : ℕ
   pub known : KnownBatches
   pub steps : KnownSteps
   pub refused : ℕ

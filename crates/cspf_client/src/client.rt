@@ -13,7 +13,7 @@ ghost use Rattle.cspf_client.specs.ServingStates.{IsReady, HasMet};
 
 use crate::session::Session;
 use crate::{ClientError, Replies};
-use cspf_publish::{Asker, SeenSteps, Told};
+use cspf_publish::{Asker, Known, SeenSteps, Told};
 use cspf_rows::open_records;
 use cspf_stream::{StreamError, answer_rows};
 use std::alloc::Global;
@@ -63,6 +63,10 @@ pub struct ServedClient<V> {
     pub end: Result<(), ClientError>,
     /// How many rows were refused.
     pub refused: u64,
+    /// The steps of the journal that it saw, up to its last reading of the count.
+    pub steps: SeenSteps,
+    /// The batches that it knew after its last row.
+    pub known: Known,
 }
 
 /// Answers all rows of these requests, and drops their reader.
@@ -93,9 +97,10 @@ fn end_of(ended: Result<(), StreamError>, no_entry: bool) -> Result<(), ClientEr
 }
 
 impl<Q: Read + Drop, V: Replies> ServingClient<Q, V> {
-    /// A client whose requests aren't read yet.
-    pub fn new(asker: Asker, client: Client<Q, V>) -> ServingClient<Q, V>
+    /// The client of this number, whose requests aren't read yet.
+    pub fn new(asker: Asker, number: u64, client: Client<Q, V>) -> ServingClient<Q, V>
         ensures ready { IsReady result }
+        ensures number { result.state.client ≡ number }
         ensures known { result.state.known ≡ asker }
         ensures steps { result.state.steps.source ≡ asker.source }
         ensures requests { result.requests ≡ Some client.requests }
@@ -103,7 +108,7 @@ impl<Q: Read + Drop, V: Replies> ServingClient<Q, V> {
     {
         let Client { requests, replies } = client;
         ServingClient {
-            session: Session::new(asker),
+            session: Session::new(asker, number),
             requests: Some(requests),
             replies,
             end: Ok(()),
@@ -136,6 +141,13 @@ impl<Q: Read + Drop, V: Replies> ServingClient<Q, V> {
         self.session.steps()
     }
 
+    /// The batches that it knows.
+    pub fn known(&self) -> &Known
+        ensures { result.now ≡ self.now.state.known }
+    {
+        self.session.known()
+    }
+
     /// Learns the last token, which has all published batches. A client that knows more ends as
     /// `Ahead`.
     pub fn meet(&mut self, told: Told)
@@ -152,12 +164,14 @@ impl<Q: Read + Drop, V: Replies> ServingClient<Q, V> {
         }
     }
 
-    /// Its result.
-    pub fn close(self) -> ServedClient<V>
+    /// Its result, with the batches that it knew after its last row.
+    pub fn close(self, known: Known) -> ServedClient<V>
         ensures { result ≡ record {
           replies = self.replies;
           end = self.end;
           refused = self.state.refused;
+          steps = self.state.steps;
+          known = known;
         } }
     {
         let ServingClient {
@@ -170,6 +184,8 @@ impl<Q: Read + Drop, V: Replies> ServingClient<Q, V> {
             replies,
             end,
             refused: session.refused(),
+            steps: session.steps().copy(),
+            known,
         }
     }
 }

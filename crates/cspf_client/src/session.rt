@@ -9,7 +9,7 @@ ghost use Rattle.cspf_client.specs.ClientRows.{IsClientRowAnswered, IsClientRowU
 
 use cspf_ero::reply_line;
 use cspf_model::Request;
-use cspf_publish::{Answer, AskError, Asker, SeenSteps, Told};
+use cspf_publish::{Answer, AskError, Asker, Known, RowOfReader, SeenSteps, Told};
 use cspf_rows::{Row, RowError};
 use cspf_stream::{Answering, refused_row};
 use csv::ByteRecord;
@@ -19,6 +19,8 @@ use std::marker::Model;
 /// A client's state between two rows.
 #[derive(Drop)]
 pub struct Session {
+    /// The number of the client.
+    client: u64,
     asker: Asker,
     /// The steps of the journal up to the client's last reading of the count.
     steps: SeenSteps,
@@ -36,6 +38,7 @@ impl Model for Session {
     ghost use Rattle.std.specs.Prelude.{◌≡◌};
 
     ghost view = { λ s. record {
+      client = s.client;
       known = s.asker;
       steps = s.steps;
       refused = s.refused;
@@ -58,8 +61,9 @@ impl Session {
     ghost use Rattle.std.specs.Prelude.{false};
 
     /// The state before the first row.
-    pub(crate) fn new(asker: Asker) -> Session
+    pub(crate) fn new(asker: Asker, client: u64) -> Session
         ensures state { result ≡ record {
+          client = client;
           known = asker;
           steps = result.steps;
           refused = 0;
@@ -69,6 +73,7 @@ impl Session {
     {
         let steps = asker.steps();
         Session {
+            client,
             asker,
             steps,
             refused: 0,
@@ -81,6 +86,13 @@ impl Session {
         ensures { result.now ≡ self.now.steps }
     {
         &self.steps
+    }
+
+    /// The batches that it knows.
+    pub(crate) fn known(&self) -> &Known
+        ensures { result.now ≡ self.now.known }
+    {
+        self.asker.known()
     }
 
     /// How many rows were refused.
@@ -110,14 +122,18 @@ impl Session {
         self.asker.meet(told) == published
     }
 
-    /// Reads the count of published batches, asks, and returns the reply line.
-    fn ask(&mut self, alloc: Global, request: &Request) -> Result<Vec<u8>, AskError>
+    /// Reads the count of published batches for the row at this place, asks, and returns the reply line.
+    fn ask(&mut self, alloc: Global, place: u64, request: &Request) -> Result<Vec<u8>, AskError>
         ensures answered { IfOk result (λ line.
-            IsRequestAnswered request.now self.old line.items self.new) }
-        ensures failed { IfErr result (λ why. IsRequestUnanswered why self.old self.new) }
+            IsRequestAnswered place request.now self.old line.items self.new) }
+        ensures failed { IfErr result (λ why. IsRequestUnanswered place why self.old self.new) }
         ensures refused { self.new.refused ≡ self.old.refused }
     {
-        let _count = self.asker.catch_up(&mut self.steps);
+        let row = RowOfReader {
+            reader: self.client,
+            place,
+        };
+        let _count = self.asker.catch_up(&mut self.steps, row);
         match self.asker.ask(alloc, request) {
             Ok(answer) => line_of(alloc, answer),
             Err(why) => {
@@ -159,7 +175,7 @@ impl Session {
         ensures refused { self.new.refused ≤ self.old.refused + 1 }
     {
         match row {
-            Row::Ask(request) => self.ask(alloc, request).map_err(|_noted| AllocError),
+            Row::Ask(request) => self.ask(alloc, place, request).map_err(|_noted| AllocError),
             Row::Put(_) => self.refuse(alloc, place, RowError::Kind),
             Row::Remove { .. } => self.refuse(alloc, place, RowError::Kind),
             Row::Node { .. } => self.refuse(alloc, place, RowError::Kind),

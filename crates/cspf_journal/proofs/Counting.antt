@@ -59,10 +59,10 @@ counts_moves v old new one within cs log kept pre away =
     let P : List Cell → Type 0 = λ c. (1 < length c) × ((cell c 1).1 ≡ true) × Goes IsKeptHistory shown moved 1 (v, (no_nib, None)) (λ n. either (n == old) new n) (CountsOneMore (step 1 old new (Published new)) (v, (no_nib, None))) c log in
     subst P (sym kept.words) (omega arith, refl, counts_goes log v old new one within kept.journal pre (count_of log == old) refl)
 
-reads_goes : (log v : List LogStep) (ask : LogStep) → AreJournalSteps log → IsPrefix v log
-    → Goes IsKeptHistory shown moved 1 (v, (no_nib, None)) (λ n. n) (Reads (step 1 0 0 ask) (v, (no_nib, None))) ((length (batches_of log), true) ∷ (count_of log, true) ∷ []) log
-reads_goes log v ask journal pre =
-    let e : LogStep = Read (count_of log) in
+reads_goes : (log v : List LogStep) (reader place asked : ℕ) → AreJournalSteps log → IsPrefix v log
+    → Goes IsKeptHistory shown moved 1 (v, (no_nib, None)) (λ n. n) (Reads (step 1 0 0 (Read reader place asked)) (v, (no_nib, None))) ((length (batches_of log), true) ∷ (count_of log, true) ∷ []) log
+reads_goes log v reader place asked journal pre =
+    let e : LogStep = Read reader place (count_of log) in
     let same : batches_of (log ++ e ∷ []) ≡ batches_of log = recorded-same log e refl in
     let length_is : length (batches_of log) ≡ length (batches_of (log ++ e ∷ [])) = ap length (sym same) in
     let journal' : AreJournalSteps (log ++ e ∷ []) = AreJournalSteps-same log e refl journal (refl, tt) in
@@ -78,8 +78,8 @@ reads_goes log v ask journal pre =
     )
 
 -- whatever the steps are, the reading finds the last count
-pub reads_moves : (v : List LogStep) (ask : LogStep)
-    → Moves IsKeptHistory shown moved 1 (v, (no_nib, None)) (λ n. n) (Reads (step 1 0 0 ask) (v, (no_nib, None)))
-reads_moves v ask cs log kept pre away =
-    let P : List Cell → Type 0 = λ c. (1 < length c) × ((cell c 1).1 ≡ true) × Goes IsKeptHistory shown moved 1 (v, (no_nib, None)) (λ n. n) (Reads (step 1 0 0 ask) (v, (no_nib, None))) c log in
-    subst P (sym kept.words) (omega arith, refl, reads_goes log v ask kept.journal pre)
+pub reads_moves : (v : List LogStep) (reader place asked : ℕ)
+    → Moves IsKeptHistory shown moved 1 (v, (no_nib, None)) (λ n. n) (Reads (step 1 0 0 (Read reader place asked)) (v, (no_nib, None)))
+reads_moves v reader place asked cs log kept pre away =
+    let P : List Cell → Type 0 = λ c. (1 < length c) × ((cell c 1).1 ≡ true) × Goes IsKeptHistory shown moved 1 (v, (no_nib, None)) (λ n. n) (Reads (step 1 0 0 (Read reader place asked)) (v, (no_nib, None))) c log in
+    subst P (sym kept.words) (omega arith, refl, reads_goes log v reader place asked kept.journal pre)

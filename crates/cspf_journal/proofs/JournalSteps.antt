@@ -13,66 +13,70 @@ pub batches_of-append : (xs ys : List LogStep) → batches_of (xs ++ ys) ≡ bat
 batches_of-append [] ys = refl
 batches_of-append (Recorded b ∷ xs) ys = ap (λ (w : List NumberedChanges). b ∷ w) (batches_of-append xs ys)
 batches_of-append (Published n ∷ xs) ys = batches_of-append xs ys
-batches_of-append (Read n ∷ xs) ys = batches_of-append xs ys
+batches_of-append (Read r p n ∷ xs) ys = batches_of-append xs ys
 
 pub count_from-append : (n : ℕ) (xs ys : List LogStep) → count_from n (xs ++ ys) ≡ count_from (count_from n xs) ys
 count_from-append n [] ys = refl
 count_from-append n (Recorded b ∷ xs) ys = count_from-append n xs ys
 count_from-append n (Published m ∷ xs) ys = count_from-append m xs ys
-count_from-append n (Read m ∷ xs) ys = count_from-append n xs ys
+count_from-append n (Read reader place m ∷ xs) ys = count_from-append n xs ys
 
 -- steps after others
 pub AreOrderedFrom-append : (r n : ℕ) (xs ys : List LogStep) → AreOrderedFrom r n xs → AreOrderedFrom (r + length (batches_of xs)) (count_from n xs) ys → AreOrderedFrom r n (xs ++ ys)
 AreOrderedFrom-append r n [] ys p q = subst (λ (k : ℕ). AreOrderedFrom k n ys) (omega arith) q
 AreOrderedFrom-append r n (Recorded b ∷ xs) ys p q = AreOrderedFrom-append (r + 1) n xs ys p (subst (λ (k : ℕ). AreOrderedFrom k (count_from n xs) ys) (omega arith) q)
 AreOrderedFrom-append r n (Published m ∷ xs) ys p q = (p.0, p.1, AreOrderedFrom-append r m xs ys p.2 q)
-AreOrderedFrom-append r n (Read m ∷ xs) ys p q = (p.0, AreOrderedFrom-append r n xs ys p.1 q)
+AreOrderedFrom-append r n (Read reader place m ∷ xs) ys p q = (p.0, AreOrderedFrom-append r n xs ys p.1 q)
 
 -- the steps after others
-AreOrderedFrom-after : (r n : ℕ) (xs ys : List LogStep) → AreOrderedFrom r n (xs ++ ys) → AreOrderedFrom (r + length (batches_of xs)) (count_from n xs) ys
+pub AreOrderedFrom-after : (r n : ℕ) (xs ys : List LogStep) → AreOrderedFrom r n (xs ++ ys) → AreOrderedFrom (r + length (batches_of xs)) (count_from n xs) ys
 AreOrderedFrom-after r n [] ys p = subst (λ (k : ℕ). AreOrderedFrom k n ys) (omega arith) p
 AreOrderedFrom-after r n (Recorded b ∷ xs) ys p = subst (λ (k : ℕ). AreOrderedFrom k (count_from n xs) ys) (omega arith) (AreOrderedFrom-after (r + 1) n xs ys p)
 AreOrderedFrom-after r n (Published m ∷ xs) ys p = AreOrderedFrom-after r m xs ys p.2
-AreOrderedFrom-after r n (Read m ∷ xs) ys p = AreOrderedFrom-after r n xs ys p.1
+AreOrderedFrom-after r n (Read reader place m ∷ xs) ys p = AreOrderedFrom-after r n xs ys p.1
 
 -- no more batches are counted than are recorded
 pub count_from-le : (r n : ℕ) (xs : List LogStep) → n ≤ r → AreOrderedFrom r n xs → count_from n xs ≤ r + length (batches_of xs)
 count_from-le r n [] le p = omega (arith, le)
 count_from-le r n (Recorded b ∷ xs) le p = omega (arith, count_from-le (r + 1) n xs (omega (arith, le)) p)
 count_from-le r n (Published m ∷ xs) le p = count_from-le r m xs p.1 p.2
-count_from-le r n (Read m ∷ xs) le p = count_from-le r n xs le p.1
+count_from-le r n (Read reader place m ∷ xs) le p = count_from-le r n xs le p.1
 
 -- counts don't fall
 count_from-grows : (r n : ℕ) (xs : List LogStep) → AreOrderedFrom r n xs → n ≤ count_from n xs
 count_from-grows r n [] p = omega arith
 count_from-grows r n (Recorded b ∷ xs) p = count_from-grows (r + 1) n xs p
 count_from-grows r n (Published m ∷ xs) p = omega (arith, p.0, count_from-grows r m xs p.2)
-count_from-grows r n (Read m ∷ xs) p = count_from-grows r n xs p.1
+count_from-grows r n (Read reader place m ∷ xs) p = count_from-grows r n xs p.1
 
 -- the first steps are ordered
 AreOrderedFrom-first : (r n : ℕ) (xs ys : List LogStep) → AreOrderedFrom r n (xs ++ ys) → AreOrderedFrom r n xs
 AreOrderedFrom-first r n [] ys p = tt
 AreOrderedFrom-first r n (Recorded b ∷ xs) ys p = AreOrderedFrom-first (r + 1) n xs ys p
 AreOrderedFrom-first r n (Published m ∷ xs) ys p = (p.0, p.1, AreOrderedFrom-first r m xs ys p.2)
-AreOrderedFrom-first r n (Read m ∷ xs) ys p = (p.0, AreOrderedFrom-first r n xs ys p.1)
+AreOrderedFrom-first r n (Read reader place m ∷ xs) ys p = (p.0, AreOrderedFrom-first r n xs ys p.1)
 
 count_of-le : (xs ys more : List LogStep) → AreOrderedFrom 0 0 (xs ++ (ys ++ more)) → count_of xs ≤ 0 + length (batches_of xs)
 count_of-le xs ys more p = count_from-le 0 0 xs (omega arith) (AreOrderedFrom-first 0 0 xs (ys ++ more) p)
 
 -- Steps with a reading behind them: it finds no less than was counted before them, and no more than
 -- are recorded.
-reading_of : (r n : ℕ) (xs : List LogStep) (found : ℕ) → n ≤ r → AreOrderedFrom r n (xs ++ Read found ∷ []) → (n ≤ found) × (found ≤ r + length (batches_of xs))
-reading_of r n [] found le p = (omega (arith, p.0), omega (arith, p.0, le))
-reading_of r n (Recorded b ∷ xs) found le p = let rest = reading_of (r + 1) n xs found (omega (arith, le)) p in (rest.0, omega (arith, rest.1))
-reading_of r n (Published m ∷ xs) found le p = let rest = reading_of r m xs found p.1 p.2 in (omega (arith, rest.0, p.0), rest.1)
-reading_of r n (Read m ∷ xs) found le p = reading_of r n xs found le p.1
+found_in : (r n : ℕ) (xs : List LogStep) (reader place found : ℕ) → n ≤ r → AreOrderedFrom r n (xs ++ Read reader place found ∷ []) → (n ≤ found) × (found ≤ r + length (batches_of xs))
+found_in r n [] reader place found le p = (omega (arith, p.0), omega (arith, p.0, le))
+found_in r n (Recorded b ∷ xs) reader place found le p = let rest = found_in (r + 1) n xs reader place found (omega (arith, le)) p in (rest.0, omega (arith, rest.1))
+found_in r n (Published m ∷ xs) reader place found le p = let rest = found_in r m xs reader place found p.1 p.2 in (omega (arith, rest.0, p.0), rest.1)
+found_in r n (Read reader' place' m ∷ xs) reader place found le p = found_in r n xs reader place found le p.1
+
+-- A reading among the steps of a journal finds what was counted by those before it.
+pub found_among : (before after : List LogStep) (reader place found : ℕ) → AreOrderedFrom 0 0 (before ++ Read reader place found ∷ after) → found ≡ count_of before
+found_among before after reader place found order = (AreOrderedFrom-after 0 0 before (Read reader place found ∷ after) order).0
 
 pub finds_counts : ReadingsFindCounts
-finds_counts before after found up journal =
+finds_counts before after reader place found up journal =
     let others = up.0 in
-    let whole : AreOrderedFrom 0 0 (before ++ (others ++ Read found ∷ [])) = subst (AreOrderedFrom 0 0) (up.1 ∙ append_assoc before others (Read found ∷ [])) journal.order in
-    let it = reading_of (0 + length (batches_of before)) (count_of before) others found (count_of-le before others (Read found ∷ []) whole) (AreOrderedFrom-after 0 0 before (others ++ Read found ∷ []) whole) in
-    (it.0, omega (arith, it.1, ap (λ (l : List LogStep). length (batches_of l)) (up.1 ∙ append_assoc before others (Read found ∷ [])), ap length (batches_of-append before (others ++ Read found ∷ [])), length-append (batches_of before) (batches_of (others ++ Read found ∷ [])), ap length (batches_of-append others (Read found ∷ [])), length-append (batches_of others) []))
+    let whole : AreOrderedFrom 0 0 (before ++ (others ++ Read reader place found ∷ [])) = subst (AreOrderedFrom 0 0) (up.1 ∙ append_assoc before others (Read reader place found ∷ [])) journal.order in
+    let it = found_in (0 + length (batches_of before)) (count_of before) others reader place found (count_of-le before others (Read reader place found ∷ []) whole) (AreOrderedFrom-after 0 0 before (others ++ Read reader place found ∷ []) whole) in
+    (it.0, omega (arith, it.1, ap (λ (l : List LogStep). length (batches_of l)) (up.1 ∙ append_assoc before others (Read reader place found ∷ [])), ap length (batches_of-append before (others ++ Read reader place found ∷ [])), length-append (batches_of before) (batches_of (others ++ Read reader place found ∷ [])), ap length (batches_of-append others (Read reader place found ∷ [])), length-append (batches_of others) []))
 
 -- later steps don't count less
 pub count_of-prefix : (first all : List LogStep) → IsPrefix first all → AreJournalSteps all → count_of first ≤ count_of all

@@ -42,13 +42,13 @@ raised-within version count raised own steps is le pre within =
 pub IsHistory-raised : FirstBatchesAreLawful → (raised : ℕ) (steps : List LogStep) → AreJournalSteps steps → IsHistory (take raised (batches_of steps))
 IsHistory-raised law raised steps journal = IsHistory-prefix law (batches_of steps) (take raised (batches_of steps)) (BeginsWith-take raised (batches_of steps)) journal.history
 
-pub catches_up : (version count raised : ℕ) (own : List LogStep) (before after : KnownBatches) (seen both steps : KnownSteps) → IsRaised version count raised
+pub catches_up : (version reader place count raised : ℕ) (own : List LogStep) (before after : KnownBatches) (seen both steps : KnownSteps) → IsRaised version count raised
     → before.batches ≡ take version (batches_of own) → after.batches ≡ take raised (batches_of steps.steps) → after.source ≡ before.source → steps.source ≡ seen.source
-    → version ≤ length (batches_of own) → IsPrefix seen.steps both.steps → IsPrefix own both.steps → AreStepsUpTo both.steps steps.steps (Read count) → count ≤ length (batches_of steps.steps) → AreJournalSteps steps.steps
-    → CatchesUp before after seen steps count
-catches_up version count raised own before after seen both steps is were are source journal le seen_pre own_pre read within whole =
-    let pre : IsPrefix own steps.steps = IsPrefix-up_to own both.steps steps.steps (Read count) own_pre read in
-    let up : AreStepsUpTo seen.steps steps.steps (Read count) = (seen_pre.0 ++ read.0, read.1 ∙ ap (λ (w : List LogStep). w ++ Read count ∷ []) (ap (λ (w : List LogStep). w ++ read.0) (sym seen_pre.1) ∙ append_assoc seen.steps seen_pre.0 read.0)) in
+    → version ≤ length (batches_of own) → IsPrefix seen.steps both.steps → IsPrefix own both.steps → AreStepsUpTo both.steps steps.steps (Read reader place count) → count ≤ length (batches_of steps.steps) → AreJournalSteps steps.steps
+    → CatchesUp before after seen steps reader place count
+catches_up version reader place count raised own before after seen both steps is were are source journal le seen_pre own_pre read within whole =
+    let pre : IsPrefix own steps.steps = IsPrefix-up_to own both.steps steps.steps (Read reader place count) own_pre read in
+    let up : AreStepsUpTo seen.steps steps.steps (Read reader place count) = (seen_pre.0 ++ read.0, read.1 ∙ ap (λ (w : List LogStep). w ++ Read reader place count ∷ []) (ap (λ (w : List LogStep). w ++ read.0) (sym seen_pre.1) ∙ append_assoc seen.steps seen_pre.0 read.0)) in
     let all = batches_of steps.steps in
     let mine = take version (batches_of own) in
     let now = take raised all in
@@ -60,7 +60,7 @@ catches_up version count raised own before after seen both steps is were are sou
       source = source;
       journal = journal;
       read = up;
-      fresh = (finds_counts seen.steps steps.steps count up whole).0;
+      fresh = (finds_counts seen.steps steps.steps reader place count up whole).0;
       later = rw (were, are) begun;
       known = ⊎_elim (λ (t : (raised ≡ version) × (count ≤ version)). omega (arith, t.0, t.1, now_length, ap length are)) (λ (t : (raised ≡ count) × (version ≤ count)). omega (arith, t.0, now_length, ap length are)) is;
       recorded = rw are (BeginsWith-take raised all);

@@ -4,7 +4,7 @@ use Rattle.logbook.specs.Pages.{Cell, Step, View, Book, Named}
 use Rattle.cspf_journal.specs.Histories.{IsHistory}
 use Rattle.cspf_journal.specs.JournalSteps.{batches_of, count_of, AreOrderedFrom, AreJournalSteps, AreStepsUpTo}
 use Rattle.cspf_journal.specs.declared.log_step.LogStep.{LogStep}
-use Rattle.cspf_journal.specs.declared.log_step.LogStep.TheVariants.{Read}
+use Rattle.cspf_journal.specs.declared.log_step.LogStep.TheVariants.{Recorded, Published, Read}
 
 -- The first word is how many batches are recorded, and the second how many are published. The steps
 -- are those of one journal.
@@ -32,6 +32,12 @@ CountsOneMore s v found w = MatchBool (found == s.old)
     (AreStepsUpTo v.0 w.0 s.ask × (count_of w.0 ≡ s.new) × AreJournalSteps w.0)
     (Unit {0})
 
+-- a reading with the count that it finds
+abbrev pub reading_of : LogStep → ℕ → LogStep
+reading_of (Recorded b) found = Recorded b
+reading_of (Published count) found = Published count
+reading_of (Read reader place count) found = Read reader place found
+
 -- the reading is a step of its own, and as many batches are recorded as it finds published
 abbrev pub Reads : Step LogStep → View LogStep ℕ → ℕ → View LogStep ℕ → Type 0
-Reads s v found w = AreStepsUpTo v.0 w.0 (Read found) × (found ≤ length (batches_of w.0)) × AreJournalSteps w.0
+Reads s v found w = AreStepsUpTo v.0 w.0 (reading_of s.ask found) × (found ≤ length (batches_of w.0)) × AreJournalSteps w.0

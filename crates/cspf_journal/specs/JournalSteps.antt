@@ -1,4 +1,5 @@
--- The steps of a journal: batches are recorded, they are counted as published one by one, and the count is read.
+-- The steps of a journal: batches are recorded, they are counted as published one by one, and the count is read
+-- for the rows of readers.
 use Rattle.std.specs.Prelude.{◌≡◌, ℕ, ◌+◌, ◌≤◌, List, [], ◌∷◌, ◌++◌, length}
 use Rattle.cspf_model.specs.Numbered.{NumberedChanges}
 use Rattle.logbook.specs.Pages.{Book}
@@ -11,14 +12,14 @@ abbrev pub batches_of : List LogStep → List NumberedChanges
 batches_of [] = []
 batches_of (Recorded b ∷ steps) = b ∷ batches_of steps
 batches_of (Published count ∷ steps) = batches_of steps
-batches_of (Read count ∷ steps) = batches_of steps
+batches_of (Read reader place count ∷ steps) = batches_of steps
 
 -- how many batches are published after the steps, where this many were before
 abbrev pub count_from : ℕ → List LogStep → ℕ
 count_from before [] = before
 count_from before (Recorded b ∷ steps) = count_from before steps
 count_from before (Published count ∷ steps) = count_from count steps
-count_from before (Read count ∷ steps) = count_from before steps
+count_from before (Read reader place count ∷ steps) = count_from before steps
 
 -- how many batches the steps publish
 abbrev pub count_of : List LogStep → ℕ
@@ -31,7 +32,7 @@ AreOrderedFrom recorded published [] = Unit {0}
 AreOrderedFrom recorded published (Recorded b ∷ steps) = AreOrderedFrom (recorded + 1) published steps
 AreOrderedFrom recorded published (Published count ∷ steps) =
     (count ≡ published + 1) × (count ≤ recorded) × AreOrderedFrom recorded count steps
-AreOrderedFrom recorded published (Read count ∷ steps) =
+AreOrderedFrom recorded published (Read reader place count ∷ steps) =
     (count ≡ published) × AreOrderedFrom recorded published steps
 
 -- The steps of one journal from its first on.

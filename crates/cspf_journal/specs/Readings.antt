@@ -6,13 +6,14 @@ use Rattle.cspf_journal.specs.JournalSteps.{KnownSteps, batches_of, count_of, Ar
 use Rattle.cspf_journal.specs.declared.log_step.LogStep.{LogStep}
 use Rattle.cspf_journal.specs.declared.log_step.LogStep.TheVariants.{Read}
 
--- The count of published batches is read, by a step after all that were seen. It finds no less than was
+-- The count of published batches is read for the row of a reader at this place, by a step after all that
+-- were seen. It finds no less than was
 -- counted by those. From then on at least as many batches are known as it finds. All of them are recorded,
 -- and no others are new.
-pub record CatchesUp (before after : KnownBatches) (seen steps : KnownSteps) (count : ℕ) : Type 0 where
+pub record CatchesUp (before after : KnownBatches) (seen steps : KnownSteps) (reader place count : ℕ) : Type 0 where
   pub source : after.source ≡ before.source
   pub journal : steps.source ≡ seen.source
-  pub read : AreStepsUpTo seen.steps steps.steps (Read count)
+  pub read : AreStepsUpTo seen.steps steps.steps (Read reader place count)
   pub fresh : count_of seen.steps ≤ count
   pub later : BeginsWith after.batches before.batches
   pub known : count ≤ length after.batches
@@ -23,6 +24,6 @@ pub record CatchesUp (before after : KnownBatches) (seen steps : KnownSteps) (co
 -- finds were recorded before it.
 abbrev pub ReadingsFindCounts : Type 0
 ReadingsFindCounts =
-    (before after : List LogStep) (found : ℕ)
-    → AreStepsUpTo before after (Read found) → AreJournalSteps after
+    (before after : List LogStep) (reader place found : ℕ)
+    → AreStepsUpTo before after (Read reader place found) → AreJournalSteps after
     → (count_of before ≤ found) × (found ≤ length (batches_of after))

@@ -1,6 +1,6 @@
 //! The steps of a journal, which exist in proofs alone. What is shared is how many batches are
 //! recorded, and how many are published.
-use crate::log_step::LogStep;
+use crate::log_step::{LogStep, RowOfReader};
 use cspf_model::Batch;
 use logbook::{Gain, Plain, Play, Rule};
 
@@ -82,12 +82,12 @@ impl Play<LogStep, u64> for ReadCount {
     ghost then = { Reads };
 }
 
-/// The step takes a number that it doesn't use: the count is the one that it finds.
-impl Plain<u32, LogStep, u64> for ReadCount {
+/// The step takes the row. Its count is the one that it finds, and no 0.
+impl Plain<RowOfReader, LogStep, u64> for ReadCount {
     ghost use Rattle.std.specs.Prelude.{None};
     ghost use Rattle.cspf_journal.specs.declared.log_step.LogStep.TheVariants.{Read};
 
-    ghost ask = { λ count. Read count };
+    ghost ask = { λ row. Read row.reader row.place 0 };
 
-    ghost state = { λ count. None };
+    ghost state = { λ row. None };
 }

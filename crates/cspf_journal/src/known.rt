@@ -5,7 +5,7 @@ ghost use Rattle.cspf_journal.specs.JournalSteps.{batches_of};
 ghost use Rattle.cspf_journal.specs.Readings.{CatchesUp};
 
 use crate::history::History;
-use crate::log_step::LogStep;
+use crate::log_step::{LogStep, RowOfReader};
 use crate::published_count::PublishedCount;
 use crate::seen_steps::SeenSteps;
 use cspf_model::lawful_batches;
@@ -91,18 +91,23 @@ impl Known {
         true
     }
 
-    /// Reads the count of published batches, and knows at least as many from now on. The steps end
-    /// in the reading.
-    pub fn catch_up(&mut self, count: &PublishedCount, steps: &mut SeenSteps) -> u32
+    /// Reads the count of published batches for a row, and knows at least as many from now on. The
+    /// steps end in the reading.
+    pub fn catch_up(
+        &mut self,
+        count: &PublishedCount,
+        steps: &mut SeenSteps,
+        row: RowOfReader,
+    ) -> u32
         requires count { count.now ≡ self.old.source }
         requires steps { steps.old.source ≡ self.old.source }
-        ensures { CatchesUp self.old self.new steps.old steps.new result }
+        ensures { CatchesUp self.old self.new steps.old steps.new row.reader row.place result }
     {
         // A law: a prefix of a lawful list is lawful.
         lawful_batches();
         let mut seen = steps.seen();
         seen.learn(&self.seen);
-        let published = count.read(&mut seen);
+        let published = count.read(&mut seen, row);
         self.version = self.version.max(published);
         self.seen = seen.again();
         *steps = SeenSteps::new(seen);

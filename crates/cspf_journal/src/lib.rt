@@ -8,7 +8,8 @@
 //!
 //! One word is the count of published batches. The holder of a journal's `RightToCount` moves it, by
 //! one for each batch that it shows. A `Known` that reads it knows as many batches from then on. Each
-//! count and each reading is a step of the journal, so a later reading finds no less.
+//! count and each reading is a step of the journal, so a later reading finds no less. The step of a
+//! reading names the row that it is for.
 //!
 //! A journal gives two `CopyRight`s. Each copy of the table that its publisher keeps holds one, so there
 //! are two copies.
@@ -33,7 +34,7 @@ mod seen_steps;
 pub use journal_writer::JournalWriter;
 pub use known::Known;
 pub use laws::readings_find_what_was_counted;
-pub use log_step::LogStep;
+pub use log_step::{LogStep, RowOfReader};
 pub use new_journal::NewJournal;
 pub use not_recorded::NotRecorded;
 pub use published_count::PublishedCount;

@@ -7,6 +7,22 @@ pub enum LogStep {
     Recorded(Batch),
     /// One more batch is published: this many are from now on.
     Published(u32),
-    /// The count of published batches is read, and it is this one.
-    Read(u32),
+    /// The count of published batches is read for a row, and it is this one.
+    Read {
+        /// The number of the reader.
+        reader: u64,
+        /// The place of its row, from 1.
+        place: u64,
+        /// The count.
+        count: u32,
+    },
+}
+
+/// The row for which a reader reads the count of published batches.
+#[derive(Clone, Copy)]
+pub struct RowOfReader {
+    /// The number of the reader.
+    pub reader: u64,
+    /// The place of its row, from 1.
+    pub place: u64,
 }

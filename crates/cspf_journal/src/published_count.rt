@@ -5,7 +5,7 @@ ghost use Rattle.cspf_journal.specs.JournalSteps.{batches_of, count_of, AreJourn
 ghost use Rattle.cspf_journal.specs.declared.log_step.LogStep.TheVariants.{Published, Read};
 
 use crate::history::{CountBatch, History, NoGain, ReadCount};
-use crate::log_step::LogStep;
+use crate::log_step::{LogStep, RowOfReader};
 use logbook::{Offer, Seen, Word};
 use std::marker::Model;
 
@@ -67,17 +67,19 @@ impl PublishedCount {
         found == old
     }
 
-    /// Reads the count, by one step.
-    pub(crate) fn read(&self, seen: &mut Seen<LogStep, u64, History>) -> u32
+    /// Reads the count for a row, by one step.
+    pub(crate) fn read(&self, seen: &mut Seen<LogStep, u64, History>, row: RowOfReader) -> u32
         requires { seen.old.book ≡ self.now }
         ensures source { seen.new.book ≡ seen.old.book }
-        ensures read { AreStepsUpTo seen.old.log seen.new.log (Read result) }
+        ensures read { AreStepsUpTo seen.old.log seen.new.log (Read row.reader row.place result) }
         ensures recorded { result ≤ length (batches_of seen.new.log) }
         ensures journal { AreJournalSteps seen.new.log }
     {
-        let mut offer: Offer<LogStep, u64, History, NoGain> = seen.plain::<NoGain, u32, ReadCount>(
-            &0,
-        );
+        let mut offer: Offer<LogStep, u64, History, NoGain> = seen.plain::<
+            NoGain,
+            RowOfReader,
+            ReadCount,
+        >(&row);
         self.word.load::<ReadCount, NoGain>(seen, &mut offer) as u32
     }
 }

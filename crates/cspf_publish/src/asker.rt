@@ -13,7 +13,7 @@ ghost use Rattle.cspf_publish.specs.ReplicaRule.{KnowsItsEntry};
 use crate::asker_seat::{AskerSeat, ReplicaReader, enter_and_search};
 use crate::{Answer, AskError, Told};
 use core::mem::replace_with;
-use cspf_journal::{Known, PublishedCount, SeenSteps};
+use cspf_journal::{Known, PublishedCount, RowOfReader, SeenSteps};
 use cspf_model::Request;
 use std::alloc::Global;
 use std::marker::Model;
@@ -131,14 +131,14 @@ impl Asker {
         self.seen()
     }
 
-    /// Reads the count of published batches, by one step, and knows at least as many from now on.
-    /// The publisher moves the count once a batch is published. The steps end in the reading. It
-    /// takes no memory, and never blocks.
-    pub fn catch_up(&mut self, steps: &mut SeenSteps) -> u32
+    /// Reads the count of published batches for a row, by one step, and knows at least as many from
+    /// now on. The publisher moves the count once a batch is published. The steps end in the reading.
+    /// It takes no memory, and never blocks.
+    pub fn catch_up(&mut self, steps: &mut SeenSteps, row: RowOfReader) -> u32
         requires { steps.old.source ≡ self.old.source }
-        ensures { CatchesUp self.old self.new steps.old steps.new result }
+        ensures { CatchesUp self.old self.new steps.old steps.new row.reader row.place result }
     {
-        self.known.catch_up(&self.count, steps)
+        self.known.catch_up(&self.count, steps, row)
     }
 
     /// Steps of the journal that record the known batches.

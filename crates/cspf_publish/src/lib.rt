@@ -23,7 +23,7 @@ mod told;
 
 pub use answer::Answer;
 pub use asker::Asker;
-pub use cspf_journal::SeenSteps;
+pub use cspf_journal::{Known, RowOfReader, SeenSteps};
 pub use cspf_model::MOST_VERSIONS;
 pub use errors::{ApplyError, AskError, OpenError};
 pub use limits::{MOST_ASKERS, MOST_TREE_MEGABYTES, TREE_MEGABYTES, trees_in};

@@ -13,3 +13,4 @@ pub mod UpdatesSteps
 pub mod UpdatesStream
 pub mod Pairs
 pub mod ServedSteps
+pub mod FreshLines

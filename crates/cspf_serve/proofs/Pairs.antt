@@ -1,6 +1,7 @@
 -- Lists whose elements are related place by place.
 use Rattle.std.proofs.Common.{◌≡◌, ℕ, suc, ◌<◌, ◌≤◌, List, [], ◌∷◌, ◌++◌, length, length-append, get_or, All, Some, refl, sym, ap, subst, ◌∙◌, append_assoc, append-nil, take, arith}
 use Rattle.std.specs.List.{AllZip}
+use Rattle.cspf_serve.specs.NumberedPairs.{AreNumberedPairs}
 use Rattle.std.proofs.Math.Seq.{take-append_seam}
 use Rattle.std.proofs.lemmas.List.Elements.{All-cons, All-head, All-nil, All-pop, All-tail}
 
@@ -11,35 +12,43 @@ pairs_push R [] (b ∷ ys) x y all one = absurd all
 pairs_push R (a ∷ xs) [] x y all one = absurd all
 pairs_push R (a ∷ xs) (b ∷ ys) x y all one = (all.0, pairs_push R xs ys x y all.1 one)
 
--- one relation composed with another
-pub pairs_through : {A B C : Type 0} (R : A → B → Type 0) (S : B → C → Type 0) (xs : List A) (ys : List B) (zs : List C) → AllZip R xs ys → AllZip S ys zs
-    → AllZip (λ x z. (y : B) × R x y × S y z) xs zs
-pairs_through R S [] [] [] r s = tt
-pairs_through R S [] [] (z ∷ zs) r s = absurd s
-pairs_through R S [] (y ∷ ys) zs r s = absurd r
-pairs_through R S (x ∷ xs) [] zs r s = absurd r
-pairs_through R S (x ∷ xs) (y ∷ ys) [] r s = absurd s
-pairs_through R S (x ∷ xs) (y ∷ ys) (z ∷ zs) r s = ((y, r.0, s.0), pairs_through R S xs ys zs r.1 s.1)
-
-pub pairs_weaker : {A B : Type 0} (R S : A → B → Type 0) → ((x : A) (y : B) → R x y → S x y) → (xs : List A) (ys : List B) → AllZip R xs ys → AllZip S xs ys
-pairs_weaker R S weaker [] [] all = tt
-pairs_weaker R S weaker [] (y ∷ ys) all = absurd all
-pairs_weaker R S weaker (x ∷ xs) [] all = absurd all
-pairs_weaker R S weaker (x ∷ xs) (y ∷ ys) all = (weaker x y all.0, pairs_weaker R S weaker xs ys all.1)
-
--- a fact of each second element, by its first element
-pub pairs_second : {A B : Type 0} (R : A → B → Type 0) (P : B → Type 0) → ((x : A) (y : B) → R x y → P y) → (xs : List A) (ys : List B) → AllZip R xs ys → All P ys
-pairs_second R P holds [] [] all = All-nil P
-pairs_second R P holds [] (y ∷ ys) all = absurd all
-pairs_second R P holds (x ∷ xs) [] all = absurd all
-pairs_second R P holds (x ∷ xs) (y ∷ ys) all = All-cons P y ys (holds x y all.0) (pairs_second R P holds xs ys all.1)
-
 -- a fact of each first element
 pub pairs_with : {A B : Type 0} (R : A → B → Type 0) (P : A → Type 0) (xs : List A) (ys : List B) → AllZip R xs ys → All P xs → AllZip (λ x y. R x y × P x) xs ys
 pairs_with R P [] [] all each = tt
 pairs_with R P [] (y ∷ ys) all each = absurd all
 pairs_with R P (x ∷ xs) [] all each = absurd all
 pairs_with R P (x ∷ xs) (y ∷ ys) all each = ((all.0, All-head P x xs each), pairs_with R P xs ys all.1 (All-tail P x xs each))
+
+-- a relation by number, composed with another
+pub numbered_through : {A B C : Type 0} (R : ℕ → A → B → Type 0) (S : B → C → Type 0) (T : ℕ → A → C → Type 0) → ((n : ℕ) (x : A) (y : B) (z : C) → R n x y → S y z → T n x z)
+    → (n : ℕ) (xs : List A) (ys : List B) (zs : List C) → AreNumberedPairs R n xs ys → AllZip S ys zs → AreNumberedPairs T n xs zs
+numbered_through R S T both n [] [] [] r s = tt
+numbered_through R S T both n [] [] (z ∷ zs) r s = absurd s
+numbered_through R S T both n [] (y ∷ ys) zs r s = absurd r
+numbered_through R S T both n (x ∷ xs) [] zs r s = absurd r
+numbered_through R S T both n (x ∷ xs) (y ∷ ys) [] r s = absurd s
+numbered_through R S T both n (x ∷ xs) (y ∷ ys) (z ∷ zs) r s = (both n x y z r.0 s.0, numbered_through R S T both (suc n) xs ys zs r.1 s.1)
+
+pub numbered_weaker : {A B : Type 0} (R S : ℕ → A → B → Type 0) → ((n : ℕ) (x : A) (y : B) → R n x y → S n x y)
+    → (n : ℕ) (xs : List A) (ys : List B) → AreNumberedPairs R n xs ys → AreNumberedPairs S n xs ys
+numbered_weaker R S weaker n [] [] all = tt
+numbered_weaker R S weaker n [] (y ∷ ys) all = absurd all
+numbered_weaker R S weaker n (x ∷ xs) [] all = absurd all
+numbered_weaker R S weaker n (x ∷ xs) (y ∷ ys) all = (weaker n x y all.0, numbered_weaker R S weaker (suc n) xs ys all.1)
+
+-- a fact of each second element, by its number and its first element
+pub numbered_second : {A B : Type 0} (R : ℕ → A → B → Type 0) (P : B → Type 0) → ((n : ℕ) (x : A) (y : B) → R n x y → P y)
+    → (n : ℕ) (xs : List A) (ys : List B) → AreNumberedPairs R n xs ys → All P ys
+numbered_second R P holds n [] [] all = All-nil P
+numbered_second R P holds n [] (y ∷ ys) all = absurd all
+numbered_second R P holds n (x ∷ xs) [] all = absurd all
+numbered_second R P holds n (x ∷ xs) (y ∷ ys) all = All-cons P y ys (holds n x y all.0) (numbered_second R P holds (suc n) xs ys all.1)
+
+pub length_numbered : {A B : Type 0} (R : ℕ → A → B → Type 0) (n : ℕ) (xs : List A) (ys : List B) → AreNumberedPairs R n xs ys → length ys ≡ length xs
+length_numbered R n [] [] all = refl
+length_numbered R n [] (y ∷ ys) all = absurd all
+length_numbered R n (x ∷ xs) [] all = absurd all
+length_numbered R n (x ∷ xs) (y ∷ ys) all = ap suc (length_numbered R (suc n) xs ys all.1)
 
 pub length_pairs : {A B : Type 0} (R : A → B → Type 0) (xs : List A) (ys : List B) → AllZip R xs ys → length ys ≡ length xs
 length_pairs R [] [] all = refl

@@ -1,5 +1,5 @@
 -- Clients of a run, from their seats to their results.
-use Rattle.std.proofs.Common.{◌≡◌, ◌<◌, ◌⊎◌, ℕ, false, Option, List, [], ◌∷◌, All, length, Result, Ok, Err, inl, inr, refl, sym, ap, subst, ◌∙◌, arith}
+use Rattle.std.proofs.Common.{◌≡◌, ◌+◌, ◌<◌, ◌⊎◌, ℕ, suc, false, Option, List, [], ◌∷◌, ◌++◌, All, length, Result, Ok, Err, inl, inr, refl, sym, ap, subst, ◌∙◌, arith}
 use Rattle.std.proofs.lemmas.Bool.{cases_lt}
 use Rattle.std.specs.List.{AllZip}
 use Rattle.std.proofs.lemmas.List.Elements.{All-head, All-tail}
@@ -8,6 +8,7 @@ use Rattle.cspf_model.specs.Numbered.{NumberedChanges}
 use Rattle.cspf_publish.specs.PublisherStates.{PublisherState}
 use Rattle.cspf_client.specs.declared.client.Client.{Client}
 use Rattle.cspf_client.specs.declared.client.ServedClient.{ServedClient}
+use Rattle.cspf_client.specs.declared.error.ClientError.TheVariants.{Ahead}
 use Rattle.cspf_publish.specs.Histories.{BeginsWith}
 use Rattle.cspf_publish.specs.JournalSteps.{KnownSteps, batches_of, count_of}
 use Rattle.cspf_publish.specs.KnownBatches.{KnownBatches, AreFirstOf}
@@ -16,19 +17,20 @@ use Rattle.cspf_client.specs.ServingStates.{ServingState, HasMet}
 use Rattle.cspf_stream.specs.RowAnswers.{AreAllAnswered}
 use Rattle.cspf_stream.specs.declared.error.StreamError.{StreamError}
 use Rattle.cspf_stream.specs.Lines.{end_line}
-use Rattle.cspf_serve.specs.ServedRun.{AreStepsOfRun, IsServedClient, IsServedRun, IsServedStatus, IsUpdateAnsweredAt, IsLastLineSaid, IsUpdatesRun}
+use Rattle.cspf_serve.specs.ServedRun.{AreStepsOfRun, AreServedFrom, IsServedClient, IsServedRun, IsServedStatus, IsUpdateAnsweredAt, IsLastLineSaid, IsUpdatesRun}
 use Rattle.cspf_jobs.specs.Jobs.{AreDone}
 use Rattle.cspf_client.proofs.Prefixes.{IsPrefix-trans}
 use Rattle.cspf_rows.specs.Records.{rows_of}
 use Rattle.cspf_serve.specs.declared.serving.served_run.Served.{Served}
 use Rattle.std.specs.Option.{option_map}
-use Rattle.cspf_serve.specs.ServedSteps.{IsSeat, IsAnswered, IsOfSource, IsServedEnd, IsClosedRun}
+use Rattle.cspf_serve.specs.NumberedPairs.{AreNumberedPairs}
+use Rattle.cspf_serve.specs.ServedSteps.{IsSeat, AreNumberedSeats, IsAnswered, IsOfSource, IsServedEnd, IsClosedRun}
 use Rattle.cspf_serve.specs.declared.serving.served_run.ClientSeat.{ClientSeat}
 use Rattle.cspf_serve.specs.Updates.{UpdatesState, no_updates}
 use Rattle.cspf_stream.specs.OpenChanges.{AreOpen}
 use Rattle.cspf_serve.specs.UpdatesStates.{KeptUpdates, KeepsUpdates, IsFresh}
 use Rattle.std.proofs.KnownBytes.{Appends-nil}
-use Rattle.cspf_serve.proofs.Pairs.{pairs_through, pairs_weaker, pairs_second, pairs_with}
+use Rattle.cspf_serve.proofs.Pairs.{numbered_second, numbered_through, pairs_with}
 
 abbrev Rows : Type 0
 Rows = List (List (List ℕ))
@@ -41,52 +43,56 @@ module _ {Q V : Type 0} (bytes : Q → Option (List ℕ)) (contents : V → Opti
   ready_of (s ∷ seats) [] long = absurd (omega (arith, long))
   ready_of (s ∷ seats) (c ∷ clients) long = (tt, ready_of seats clients (omega (arith, long)))
 
-  -- clients whose seats are of the publisher are answered from it
-  pub answered_of : (seats : List ClientSeat) (clients : List (Client Q V)) (ran : List (ServingState Q V)) → All (IsSeat source) seats
-      → AreDone (λ (s : ClientSeat) (client : Client Q V) (c : ServingState Q V). IsAnswered bytes contents s.asker.source client c) seats clients ran
-      → AllZip (IsAnswered bytes contents source) clients ran
-  answered_of [] [] [] each done = tt
-  answered_of [] [] (r ∷ ran) each done = absurd done
-  answered_of [] (c ∷ clients) ran each done = absurd done
-  answered_of (s ∷ seats) [] ran each done = absurd done
-  answered_of (s ∷ seats) (c ∷ clients) [] each done = absurd done
-  answered_of (s ∷ seats) (c ∷ clients) (r ∷ ran) each done = (
-    subst (λ book. IsAnswered bytes contents book c r) (All-head (IsSeat source) s seats each) done.0,
-    answered_of seats clients ran (All-tail (IsSeat source) s seats each) done.1,
+  -- clients whose seats are of the publisher are answered from it, each by its number
+  pub answered_of : (n : ℕ) (seats : List ClientSeat) (clients : List (Client Q V)) (ran : List (ServingState Q V)) → All (IsSeat source) seats → AreNumberedSeats n seats
+      → AreDone (λ (s : ClientSeat) (client : Client Q V) (c : ServingState Q V). IsAnswered bytes contents s.asker.source s.number client c) seats clients ran
+      → AreNumberedPairs (IsAnswered bytes contents source) n clients ran
+  answered_of n [] [] [] each numbers done = tt
+  answered_of n [] [] (r ∷ ran) each numbers done = absurd done
+  answered_of n [] (c ∷ clients) ran each numbers done = absurd done
+  answered_of n (s ∷ seats) [] ran each numbers done = absurd done
+  answered_of n (s ∷ seats) (c ∷ clients) [] each numbers done = absurd done
+  answered_of n (s ∷ seats) (c ∷ clients) (r ∷ ran) each numbers done = (
+    subst (λ (m : ℕ). IsAnswered bytes contents source m c r) numbers.0
+        (subst (λ book. IsAnswered bytes contents book s.number c r) (All-head (IsSeat source) s seats each) done.0),
+    answered_of (suc n) seats clients ran (All-tail (IsSeat source) s seats each) numbers.1 done.1,
   )
 
   -- and once they were run they are still of the publisher
-  pub sources_of_run : (clients : List (Client Q V)) (ran : List (ServingState Q V)) → AllZip (IsAnswered bytes contents source) clients ran → All (IsOfSource source) ran
+  pub sources_of_run : (clients : List (Client Q V)) (ran : List (ServingState Q V)) → AreNumberedPairs (IsAnswered bytes contents source) 1 clients ran → All (IsOfSource source) ran
   sources_of_run clients ran answered =
-      pairs_second (IsAnswered bytes contents source) (IsOfSource source) (λ c s is. (sym is.forward.known.source ∙ is.source_is, sym is.forward.steps.source ∙ is.steps_source)) clients ran answered
+      numbered_second (IsAnswered bytes contents source) (IsOfSource source) (λ n c s is. (sym is.forward.known.source ∙ is.source_is, sym is.forward.steps.source ∙ is.steps_source)) 1 clients ran answered
 
   -- the results of all clients
   served_of : (published : List NumberedChanges) (all : KnownSteps) (clients : List (Client Q V)) (ran : List (ServingState Q V)) (served : List (ServedClient V))
-      → AllZip (IsAnswered bytes contents source) clients ran → AllZip (IsServedEnd published) ran served → All (λ (a : ServingState Q V). AreFirstSteps all a.state.steps) ran
-      → AllZip (IsServedClient bytes contents published all) clients served
+      → AreNumberedPairs (IsAnswered bytes contents source) 1 clients ran → AllZip (IsServedEnd published) ran served → All (λ (a : ServingState Q V). AreFirstSteps all a.state.steps) ran
+      → AreServedFrom bytes contents published all 1 clients served
   served_of published all clients ran served answered closed firsts =
       let Ends : ServingState Q V → ServedClient V → Type 0 = λ a s. IsServedEnd published a s × AreFirstSteps all a.state.steps in
-      pairs_weaker (λ c s. (a : ServingState Q V) × IsAnswered bytes contents source c a × Ends a s) (IsServedClient bytes contents published all)
-      (λ c s is. record {
-        before = is.1.before;
-        after = is.0;
-        ready = is.1.ready;
-        requests = is.1.requests;
-        empty = is.1.replies;
-        run = is.1.run;
-        steps = is.2.1;
-        replies = is.2.0.replies;
-        refused = is.2.0.refused;
-        end = is.2.0.end;
-      }) clients served
-      (pairs_through (IsAnswered bytes contents source) Ends clients ran served answered
-      (pairs_with (IsServedEnd published) (λ (a : ServingState Q V). AreFirstSteps all a.state.steps) ran served closed firsts))
+      numbered_through (IsAnswered bytes contents source) Ends (IsServedClient bytes contents published all)
+      (λ n c a s is ends. record {
+        before = is.before;
+        after = a;
+        ready = is.ready;
+        number_is = is.number_is;
+        requests = is.requests;
+        empty = is.replies;
+        run = is.run;
+        replies = ends.0.replies;
+        refused = ends.0.refused;
+        steps = ends.0.steps;
+        known = ends.0.known;
+        first = subst (λ (k : KnownSteps). AreFirstSteps all k) (sym ends.0.steps) ends.1;
+        source = ap (λ (k : KnownBatches). k.source) ends.0.known ∙ (sym is.forward.known.source ∙ (is.source_is ∙ (sym is.steps_source ∙ (is.forward.steps.source ∙ ends.1.source))));
+        end = ends.0.end;
+      }) 1 clients ran served answered
+      (pairs_with (IsServedEnd published) (λ (a : ServingState Q V). AreFirstSteps all a.state.steps) ran served closed firsts)
 
   -- the result of the run, from where its publisher was opened
   pub served_run : {W J : Type 0} (said : W → Option (List ℕ)) (recorded : J → Option (List ℕ)) (updates : Option (List ℕ)) (writer written : W) (first : PublisherState J) (left : KeptUpdates J)
       (clients : List (Client Q V)) (ran : List (ServingState Q V)) (ended : Result (Unit {0}) StreamError) (served : Served W J V)
       → (t : UpdatesState) × KeepsUpdates recorded first left t × IsUpdatesRun ended (option_map rows_of updates) t (said writer) (said written)
-      → AllZip (IsAnswered bytes contents source) clients ran → IsClosedRun recorded ended written left ran served
+      → AreNumberedPairs (IsAnswered bytes contents source) 1 clients ran → IsClosedRun recorded ended written left ran served
       → IsServedRun updates said recorded bytes contents writer first.journal clients served
   served_run said recorded updates writer written first left clients ran ended served run answered closed =
       let t = run.0 in
@@ -95,15 +101,14 @@ module _ {Q V : Type 0} (bytes : Q → Option (List ℕ)) (contents : V → Opti
         state = t;
         updates_run = rw (closed.ended_is, closed.said_is) run.2;
         journal_grown = rw closed.journal_is published.journal;
-        steps = closed.steps;
         steps_of_run = record {
           journal = closed.journal;
-          recorded = subst (λ (bs : List NumberedChanges). BeginsWith (batches_of closed.steps.steps) bs) published.batches closed.counted.recorded;
+          recorded = subst (λ (bs : List NumberedChanges). BeginsWith (batches_of served.steps.steps) bs) published.batches closed.counted.recorded;
           counted = omega (arith, closed.counted.counted, ap length published.batches);
-          later = IsPrefix-trans t.steps left.sink.steps.steps closed.steps.steps published.steps closed.later;
+          later = IsPrefix-trans t.steps left.sink.steps.steps served.steps.steps published.steps closed.later;
         };
         clients_served =
-            served_of t.run.accepted closed.steps clients ran served.clients.items answered
+            served_of t.run.accepted served.steps clients ran served.clients.items answered
             (subst (λ (bs : List NumberedChanges). AllZip (IsServedEnd bs) ran served.clients.items) published.batches closed.closed) closed.seen;
         status_is = closed.status first t run.1;
       }
@@ -142,28 +147,35 @@ module _ {J V : Type 0} (contents : J → Option (List ℕ)) (first : PublisherS
   pub status_of_clients : ¬ All (λ (c : ServedClient V). c.refused ≡ 0) clients → IsServedStatus t clients 2
   status_of_clients not = inr ((λ all. not all.each), refl)
 
--- a client that has learnt the published batches, and is closed
-pub closed_of : {Q V : Type 0} (published : List NumberedChanges) (told : KnownBatches) (old met : ServingState Q V) (served : ServedClient V)
-    → told.batches ≡ published
+-- a client that has met the published batches, and is closed with what it knew before
+pub closed_of : {Q V : Type 0} (published : List NumberedChanges) (told knew : KnownBatches) (old met : ServingState Q V) (served : ServedClient V)
+    → told.batches ≡ published → knew ≡ old.state.known
     → met ≡ record old { state = record old.state { known = met.state.known }; end = met.end }
     → AreFirstOf met.state.known old.state.known → HasMet told old met
-    → served ≡ record { replies = met.replies; end = met.end; refused = met.state.refused } → IsServedEnd published old served
-closed_of {Q} {V} published told old met served batches others known (inl is) left = record {
-  replies = ap (λ (x : ServedClient V). x.replies) left ∙ ap (λ (x : ServingState Q V). x.replies) others;
-  refused = ap (λ (x : ServedClient V). x.refused) left ∙ ap (λ (x : ServingState Q V). x.state.refused) others;
-  end = inl (
-    ap (λ (x : ServedClient V). x.end) left ∙ is.1,
-    subst (λ (bs : List NumberedChanges). BeginsWith bs old.state.known.batches) (ap (λ (k : KnownBatches). k.batches) is.0 ∙ batches) known.begins,
-  );
-}
-closed_of {Q} {V} published told old met served batches others known (inr is) left = record {
-  replies = ap (λ (x : ServedClient V). x.replies) left ∙ ap (λ (x : ServingState Q V). x.replies) others;
-  refused = ap (λ (x : ServedClient V). x.refused) left ∙ ap (λ (x : ServingState Q V). x.state.refused) others;
-  end = inr (
-    ap (λ (x : ServedClient V). x.end) left ∙ is.1,
-    subst (λ (bs : List NumberedChanges). length bs < length old.state.known.batches) batches is.0.1,
-  );
-}
+    → served ≡ record { replies = met.replies; end = met.end; refused = met.state.refused; steps = met.state.steps; known = knew } → IsServedEnd published old served
+closed_of {Q} {V} published told knew old met served batches was others known has left =
+    let now : served.known ≡ old.state.known = ap (λ (x : ServedClient V). x.known) left ∙ was in
+    record {
+      replies = ap (λ (x : ServedClient V). x.replies) left ∙ ap (λ (x : ServingState Q V). x.replies) others;
+      refused = ap (λ (x : ServedClient V). x.refused) left ∙ ap (λ (x : ServingState Q V). x.state.refused) others;
+      steps = ap (λ (x : ServedClient V). x.steps) left ∙ ap (λ (x : ServingState Q V). x.state.steps) others;
+      known = now;
+      end = subst (λ (k : KnownBatches). ((served.end ≡ old.end) × BeginsWith published k.batches) ⊎ ((served.end ≡ Err Ahead) × (length published < length k.batches))) (sym now) (elim has [
+        | inl is ↦ inl (
+          ap (λ (x : ServedClient V). x.end) left ∙ is.1,
+          subst (λ (bs : List NumberedChanges). BeginsWith bs old.state.known.batches) (ap (λ (k : KnownBatches). k.batches) is.0 ∙ batches) known.begins,
+        )
+        | inr is ↦ inr (
+          ap (λ (x : ServedClient V). x.end) left ∙ is.1,
+          subst (λ (bs : List NumberedChanges). length bs < length old.state.known.batches) batches is.0.1,
+        )
+      ]);
+    }
+
+-- seats with one more, of the next number
+pub seats_more : (n : ℕ) (seats : List ClientSeat) (seat : ClientSeat) → AreNumberedSeats n seats → seat.number ≡ length seats + n → AreNumberedSeats n (seats ++ seat ∷ [])
+seats_more n [] seat all is = (omega (arith, is), tt)
+seats_more n (s ∷ seats) seat all is = (all.0, seats_more (suc n) seats seat all.1 (omega (arith, is)))
 
 -- the state that is kept before the first row
 pub begins : {J : Type 0} (contents : J → Option (List ℕ)) (p : PublisherState J) (k : KeptUpdates J) → k.sink.publisher ≡ p → p.batches ≡ [] → p.stopped ≡ false

@@ -12,5 +12,7 @@ pub mod LiveLines
 pub mod RunFaults
 pub mod Updates
 pub mod UpdatesStates
+pub mod NumberedPairs
 pub mod ServedRun
+pub mod ServedLaws
 pub mod ServedSteps

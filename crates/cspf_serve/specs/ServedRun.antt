@@ -1,7 +1,6 @@
 -- The result of a run over updates and clients: one list of published batches. The updates make it,
 -- the journal has it, and every client is answered from it.
 use Rattle.std.specs.Prelude.{◌≡◌, ℕ, ◌+◌, ◌<◌, ◌≤◌, ◌⊎◌, Bool, Option, Some, List, [], length, All, Result, Err, MatchResult}
-use Rattle.std.specs.List.{AllZip}
 use Rattle.std.specs.Option.{option_map}
 use Rattle.std.specs.Io.KnownBytes.{Appends, Keeps}
 use mathlib.Core.List.{IsPrefix}
@@ -24,6 +23,7 @@ use Rattle.cspf_stream.specs.declared.error.StreamError.TheVariants as error
 use Rattle.cspf_stream.specs.Lines.{end_line}
 use Rattle.cspf_serve.specs.Updates.{UpdatesState, IsUpdateAnswered, IsUpdateLost, at_next_update, no_updates}
 use Rattle.cspf_serve.specs.RunFaults.{IsOpeningFault}
+use Rattle.cspf_serve.specs.NumberedPairs.{AreNumberedPairs}
 use Rattle.cspf_serve.specs.declared.serving.served_run.Served.{Served}
 use Rattle.cspf_serve.specs.declared.serving.served_run.ServedError.{ServedError}
 use Rattle.cspf_serve.specs.declared.serving.served_run.ServedError.TheVariants as served_error
@@ -72,24 +72,33 @@ IsUpdatesRun ended all t old new =
     (λ done. AreUpdatesAnswered (λ line mid. Appends mid new line) all t old)
     (λ error. AreUpdatesStopped error all t old new)
 
--- A client was run, from before the first row of its requests until it learnt all batches that were
--- published in the end. The batches that it knew after its last row are a prefix of these, so each
--- of its replies is the best answer at a published version. Or it knew more batches after its last row
--- than were published in the end, which no run shows, and ends as `Ahead`. Its readings of the count are
--- among all steps of the journal.
-pub record IsServedClient {Q V : Type 0} (bytes : Q → Option (List ℕ)) (contents : V → Option (List ℕ)) (published : List NumberedChanges) (all : KnownSteps) (client : Client Q V) (served : ServedClient V) : Type 0 where
+-- The client with a number was run, from before the first row of its requests until it met all batches that
+-- were published in the end. It hands out what it knew after its last row. Its batches are a prefix of
+-- those that were published, so each of its replies is the best answer at a published version. Or it knew
+-- more batches than were published in the end, which no run shows, and ends as `Ahead`. Its steps are the
+-- first of all steps of the journal, so its readings of the count are among them.
+pub record IsServedClient {Q V : Type 0} (bytes : Q → Option (List ℕ)) (contents : V → Option (List ℕ)) (published : List NumberedChanges) (all : KnownSteps) (number : ℕ) (client : Client Q V) (served : ServedClient V) : Type 0 where
   pub before : ServingState Q V
   pub after : ServingState Q V
   pub ready : IsReady before
+  pub number_is : before.state.client ≡ number
   pub requests : before.requests ≡ Some client.requests
   pub empty : before.replies ≡ client.replies
   pub run : IsClientRun bytes contents before after
-  pub steps : AreFirstSteps all after.state.steps
   pub replies : served.replies ≡ after.replies
   pub refused : served.refused ≡ after.state.refused
+  pub steps : served.steps ≡ after.state.steps
+  pub known : served.known ≡ after.state.known
+  pub first : AreFirstSteps all served.steps
+  pub source : served.known.source ≡ all.source
   pub end :
-      ((served.end ≡ after.end) × BeginsWith published after.state.known.batches)
-      ⊎ ((served.end ≡ Err Ahead) × (length published < length after.state.known.batches))
+      ((served.end ≡ after.end) × BeginsWith published served.known.batches)
+      ⊎ ((served.end ≡ Err Ahead) × (length published < length served.known.batches))
+
+-- Each client was served. The first of them has this number, and each other one the next.
+abbrev pub AreServedFrom : {Q V : Type 0} → (Q → Option (List ℕ)) → (V → Option (List ℕ)) → List NumberedChanges → KnownSteps → ℕ → List (Client Q V) → List (ServedClient V) → Type 0
+AreServedFrom bytes contents published all number clients served =
+    AreNumberedPairs (IsServedClient bytes contents published all) number clients served
 
 -- The steps of one journal from its first on. They record the published batches, count them as published,
 -- and go on from these other steps.
@@ -111,15 +120,15 @@ IsServedStatus t clients status =
     (IsAllAccepted t clients × (status ≡ 0)) ⊎ ((¬ IsAllAccepted t clients) × (status ≡ 2))
 
 -- The updates make the published batches: they are those that their run accepted. The journal has
--- grown by the text that that run wrote, and each client was answered from prefixes of them. One list has
--- the steps of the journal: those that record and count the batches, and the readings of all clients.
+-- grown by the text that that run wrote, and each client was answered from prefixes of them. One list is
+-- handed out, of the steps of the journal: those that record and count the batches, and the readings of
+-- all clients. The clients are numbered from 1.
 pub record IsServedRun {W J Q V : Type 0} (updates : Option (List ℕ)) (said : W → Option (List ℕ)) (recorded : J → Option (List ℕ)) (bytes : Q → Option (List ℕ)) (contents : V → Option (List ℕ)) (writer : W) (journal : J) (clients : List (Client Q V)) (served : Served W J V) : Type 0 where
   pub state : UpdatesState
   pub updates_run : IsUpdatesRun served.updates (option_map rows_of updates) state (said writer) (said served.said)
   pub journal_grown : Appends (recorded journal) (recorded served.journal) state.text
-  pub steps : KnownSteps
-  pub steps_of_run : AreStepsOfRun state.run.accepted state.steps steps
-  pub clients_served : AllZip (IsServedClient bytes contents state.run.accepted steps) clients served.clients.items
+  pub steps_of_run : AreStepsOfRun state.run.accepted state.steps served.steps
+  pub clients_served : AreServedFrom bytes contents state.run.accepted served.steps 1 clients served.clients.items
   pub status_is : IsServedStatus state served.clients.items served.status
 
 -- Why no run began: its publisher wasn't opened, or one of this many clients has no thread.

@@ -1,12 +1,12 @@
 -- Private: the states between the steps of a run over updates and clients.
-use Rattle.std.specs.Prelude.{◌≡◌, ℕ, ◌<◌, ◌≤◌, ◌⊎◌, Option, Some, List, [], All, Result, Err, length, vec_len}
+use Rattle.std.specs.Prelude.{◌≡◌, ℕ, suc, ⊤, ◌<◌, ◌≤◌, ◌⊎◌, Option, Some, List, [], ◌∷◌, All, Result, Err, length, vec_len}
 use Rattle.std.specs.List.{AllZip}
 use Rattle.std.specs.Vec.{vec_capacity}
 use mathlib.Core.List.{IsPrefix}
 use Rattle.logbook.specs.Pages.{Book}
 use Rattle.cspf_model.specs.Numbered.{NumberedChanges}
 use Rattle.cspf_publish.specs.Histories.{BeginsWith}
-use Rattle.cspf_publish.specs.JournalSteps.{KnownSteps, AreJournalSteps}
+use Rattle.cspf_publish.specs.JournalSteps.{AreJournalSteps}
 use Rattle.cspf_publish.specs.PublisherStates.{PublisherState}
 use Rattle.cspf_client.specs.declared.client.Client.{Client}
 use Rattle.cspf_client.specs.declared.client.ServedClient.{ServedClient}
@@ -26,19 +26,27 @@ use Rattle.cspf_serve.specs.declared.serving.served_run.Served.{Served}
 abbrev pub IsSeat : Book → ClientSeat → Type 0
 IsSeat source seat = seat.asker.source ≡ source
 
--- This many seats of one publisher, with room for the clients' states and for their results.
+-- seats that are numbered from this number on
+abbrev pub AreNumberedSeats : ℕ → List ClientSeat → Type 0
+AreNumberedSeats n [] = ⊤
+AreNumberedSeats n (seat ∷ seats) = (seat.number ≡ n) × AreNumberedSeats (suc n) seats
+
+-- This many seats of one publisher, numbered from 1, with room for the clients' states and for their
+-- results.
 pub record AreSeats {Q V : Type 0} (source : Book) (count : ℕ) (made : Seats Q V) : Type 0 where
   pub seats : All (IsSeat source) made.seats.items
+  pub numbers : AreNumberedSeats 1 made.seats.items
   pub many : vec_len made.seats ≡ count
   pub serving : made.serving.items ≡ []
   pub served : made.served.items ≡ []
   pub room : count ≤ vec_capacity made.serving
   pub room_left : count ≤ vec_capacity made.served
 
--- A client was run by an asker of this publisher, from before the first row of its requests.
-pub record IsAnswered {Q V : Type 0} (bytes : Q → Option (List ℕ)) (contents : V → Option (List ℕ)) (source : Book) (client : Client Q V) (c : ServingState Q V) : Type 0 where
+-- The client with a number was run by an asker of this publisher, from before the first row of its requests.
+pub record IsAnswered {Q V : Type 0} (bytes : Q → Option (List ℕ)) (contents : V → Option (List ℕ)) (source : Book) (number : ℕ) (client : Client Q V) (c : ServingState Q V) : Type 0 where
   pub before : ServingState Q V
   pub ready : IsReady before
+  pub number_is : before.state.client ≡ number
   pub source_is : before.state.known.source ≡ source
   pub steps_source : before.state.steps.source ≡ source
   pub requests : before.requests ≡ Some client.requests
@@ -52,27 +60,29 @@ IsRunOfUpdates {W} {J} said recorded all writer old ended written new =
     (first : PublisherState J) → KeepsUpdates recorded first old no_updates
     → (t : UpdatesState) × KeepsUpdates recorded first new t × IsUpdatesRun ended all t (said writer) (said written)
 
--- the result of a client that has learnt all published batches, or knew more
+-- the result of a client that has met all published batches, or knew more
 pub record IsServedEnd {Q V : Type 0} (published : List NumberedChanges) (c : ServingState Q V) (served : ServedClient V) : Type 0 where
   pub replies : served.replies ≡ c.replies
   pub refused : served.refused ≡ c.state.refused
+  pub steps : served.steps ≡ c.state.steps
+  pub known : served.known ≡ c.state.known
   pub end :
-      ((served.end ≡ c.end) × BeginsWith published c.state.known.batches)
-      ⊎ ((served.end ≡ Err Ahead) × (length published < length c.state.known.batches))
+      ((served.end ≡ c.end) × BeginsWith published served.known.batches)
+      ⊎ ((served.end ≡ Err Ahead) × (length published < length served.known.batches))
 
 -- what a client knows, and the steps that it has seen, are of this source
 abbrev pub IsOfSource : {Q V : Type 0} → Book → ServingState Q V → Type 0
 IsOfSource source c = (c.state.known.source ≡ source) × (c.state.steps.source ≡ source)
 
--- The result of a run whose updates and clients have ended, with one list of all steps that were seen.
+-- The result of a run whose updates and clients have ended, with one list of all steps that were seen: those
+-- of the publisher's journal.
 pub record IsClosedRun {W J Q V : Type 0} (recorded : J → Option (List ℕ)) (ended : Result (Unit {0}) StreamError) (said : W) (updates : KeptUpdates J) (serving : List (ServingState Q V)) (served : Served W J V) : Type 0 where
   pub ended_is : served.updates ≡ ended
   pub said_is : served.said ≡ said
   pub journal_is : served.journal ≡ updates.sink.publisher.journal
   pub closed : AllZip (IsServedEnd updates.sink.publisher.batches) serving served.clients.items
-  pub steps : KnownSteps
-  pub journal : AreJournalSteps steps.steps
-  pub later : IsPrefix updates.sink.steps.steps steps.steps
-  pub counted : AreAllCounted updates.sink.publisher steps
-  pub seen : All (λ c. AreFirstSteps steps c.state.steps) serving
+  pub journal : AreJournalSteps served.steps.steps
+  pub later : IsPrefix updates.sink.steps.steps served.steps.steps
+  pub counted : AreAllCounted updates.sink.publisher served.steps
+  pub seen : All (λ c. AreFirstSteps served.steps c.state.steps) serving
   pub status : (first : PublisherState J) (t : UpdatesState) → KeepsUpdates recorded first updates t → IsServedStatus t served.clients.items served.status

@@ -35,5 +35,5 @@ pub use cspf_work::{
 };
 pub use judging::{run_audit, run_snapshot};
 pub use live::run_live_rows;
-pub use serving::{Served, ServedError, run_serve};
+pub use serving::{Served, ServedError, no_reply_is_behind, run_serve, served_replies_are_fresh};
 pub use streams::RunError;

@@ -1,6 +1,8 @@
 //! Updates are published as they come in, while clients ask, each on its stream.
 
+mod laws;
 mod served_run;
 mod updates;
 
+pub use laws::{no_reply_is_behind, served_replies_are_fresh};
 pub use served_run::{Served, ServedError, run_serve};

@@ -112,6 +112,7 @@ fn run<T: Threads + Wait + Sync>(
                 said: _,
                 journal: _,
                 clients,
+                steps: _,
             } = served;
             if call.has(EXPLAIN) {
                 explain_ends(rt, words, &clients);

@@ -60,6 +60,8 @@ pub struct Served<W, J, V> {
     pub journal: J,
     /// The results of the clients, in order.
     pub clients: Vec<ServedClient<V>>,
+    /// The steps of the journal: those that the updates and all clients saw. It takes no room.
+    pub steps: SeenSteps,
 }
 
 /// What answers a client, in a thread of its own.
@@ -67,6 +69,8 @@ pub struct Served<W, J, V> {
 struct ClientSeat {
     alloc: Global,
     asker: Asker,
+    /// The number of the client, from 1.
+    number: usize,
 }
 
 impl<Q: Read + Drop, V: Replies> Doer<Client<Q, V>> for ClientSeat {
@@ -74,11 +78,15 @@ impl<Q: Read + Drop, V: Replies> Doer<Client<Q, V>> for ClientSeat {
 
     ghost ready = { λ _ _ _. Unit {0} };
 
-    ghost done = { λ s client c. IsAnswered Q.remaining V.contents s.asker.source client c };
+    ghost done = { λ s client c. IsAnswered Q.remaining V.contents s.asker.source s.number client c };
 
     fn work(self, _go: &Go, client: Client<Q, V>) -> ServingClient<Q, V> {
-        let ClientSeat { alloc, asker } = self;
-        let mut client = ServingClient::new(asker, client);
+        let ClientSeat {
+            alloc,
+            asker,
+            number,
+        } = self;
+        let mut client = ServingClient::new(asker, number as u64, client);
         client.run(alloc);
         client
     }
@@ -93,7 +101,7 @@ struct Seats<Q, V> {
     served: Vec<ServedClient<V>>,
 }
 
-/// A seat for each asker.
+/// A seat for each asker, numbered from 1.
 fn seat_all<Q: Drop, V: Drop>(alloc: Global, askers: Vec<Asker>) -> Result<Seats<Q, V>, AllocError>
     ensures { IfOk result (λ made. (source : Book) → All (λ a. a.source ≡ source) askers.items
         → AreSeats source (vec_len askers) made) }
@@ -103,7 +111,12 @@ fn seat_all<Q: Drop, V: Drop>(alloc: Global, askers: Vec<Asker>) -> Result<Seats
     let served = Vec::with_capacity(alloc, count)?;
     let mut seats = Vec::new(alloc);
     for asker in askers {
-        seats.push(ClientSeat { alloc, asker })?;
+        let number = seats.len() + 1;
+        seats.push(ClientSeat {
+            alloc,
+            asker,
+            number,
+        })?;
     }
     Ok(Seats {
         seats,
@@ -112,8 +125,7 @@ fn seat_all<Q: Drop, V: Drop>(alloc: Global, askers: Vec<Asker>) -> Result<Seats
     })
 }
 
-/// One list of the journal's steps: all that the publisher and the clients have seen. Proofs alone use
-/// it.
+/// One list of the journal's steps: all that the publisher and the clients have seen.
 fn all_steps<J: Write, Q: Read + Drop, V: Replies + Drop>(
     updates: &Updates<J>,
     serving: &[ServingClient<Q, V>],
@@ -131,7 +143,7 @@ fn all_steps<J: Write, Q: Read + Drop, V: Replies + Drop>(
     all
 }
 
-/// The result of each client once it has learnt all published batches.
+/// The result of each client once it has met all published batches.
 fn close_all<J: Write, Q: Read + Drop, V: Replies + Drop>(
     updates: &mut Updates<J>,
     serving: Vec<ServingClient<Q, V>>,
@@ -146,8 +158,9 @@ fn close_all<J: Write, Q: Read + Drop, V: Replies + Drop>(
     let mut served = room;
     for client in serving {
         let mut client = client;
+        let known = client.known().copy();
         client.meet(updates.tell());
-        served.push_reserved(client.close());
+        served.push_reserved(client.close(known));
     }
     served
 }
@@ -270,7 +283,7 @@ fn close_run<W, J: Write, Q: Read + Drop, V: Replies + Drop, T: Wait>(
     ensures { IsClosedRun J.contents ended said updates serving.items result }
 {
     let mut updates = updates;
-    let _ = all_steps(&updates, serving.as_slice());
+    let steps = all_steps(&updates, serving.as_slice());
     let clients = close_all(&mut updates, serving, room);
     Served {
         status: status_of(&updates, clients.as_slice()),
@@ -278,6 +291,7 @@ fn close_run<W, J: Write, Q: Read + Drop, V: Replies + Drop, T: Wait>(
         said,
         journal: updates.close(rt),
         clients,
+        steps,
     }
 }
 

@@ -6,7 +6,7 @@ use super::fixtures::{
     is_answered, opened, request, says,
 };
 use cspf_model::{Batch, Change, Request};
-use cspf_publish::{AskError, Asker, Publisher, Told, open};
+use cspf_publish::{AskError, Asker, Publisher, RowOfReader, Told, open};
 use std::alloc::Global;
 use std::io::Write;
 use std::process::Abort;
@@ -95,7 +95,11 @@ fn read_after<W: Write>(publisher: &Publisher<W>, asker: &mut Asker) -> u32
 {
     let mut steps = asker.steps();
     steps.learn(&publisher.steps());
-    asker.catch_up(&mut steps)
+    let row = RowOfReader {
+        reader: 1,
+        place: 1,
+    };
+    asker.catch_up(&mut steps, row)
 }
 
 /// Whether an asker that is told nothing reads this version, and knows of it then.

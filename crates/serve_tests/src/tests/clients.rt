@@ -50,7 +50,7 @@ fn seated<'a, R: Wait + Abort>(
     let client = Client { requests, replies };
     match open(rt, alloc, Vec::<u8>::new(alloc), 1) {
         Ok((publisher, mut askers)) => match askers.pop() {
-            Some(asker) => (publisher, ServingClient::new(asker, client)),
+            Some(asker) => (publisher, ServingClient::new(asker, 1, client)),
             None => panic!(rt; "no asker"),
         },
         Err(_) => panic!(rt; "no publisher"),
@@ -100,9 +100,10 @@ fn served<R: Wait + Abort>(
     let (mut publisher, mut serving) = seated(rt, alloc, requests, most);
     let _ = publisher.apply(rt, alloc, first);
     serving.run(alloc);
+    let known = serving.known().copy();
     serving.meet(publisher.tell());
     publisher.close(rt);
-    serving.close()
+    serving.close(known)
 }
 
 /// Whether a client has these replies and this end, with so many rows refused.

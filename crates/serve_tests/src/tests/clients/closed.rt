@@ -16,8 +16,9 @@ fn left_closed<R: Wait + Abort>(rt: &R, alloc: Global, first: &Batch) -> ServedC
     let told = publisher.tell();
     publisher.close(rt);
     serving.run(alloc);
+    let known = serving.known().copy();
     serving.meet(told);
-    serving.close()
+    serving.close(known)
 }
 
 /// Rows are refused up to the first request, which has no entry: the client ends there, by that

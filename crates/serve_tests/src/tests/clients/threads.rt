@@ -48,9 +48,10 @@ fn served_beside<R: Threads + Wait + Abort + Sync>(
 ) -> ServedClient<Narrow> {
     let (mut publisher, mut serving) = seated(rt, alloc, requests, 1000);
     run_beside(rt, alloc, first, &mut publisher, &mut serving);
+    let known = serving.known().copy();
     serving.meet(publisher.tell());
     publisher.close(rt);
-    serving.close()
+    serving.close(known)
 }
 
 /// Whether the lines of both rows are left, the first at version 0 or at version 1.

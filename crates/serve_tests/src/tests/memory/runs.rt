@@ -184,6 +184,7 @@ fn is_served(served: Served<Vec<u8>, Vec<u8>, Vec<u8>>) -> bool {
         said,
         journal,
         clients,
+        steps: _,
     } = served;
     is_published_or_refused(&said, &journal, updates) && clients.iter().all(is_answered_or_refused)
 }

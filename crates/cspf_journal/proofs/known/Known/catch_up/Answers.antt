@@ -22,7 +22,7 @@ returns c =
     let source = read.source ∙ (c.learn.ensures.0 ∙ c.seen-seen.ensures.1) in
     let new_source = ap (λ (s : KnownSteps). s.source) c.new.ensures in
     let new_steps = ap (λ (s : KnownSteps). s.steps) c.new.ensures in
-    catches_up c.self.inside.version c.read-published.result c.max-self-inside.result c.self.inside.seen.log _ _ _ both c.new.result raised
+    catches_up c.self.inside.version c.args.row.reader c.args.row.place c.read-published.result c.max-self-inside.result c.self.inside.seen.log _ _ _ both c.new.result raised
     (ap (λ (k : KnownBatches). k.batches) (sym c.self.view_is))
     (ap (λ l. take c.max-self-inside.result (batches_of l)) (ap (λ s. s.log) c.again.ensures ∙ sym new_steps))
     (ap (λ s. s.book) c.again.ensures ∙ (source ∙ c.requires.steps))

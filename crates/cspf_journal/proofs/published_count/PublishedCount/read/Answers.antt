@@ -9,5 +9,5 @@ load-requires c =
       ap (λ w. w.tracked) h,
       c.requires ∙ sym c.self.view_is,
       offer.0,
-      rw (ap (λ w. w.key) h, offer.3) (reads_moves _ c.plain-offer.result.ask),
+      rw (ap (λ w. w.key) h, offer.1, offer.3) (reads_moves _ c.args.row.reader c.args.row.place 0),
     )

@@ -30,7 +30,7 @@ loop-client-preserved g c =
       closed =
           subst (AllZip (IsServedEnd c.args.updates.now.sink.publisher.batches) (c.loop-client.yielded ++ c.in-Some.client ∷ [])) (sym c.push_reserved.ensures.items)
           (pairs_push (IsServedEnd c.args.updates.now.sink.publisher.batches) c.loop-client.yielded c.loop-client.served.items c.in-Some.client c.close.result c.loop-client.invariant.closed
-          (closed_of c.args.updates.now.sink.publisher.batches c.tell.result c.in-Some.client c.meet.new.self c.close.result batches c.meet.ensures.others c.meet.ensures.known c.meet.ensures.met c.close.ensures));
+          (closed_of c.args.updates.now.sink.publisher.batches c.tell.result c.copy-known.result c.in-Some.client c.meet.new.self c.close.result batches (c.copy-known.ensures ∙ c.known.ensures) c.meet.ensures.others c.meet.ensures.known c.meet.ensures.met c.close.ensures));
       room = (let room = c.loop-client.invariant.room in let more = c.push_reserved.ensures.capacity in omega arith);
     }
 

@@ -10,11 +10,10 @@ returns g c = record {
   said_is = refl;
   journal_is = c.close.ensures ∙ ap (λ (k : KeptUpdates g.row.J.Denot). k.sink.publisher.journal) c.close_all-clients.ensures.same;
   closed = c.close_all-clients.ensures.closed;
-  steps = c.all_steps.result;
-  journal = c.all_steps.ensures.journal;
-  later = c.all_steps.ensures.updates;
-  counted = c.all_steps.ensures.counted;
-  seen = rw c.as_slice.ensures.value at c.all_steps.ensures.clients;
+  journal = c.all_steps-steps.ensures.journal;
+  later = c.all_steps-steps.ensures.updates;
+  counted = c.all_steps-steps.ensures.counted;
+  seen = rw c.as_slice.ensures.value at c.all_steps-steps.ensures.clients;
   status = λ first t kept.
       subst (λ (l : List (ServedClient g.row.V.Denot)). IsServedStatus t l c.status_of.result) c.as_slice-2.ensures.value
       (c.status_of.ensures first t (subst (λ (k : KeptUpdates g.row.J.Denot). KeepsUpdates g.J.Write.contents first k t) (sym c.close_all-clients.ensures.same) kept));

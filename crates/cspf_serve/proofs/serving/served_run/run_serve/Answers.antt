@@ -1,7 +1,7 @@
 use Rattle.std.proofs.Common.{◌≡◌, length, vec_len, sym, subst, ◌∙◌, arith}
 use Rattle.cspf_serve.specs.ServedRun.{IsServedRun}
 use Rattle.cspf_serve.specs.ServedSteps.{IsAnswered}
-use Rattle.cspf_serve.proofs.Pairs.{length_pairs}
+use Rattle.cspf_serve.proofs.Pairs.{length_numbered}
 use Rattle.cspf_serve.proofs.ServedSteps.{ready_of, answered_of, sources_of_run, served_run, begins}
 use Rattle.cspf_serve.proofs.serving.served_run.run_serve.Goals as goal
 
@@ -20,7 +20,7 @@ pub close_run-requires-clause-source : goal.close_run-requires-clause-source
 close_run-requires-clause-source g c =
     let made = c.in-Ok.opened in
     let opened = c.in-Ok.ensures.publisher in
-    let answered = answered_of g.Q.Read.remaining g.V.Write.contents made.0.source made.1.seats.items c.args.clients.items c.in-Ok-ran.serving.items c.in-Ok.ensures.seats.seats c.in-Ok-ran.ensures.done.0 in
+    let answered = answered_of g.Q.Read.remaining g.V.Write.contents made.0.source 1 made.1.seats.items c.args.clients.items c.in-Ok-ran.serving.items c.in-Ok.ensures.seats.seats c.in-Ok.ensures.seats.numbers c.in-Ok-ran.ensures.done.0 in
     let kept = begins g.J.Write.contents made.0 c.new.result c.new.ensures.publisher opened.0 opened.1 c.new.ensures.open c.new.ensures.fresh in
     let run = c.in-Ok-ran.ensures.done.1 made.0 kept in
     rw run.1.published.source (sources_of_run g.Q.Read.remaining g.V.Write.contents made.0.source c.args.clients.items c.in-Ok-ran.serving.items answered)
@@ -28,8 +28,8 @@ close_run-requires-clause-source g c =
 pub close_run-requires-clause-room : goal.close_run-requires-clause-room
 close_run-requires-clause-room g c =
     let made = c.in-Ok.opened in
-    let answered = answered_of g.Q.Read.remaining g.V.Write.contents made.0.source made.1.seats.items c.args.clients.items c.in-Ok-ran.serving.items c.in-Ok.ensures.seats.seats c.in-Ok-ran.ensures.done.0 in
-    let long = length_pairs (IsAnswered g.Q.Read.remaining g.V.Write.contents made.0.source) c.args.clients.items c.in-Ok-ran.serving.items answered in
+    let answered = answered_of g.Q.Read.remaining g.V.Write.contents made.0.source 1 made.1.seats.items c.args.clients.items c.in-Ok-ran.serving.items c.in-Ok.ensures.seats.seats c.in-Ok.ensures.seats.numbers c.in-Ok-ran.ensures.done.0 in
+    let long = length_numbered (IsAnswered g.Q.Read.remaining g.V.Write.contents made.0.source) 1 c.args.clients.items c.in-Ok-ran.serving.items answered in
     let clients = c.args.clients.ok.0 in
     let serving = c.in-Ok-ran.serving.ok.0 in
     let room = c.in-Ok.ensures.seats.room_left in omega arith
@@ -38,7 +38,7 @@ pub returns-in-Ok-ran-clause-served : goal.returns-in-Ok-ran-clause-served
 returns-in-Ok-ran-clause-served g c =
     let made = c.in-Ok.opened in
     let opened = c.in-Ok.ensures.publisher in
-    let answered = answered_of g.Q.Read.remaining g.V.Write.contents made.0.source made.1.seats.items c.args.clients.items c.in-Ok-ran.serving.items c.in-Ok.ensures.seats.seats c.in-Ok-ran.ensures.done.0 in
+    let answered = answered_of g.Q.Read.remaining g.V.Write.contents made.0.source 1 made.1.seats.items c.args.clients.items c.in-Ok-ran.serving.items c.in-Ok.ensures.seats.seats c.in-Ok.ensures.seats.numbers c.in-Ok-ran.ensures.done.0 in
     let kept = begins g.J.Write.contents made.0 c.new.result c.new.ensures.publisher opened.0 opened.1 c.new.ensures.open c.new.ensures.fresh in
     let run = rw c.open_records.ensures.rows at (c.in-Ok-ran.ensures.done.1 made.0 kept) in
     subst (λ j. IsServedRun (g.R.Read.remaining c.args.updates) g.W.Write.contents g.J.Write.contents g.Q.Read.remaining g.V.Write.contents c.args.said j c.args.clients.items c.close_run.result) opened.2

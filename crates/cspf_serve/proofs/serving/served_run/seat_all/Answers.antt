@@ -1,9 +1,10 @@
-use Rattle.std.proofs.Common.{◌≡◌, ◌∷◌, [], All, length, vec_len, length-append, rules, sym, ap, subst, arith}
+use Rattle.std.proofs.Common.{◌≡◌, ◌+◌, ◌∷◌, [], All, length, vec_len, length-append, rules, sym, ap, subst, arith}
 use Rattle.std.specs.Vec.Iter.{into_iter_items}
 use Rattle.std.proofs.lemmas.List.Elements.{All-nil, All-push}
 use Rattle.cspf_publish.specs.KnownBatches.{KnownBatches}
-use Rattle.cspf_serve.specs.ServedSteps.{IsSeat}
+use Rattle.cspf_serve.specs.ServedSteps.{IsSeat, AreNumberedSeats}
 use Rattle.cspf_serve.proofs.Pairs.{left_none, left_step, left_next}
+use Rattle.cspf_serve.proofs.ServedSteps.{seats_more}
 use Rattle.cspf_serve.proofs.serving.served_run.seat_all.Goals as goal
 
 pub loop-asker-preserved : goal.loop-asker-preserved
@@ -11,13 +12,16 @@ loop-asker-preserved g c = record {
   left = left_step _ _ _ _ _ c.loop-asker.invariant.left c.in-Some.ensures.steps.0;
   seats = λ source each.
       subst (All (IsSeat source)) (sym c.in_ok-push.ensures.items)
-      (All-push (IsSeat source) c.loop-asker.seats.items (record { alloc = c.args.alloc; asker = c.in-Some.asker }) (c.loop-asker.invariant.seats source each)
+      (All-push (IsSeat source) c.loop-asker.seats.items (record { alloc = c.args.alloc; asker = c.in-Some.asker; number = c.len-number.result + 1 }) (c.loop-asker.invariant.seats source each)
       (left_next (λ (a : KnownBatches). a.source ≡ source) c.loop-asker.yielded c.in-Some.asker (into_iter_items c.loop-asker.asker-iterator) (into_iter_items c.next.new.self)
       c.args.askers.items c.loop-asker.invariant.left c.in-Some.ensures.steps.0 each));
+  numbers =
+      subst (AreNumberedSeats 1) (sym c.in_ok-push.ensures.items)
+      (seats_more 1 c.loop-asker.seats.items (record { alloc = c.args.alloc; asker = c.in-Some.asker; number = c.len-number.result + 1 }) c.loop-asker.invariant.numbers (let is = c.len-number.ensures in omega arith));
   many = (
       let more = ap length c.in_ok-push.ensures.items in
       let was = c.loop-asker.invariant.many in
-      let pushed = length-append c.loop-asker.seats.items ((record { alloc = c.args.alloc; asker = c.in-Some.asker }) ∷ []) in
+      let pushed = length-append c.loop-asker.seats.items ((record { alloc = c.args.alloc; asker = c.in-Some.asker; number = c.len-number.result + 1 }) ∷ []) in
       let one = length-append c.loop-asker.yielded (c.in-Some.asker ∷ []) in omega arith
       );
 }
@@ -31,6 +35,7 @@ returns g c = λ source each.
     let askers : vec_len c.args.askers ≡ length c.args.askers.items = search rules in
     record {
       seats = c.loop-asker.invariant.seats source each;
+      numbers = c.loop-asker.invariant.numbers;
       many = omega arith;
       serving = c.in_ok-serving.ensures.items;
       served = c.in_ok-served.ensures.items;

@@ -6,6 +6,7 @@ pub returns : goal.returns
 returns g c = record {
   before = c.new-client.result;
   ready = c.new-client.ensures.ready;
+  number_is = c.new-client.ensures.number;
   source_is = ap (λ (k : KnownBatches). k.source) c.new-client.ensures.known;
   steps_source = c.new-client.ensures.steps;
   requests = c.new-client.ensures.requests;

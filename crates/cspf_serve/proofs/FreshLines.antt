@@ -1,0 +1,248 @@
+-- The replies of clients are fresh, by the one list of steps that has all their readings.
+use Rattle.std.proofs.Common.{◌≡◌, ℕ, suc, ◌+◌, ◌^◌, ◌<◌, ◌≤◌, ◌⊎◌, Bool, List, [], ◌∷◌, ◌++◌, length, length-append, append_assoc, append-nil, codes, Option, Some, IfSome, Result, Ok, Err, MatchResult, inl, inr, refl, sym, ap, subst, ◌∙◌, arith, ⊎_elim}
+use Rattle.std.specs.Fmt.{decimal}
+use Rattle.std.specs.Option.{option_map}
+use Rattle.cspf_model.specs.declared.request.Request.{Request}
+use Rattle.cspf_model.specs.Best.{Answer}
+use Rattle.cspf_model.specs.Numbered.{NumberedChanges}
+use Rattle.cspf_ero.specs.ReplyHead.{BeginsWithHead, HasOneHead}
+use Rattle.cspf_ero.specs.ReplyLine.{IsReply}
+use Rattle.cspf_ero.specs.declared.head.Head.{Head}
+use Rattle.cspf_rows.specs.Records.{rows_of}
+use Rattle.cspf_rows.specs.Rows.{row_of}
+use Rattle.cspf_rows.specs.declared.row.Row.{Row}
+use Rattle.cspf_rows.specs.declared.row.Row.TheVariants as row
+use Rattle.cspf_rows.specs.declared.row_error.RowError.{RowError}
+use Rattle.cspf_journal.specs.declared.log_step.LogStep.{LogStep}
+use Rattle.cspf_journal.specs.declared.log_step.LogStep.TheVariants.{Recorded, Published, Read}
+use Rattle.cspf_journal.proofs.JournalSteps.{found_among}
+use Rattle.cspf_journal.proofs.Prefixes.{length-prefix}
+use Rattle.cspf_publish.specs.JournalSteps.{KnownSteps, AreOrderedFrom, count_of}
+use Rattle.cspf_publish.specs.KnownBatches.{KnownBatches}
+use Rattle.cspf_publish.specs.Histories.{BeginsWith}
+use Rattle.cspf_stream.specs.RowAnswers.{AreAnswered, AreAllAnswered}
+use Rattle.cspf_stream.specs.StreamStops.{StopsBetween, StopsInRow, IsRowStopped, HasStopped}
+use Rattle.cspf_stream.specs.declared.error.StreamError.{StreamError}
+use Rattle.cspf_stream.specs.declared.error.StreamError.TheVariants as stream_error
+use Rattle.cspf_client.specs.ClientRows.{ReadsCount, IsRequestAnswered, IsClientRowAnswered, IsClientAnswered, IsClientUnanswered}
+use Rattle.cspf_client.specs.ClientRuns.{IsClientRun, IsClientStopped}
+use Rattle.cspf_client.specs.SessionStates.{SessionState, AreFirstSteps, HasGoneForward}
+use Rattle.cspf_client.specs.ServingStates.{ServingState, unread_rows}
+use Rattle.cspf_client.specs.declared.client.Client.{Client}
+use Rattle.cspf_client.specs.declared.client.ServedClient.{ServedClient}
+use Rattle.cspf_client.specs.declared.error.ClientError.{ClientError}
+use Rattle.cspf_client.specs.declared.error.ClientError.TheVariants as error
+use Rattle.cspf_client.proofs.Forward.{forward, forward_row_stopped}
+use Rattle.cspf_client.proofs.Prefixes.{AreFirstSteps-trans}
+use Rattle.cspf_serve.specs.ServedRun.{IsServedClient}
+use Rattle.cspf_serve.specs.ServedLaws.{IsReadBefore, IsFreshLine, IsAnsweredFresh, HasFreshLines, ServedRepliesAreFresh, NoReplyIsBehind, read_behind_a_batch}
+use Rattle.cspf_serve.proofs.Pairs.{numbered_weaker}
+
+abbrev Rows : Type 0
+Rows = List (List (List ℕ))
+
+-- nothing is said of a row that isn't answered
+abbrev Nothing : ℕ → Unit {0} → List (List ℕ) → Unit {0} → Type 0
+Nothing place s fields t = Unit {0}
+
+-- a row answered leaves the client its number
+client_kept : (place : ℕ) (s t : SessionState) (r : Result Row RowError) (line : List ℕ) → IsClientRowAnswered place s r line t → t.client ≡ s.client
+client_kept place s t (Err why) line a = ap (λ (x : SessionState). x.client) a.after
+client_kept place s t (Ok (row.Put link)) line a = ap (λ (x : SessionState). x.client) a.after
+client_kept place s t (Ok (row.Remove from local)) line a = ap (λ (x : SessionState). x.client) a.after
+client_kept place s t (Ok (row.Node router transit)) line a = ap (λ (x : SessionState). x.client) a.after
+client_kept place s t (Ok (row.End number count)) line a = ap (λ (x : SessionState). x.client) a.after
+client_kept place s t (Ok (row.Ask q)) line a = a.reads.client
+
+clients_kept : (place : ℕ) (s t : SessionState) (rows : Rows) (lines : List ℕ) → AreAnswered IsClientAnswered place s rows lines t → t.client ≡ s.client
+unfolding AreAnswered
+clients_kept place s t [] lines a = ap (λ (x : SessionState). x.client) a.1
+clients_kept place s t (fields ∷ rows) lines a = clients_kept (suc place) a.1 t rows a.2 a.5 ∙ client_kept place s a.1 (row_of fields) a.0 a.3
+
+module _ (all : KnownSteps) (number : ℕ) (order : AreOrderedFrom 0 0 all.steps) where
+  -- the reading for a row
+  read_of : (place : ℕ) (s t : SessionState) → s.client ≡ number → AreFirstSteps all t.steps → ReadsCount place s t → IsReadBefore all.steps number place (length t.known.batches)
+  read_of place s t client first reads =
+      let up = reads.caught_up in
+      let before : List LogStep = s.steps.steps ++ up.read.0 in
+      let rest : List LogStep = first.begins.0 in
+      let is : all.steps ≡ before ++ Read s.client place reads.count ∷ rest =
+      sym first.begins.1 ∙ (ap (λ (w : List LogStep). w ++ rest) up.read.1 ∙ append_assoc before (Read s.client place reads.count ∷ []) rest) in
+      let found : reads.count ≡ count_of before = found_among before rest s.client place reads.count (subst (AreOrderedFrom 0 0) is order) in
+      record {
+        before = before;
+        count = reads.count;
+        after = rest;
+        reading = subst (λ (n : ℕ). all.steps ≡ before ++ Read n place reads.count ∷ rest) client is;
+        fresh = omega (arith, found, up.known, ap length reads.later.begins.1, length-append reads.mid.batches reads.later.begins.0);
+      }
+
+  line_of : (place : ℕ) (s t : SessionState) (r : Result Row RowError) (line : List ℕ) → s.client ≡ number → AreFirstSteps all t.steps → IsClientRowAnswered place s r line t
+      → IsFreshLine all.steps number place r line
+  line_of place s t (Err why) line client first a = tt
+  line_of place s t (Ok (row.Put link)) line client first a = tt
+  line_of place s t (Ok (row.Remove from local)) line client first a = tt
+  line_of place s t (Ok (row.Node router transit)) line client first a = tt
+  line_of place s t (Ok (row.End number' count)) line client first a = tt
+  line_of place s t (Ok (row.Ask q)) line client first a = record {
+    version = length t.known.batches;
+    answer = a.answer;
+    reply = a.reply;
+    read = read_of place s t client first a.reads;
+  }
+
+  lines_of : (place : ℕ) (s t : SessionState) (rows : Rows) (lines : List ℕ) → s.client ≡ number → AreFirstSteps all t.steps → AreAnswered IsClientAnswered place s rows lines t
+      → AreAnswered (IsAnsweredFresh all.steps number) place tt rows lines tt
+  unfolding AreAnswered
+  lines_of place s t [] lines client first a = (a.0, refl)
+  lines_of place s t (fields ∷ rows) lines client first a =
+      let later : HasGoneForward a.1 t = forward (suc place) a.1 t rows a.2 a.5 in (
+        a.0,
+        tt,
+        a.2,
+        line_of place s a.1 (row_of fields) a.0 client (AreFirstSteps-trans a.1.steps t.steps all later.steps first) a.3,
+        a.4,
+        lines_of (suc place) a.1 t rows a.2 (client_kept place s a.1 (row_of fields) a.0 a.3 ∙ client) first a.5,
+      )
+
+  all_lines : (rows : Option Rows) (s t : SessionState) (old new : Option (List ℕ)) → s.client ≡ number → AreFirstSteps all t.steps → AreAllAnswered IsClientAnswered rows s t old new
+      → AreAllAnswered (IsAnsweredFresh all.steps number) rows tt tt old new
+  all_lines rows s t old new client first a = record {
+    done = a.done;
+    lines = a.lines;
+    whole = a.whole;
+    answered = lines_of 1 s t a.done a.lines client first a.answered;
+    written = a.written;
+  }
+
+  row_stopped : (why : StreamError) (place : ℕ) (fields : List (List ℕ)) (s t : SessionState) (old new : Option (List ℕ)) → s.client ≡ number → AreFirstSteps all t.steps
+      → IsRowStopped IsClientAnswered IsClientUnanswered why place fields s t old new → IsRowStopped (IsAnsweredFresh all.steps number) Nothing why place fields tt tt old new
+  row_stopped stream_error.Memory place fields s t old new client first a = (tt, a.1)
+  row_stopped stream_error.Read place fields s t old new client first a = a
+  row_stopped stream_error.Write place fields s t old new client first a = (a.0, line_of place s t (row_of fields) a.0 client first a.1, a.2)
+  row_stopped stream_error.Flush place fields s t old new client first a = (a.0, line_of place s t (row_of fields) a.0 client first a.1, a.2)
+  row_stopped stream_error.TooManyRows place fields s t old new client first a = a
+
+  module _ (rows left : Option Rows) (failed : Bool) (s t : SessionState) (old new : Option (List ℕ)) (client : s.client ≡ number) (first : AreFirstSteps all t.steps) where
+    between : StopsBetween IsClientAnswered rows s t old new → StopsBetween (IsAnsweredFresh all.steps number) rows tt tt old new
+    between a = record {
+      done = a.done;
+      rest = a.rest;
+      lines = a.lines;
+      split = a.split;
+      answered = lines_of 1 s t a.done a.lines client first a.answered;
+      written = a.written;
+    }
+
+    in_row : (why : StreamError) → StopsInRow IsClientAnswered IsClientUnanswered why rows left s t old new → StopsInRow (IsAnsweredFresh all.steps number) Nothing why rows left tt tt old new
+    in_row why a =
+        let later : HasGoneForward a.before t = forward_row_stopped why (suc (length a.done)) a.fields a.before t a.mid new a.stops in
+        record {
+          done = a.done;
+          fields = a.fields;
+          rest = a.rest;
+          lines = a.lines;
+          before = tt;
+          mid = a.mid;
+          split = a.split;
+          answered = lines_of 1 s a.before a.done a.lines client (AreFirstSteps-trans a.before.steps t.steps all later.steps first) a.answered;
+          written = a.written;
+          stops = row_stopped why (suc (length a.done)) a.fields a.before t a.mid new (clients_kept 1 s a.before a.done a.lines a.answered ∙ client) first a.stops;
+        }
+
+    stopped : (why : StreamError) → HasStopped IsClientAnswered IsClientUnanswered why rows left failed s t old new → HasStopped (IsAnsweredFresh all.steps number) Nothing why rows left failed tt tt old new
+    stopped stream_error.Memory (inl a) = inl (a.0, between a.1)
+    stopped stream_error.Memory (inr a) = inr (in_row stream_error.Memory a)
+    stopped stream_error.Read a = (a.0, between a.1)
+    stopped stream_error.Write a = in_row stream_error.Write a
+    stopped stream_error.Flush a = in_row stream_error.Flush a
+    stopped stream_error.TooManyRows a = record {
+      done = a.done;
+      fields = a.fields;
+      rest = a.rest;
+      lines = a.lines;
+      count = a.count;
+      split = a.split;
+      answered = lines_of 1 s t a.done a.lines client first a.answered;
+      written = a.written;
+    }
+
+  -- the lines of rows, and what is written, whether or not a stream stopped
+  abbrev Lines : Option Rows → Option (List ℕ) → Option (List ℕ) → Type 0
+  Lines rows old new =
+      AreAllAnswered (IsAnsweredFresh all.steps number) rows tt tt old new
+      ⊎ ((why : StreamError) × (left : Option Rows) × (failed : Bool) × HasStopped (IsAnsweredFresh all.steps number) Nothing why rows left failed tt tt old new)
+
+  module _ {Q V : Type 0} (bytes : Q → Option (List ℕ)) (contents : V → Option (List ℕ)) where
+    run_lines : (old new : ServingState Q V) → old.state.client ≡ number → AreFirstSteps all new.state.steps → (end : Result (Unit {0}) ClientError)
+        → MatchResult end (λ done. AreAllAnswered IsClientAnswered (unread_rows bytes old.requests) old.state new.state (contents old.replies) (contents new.replies)) (λ why. IsClientStopped bytes contents why old new)
+        → Lines (unread_rows bytes old.requests) (contents old.replies) (contents new.replies)
+    run_lines old new client first (Ok done) run = inl (all_lines (unread_rows bytes old.requests) old.state new.state (contents old.replies) (contents new.replies) client first run)
+    run_lines old new client first (Err (error.Stream why)) run =
+        inr (why, run.1.0, run.1.1, stopped (unread_rows bytes old.requests) run.1.0 run.1.1 old.state new.state (contents old.replies) (contents new.replies) client first why run.1.2)
+    run_lines old new client first (Err error.NoEntry) run =
+        inr (stream_error.Memory, run.1.0, run.1.1, stopped (unread_rows bytes old.requests) run.1.0 run.1.1 old.state new.state (contents old.replies) (contents new.replies) client first stream_error.Memory run.1.2)
+    run_lines old new client first (Err error.Ahead) run = absurd run
+
+    pub served_lines : (published : List NumberedChanges) (client : Client Q V) (served : ServedClient V) → IsServedClient bytes contents published all number client served
+        → HasFreshLines bytes contents all.steps number client served
+    served_lines published client served is =
+        let first : AreFirstSteps all is.after.state.steps = subst (λ (k : KnownSteps). AreFirstSteps all k) is.steps is.first in
+        let lines = run_lines is.before is.after is.number_is first is.after.end is.run in
+        subst (λ (v : V). Lines (option_map rows_of (bytes client.requests)) (contents client.replies) (contents v)) (sym is.replies)
+        (subst (λ (v : V). Lines (option_map rows_of (bytes client.requests)) (contents v) (contents is.after.replies)) is.empty
+        (subst (λ (r : Option Q). Lines (unread_rows bytes r) (contents is.before.replies) (contents is.after.replies)) is.requests lines))
+
+pub fresh_runs : (W J Q V : Type 0) → ServedRepliesAreFresh W J Q V
+fresh_runs W J Q V updates said recorded bytes contents writer journal clients served run =
+    numbered_weaker (IsServedClient bytes contents run.state.run.accepted served.steps) (HasFreshLines bytes contents served.steps.steps)
+    (λ n c s is. served_lines served.steps n run.steps_of_run.journal.order bytes contents run.state.run.accepted c s is)
+    1 clients served.clients.items run.clients_served
+
+-- a run over one row
+one_row : (s t : SessionState) (fields : List (List ℕ)) (lines : List ℕ) → AreAnswered IsClientAnswered 1 s (fields ∷ []) lines t
+    → (line : List ℕ) × IsClientAnswered 1 s fields line t × (lines ≡ line)
+unfolding AreAnswered
+one_row s t fields lines a =
+    (a.0, subst (λ (n : SessionState). IsClientAnswered 1 s fields a.0 n) (sym a.5.1) a.3, a.4 ∙ (ap (λ (m : List ℕ). a.0 ++ m) a.5.0 ∙ append-nil a.0))
+
+-- a reading behind a batch that is counted
+behind : (b : NumberedChanges) (before after : List LogStep) (count : ℕ) → read_behind_a_batch b ≡ before ++ Read 1 1 count ∷ after → count_of before ≡ 1
+behind b [] after count is = absurd (cc is)
+behind b (x ∷ []) after count is = absurd (cc is)
+behind b (x ∷ y ∷ []) after count is =
+    let first : x ≡ Recorded b = cc is in
+    let next : y ≡ Published 1 = cc is in
+    rw (first, next) refl
+behind b (x ∷ y ∷ z ∷ []) after count is = absurd (cc is)
+behind b (x ∷ y ∷ z ∷ w ∷ more) after count is = absurd (cc is)
+
+head_of : (id version : ℕ) (answer : Answer) (line : List ℕ) → id < 2 ^ 64 → version < 2 ^ 32 → IsReply id version answer line → BeginsWithHead line (record { id = id; version = version })
+head_of id version answer line below few reply =
+    let front : List ℕ = codes "ask " ++ decimal id ++ codes " v" ++ decimal version ++ codes " " in
+    record { id = below; version = few; rest = reply.0 ++ codes "\n"; whole = reply.2 ∙ append_assoc front reply.0 (codes "\n") }
+
+pub not_behind : HasOneHead → NoReplyIsBehind
+not_behind one b all fields q client served answer steps rows asks below empty is ended reply =
+    let Ended : Result (Unit {0}) ClientError → Type 0 = λ e. MatchResult e
+    (λ done. AreAllAnswered IsClientAnswered (unread_rows (λ bytes. Some bytes) is.before.requests) is.before.state is.after.state (Some is.before.replies) (Some is.after.replies))
+    (λ why. IsClientStopped (λ bytes. Some bytes) (λ bytes. Some bytes) why is.before is.after) in
+    let end : (is.after.end ≡ Ok tt) × BeginsWith (b ∷ []) served.known.batches = elim is.end [
+      | inl well ↦ (sym well.0 ∙ ended, well.1)
+      | inr ahead ↦ absurd (cc (ahead.0, ended))
+    ] in
+    let run = subst Ended end.0 is.run in
+    let done : run.done ≡ fields ∷ [] = sym (subst (λ (r : Option (List ℕ)). IfSome (unread_rows (λ bytes. Some bytes) r) (λ l. l ≡ run.done)) is.requests run.whole) ∙ rows in
+    let row = one_row is.before.state is.after.state fields run.lines (subst (λ (l : Rows). AreAnswered IsClientAnswered 1 is.before.state l run.lines is.after.state) done run.answered) in
+    let answered : IsRequestAnswered 1 q is.before.state row.0 is.after.state = subst (λ (r : Result Row RowError). IsClientRowAnswered 1 is.before.state r row.0 is.after.state) asks row.1 in
+    let order : AreOrderedFrom 0 0 all.steps = subst (AreOrderedFrom 0 0) (sym steps) (refl, omega arith, (refl, tt)) in
+    let first : AreFirstSteps all is.after.state.steps = subst (λ (k : KnownSteps). AreFirstSteps all k) is.steps is.first in
+    let read = read_of all 1 order 1 is.before.state is.after.state is.number_is first answered.reads in
+    let version : ℕ = length is.after.state.known.batches in
+    let counted : count_of read.before ≡ 1 = behind b read.before read.after read.count (sym steps ∙ read.reading) in
+    let few : version ≤ 1 = omega (arith, length-prefix (b ∷ []) served.known.batches end.1, ap (λ (k : KnownBatches). length k.batches) is.known) in
+    let line : row.0 ≡ served.replies = sym row.2 ∙ (sym (run.written ∙ (ap (λ (l : List ℕ). l ++ run.lines) (is.empty ∙ empty))) ∙ sym is.replies) in
+    let heads = one served.replies (record { id = q.id; version = version }) (record { id = q.id; version = 0 })
+    (subst (λ (l : List ℕ). BeginsWithHead l (record { id = q.id; version = version })) line (head_of q.id version answered.answer row.0 below (omega (arith, few)) answered.reply))
+    (head_of q.id 0 answer served.replies below (omega arith) reply) in
+    omega (arith, counted, read.fresh, ap (λ (h : Head). h.version) heads)
