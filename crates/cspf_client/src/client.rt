@@ -2,6 +2,7 @@
 
 ghost use Rattle.std.specs.Prelude.{◌≡◌, ◌<◌, None, Some, OnOk, IfErr};
 ghost use Rattle.std.specs.Option.{option_map};
+ghost use Rattle.cspf_publish.specs.AskerStates.{known_of};
 ghost use Rattle.cspf_publish.specs.KnownBatches.{AreFirstOf};
 ghost use Rattle.cspf_rows.specs.Records.{rows_of};
 ghost use Rattle.cspf_stream.specs.RowAnswers.{AreAllAnswered};
@@ -101,7 +102,7 @@ impl<Q: Read + Drop, V: Replies> ServingClient<Q, V> {
     pub fn new(asker: Asker, number: u64, client: Client<Q, V>) -> ServingClient<Q, V>
         ensures ready { IsReady result }
         ensures number { result.state.client ≡ number }
-        ensures known { result.state.known ≡ asker }
+        ensures known { result.state.known ≡ known_of asker }
         ensures steps { result.state.steps.source ≡ asker.source }
         ensures requests { result.requests ≡ Some client.requests }
         ensures replies { result.replies ≡ client.replies }

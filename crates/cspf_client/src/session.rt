@@ -3,6 +3,7 @@
 ghost use Rattle.std.specs.Prelude.{◌≡◌, ◌+◌, ◌<◌, ◌≤◌, Ok, IfOk, IfErr, OnOk, OnErr, IsTrue, IsFalse, length};
 ghost use Rattle.cspf_ero.specs.ReplyLine.{IsReply};
 ghost use Rattle.cspf_model.specs.Outcome.{answer_of};
+ghost use Rattle.cspf_publish.specs.AskerStates.{known_of};
 ghost use Rattle.cspf_publish.specs.KnownBatches.{AreFirstOf};
 ghost use Rattle.cspf_client.specs.ErrorNames.{entry_noted};
 ghost use Rattle.cspf_client.specs.ClientRows.{IsClientRowAnswered, IsClientRowUnanswered, IsRefusedRow, IsRequestAnswered, IsRequestUnanswered};
@@ -36,10 +37,11 @@ impl Model for Session {
     ghost Value = { SessionState };
 
     ghost use Rattle.std.specs.Prelude.{◌≡◌};
+    ghost use Rattle.cspf_publish.specs.AskerStates.{known_of};
 
     ghost view = { λ s. record {
       client = s.client;
-      known = s.asker;
+      known = known_of s.asker;
       steps = s.steps;
       refused = s.refused;
       no_entry = s.no_entry;
@@ -64,7 +66,7 @@ impl Session {
     pub(crate) fn new(asker: Asker, client: u64) -> Session
         ensures state { result ≡ record {
           client = client;
-          known = asker;
+          known = known_of asker;
           steps = result.steps;
           refused = 0;
           no_entry = false;

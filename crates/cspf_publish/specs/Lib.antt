@@ -11,3 +11,4 @@ pub mod PublisherStates
 pub mod ApplyErrors
 pub mod Answers
 pub mod AskerSeats
+pub mod AskerStates

@@ -4,6 +4,7 @@ ghost use Rattle.std.specs.Prelude.{◌≡◌, ◌⊎◌, length, IfOk, IfErr};
 ghost use Rattle.std.specs.Arc.{arc_value};
 ghost use Rattle.left_right.specs.Sides.{view};
 ghost use Rattle.cspf_publish.specs.Answers.{IsAnswerAfter};
+ghost use Rattle.cspf_publish.specs.AskerStates.{asker_with, known_of};
 ghost use Rattle.cspf_journal.specs.Histories.{BeginsWith, IsHistory};
 ghost use Rattle.cspf_journal.specs.JournalSteps.{batches_of};
 ghost use Rattle.cspf_journal.specs.KnownBatches.{KnownBatches};
@@ -32,13 +33,13 @@ impl Model for Asker {
     ghost use Rattle.std.specs.Prelude.{◌≡◌};
     ghost use Rattle.std.specs.Arc.{arc_value};
     ghost use Rattle.left_right.specs.Sides.{view as seen_by};
-    ghost use Rattle.cspf_journal.specs.KnownBatches.{KnownBatches};
     ghost use Rattle.cspf_publish.specs.AskerSeats.{IsAskerSeat};
+    ghost use Rattle.cspf_publish.specs.AskerStates.{AskerState, asker_with};
     ghost use Rattle.cspf_publish.specs.ReplicaRule.{KnowsItsEntry};
 
-    ghost Value = { KnownBatches };
+    ghost Value = { AskerState };
 
-    ghost view = { λ a. a.known };
+    ghost view = { λ a. asker_with a.known a.seat.most_trees };
 
     ghost invariant = { λ a. KnowsItsEntry (seen_by a.seat.reader.place) a.known
         × (arc_value a.count ≡ a.known.source)
@@ -54,7 +55,7 @@ impl Asker {
     ) -> Asker
         requires entry { KnowsItsEntry (view reader.place) known }
         requires count { arc_value count ≡ known.source }
-        ensures { result ≡ known }
+        ensures { result ≡ asker_with known most_trees }
     {
         let seat = AskerSeat {
             reader,
@@ -74,6 +75,7 @@ impl Asker {
         ensures later { BeginsWith self.new.batches self.old.batches }
         ensures answer { IfOk result (λ answer. IsAnswerAfter self.new.batches request.now answer) }
         ensures no_entry { IfErr result (λ error. error ≡ AskError.NoEntry → self.new ≡ self.old) }
+        ensures trees { self.new.most_trees ≡ self.old.most_trees }
     {
         let entry = replace_with(&mut self.seat, (alloc, *request), enter_and_search);
         let Some((known, outcome)) = entry else {
@@ -98,14 +100,15 @@ impl Asker {
         ensures source { self.new.source ≡ self.old.source }
         ensures later { BeginsWith self.new.batches self.old.batches }
         ensures told { BeginsWith self.new.batches told.batches }
-        ensures one { (self.new ≡ self.old) ⊎ (self.new ≡ told) }
+        ensures one { (known_of self.new ≡ known_of self.old) ⊎ (known_of self.new ≡ told) }
+        ensures trees { self.new.most_trees ≡ self.old.most_trees }
     {
         let _raised = self.known.raise(told.known());
     }
 
     /// What the asker knows of the list: batches that the journal has recorded.
     pub fn known(&self) -> &Known
-        ensures { result.now ≡ self.now }
+        ensures { result.now ≡ known_of self.now }
     {
         &self.known
     }
@@ -124,7 +127,8 @@ impl Asker {
         ensures source { self.new.source ≡ self.old.source }
         ensures later { BeginsWith self.new.batches self.old.batches }
         ensures told { BeginsWith self.new.batches told.batches }
-        ensures one { (self.new ≡ self.old) ⊎ (self.new ≡ told) }
+        ensures one { (known_of self.new ≡ known_of self.old) ⊎ (known_of self.new ≡ told) }
+        ensures trees { self.new.most_trees ≡ self.old.most_trees }
         ensures version { result ≡ length self.new.batches }
     {
         self.learn(told);
@@ -136,7 +140,8 @@ impl Asker {
     /// It takes no memory, and never blocks.
     pub fn catch_up(&mut self, steps: &mut SeenSteps, row: RowOfReader) -> u32
         requires { steps.old.source ≡ self.old.source }
-        ensures { CatchesUp self.old self.new steps.old steps.new row.reader row.place result }
+        ensures caught_up { CatchesUp (known_of self.old) (known_of self.new) steps.old steps.new row.reader row.place result }
+        ensures trees { self.new.most_trees ≡ self.old.most_trees }
     {
         self.known.catch_up(&self.count, steps, row)
     }

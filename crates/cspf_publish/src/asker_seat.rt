@@ -5,6 +5,7 @@ ghost use Rattle.left_right.specs.Sides.{view};
 ghost use Rattle.cspf_journal.specs.KnownBatches.{KnownBatches, AreFirstOf};
 ghost use Rattle.cspf_publish.specs.Answers.{IsBestAfter};
 ghost use Rattle.cspf_publish.specs.AskerSeats.{IsAskerSeat};
+ghost use Rattle.cspf_publish.specs.AskerStates.{asker_with};
 ghost use Rattle.cspf_publish.specs.ReplicaRule.{HasItsDatabase, CountsShapeChanges};
 ghost use Rattle.cspf_publish.specs.declared.seat_view.SeatView.TheVariants.{Asker as IsAsker};
 
@@ -27,7 +28,7 @@ pub(crate) struct AskerSeat {
     pub(crate) reader: ReplicaReader,
     /// Trees of the database that it entered last, once it has entered one.
     pub(crate) trees: Option<KnownTrees>,
-    /// How many trees it keeps at most.
+    /// How many trees it has at most.
     pub(crate) most_trees: usize,
 }
 
@@ -35,7 +36,8 @@ pub(crate) struct AskerSeat {
 fn trees_at(alloc: Global, replica: &Replica, most: usize, trees: Option<KnownTrees>) -> KnownTrees
     requires shapes { CountsShapeChanges replica.now }
     requires source { IfSome trees (λ old. replica.now.known.source ≡ old.source) }
-    ensures { result ≡ replica.now.known }
+    requires most { IfSome trees (λ old. old.most_trees ≡ most) }
+    ensures { result ≡ asker_with replica.now.known most }
 {
     match trees {
         None => KnownTrees::new(alloc, replica, most),
@@ -58,7 +60,8 @@ fn search(
     requires database { HasItsDatabase replica.now }
     requires shapes { CountsShapeChanges replica.now }
     requires source { IfSome trees (λ old. replica.now.known.source ≡ old.source) }
-    ensures trees { result.0 ≡ replica.now.known }
+    requires most { IfSome trees (λ old. old.most_trees ≡ most) }
+    ensures trees { result.0 ≡ asker_with replica.now.known most }
     ensures best { IfOk result.1 (IsBestAfter replica.now.known.batches request.now) }
 {
     let mut trees = trees_at(alloc, replica, most, trees);
@@ -78,6 +81,7 @@ pub(crate) fn enter_and_search(
     ensures later { IfSome result.1 (λ r. (known : KnownBatches)
         → view seat.reader.place ≡ IsAsker known → AreFirstOf r.0 known) }
     ensures best { IfSome result.1 (λ r. IfOk r.1 (IsBestAfter r.0.batches ask.1)) }
+    ensures most { result.0.most_trees ≡ seat.most_trees }
     ensures after { IsAskerSeat result.0 }
 {
     let (alloc, request) = ask;

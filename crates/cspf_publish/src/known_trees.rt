@@ -3,6 +3,7 @@
 ghost use Rattle.std.specs.Prelude.{◌≡◌, IfOk};
 ghost use Rattle.cspf_model.specs.Changes.{database_after};
 ghost use Rattle.cspf_publish.specs.Answers.{IsBestAfter};
+ghost use Rattle.cspf_publish.specs.AskerStates.{asker_with, known_of};
 ghost use Rattle.cspf_publish.specs.ReplicaRule.{HasItsDatabase, CountsShapeChanges};
 
 use crate::replica::Replica;
@@ -22,23 +23,24 @@ pub(crate) struct KnownTrees {
 
 impl Model for KnownTrees {
     ghost use Rattle.cspf_model.specs.Changes.{database_after};
-    ghost use Rattle.cspf_journal.specs.KnownBatches.{KnownBatches};
     ghost use Rattle.cspf_trees.specs.Trees.{AreTreesOf};
     ghost use Rattle.cspf_publish.specs.ShapeChanges.{HasShapeChanges};
+    ghost use Rattle.cspf_publish.specs.AskerStates.{AskerState, asker_with};
 
-    ghost Value = { KnownBatches };
+    // The state of an asker that has these trees.
+    ghost Value = { AskerState };
 
-    ghost view = { λ t. t.known };
+    ghost view = { λ t. asker_with t.known t.trees.most };
 
     ghost invariant = { λ t. AreTreesOf (database_after t.known.batches) t.trees
         × HasShapeChanges t.known.batches t.shape_changes };
 }
 
 impl KnownTrees {
-    /// No trees yet, for the database of a replica, and later at most this many.
+    /// No trees yet, for the database of a replica, and at most this many.
     pub(crate) fn new(alloc: Global, replica: &Replica, most: usize) -> KnownTrees
         requires { CountsShapeChanges replica.now }
-        ensures { result ≡ replica.now.known }
+        ensures { result ≡ asker_with replica.now.known most }
     {
         KnownTrees {
             trees: Trees::new(alloc, most),
@@ -52,7 +54,7 @@ impl KnownTrees {
     pub(crate) fn enter(&mut self, replica: &Replica)
         requires source { replica.now.known.source ≡ self.old.source }
         requires shapes { CountsShapeChanges replica.now }
-        ensures { self.new ≡ replica.now.known }
+        ensures { self.new ≡ asker_with replica.now.known self.old.most_trees }
     {
         // Law: a tree of a database is one of each with the same shape.
         trees_outlast_bandwidth();
@@ -72,7 +74,7 @@ impl KnownTrees {
         request: &Request,
     ) -> Result<Outcome, AllocError>
         requires database { HasItsDatabase replica.now }
-        requires known { replica.now.known ≡ self.old }
+        requires known { replica.now.known ≡ known_of self.old }
         ensures same { self.new ≡ self.old }
         ensures best { IfOk result (IsBestAfter self.old.batches request.now) }
     {

@@ -1,7 +1,7 @@
 //! The publisher: it checks each batch, writes its text to the journal, and then shows it to
 //! the askers.
 
-ghost use Rattle.std.specs.Prelude.{◌≡◌, ◌↔◌, ◌⊎◌, ◌++◌, [], ◌∷◌, true, false, length, take, All, IfOk, OnOk, IfErr, OnErr, vec_len};
+ghost use Rattle.std.specs.Prelude.{◌≡◌, ◌↔◌, ◌*◌, ◌≤◌, ◌⊎◌, ◌++◌, [], ◌∷◌, true, false, length, take, All, IfOk, OnOk, IfErr, OnErr, vec_len, sum_by};
 ghost use Rattle.std.specs.Io.KnownBytes.{Appends};
 ghost use Rattle.cspf_publish.specs.Answers.{IsAnswerAfter};
 ghost use Rattle.cspf_publish.specs.ApplyErrors.{IsApplyError, IsNextBatch};
@@ -10,13 +10,14 @@ ghost use Rattle.cspf_rows.specs.BatchText.{batch_text};
 ghost use Rattle.cspf_journal.specs.Histories.{BeginsWith, IsHistory, MayFollow};
 ghost use Rattle.cspf_journal.specs.JournalSteps.{batches_of, count_of};
 ghost use Rattle.cspf_journal.specs.KnownBatches.{known_with};
+ghost use Rattle.cspf_trees.specs.declared.limits.TheConstants.{TREE_BYTES, TREE_MEGABYTES};
 
-use crate::limits::{TREE_MEGABYTES, trees_in};
 use crate::replicas::Replicas;
 use crate::{Answer, ApplyError, Asker, MOST_ASKERS, OpenError, Told};
 use cspf_journal::{JournalWriter, Known, NewJournal, NotRecorded, SeenSteps};
 use cspf_model::{Batch, MOST_VERSIONS, Request};
 use cspf_rows::batch_text;
+use cspf_trees::{TREE_BYTES, TREE_MEGABYTES, trees_in};
 use std::alloc::{AllocError, Global};
 use std::io::Write;
 use std::marker::Model;
@@ -61,6 +62,8 @@ pub fn open<W: Write, R: Wait>(
     ensures askers { IfOk result (λ opened.
         All (λ a. (a.batches ≡ []) × (a.source ≡ opened.0.source)) opened.1.items) }
     ensures count { IfOk result (λ opened. vec_len opened.1 ≡ askers) }
+    ensures trees { IfOk result (λ opened.
+        sum_by (λ a. a.most_trees) opened.1.items * TREE_BYTES ≤ TREE_MEGABYTES * 1048576) }
     ensures within { OnOk result (IsAskerCount askers) }
     ensures outside { IfErr result (λ e. (e.0 ≡ OpenError.Askers) ↔ ¬ IsAskerCount askers) }
     ensures memory { IfErr result (λ e. IsAskerCount askers
@@ -87,6 +90,7 @@ pub fn open_over<W: Write, R: Wait>(
     ensures askers { IfOk result (λ opened.
         All (λ a. (a.batches ≡ []) × (a.source ≡ journal.source)) opened.1.items) }
     ensures count { IfOk result (λ opened. vec_len opened.1 ≡ askers) }
+    ensures trees { IfOk result (λ opened. sum_by (λ a. a.most_trees) opened.1.items ≤ trees) }
     ensures within { OnOk result (IsAskerCount askers) }
     ensures outside { IfErr result (λ e. (e.0 ≡ OpenError.Askers) ↔ ¬ IsAskerCount askers) }
     ensures memory { IfErr result (λ e. IsAskerCount askers

@@ -1,5 +1,5 @@
 //! Both replicas of the table.
-ghost use Rattle.std.specs.Prelude.{◌≡◌, ℕ, ◌<◌, ◌≤◌, ◌++◌, [], ◌∷◌, true, false, length, drop, All, IfOk, OnOk, IfErr, vec_len, vec_capacity};
+ghost use Rattle.std.specs.Prelude.{◌≡◌, ℕ, ◌<◌, ◌≤◌, ◌++◌, [], ◌∷◌, true, false, length, drop, All, IfOk, OnOk, IfErr, vec_len, vec_capacity, sum_by};
 ghost use Rattle.std.specs.Arc.{arc_value};
 ghost use Rattle.left_right.specs.Sides.{view};
 ghost use Rattle.cspf_journal.specs.JournalSteps.{batches_of, count_of};
@@ -7,6 +7,7 @@ ghost use Rattle.cspf_model.specs.Numbered.{NumberedChanges};
 ghost use Rattle.cspf_model.specs.Changes.{no_links, database_after, Fits};
 ghost use Rattle.cspf_model.specs.Refusals.{IsRefusal};
 ghost use Rattle.cspf_publish.specs.Answers.{IsBestAfter};
+ghost use Rattle.cspf_publish.specs.AskerStates.{asker_with, known_of};
 ghost use Rattle.cspf_journal.specs.Histories.{BeginsWith, IsHistory, MayFollow};
 ghost use Rattle.cspf_journal.specs.KnownBatches.{known_with};
 ghost use Rattle.cspf_publish.specs.Operations.{idle_batch};
@@ -282,8 +283,8 @@ impl Replicas {
     }
 
     /// Makes `count` askers, with `room` as their memory. They know the published batches. Together
-    /// they later have at most `trees` trees, in equal parts. It fails only where there is no place for
-    /// a reader.
+    /// they have at most `trees` trees, in equal parts. It fails only where there is no place for a
+    /// reader.
     pub(crate) fn askers<R: Wait>(
         &mut self,
         rt: &R,
@@ -294,19 +295,21 @@ impl Replicas {
         requires { (room.items ≡ []) × (count ≤ vec_capacity room) }
         ensures same { self.new ≡ self.old }
         ensures count { IfOk result (λ all. vec_len all ≡ count) }
-        ensures each { IfOk result (λ all. All (λ a. a ≡ self.old) all.items) }
+        ensures each { IfOk result (λ all. All (λ a. known_of a ≡ self.old) all.items) }
+        ensures trees { IfOk result (λ all. sum_by (λ a. a.most_trees) all.items ≤ trees) }
         ensures places { IfErr result (λ error. error ≡ OpenError.Places) }
     {
         let mut all = room;
+        let each = trees_of_each(trees, count);
         for _ in 0..count {
-            all.push_reserved(self.asker(rt, trees_of_each(trees, count))?);
+            all.push_reserved(self.asker(rt, each)?);
         }
         Ok(all)
     }
 
     fn asker<R: Wait>(&mut self, rt: &R, trees: usize) -> Result<Asker, OpenError>
         ensures same { self.new ≡ self.old }
-        ensures asker { IfOk result (λ asker. asker ≡ self.old) }
+        ensures asker { IfOk result (λ asker. asker ≡ asker_with self.old trees) }
         ensures places { IfErr result (λ error. error ≡ OpenError.Places) }
     {
         let mut reader = new_reader(&self.writer)?;

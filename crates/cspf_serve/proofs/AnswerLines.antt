@@ -11,7 +11,7 @@ use Rattle.cspf_ero.specs.ReplyLine.{IsReply}
 use Rattle.cspf_model.specs.Outcome.{answer_of}
 use Rattle.cspf_publish.specs.declared.answer.Answer.{Answer}
 use Rattle.cspf_publish.specs.Answers.{IsAnswerAfter}
-use Rattle.cspf_publish.specs.KnownBatches.{KnownBatches}
+use Rattle.cspf_publish.specs.AskerStates.{AskerState}
 use Rattle.cspf_work.specs.Served.{AreAnswersAfter, AreAnswersWithin, IsAnswerWithin}
 use Rattle.cspf_serve.specs.BatchRun.{AreReplies, IsReplyTo}
 use Rattle.cspf_judge.specs.EarlyEnds.{HasBegun, Writes}
@@ -115,6 +115,6 @@ pub replies_written : (batches : List NumberedChanges) (requests : List Request)
 replies_written batches requests list old new is written = (written.0, replies_after batches requests list written.0 is written.1, written.2)
 
 -- askers of one opening have one source
-pub sources_of : (source : Book) (askers : List KnownBatches) → All (λ (a : KnownBatches). (a.batches ≡ []) × (a.source ≡ source)) askers
-    → All (λ (a : KnownBatches). a.source ≡ source) askers
+pub sources_of : (source : Book) (askers : List AskerState) → All (λ (a : AskerState). (a.batches ≡ []) × (a.source ≡ source)) askers
+    → All (λ (a : AskerState). a.source ≡ source) askers
 sources_of source askers all i d less = (all i d less).1

@@ -24,7 +24,7 @@ use Rattle.cspf_rows.specs.declared.row.Row.TheVariants as row
 use Rattle.cspf_rows.specs.declared.row_error.RowError.{RowError}
 use Rattle.std.specs.Global.{Global}
 use Rattle.std.proofs.lemmas.Result.{IfOk-weaker, IfErr-weaker}
-use Rattle.cspf_publish.specs.KnownBatches.{KnownBatches}
+use Rattle.cspf_publish.specs.AskerStates.{AskerState}
 use Rattle.cspf_work.specs.declared.live.Live.{Live}
 use Rattle.cspf_work.specs.declared.serve_error.ServeError.{ServeError}
 use Rattle.cspf_serve.specs.declared.streams.error.RunError.TheVariants.{Serve}
@@ -199,7 +199,7 @@ at_error (Err e) x = x
 module _ {J : Type 0} (contents : J → Option (List ℕ)) (batches : List NumberedChanges) (requests : List Request) (before : PublisherState J)
     (ended : Result ℕ RunError) (journal : J) where
   -- the lines are written of answers that are there
-  pub run_answered : (ran : Result (Live J) (ServeError × PublisherState J × Vec KnownBatches Global)) (askers : List KnownBatches) (old new : Option (List ℕ))
+  pub run_answered : (ran : Result (Live J) (ServeError × PublisherState J × Vec AskerState Global)) (askers : List AskerState) (old new : Option (List ℕ))
       → AreNumberedFrom 1 batches → length batches ≤ 1000000 → before.batches ≡ [] → before.stopped ≡ false
       → IfOk ran (λ live. AreAnsweredByWorkers requests askers live.askers.items live.list.items live.drawn.items)
       → IfOk ran (λ live. AreAnswersWithin live.publisher.batches requests live.list.items)
@@ -219,7 +219,7 @@ module _ {J : Type 0} (contents : J → Option (List ℕ)) (batches : List Numbe
       lines)
 
   -- the writer of lines fails, or a worker
-  pub run_failed : (ran : Result (Live J) (ServeError × PublisherState J × Vec KnownBatches Global))
+  pub run_failed : (ran : Result (Live J) (ServeError × PublisherState J × Vec AskerState Global))
       → IfOk ran (λ live. IfErr ended IsStreamFault) → IfErr ran (λ e. ended ≡ Err (Serve e.0))
       → IfErr ran (λ e. IsFaultOfWorker e.0 ⊎ IsUnaccounted (length requests) (length (e.1).batches) e.0)
       → IfErr ended (IsRunFault (λ index version. (index < length requests) × (0 < version)))
@@ -229,7 +229,7 @@ module _ {J : Type 0} (contents : J → Option (List ℕ)) (batches : List Numbe
       rw fault (inr (inr (stray.0, stray.1, ap Serve stray.2, (stray.3, omega (arith, stray.4)))))
 
   -- the journal has grown by what was applied
-  pub run_recorded : (ran : Result (Live J) (ServeError × PublisherState J × Vec KnownBatches Global))
+  pub run_recorded : (ran : Result (Live J) (ServeError × PublisherState J × Vec AskerState Global))
       → AreNumberedFrom 1 batches → length batches ≤ 1000000 → before.batches ≡ [] → before.stopped ≡ false
       → IfOk ran (λ live. IsAppliedUpTo contents before live.publisher batches live.applied live.fault)
       → IfErr ran (λ e. IsAppliedInPart contents before e.1 batches)

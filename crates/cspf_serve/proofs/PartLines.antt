@@ -7,7 +7,7 @@ use Rattle.std.proofs.lemmas.Option.{slice_get-get_or}
 use Rattle.logbook.specs.Pages.{Book}
 use Rattle.cspf_model.specs.declared.request.Request.{Request}
 use Rattle.cspf_model.specs.Database.{Database}
-use Rattle.cspf_publish.specs.KnownBatches.{KnownBatches}
+use Rattle.cspf_publish.specs.AskerStates.{AskerState}
 use Rattle.cspf_work.specs.Served.{AreSameAskers}
 use Rattle.cspf_serve.specs.BatchRun.{AreReplies}
 use Rattle.cspf_judge.specs.EarlyEnds.{HasBegun, Writes}
@@ -64,8 +64,8 @@ part_begun d version qs first end old mid new up before begun =
     (cut.0, rw cut.1 (joined d version (take first qs) (take is.0 (drop first (take end qs))) before.0 lines before.1 is.1))) begun
 
 -- the askers that are handed back have the source that they had
-pub sources_kept : (source : Book) (before after : List KnownBatches) → AreSameAskers before after
-    → All (λ (a : KnownBatches). a.source ≡ source) before → All (λ (a : KnownBatches). a.source ≡ source) after
+pub sources_kept : (source : Book) (before after : List AskerState) → AreSameAskers before after
+    → All (λ (a : AskerState). a.source ≡ source) before → All (λ (a : AskerState). a.source ≡ source) after
 sources_kept source before after same all i d less =
     let inside : i < length before = omega (arith, less, same.count) in
     let kept = same.each i (get_or before i d) (get_or after i d) (slice_get-get_or before i d inside) (slice_get-get_or after i d less) in

@@ -19,7 +19,7 @@ use Rattle.cspf_solve.proofs.BatchRefusals.{wrong_end, unfit_end}
 
 -- the table has the batches that a run has accepted, and the changes are those that are open
 pub record IsOfRun (r : RowsState TableSink) (s : RunState) : Type 0 where
-  pub table : r.sink.table ≡ database_after s.accepted
+  pub table : r.sink.table.database ≡ database_after s.accepted
   pub version : r.sink.version ≡ length s.accepted
   pub changes : r.changes ≡ s.changes
   pub answers : r.answers ≡ s.answers
@@ -37,7 +37,7 @@ module _ (more : OneMoreBatch) (unfit : RefusedIsUnfit) (r t : RowsState TableSi
       let longer : length (s.accepted ++ (open_batch s number ∷ [])) ≡ length s.accepted + 1 = length-append s.accepted (open_batch s number ∷ []) in (
         after_batch s number,
         record {
-          table = ap (λ (x : TableSink). x.table) takes.1 ∙ rw (of.table, of.changes) (sym (more s.accepted (open_batch s number)));
+          table = ap (λ (x : TableSink). x.table.database) takes.1 ∙ rw (of.table, of.changes) (sym (more s.accepted (open_batch s number)));
           version = ap (λ (x : TableSink). x.version) takes.1 ∙ ap (λ n. n + 1) of.version ∙ sym longer;
           changes = ap (λ (x : RowsState TableSink). x.changes) a.after;
           answers = ap (λ (x : RowsState TableSink). x.answers) a.after ∙ of.answers;
@@ -70,7 +70,7 @@ module _ (more : OneMoreBatch) (unfit : RefusedIsUnfit) (r t : RowsState TableSi
       let d = why_dropped a.why t.sink a.dropped in (
         after_refused_batch s,
         record {
-          table = ap (λ (x : TableSink). x.table) d.2 ∙ of.table;
+          table = ap (λ (x : TableSink). x.table.database) d.2 ∙ of.table;
           version = ap (λ (x : TableSink). x.version) d.2 ∙ of.version;
           changes = ap (λ (x : RowsState TableSink). x.changes) a.after;
           answers = ap (λ (x : RowsState TableSink). x.answers) a.after ∙ of.answers;
@@ -113,7 +113,7 @@ run_row more unfit k k' row line read lead s kept =
     let a = row_taken more unfit r led.0 (at_next_row s) row line of (rw place at led.2) in (
       a.0,
       record {
-        table = ap (λ (x : TableSink). x.table) led.1.sink ∙ a.1.table;
+        table = ap (λ (x : TableSink). x.table.database) led.1.sink ∙ a.1.table;
         changes = subst (λ cs. AreOpen k'.rows.changes cs) a.1.changes led.1.changes;
         rows = read ∙ place ∙ sym a.3;
         version = ap (λ (x : TableSink). x.version) led.1.sink ∙ a.1.version;

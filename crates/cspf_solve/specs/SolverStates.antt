@@ -17,7 +17,7 @@ use Rattle.cspf_solve.specs.Script.{RunState, at_next_row, IsRowAnswered}
 -- One table for the batches that were accepted. Of the open changes as many are kept as
 -- one more than a batch may have, and their number.
 pub record KeepsRun (solver : Solver) (s : RunState) : Type 0 where
-  pub table : solver.rows.sink.table ≡ database_after s.accepted
+  pub table : solver.rows.sink.table.database ≡ database_after s.accepted
   pub changes : AreOpen solver.rows.changes s.changes
   pub rows : solver.read ≡ s.rows
   pub version : solver.rows.sink.version ≡ length s.accepted

@@ -14,7 +14,10 @@ abbrev pub table_spec : SinkSpec TableSink
 table_spec = record {
   version = λ sink. sink.version;
   stopped = λ sink. false;
-  accepts = λ old b new. Fits old.table b × (new ≡ record { table = after_changes old.table b.changes; version = old.version + 1 });
-  refuses = λ old b refused new. (why : Refusal) × (refused ≡ refusal.Unfit why) × IsRefusal old.table b why × (new ≡ old);
-  replies = λ sink q line. (answer : Answer) × IsBestAnswer sink.table q answer × IsReply q.id sink.version answer line;
+  accepts = λ old b new. Fits old.table.database b × (new ≡ record {
+    table = record old.table { database = after_changes old.table.database b.changes };
+    version = old.version + 1;
+  });
+  refuses = λ old b refused new. (why : Refusal) × (refused ≡ refusal.Unfit why) × IsRefusal old.table.database b why × (new ≡ old);
+  replies = λ sink q line. (answer : Answer) × IsBestAnswer sink.table.database q answer × IsReply q.id sink.version answer line;
 }

@@ -48,11 +48,13 @@ impl Answering<()> for Solver {
 impl Solver {
     ghost use Rattle.cspf_solve.specs.Script.{RunState, start, at_next_row, IsRowAnswered, last_line, summary_of};
     ghost use Rattle.cspf_solve.specs.SolverStates.{KeepsRun, AreFew, AreWithinOne, AreCounted};
+    ghost use Rattle.cspf_trees.specs.declared.limits.TheConstants.{MOST_TREES};
 
     /// Version 0, with the empty database and no open changes. Its table keeps at most `MOST_TREES`
     /// trees.
     pub fn new(alloc: Global) -> Result<Solver, AllocError>
-        ensures { IfOk result (λ solver. KeepsRun solver start) }
+        ensures start { IfOk result (λ solver. KeepsRun solver start) }
+        ensures trees { IfOk result (λ solver. solver.rows.sink.table.most_trees ≡ MOST_TREES) }
     {
         Solver::with_trees(alloc, MOST_TREES)
     }
@@ -60,7 +62,8 @@ impl Solver {
     /// As `new`, but its table keeps at most this many trees, and never more than `MOST_TREES`. With 0
     /// it keeps none. The answers are the same.
     pub fn with_trees(alloc: Global, most: usize) -> Result<Solver, AllocError>
-        ensures { IfOk result (λ solver. KeepsRun solver start) }
+        ensures start { IfOk result (λ solver. KeepsRun solver start) }
+        ensures trees { IfOk result (λ solver. solver.rows.sink.table.most_trees ≡ most) }
     {
         let sink = TableSink {
             table: TreeTable::with_trees(alloc, most)?,

@@ -5,4 +5,5 @@ pub mod LegsInTurn
 pub mod OwnerRows
 pub mod Owners
 pub mod TreeRows
+pub mod TreeTables
 pub mod Trees

@@ -1,8 +1,9 @@
 -- Private words of the cache: the tree of a row.
-use Rattle.std.specs.Prelude.{◌≡◌, ℕ, IfSome, None}
+use Rattle.std.specs.Prelude.{◌≡◌, ℕ, Option, List, IfSome, None, Some, sum_by}
 use Rattle.cspf_model.specs.declared.request.Request.{Request}
 use Rattle.cspf_model.specs.Database.{Database}
 use Rattle.cspf_search.specs.Trees.{IsTree}
+use Rattle.cspf_search.specs.declared.tree.Tree.{Tree}
 use Rattle.cspf_trees.specs.declared.tree_row.TreeRow.{TreeRow}
 use Rattle.cspf_trees.specs.Classes.{HasClass}
 
@@ -21,3 +22,16 @@ pub record IsAskedOf (q : Request) (now : ℕ) (row : TreeRow) : Type 0 where
 pub record IsEmptyTreeRow (row : TreeRow) : Type 0 where
   pub generation : row.generation ≡ 0
   pub tree : row.tree ≡ None
+
+-- how many trees an optional tree is: none or one
+abbrev pub option_count : Option Tree → ℕ
+option_count None = 0
+option_count (Some tree) = 1
+
+-- how many trees the row has
+abbrev pub row_count : TreeRow → ℕ
+row_count row = option_count row.tree
+
+-- how many trees the rows have, whatever database they are of
+abbrev pub tree_count : List TreeRow → ℕ
+tree_count rows = sum_by row_count rows

@@ -43,6 +43,7 @@ fn sole_targets(
 ) -> Result<Option<Vec<Addr>>, AllocError>
     requires { AreTreesOf table.now trees.old }
     ensures trees { AreTreesOf table.now trees.new }
+    ensures most { trees.new.most ≡ trees.old.most }
     ensures targets { IfOk result (λ found. IfSome found (λ targets.
         AreSoleTargets table.now request.now targets.items)) }
 {
@@ -90,6 +91,7 @@ fn answer_leg(
     requires ends { from ≢ to }
     requires trees { AreTreesOf table.now trees.old }
     ensures trees { AreTreesOf table.now trees.new }
+    ensures most { trees.new.most ≡ trees.old.most }
     ensures answer { IfOk result (λ outcome.
         IsLegAnswer table.now request.now from to (answer_of outcome)) }
 {
@@ -112,6 +114,7 @@ fn go_on(
     requires few { leg < length request.now.hops + 1 }
     requires least { IsLeastSoFar table.now request.now leg walk.old.at walk.old.links.items }
     ensures trees { AreTreesOf table.now trees.new }
+    ensures most { trees.new.most ≡ trees.old.most }
     ensures step { IfOk result (IsLegStep table.now request.now (leg + 1) walk.new) }
 {
     // Law: without hops the routes are the walks to the tail-end.
@@ -146,6 +149,7 @@ pub(crate) fn best_by_legs(
 ) -> Result<Option<Outcome>, AllocError>
     requires { AreTreesOf table.now trees.old }
     ensures trees { AreTreesOf table.now trees.new }
+    ensures most { trees.new.most ≡ trees.old.most }
     ensures best { IfOk result (λ found. IfSome found (λ outcome.
         IsBestAnswer table.now request.now (answer_of outcome))) }
 {

@@ -17,6 +17,6 @@ mod tree_table;
 mod trees;
 
 pub use laws::trees_outlast_bandwidth;
-pub use limits::{MOST_TREES, TREE_BYTES};
+pub use limits::{MOST_TREE_MEGABYTES, MOST_TREES, TREE_BYTES, TREE_MEGABYTES, trees_in};
 pub use tree_table::TreeTable;
 pub use trees::Trees;

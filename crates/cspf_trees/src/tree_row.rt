@@ -1,10 +1,10 @@
 //! A row: a class of requests, and its tree once it is asked for often.
 
-ghost use Rattle.std.specs.Prelude.{◌≡◌, ◌+◌, ◌<◌, ◌≤◌, true, All, None, IfOk, IfSome, length};
+ghost use Rattle.std.specs.Prelude.{◌≡◌, ◌+◌, ◌<◌, ◌≤◌, true, false, All, None, IfOk, IfSome, length};
 ghost use Rattle.cspf_model.specs.declared.request.Request.{Request as Asked};
 ghost use Rattle.cspf_search.specs.Trees.{IsTree, ShareTrees};
 ghost use Rattle.cspf_trees.specs.Classes.{HasClass};
-ghost use Rattle.cspf_trees.specs.TreeRows.{IsAskedOf, IsEmptyTreeRow, HasTreeOf};
+ghost use Rattle.cspf_trees.specs.TreeRows.{IsAskedOf, IsEmptyTreeRow, HasTreeOf, row_count, tree_count};
 ghost use Rattle.cspf_trees.specs.declared.limits.TheConstants.{MOST_TREES, WAYS};
 
 use crate::class::Class;
@@ -32,6 +32,7 @@ pub(crate) struct TreeRow {
 pub(crate) fn empty_rows(alloc: Global) -> Result<Vec<TreeRow>, AllocError>
     ensures many { IfOk result (λ rows. length rows.items ≡ MOST_TREES) }
     ensures empty { IfOk result (λ rows. All IsEmptyTreeRow rows.items) }
+    ensures none { IfOk result (λ rows. tree_count rows.items ≡ 0) }
 {
     let (to, none) = (Addr::new(0), Mask::new(0));
     let mut rows = Vec::with_capacity(alloc, MOST_TREES)?;
@@ -64,7 +65,9 @@ fn grown(alloc: Global, table: &Table, request: &Request) -> Option<Tree>
 }
 
 /// Whether a tree is due at so many asks.
-fn is_due(due: Option<u32>, asks: u32) -> bool {
+fn is_due(due: Option<u32>, asks: u32) -> bool
+    ensures { due ≡ None → result ≡ false }
+{
     match due {
         Some(least) => asks >= least,
         None => false,
@@ -79,6 +82,7 @@ fn count(alloc: Global, table: &Table, request: &Request, due: Option<u32>, row:
     ensures row { HasTreeOf table.now row.old.generation row.new }
     ensures class { row.new.class ≡ row.old.class }
     ensures generation { row.new.generation ≡ row.old.generation }
+    ensures undue { due ≡ None → row.new.tree ≡ row.old.tree }
 {
     if row.asks < MOST_ASKS {
         row.asks += 1;
@@ -90,7 +94,7 @@ fn count(alloc: Global, table: &Table, request: &Request, due: Option<u32>, row:
 
 /// Asks a row for the class of a request. A row of another class is counted down, and taken over once
 /// its asks are used up. A request with hops changes no row, since a tree spares it its last leg alone.
-/// Returns whether the row is of the class now.
+/// Returns whether the row is of the class now. Where no tree is due, it has no tree that it didn't have.
 pub(crate) fn ask(
     alloc: Global,
     table: &Table,
@@ -106,6 +110,7 @@ pub(crate) fn ask(
     ensures past { row.new.generation ≤ generation }
     ensures row { HasTreeOf table.now generation row.new }
     ensures asked { result ≡ true → IsAskedOf request.now generation row.new }
+    ensures undue { due ≡ None → row_count row.new ≤ row_count row.old }
 {
     let is_mine = row.generation == generation && row.class == *class;
     if !request.hops.is_empty() {
@@ -125,6 +130,16 @@ pub(crate) fn ask(
     }
     count(alloc, table, request, due, row);
     true
+}
+
+/// How many trees a row has.
+pub(crate) fn trees_of(row: &TreeRow) -> usize
+    ensures { result ≡ row_count row.now }
+{
+    match row.tree {
+        Some(_) => 1,
+        None => 0,
+    }
 }
 
 /// How many asks a row of some other class has left to be counted down.

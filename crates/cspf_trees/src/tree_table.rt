@@ -5,6 +5,7 @@ ghost use Rattle.cspf_model.specs.Best.{IsBestAnswer};
 ghost use Rattle.cspf_model.specs.Changes.{no_links, after_changes, Fits};
 ghost use Rattle.cspf_model.specs.Outcome.{answer_of};
 ghost use Rattle.cspf_model.specs.Refusals.{IsRefusal};
+ghost use Rattle.cspf_trees.specs.declared.limits.TheConstants.{MOST_TREES};
 
 use crate::limits::MOST_TREES;
 use crate::trees::Trees;
@@ -23,31 +24,32 @@ pub struct TreeTable {
 }
 
 impl Model for TreeTable {
+    ghost use Rattle.cspf_trees.specs.TreeTables.{TreeTableState, tree_table_code};
+
+    ghost Value = { TreeTableState };
+
+    ghost coded = { tree_table_code };
+
     ghost use Rattle.cspf_trees.specs.Trees.{AreTreesOf};
 
+    ghost view = { λ a. record { database = a.table; most_trees = a.trees.most } };
+
     ghost invariant = { λ a. AreTreesOf a.table a.trees };
-
-    ghost use Rattle.cspf_model.specs.Database.{Database};
-    ghost use Rattle.cspf_model.specs.DatabaseCode.{database_code};
-
-    ghost Value = { Database };
-
-    ghost coded = { database_code };
-
-    ghost view = { λ a. a.table };
 }
 
 impl TreeTable {
     /// An empty table, and no trees.
     pub fn new(alloc: Global) -> Result<TreeTable, AllocError>
-        ensures { IfOk result (λ table. table ≡ no_links) }
+        ensures { IfOk result (λ table.
+            table ≡ record { database = no_links; most_trees = MOST_TREES }) }
     {
         TreeTable::with_trees(alloc, MOST_TREES)
     }
 
-    /// As `new`, with later at most this many trees.
+    /// As `new`, with at most this many trees.
     pub fn with_trees(alloc: Global, most: usize) -> Result<TreeTable, AllocError>
-        ensures { IfOk result (λ table. table ≡ no_links) }
+        ensures { IfOk result (λ table.
+            table ≡ record { database = no_links; most_trees = most }) }
     {
         Ok(TreeTable {
             table: Table::new(alloc)?,
@@ -57,7 +59,7 @@ impl TreeTable {
 
     /// The table.
     pub fn table(&self) -> &Table
-        ensures { result.now ≡ self.now }
+        ensures { result.now ≡ self.now.database }
     {
         &self.table
     }
@@ -66,7 +68,7 @@ impl TreeTable {
     pub fn best(&mut self, alloc: Global, request: &Request) -> Result<Outcome, AllocError>
         ensures same { self.new ≡ self.old }
         ensures best { IfOk result (λ outcome.
-            IsBestAnswer self.old request.now (answer_of outcome)) }
+            IsBestAnswer self.old.database request.now (answer_of outcome)) }
     {
         self.trees.best(alloc, &self.table, request)
     }
@@ -74,9 +76,11 @@ impl TreeTable {
     /// As `Table::try_absorb`. Trees are kept over a batch of unreserved bandwidths alone, and over
     /// no other that is absorbed.
     pub fn try_absorb(&mut self, batch: &Batch) -> Result<(), Refusal>
-        ensures ok { OnOk result (Fits self.old batch.now) }
-        ensures changed { OnOk result (self.new ≡ after_changes self.old batch.now.changes) }
-        ensures err { IfErr result (λ refusal. IsRefusal self.old batch.now refusal) }
+        ensures ok { OnOk result (Fits self.old.database batch.now) }
+        ensures changed { OnOk result (self.new ≡ record self.old {
+          database = after_changes self.old.database batch.now.changes;
+        }) }
+        ensures err { IfErr result (λ refusal. IsRefusal self.old.database batch.now refusal) }
         ensures same { OnErr result (self.new ≡ self.old) }
     {
         match self.table.plan(batch) {

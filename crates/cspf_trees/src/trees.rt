@@ -1,13 +1,14 @@
 //! The trees of one database.
 
-ghost use Rattle.std.specs.Prelude.{◌≤◌, All};
+ghost use Rattle.std.specs.Prelude.{◌≡◌, ◌≤◌, All};
+ghost use Rattle.cspf_trees.specs.TreeRows.{tree_count};
 
 use crate::class::{class_of, first_row};
 use crate::laws::trees_outlast_bandwidth;
 use crate::legs::best_by_legs;
 use crate::limits::{ASKS_FOR_A_TREE, MOST_ASKS, MOST_TREES};
 use crate::owners::Owners;
-use crate::tree_row::{TreeRow, ask, empty_rows, find};
+use crate::tree_row::{TreeRow, ask, empty_rows, find, trees_of};
 use cspf_addr::{Addr, Prefix};
 use cspf_db::Table;
 use cspf_model::{Batch, Outcome, Request};
@@ -27,7 +28,7 @@ pub struct Trees {
     rows: Vec<TreeRow>,
     /// The generation of the trees that are of the database. Rows of earlier ones count as empty.
     generation: u64,
-    /// How many trees there may be.
+    /// How many trees there are at most.
     most: usize,
     /// The ask of its class at which a tree is grown.
     due: u32,
@@ -36,17 +37,8 @@ pub struct Trees {
     /// The routers that alone own the prefixes of hops.
     owners: Owners,
     ghost past: { All (λ row. row.generation ≤ generation) rows.items },
-}
-
-/// How many trees there are after a row had one or not, and has one or not.
-fn counted(count: usize, had: bool, has: bool) -> usize {
-    if has && !had {
-        count.saturating_add(1)
-    } else if had && !has {
-        count.saturating_sub(1)
-    } else {
-        count
-    }
+    ghost counted: { tree_count rows.items ≡ count },
+    ghost few: { count ≤ most },
 }
 
 impl Trees {
@@ -63,7 +55,8 @@ impl Trees {
 
     /// No trees, so they are of any database, and later at most this many. It takes no memory.
     pub fn new(alloc: Global, most: usize) -> Trees
-        ensures { (d : Database) → AreTreesOf d result }
+        ensures trees { (d : Database) → AreTreesOf d result }
+        ensures most { result.most ≡ most }
     {
         Trees::from_ask(alloc, most, ASKS_FOR_A_TREE)
     }
@@ -71,7 +64,8 @@ impl Trees {
     /// As `new`, but a tree is grown at this ask of its tail-end and affinities without hops, at 64 at
     /// the latest.
     pub fn from_ask(alloc: Global, most: usize, due: u32) -> Trees
-        ensures { (d : Database) → AreTreesOf d result }
+        ensures trees { (d : Database) → AreTreesOf d result }
+        ensures most { result.most ≡ most }
     {
         Trees {
             rows: Vec::new(alloc),
@@ -86,7 +80,8 @@ impl Trees {
     /// Leaves no tree to search by and no owner of a prefix, so the trees are of any database. Memory is
     /// kept for later ones.
     pub fn clear(&mut self)
-        ensures { (d : Database) → AreTreesOf d self.new }
+        ensures trees { (d : Database) → AreTreesOf d self.new }
+        ensures most { self.new.most ≡ self.old.most }
     {
         self.owners.clear();
         if self.generation < u64::MAX {
@@ -101,7 +96,8 @@ impl Trees {
     /// differs in unreserved bandwidths alone. Else it leaves none.
     pub(crate) fn keep_over(&mut self, table: &Table, batch: &Batch)
         requires { AreTreesOf table.now self.old }
-        ensures { AreTreesOf (after_changes table.now batch.now.changes) self.new }
+        ensures trees { AreTreesOf (after_changes table.now batch.now.changes) self.new }
+        ensures most { self.new.most ≡ self.old.most }
     {
         // Law: a tree of a database is one of each with the same shape.
         trees_outlast_bandwidth();
@@ -116,6 +112,7 @@ impl Trees {
     fn fill(&mut self, alloc: Global) -> bool
         ensures trees { (d : Database) → AreTreesOf d self.old → AreTreesOf d self.new }
         ensures many { result ≡ true → length self.new.rows.items ≡ MOST_TREES }
+        ensures most { self.new.most ≡ self.old.most }
     {
         if self.rows.len() == MOST_TREES {
             return true;
@@ -126,6 +123,7 @@ impl Trees {
         match empty_rows(alloc) {
             Ok(rows) => {
                 self.rows = rows;
+                self.count = 0;
                 true
             }
             Err(_refused) => false,
@@ -137,6 +135,7 @@ impl Trees {
     fn ask_row(&mut self, alloc: Global, table: &Table, request: &Request) -> Option<usize>
         requires { AreTreesOf table.now self.old }
         ensures trees { AreTreesOf table.now self.new }
+        ensures most { self.new.most ≡ self.old.most }
         ensures within { IfSome result (λ at. at < length self.new.rows.items) }
         ensures asked { IfSome result (λ at. (e : OneTreeRow)
             → IsAskedOf request.now self.new.generation (slice_index_or self.new.rows.items at e)) }
@@ -153,10 +152,10 @@ impl Trees {
             None
         };
         let row = &mut self.rows[at];
-        let had = row.tree.is_some();
+        let had = trees_of(row);
         let asked = ask(alloc, table, request, &class, generation, due, row);
-        let has = row.tree.is_some();
-        self.count = counted(self.count, had, has);
+        let has = trees_of(row);
+        self.count = self.count - had + has;
         if asked { Some(at) } else { None }
     }
 
@@ -170,6 +169,7 @@ impl Trees {
     ) -> Result<Outcome, AllocError>
         requires { AreTreesOf table.now self.old }
         ensures trees { AreTreesOf table.now self.new }
+        ensures most { self.new.most ≡ self.old.most }
         ensures best { IfOk result (λ outcome.
             IsBestAnswer table.now request.now (answer_of outcome)) }
     {
@@ -192,6 +192,7 @@ impl Trees {
     ) -> Result<Option<Addr>, AllocError>
         requires { AreTreesOf table.now self.old }
         ensures trees { AreTreesOf table.now self.new }
+        ensures most { self.new.most ≡ self.old.most }
         ensures sole { IfOk result (λ found. IfSome found (IsSoleOwner table.now prefix)) }
     {
         self.owners.sole_owner(alloc, table, prefix)
@@ -208,6 +209,7 @@ impl Trees {
     ) -> Result<Outcome, AllocError>
         requires { AreTreesOf table.now self.old }
         ensures trees { AreTreesOf table.now self.new }
+        ensures most { self.new.most ≡ self.old.most }
         ensures best { IfOk result (λ outcome.
             IsBestAnswer table.now request.now (answer_of outcome)) }
     {

@@ -9,7 +9,7 @@ use Rattle.cspf_model.specs.declared.request.Request.{Request}
 use Rattle.cspf_publish.specs.declared.answer.Answer.{Answer}
 use Rattle.cspf_publish.specs.Answers.{IsAnswerAfter}
 use Rattle.cspf_publish.specs.Histories.{BeginsWith}
-use Rattle.cspf_publish.specs.KnownBatches.{KnownBatches}
+use Rattle.cspf_publish.specs.AskerStates.{AskerState}
 use Rattle.cspf_work.specs.declared.worker.Reply.{Reply}
 use Rattle.cspf_work.specs.declared.worker.Worker.{Worker}
 use Rattle.cspf_work.specs.Served.{IsAnswerWithin, KnowsNoLess}
@@ -19,7 +19,7 @@ use Rattle.cspf_work.specs.Working.{HasDone, IsDone}
 pub begins_through : (xs ys zs : List NumberedChanges) → BeginsWith ys xs → BeginsWith zs ys → BeginsWith zs xs
 begins_through xs ys zs p q = (p.0 ++ q.0, q.1 ∙ (ap (λ w. w ++ q.0) p.1 ∙ append_assoc xs p.0 q.0))
 
-pub knows_through : (a b c : KnownBatches) → KnowsNoLess a b → KnowsNoLess b c → KnowsNoLess a c
+pub knows_through : (a b c : AskerState) → KnowsNoLess a b → KnowsNoLess b c → KnowsNoLess a c
 knows_through a b c p q = record {
   source = q.source ∙ p.source;
   later = begins_through a.batches b.batches c.batches p.later q.later;
@@ -58,7 +58,7 @@ all_done_later : (requests : List Request) (before known later : List NumberedCh
 all_done_later requests before known later done p all k d l = done_later requests before known later (get_or done k d) p (all k d l)
 
 -- the asker knows more, and nothing else changed
-pub done_more_known : (requests : List Request) (before : KnownBatches) (w v : Worker)
+pub done_more_known : (requests : List Request) (before : AskerState) (w v : Worker)
     → KnowsNoLess w.asker v.asker → v.done.items ≡ w.done.items → HasDone requests before w → HasDone requests before v
 done_more_known requests before w v knows same is = record {
   asker = knows_through before w.asker v.asker is.asker knows;
@@ -67,7 +67,7 @@ done_more_known requests before w v knows same is = record {
 }
 
 -- the asker knows more, and one more request is answered
-pub done_next : (requests : List Request) (before : KnownBatches) (w v : Worker) (q : Request) (r : Reply)
+pub done_next : (requests : List Request) (before : AskerState) (w v : Worker) (q : Request) (r : Reply)
     → KnowsNoLess w.asker v.asker → v.done.items ≡ w.done.items ++ r ∷ []
     → r.index < length requests → slice_get requests r.index ≡ Some q → IsAnswerAfter v.asker.batches q r.answer
     → HasDone requests before w → HasDone requests before v

@@ -10,7 +10,7 @@ use Rattle.std.proofs.lemmas.List.Sums.{sum_by-cons}
 use Rattle.cspf_model.specs.declared.request.Request.{Request}
 use Rattle.cspf_draw.specs.DrawnNumbers.{CounterId, DrawnNumbers}
 use Rattle.cspf_draw.specs.EachOnce.{HoldsEachOnce, once_below, times}
-use Rattle.cspf_publish.specs.KnownBatches.{KnownBatches}
+use Rattle.cspf_publish.specs.AskerStates.{AskerState}
 use Rattle.cspf_work.specs.declared.serve_error.ServeError.{ServeError}
 use Rattle.cspf_work.specs.declared.worker.Reply.{Reply}
 use Rattle.cspf_work.specs.declared.worker.Worker.{Worker}
@@ -63,7 +63,7 @@ pub record IsDrawnOut (bound : ℕ) (w : Worker) : Type 0 where
   pub drawn : HasDrawnAll bound w
 
 -- so are all workers whose askers gave no fault
-pub drawn_out : (id : CounterId) (requests : List Request) (before : List KnownBatches) (workers : List Worker) → AreRun id requests before workers
+pub drawn_out : (id : CounterId) (requests : List Request) (before : List AskerState) (workers : List Worker) → AreRun id requests before workers
     → All (λ (w : Worker). IsNone w.fault) workers → All (IsDrawnOut (length requests)) workers
 drawn_out id requests before workers run none i d less = record {
   inside = run_inside id requests before workers run i d less;

@@ -10,7 +10,7 @@ use Rattle.std.proofs.lemmas.Option.{slice_get_within, slice_get-map, get_or_fro
 use Rattle.cspf_model.specs.declared.request.Request.{Request}
 use Rattle.cspf_draw.specs.DrawnNumbers.{CounterId}
 use Rattle.cspf_publish.specs.declared.answer.Answer.{Answer}
-use Rattle.cspf_publish.specs.KnownBatches.{KnownBatches}
+use Rattle.cspf_publish.specs.AskerStates.{AskerState}
 use Rattle.cspf_work.specs.declared.worker.Reply.{Reply}
 use Rattle.cspf_work.specs.declared.worker.Worker.{Worker}
 use Rattle.cspf_work.specs.Served.{IsAnswerWithin, IsServed, IsServedAt, AreAnsweredByWorkers, HoldEachOnce, version_at}
@@ -20,7 +20,7 @@ use Rattle.cspf_work.specs.Collected.{IsPlaced}
 version_at_placed : (list : List Answer) (r : Reply) → IsPlaced list r → version_at list r.index ≡ r.answer.version
 version_at_placed list r at = subst (λ (o : Option Answer). Rattle.std.specs.Option.unwrap_or (option_map (λ (a : Answer). a.version) o) 0 ≡ r.answer.version) (sym at) refl
 
-served_at : (requests : List Request) (list : List Answer) (before : KnownBatches) (w : Worker) (r : Reply)
+served_at : (requests : List Request) (list : List Answer) (before : AskerState) (w : Worker) (r : Reply)
     → IsDone requests before.batches w.asker.batches r → IsPlaced list r → IsServedAt requests list before.batches w.asker.batches r.index
 served_at requests list before w r is at = record {
   later = subst (λ n. length before.batches ≤ n) (sym (version_at_placed list r at)) is.later;
@@ -46,7 +46,7 @@ rising list (r ∷ rs) placed is =
     let m = is i j r le inside in
     omega arith)
 
-served_by : (requests : List Request) (list : List Answer) (before : KnownBatches) (w : Worker)
+served_by : (requests : List Request) (list : List Answer) (before : AskerState) (w : Worker)
     → HasDone requests before w → All (IsPlaced list) w.done.items → IsServed requests list before.batches w.asker.batches (indexes w.done.items)
 served_by requests list before w is placed = record {
   answers = All-map (IsServedAt requests list before.batches w.asker.batches) (λ (r : Reply). r.index) w.done.items
@@ -69,9 +69,9 @@ pub drawn_by : (workers : List Worker) (lists : List (Vec Reply Global)) (list :
 drawn_by workers lists list drawn is =
     is.drawn_are ∙ ap (map (λ (l : Vec Reply Global). indexes l.items)) is.lists_are ∙ map-map (λ (w : Worker). w.done) (λ (l : Vec Reply Global). indexes l.items) workers
 
-served_place : (counter : CounterId) (requests : List Request) (before : List KnownBatches) (workers : List Worker) (lists : List (Vec Reply Global)) (list : List Answer) (drawn : List (Vec ℕ Global))
+served_place : (counter : CounterId) (requests : List Request) (before : List AskerState) (workers : List Worker) (lists : List (Vec Reply Global)) (list : List Answer) (drawn : List (Vec ℕ Global))
     → AreRun counter requests before workers → AreCollected workers lists list drawn
-    → (i : ℕ) (old new : KnownBatches) (ix : Vec ℕ Global) (o : Option Worker) → slice_get workers i ≡ o
+    → (i : ℕ) (old new : AskerState) (ix : Vec ℕ Global) (o : Option Worker) → slice_get workers i ≡ o
     → slice_get before i ≡ Some old → option_map (λ (w : Worker). w.asker) o ≡ Some new → Some ix.items ≡ option_map (λ (w : Worker). indexes w.done.items) o
     → IsServed requests list old.batches new.batches ix.items
 served_place counter requests before workers lists list drawn run is i old new ix (Some w) here at there drew =
@@ -82,12 +82,12 @@ served_place counter requests before workers lists list drawn run is i old new i
     let less = slice_get_within lists i w.done listed in
     let placed : All (IsPlaced list) w.done.items =
     subst (λ (l : Vec Reply Global). All (IsPlaced list) l.items) (get_or_from_slice_get lists i w.done w.done listed) (is.placed i w.done less) in
-    subst (λ (k : KnownBatches). IsServed requests list old.batches k.batches ix.items) asker
+    subst (λ (k : AskerState). IsServed requests list old.batches k.batches ix.items) asker
     (subst (λ (xs : List ℕ). IsServed requests list old.batches w.asker.batches xs) (sym same)
     (served_by requests list old w (run.each i old w at here).done placed))
 served_place counter requests before workers lists list drawn run is i old new ix None here at there drew = absurd (cc there)
 
-pub answered : (counter : CounterId) (requests : List Request) (before : List KnownBatches) (workers : List Worker) (lists : List (Vec Reply Global)) (list : List Answer) (drawn : List (Vec ℕ Global)) (after : List KnownBatches)
+pub answered : (counter : CounterId) (requests : List Request) (before : List AskerState) (workers : List Worker) (lists : List (Vec Reply Global)) (list : List Answer) (drawn : List (Vec ℕ Global)) (after : List AskerState)
     → after ≡ map (λ w. w.asker) workers → AreCollected workers lists list drawn → length list ≡ length requests → HoldEachOnce (length requests) drawn
     → AreRun counter requests before workers → AreAnsweredByWorkers requests before after list drawn
 answered counter requests before workers lists list drawn after askers is count once run =
@@ -98,7 +98,7 @@ answered counter requests before workers lists list drawn after askers is count 
       once = once;
       served = λ i old new ix at there drawn_at.
           served_place counter requests before workers lists list drawn run is i old new ix (slice_get workers i) refl at
-          (sym (slice_get-map (λ (w : Worker). w.asker) workers i) ∙ ap (λ (l : List KnownBatches). slice_get l i) (sym askers) ∙ there)
+          (sym (slice_get-map (λ (w : Worker). w.asker) workers i) ∙ ap (λ (l : List AskerState). slice_get l i) (sym askers) ∙ there)
           (sym (ap (option_map (λ (v : Vec ℕ Global). v.items)) drawn_at) ∙ sym (slice_get-map (λ (v : Vec ℕ Global). v.items) drawn i)
           ∙ ap (λ (l : List (List ℕ)). slice_get l i) drew ∙ slice_get-map (λ (w : Worker). indexes w.done.items) workers i);
     }

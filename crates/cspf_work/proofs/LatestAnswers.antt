@@ -8,7 +8,7 @@ use Rattle.cspf_model.specs.Numbered.{NumberedChanges}
 use Rattle.cspf_publish.specs.declared.answer.Answer.{Answer}
 use Rattle.cspf_publish.specs.Answers.{IsAnswerAfter}
 use Rattle.cspf_publish.specs.Histories.{BeginsWith}
-use Rattle.cspf_publish.specs.KnownBatches.{KnownBatches}
+use Rattle.cspf_publish.specs.AskerStates.{AskerState}
 use Rattle.std.specs.Global.{Global}
 use Rattle.cspf_work.specs.declared.serve_error.ServeError.{ServeError}
 use Rattle.cspf_work.specs.Served.{AreAnsweredByWorkers, AreAnswersAfter, AreAnswersWithin, AreSameAskers, IsUnaccounted}
@@ -35,19 +35,19 @@ no_later : (published : List NumberedChanges) (list : List Answer) (version : �
 no_later published list version is same i d less = let one = same i d less in omega arith
 
 -- the batches that askers learnt stay known
-pub told_later : (published : List NumberedChanges) (before after : List KnownBatches) → AreSameAskers before after
-    → All (λ (k : KnownBatches). BeginsWith k.batches published) before → All (λ (k : KnownBatches). BeginsWith k.batches published) after
+pub told_later : (published : List NumberedChanges) (before after : List AskerState) → AreSameAskers before after
+    → All (λ (k : AskerState). BeginsWith k.batches published) before → All (λ (k : AskerState). BeginsWith k.batches published) after
 told_later published before after same told i d less =
     let count = same.count in
     let old = at_place before i (omega arith) in
     let knows = same.each i old.0 (get_or after i d) old.1 (slice_get-get_or after i d less) in
     let was : BeginsWith (old.0).batches published =
-    subst (λ (k : KnownBatches). BeginsWith k.batches published) (get_or_from_slice_get before i old.0 old.0 old.1) (told i old.0 (omega arith)) in
+    subst (λ (k : AskerState). BeginsWith k.batches published) (get_or_from_slice_get before i old.0 old.0 old.1) (told i old.0 (omega arith)) in
     begins_through published (old.0).batches (get_or after i d).batches was knows.later
 
 -- the answers of askers that had learnt all of these batches
-pub latest_answers : (published : List NumberedChanges) (requests : List Request) (told after : List KnownBatches) (list : List Answer) (drawn : List (Vec ℕ Global)) (version : ℕ)
-    → version ≡ length published → All (λ (k : KnownBatches). BeginsWith k.batches published) told → AreSameAskers told after
+pub latest_answers : (published : List NumberedChanges) (requests : List Request) (told after : List AskerState) (list : List Answer) (drawn : List (Vec ℕ Global)) (version : ℕ)
+    → version ≡ length published → All (λ (k : AskerState). BeginsWith k.batches published) told → AreSameAskers told after
     → AreAnsweredByWorkers requests told after list drawn → All (λ (a : Answer). (version ≤ a.version) × (a.version ≤ version)) list → AreAnswersAfter published requests list
 latest_answers published requests told after list drawn version is begins same answered between =
     let exact : All (λ (a : Answer). a.version ≡ version) list = λ i d less. (let both = between i d less in omega (arith, both.0, both.1)) in
@@ -55,8 +55,8 @@ latest_answers published requests told after list drawn version is begins same a
     (within_published requests told after list drawn published same.count (told_later published told after same begins) (no_later published list version is exact) answered)
 
 -- the first answer of another version is that of a request, and of a later version
-pub later_version : (published : List NumberedChanges) (requests : List Request) (told after : List KnownBatches) (list : List Answer) (drawn : List (Vec ℕ Global)) (version : ℕ) (e : ServeError)
-    → version ≡ length published → All (λ (k : KnownBatches). BeginsWith k.batches published) told → AreSameAskers told after
+pub later_version : (published : List NumberedChanges) (requests : List Request) (told after : List AskerState) (list : List Answer) (drawn : List (Vec ℕ Global)) (version : ℕ) (e : ServeError)
+    → version ≡ length published → All (λ (k : AskerState). BeginsWith k.batches published) told → AreSameAskers told after
     → AreAnsweredByWorkers requests told after list drawn → IsFirstStray list (λ v. (version ≤ v) × (v ≤ version)) e → IsUnaccounted (length requests) (length published) e
 later_version published requests told after list drawn version e is begins same answered stray =
     let within = slice_get_within list stray.index stray.answer stray.there in

@@ -6,7 +6,7 @@ use Rattle.std.proofs.lemmas.List.Elements.{All-map}
 use Rattle.std.proofs.lemmas.Option.{slice_get_within, slice_get-map, slice_get-get_or, get_or_from_slice_get}
 use Rattle.cspf_model.specs.declared.request.Request.{Request}
 use Rattle.cspf_draw.specs.DrawnNumbers.{CounterId, DrawnNumbers}
-use Rattle.cspf_publish.specs.KnownBatches.{KnownBatches}
+use Rattle.cspf_publish.specs.AskerStates.{AskerState}
 use Rattle.cspf_work.specs.declared.worker.Worker.{Worker}
 use Rattle.std.proofs.Math.Seq.{take-append_seam}
 use Rattle.cspf_work.specs.declared.worker.Reply.{Reply}
@@ -24,13 +24,13 @@ at_place (x ∷ xs) (suc i) less = at_place xs i (omega arith)
 abbrev pub AreRunByPlace : CounterId → List Request → List Worker → List Worker → Type 0
 AreRunByPlace counter requests old new = (i : ℕ) (d : Worker) → i < length old → IsWorkerRun counter requests (get_or old i d).asker (get_or new i d)
 
-run_at : (counter : CounterId) (requests : List Request) (old new : List Worker) → AreRunByPlace counter requests old new → (i : ℕ) (known : KnownBatches) (after : Worker) (o : Option Worker)
+run_at : (counter : CounterId) (requests : List Request) (old new : List Worker) → AreRunByPlace counter requests old new → (i : ℕ) (known : AskerState) (after : Worker) (o : Option Worker)
     → slice_get old i ≡ o → option_map (λ (w : Worker). w.asker) o ≡ Some known → slice_get new i ≡ Some after → IsWorkerRun counter requests known after
 run_at counter requests old new run i known after (Some w) at is there =
     let less = slice_get_within old i w at in
     let before : (get_or old i after).asker ≡ known = ap (λ (v : Worker). v.asker) (get_or_from_slice_get old i w after at) ∙ cc is in
     subst (λ (v : Worker). IsWorkerRun counter requests known v) (get_or_from_slice_get new i after after there)
-    (subst (λ (k : KnownBatches). IsWorkerRun counter requests k (get_or new i after)) before (run i after less))
+    (subst (λ (k : AskerState). IsWorkerRun counter requests k (get_or new i after)) before (run i after less))
 run_at counter requests old new run i known after None at is there = absurd (cc is)
 
 pub run_each : (counter : CounterId) (requests : List Request) (old new : List Worker) → 0 < length old → length new ≡ length old → AreRunByPlace counter requests old new → AreRun counter requests (map (λ w. w.asker) old) new
@@ -41,41 +41,41 @@ run_each counter requests old new some same run = record {
 }
 
 -- one worker's part
-run_of : (counter : CounterId) (requests : List Request) (before : List KnownBatches) (workers : List Worker) → AreRun counter requests before workers → (i : ℕ) (d : Worker) → i < length workers
-    → (known : KnownBatches) × IsWorkerRun counter requests known (get_or workers i d)
+run_of : (counter : CounterId) (requests : List Request) (before : List AskerState) (workers : List Worker) → AreRun counter requests before workers → (i : ℕ) (d : Worker) → i < length workers
+    → (known : AskerState) × IsWorkerRun counter requests known (get_or workers i d)
 run_of counter requests before workers run i d less =
     let known = at_place before i (let e = run.count in omega arith) in
     (known.0, run.each i known.0 (get_or workers i d) known.1 (slice_get-get_or workers i d less))
 
-pub run_faults : (counter : CounterId) (requests : List Request) (before : List KnownBatches) (workers : List Worker) → AreRun counter requests before workers → All (λ (w : Worker). IfSome w.fault IsFaultOfWorker) workers
+pub run_faults : (counter : CounterId) (requests : List Request) (before : List AskerState) (workers : List Worker) → AreRun counter requests before workers → All (λ (w : Worker). IfSome w.fault IsFaultOfWorker) workers
 run_faults counter requests before workers run i d less = (run_of counter requests before workers run i d less).1.fault
 
-pub run_inside : (counter : CounterId) (requests : List Request) (before : List KnownBatches) (workers : List Worker) → AreRun counter requests before workers
+pub run_inside : (counter : CounterId) (requests : List Request) (before : List AskerState) (workers : List Worker) → AreRun counter requests before workers
     → All (λ (w : Worker). All (λ (r : Reply). r.index < length requests) w.done.items) workers
 run_inside counter requests before workers run i d less k e inside = ((run_of counter requests before workers run i d less).1.done.done k e inside).inside
 
 -- whose drawers are all of this counter
-pub run_counters : (counter : CounterId) (requests : List Request) (before : List KnownBatches) (workers : List Worker) → AreRun counter requests before workers
+pub run_counters : (counter : CounterId) (requests : List Request) (before : List AskerState) (workers : List Worker) → AreRun counter requests before workers
     → All (λ (d : DrawnNumbers). d.counter ≡ counter) (map (λ (w : Worker). w.drawer) workers)
 run_counters counter requests before workers run =
     All-map (λ (d : DrawnNumbers). d.counter ≡ counter) (λ (w : Worker). w.drawer) workers (λ i d less. (run_of counter requests before workers run i d less).1.counter)
 
 -- and who have drawn all, where none has a fault
-pub run_drawn : (counter : CounterId) (requests : List Request) (before : List KnownBatches) (workers : List Worker) → AreRun counter requests before workers
+pub run_drawn : (counter : CounterId) (requests : List Request) (before : List AskerState) (workers : List Worker) → AreRun counter requests before workers
     → All (λ (w : Worker). IsNone w.fault) workers → All (λ (w : Worker). HasDrawnAll (length requests) w) workers
 run_drawn counter requests before workers run none i d less = (run_of counter requests before workers run i d less).1.drawn (none i d less)
 
 -- each asker knows no less than before
-pub run_askers : (counter : CounterId) (requests : List Request) (before : List KnownBatches) (workers : List Worker) (after : List KnownBatches)
+pub run_askers : (counter : CounterId) (requests : List Request) (before : List AskerState) (workers : List Worker) (after : List AskerState)
     → after ≡ map (λ w. w.asker) workers → AreRun counter requests before workers → AreSameAskers before after
 run_askers counter requests before workers after askers run = record {
   count = ap length askers ∙ length-map workers (λ (w : Worker). w.asker) ∙ run.count;
   each = λ i old new at there.
-      asker_at i old new (slice_get workers i) refl at (sym (slice_get-map (λ (w : Worker). w.asker) workers i) ∙ ap (λ (l : List KnownBatches). slice_get l i) (sym askers) ∙ there);
+      asker_at i old new (slice_get workers i) refl at (sym (slice_get-map (λ (w : Worker). w.asker) workers i) ∙ ap (λ (l : List AskerState). slice_get l i) (sym askers) ∙ there);
 }
   where
-    asker_at : (i : ℕ) (old new : KnownBatches) (o : Option Worker) → slice_get workers i ≡ o → slice_get before i ≡ Some old → option_map (λ (w : Worker). w.asker) o ≡ Some new → KnowsNoLess old new
-    asker_at i old new (Some w) here at there = subst (λ (k : KnownBatches). KnowsNoLess old k) (cc there) ((run.each i old w at here).done.asker)
+    asker_at : (i : ℕ) (old new : AskerState) (o : Option Worker) → slice_get workers i ≡ o → slice_get before i ≡ Some old → option_map (λ (w : Worker). w.asker) o ≡ Some new → KnowsNoLess old new
+    asker_at i old new (Some w) here at there = subst (λ (k : AskerState). KnowsNoLess old k) (cc there) ((run.each i old w at here).done.asker)
     asker_at i old new None here at there = absurd (cc there)
 
 -- the list after a slice of all of it was written back
@@ -83,7 +83,7 @@ written_back : {X : Type 0} (new rest : List X) (n : ℕ) → n ≡ length new �
 written_back new rest n long = ap (λ m. take m (new ++ rest)) long ∙ take-append_seam new rest
 
 -- workers that were lent as a slice
-pub run_written_back : (counter : CounterId) (requests : List Request) (before : List KnownBatches) (workers lent new rest : List Worker) (n : ℕ)
+pub run_written_back : (counter : CounterId) (requests : List Request) (before : List AskerState) (workers lent new rest : List Worker) (n : ℕ)
     → lent ≡ workers → n ≡ length workers → AreReady counter requests before workers
     → (AreReady counter requests before lent → AreRun counter requests before new) → AreRun counter requests before (take n (new ++ rest))
 run_written_back counter requests before workers lent new rest n same long ready run =
@@ -92,7 +92,7 @@ run_written_back counter requests before workers lent new rest n same long ready
     subst (λ (all : List Worker). AreRun counter requests before all) (sym (written_back new rest n count)) of_all
 
 -- the results of workers whose counter is this one
-pub results_of : (own id : CounterId) (requests : List Request) (before : List KnownBatches) (idle : List Worker) (numbers : List ℕ) (results : Results)
+pub results_of : (own id : CounterId) (requests : List Request) (before : List AskerState) (idle : List Worker) (numbers : List ℕ) (results : Results)
     → own ≡ id → AreReady id requests before idle → AreLeft own requests idle numbers results
     → (workers : List Worker) × AreResults id requests before numbers results workers
 results_of own id requests before idle numbers results same ready run =
@@ -100,17 +100,17 @@ results_of own id requests before idle numbers results same ready run =
     (run before (subst (λ (k : CounterId). AreReady k requests before idle) (sym same) ready))
 
 -- and what their askers knew
-pub left_of : (own id : CounterId) (requests : List Request) (before : List KnownBatches) (idle : List Worker) (numbers : List ℕ) (results : Results)
+pub left_of : (own id : CounterId) (requests : List Request) (before : List AskerState) (idle : List Worker) (numbers : List ℕ) (results : Results)
     → own ≡ id → AreReady id requests before idle → AreLeft own requests idle numbers results
-    → (known : List KnownBatches) × (workers : List Worker) × AreResults id requests known numbers results workers
+    → (known : List AskerState) × (workers : List Worker) × AreResults id requests known numbers results workers
 left_of own id requests before idle numbers results same ready run =
     let is = results_of own id requests before idle numbers results same ready run in
     (before, is.0, is.1)
 
 -- what holds of all possible results holds of what their askers knew
-pub of_results : (P : List KnownBatches → Type 0) (own id : CounterId) (requests : List Request) (before : List KnownBatches) (idle : List Worker) (numbers : List ℕ) (results : Results)
+pub of_results : (P : List AskerState → Type 0) (own id : CounterId) (requests : List Request) (before : List AskerState) (idle : List Worker) (numbers : List ℕ) (results : Results)
     → own ≡ id → AreReady id requests before idle → AreLeft own requests idle numbers results
-    → ((known : List KnownBatches) (workers : List Worker) → AreResults id requests known numbers results workers → P known)
+    → ((known : List AskerState) (workers : List Worker) → AreResults id requests known numbers results workers → P known)
     → P before
 of_results P own id requests before idle numbers results same ready run each =
     let is = results_of own id requests before idle numbers results same ready run in

@@ -13,7 +13,7 @@ use Rattle.logbook.specs.Pages.{Book}
 use Rattle.cspf_publish.specs.declared.answer.Answer.{Answer}
 use Rattle.cspf_publish.specs.Answers.{IsAnswerAfter}
 use Rattle.cspf_publish.specs.Histories.{BeginsWith}
-use Rattle.cspf_publish.specs.KnownBatches.{KnownBatches}
+use Rattle.cspf_publish.specs.AskerStates.{AskerState}
 use Rattle.cspf_draw.specs.EachOnce.{once_below, times}
 use Rattle.cspf_work.specs.Served.{IsAnswerWithin, IsServed, IsServedAt, version_at, AreAnsweredByWorkers, AreAnswersWithin, AreSameAskers, KnowsNoLess}
 use Rattle.cspf_work.proofs.Asked.{within_later, take_begins, knows_through}
@@ -34,7 +34,7 @@ served_later requests list before mid after indexes more is = record {
 }
 
 -- the answers stay right where the askers know more afterwards
-pub answered_later : (requests : List Request) (before mid after : List KnownBatches) (list : List Answer) (drawn : List (Vec ℕ Global))
+pub answered_later : (requests : List Request) (before mid after : List AskerState) (list : List Answer) (drawn : List (Vec ℕ Global))
     → length mid ≡ length before → AreSameAskers mid after → AreAnsweredByWorkers requests before mid list drawn → AreAnsweredByWorkers requests before after list drawn
 answered_later requests before mid after list drawn count same is = record {
   count = is.count;
@@ -64,7 +64,7 @@ served_before requests list before mid after indexes more is = record {
 }
 
 -- the answers stay right where the askers knew less before
-pub answered_before : (requests : List Request) (before mid after : List KnownBatches) (list : List Answer) (drawn : List (Vec ℕ Global))
+pub answered_before : (requests : List Request) (before mid after : List AskerState) (list : List Answer) (drawn : List (Vec ℕ Global))
     → AreSameAskers before mid → AreAnsweredByWorkers requests mid after list drawn → AreAnsweredByWorkers requests before after list drawn
 answered_before requests before mid after list drawn same is = record {
   count = is.count;
@@ -77,7 +77,7 @@ answered_before requests before mid after list drawn same is = record {
       served_before requests list old.batches (known.0).batches new.batches ix.items ((same.each i old known.0 at known.1).later) (is.served i known.0 new ix known.1 there drew);
 }
 
-pub same_through : (before mid after : List KnownBatches) → AreSameAskers before mid → AreSameAskers mid after → AreSameAskers before after
+pub same_through : (before mid after : List AskerState) → AreSameAskers before mid → AreSameAskers mid after → AreSameAskers before after
 same_through before mid after p q = record {
   count = q.count ∙ p.count;
   each = λ i old new at there.
@@ -116,9 +116,9 @@ place_of x (y ∷ ys) some = elim (cases_Bool (eqb y x)) [
 ]
 
 -- the work of the worker that answered a request
-served_there : (requests : List Request) (before after : List KnownBatches) (list : List Answer) (drawn : List (Vec ℕ Global))
+served_there : (requests : List Request) (before after : List AskerState) (list : List Answer) (drawn : List (Vec ℕ Global))
     → length after ≡ length before → AreAnsweredByWorkers requests before after list drawn → (i : ℕ) → i < length requests
-    → (worker : ℕ) × (old : KnownBatches) × (new : KnownBatches) × (slice_get before worker ≡ Some old) × (slice_get after worker ≡ Some new)
+    → (worker : ℕ) × (old : AskerState) × (new : AskerState) × (slice_get before worker ≡ Some old) × (slice_get after worker ≡ Some new)
     × IsServedAt requests list old.batches new.batches i
 served_there requests before after list drawn count is i inside =
     let once : sum_by (λ (l : Vec ℕ Global). times i l.items) drawn ≡ 1 = is.once i ∙ (let one : once_below (length requests) i ≡ 1 = grind (arith, nat_tests) in one) in
@@ -138,8 +138,8 @@ served_there requests before after list drawn count is i inside =
     )
 
 -- no answer is of fewer batches than each asker knew before
-pub no_earlier : (requests : List Request) (before after : List KnownBatches) (list : List Answer) (drawn : List (Vec ℕ Global)) (published : List NumberedChanges)
-    → length after ≡ length before → All (λ (k : KnownBatches). BeginsWith k.batches published) before → AreAnsweredByWorkers requests before after list drawn
+pub no_earlier : (requests : List Request) (before after : List AskerState) (list : List Answer) (drawn : List (Vec ℕ Global)) (published : List NumberedChanges)
+    → length after ≡ length before → All (λ (k : AskerState). BeginsWith k.batches published) before → AreAnsweredByWorkers requests before after list drawn
     → (i : ℕ) (a : Answer) → slice_get list i ≡ Some a → length published ≤ a.version
 no_earlier requests before after list drawn published count told is i a there =
     let size = is.count in
@@ -147,7 +147,7 @@ no_earlier requests before after list drawn published count told is i a there =
     let at = served_there requests before after list drawn count is i (omega arith) in
     let less = slice_get_within before at.0 at.1 at.3 in
     let begins : BeginsWith at.1.batches published =
-    subst (λ (k : KnownBatches). BeginsWith k.batches published) (get_or_from_slice_get before at.0 at.1 at.1 at.3) (told at.0 at.1 less) in
+    subst (λ (k : AskerState). BeginsWith k.batches published) (get_or_from_slice_get before at.0 at.1 at.1 at.3) (told at.0 at.1 less) in
     let long = ap length begins.1 ∙ length-append published begins.0 in
     let served : IsServedAt requests list at.1.batches at.2.batches i = at.5 in
     let later = served.later in
@@ -162,33 +162,33 @@ within_front all first q a more within is = record {
 }
 
 -- each answer is that of a prefix of the published batches
-within_published_at : (requests : List Request) (before after : List KnownBatches) (list : List Answer) (drawn : List (Vec ℕ Global)) (published : List NumberedChanges)
-    → length after ≡ length before → All (λ (k : KnownBatches). BeginsWith k.batches published) after → All (λ (a : Answer). a.version ≤ length published) list
+within_published_at : (requests : List Request) (before after : List AskerState) (list : List Answer) (drawn : List (Vec ℕ Global)) (published : List NumberedChanges)
+    → length after ≡ length before → All (λ (k : AskerState). BeginsWith k.batches published) after → All (λ (a : Answer). a.version ≤ length published) list
     → AreAnsweredByWorkers requests before after list drawn → (i : ℕ) (q : Request) (a : Answer) → slice_get requests i ≡ Some q → slice_get list i ≡ Some a → IsAnswerWithin published q a
 within_published_at requests before after list drawn published count told accounted is i q a at there =
     let worker = served_there requests before after list drawn count is i (slice_get_within requests i q at) in
     let here : IsServedAt requests list worker.1.batches worker.2.batches i = worker.5 in
     let begins : BeginsWith worker.2.batches published =
-    subst (λ (k : KnownBatches). BeginsWith k.batches published) (get_or_from_slice_get after worker.0 worker.2 worker.2 worker.4)
+    subst (λ (k : AskerState). BeginsWith k.batches published) (get_or_from_slice_get after worker.0 worker.2 worker.2 worker.4)
     (told worker.0 worker.2 (slice_get_within after worker.0 worker.2 worker.4)) in
     let version : a.version ≤ length published =
     subst (λ (b : Answer). b.version ≤ length published) (get_or_from_slice_get list i a a there) (accounted i a (slice_get_within list i a there)) in
     within_front worker.2.batches published q a begins version (here.answer q a at there)
 
-pub within_published : (requests : List Request) (before after : List KnownBatches) (list : List Answer) (drawn : List (Vec ℕ Global)) (published : List NumberedChanges)
-    → length after ≡ length before → All (λ (k : KnownBatches). BeginsWith k.batches published) after → All (λ (a : Answer). a.version ≤ length published) list
+pub within_published : (requests : List Request) (before after : List AskerState) (list : List Answer) (drawn : List (Vec ℕ Global)) (published : List NumberedChanges)
+    → length after ≡ length before → All (λ (k : AskerState). BeginsWith k.batches published) after → All (λ (a : Answer). a.version ≤ length published) list
     → AreAnsweredByWorkers requests before after list drawn → AreAnswersWithin published requests list
 within_published requests before after list drawn published count told accounted is =
     record { each = within_published_at requests before after list drawn published count told accounted is }
 
 -- what each asker knows after one more has learnt the published batches
-pub record AreTold (published : List NumberedChanges) (before after : List KnownBatches) (n : ℕ) : Type 0 where
-  pub each : (i : ℕ) (d : KnownBatches) → i < length before → KnowsNoLess (get_or before i d) (get_or after i d)
-  pub told : (i : ℕ) (d : KnownBatches) → i < n → BeginsWith (get_or after i d).batches published
+pub record AreTold (published : List NumberedChanges) (before after : List AskerState) (n : ℕ) : Type 0 where
+  pub each : (i : ℕ) (d : AskerState) → i < length before → KnowsNoLess (get_or before i d) (get_or after i d)
+  pub told : (i : ℕ) (d : AskerState) → i < n → BeginsWith (get_or after i d).batches published
 
-pub told_more : (published : List NumberedChanges) (before mid : List KnownBatches) (n : ℕ) (was k : KnownBatches)
+pub told_more : (published : List NumberedChanges) (before mid : List AskerState) (n : ℕ) (was k : AskerState)
     → n < length mid → was ≡ get_or mid n was → KnowsNoLess was k → BeginsWith k.batches published
-    → ((i : ℕ) (d : KnownBatches) → i < length before → KnowsNoLess (get_or before i d) (get_or mid i d)) → ((i : ℕ) (d : KnownBatches) → i < n → BeginsWith (get_or mid i d).batches published)
+    → ((i : ℕ) (d : AskerState) → i < length before → KnowsNoLess (get_or before i d) (get_or mid i d)) → ((i : ℕ) (d : AskerState) → i < n → BeginsWith (get_or mid i d).batches published)
     → AreTold published before (slice_set mid n k) (n + 1)
 told_more published before mid n was k inside at knows begins each told = record {
   each = λ i d less. elim (cases_Bool (eqb i n)) [
@@ -196,23 +196,23 @@ told_more published before mid n was k inside at knows begins each told = record
         let e : i ≡ n = eqb-true i n same in
         let new : get_or (slice_set mid n k) i d ≡ k = ap (λ j. get_or (slice_set mid n k) j d) e ∙ get_or-set_same mid n k d inside in
         let old : get_or mid i d ≡ was = ap (λ j. get_or mid j d) e ∙ get_or-any mid n d was inside ∙ sym at in
-        subst (λ (x : KnownBatches). KnowsNoLess (get_or before i d) x) (sym new)
-        (knows_through (get_or before i d) was k (subst (λ (x : KnownBatches). KnowsNoLess (get_or before i d) x) old (each i d less)) knows)
+        subst (λ (x : AskerState). KnowsNoLess (get_or before i d) x) (sym new)
+        (knows_through (get_or before i d) was k (subst (λ (x : AskerState). KnowsNoLess (get_or before i d) x) old (each i d less)) knows)
     | inr other ↦
-        subst (λ (x : KnownBatches). KnowsNoLess (get_or before i d) x) (sym (get_or-set_other mid n i k d (eqb-false i n other))) (each i d less)
+        subst (λ (x : AskerState). KnowsNoLess (get_or before i d) x) (sym (get_or-set_other mid n i k d (eqb-false i n other))) (each i d less)
   ];
   told = λ i d less. elim (cases_Bool (eqb i n)) [
     | inl same ↦
         let e : i ≡ n = eqb-true i n same in
         let new : get_or (slice_set mid n k) i d ≡ k = ap (λ j. get_or (slice_set mid n k) j d) e ∙ get_or-set_same mid n k d inside in
-        subst (λ (x : KnownBatches). BeginsWith x.batches published) (sym new) begins
+        subst (λ (x : AskerState). BeginsWith x.batches published) (sym new) begins
     | inr other ↦
-        subst (λ (x : KnownBatches). BeginsWith x.batches published) (sym (get_or-set_other mid n i k d (eqb-false i n other)))
+        subst (λ (x : AskerState). BeginsWith x.batches published) (sym (get_or-set_other mid n i k d (eqb-false i n other)))
         (told i d (let apart = eqb-false i n other in below_next i n less apart))
   ];
 }
   where
-    get_or-any : (xs : List KnownBatches) (i : ℕ) (d e : KnownBatches) → i < length xs → get_or xs i d ≡ get_or xs i e
+    get_or-any : (xs : List AskerState) (i : ℕ) (d e : AskerState) → i < length xs → get_or xs i d ≡ get_or xs i e
     get_or-any [] i d e less = absurd (omega arith)
     get_or-any (x ∷ xs) zero d e less = refl
     get_or-any (x ∷ xs) (suc i) d e less = get_or-any xs i d e (omega arith)
@@ -220,21 +220,21 @@ told_more published before mid n was k inside at knows begins each told = record
     below_next : (i n : ℕ) → i < n + 1 → (i ≡ n → ⊥) → i < n
     below_next i n less apart = elim (cases_lt i n) [ inl l ↦ l | inr l ↦ absurd (apart (omega arith)) ]
 
-pub same_askers : (before after : List KnownBatches) → length after ≡ length before
-    → ((i : ℕ) (d : KnownBatches) → i < length before → KnowsNoLess (get_or before i d) (get_or after i d)) → AreSameAskers before after
+pub same_askers : (before after : List AskerState) → length after ≡ length before
+    → ((i : ℕ) (d : AskerState) → i < length before → KnowsNoLess (get_or before i d) (get_or after i d)) → AreSameAskers before after
 same_askers before after count each = record {
   count = count;
   each = λ i old new at there.
-      subst (λ (x : KnownBatches). KnowsNoLess x new) (get_or_from_slice_get before i old old at)
-      (subst (λ (x : KnownBatches). KnowsNoLess (get_or before i old) x) (get_or_from_slice_get after i new old there) (each i old (slice_get_within before i old at)));
+      subst (λ (x : AskerState). KnowsNoLess x new) (get_or_from_slice_get before i old old at)
+      (subst (λ (x : AskerState). KnowsNoLess (get_or before i old) x) (get_or_from_slice_get after i new old there) (each i old (slice_get_within before i old at)));
 }
 
 -- all askers stay of the publisher's source
-pub sources_kept : (source next : Book) (before after : List KnownBatches) → next ≡ source → All (λ (k : KnownBatches). k.source ≡ source) before → AreSameAskers before after
-    → All (λ (k : KnownBatches). k.source ≡ next) after
+pub sources_kept : (source next : Book) (before after : List AskerState) → next ≡ source → All (λ (k : AskerState). k.source ≡ source) before → AreSameAskers before after
+    → All (λ (k : AskerState). k.source ≡ next) after
 sources_kept source next before after kept all same i d less =
     let count = same.count in
     let old = at_place before i (omega arith) in
     let knows = same.each i old.0 (get_or after i d) old.1 (slice_get-get_or after i d less) in
-    let was : (old.0).source ≡ source = subst (λ (k : KnownBatches). k.source ≡ source) (get_or_from_slice_get before i old.0 old.0 old.1) (all i old.0 (omega arith)) in
+    let was : (old.0).source ≡ source = subst (λ (k : AskerState). k.source ≡ source) (get_or_from_slice_get before i old.0 old.0 old.1) (all i old.0 (omega arith)) in
     knows.source ∙ was ∙ sym kept

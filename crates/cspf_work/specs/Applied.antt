@@ -5,7 +5,7 @@ use Rattle.cspf_model.specs.Numbered.{NumberedChanges}
 use Rattle.cspf_rows.specs.BatchText.{batch_text}
 use Rattle.cspf_publish.specs.ApplyErrors.{IsApplyError}
 use Rattle.cspf_publish.specs.Histories.{BeginsWith}
-use Rattle.cspf_publish.specs.KnownBatches.{KnownBatches}
+use Rattle.cspf_publish.specs.AskerStates.{AskerState}
 use Rattle.cspf_publish.specs.PublisherStates.{PublisherState}
 use Rattle.cspf_publish.specs.declared.errors.ApplyError.{ApplyError}
 
@@ -45,6 +45,6 @@ IsAppliedInPart contents before after batches =
 
 -- Nothing happened, neither to the publisher nor to an asker, or each asker knows the published
 -- batches.
-abbrev pub AreUntouchedOrTold : {W : Type 0} → PublisherState W → PublisherState W → List KnownBatches → List KnownBatches → Type 0
+abbrev pub AreUntouchedOrTold : {W : Type 0} → PublisherState W → PublisherState W → List AskerState → List AskerState → Type 0
 AreUntouchedOrTold before after askers back =
-    ((after ≡ before) × (back ≡ askers)) ⊎ All (λ (a : KnownBatches). BeginsWith a.batches after.batches) back
+    ((after ≡ before) × (back ≡ askers)) ⊎ All (λ (a : AskerState). BeginsWith a.batches after.batches) back

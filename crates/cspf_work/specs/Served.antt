@@ -8,7 +8,7 @@ use Rattle.cspf_draw.specs.EachOnce.{times, once_below}
 use Rattle.cspf_publish.specs.declared.answer.Answer.{Answer}
 use Rattle.cspf_publish.specs.Answers.{IsAnswerAfter}
 use Rattle.cspf_publish.specs.Histories.{BeginsWith}
-use Rattle.cspf_publish.specs.KnownBatches.{KnownBatches}
+use Rattle.cspf_publish.specs.AskerStates.{AskerState}
 use Rattle.cspf_work.specs.declared.serve_error.ServeError.{ServeError}
 use Rattle.cspf_work.specs.declared.serve_error.ServeError.TheVariants.{Memory, NoEntry, Unaccounted}
 
@@ -34,21 +34,21 @@ pub record IsServed (requests : List Request) (list : List Answer) (before after
   pub versions : IsNonDecreasingBy (version_at list) indexes
 
 -- each worker, by what its asker knew before and knows after, answered the requests at the indexes that it drew
-abbrev pub AreServed : List Request → List Answer → List KnownBatches → List KnownBatches → List (Vec ℕ Global) → Type 0
+abbrev pub AreServed : List Request → List Answer → List AskerState → List AskerState → List (Vec ℕ Global) → Type 0
 AreServed requests list before after drawn =
-    (worker : ℕ) (old new : KnownBatches) (indexes : Vec ℕ Global)
+    (worker : ℕ) (old new : AskerState) (indexes : Vec ℕ Global)
     → slice_get before worker ≡ Some old → slice_get after worker ≡ Some new → slice_get drawn worker ≡ Some indexes
     → IsServed requests list old.batches new.batches indexes.items
 
 -- batches of the same publisher, and all that were known before
-pub record KnowsNoLess (old new : KnownBatches) : Type 0 where
+pub record KnowsNoLess (old new : AskerState) : Type 0 where
   pub source : new.source ≡ old.source
   pub later : BeginsWith new.batches old.batches
 
 -- the same askers in the same order, each of which knows no less than before
-pub record AreSameAskers (before after : List KnownBatches) : Type 0 where
+pub record AreSameAskers (before after : List AskerState) : Type 0 where
   pub count : length after ≡ length before
-  pub each : (worker : ℕ) (old new : KnownBatches) → slice_get before worker ≡ Some old → slice_get after worker ≡ Some new → KnowsNoLess old new
+  pub each : (worker : ℕ) (old new : AskerState) → slice_get before worker ≡ Some old → slice_get after worker ≡ Some new → KnowsNoLess old new
 
 -- the lists together hold each number below the bound once, and no other
 abbrev pub HoldEachOnce : ℕ → List (Vec ℕ Global) → Type 0
@@ -59,7 +59,7 @@ abbrev pub IsFaultOfWorker : ServeError → Type 0
 IsFaultOfWorker e = (e ≡ Memory) ⊎ (e ≡ NoEntry)
 
 -- Workers answered all requests: each request's index is once in the lists of the workers' draws.
-pub record AreAnsweredByWorkers (requests : List Request) (before after : List KnownBatches) (list : List Answer) (drawn : List (Vec ℕ Global)) : Type 0 where
+pub record AreAnsweredByWorkers (requests : List Request) (before after : List AskerState) (list : List Answer) (drawn : List (Vec ℕ Global)) : Type 0 where
   pub count : length list ≡ length requests
   pub lists : length drawn ≡ length before
   pub once : HoldEachOnce (length requests) drawn

@@ -5,7 +5,7 @@ use Rattle.std.specs.List.Sorted.{IsNonDecreasingBy, IsStrictlyIncreasing}
 use Rattle.cspf_model.specs.Numbered.{NumberedChanges}
 use Rattle.cspf_model.specs.declared.request.Request.{Request}
 use Rattle.cspf_draw.specs.DrawnNumbers.{CounterId, DrawnNumbers}
-use Rattle.cspf_publish.specs.KnownBatches.{KnownBatches}
+use Rattle.cspf_publish.specs.AskerStates.{AskerState}
 use Rattle.cspf_work.specs.declared.crew.Room.{Room}
 use Rattle.cspf_work.specs.declared.worker.Reply.{Reply}
 use Rattle.cspf_work.specs.declared.worker.Results.{Results}
@@ -25,7 +25,7 @@ pub record IsDone (requests : List Request) (before known : List NumberedChanges
   pub answer : (q : Request) → slice_get requests r.index ≡ Some q → IsAnswerWithin known q r.answer
 
 -- what a worker has done since its asker knew these batches
-pub record HasDone (requests : List Request) (before : KnownBatches) (w : Worker) : Type 0 where
+pub record HasDone (requests : List Request) (before : AskerState) (w : Worker) : Type 0 where
   pub asker : KnowsNoLess before w.asker
   pub done : All (IsDone requests before.batches w.asker.batches) w.done.items
   pub versions : IsNonDecreasingBy (λ r. r.answer.version) w.done.items
@@ -42,24 +42,24 @@ pub record IsIdle (id : CounterId) (w : Worker) : Type 0 where
   pub counter : w.drawer.counter ≡ id
 
 -- some workers that have drawn nothing and asked nothing, at a counter for these requests, and what their askers know
-pub record AreReady (id : CounterId) (requests : List Request) (before : List KnownBatches) (workers : List Worker) : Type 0 where
+pub record AreReady (id : CounterId) (requests : List Request) (before : List AskerState) (workers : List Worker) : Type 0 where
   pub count : id.requests ≡ length requests
   pub some : 0 < length workers
   pub askers : map (λ w. w.asker) workers ≡ before
   pub idle : All (IsIdle id) workers
 
 -- what a worker did whose asker knew these batches before
-pub record IsWorkerRun (id : CounterId) (requests : List Request) (before : KnownBatches) (after : Worker) : Type 0 where
+pub record IsWorkerRun (id : CounterId) (requests : List Request) (before : AskerState) (after : Worker) : Type 0 where
   pub done : HasDone requests before after
   pub counter : after.drawer.counter ≡ id
   pub drawn : IsNone after.fault → HasDrawnAll (length requests) after
   pub fault : IfSome after.fault IsFaultOfWorker
 
 -- what all workers did, of which there are some, whose askers knew these batches before
-pub record AreRun (id : CounterId) (requests : List Request) (before : List KnownBatches) (workers : List Worker) : Type 0 where
+pub record AreRun (id : CounterId) (requests : List Request) (before : List AskerState) (workers : List Worker) : Type 0 where
   pub some : 0 < length workers
   pub count : length workers ≡ length before
-  pub each : (worker : ℕ) (known : KnownBatches) (after : Worker) → slice_get before worker ≡ Some known → slice_get workers worker ≡ Some after → IsWorkerRun id requests known after
+  pub each : (worker : ℕ) (known : AskerState) (after : Worker) → slice_get before worker ≡ Some known → slice_get workers worker ≡ Some after → IsWorkerRun id requests known after
 
 -- all numbers that workers drew
 abbrev pub all_drawn : List Worker → List ℕ
@@ -71,7 +71,7 @@ first_fault [] = None
 first_fault (w ∷ ws) = option_or w.fault (first_fault ws)
 
 -- the results of these workers, whose askers knew these batches before and which drew these numbers
-pub record AreResults (id : CounterId) (requests : List Request) (before : List KnownBatches) (numbers : List ℕ) (results : Results) (workers : List Worker) : Type 0 where
+pub record AreResults (id : CounterId) (requests : List Request) (before : List AskerState) (numbers : List ℕ) (results : Results) (workers : List Worker) : Type 0 where
   pub run : AreRun id requests before workers
   pub askers : results.askers.items ≡ map (λ w. w.asker) workers
   pub lists : results.lists.items ≡ map (λ w. w.done) workers
@@ -83,12 +83,12 @@ pub record AreResults (id : CounterId) (requests : List Request) (before : List 
 
 -- workers are ready, whatever their askers know
 abbrev pub CanBegin : CounterId → List Request → List Worker → Type 0
-CanBegin id requests workers = (before : List KnownBatches) × AreReady id requests before workers
+CanBegin id requests workers = (before : List AskerState) × AreReady id requests before workers
 
 -- the results of workers that were ready, once they are done
 abbrev pub AreLeft : CounterId → List Request → List Worker → List ℕ → Results → Type 0
 AreLeft id requests idle numbers results =
-    (before : List KnownBatches) → AreReady id requests before idle
+    (before : List AskerState) → AreReady id requests before idle
     → (workers : List Worker) × AreResults id requests before numbers results workers
 
 -- there is room for the results of this many workers, and it is empty

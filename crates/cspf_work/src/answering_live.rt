@@ -4,7 +4,7 @@ ghost use Rattle.std.specs.Prelude.{◌⊎◌, ◌<◌, ◌≤◌, ◌≡◌, Li
 ghost use Rattle.std.specs.List.Sorted.{IsStrictlyIncreasing};
 ghost use Rattle.cspf_draw.specs.DrawnNumbers.{CounterId};
 ghost use Rattle.cspf_publish.specs.Histories.{BeginsWith};
-ghost use Rattle.cspf_publish.specs.KnownBatches.{KnownBatches};
+ghost use Rattle.cspf_publish.specs.AskerStates.{AskerState};
 ghost use Rattle.cspf_work.specs.Served.{AreAnsweredByWorkers, AreAnswersWithin, AreSameAskers, IsFaultOfWorker, IsUnaccounted};
 ghost use Rattle.cspf_work.specs.Applied.{IsAppliedUpTo, IsAppliedInPart, AreUntouchedOrTold};
 ghost use Rattle.cspf_work.specs.declared.worker.Worker.{Worker as OneWorker};
@@ -56,16 +56,16 @@ fn apply_and_run<W: Write, G: Gate + Sync, R: Threads + Wait + Sync>(
     batches: &[Batch],
     publisher: &mut Publisher<W>,
 ) -> (u32, Option<ApplyError>)
-    requires { (id : CounterId) × (before : List KnownBatches)
+    requires { (id : CounterId) × (before : List AskerState)
         × AreReady id requests.now before workers.old }
-    ensures run { (id : CounterId) (before : List KnownBatches)
+    ensures run { (id : CounterId) (before : List AskerState)
         → AreReady id requests.now before workers.old → AreRun id requests.now before workers.new }
     ensures applied { IsAppliedUpTo W.contents publisher.old publisher.new batches.now result.0 result.1 }
 {
     let mut answer = ||
-        requires { (id : CounterId) × (before : List KnownBatches)
+        requires { (id : CounterId) × (before : List AskerState)
             × AreReady id requests.now before workers.now }
-        ensures { (id : CounterId) (before : List KnownBatches)
+        ensures { (id : CounterId) (before : List AskerState)
             → AreReady id requests.entry.now before workers.entry.now
             → AreRun id requests.entry.now before workers.exit.now }
     { run_all(rt, alloc, requests, gate, workers) };

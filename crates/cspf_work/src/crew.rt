@@ -2,7 +2,7 @@
 ghost use Rattle.std.specs.Prelude.{◌≡◌, ◌+◌, ◌<◌, ◌≤◌, [], List, length, map, All, IfOk, IfErr, IfSome, IsNone, vec_len, vec_capacity};
 ghost use Rattle.cspf_model.specs.declared.request.Request.{Request as OneRequest};
 ghost use Rattle.cspf_draw.specs.declared.limits.TheConstants.{MOST_DRAWERS};
-ghost use Rattle.cspf_publish.specs.KnownBatches.{KnownBatches};
+ghost use Rattle.cspf_publish.specs.AskerStates.{AskerState};
 ghost use Rattle.cspf_work.specs.Served.{IsFaultOfWorker};
 ghost use Rattle.cspf_work.specs.Working.{IsIdle, IsRoomFor, AreReady, AreRun, AreResults, first_fault};
 
@@ -150,10 +150,10 @@ fn part<'a>(workers: Vec<Worker<'a>>, room: Room<'a>) -> (Results, Vec<Drawer<'a
 
 /// The results of workers that are done, and the seat that has merged their draws.
 pub(crate) fn dismiss(crew: Crew<'_>) -> (Results, LastSeat)
-    requires { (requests : List OneRequest) × (before : List KnownBatches)
+    requires { (requests : List OneRequest) × (before : List AskerState)
         × AreRun crew.counter.now requests before crew.workers.items }
     ensures counter { result.1.counter ≡ crew.entry.counter.now }
-    ensures results { (requests : List OneRequest) (before : List KnownBatches)
+    ensures results { (requests : List OneRequest) (before : List AskerState)
         → AreRun crew.entry.counter.now requests before crew.entry.workers.items
         → AreResults crew.entry.counter.now requests before
         result.1.drawn result.0 crew.entry.workers.items }

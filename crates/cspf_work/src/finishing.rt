@@ -2,7 +2,7 @@
 
 ghost use Rattle.std.specs.Prelude.{◌≡◌, ◌⊎◌, List, Some, All, IfOk, IfErr, IsNone};
 ghost use Rattle.std.specs.List.Sorted.{IsStrictlyIncreasing};
-ghost use Rattle.cspf_publish.specs.KnownBatches.{KnownBatches};
+ghost use Rattle.cspf_publish.specs.AskerStates.{AskerState};
 ghost use Rattle.cspf_work.specs.declared.worker.Worker.{Worker};
 ghost use Rattle.cspf_work.specs.Served.{AreAnsweredByWorkers, AreSameAskers, IsFaultOfWorker};
 ghost use Rattle.cspf_work.specs.Working.{AreResults};
@@ -31,12 +31,12 @@ pub(crate) fn finish(
     requests: &[Request],
 ) -> (Vec<Asker>, Result<Collected, ServeError>)
     requires counter { last.counter ≡ counter }
-    requires results { (before : List KnownBatches) × (workers : List Worker)
+    requires results { (before : List AskerState) × (workers : List Worker)
         × AreResults counter requests.now before last.drawn results workers }
-    ensures askers { (before : List KnownBatches) (workers : List Worker)
+    ensures askers { (before : List AskerState) (workers : List Worker)
         → AreResults counter requests.now before last.drawn results workers
         → AreSameAskers before result.0.items }
-    ensures answers { IfOk result.1 (λ all. (before : List KnownBatches) (workers : List Worker)
+    ensures answers { IfOk result.1 (λ all. (before : List AskerState) (workers : List Worker)
         → AreResults counter requests.now before last.drawn results workers
         → AreAnsweredByWorkers requests.now before result.0.items all.list.items all.drawn.items) }
     ensures rising { IfOk result.1 (λ all. All (λ v. IsStrictlyIncreasing v.items) all.drawn.items) }

@@ -2,7 +2,7 @@
 
 ghost use Rattle.std.specs.Prelude.{◌≡◌, List, length};
 ghost use Rattle.cspf_draw.specs.DrawnNumbers.{CounterId};
-ghost use Rattle.cspf_publish.specs.KnownBatches.{KnownBatches};
+ghost use Rattle.cspf_publish.specs.AskerStates.{AskerState};
 ghost use Rattle.cspf_work.specs.declared.worker.Worker.{Worker as OneWorker};
 ghost use Rattle.cspf_work.specs.Working.{IsIdle, IsWorkerRun, AreReady, AreRun, AreLeft, CanBegin};
 
@@ -25,9 +25,9 @@ pub(crate) fn run_all<G: Gate + Sync, R: Threads + Sync>(
     gate: &G,
     workers: &mut [Worker<'_>],
 )
-    requires { (id : CounterId) × (before : List KnownBatches)
+    requires { (id : CounterId) × (before : List AskerState)
         × AreReady id requests.now before workers.old }
-    ensures { (id : CounterId) (before : List KnownBatches)
+    ensures { (id : CounterId) (before : List AskerState)
         → AreReady id requests.now before workers.old → AreRun id requests.now before workers.new }
 {
     let count = workers.len();

@@ -1,7 +1,7 @@
 //! The loop of one worker: it draws the index of a request, asks it, and keeps the answer.
 
 ghost use Rattle.std.specs.Prelude.{◌≡◌, ◌+◌, ◌<◌, ◌≤◌, ◌++◌, [], ◌∷◌, length, OnOk, IfErr, IfSome, IsNone};
-ghost use Rattle.cspf_publish.specs.KnownBatches.{KnownBatches};
+ghost use Rattle.cspf_publish.specs.AskerStates.{AskerState};
 ghost use Rattle.cspf_work.specs.Served.{IsFaultOfWorker};
 ghost use Rattle.cspf_work.specs.Working.{HasDone, HasDrawnAll, IsIdle, indexes};
 
@@ -20,7 +20,7 @@ fn serve_one<G: Gate>(
     worker: &mut Worker<'_>,
 ) -> Result<(), ServeError>
     requires { index < length requests.now }
-    ensures done { (before : KnownBatches) → HasDone requests.now before worker.old
+    ensures done { (before : AskerState) → HasDone requests.now before worker.old
         → HasDone requests.now before worker.new }
     ensures fault { worker.new.fault ≡ worker.old.fault }
     ensures drawer { worker.new.drawer ≡ worker.old.drawer }

@@ -1,5 +1,5 @@
 use Rattle.std.proofs.Common.{◌≡◌, IfSome, sym, subst, ap, ◌∙◌}
-use Rattle.cspf_journal.specs.KnownBatches.{KnownBatches}
+use Rattle.cspf_publish.specs.AskerStates.{AskerState}
 use Rattle.cspf_publish.specs.ReplicaStates.{ReplicaState}
 use Rattle.cspf_publish.specs.ReplicaRule.{HasItsDatabase, CountsShapeChanges}
 use Rattle.cspf_publish.proofs.Steps.{enters}
@@ -17,6 +17,6 @@ search-trees-requires-clause-shapes c = subst CountsShapeChanges (sym c.get-repl
 pub search-trees-requires-clause-source : goal.search-trees-requires-clause-source
 search-trees-requires-clause-source c =
     let first = c.in-Ok.ensures.1.later c.requires.entered c.requires.is in
-    subst (λ source. IfSome c.args.seat.trees (λ (old : KnownBatches). source ≡ old.source))
+    subst (λ source. IfSome c.args.seat.trees (λ (old : AskerState). source ≡ old.source))
     (first.source ∙ ap (λ (s : ReplicaState). s.known.source) (sym c.get-replica.ensures))
     c.requires.trees

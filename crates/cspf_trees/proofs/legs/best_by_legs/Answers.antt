@@ -6,6 +6,7 @@ use Rattle.cspf_trees.proofs.legs.best_by_legs.Goals as goal
 pub loop-leg-init : goal.loop-leg-init
 loop-leg-init c = record {
   trees = c.in_ok-targets.ensures.trees;
+  most = c.in_ok-targets.ensures.most;
   least = rw (c.begin-walk.ensures.at, c.begin-walk.ensures.links) (least_at_first c.args.table.now c.args.request.now);
 }
 

@@ -1,4 +1,4 @@
-use Rattle.std.proofs.Common.{◌≡◌, true, Some, [], ◌∷◌, ◌++◌, length, slice_get, ap, arith}
+use Rattle.std.proofs.Common.{◌≡◌, true, Some, [], ◌∷◌, ◌++◌, length, slice_get, ap, arith, ◌∙◌}
 use Rattle.std.proofs.lemmas.List.{length_push}
 use Rattle.cspf_trees.proofs.SoleTargets.{hop_at, hop_target, tail_target, targets_push}
 use Rattle.cspf_trees.proofs.legs.sole_targets.Goals as goal
@@ -14,6 +14,7 @@ loop-hop-preserved c =
     let loose : c.has_loose_hops.result ≡ true = c.if-not-has_loose_hops.false in
     record {
       trees = c.in_ok-router.ensures.trees;
+      most = c.in_ok-router.ensures.most ∙ c.loop-hop.invariant.most;
       number = omega (arith, ap length more, length_push before c.in-Some.router, c.loop-hop.invariant.number);
       each = rw more
           (targets_push d q before c.in-Some.router c.loop-hop.invariant.each

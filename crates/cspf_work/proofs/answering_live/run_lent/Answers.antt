@@ -3,7 +3,7 @@ use Rattle.std.proofs.lemmas.List.Elements.{All-weaker}
 use Rattle.std.proofs.lemmas.Result.{IfOk-at_ok}
 use Rattle.cspf_publish.specs.declared.answer.Answer.{Answer}
 use Rattle.cspf_publish.specs.Histories.{BeginsWith}
-use Rattle.cspf_publish.specs.KnownBatches.{KnownBatches}
+use Rattle.cspf_publish.specs.AskerStates.{AskerState}
 use Rattle.cspf_publish.specs.PublisherStates.{PublisherState}
 use Rattle.cspf_work.specs.Served.{AreAnsweredByWorkers, AreSameAskers, IsUnaccounted}
 use Rattle.cspf_work.specs.Strays.{IsFirstStray}
@@ -43,13 +43,13 @@ returns-in-None-clause-answers g c =
 
 pub returns-in-None-clause-told : goal.returns-in-None-clause-told
 returns-in-None-clause-told g c =
-    subst (λ (p : PublisherState g.row.W.Denot). All (λ (a : KnownBatches). BeginsWith a.batches p.batches) c.tell_each.new.askers.items) (sym c.tell_each.ensures.same) c.tell_each.ensures.told
+    subst (λ (p : PublisherState g.row.W.Denot). All (λ (a : AskerState). BeginsWith a.batches p.batches) c.tell_each.new.askers.items) (sym c.tell_each.ensures.same) c.tell_each.ensures.told
 
 pub returns-in-None-clause-published : goal.returns-in-None-clause-published
 returns-in-None-clause-published g c =
     let same : AreSameAskers c.args.askers.items c.finish-askers.result.0.items = of_results (λ known. AreSameAskers known c.finish-askers.result.0.items) _ _ c.args.requests.now c.args.askers.items _ _ _ c.in-Ok-employ.ensures.counter (c.in-Ok-employ.ensures.ready c.args.requests.now (search rules)) c.run_beside-results.ensures.results c.finish-askers.ensures.askers in
-    let told : All (λ (a : KnownBatches). BeginsWith a.batches c.tell_each.new.publisher.batches) c.tell_each.new.askers.items =
-    subst (λ (p : PublisherState g.row.W.Denot). All (λ (a : KnownBatches). BeginsWith a.batches p.batches) c.tell_each.new.askers.items) (sym c.tell_each.ensures.same) c.tell_each.ensures.told in
+    let told : All (λ (a : AskerState). BeginsWith a.batches c.tell_each.new.publisher.batches) c.tell_each.new.askers.items =
+    subst (λ (p : PublisherState g.row.W.Denot). All (λ (a : AskerState). BeginsWith a.batches p.batches) c.tell_each.new.askers.items) (sym c.tell_each.ensures.same) c.tell_each.ensures.told in
     let items : c.as_slice.result.now ≡ c.in-Ok-collected.collected.list.items = search rules in
     let version : c.version.result ≡ length c.tell_each.new.publisher.batches = search rules in
     let accounted : All (λ (a : Answer). a.version ≤ length c.tell_each.new.publisher.batches) c.in-Ok-collected.collected.list.items =
@@ -75,8 +75,8 @@ returns-in-Some-clause-error g c =
 
 pub returns-in-Some-clause-back_told : goal.returns-in-Some-clause-back_told
 returns-in-Some-clause-back_told g c =
-    inr (subst (λ (p : PublisherState g.row.W.Denot). All (λ (a : KnownBatches). BeginsWith a.batches p.batches) c.tell_each.new.askers.items) (sym c.tell_each.ensures.same) c.tell_each.ensures.told)
+    inr (subst (λ (p : PublisherState g.row.W.Denot). All (λ (a : AskerState). BeginsWith a.batches p.batches) c.tell_each.new.askers.items) (sym c.tell_each.ensures.same) c.tell_each.ensures.told)
 
 pub returns-in-Err-collected-clause-back_told : goal.returns-in-Err-collected-clause-back_told
 returns-in-Err-collected-clause-back_told g c =
-    inr (subst (λ (p : PublisherState g.row.W.Denot). All (λ (a : KnownBatches). BeginsWith a.batches p.batches) c.tell_each.new.askers.items) (sym c.tell_each.ensures.same) c.tell_each.ensures.told)
+    inr (subst (λ (p : PublisherState g.row.W.Denot). All (λ (a : AskerState). BeginsWith a.batches p.batches) c.tell_each.new.askers.items) (sym c.tell_each.ensures.same) c.tell_each.ensures.told)

@@ -5,7 +5,7 @@ use Rattle.std.specs.Vec.Iter.{into_iter_items}
 use Rattle.std.proofs.lemmas.List.{map-append}
 use Rattle.std.proofs.lemmas.List.Elements.{All-push}
 use Rattle.cspf_draw.specs.DrawnNumbers.{DrawnNumbers}
-use Rattle.cspf_publish.specs.KnownBatches.{KnownBatches}
+use Rattle.cspf_publish.specs.AskerStates.{AskerState}
 use Rattle.cspf_work.specs.declared.worker.Reply.{Reply}
 use Rattle.cspf_work.specs.declared.worker.Worker.{Worker}
 use Rattle.cspf_work.specs.Served.{IsFaultOfWorker}
@@ -19,7 +19,7 @@ loop-worker-preserved c = record {
       left_step c.loop-worker.yielded c.in-Some.worker (into_iter_items c.loop-worker.worker-iterator) (into_iter_items c.next.new.self) c.args.workers.items c.loop-worker.invariant.left
       c.in-Some.ensures.steps.0;
   askers =
-      c.push_reserved.ensures.items ∙ ap (λ (l : List KnownBatches). l ++ c.in-Some.worker.asker ∷ []) c.loop-worker.invariant.askers
+      c.push_reserved.ensures.items ∙ ap (λ (l : List AskerState). l ++ c.in-Some.worker.asker ∷ []) c.loop-worker.invariant.askers
       ∙ sym (map-append (λ (w : Worker). w.asker) c.loop-worker.yielded (c.in-Some.worker ∷ []));
   drawers =
       c.push_reserved-in-loop-worker.ensures.items ∙ ap (λ (l : List DrawnNumbers). l ++ c.in-Some.worker.drawer ∷ []) c.loop-worker.invariant.drawers

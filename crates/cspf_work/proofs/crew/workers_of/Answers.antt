@@ -2,7 +2,7 @@ use Rattle.std.proofs.Common.{◌++◌, [], ◌∷◌, List, None, All, refl, sy
 use Rattle.std.specs.Vec.Iter.{into_iter_items}
 use Rattle.std.proofs.lemmas.List.Elements.{All-push}
 use Rattle.cspf_draw.specs.DrawnNumbers.{DrawnNumbers}
-use Rattle.cspf_publish.specs.KnownBatches.{KnownBatches}
+use Rattle.cspf_publish.specs.AskerStates.{AskerState}
 use Rattle.cspf_work.specs.declared.worker.Worker.{Worker}
 use Rattle.cspf_work.specs.Working.{IsIdle}
 use Rattle.cspf_work.proofs.Filling.{left_step, map_push}
@@ -17,7 +17,7 @@ loop-asker-preserved c =
           c.in-Some.ensures.steps.0;
       workers =
           map_push (λ (w : Worker). w.asker) c.loop-asker.workers.items c.push_reserved.new.self.items worker c.push_reserved.ensures.items
-          ∙ ap (λ (l : List KnownBatches). l ++ c.in-Some.asker ∷ []) c.loop-asker.invariant.workers;
+          ∙ ap (λ (l : List AskerState). l ++ c.in-Some.asker ∷ []) c.loop-asker.invariant.workers;
       idle =
           subst (λ (l : List Worker). All (IsIdle c.args.counter.now) l) (sym c.push_reserved.ensures.items)
           (All-push (IsIdle c.args.counter.now) c.loop-asker.workers.items worker c.loop-asker.invariant.idle

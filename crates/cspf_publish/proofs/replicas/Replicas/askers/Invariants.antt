@@ -1,11 +1,13 @@
-use Rattle.std.proofs.Common.{◌≡◌, ◌≤◌, All, vec_len, vec_capacity}
+use Rattle.std.proofs.Common.{◌≡◌, ◌*◌, ◌≤◌, All, vec_len, vec_capacity, sum_by}
+use Rattle.cspf_publish.specs.AskerStates.{AskerState, known_of}
 use Rattle.cspf_publish.proofs.replicas.Replicas.askers.Given as goal
 
--- as many askers are made as are counted, and nothing else changed
+-- as many askers are made as are counted, each with its part of the trees, and nothing else changed
 abbrev pub invariant-loop : goal.invariant-loop
 invariant-loop g l = record {
   same : l.self ≡ l.fn.self;
   count : vec_len l.all ≡ l.counter;
   room : l.count ≤ vec_capacity l.all;
-  all : All (λ a. a ≡ l.fn.self) l.all.items;
+  all : All (λ (a : AskerState). known_of a ≡ l.fn.self) l.all.items;
+  trees : sum_by (λ (a : AskerState). a.most_trees) l.all.items ≡ l.counter * l.each;
 }

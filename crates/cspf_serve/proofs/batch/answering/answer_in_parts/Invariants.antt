@@ -1,6 +1,6 @@
 use Rattle.std.proofs.Common.{◌≡◌, ◌-◌, ◌<◌, ◌≤◌, take, length, All, vec_len}
 use Rattle.cspf_model.specs.Changes.{database_after}
-use Rattle.cspf_publish.specs.KnownBatches.{KnownBatches}
+use Rattle.cspf_publish.specs.AskerStates.{AskerState}
 use Rattle.cspf_serve.specs.BatchRun.{AreReplies}
 use Rattle.cspf_judge.specs.EarlyEnds.{Writes}
 use Rattle.cspf_serve.proofs.batch.answering.answer_in_parts.Given as goal
@@ -12,7 +12,7 @@ invariant-loop-first g l = record {
   same : l.publisher ≡ l.fn.publisher;
   some : 0 < vec_len l.askers;
   few : vec_len l.askers ≤ 64;
-  source : All (λ (a : KnownBatches). a.source ≡ l.fn.publisher.source) l.askers.items;
+  source : All (λ (a : AskerState). a.source ≡ l.fn.publisher.source) l.askers.items;
   text : Writes (g.W.Write.contents l.fn.writer) (g.W.Write.contents l.writer)
       (AreReplies (database_after l.fn.publisher.batches) (length l.fn.publisher.batches) (take l.first l.requests));
 }

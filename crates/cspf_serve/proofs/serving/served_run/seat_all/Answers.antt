@@ -1,7 +1,7 @@
 use Rattle.std.proofs.Common.{◌≡◌, ◌+◌, ◌∷◌, [], All, length, vec_len, length-append, rules, sym, ap, subst, arith}
 use Rattle.std.specs.Vec.Iter.{into_iter_items}
 use Rattle.std.proofs.lemmas.List.Elements.{All-nil, All-push}
-use Rattle.cspf_publish.specs.KnownBatches.{KnownBatches}
+use Rattle.cspf_publish.specs.AskerStates.{AskerState}
 use Rattle.cspf_serve.specs.ServedSteps.{IsSeat, AreNumberedSeats}
 use Rattle.cspf_serve.proofs.Pairs.{left_none, left_step, left_next}
 use Rattle.cspf_serve.proofs.ServedSteps.{seats_more}
@@ -13,7 +13,7 @@ loop-asker-preserved g c = record {
   seats = λ source each.
       subst (All (IsSeat source)) (sym c.in_ok-push.ensures.items)
       (All-push (IsSeat source) c.loop-asker.seats.items (record { alloc = c.args.alloc; asker = c.in-Some.asker; number = c.len-number.result + 1 }) (c.loop-asker.invariant.seats source each)
-      (left_next (λ (a : KnownBatches). a.source ≡ source) c.loop-asker.yielded c.in-Some.asker (into_iter_items c.loop-asker.asker-iterator) (into_iter_items c.next.new.self)
+      (left_next (λ (a : AskerState). a.source ≡ source) c.loop-asker.yielded c.in-Some.asker (into_iter_items c.loop-asker.asker-iterator) (into_iter_items c.next.new.self)
       c.args.askers.items c.loop-asker.invariant.left c.in-Some.ensures.steps.0 each));
   numbers =
       subst (AreNumberedSeats 1) (sym c.in_ok-push.ensures.items)

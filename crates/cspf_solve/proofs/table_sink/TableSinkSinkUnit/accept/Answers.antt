@@ -5,7 +5,7 @@ use Rattle.cspf_solve.proofs.table_sink.TableSinkSinkUnit.accept.Goals as goal
 pub returns-in-Ok-clause-accepted : goal.returns-in-Ok-clause-accepted
 returns-in-Ok-clause-accepted c = λ all front.
     let batch = c.args.batch.now in (
-      fits_whole c.args.self.now.table batch.number batch.changes all front c.in-Ok.ensures.ok,
+      fits_whole c.args.self.now.table.database batch.number batch.changes all front c.in-Ok.ensures.ok,
       rw (c.in-Ok.ensures.changed, kept_all batch.changes all front c.in-Ok.ensures.ok.short) refl,
     )
 
@@ -14,6 +14,6 @@ returns-in-Err-clause-refused c = λ all front.
     let batch = c.args.batch.now in (
       c.in-Err.why,
       refl,
-      refusal_whole c.args.self.now.table batch.number batch.changes all c.in-Err.why front c.in-Err.ensures.err,
+      refusal_whole c.args.self.now.table.database batch.number batch.changes all c.in-Err.why front c.in-Err.ensures.err,
       rw c.in-Err.ensures.same refl,
     )

@@ -1,0 +1,16 @@
+-- The value of a table with trees.
+use Rattle.std.specs.Prelude.{ℕ, refl}
+use Rattle.std.specs.Coded.{Coded, code_by, coded×, coded_ℕ}
+use Rattle.cspf_model.specs.Database.{Database}
+use Rattle.cspf_model.specs.DatabaseCode.{database_code}
+
+-- the database of the table, and how many trees there are at most
+pub record TreeTableState : Type 0 where
+  pub database : Database
+  pub most_trees : ℕ
+
+-- a table with trees is stored as these two
+abbrev pub tree_table_code : Coded TreeTableState
+tree_table_code =
+    code_by (Database × ℕ) (coded× database_code coded_ℕ) (λ s. (s.database, s.most_trees))
+    (λ p. record { database = p.0; most_trees = p.1 }) (λ _. refl)
