@@ -6,5 +6,5 @@ mod laws;
 mod publishing;
 mod versions;
 
-pub use batch_run::run_batch;
+pub use batch_run::{run_batch, run_batch_with};
 pub use laws::lines_of_a_script;

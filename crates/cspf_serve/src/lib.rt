@@ -20,13 +20,13 @@ mod live;
 mod serving;
 mod streams;
 
-pub use batch::{lines_of_a_script, run_batch};
+pub use batch::{lines_of_a_script, run_batch, run_batch_with};
 pub use cspf_audit::{Audit, AuditError, AuditFault, audit};
 pub use cspf_client::{Client, ClientError, Replies, ServedClient};
 pub use cspf_publish::{MOST_ASKERS, MOST_TREE_MEGABYTES, TREE_MEGABYTES, trees_in};
 pub use cspf_solve::{
-    SolveError, Solver, Summary, rows_have_one_reply, run_solve, runs_go_on_row_by_row,
-    stops_at_a_prefix,
+    RunOptions, SolveError, Solver, Summary, rows_have_one_reply, run_solve, run_solve_with,
+    runs_go_on_row_by_row, stops_at_a_prefix,
 };
 pub use cspf_stream::{BatchRefusal, StreamError};
 pub use cspf_work::{
@@ -34,6 +34,6 @@ pub use cspf_work::{
     run_live,
 };
 pub use judging::{run_audit, run_snapshot};
-pub use live::run_live_rows;
+pub use live::{run_live_rows, run_live_rows_with};
 pub use serving::{Served, ServedError, no_reply_is_behind, run_serve, served_replies_are_fresh};
 pub use streams::RunError;

@@ -3,4 +3,4 @@
 mod inputs;
 mod live_run;
 
-pub use live_run::run_live_rows;
+pub use live_run::{run_live_rows, run_live_rows_with};

@@ -7,6 +7,7 @@
 
 mod error;
 mod laws;
+mod options;
 mod solve_run;
 mod solver;
 mod summary;
@@ -14,6 +15,7 @@ mod table_sink;
 
 pub use error::SolveError;
 pub use laws::{rows_have_one_reply, runs_go_on_row_by_row, stops_at_a_prefix};
-pub use solve_run::run_solve;
+pub use options::RunOptions;
+pub use solve_run::{run_solve, run_solve_with};
 pub use solver::Solver;
 pub use summary::Summary;

@@ -10,7 +10,7 @@ ghost use Rattle.cspf_solve.specs.OutputAtError.{IsOutputAtError};
 ghost use Rattle.cspf_solve.specs.RowsEnds.{IsRowsEnd};
 ghost use Rattle.cspf_solve.specs.SolverStates.{KeepsRun, AreCounted, IsEndCut, end_after_rows};
 
-use crate::{SolveError, Solver, Summary};
+use crate::{RunOptions, SolveError, Solver, Summary};
 use cspf_rows::{MOST_ROWS, open_records, put_all};
 use cspf_stream::{StreamError, answer_first_rows};
 use csv::Reader;
@@ -20,7 +20,7 @@ use std::io::{Read, Write};
 /// Reads a stream of rows and writes the line of each when it is known, in one write where the
 /// writer takes it whole. `IsScript` defines the lines, and when a row or a batch is refused. At
 /// most 1,000,000 rows are read. Memory is taken only for the longest one and for the trees of the
-/// table, which are at most `trees`, and at most `MOST_TREES` of `cspf_trees`. With 0 there are none.
+/// table, of which `run_solve_with` says how many there are.
 ///
 /// After an error the writer has the lines of a prefix of the rows. After a failed write it may
 /// also have a part of the next text, but not all of it. `Read` comes from a read that failed and
@@ -29,7 +29,6 @@ pub fn run_solve<R: Read + Drop, W: Write>(
     alloc: Global,
     reader: R,
     writer: &mut W,
-    trees: usize,
 ) -> Result<Summary, SolveError>
     ensures whole { IfOk result (λ summary. IfSome (R.remaining reader) (λ bytes.
         (lines : List ℕ) × IsScript bytes lines summary
@@ -38,7 +37,25 @@ pub fn run_solve<R: Read + Drop, W: Write>(
         (out : List ℕ) × IsOutputAtError error (rows_of bytes) out
         × Appends (W.contents writer.old) (W.contents writer.new) out)) }
 {
-    let mut solver = Solver::with_trees(alloc, trees)?;
+    run_solve_with(alloc, reader, writer, RunOptions::new())
+}
+
+/// As `run_solve`, but the trees of the table are at most as many as the options say, and at most
+/// `MOST_TREES` of `cspf_trees`.
+pub fn run_solve_with<R: Read + Drop, W: Write>(
+    alloc: Global,
+    reader: R,
+    writer: &mut W,
+    options: RunOptions,
+) -> Result<Summary, SolveError>
+    ensures whole { IfOk result (λ summary. IfSome (R.remaining reader) (λ bytes.
+        (lines : List ℕ) × IsScript bytes lines summary
+        × Appends (W.contents writer.old) (W.contents writer.new) lines)) }
+    ensures stopped { IfErr result (λ error. IfSome (R.remaining reader) (λ bytes.
+        (out : List ℕ) × IsOutputAtError error (rows_of bytes) out
+        × Appends (W.contents writer.old) (W.contents writer.new) out)) }
+{
+    let mut solver = Solver::with_trees(alloc, options.trees)?;
     let mut rows = open_records(alloc, reader);
     solve_rows(alloc, &mut rows, &mut solver, writer)
 }

@@ -3,7 +3,7 @@
 use crate::devices::{Output, opened};
 use crate::options::{ACCEPT_TORN, Asked, Call, CommandOption, CommandText, JOURNAL, REQUESTS};
 use crate::stopped::{Ran, ended};
-use cspf_serve::{NoGate, run_batch};
+use cspf_serve::{NoGate, run_batch_with};
 use std::sync::Wait;
 use std::thread::Threads;
 
@@ -57,16 +57,16 @@ pub(crate) fn answer<T: Threads + Wait + Sync>(
 ) -> Ran {
     let mut journal = opened(call, JOURNAL)?;
     let mut requests = opened(call, REQUESTS)?;
-    let ran = run_batch(
+    let ran = run_batch_with(
         handle,
         call.rt.alloc(),
         &mut journal,
         &mut requests,
         out,
         call.workers(),
-        call.trees(),
         call.has(ACCEPT_TORN),
         &NoGate,
+        call.run_options(),
     );
     ended(ran, journal.fault().or(requests.fault()))
 }

@@ -3,7 +3,7 @@
 use crate::devices::{Output, created, flushed, opened};
 use crate::options::{Asked, Call, CommandOption, CommandText, JOURNAL, REQUESTS, UPDATES};
 use crate::stopped::{Ran, ended};
-use cspf_serve::{NoGate, run_live_rows};
+use cspf_serve::{NoGate, run_live_rows_with};
 use std::sync::Wait;
 use std::thread::Threads;
 
@@ -64,7 +64,7 @@ pub(crate) fn answer<T: Threads + Wait + Sync>(
     let mut updates = opened(call, UPDATES)?;
     let mut requests = opened(call, REQUESTS)?;
     let mut journal = created(call, JOURNAL)?;
-    let (ran, _journal) = run_live_rows(
+    let (ran, _journal) = run_live_rows_with(
         handle,
         call.rt.alloc(),
         &mut updates,
@@ -72,8 +72,8 @@ pub(crate) fn answer<T: Threads + Wait + Sync>(
         &mut journal,
         out,
         call.workers(),
-        call.trees(),
         &NoGate,
+        call.run_options(),
     );
     // A write to the journal that fails refuses a batch, and stops nothing.
     flushed(

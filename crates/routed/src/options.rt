@@ -3,7 +3,7 @@ ghost use Rattle.std.specs.Prelude.{◌<◌, ◌≤◌};
 ghost use Rattle.cspf_publish.specs.declared.limits.TheConstants.{MOST_ASKERS};
 
 use clap::{Arg, ArgAction, ArgMatches, Command, value_parser};
-use cspf_serve::{MOST_ASKERS, MOST_TREE_MEGABYTES, TREE_MEGABYTES, trees_in};
+use cspf_serve::{MOST_ASKERS, MOST_TREE_MEGABYTES, RunOptions, TREE_MEGABYTES, trees_in};
 use std::alloc::{AllocError, Global};
 
 /// The option that names the file of batches, which `live` and `serve` make.
@@ -218,5 +218,12 @@ impl<'m, 'a> Call<'m, 'a> {
     /// How many trees there may be in the run.
     pub(crate) fn trees(&self) -> usize {
         trees_in(self.words.get_one::<u16>(TREES).unwrap_or(TREE_MEGABYTES))
+    }
+
+    /// What the run may keep.
+    pub(crate) fn run_options(&self) -> RunOptions {
+        RunOptions {
+            trees: self.trees(),
+        }
     }
 }

@@ -4,7 +4,7 @@ use crate::devices::{INPUT, OUTPUT, flushed};
 use crate::noted::Noted;
 use crate::options::{Asked, Call, CommandOption, CommandText};
 use crate::stopped::{Ran, Stopped};
-use cspf_serve::run_solve;
+use cspf_serve::run_solve_with;
 use std::io;
 
 /// The command with its options.
@@ -63,7 +63,7 @@ pub(crate) fn answer(call: &Call<'_, '_>) -> Ran {
     let rt = call.rt;
     let mut reader = Noted::new(INPUT, rt.reader());
     let mut out = Noted::new(OUTPUT, io::writer(rt));
-    match run_solve(rt.alloc(), &mut reader, &mut out, call.trees()) {
+    match run_solve_with(rt.alloc(), &mut reader, &mut out, call.run_options()) {
         Ok(summary) => flushed(&mut out, Ok(summary.status())),
         Err(error) => Err(Stopped::Solve(error).by(reader.fault(), out.fault())),
     }

@@ -23,7 +23,7 @@ use crate::batch::publishing::publish_journal;
 use crate::batch::versions::write_versions;
 use crate::streams::opening::open_for;
 use crate::streams::refusing::refuse;
-use crate::{Gate, RunError};
+use crate::{Gate, RunError, RunOptions};
 use cspf_judge::{EarlyEnd, JudgeLine, put_line, requests_of};
 use cspf_model::Request;
 use cspf_publish::{Asker, Publisher};
@@ -43,9 +43,8 @@ struct Streams<R, Q> {
 }
 
 /// Publishes the batches of a journal, one after the other, and then answers the requests of a
-/// stream at the last version by this many workers, with at most `trees` trees together:
-/// `IsBatchRun`. One batch is kept at a time. Both streams are read before the first line is
-/// written. The status is 2 where anything was refused, and else 0. After an error the writer has
+/// stream at the last version by this many workers: `IsBatchRun`. They keep as many trees as the askers
+/// of `open`. One batch is kept at a time. Both streams are read before the first line is written. The status is 2 where anything was refused, and else 0. After an error the writer has
 /// nothing more, or the beginning of those lines, up to the reply to some request:
 /// `IsBatchRunInPart`. The writer isn't flushed.
 pub fn run_batch<
@@ -61,9 +60,56 @@ pub fn run_batch<
     requests: Q,
     writer: &mut W,
     workers: usize,
-    trees: usize,
     accept_torn: bool,
     gate: &G,
+) -> Result<u8, RunError>
+    requires workers { (0 < workers) × (workers ≤ MOST_ASKERS) }
+    ensures whole { IfOk result (λ status. IfSome (R.remaining journal) (λ kept.
+        IfSome (Q.remaining requests) (λ asked. (lines : List ℕ)
+        × IsBatchRun accept_torn (rows_of kept) (rows_of asked) lines status
+        × Appends (W.contents writer.old) (W.contents writer.new) lines))) }
+    ensures stopped { OnErr result (HasBegunBatch accept_torn (R.remaining journal)
+        (Q.remaining requests) (W.contents writer.old) (W.contents writer.new)) }
+    // The lines are those of one script of both streams.
+    ensures script { result ≡ Ok 0 → IfSome (R.remaining journal) (λ kept.
+        IfSome (Q.remaining requests) (λ asked. IsCleanJournal (rows_of kept)
+        → length (rows_of kept ++ rows_of asked) ≤ MOST_ROWS → (lines : List ℕ) × (counts : Counts)
+        × IsSolveRun (rows_of kept ++ rows_of asked) lines counts
+        × Appends (W.contents writer.old) (W.contents writer.new) lines)) }
+    ensures error { IfErr result
+        (IsBatchFault accept_torn (R.remaining journal) (Q.remaining requests)) }
+{
+    let options = RunOptions::new();
+    run_batch_with(
+        rt,
+        alloc,
+        journal,
+        requests,
+        writer,
+        workers,
+        accept_torn,
+        gate,
+        options,
+    )
+}
+
+/// As `run_batch`, but the workers have at most as many trees together as the options say.
+pub fn run_batch_with<
+    R: Read + Drop,
+    Q: Read + Drop,
+    W: Write,
+    G: Gate + Sync,
+    T: Threads + Wait + Sync,
+>(
+    rt: &T,
+    alloc: Global,
+    journal: R,
+    requests: Q,
+    writer: &mut W,
+    workers: usize,
+    accept_torn: bool,
+    gate: &G,
+    options: RunOptions,
 ) -> Result<u8, RunError>
     requires workers { (0 < workers) × (workers ≤ MOST_ASKERS) }
     ensures whole { IfOk result (λ status. IfSome (R.remaining journal) (λ kept.
@@ -88,7 +134,7 @@ pub fn run_batch<
         requests,
         accept_torn,
     };
-    answer(rt, alloc, streams, writer, workers, trees, gate)
+    answer(rt, alloc, streams, writer, workers, options.trees, gate)
 }
 
 /// Publishes the batches of a journal over a journal that keeps nothing, and then answers requests

@@ -20,7 +20,7 @@ use crate::live::inputs::{Inputs, inputs_of};
 use crate::streams::opening::open_for;
 use crate::streams::refusing::refuse;
 use crate::streams::replies::write_replies;
-use crate::{Gate, Live, RunError, ServeError, run_live};
+use crate::{Gate, Live, RunError, RunOptions, ServeError, run_live};
 use cspf_judge::{JudgeError, put};
 use cspf_model::{Batch, Request};
 use cspf_publish::{Answer, ApplyError, Asker, Publisher};
@@ -30,7 +30,8 @@ use std::sync::Wait;
 use std::thread::Threads;
 
 /// Publishes the batches of updates over a journal while this many workers answer the requests of
-/// a stream, with at most `trees` trees together: `IsLiveRun`. Both streams are first read whole.
+/// a stream: `IsLiveRun`. They keep as many trees as the askers of `open`. Both streams are first read
+/// whole.
 /// The status is 2 where anything was refused, and else 0. The journal's writer is handed back,
 /// after an error too. It then has the text of each published batch, and after a fault of the
 /// journal a prefix of one more. After an error the contents of the other writer are unspecified.
@@ -50,8 +51,43 @@ pub fn run_live_rows<
     journal: J,
     writer: &mut W,
     workers: usize,
-    trees: usize,
     gate: &G,
+) -> (Result<u8, RunError>, J)
+    requires workers { (0 < workers) × (workers ≤ MOST_ASKERS) }
+    ensures whole { IfOk result.0 (λ status. IfSome (R.remaining updates) (λ kept.
+        IfSome (Q.remaining requests) (λ asked. (lines : List ℕ) × (text : List ℕ)
+        × IsLiveRun (rows_of kept) (rows_of asked) lines text status
+        × Appends (W.contents writer.old) (W.contents writer.new) lines
+        × Appends (J.contents journal) (J.contents result.1) text))) }
+    ensures error { IfErr result.0 (IsLiveFault (Q.remaining requests)) }
+    ensures recorded { IfErr result.0 (λ e. IfSome (R.remaining updates) (λ kept. (text : List ℕ)
+        × IsRecordedAtError (rows_of kept) text
+        × Appends (J.contents journal) (J.contents result.1) text)) }
+{
+    let options = RunOptions::new();
+    run_live_rows_with(
+        rt, alloc, updates, requests, journal, writer, workers, gate, options,
+    )
+}
+
+/// As `run_live_rows`, but the workers have at most as many trees together as the options say.
+pub fn run_live_rows_with<
+    R: Read + Drop,
+    Q: Read + Drop,
+    J: Write,
+    W: Write,
+    G: Gate + Sync,
+    T: Threads + Wait + Sync,
+>(
+    rt: &T,
+    alloc: Global,
+    updates: R,
+    requests: Q,
+    journal: J,
+    writer: &mut W,
+    workers: usize,
+    gate: &G,
+    options: RunOptions,
 ) -> (Result<u8, RunError>, J)
     requires workers { (0 < workers) × (workers ≤ MOST_ASKERS) }
     ensures whole { IfOk result.0 (λ status. IfSome (R.remaining updates) (λ kept.
@@ -68,7 +104,7 @@ pub fn run_live_rows<
         Ok(read) => read,
         Err(end) => return (refuse(alloc, end, writer), journal),
     };
-    let (publisher, askers) = match open_for(rt, alloc, journal, workers, trees) {
+    let (publisher, askers) = match open_for(rt, alloc, journal, workers, options.trees) {
         Ok(opened) => opened,
         Err((error, journal)) => return (Err(error), journal),
     };

@@ -41,17 +41,7 @@ fn run_narrow<R: Read + Drop, Q: Read + Drop, T: Threads + Wait + Sync>(
         width,
         most,
     };
-    let found = run_batch(
-        rt,
-        alloc,
-        journal,
-        requests,
-        &mut writer,
-        2,
-        64,
-        false,
-        &NoGate,
-    );
+    let found = run_batch(rt, alloc, journal, requests, &mut writer, 2, false, &NoGate);
     let Narrow { held, .. } = writer;
     (found, held)
 }

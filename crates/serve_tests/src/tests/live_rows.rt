@@ -31,9 +31,7 @@ fn fills_up<T: Threads + Wait + Sync>(
         most,
     };
     let mut held = Vec::new(alloc);
-    let (found, journal) = run_live_rows(
-        rt, alloc, updates, none, narrow, &mut held, 2, 64, &NoGate,
-    );
+    let (found, journal) = run_live_rows(rt, alloc, updates, none, narrow, &mut held, 2, &NoGate);
     let Narrow { held: kept, .. } = journal;
     found == Ok(status)
         && held.as_slice() == lines
@@ -97,7 +95,6 @@ fn keeps_the_journal<T: Threads + Wait + Sync>(
         journal,
         &mut writer,
         1,
-        64,
         &NoGate,
     );
     let Narrow { held, .. } = writer;

@@ -98,7 +98,7 @@ fn run_pieces(
         width,
         most,
     };
-    let found = run_solve(alloc, reader, &mut writer, 64);
+    let found = run_solve(alloc, reader, &mut writer);
     let Narrow { held, .. } = writer;
     (found, held)
 }

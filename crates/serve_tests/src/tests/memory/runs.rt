@@ -48,7 +48,7 @@ fn ends_whole_or_refused(alloc: Global, script: &[u8], rows: u32, lines: &[u8]) 
         refused: 0,
         too_many: false,
     };
-    match run_solve(alloc, script, &mut held, 64) {
+    match run_solve(alloc, script, &mut held) {
         Ok(summary) => summary == whole && held.as_slice() == lines,
         Err(error) => error == SolveError::Memory && lines.starts_with(held.as_slice()),
     }
@@ -74,17 +74,7 @@ fn run_torn<T: Threads + Wait + Sync>(
     let Ok(mut held) = Vec::with_capacity(alloc, ROOM) else {
         return None;
     };
-    let found = run_batch(
-        rt,
-        alloc,
-        TORN,
-        REQUEST,
-        &mut held,
-        2,
-        64,
-        accept_torn,
-        &NoGate,
-    );
+    let found = run_batch(rt, alloc, TORN, REQUEST, &mut held, 2, accept_torn, &NoGate);
     Some((found, held))
 }
 

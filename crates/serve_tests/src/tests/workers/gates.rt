@@ -62,7 +62,7 @@ fn batch_run_writes<G: Gate + Sync, T: Threads + Wait + Sync>(
 {
     let none: &[u8] = b"";
     let mut held = Vec::new(alloc);
-    let found = run_batch(rt, alloc, none, asked, &mut held, workers, 64, false, gate);
+    let found = run_batch(rt, alloc, none, asked, &mut held, workers, false, gate);
     found == Ok(0) && held.as_slice() == lines
 }
 
@@ -80,7 +80,7 @@ fn live_run_writes<G: Gate + Sync, T: Threads + Wait + Sync>(
     let none: &[u8] = b"";
     let mut held = Vec::new(alloc);
     let kept: Vec<u8> = Vec::new(alloc);
-    let (found, kept) = run_live_rows(rt, alloc, none, asked, kept, &mut held, workers, 64, gate);
+    let (found, kept) = run_live_rows(rt, alloc, none, asked, kept, &mut held, workers, gate);
     found == Ok(0) && held.as_slice() == lines && kept.is_empty()
 }
 

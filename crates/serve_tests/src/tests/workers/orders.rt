@@ -193,7 +193,7 @@ fn run_held<T: Threads + Wait + Sync>(
     };
     let mut lines = Vec::new(alloc);
     let (found, journal) = run_live_rows(
-        rt, alloc, updates, requests, journal, &mut lines, workers, 64, &order,
+        rt, alloc, updates, requests, journal, &mut lines, workers, &order,
     );
     let whole = journal.held.len() == TEXT && order.has_held(COUNT as u64);
     (found, lines, whole)

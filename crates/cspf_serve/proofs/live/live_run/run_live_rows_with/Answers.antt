@@ -1,6 +1,6 @@
 use Rattle.std.proofs.Common.{rules, ◌≡◌}
 use Rattle.cspf_serve.proofs.LiveRunLines.{at_error, held_as_before, live_fault, live_held, live_ran, live_refused}
-use Rattle.cspf_serve.proofs.live.live_run.run_live_rows.Goals as goal
+use Rattle.cspf_serve.proofs.live.live_run.run_live_rows_with.Goals as goal
 
 pub returns-in-Err-clause-whole : goal.returns-in-Err-clause-whole
 returns-in-Err-clause-whole g c =

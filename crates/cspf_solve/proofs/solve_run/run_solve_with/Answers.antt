@@ -1,6 +1,6 @@
 use Rattle.std.proofs.lemmas.Result.{err_from_is_err_and}
 use Rattle.cspf_solve.proofs.SolveRun.{halted_at_start, ok_of_rows, err_of_rows}
-use Rattle.cspf_solve.proofs.solve_run.run_solve.Goals as goal
+use Rattle.cspf_solve.proofs.solve_run.run_solve_with.Goals as goal
 
 pub returns-in_err-solver-clause-stopped : goal.returns-in_err-solver-clause-stopped
 returns-in_err-solver-clause-stopped g c =

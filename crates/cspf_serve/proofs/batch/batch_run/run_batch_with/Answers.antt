@@ -1,5 +1,5 @@
 use Rattle.cspf_serve.proofs.BatchLines.{script_of_run}
-use Rattle.cspf_serve.proofs.batch.batch_run.run_batch.Goals as goal
+use Rattle.cspf_serve.proofs.batch.batch_run.run_batch_with.Goals as goal
 
 pub returns-clause-script : goal.returns-clause-script
 returns-clause-script g c = λ is.
