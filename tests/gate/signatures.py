@@ -6,9 +6,9 @@ takes `rt: &R`, where R may do so, and no other call does.
 import os
 import re
 
-from public import Tree, present  # beside this file
+from checks import TOP
+from gate.public import Tree, present
 
-TOP = os.path.dirname(os.path.dirname(os.path.abspath(__file__)))
 # Each call by its path and its signature. Other public calls may stand beside these.
 PROMISED = """
 cspf_addr::Addr::parse(text: &[u8]) -> Result<Addr, AddrError>
