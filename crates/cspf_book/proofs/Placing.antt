@@ -40,7 +40,7 @@ answer_placed old new q hold room (route walk) p (own, its, few) left placements
 pub place_error : (s : BookState) (q : Request) (room : ℕ) (why : PlaceError)
     → HasRoomFor s q.id → links_placed (others q.id s.placements) + room ≡ MOST_ROUTES_LINKS
     → IsOfferRefused (effective_beside s q.id) q room why → IsPlaceError s q why
-place_error s q room Memory few left refused = tt
+place_error s q room Memory few left refused = few
 place_error s q room Full few left refused = absurd refused
 place_error s q room Twice few left (walk, best, own) = (few, walk, best, own)
 place_error s q room TooManyLinks few left (walk, best, own, many) = (few, walk, best, own, omega (arith, left, many))

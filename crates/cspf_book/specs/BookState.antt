@@ -64,11 +64,11 @@ IsAnswerPlaced old q hold unknown_to new = new ≡ old
 IsAnswerPlaced old q hold no_route new = new ≡ old
 IsAnswerPlaced old q hold (route walk) new = IsPlacedAlong old q hold walk new
 
--- Why a request isn't placed. Either memory was refused, or the book has as many placements of other
--- ids as it may have. Or it has fewer, and the best answer is a route that uses a link twice, or one that
--- uses each of its links once but is longer than the routes of the others leave room for.
+-- Why a request isn't placed. The book has as many placements of other ids as it may have. Or it has
+-- fewer, and memory was refused, or the best answer is a route that uses a link twice, or one that uses each
+-- of its links once but is longer than the routes of the others leave room for.
 abbrev pub IsPlaceError : BookState → Request → PlaceError → Type 0
-IsPlaceError s q Memory = Unit {0}
+IsPlaceError s q Memory = HasRoomFor s q.id
 IsPlaceError s q Full = MOST_PLACEMENTS ≤ length (others q.id s.placements)
 IsPlaceError s q Twice =
     HasRoomFor s q.id

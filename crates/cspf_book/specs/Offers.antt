@@ -22,12 +22,20 @@ IsOffered q hold room (route walk) None = ⊥
 IsOffered q hold room (route walk) (Some p) =
     HaveOwnKeys walk × IsPlacementOf q hold walk p × (length walk ≤ room)
 
--- why a walk isn't placed where there is room for that many links
+-- Why a walk isn't placed where there is room for that many links. Memory is refused only to a walk that
+-- would be placed.
 abbrev pub IsWalkRefused : ℕ → List Link → PlaceError → Type 0
-IsWalkRefused room walk Memory = Unit {0}
+IsWalkRefused room walk Memory = HaveOwnKeys walk × (length walk ≤ room)
 IsWalkRefused room walk Full = ⊥
 IsWalkRefused room walk Twice = ¬ HaveOwnKeys walk
 IsWalkRefused room walk TooManyLinks = HaveOwnKeys walk × (room < length walk)
+
+-- why no placement is made of an answer: it is a walk that isn't placed
+abbrev pub IsAnswerRefused : ℕ → Answer → PlaceError → Type 0
+IsAnswerRefused room unknown_from why = ⊥
+IsAnswerRefused room unknown_to why = ⊥
+IsAnswerRefused room no_route why = ⊥
+IsAnswerRefused room (route walk) why = IsWalkRefused room walk why
 
 -- why a request is offered nothing: memory, or the best answer is a walk that isn't placed
 abbrev pub IsOfferRefused : Database → Request → ℕ → PlaceError → Type 0

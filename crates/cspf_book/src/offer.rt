@@ -6,7 +6,7 @@ ghost use Rattle.cspf_model.specs.Best.{IsBestAnswer, route};
 ghost use Rattle.cspf_model.specs.Database.{HaveOwnKeys};
 ghost use Rattle.cspf_model.specs.Outcome.{answer_of};
 ghost use Rattle.cspf_book.specs.BookState.{IsPlacementOf};
-ghost use Rattle.cspf_book.specs.Offers.{IsOffered, IsWalkRefused, IsOfferRefused};
+ghost use Rattle.cspf_book.specs.Offers.{IsOffered, IsAnswerRefused, IsWalkRefused, IsOfferRefused};
 ghost use Rattle.cspf_book.specs.Kept.{HasSameSums, KeepsKeys, HasKeys};
 
 use crate::counting::has_key;
@@ -65,6 +65,31 @@ fn placement_on(
     })
 }
 
+/// An answer to a request and, where it is a route that may be placed, its placement, where there is room
+/// for that many links.
+fn offer_of(
+    alloc: Global,
+    outcome: Outcome,
+    request: &Request,
+    hold: u8,
+    room: usize,
+) -> Result<(Outcome, Option<Placement>), PlaceError>
+    requires { hold < 8 }
+    ensures same { IfOk result (λ offered. offered.0 ≡ outcome) }
+    ensures placement { IfOk result (λ offered.
+        IsOffered request.now hold room (answer_of outcome) offered.1) }
+    // Each error keeps its name: memory is refused only to a route that would be placed.
+    ensures refused { IfErr result (IsAnswerRefused room (answer_of outcome)) }
+{
+    match outcome {
+        Outcome::Route(route) => {
+            let placement = placement_on(alloc, &route, request, hold, room)?;
+            Ok((Outcome::Route(route), Some(placement)))
+        }
+        other => Ok((other, None)),
+    }
+}
+
 /// The best answer to a request in the table's database and, where it is a route that may be
 /// placed, its placement, where there is room for that many links.
 fn offer(
@@ -80,13 +105,8 @@ fn offer(
         IsOffered request.now hold room (answer_of offered.0) offered.1) }
     ensures refused { IfErr result (λ why. IsOfferRefused table.now request.now room why) }
 {
-    match best(alloc, table, request)? {
-        Outcome::Route(route) => {
-            let placement = placement_on(alloc, &route, request, hold, room)?;
-            Ok((Outcome::Route(route), Some(placement)))
-        }
-        other => Ok((other, None)),
-    }
+    let outcome = best(alloc, table, request)?;
+    offer_of(alloc, outcome, request, hold, room)
 }
 
 /// What `offer` answers, with places for the sums of the offered placement's links. The sums stay.

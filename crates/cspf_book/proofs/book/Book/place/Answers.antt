@@ -1,5 +1,6 @@
 use Rattle.std.proofs.Common.{◌+◌, ◌-◌, ◌*◌, ◌^◌, ◌≤◌, ◌++◌, [], ◌∷◌, length, remove, refl, sym, ap, subst, ◌∙◌, arith}
 use Rattle.std.proofs.lemmas.List.{length_push}
+use Rattle.std.proofs.lemmas.Result.{err_from_is_err_and}
 use Rattle.std.proofs.lemmas.List.Sums.{sum_by_push}
 use Rattle.cspf_model.specs.Database.{Database}
 use Rattle.cspf_model.specs.Best.{IsBestAnswer}
@@ -174,3 +175,23 @@ set_back-requires-in-Err-clause-small c =
     sums_small c.set_aside.new.counts c.offer_counted.new.counts ps (others id ps) c.self.inside.version c.offer_counted.ensures.sums
     (subst (IsCountOf c.set_aside.new.counts) rest c.set_aside.ensures.counted) (counted-others id ps) c.self.invariant.small
     (rw (← c.self.view_is) at c.requires.room)
+
+pub returns-in_err-reserve-clause-why : goal.returns-in_err-reserve-clause-why
+returns-in_err-reserve-clause-why c =
+    let ps = c.self.inside.placements.items in
+    let id = c.args.request.now.id in
+    let at = c.index_of-at.ensures ∙ ap (index_of_id id) c.deref.ensures.value in
+    let gone = ap (remove ps) at ∙ remove-index_of id ps c.self.invariant.own_ids in
+    let kept = few_kept ps c.index_of-at.result 65536 (omega (arith, at, index_of-le id ps)) c.self.invariant.few c.if-at-eq-MOST_PLACEMENTS.false in
+    let refused = err_from_is_err_and c.from_residual.result c.from_residual.ensures.1 in
+    rw (refused.1, refused.2) (rw (← c.self.view_is) (omega (arith, kept, ap length gone)))
+
+pub returns-in_err-enter_at-clause-why : goal.returns-in_err-enter_at-clause-why
+returns-in_err-enter_at-clause-why c =
+    let ps = c.self.inside.placements.items in
+    let id = c.args.request.now.id in
+    let at = c.index_of-at.ensures ∙ ap (index_of_id id) c.deref.ensures.value in
+    let gone = ap (remove ps) at ∙ remove-index_of id ps c.self.invariant.own_ids in
+    let kept = few_kept ps c.index_of-at.result 65536 (omega (arith, at, index_of-le id ps)) c.self.invariant.few c.if-at-eq-MOST_PLACEMENTS.false in
+    let refused = err_from_is_err_and c.from_residual-in_err-enter_at.result c.from_residual-in_err-enter_at.ensures.1 in
+    rw (refused.1, refused.2) (rw (← c.self.view_is) (omega (arith, kept, ap length gone)))
