@@ -1,10 +1,9 @@
 //! A client of a server: its streams, how all its rows are answered, and its result.
 
 ghost use Rattle.std.specs.Prelude.{◌≡◌, ◌<◌, None, Some, OnOk, IfErr};
-ghost use Rattle.std.specs.Option.{option_map};
 ghost use Rattle.cspf_publish.specs.AskerStates.{known_of};
 ghost use Rattle.cspf_publish.specs.KnownBatches.{AreFirstOf};
-ghost use Rattle.cspf_rows.specs.Records.{rows_of};
+ghost use Rattle.cspf_rows.specs.Records.{IsPlain, rows_left};
 ghost use Rattle.cspf_stream.specs.RowAnswers.{AreAllAnswered};
 ghost use Rattle.cspf_client.specs.ClientRows.{IsClientAnswered};
 ghost use Rattle.cspf_client.specs.ClientRuns.{IsClientRun, IsStreamStopped};
@@ -13,10 +12,11 @@ ghost use Rattle.cspf_client.specs.SessionStates.{HasGoneForward};
 ghost use Rattle.cspf_client.specs.ServingStates.{IsReady, HasMet};
 
 use crate::session::Session;
-use crate::{ClientError, Replies};
+use crate::{ClientError, EndOfRequests, Replies};
 use cspf_publish::{Asker, Known, SeenSteps, Told};
 use cspf_rows::open_records;
 use cspf_stream::{StreamError, answer_rows};
+use csv::Reader;
 use std::alloc::Global;
 use std::io::Read;
 use std::marker::Model;
@@ -70,21 +70,21 @@ pub struct ServedClient<V> {
     pub known: Known,
 }
 
-/// Answers all rows of these requests, and drops their reader.
+/// Answers all rows that a reader has left.
 fn answer_all<Q: Read + Drop, V: Replies>(
     alloc: Global,
-    requests: Q,
+    requests: &mut Reader<Q>,
     replies: &mut V,
     session: &mut Session,
 ) -> Result<(), StreamError>
-    requires { session.old.refused < 1 }
-    ensures whole { OnOk result (AreAllAnswered IsClientAnswered (option_map rows_of (Q.remaining requests))
+    requires plain { IsPlain requests.old }
+    requires state { session.old.refused < 1 }
+    ensures whole { OnOk result (AreAllAnswered IsClientAnswered (rows_left Q.remaining requests.old)
         session.old session.new (V.contents replies.old) (V.contents replies.new)) }
-    ensures stopped { IfErr result (λ why. IsStreamStopped why (option_map rows_of (Q.remaining requests))
+    ensures stopped { IfErr result (λ why. IsStreamStopped why (rows_left Q.remaining requests.old)
         session.old session.new (V.contents replies.old) (V.contents replies.new)) }
 {
-    let mut rows = open_records(alloc, requests);
-    answer_rows(&(), alloc, &mut rows, replies, session)
+    answer_rows(&(), alloc, requests, replies, session)
 }
 
 /// The result of a client, by the result of its stream and whether an entry was refused.
@@ -125,14 +125,17 @@ impl<Q: Read + Drop, V: Replies> ServingClient<Q, V> {
         ensures run { IsClientRun Q.remaining V.contents self.old self.new }
         ensures forward { HasGoneForward self.old.state self.new.state }
         ensures closed { self.new.requests ≡ None }
+        // The end is called for after the last line.
+        ensures ended { V.has_ended self.new.replies }
     {
         let Some(requests) = self.requests.take() else {
             // Never: nothing was read yet.
             return;
         };
-        let ended = answer_all(alloc, requests, &mut self.replies, &mut self.session);
+        let mut rows = open_records(alloc, requests);
+        let ended = answer_all(alloc, &mut rows, &mut self.replies, &mut self.session);
         self.end = end_of(ended, self.session.has_no_entry());
-        self.replies.end();
+        self.replies.end(EndOfRequests::drop_reader(rows));
     }
 
     /// The steps of the journal that it has seen, up to its last reading of the count.

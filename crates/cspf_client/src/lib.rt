@@ -17,4 +17,4 @@ mod session;
 pub use client::{Client, ServedClient, ServingClient};
 pub use error::ClientError;
 pub use laws::{clients_go_forward, replies_are_fresh};
-pub use replies::Replies;
+pub use replies::{EndOfRequests, Replies};

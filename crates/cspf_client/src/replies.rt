@@ -1,15 +1,38 @@
 ghost use Rattle.std.specs.Prelude.{◌≡◌};
 
-use std::io::Write;
+use csv::Reader;
+use std::io::{Read, Write};
+
+/// The requests of a client have ended, and their reader is dropped. It can't be copied, so there is one
+/// for each reader at most.
+#[derive(Drop)]
+pub struct EndOfRequests {
+    ended: (),
+}
+
+impl EndOfRequests {
+    /// Drops the reader of a client's requests.
+    pub(crate) fn drop_reader<Q: Read + Drop>(requests: Reader<Q>) -> EndOfRequests {
+        let _dropped = requests;
+        EndOfRequests { ended: () }
+    }
+}
 
 /// A writer of replies, with a call for their end.
 pub trait Replies: Write {
-    /// No more replies come, so the writer may signal their end to the reader.
-    fn end(&mut self)
-        ensures { Self.contents self.new ≡ Self.contents self.old };
+    /// The end was called for, and nothing was written after it.
+    ghost has_ended: { Self → Type 0 };
+
+    /// No more replies come, so the writer may signal their end to the reader. It uses up the end of the
+    /// requests, so it is called once.
+    fn end(&mut self, requests: EndOfRequests)
+        ensures same { Self.contents self.new ≡ Self.contents self.old }
+        ensures ended { has_ended self.new };
 }
 
 /// A vector has no reader to signal to. It is read after it is given back.
 impl Replies for Vec<u8> {
-    fn end(&mut self) {}
+    ghost has_ended = { λ _. Unit {0} };
+
+    fn end(&mut self, _requests: EndOfRequests) {}
 }

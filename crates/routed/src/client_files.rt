@@ -8,7 +8,7 @@ use crate::noted::Fault;
 use crate::options::{CLIENT, Call, EXPLAIN, JOURNAL};
 use crate::statuses::REFUSED;
 use crate::stopped::Stopped;
-use cspf_serve::{Client, MOST_ASKERS, Replies};
+use cspf_serve::{Client, EndOfRequests, MOST_ASKERS, Replies};
 use std::fs::{File, OpenOptions};
 use std::io::Write;
 use std::os::unix::fs::MetadataExt;
@@ -235,7 +235,11 @@ impl Write for Closing {
 }
 
 impl Replies for Closing {
-    fn end(&mut self) {
+    ghost use Rattle.std.specs.Prelude.{◌≡◌, None};
+
+    ghost has_ended = { λ closing. closing.file ≡ None };
+
+    fn end(&mut self, _requests: EndOfRequests) {
         self.file = None;
     }
 }

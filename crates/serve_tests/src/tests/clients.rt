@@ -8,7 +8,7 @@ ghost use Rattle.std.specs.Prelude.{◌≡◌};
 ghost use Rattle.cspf_client.specs.ServingStates.{IsReady};
 
 use cspf_addr::{Addr, Mask};
-use cspf_client::{Client, ClientError, Replies, ServedClient, ServingClient};
+use cspf_client::{Client, ClientError, EndOfRequests, Replies, ServedClient, ServingClient};
 use cspf_model::{Batch, Change, Link};
 use cspf_publish::{Publisher, open};
 use std::alloc::Global;
@@ -67,7 +67,11 @@ struct Narrow {
 }
 
 impl Replies for Narrow {
-    fn end(&mut self) {
+    ghost use Rattle.std.specs.Prelude.{◌<◌};
+
+    ghost has_ended = { λ narrow. 0 < narrow.ends };
+
+    fn end(&mut self, _requests: EndOfRequests) {
         self.ends = self.ends.saturating_add(1);
     }
 }

@@ -22,7 +22,7 @@ returns-clause-run g c =
     } in
     subst (λ (s : ServingState g.row.Q.Denot g.row.V.Denot). IsClientRun g.Q.Read.remaining g.V.Write.contents s after) c.self.view_is
     (run_of g.Q.Read.remaining g.V.Write.contents before after c.in-Some.requests (sym c.in-Some.ensures.value) c.answer_all-ended.result
-    (rw c.has_no_entry.ensures at c.end_of-self-inside.ensures) (rw c.end.ensures e.whole) (rw c.end.ensures e.stopped))
+    (rw c.has_no_entry.ensures at c.end_of-self-inside.ensures) (rw (c.end.ensures.same, sym c.open_records-rows.ensures.rows) e.whole) (rw (c.end.ensures.same, sym c.open_records-rows.ensures.rows) e.stopped))
 
 pub returns-clause-forward : goal.returns-clause-forward
 returns-clause-forward g c =
