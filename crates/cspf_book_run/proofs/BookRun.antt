@@ -301,7 +301,7 @@ module _ {K : Type 0} (contents : K → Option (List ℕ)) (all left : Option (L
   in_memory failed None a is =
       let c = carried contents 1 k a.before book_start a.done a.lines fresh going a.answered in
       let unkept : IsRowUnkept None (suc (length a.done)) a.before.rows a.fields (contents a.before.keep) (contents k'.keep) =
-      subst (λ (f : Option ℕ). IsRowUnkept f (suc (length a.done)) a.before.rows a.fields (contents a.before.keep) (contents k'.keep)) is a.stops.1.0 in (
+      subst (λ (f : Option ℕ). IsRowUnkept f (suc (length a.done)) a.before.rows a.fields (contents a.before.keep) (contents k'.keep)) is a.stops.1.0.0 in (
         by_rows all _ a.done (a.fields ∷ a.rest) c.after a.lines c.text (record {
           split = in_row_split all left a.done a.rest a.fields a.split;
           few = omega (arith, a.stops.0);
@@ -315,7 +315,7 @@ module _ {K : Type 0} (contents : K → Option (List ℕ)) (all left : Option (L
   in_memory failed (Some written) a is =
       let c = carried contents 1 k a.before book_start a.done a.lines fresh going a.answered in
       let unkept : IsRowUnkept (Some written) (suc (length a.done)) a.before.rows a.fields (contents a.before.keep) (contents k'.keep) =
-      subst (λ (f : Option ℕ). IsRowUnkept f (suc (length a.done)) a.before.rows a.fields (contents a.before.keep) (contents k'.keep)) is a.stops.1.0 in
+      subst (λ (f : Option ℕ). IsRowUnkept f (suc (length a.done)) a.before.rows a.fields (contents a.before.keep) (contents k'.keep)) is a.stops.1.0.0 in
       let step = unkept.3.lead c.after c.kept in
       let text = Appends-kept old a.mid new a.lines a.written a.stops.1.1 in (
         keep_off all (record { before = old; after = new; keep_before = contents k.keep; keep_after = contents a.before.keep }) (contents k'.keep) a.done a.rest a.fields c.after step.0 a.lines c.text unkept.0 unkept.1 written

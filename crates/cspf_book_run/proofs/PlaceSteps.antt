@@ -1,12 +1,14 @@
 -- The state of a run after a placing or a release.
-use Rattle.std.proofs.Common.{◌≡◌, ℕ, ◌+◌, ◌<◌, ◌≤◌, IsTrue, List, Result, inl, inr, refl, ap, subst, ◌∙◌, arith}
+use Rattle.std.proofs.Common.{◌≡◌, ℕ, ◌+◌, ◌<◌, ◌≤◌, IsTrue, List, Result, Some, inl, inr, refl, ap, subst, ◌∙◌, arith}
 use Rattle.cspf_model.specs.Best.{Answer, unknown_from, unknown_to, no_route, route, IsBestAnswer}
 use Rattle.cspf_model.specs.declared.request.Request.{Request}
 use Rattle.cspf_ero.specs.ReplyLine.{IsReply}
 use Rattle.cspf_rows.specs.declared.row_error.RowError.{RowError}
 use Rattle.cspf_book.specs.Placements.{has_id, others}
 use Rattle.cspf_book.specs.Effective.{effective}
-use Rattle.cspf_book.specs.BookState.{BookState, effective_beside, HasRoomFor, IsAnswerPlaced}
+use Rattle.cspf_book.specs.BookState.{BookState, effective_beside, HasRoomFor, IsAnswerPlaced, IsPlaceError}
+use Rattle.cspf_book.specs.declared.error.PlaceError.{PlaceError}
+use Rattle.cspf_book.specs.declared.error.PlaceError.TheVariants.{Memory, Full, TooManyLinks, Twice}
 use Rattle.cspf_book_run.specs.declared.book_row.BookRow.{BookRow}
 use Rattle.cspf_book_run.specs.declared.book_rows.BookRows.{BookRows}
 use Rattle.cspf_book_run.specs.declared.refusals.PlaceRefusal.{PlaceRefusal}
@@ -14,6 +16,16 @@ use Rattle.cspf_book_run.specs.declared.refusals.ReleaseRefusal.{ReleaseRefusal}
 use Rattle.cspf_book_run.specs.BookLines.{IsPlaceReply, refused_place_line, refused_release_line, released_line}
 use Rattle.cspf_book_run.specs.BookScript.{BookRunState, IsBookRowAnswered, IsAskAnswered, IsPlaceRefusal, IsPlaceTaken, IsReleaseRefusal, IsReleaseTaken, after_answer, after_refusal, after_release}
 use Rattle.cspf_book_run.specs.BookStates.{BookLeads, CountsAnswer, IsAnsweredByBook}
+use Rattle.cspf_book_run.specs.PlaceErrors.{place_refusal_of}
+use Rattle.cspf_book_run.specs.declared.refusals.PlaceRefusal.TheVariants as unplaced
+
+-- an error of the book that has a line is why the request isn't placed
+pub refused_by : (s : BookRunState) (q : Request) (why : PlaceError) (refusal : PlaceRefusal) → place_refusal_of why ≡ Some refusal
+    → s.book.version < 1000000 → IsPlaceError s.book q why → IsPlaceRefusal s q refusal
+refused_by s q Memory refusal is room error = absurd (cc is)
+refused_by s q Full refusal is room error = subst (IsPlaceRefusal s q) (let same : unplaced.Full ≡ refusal = cc is in same) (room, error)
+refused_by s q TooManyLinks refusal is room error = subst (IsPlaceRefusal s q) (let same : unplaced.Links ≡ refusal = cc is in same) (room, error)
+refused_by s q Twice refusal is room error = subst (IsPlaceRefusal s q) (let same : unplaced.Twice ≡ refusal = cc is in same) (room, error)
 
 -- a placing never makes the version less
 pub placed_version : (old new : BookState) (q : Request) (hold : ℕ) (answer : Answer) → IsAnswerPlaced old q hold answer new → old.version ≤ new.version

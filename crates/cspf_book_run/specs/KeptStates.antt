@@ -60,7 +60,8 @@ IsRowUnkept (Some written) place old fields before after =
     (line : List ℕ) × (text : List ℕ) × (new : BookRows) × IsAnsweredAndKept place old fields line text new
     × (written < length text) × Appends before after (take written text)
 
--- the row isn't answered, for this fault
+-- The row isn't answered, for this fault. Without a fault the writer of what is kept wasn't called.
 abbrev pub IsRowNotKept : {K : Type 0} → (K → Option (List ℕ)) → ℕ → KeptRows K → List (List ℕ) → KeptRows K → Type 0
 IsRowNotKept contents place old fields new =
     IsRowUnkept new.fault place old.rows fields (contents old.keep) (contents new.keep)
+    × (new.fault ≡ None → new.keep ≡ old.keep)

@@ -2,6 +2,7 @@
 pub mod BookRows
 pub mod BookLines
 pub mod BookEnds
+pub mod PlaceErrors
 pub mod BookScript
 pub mod Kept
 pub mod BookOutput

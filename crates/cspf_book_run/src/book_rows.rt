@@ -8,7 +8,7 @@ use crate::end_row::wrong_end;
 use crate::line::{base_lines, place_line, refused_place, refused_release, released};
 use crate::refusals::{PlaceRefusal, ReleaseRefusal};
 use crate::row_text::{row_text, text_if_new};
-use cspf_book::{Book, PlaceError};
+use cspf_book::Book;
 use cspf_ero::reply_line;
 use cspf_model::{Change, MOST_VERSIONS, Request, one_refusal};
 use cspf_rows::{RowError, batch_text};
@@ -302,10 +302,10 @@ impl BookRows {
                 self.answers += 1;
                 Ok(line)
             }
-            Err(PlaceError::Full) => self.refuse_place(alloc, id, PlaceRefusal::Full),
-            Err(PlaceError::TooManyLinks) => self.refuse_place(alloc, id, PlaceRefusal::Links),
-            Err(PlaceError::Twice) => self.refuse_place(alloc, id, PlaceRefusal::Twice),
-            Err(PlaceError::Memory) => Err(AllocError),
+            Err(why) => match PlaceRefusal::of(why) {
+                Some(refusal) => self.refuse_place(alloc, id, refusal),
+                None => Err(AllocError),
+            },
         }
     }
 

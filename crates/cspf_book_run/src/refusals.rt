@@ -1,6 +1,8 @@
 //! Why a book refuses to place or to release.
 ghost use Rattle.std.specs.Prelude.{◌≡◌};
+ghost use Rattle.cspf_book_run.specs.PlaceErrors.{place_refusal_of};
 
+use cspf_book::PlaceError;
 use std::error::Error;
 use std::fmt;
 
@@ -34,6 +36,20 @@ impl fmt::Display for PlaceRefusal {
 }
 
 impl Error for PlaceRefusal {}
+
+impl PlaceRefusal {
+    /// The refusal that an error of the book is, if it isn't refused memory.
+    pub(crate) fn of(why: PlaceError) -> Option<PlaceRefusal>
+        ensures { result ≡ place_refusal_of why }
+    {
+        match why {
+            PlaceError::Full => Some(PlaceRefusal::Full),
+            PlaceError::TooManyLinks => Some(PlaceRefusal::Links),
+            PlaceError::Twice => Some(PlaceRefusal::Twice),
+            PlaceError::Memory => None,
+        }
+    }
+}
 
 /// Why nothing is released.
 #[derive(Clone, Copy, Debug, PartialEq, Eq)]

@@ -1,10 +1,10 @@
-use Rattle.std.proofs.Common.{◌<◌, ◌≤◌, refl, subst, arith}
+use Rattle.std.proofs.Common.{◌≡◌, ◌<◌, ◌≤◌, Some, refl, sym, subst, ◌∙◌, arith}
 use Rattle.std.proofs.lemmas.Result.{IfOk-weaker}
 use Rattle.cspf_model.specs.Outcome.{answer_of}
 use Rattle.cspf_book.specs.BookState.{BookState, IsPlaceError}
-use Rattle.cspf_book.specs.declared.error.PlaceError.TheVariants.{Full, TooManyLinks, Twice}
 use Rattle.cspf_book_run.specs.declared.refusals.PlaceRefusal.TheVariants as unplaced
-use Rattle.cspf_book_run.proofs.PlaceSteps.{place_answered, place_refused}
+use Rattle.cspf_book_run.specs.PlaceErrors.{place_refusal_of}
+use Rattle.cspf_book_run.proofs.PlaceSteps.{place_answered, place_refused, refused_by}
 use Rattle.cspf_book_run.proofs.book_rows.BookRows.place.Goals as goal
 
 pub returns-then-version-ge-MOST_VERSIONS-clause-answered :
@@ -22,32 +22,14 @@ returns-in_ok-line-in-Ok-clause-answered c =
     (omega (arith, c.version.ensures, c.if-version-ge-MOST_VERSIONS.false)) c.in-Ok.ensures.few c.in-Ok.ensures.best c.in-Ok.ensures.placed
     c.version-in-Ok.ensures c.in_ok-line-in-Ok.ensures refl refl refl refl
 
-pub returns-in-Err-Full-clause-answered : goal.returns-in-Err-Full-clause-answered
-returns-in-Err-Full-clause-answered c =
+pub returns-in-Some-clause-answered : goal.returns-in-Some-clause-answered
+returns-in-Some-clause-answered c =
     let room : c.args.self.now.book.version < 1000000 = omega (arith, c.version.ensures, c.if-version-ge-MOST_VERSIONS.false) in
-    let why = rw c.in-Err-Full.field-0-is at c.in-Err-Full.ensures.why in
-    IfOk-weaker c.refuse_place-in-Err-Full.result _ _
-    (λ line lead. place_refused c.args.self.now c.refuse_place-in-Err-Full.new.self _ c.args.request.now c.args.hold unplaced.Full line.items
-    (λ s e. (subst (λ (b : BookState). b.version < 1000000) e room, subst (λ (b : BookState). IsPlaceError b c.args.request.now Full) e why))
-    c.in-Err-Full.ensures.same refl refl refl refl lead)
-    c.refuse_place-in-Err-Full.ensures.answered
-
-pub returns-in-Err-TooManyLinks-clause-answered : goal.returns-in-Err-TooManyLinks-clause-answered
-returns-in-Err-TooManyLinks-clause-answered c =
-    let room : c.args.self.now.book.version < 1000000 = omega (arith, c.version.ensures, c.if-version-ge-MOST_VERSIONS.false) in
-    let why = rw c.in-Err-TooManyLinks.field-0-is at c.in-Err-TooManyLinks.ensures.why in
-    IfOk-weaker c.refuse_place-in-Err-TooManyLinks.result _ _
-    (λ line lead. place_refused c.args.self.now c.refuse_place-in-Err-TooManyLinks.new.self _ c.args.request.now c.args.hold unplaced.Links line.items
-    (λ s e. (subst (λ (b : BookState). b.version < 1000000) e room, subst (λ (b : BookState). IsPlaceError b c.args.request.now TooManyLinks) e why))
-    c.in-Err-TooManyLinks.ensures.same refl refl refl refl lead)
-    c.refuse_place-in-Err-TooManyLinks.ensures.answered
-
-pub returns-in-Err-Twice-clause-answered : goal.returns-in-Err-Twice-clause-answered
-returns-in-Err-Twice-clause-answered c =
-    let room : c.args.self.now.book.version < 1000000 = omega (arith, c.version.ensures, c.if-version-ge-MOST_VERSIONS.false) in
-    let why = rw c.in-Err-Twice.field-0-is at c.in-Err-Twice.ensures.why in
-    IfOk-weaker c.refuse_place-in-Err-Twice.result _ _
-    (λ line lead. place_refused c.args.self.now c.refuse_place-in-Err-Twice.new.self _ c.args.request.now c.args.hold unplaced.Twice line.items
-    (λ s e. (subst (λ (b : BookState). b.version < 1000000) e room, subst (λ (b : BookState). IsPlaceError b c.args.request.now Twice) e why))
-    c.in-Err-Twice.ensures.same refl refl refl refl lead)
-    c.refuse_place-in-Err-Twice.ensures.answered
+    let refusal = c.in-Some.refusal in
+    let is : place_refusal_of c.in-Err.why ≡ Some refusal = sym c.of.ensures ∙ c.in-Some.is in
+    IfOk-weaker c.refuse_place-in-Some.result _ _
+    (λ line lead. place_refused c.args.self.now c.refuse_place-in-Some.new.self _ c.args.request.now c.args.hold refusal line.items
+    (λ s e. refused_by s c.args.request.now c.in-Err.why refusal is (subst (λ (b : BookState). b.version < 1000000) e room)
+    (subst (λ (b : BookState). IsPlaceError b c.args.request.now c.in-Err.why) e c.in-Err.ensures.why))
+    c.in-Err.ensures.same refl refl refl refl lead)
+    c.refuse_place-in-Some.ensures.answered
