@@ -1,6 +1,7 @@
 """`routed serve` and `routed-tools listen` where the system refuses threads: nothing is read, published or answered, and a client without one is named.
 
 Each thread of 8 clients is refused, and some of 64, alone and with all later ones (tests/program/refuse.c). And a user has fewer than there are clients.
+Nor does `serve` end by a signal where its stack or its address space is small.
 """
 import array
 import contextlib
@@ -18,11 +19,16 @@ import time
 from checks import TOP
 from program.refusal import COMPILER, Refuser
 from program.served import CLIENTS, PATIENCE
+from reference import formats
 from tools.listened import Front
 
 FEW, SOME = 8, (1, 2, CLIENTS // 2, CLIENTS - 1, CLIENTS)  # clients of which each thread is refused, and those of 64 that are
 MOST = 20  # threads of a user, fewer than 64
 NOBODY = 65534  # a user without rights
+KIB, MIB = 1 << 10, 1 << 20
+STACKS = (512 * KIB, MIB, 4 * MIB)  # with which 64 clients have to be answered on a network of full size
+SPACES = (*range(12, 128), *range(128, 832, 3))  # MiB of address space with which no run may end by a signal
+ROUTERS, REACH = 1024, 8  # of the network: each router has a circuit to as many that follow it in a ring
 UPDATES, ASK = b"end,1,0\n", b"ask,7,1.1.1.1,2.2.2.2,0,5,0x0,0x0,0x0,\n"
 NAMED = r"routed: client ([1-9]\d*): no thread\nrouted: stopped\n"
 
@@ -43,6 +49,8 @@ def threads(program, checks):
             one_by_one(program, checks, refuser, folder("many"), CLIENTS, SOME)
             listening(program, checks, refuser, folder("listening"))
         of_a_user(program, checks, folder("user"), room)
+        in_small_stacks(program, checks, folder("stacks"))
+        in_small_spaces(program, checks, folder("spaces"))
     print(f"threads: those of {FEW} and of {CLIENTS} clients, {time.monotonic() - start:.0f} s")
 
 
@@ -50,11 +58,11 @@ def threads(program, checks):
 
 
 class Inputs:
-    """Named pipes with the rows of the updates and of each client. They don't end."""
+    """Named pipes with the rows of the updates and of each client. They end once they are closed."""
 
-    def __init__(self, room, clients):
+    def __init__(self, room, clients, asks=ASK):
         self.paths, self.files = [os.path.join(room, f"rows{number}") for number in range(clients + 1)], []
-        for path, rows in zip(self.paths, [UPDATES] + [ASK] * clients):
+        for path, rows in zip(self.paths, [UPDATES] + [asks] * clients):
             os.mkfifo(path)
             self.files.append(os.open(path, os.O_RDWR))
             os.write(self.files[-1], rows)
@@ -68,8 +76,8 @@ class Inputs:
         return found == [len(UPDATES)] + [len(ASK)] * (len(self.files) - 1)
 
     def close(self):
-        for file in self.files:
-            os.close(file)
+        while self.files:
+            os.close(self.files.pop())
 
 
 def files(room, clients):
@@ -161,6 +169,73 @@ def listening(program, checks, refuser, room):
                 checks.true(f"{name}: a client is named", named(said, f"listen: {Refused.path} ended with status 3\n") in range(1, FEW + 1), said)
                 checks.same(f"{name}: what is left", (sorted(os.listdir(room)), sizes(front.journal)), (["journal", "routed"], {0}))
             forget(front.journal)
+
+
+# ---- small stacks and address spaces
+
+
+def full_network():
+    """The rows of 16,384 links between 1,024 routers, four batches of the most changes, and some requests with seven hops."""
+    free = ",".join(["1000"] * 8)
+    puts = []
+    for near in range(ROUTERS):
+        for step in range(1, REACH + 1):
+            far = (near + step) % ROUTERS
+            ends = [(address(2, near), address(10 + step, near)), (address(2, far), address(30 + step, near))]
+            for (start, local), (end, remote) in (ends, ends[::-1]):
+                puts.append(f"put,{start},{local},{end},{remote},{step * step + near % 7},0x1,{free}\n")
+    rows = "".join("".join(puts[at:at + 4096]) + f"end,{at // 4096 + 1},4096\n" for at in range(0, len(puts), 4096))
+    hops = " ".join(f"{address(2, at)}/32l" for at in (900, 100, 800, 200, 700, 300, 600))
+    return rows, f"ask,1,{address(2, 0)},{address(2, 512)},0,5,0x0,0x0,0x0,\nask,2,{address(2, 1)},{address(2, 500)},7,5,0x0,0x0,0x0,{hops}\n"
+
+
+def address(top, number):
+    return f"{top}.0.{number >> 8}.{number & 255}"
+
+
+def within(kind, most):
+    """What gives a run this limit."""
+    return lambda: resource.setrlimit(kind, (most, most))
+
+
+def in_small_stacks(program, checks, room):
+    """64 clients are answered on a network of full size."""
+    rows, asks = full_network()
+    lines = "".join(f"{line}\n" for line in formats.solve(rows + asks)[1][-2:])
+    for stack in STACKS:
+        with contextlib.closing(Inputs(room, CLIENTS, b"")) as inputs:
+            words, journal, outs = serving(program.path, room, inputs.paths[1:])
+            with subprocess.Popen(words, stdin=subprocess.PIPE, stdout=subprocess.PIPE, stderr=subprocess.PIPE, text=True,
+                                  preexec_fn=within(resource.RLIMIT_STACK, stack)) as run:
+                said = []
+                with contextlib.suppress(BrokenPipeError):
+                    run.stdin.write(rows)
+                    run.stdin.flush()
+                    said = [run.stdout.readline() for _ in range(4)]
+                for file in inputs.files[1:]:
+                    os.write(file, asks.encode())
+                inputs.close()
+                rest, err = run.communicate(timeout=PATIENCE)
+            name = f"{CLIENTS} clients with a stack of {stack // KIB} KiB"
+            checks.same(name, (run.returncode, said, rest, err), (0, [f"version {number}\n" for number in range(1, 5)], "", ""))
+            checks.same(f"{name}: their lines", {kept(path) for path in outs}, {lines})
+        for path in (journal, *outs, *inputs.paths):
+            forget(path)
+
+
+def in_small_spaces(program, checks, room):
+    """A run is whole, or it is stopped for want of memory or of a thread."""
+    words, journal, outs = serving(program.path, room, files(room, CLIENTS))
+    found = {}
+    for space in SPACES:
+        ran = subprocess.run(words, input=UPDATES, capture_output=True, timeout=PATIENCE, preexec_fn=within(resource.RLIMIT_AS, space * MIB))
+        found.setdefault(ran.returncode, []).append(space)
+        if ran.returncode == 3:
+            checks.true(f"{space} MiB of address space: it says that it is stopped", ran.stderr.endswith(b"routed: stopped\n"), ran.stderr)
+        for path in (journal, *outs):
+            forget(path)
+    checks.same("how runs end in a small address space", sorted(found), [0, 3])
+    checks.true("the largest is enough", SPACES[-1] in found.get(0, []), found)
 
 
 # ---- a user's limit

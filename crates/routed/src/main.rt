@@ -22,6 +22,7 @@ mod refused_rows;
 mod serve;
 mod snapshot;
 mod solve;
+mod stack;
 mod statuses;
 mod stopped;
 

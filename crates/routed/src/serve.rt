@@ -7,6 +7,7 @@ use crate::client_files::{ClientNames, Closing, OpenClient, check_clients, open_
 use crate::devices::{INPUT, NewFile, OUTPUT, created, flushed, held_places};
 use crate::noted::Noted;
 use crate::options::{Asked, CLIENT, Call, CommandOption, CommandText, EXPLAIN, JOURNAL};
+use crate::stack::grow_stack;
 use crate::stopped::{Ran, Stopped};
 use cspf_serve::{ClientError, MOST_ASKERS, Served, ServedClient, StreamError, run_serve};
 use std::sync::Wait;
@@ -66,6 +67,9 @@ With --explain a line says of each client that ended before its rows did why it 
 pub(crate) fn answer<T: Threads + Wait + Sync>(call: &Call<'_, '_>, handle: &T) -> Ran {
     let words = call.words.get_strs(CLIENT).unwrap_or(&[]);
     check_clients(call, words)?;
+    if !grow_stack(u8::from(call.has(EXPLAIN))) {
+        return Err(Stopped::Memory);
+    }
     let _held = held_places(call.rt);
     serve(call, handle, words)
 }

@@ -1,0 +1,18 @@
+//! The stack of a run with threads, which has to grow before they begin.
+
+/// How many bytes of the stack are used at once. A run of `serve` with 64 clients needs fewer.
+const STACK_BYTES: usize = 393_216;
+
+/// Whether all bytes have this value. It isn't inlined, so that they are on the stack.
+#[inline(never)]
+fn have_all(bytes: &[u8], value: u8) -> bool {
+    bytes.iter().all(|byte| *byte == value)
+}
+
+/// Grows the stack, and returns whether it holds what was written there. Threads may take all of the
+/// address space that a limit leaves, and a stack that can't grow then ends the program by a signal.
+#[inline(never)]
+pub(crate) fn grow_stack(value: u8) -> bool {
+    let room = [value; STACK_BYTES];
+    have_all(&room, value)
+}
