@@ -17,7 +17,7 @@ import time
 
 from checks import TOP
 from program.refusal import COMPILER, Refuser
-from program.served import CLIENTS, PATIENCE
+from program.serving import CLIENTS, PATIENCE
 from tools.listened import Front
 
 FEW, SOME = 8, (1, 2, CLIENTS // 2, CLIENTS - 1, CLIENTS)  # clients of which each thread is refused, and those of 64 that are
