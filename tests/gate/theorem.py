@@ -20,7 +20,8 @@ import sys
 sys.dont_write_bytecode = True
 sys.path.insert(1, os.path.dirname(os.path.dirname(os.path.abspath(__file__))))
 from checks import TOP
-from gate.public import WORD, Item, Tree, present
+from gate.public import Tree, present
+from gate.reading import WORD, Item
 
 # What each tier of THEOREM.md begins with, by its heading: calls, and definitions of specs/. This list is made by hand. No clause of a call
 # cites the rule between steps. A definition belongs to the first tier that leads to it.

@@ -14,7 +14,7 @@ import time
 
 from checks import TOOLS, TOP
 from pcep.sessions import NORTH, PATH, SOUTH, bandwidth, changes, hop, ip, lspa, metric, request, rows, told
-from program.served import PATIENCE
+from program.serving import PATIENCE
 from reference import formats
 
 from routed.pcep import replies, wire

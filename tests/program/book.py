@@ -23,186 +23,18 @@ sys.dont_write_bytecode = True
 sys.path.insert(1, os.path.dirname(os.path.dirname(os.path.abspath(__file__))))
 from checks import Checks
 from program import kept_books
+from program.drawn_books import IDS, ROWS, STREAMS, WANTED, Drawn, drawn_stream, kinds_of, stream
+from program.known_books import BASE, DIRECT, ENDS, HERE, LOWERED, MASKS, SCRIPTS, Reference, address, held, known, lowered, place, status_of, worked
 from program.refusal import COMPILER, Refuser, each
 from program.refused import REFUSALS, is_stopped
 from reference import books, formats, wrong_books
-from reference.changes import changed, hop_list, mark_rows, mixed, object_text, row_of, subobject
+from reference.changes import changed
+
 from routed.program import BUILT
 
-HERE = os.path.dirname(os.path.abspath(__file__))
-SCRIPTS = os.path.join(HERE, "scripts/book")
-FREE = ",".join(["1000"] * 8)
-MASKS = "0x0,0x0,0x0"
-ENDS = "1.1.1.1,10.0.12.1,2.2.2.2,10.0.12.2", "2.2.2.2,10.0.12.2,1.1.1.1,10.0.12.1"
-CIRCUIT = "".join(f"put,{ends},10,0x1,{FREE}\n" for ends in ENDS)
-BASE = CIRCUIT + "end,1,2\n"
-DIRECT = "route cost=10 hops=1 again=no ero=000c140101080a000c022000"
-STREAMS, ROWS = 100, 100  # drawn on small networks: how many, and the rows of each
 LARGE = 200  # rows at full size
 KEPT_ROWS = 1000  # of the book whose runs are killed
 STOPPED = 3, b"routed: stopped\n"
-BANDWIDTHS = [0, 1, 50, 50, 100, 100, 200, 200, 300, 500, 2 ** 64 - 1]
-IDS = [0, 1, 2, 3, 9, 10, 11, 100, 2 ** 64 - 1]
-
-
-def place(name, hold=7, bandwidth=1, masks=MASKS, hops="", ends="1.1.1.1,2.2.2.2"):
-    return f"place,{name},{ends},{hold},{bandwidth},{masks},{hops}\n"
-
-
-class Reference:
-    """The reference, or a wrong book made of it, as a program."""
-
-    def __init__(self, module=books):
-        self.module = module
-
-    def run(self, words, rows):
-        assert words == ["book"]
-        status, lines = self.module.book(rows if isinstance(rows, str) else rows.decode("latin-1"))
-        return status, "".join(f"{line}\n" for line in lines).encode(), b""
-
-
-def status_of(lines):
-    """The status that the formats give a run with these lines."""
-    return 2 if " refused: " in lines or lines.splitlines()[-1:] and lines.splitlines()[-1].startswith(("unended ", "too many rows")) else 0
-
-
-def held(path):
-    with open(path, "rb") as file:
-        return file.read()
-
-
-# ---- streams whose lines are known
-
-
-def worked():
-    """The streams of tests/program/scripts/book, each with the lines of the file beside it."""
-    for name in sorted(os.listdir(SCRIPTS)):
-        if name.endswith(".rows"):
-            yield name, held(os.path.join(SCRIPTS, name)), held(os.path.join(SCRIPTS, name[:-5] + ".out")).decode()
-
-
-NUMBERS = ["", "00", "01", "-1", "+1", " 1", "1 ", "1.0", "0x1", "a", "1_0"]
-ADDRESSES = ["", "1", "1.1.1", "1.1.1.1.1", "1.1.1.256", "01.1.1.1", " 1.1.1.1", "1.1.1.1/32", "1.1.1.-1", "a.1.1.1"]
-BAD_MASKS = ["", "0", "1", "x1", "0x", "0X1", "0xg", "0x100000000", "0x000000001", " 0x1", "-0x1"]
-BAD_HOPS = [("x", "hops 1"), ("1.1.1.1/32", "hops 1"), ("1.1.1.1/33s", "hops 1"), ("1.1.1.1/32s ", "hops 2"), ("1.1.1.1/32s  1.1.1.1/32l", "hops 2"),
-            (" ".join(["1.1.1.1/32l"] * 8), "hops count"), ("ero:0", "hops hex"), ("ero:", "hops ero short"), ("ero:00041401", "hops ero empty"),
-            ("ero:00051401", "hops ero length"), ("ero:000c13010108010101012000", "hops ero class"), ("ero:000c14010208010101012000", "hops ero unsupported"),
-            ("ero:000c14010107010101012000", "hops ero sublength"), ("ero:000c14010108010101012100", "hops ero prefix-length"),
-            ("ero:00441401" + "0108010101012000" * 8, "hops ero count")]
-
-
-def bad_rows():
-    """Rows that are no place and no release, each with its refusal."""
-    good = place(1).rstrip("\n").split(",")
-
-    def turned(field, text):
-        return ",".join([*good[:field - 1], text, *good[field:]])
-
-    for field, texts, words in [(2, [*NUMBERS, str(2 ** 64)], "number 2"), (3, ADDRESSES, "address 3"), (4, ADDRESSES, "address 4"),
-                                (5, [*NUMBERS, str(2 ** 32)], "number 5"), (5, ["8", "9", str(2 ** 32 - 1)], "priority"),
-                                (6, [*NUMBERS, str(2 ** 64)], "number 6"), *((field, BAD_MASKS, f"mask {field}") for field in (7, 8, 9))]:
-        for text in texts:
-            yield turned(field, text), words
-    for text, words in BAD_HOPS:
-        yield turned(10, text), words
-    for field in range(2, 10):  # of two bad fields the first is named
-        if field < 9:
-            yield ",".join([*good[:field - 1], "x", "x", *good[field + 1:]]), f"{'address' if field in (3, 4) else 'mask' if field > 6 else 'number'} {field}"
-    yield ",".join([*good[:4], "8", "x", *good[6:]]), "priority"
-    yield ",".join([*good[:8], "x", "x"]), "mask 9"
-    yield turned(4, "1.1.1.1"), "same-ends"
-    yield ",".join([*good[:3], "1.1.1.1", *good[4:9], "x"]), "hops 1"  # ends are compared last
-    for row in ["place", "place,1", ",".join(good[:9]), ",".join([*good, ""]), ",".join(good[:9] + ["x", "y"]), "release", "release,1,", "release,1,1", "release,x,"]:
-        yield row, "fields"
-    for text in [*NUMBERS, str(2 ** 64)]:
-        yield f"release,{text}", "number 2"
-    for word in ["places", "Place", "PLACE", " place", "place ", "releases", "Release", " release", "released", "hold", "base", "lost", "over", "version", "#"]:
-        yield ",".join([word, *good[1:]]), "kind"
-        yield f"{word},1", "kind"
-
-
-def known():
-    """Streams with their lines, by the formats' words: refusals, ends of streams, and what no one means to send."""
-    bad = list(bad_rows())
-    rows = "".join(f"{row}\n" for row, _ in bad)
-    lines = "".join(f"row {at} refused: {words}\n" for at, (_, words) in enumerate(bad, 1))
-    yield "bad rows", rows, lines
-    moved = [lines.replace(f"row {at} ", f"row {at + 2} ") for lines, at in ((f"row {at} refused: {words}\n", at) for at, (_, words) in enumerate(bad, 1))]
-    yield "bad rows among open changes", CIRCUIT + rows + "end,1,2\n" + place(1), "".join(moved) + f"base 1 v1\nplace 1 v2 {DIRECT}\n"
-    yield "good rows beside them", BASE + "".join(
-        [place(2 ** 64 - 1, 0, 0), f"release,{2 ** 64 - 1}\n", place(0, 7, 1000, "0xFFFFFFFE,0xffffffff,0x1", "2.2.2.2/32s"), "release,0\n",
-         place(7, 7, 0, hops="ero:000c14010108020202022000"), '"place","7",1.1.1.1,2.2.2.2,"0",1,0x0,0x0,0x0,""\n', '"release",7']), (
-        f"base 1 v1\nplace {2 ** 64 - 1} v2 {DIRECT}\nreleased {2 ** 64 - 1} v3\nplace 0 v4 {DIRECT}\nreleased 0 v5\nplace 7 v6 {DIRECT}\n"
-        f"place 7 v7 {DIRECT}\nreleased 7 v8\n")
-    yield "nothing", "", ""
-    yield "carriage returns and empty lines", BASE.replace("\n", "\r\n\r\n") + place(1).replace("\n", "\r"), f"base 1 v1\nplace 1 v2 {DIRECT}\n"
-    yield "a byte order mark", "\xef\xbb\xbf" + BASE, "base 1 v1\n"
-    yield "bytes that are no text", "\xff\xfe\n\0\nrelease,\xb9\n", "row 1 refused: kind\nrow 2 refused: kind\nrow 3 refused: number 2\n"
-    yield "a quote that never closes", BASE + 'release,"1\n' + place(1), "base 1 v1\nrow 4 refused: number 2\n"
-    yield "fields of a megabyte", f"release,{'9' * 1_000_000}\n" + place("1" * 1_000_000), "row 1 refused: number 2\nrow 2 refused: number 2\n"
-    yield "unended", BASE + CIRCUIT + "release,1\n", "base 1 v1\nrelease 1 refused: absent\nunended 2\n"
-    yield "unended alone", "drop,1.1.1.1,10.0.0.1\n", "unended 1\n"
-    yield "the most rows", "drop,1.1.1.1,10.0.0.1\n" * 1_000_000, "unended 1000000\n"
-    yield "too many rows", "drop,1.1.1.1,10.0.0.1\n" * 1_000_001, "too many rows\n"
-    yield "too many rows behind a batch", BASE + "foo\n" + "drop,1.1.1.1,10.0.0.1\n" * 999_997, "base 1 v1\nrow 4 refused: kind\ntoo many rows\n"
-    yield "a count of 999,999", "drop,1.1.1.1,10.0.0.1\n" * 999_999 + "end,1,5\n", "batch 1 refused: counted 999999\n"
-    yield from known_batches()
-
-
-def address(top, number):
-    return f"{top}.{number >> 16 & 255}.{number >> 8 & 255}.{number & 255}"
-
-
-def known_batches():
-    """Batches at the limits, and one past them, after which a placement still stands."""
-    def put(start, local, end, remote="10.0.12.9"):
-        return f"put,{start},{local},{end},{remote},10,0x1,{FREE}\n"
-
-    def ended(rows, number):
-        return "".join(rows) + f"end,{number},{len(rows)}\n"
-
-    links = [put("1.1.1.1", address(11, at), "2.2.2.2") for at in range(16_383)]
-    begin, line = BASE + place(1), f"base 1 v1\nplace 1 v2 {DIRECT}\n"
-    last = "release,1\n"
-    yield "4,097 changes", begin + ended(links[:4097], 2) + last, line + "batch 2 refused: long\nreleased 1 v3\n"
-    yield "4,096 changes", begin + ended(links[:4096], 2) + last, line + "base 2 v3\nreleased 1 v4\n"
-    many = [ended(links[at * 4096:at * 4096 + 4096], at + 2) for at in range(4)]
-    yield "16,385 links", begin + "".join(many) + last, line + "base 2 v3\nbase 3 v4\nbase 4 v5\nbatch 5 refused: full\nreleased 1 v6\n"
-    pairs = [put(address(1, 2 * at + 2), "10.0.0.1", address(1, 2 * at + 3)) for at in range(512)]
-    yield "1,026 routers", begin + ended(pairs, 2) + ended(pairs[:511], 2) + last, line + "batch 2 refused: routers\nbase 2 v3\nreleased 1 v4\n"
-    marks = [f"node,{address(3, at)},0\n" for at in range(1025)]
-    yield "1,025 marks", begin + ended(marks, 2) + ended(marks[:1024], 2) + last, line + "batch 2 refused: marks\nbase 2 v3\nreleased 1 v4\n"
-
-
-def lowered(module):
-    """The lines of a reference whose limits are low, where they are met and passed."""
-    kept = module.MOST_PLACEMENTS, module.MOST_ROUTES_LINKS, module.MOST_VERSIONS
-    found = []
-    try:
-        module.MOST_PLACEMENTS = 2
-        found.append(module.book(BASE + place(1) + place(2) + place(3) + place(3, ends="1.1.1.1,9.9.9.9") + place(2, 0, 5) + "release,1\n" + place(3) + place(2) + place(1)))
-        module.MOST_PLACEMENTS, module.MOST_ROUTES_LINKS = 9, 3
-        line = "".join(f"put,{ends},10,0x1,{FREE}\n" for ends in (*ENDS, "2.2.2.2,10.0.23.2,3.3.3.3,10.0.23.3", "3.3.3.3,10.0.23.3,2.2.2.2,10.0.23.2"))
-        far = "1.1.1.1,3.3.3.3"
-        found.append(module.book(line + "end,1,4\n" + place(1, ends=far) + place(2, ends=far) + place(2) + place(3) + place(1, ends=far)
-                                 + place(3, bandwidth=0, hops="3.3.3.3/32l 1.1.1.1/32l") + place(2, ends=far) + place(4, bandwidth=2000) + "release,2\n" + place(3)))
-        module.MOST_ROUTES_LINKS, module.MOST_VERSIONS = 9, 3
-        found.append(module.book(BASE + place(1) + "release,2\n" + place(2) + place(3) + place(3, ends="8.8.8.8,9.9.9.9")
-                                 + f"release,1\nrelease,9\nend,1,0\nask,1,1.1.1.1,2.2.2.2,7,0,{MASKS},\n"))
-    finally:
-        module.MOST_PLACEMENTS, module.MOST_ROUTES_LINKS, module.MOST_VERSIONS = kept
-    return found
-
-
-TWO = "route cost=20 hops=2 again=no ero=0014140101080a000c02200001080a0017032000"
-LOWERED = [
-    (2, ["base 1 v1", f"place 1 v2 {DIRECT}", f"place 2 v3 {DIRECT}", "place 3 refused: full", "place 3 refused: full", f"place 2 v4 {DIRECT}", "released 1 v5",
-         f"place 3 v6 {DIRECT}", f"place 2 v7 {DIRECT}", "place 1 refused: full"]),
-    (2, ["base 1 v1", f"place 1 v2 {TWO}", "place 2 refused: links", f"place 2 v3 {DIRECT}", "place 3 refused: links", f"place 1 v4 {TWO}",
-         "place 3 refused: twice", "place 2 refused: links", "place 4 v4 none", "released 2 v5", f"place 3 v6 {DIRECT}"]),
-    (2, ["base 1 v1", f"place 1 v2 {DIRECT}", "release 2 refused: absent", f"place 2 v3 {DIRECT}", "place 3 refused: exhausted", "place 3 refused: exhausted",
-         "release 1 refused: exhausted", "release 9 refused: exhausted", "batch 1 refused: exhausted", f"ask 1 v3 {DIRECT}"]),
-]
 
 
 def streams(program, checks):
@@ -239,117 +71,6 @@ def full(path, checks):
     ran = subprocess.run([path, "book"], input=(rows + more).encode(), capture_output=True)
     checks.same("65,536 placements", (ran.returncode, ran.stdout, ran.stderr), (2, lines.encode(), b""))
     print(f"book: {most:,} placements on one circuit, {time.monotonic() - start:.0f} s")
-
-
-# ---- drawn streams
-
-
-class Drawn:
-    """A stream of rows of all kinds on a small network, from a seed. `links` has the far end of each link of the base, by its near end."""
-
-    def __init__(self, seed):
-        self.draw, self.rows, self.links, self.number = random.Random(seed), [], {}, 0
-        self.routers, self.has_marks, self.rises = self.draw.randrange(3, 7), seed % 3 == 2, seed % 4 == 3
-        ring = [(at, (at + 1) % self.routers) for at in range(self.routers)]
-        chords = [self.draw.sample(range(self.routers), 2) for _ in range(self.draw.randrange(1, 4))]
-        self.circuits = [((near, 2 * at), (far, 2 * at + 1)) for at, (near, far) in enumerate([*ring, *chords])]
-        self.batch([(near, far) for circuit in self.circuits for near, far in (circuit, circuit[::-1])])
-
-    def figures(self):
-        """The bandwidths of a link: all equal, falling with the priority, or any."""
-        some = [self.draw.choice([0, 300, 500, 700, 1000, 1000, 2 ** 64 - 1]) for _ in range(8)]
-        if self.rises and self.draw.random() < 0.5:
-            return some
-        return sorted(some, reverse=True) if self.draw.random() < 0.2 else [self.draw.choice([200, 600, 1000, 1000])] * 8
-
-    def batch(self, changes):
-        """A batch of links that are put, by both ends, or dropped, with no far end. Some are refused."""
-        before, rows = dict(self.links), []
-        for near, far in dict(changes).items():
-            group = self.draw.choice([1, 1, 1, 1, 1, 2, 3])
-            rows.append(row_of(near, far, f"{self.draw.choice([1, 1, 2, 5])},0x{group:x},{','.join(map(str, self.figures()))}"))
-            self.links.pop(near, None) if far is None else self.links.update({near: far})
-        self.draw.shuffle(rows)
-        if self.has_marks and self.number:
-            mixed(self.draw, rows, mark_rows(self.draw, self.routers, self.draw.choice([0, 1, 1, 2])))
-        self.rows += rows
-        if self.number and self.draw.random() < 0.15:
-            self.links = before
-            self.rows += self.draw.choice([
-                [f"end,{self.number + 2},{len(rows)}"], [f"end,{self.number},{len(rows)}"], [f"end,{self.number + 1},{len(rows) + 1}"],
-                ["drop,9.9.9.9,9.9.9.9", f"end,{self.number + 1},{len(rows) + 1}"],
-                ["node,9.9.9.9,0", "node,9.9.9.9,1", f"end,{self.number + 1},{len(rows) + 2}"]])
-            return
-        self.number += 1
-        self.rows.append(f"end,{self.number},{len(rows)}")
-
-    def changes(self):
-        """What a batch changes of a circuit: it fails, in one direction or in both, returns, has other attributes, another end, or another address."""
-        near, far = self.draw.choice(self.circuits)[::self.draw.choice([1, -1])]
-        kind = self.draw.choices(["put", "again", "fail", "withdraw", "turn", "renumber"], [8, 4, 3, 1, 1, 1])[0]
-        if kind in ("put", "again"):
-            return [(near, far), (far, near)][:1 if kind == "again" else 2]
-        if kind in ("fail", "withdraw"):
-            return [(end, None) for end in ((near, far) if kind == "fail" else (near,)) if end in self.links]
-        other = (self.draw.choice([router for router in range(self.routers) if router != near[0]]) if kind == "turn" else far[0], 40 + near[1])
-        return [(near, other), (other, near)]
-
-    def request(self, kind, name, priority):
-        start, end = self.draw.sample(range(self.routers + (self.draw.random() < 0.03)), 2)
-        count = self.draw.choice([0, 0, 0, 0, 0, 1, 1, 2, 3])
-        parts = hop_list(self.draw, count) if self.draw.random() < 0.8 or not count else object_text([subobject(self.draw) for _ in range(count)])
-        if count and self.draw.random() < 0.8:  # loose hops at single routers, so that routes turn back
-            parts = " ".join(f"10.0.0.{self.draw.randrange(self.routers)}/32l" for _ in range(count))
-        masks = ",".join(self.draw.choice(["0x0"] * 12 + more) for more in (["0x2"], ["0x1", "0x3"], ["0x1"]))
-        return f"{kind},{name},10.0.0.{start},10.0.0.{end},{priority},{self.draw.choice(BANDWIDTHS)},{masks},{parts}"
-
-    def step(self):
-        """Some rows more."""
-        kind = self.draw.choices(["place", "ask", "release", "batch", "bad"], [50, 15, 8, 16, 3])[0]
-        if kind in ("place", "ask"):
-            self.rows.append(self.request(kind, self.draw.choice(IDS), self.draw.randrange(8)))
-        elif kind == "release":
-            self.rows.append(f"release,{self.draw.choice(IDS)}")
-        elif kind == "batch":
-            self.batch([one for _ in range(self.draw.choice([0, 1, 1, 2])) for one in self.changes()])
-        else:
-            self.rows.append(self.draw.choice([row for row, _ in BAD]))
-
-
-BAD = list(bad_rows())
-
-
-def drawn_stream(seed, count=ROWS):
-    drawn = Drawn(seed)
-    while len(drawn.rows) < count:
-        drawn.step()
-    return "".join(f"{row}\n" for row in drawn.rows[:count])
-
-
-def kinds_of(rows, lines):
-    """How often the lines of a stream say each thing that a book may say."""
-    said, placed = collections.Counter(), set()
-    for line in lines:
-        words = line.split()
-        if words[0] == "place" and "route" in words:
-            said["placed again" if words[1] in placed else "placed"] += 1
-            placed.add(words[1])
-        elif words[0] == "place" and "refused:" not in words:
-            said[f"{words[3]}, and one stays" if words[1] in placed else words[3]] += 1
-        elif words[0] == "released":
-            said["released"] += 1
-            placed.discard(words[1])
-        elif "refused:" in words:
-            said[f"{words[0]} refused: {words[3]}"] += 1
-        else:
-            said[words[0]] += 1
-    said["rows"] += rows.count("\n")
-    return said
-
-
-WANTED = {"placed": 400, "placed again": 400, "none": 100, "none, and one stays": 100, "released": 200, "over": 200, "lost": 200, "base": 500, "ask": 1000,
-          "place refused: twice": 20, "release refused: absent": 100, "batch refused: expected": 20, "batch refused: counted": 10, "batch refused: absent": 20,
-          "batch refused: duplicate": 10, "unknown-from": 5, "unknown-to": 5, "unended": 3}
 
 
 def drawn(program, checks):
@@ -394,10 +115,6 @@ def released(program, checks):
         for lines in outcomes:
             lines[:] = [" ".join([*line.split()[:2], *line.split()[3:]]) for line in lines]
         checks.true(f"a book whose placements are all released {seed}", all(lines == outcomes[0] for lines in outcomes), outcomes)
-
-
-def stream(rows):
-    return "".join(f"{row}\n" for row in rows)
 
 
 def large_rows():

@@ -11,7 +11,6 @@ import os
 import random
 import re
 import resource
-import select
 import signal
 import subprocess
 import tempfile
@@ -19,21 +18,17 @@ import threading
 import time
 
 from program.refusal import COMPILER, Refuser
+from program.served_bytes import streams
+from program.serving import AT, BATCHES, CLIENTS, MOMENT, PATIENCE, ROUTERS, Serving, ask_on, batches_of, circuit_at, judged, reply_at, wait_for
 from reference import changes
-from reference.formats import Network, Refused, batch_text, ended, records, row, solve
 from reference.versions import Versions
 
-ROUTERS, BATCHES = 12, 60
-CLIENTS = 64  # the most of one run
 SILENT = 600  # requests by a client that doesn't read, more than its pipes hold
 NARROW = 4096  # bytes that these hold
 LONGEST = 1 << 20  # the most bytes of a client's line
 REFUSED, AT_ONCE = 70_000, 500  # rows of one stream that are refused, and those of them that are sent before their lines are read
-STREAMS, STREAM_CLIENTS = 30, 6  # runs over streams of any bytes, and the clients of each
 FRESH = ((2, 1500), (CLIENTS, 100))  # the clients of a run, and its batches
 KILLS, TERMINATED = 100, 10  # runs that are killed, and every so many of them by SIGTERM
-MOMENT, PATIENCE = 0.01, 60  # seconds: between batches and before a kill at most, and that a line is awaited
-AT = re.compile(r"ask \d+ v(\d+) ")
 
 
 def served(program, checks):
@@ -63,141 +58,6 @@ def served(program, checks):
         refusals(program, checks, folder("refusals"))
         kills(program, checks, folder("kills"), versions, draw)
     print(f"served: {CLIENTS} clients, {KILLS} kills, {time.monotonic() - start:.0f} s")
-
-
-# ---- runs
-
-
-class Lines:
-    """The lines of a stream, each awaited."""
-
-    def __init__(self, file):
-        self.file, self.left = file, b""
-
-    def next(self):
-        """The next line, or what stands behind the last one, '' at the end."""
-        while b"\n" not in self.left:
-            if not select.select([self.file], [], [], PATIENCE)[0]:
-                raise TimeoutError(f"no line in {PATIENCE} s")
-            more = os.read(self.file, 1 << 16)
-            if not more:
-                break
-            self.left += more
-        line, feed, self.left = self.left.partition(b"\n")
-        return (line + feed).decode("latin-1")
-
-    def rest(self):
-        return list(iter(self.next, ""))
-
-
-class Serving:
-    """A run of `routed serve`: its stream 0 is that of the updates, and the others are those of clients, over pipes with names."""
-
-    def __init__(self, program, room, clients, *more, stdin=subprocess.PIPE, stdout=subprocess.PIPE, **how):
-        self.journal, self.killed = os.path.join(room, "journal"), False
-        self.rows, self.lines, words = [None], [None], [program.path, "serve", "--journal", self.journal, *more]
-        for number in range(1, clients + 1):
-            names = [os.path.join(room, f"{kind}{number}") for kind in ("rows", "lines")]
-            for name in names:
-                os.mkfifo(name)
-            self.rows.append(os.open(names[0], os.O_RDWR))  # both ends, so that this doesn't wait for the run
-            self.lines.append(Lines(os.open(names[1], os.O_RDONLY | os.O_NONBLOCK)))
-            os.set_blocking(self.lines[-1].file, True)
-            words += ["--client", "=".join(names)]
-        self.child = subprocess.Popen(words, stdin=stdin, stdout=stdout, stderr=subprocess.PIPE, bufsize=0, **how)
-        if stdin == subprocess.PIPE:
-            self.rows[0] = os.dup(self.child.stdin.fileno())
-            self.child.stdin.close()
-        if stdout == subprocess.PIPE:
-            self.lines[0] = Lines(os.dup(self.child.stdout.fileno()))
-            self.child.stdout.close()
-
-    def __enter__(self):
-        """Waits for the journal, which is opened last."""
-        end = time.monotonic() + PATIENCE
-        while not os.path.exists(self.journal) and self.child.poll() is None and time.monotonic() < end:
-            time.sleep(0.0005)
-        return self
-
-    def __exit__(self, *fault):
-        self.child.kill()
-        self.child.wait()
-        self.child.stderr.close()
-        for number in range(len(self.rows)):
-            self.close_rows(number)
-            self.close_lines(number)
-
-    def say(self, number, rows):
-        data = rows.encode("latin-1")
-        while data:
-            data = data[os.write(self.rows[number], data):]
-
-    def hear(self, number):
-        return self.lines[number].next()
-
-    def talk(self, number, rows):
-        self.say(number, rows)
-        return self.hear(number)
-
-    def close_rows(self, number):
-        if self.rows[number] is not None:
-            os.close(self.rows[number])
-        self.rows[number] = None
-
-    def close_lines(self, number):
-        if self.lines[number] is not None:
-            os.close(self.lines[number].file)
-        self.lines[number] = None
-
-    def leave(self, number):
-        """Ends a stream's rows, and hears its lines to their end."""
-        self.close_rows(number)
-        return "".join(self.lines[number].rest())
-
-    def end(self):
-        """Ends all streams: what each still says, that of the updates first; the status, and standard error."""
-        for number in range(len(self.rows)):
-            self.close_rows(number)
-        said = ["".join(lines.rest()) for lines in self.lines if lines]
-        return said, self.child.wait(PATIENCE), self.child.stderr.read().decode()
-
-    def kept(self):
-        """What the journal holds."""
-        with open(self.journal, encoding="latin-1") as kept:
-            return kept.read()
-
-
-def batches_of(versions):
-    """The rows of each batch, as one text."""
-    return [text[len(before):] for before, text in itertools.pairwise(versions.texts)]
-
-
-def ask_on(run, number, versions, told, done, found):
-    """Asks on one client until it is done or the run ends: each line with the version that was told before its row was written."""
-    for at in itertools.count():
-        if done.is_set() and at % len(versions.asks) == 0:
-            return
-        before = told[0]
-        try:
-            line = run.talk(number, f"{versions.asks[at % len(versions.asks)]}\n")
-        except (BrokenPipeError, TimeoutError) as fault:
-            line = str(fault)
-        if run.killed and not line.endswith("\n"):
-            return
-        found.append((before, line))
-        if not line.endswith("\n"):  # the check of its replies fails
-            return
-
-
-def judged(checks, name, versions, found, last=None):
-    """Each reply is the reference's at its version, which doesn't fall, isn't below what was told before, nor above the last one."""
-    least, right = 0, versions.are_right([line.rstrip("\n") for _, line in found])
-    for before, line in found:
-        named = AT.match(line)
-        version = int(named[1]) if named else -1
-        right, least = right and version >= max(before, least), version
-    checks.true(name, right and (last is None or least <= last), (last, found[-3:]))
-    return least
 
 
 # ---- dialogues
@@ -401,12 +261,6 @@ def hung_up(program, checks, room):
         checks.same("to its end", child.returncode, 0)
 
 
-def wait_for(test):
-    end = time.monotonic() + PATIENCE
-    while not test() and time.monotonic() < end:
-        time.sleep(0.0005)
-
-
 def refusals(program, checks, room):
     """What the command line refuses, and files that can't be had: nothing is made then."""
     there, missing = os.path.join(room, "there"), "error: the following required arguments were not provided:"
@@ -460,82 +314,6 @@ def refusals(program, checks, room):
             checks.same(f"serve with {name} {more}", found, (3, b"", f"{said}routed: stopped\n".encode()))
     with open(there, encoding="ascii") as file:
         checks.same("nothing is made or changed then", (os.listdir(room), file.read()), (["there"], "kept\n"))
-
-
-# ---- rows of any bytes
-
-
-def published(rows):
-    """The networks from version 0 on that the updates publish, and the journal."""
-    networks, changed, journal = [Network()], [], ""
-    for fields in records(rows):
-        try:
-            kind, content = row(fields)
-            if kind == "end":
-                some, changed = changed, []
-                networks.append(ended(networks[-1], len(networks) - 1, some, content))
-                journal += batch_text(content["number"], some)
-            elif kind != "ask":
-                changed.append((kind, content))
-        except Refused:
-            pass
-    return networks, journal
-
-
-def client_lines(networks, rows, found):
-    """The lines of a client with these rows, each at the version that the found one names where that may be."""
-    named, version, lines = iter(AT.match(line) for line in found if line.startswith("ask ")), 0, []
-    for place, fields in enumerate(records(rows), 1):
-        try:
-            kind, content = row(fields)
-            if kind != "ask":
-                raise Refused("kind")
-            at = next(named, None)
-            version = max(version, min(int(at[1]), len(networks) - 1) if at else 0)
-            lines.append(networks[version].answer(version, content))
-        except Refused as words:
-            lines.append(f"row {place} refused: {words}")
-    return lines
-
-
-def drawn_rows(draw):
-    """Rows of a client: mostly requests with some bytes changed, also whole scripts, and bytes of any kind."""
-    kind = draw.randrange(8)
-    if kind == 0:
-        return "".join(chr(draw.choice([10, 10, 13, 34, 44, draw.randrange(256)])) for _ in range(draw.randrange(300)))
-    return changes.changed(draw, changes.script(draw) if kind < 4 else changes.requests(draw))[0]
-
-
-def fit(rows):
-    """The rows of a client that are whole before a quotation mark."""
-    before, mark, _ = rows.partition('"')
-    return before[:max(before.rfind("\n"), before.rfind("\r")) + 1] if mark else rows
-
-
-def streams(program, checks, room, draw):
-    """Rows of any bytes on all streams at once: lines, journal and status are those of the formats."""
-    refused = 0
-    for run in range(STREAMS):
-        updates = changes.changed(draw, changes.script(draw))[0]
-        given, journal = [drawn_rows(draw) for _ in range(STREAM_CLIENTS)], os.path.join(room, f"journal{run}")
-        words, outs, ends = ["serve", "--explain", "--journal", journal], [], ""
-        for number, rows in enumerate(given, 1):
-            name = os.path.join(room, f"{run}.{number}")
-            with open(name, "wb") as file:
-                file.write(rows.encode("latin-1"))
-            outs.append(f"{name}.out")
-            words += ["--client", f"{name}={name}.out"]
-            ends += f"routed: client {number}: {name}: a quotation mark\n" if '"' in rows else ""
-        status, out, errors = program.run(words, updates.encode("latin-1"))
-        (own, lines), (networks, text) = solve(updates), published(updates)
-        found = [open(name, encoding="latin-1").read().splitlines() for name in outs]
-        wanted = [client_lines(networks, fit(rows), told) for rows, told in zip(given, found)]
-        bad = any(line.startswith("row ") for told in wanted for line in told)
-        checks.same(f"clients of any bytes {run}", found, wanted)
-        checks.same(f"updates of any bytes {run}", (status, out.decode("latin-1").splitlines(), errors.decode()), (2 if bad else own, lines, ends))
-        checks.same(f"the journal of any bytes {run}", open(journal, encoding="latin-1").read(), text)
-        refused += bad + own
-    checks.true("rows of any bytes are refused", refused > STREAMS, refused)
 
 
 # ---- kills
@@ -594,20 +372,6 @@ def update(run, versions, told, draw):
             if line == f"version {told[0] + 1}\n":
                 told[0] += 1
             time.sleep(draw.random() * MOMENT if draw else 0)
-
-
-# ---- freshness
-
-
-def circuit_at(version):
-    """The batch of this number, which gives a circuit that metric from its first end."""
-    near, far, rest = "1.1.1.1,10.0.12.1", "2.2.2.2,10.0.12.2", "0x00000001,5,5,5,5,5,5,5,5"
-    return f"put,{near},{far},{version},{rest}\nput,{far},{near},10,{rest}\nend,{version},2\n"
-
-
-def reply_at(name, version):
-    """The reply to a request over that circuit."""
-    return f"ask {name} v{version} route cost={version} hops=1 again=no ero=000c140101080a000c022000\n"
 
 
 def fresh(checks, serving, clients, batches):

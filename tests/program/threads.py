@@ -18,7 +18,7 @@ import time
 
 from checks import TOP
 from program.refusal import COMPILER, Refuser
-from program.served import CLIENTS, PATIENCE
+from program.serving import CLIENTS, PATIENCE
 from reference import formats
 from tools.listened import Front
 

@@ -13,7 +13,7 @@ import tempfile
 
 from checks import TOP
 from program.refusal import COMPILER
-from program.served import Serving, batches_of
+from program.serving import Serving, batches_of
 from program.tables import ran_live, table
 from reference import changes, formats
 from reference.versions import Versions

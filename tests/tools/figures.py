@@ -14,7 +14,7 @@ import time
 
 from checks import TOOLS, TOP
 from feed import rows as feeds
-from program.served import PATIENCE
+from program.serving import PATIENCE
 from tools.listened import CLIENTS, Connection, Front, admitted, busy
 
 from routed.front import metrics, status

@@ -21,7 +21,7 @@ import threading
 import time
 
 from checks import TOOLS, TOP
-from program.served import BATCHES, CLIENTS, PATIENCE, ROUTERS, Lines, batches_of, circuit_at, judged, reply_at, wait_for
+from program.serving import BATCHES, CLIENTS, PATIENCE, ROUTERS, Lines, batches_of, circuit_at, judged, reply_at, wait_for
 from program.snapshots import snapshot_of
 from reference import changes
 from reference.formats import publish, whole_batches

@@ -14,7 +14,7 @@ import time
 import types
 
 from checks import TOP
-from tools.sweeps import A, ASKS, B, BEFORE, DROPS, HANGS, OF_CIRCUITS, OF_ROUTERS, RING, SWEEP, THIRD, ask, link, sweep, wrapped
+from tools.ring import A, ASKS, B, BEFORE, DROPS, HANGS, OF_CIRCUITS, OF_ROUTERS, RING, SWEEP, THIRD, ask, link, sweep, wrapped
 
 from routed.model.networks import Stopped, read_requests
 from routed.sweep.machines import Connections, Lost

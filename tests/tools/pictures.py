@@ -12,7 +12,7 @@ import xml.etree.ElementTree as xml
 
 from checks import TOOLS, TOP
 from tools.measured import by_browser, by_table, faults
-from tools.sweeps import BEFORE, OF_CIRCUITS
+from tools.ring import BEFORE, OF_CIRCUITS
 
 SVG = "{http://www.w3.org/2000/svg}"
 FREE = ",".join(["1000"] * 8)

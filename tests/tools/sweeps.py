@@ -1,7 +1,6 @@
 """Tests of routed-tools sweep and routed-tools join: failures worked by hand, failures by tests/reference/formats.py, several jobs, parts, and what is refused."""
 import contextlib
 import hashlib
-import itertools
 import os
 import pty
 import random
@@ -9,122 +8,16 @@ import re
 import subprocess
 import sys
 import tempfile
-import textwrap
 import time
 
 from checks import TOOLS, TOP
 from reference.changes import counts_mended
-from reference.formats import Refused, address_number, address_text, publish, requests_of, whole_batches
+from reference.formats import Refused, address_number, address_text, publish, whole_batches
+from reference.sweeps import plain
+from tools.ring import A, AB, AD, ASKS, B, BC, BEFORE, C, CD, D, DROPS, FIRST, HANGS, MASKS, OF_CIRCUITS, OF_PAIRS, OF_ROUTERS, RING, SWEEP, THIRD, ask, circuit, facts, journal, link, sweep, wrapped
 
 from routed.sweep.failures import Network
 from routed.sweep.solving import MOST_ROWS, Solve
-
-SWEEP = [TOOLS, "sweep"]
-MASKS = "0x0,0x0,0x0"
-
-
-def link(router, local, neighbor, remote, metric=10, group="0x1", free=100):
-    return f"put,{router},{local},{neighbor},{remote},{metric},{group},{','.join([str(free)] * 8)}\n"
-
-
-def circuit(one, other, metric=10, group="0x1", free=100):
-    """Both directions between the routers of these numbers, the lower first."""
-    ends = [(f"{number}.{number}.{number}.{number}", f"10.0.{one}{other}.{number}") for number in (one, other)]
-    return link(*ends[0], *ends[1], metric, group, free) + link(*ends[1], *ends[0], metric, group, free)
-
-
-def journal(*puts):
-    rows = "".join(puts)
-    return f"{rows}end,1,{len(rows.splitlines())}\n"
-
-
-def ask(name, head, tail, setup=7, bandwidth=60, masks=MASKS, hops=""):
-    return f"ask,{name},{head},{tail},{setup},{bandwidth},{masks},{hops}\n"
-
-
-A, B, C, D = "1.1.1.1", "2.2.2.2", "3.3.3.3", "4.4.4.4"
-AB, AD, BC, CD = (f"circuit {one}.{one}.{one}.{one} 10.0.{one}{two}.{one} {two}.{two}.{two}.{two} 10.0.{one}{two}.{two}"
-                  for one, two in ((1, 2), (1, 4), (2, 3), (3, 4)))
-RING = journal(circuit(1, 2), circuit(2, 3), circuit(3, 4), circuit(1, 4, 15, "0x2"))
-ASKS = ask(1, A, C) + ask(2, A, B, setup=3) + ask(3, D, A, bandwidth=30, masks="0x0,0x2,0x0") + ask(4, A, C, bandwidth=101)
-FULL = "priority=7 asked=60 above=60 unreserved=100"
-A_TO_B = f"overbooked {A} 10.0.12.1 {B} 10.0.12.2 {FULL}"
-BEFORE = f"""network version=1 routers=4 links=8 circuits=4 requests=4
-before without request 4 none
-before {A_TO_B}
-before routes=3 without=1 overbooked=1
-"""
-RANKED = f"""most requests 1 scenario 2 lost=1 longer=0 bandwidth=30 out {AD}
-most requests 2 scenario 1 lost=0 longer=2 bandwidth=0 out {AB}
-most requests 3 scenario 3 lost=0 longer=1 bandwidth=0 out {BC}
-most bandwidth 1 scenario 2 lost=1 longer=0 bandwidth=30 out {AD}
-most failures 1 request 1 lost=0 longer=2
-most failures 2 request 3 lost=1 longer=0
-most failures 3 request 2 lost=0 longer=1
-"""
-OF_CIRCUITS = f"""scenario 1 out {AB}
-scenario 1 longer request 1 cost=25 was=20 more=5
-scenario 1 longer request 2 cost=35 was=10 more=25
-scenario 1 overbooked {A} 10.0.14.1 {D} 10.0.14.4 {FULL}
-scenario 1 overbooked {D} 10.0.34.4 {C} 10.0.34.3 {FULL}
-scenario 1 lost=0 longer=2 most=25 overbooked=2
-scenario 2 out {AD}
-scenario 2 lost request 3 none was=15
-scenario 2 lost=1 longer=0 most=0 overbooked=0
-scenario 3 out {BC}
-scenario 3 longer request 1 cost=25 was=20 more=5
-scenario 3 lost=0 longer=1 most=5 overbooked=0
-scenario 4 out {CD}
-scenario 4 lost=0 longer=0 most=0 overbooked=0
-{RANKED}scenarios=4 lost=1 longer=2 overbooked=1
-"""
-OF_ROUTERS = f"""scenario 1 out router {A}
-scenario 1 lost request 1 unknown-from was=20
-scenario 1 lost request 2 unknown-from was=10
-scenario 1 lost request 3 unknown-to was=15
-scenario 1 lost=3 longer=0 most=0 overbooked=0
-scenario 2 out router {B}
-scenario 2 lost request 2 unknown-to was=10
-scenario 2 longer request 1 cost=25 was=20 more=5
-scenario 2 lost=1 longer=1 most=5 overbooked=0
-scenario 3 out router {C}
-scenario 3 lost request 1 unknown-to was=20
-scenario 3 lost=1 longer=0 most=0 overbooked=0
-scenario 4 out router {D}
-scenario 4 lost request 3 unknown-from was=15
-scenario 4 lost=1 longer=0 most=0 overbooked=0
-most requests 1 scenario 1 lost=3 longer=0 bandwidth=150 out router {A}
-most requests 2 scenario 2 lost=1 longer=1 bandwidth=60 out router {B}
-most requests 3 scenario 3 lost=1 longer=0 bandwidth=60 out router {C}
-most requests 4 scenario 4 lost=1 longer=0 bandwidth=30 out router {D}
-most bandwidth 1 scenario 1 lost=3 longer=0 bandwidth=150 out router {A}
-most bandwidth 2 scenario 2 lost=1 longer=1 bandwidth=60 out router {B}
-most bandwidth 3 scenario 3 lost=1 longer=0 bandwidth=60 out router {C}
-most bandwidth 4 scenario 4 lost=1 longer=0 bandwidth=30 out router {D}
-most failures 1 request 1 lost=2 longer=1
-most failures 2 request 2 lost=2 longer=0
-most failures 3 request 3 lost=2 longer=0
-scenarios=4 lost=4 longer=1 overbooked=0
-"""
-OF_PAIRS = "".join(f"scenario {place} out {one}\nscenario {place} out {other}\nscenario {place} {counts}\n" for place, one, other, counts in (
-    (1, AB, AD, "lost=3 longer=0 most=0 overbooked=0"), (2, AB, BC, "lost=1 longer=1 most=5 overbooked=0"),
-    (3, AB, CD, "lost=2 longer=0 most=0 overbooked=0"), (4, AD, BC, "lost=2 longer=0 most=0 overbooked=0"),
-    (5, AD, CD, "lost=1 longer=0 most=0 overbooked=0"), (6, BC, CD, "lost=1 longer=0 most=0 overbooked=0")))
-
-
-def sweep(program, rows, asks, *words):
-    """Status, standard output and standard error of one sweep; a path is `program`, or a shell script beside it."""
-    with tempfile.TemporaryDirectory() as room:
-        for name, text in (("journal", rows), ("requests", asks)):
-            with open(os.path.join(room, name), "w", newline="") as file:
-                file.write(text)
-        ran = subprocess.run([*SWEEP, f"{room}/journal", f"{room}/requests", "--program", program, *words], capture_output=True, text=True)
-        return ran.returncode, ran.stdout, ran.stderr
-
-
-def facts(program, rows, asks, pattern, *words):
-    """The lines of a sweep in which the pattern is found, without the ranked ones."""
-    return [line for line in sweep(program.path, rows, asks, *words)[1].splitlines() if re.search(pattern, line) and not line.startswith("most ")]
 
 
 def ring(program, checks):
@@ -231,88 +124,6 @@ def loads(program, checks):
         checks.same(name, mine, of(place, wanted).splitlines())
 
 
-def plain(rows, asks, fail):
-    """What a sweep says, from the routes of tests/reference/formats.py as they are, with no object read and each request asked in each scenario."""
-    network, requests = publish(whole_batches(rows))[0][-1], requests_of(asks)
-    version = len(whole_batches(rows))
-    links = {key: network.links[key] for key in sorted(network.links)}
-
-    def name(key):
-        return " ".join(address_text(number) for number in (*key, links[key]["to"], links[key]["remote"]))
-
-    def answers(out):
-        left = type(network)({key: found for key, found in links.items() if key not in out}, network.marks)
-        walks = [left.least(request) for request in requests]
-        return [(walk is None and left.answer(0, request).split(" ", 3)[3], walk) for request, walk in zip(requests, walks)]
-
-    def overbooked(found):
-        """By link and priority, what is asked there and above, and its words."""
-        full = {}
-        for key in links:
-            taken = [(request["setup"], request["bandwidth"]) for request, (_, walk) in zip(requests, found)
-                     for each in walk or () if (each["from"], each["local"]) == key]
-            for priority in sorted({setup for setup, _ in taken}):
-                asked = sum(bandwidth for setup, bandwidth in taken if setup == priority)
-                above = sum(bandwidth for setup, bandwidth in taken if setup < priority)
-                free = links[key]["free"][priority]
-                if asked + above > free:
-                    full[key, priority] = asked + above, f"overbooked {name(key)} priority={priority} asked={asked} above={above} unreserved={free}"
-        return full
-
-    def cost(walk):
-        return sum(each["metric"] for each in walk)
-
-    ends = {key: (each["to"], each["remote"]) for key, each in links.items()}
-    whole = {frozenset((key, end)) for key, end in ends.items() if ends.get(end) == key}
-    circuits = sorted([sorted(keys) for keys in whole] + [[key] for key in links if not any(key in keys for keys in whole)])
-    if fail == "routers":
-        failing = [[(f"router {address_text(router)}", [key for key in links if router in (key[0], links[key]["to"])])]
-                   for router in sorted(network.routers())]
-    else:
-        named = [(f"{'circuit' if len(keys) == 2 else 'link'} {name(keys[0])}", keys) for keys in circuits]
-        failing = [[part] for part in named] if fail == "circuits" else list(itertools.combinations(named, 2))
-    base = answers(())
-    before, without = overbooked(base), [(request, word) for request, (word, walk) in zip(requests, base) if walk is None]
-    yield f"network version={version} routers={len(network.routers())} links={len(links)} circuits={len(circuits)} requests={len(requests)}"
-    yield from (f"before without request {request['id']} {word}" for request, word in without)
-    yield from (f"before {fact}" for _, fact in before.values())
-    yield f"before routes={len(requests) - len(without)} without={len(without)} overbooked={len(before)}"
-    totals, done = [0, 0, 0], []
-    for place, scenario in enumerate(failing, 1):
-        found = answers({key for _, keys in scenario for key in keys})
-        both = [(request["id"], old, word, new) for request, (_, old), (word, new) in zip(requests, base, found) if old is not None]
-        lost = [f"lost request {at} {word} was={cost(old)}" for at, old, word, new in both if new is None]
-        longer = [(at, cost(new), cost(old)) for at, old, _, new in both if new is not None and cost(new) > cost(old)]
-        full = [fact for at, (taken, fact) in overbooked(found).items() if at not in before or taken > before[at][0]]
-        most = max([new - old for _, new, old in longer], default=0)
-        done.append((place, [request for request, (_, old), (_, new) in zip(requests, base, found) if old is not None and new is None],
-                     [request for at, _, _ in longer for request in requests if request["id"] == at], " and ".join(part for part, _ in scenario)))
-        for fact in (*(f"out {part}" for part, _ in scenario), *lost,
-                     *(f"longer request {at} cost={new} was={old} more={new - old}" for at, new, old in longer), *full,
-                     f"lost={len(lost)} longer={len(longer)} most={most} overbooked={len(full)}"):
-            yield f"scenario {place} {fact}"
-        totals = [total + bool(counted) for total, counted in zip(totals, (lost, longer, full))]
-    yield from plain_ranking(done)
-    yield f"scenarios={len(failing)} lost={totals[0]} longer={totals[1]} overbooked={totals[2]}"
-
-
-def plain_ranking(done):
-    """The ranked lines, from all scenarios: each its place, the requests that are lost, those that get longer, and what is out."""
-    def bandwidth(lost):
-        return sum(request["bandwidth"] for request in lost)
-
-    def lines(kind, order):
-        for rank, (place, lost, longer, out) in enumerate(order[:10], 1):
-            yield f"most {kind} {rank} scenario {place} lost={len(lost)} longer={len(longer)} bandwidth={bandwidth(lost)} out {out}"
-
-    yield from lines("requests", sorted((each for each in done if each[1] or each[2]), key=lambda each: (-len(each[1]), -len(each[2]))))
-    yield from lines("bandwidth", sorted((each for each in done if each[1]), key=lambda each: (-bandwidth(each[1]), -len(each[1]), -len(each[2]))))
-    counts = [(request["id"], sum(request in each[1] for each in done), sum(request in each[2] for each in done))
-              for request in {request["id"]: request for each in done for request in each[1] + each[2]}.values()]
-    for rank, (at, lost, longer) in enumerate(sorted(counts, key=lambda each: (-each[1] - each[2], -each[1], each[0]))[:10], 1):
-        yield f"most failures {rank} request {at} lost={lost} longer={longer}"
-
-
 def compared(program, checks):
     """The NSFNET backbone and drawn networks, whole outputs, by one job and by three."""
     rows, asks = (open(os.path.join(TOP, f"examples/nsfnet.{kind}"), encoding="ascii").read() for kind in ("journal", "requests"))
@@ -380,56 +191,6 @@ def object_of(hops):
     parts = [(address_number(at).to_bytes(4, "big"), int(bits[:-1]), bits[-1] == "l") for at, bits in (hop.split("/") for hop in hops)]
     data = b"".join(bytes([1 | is_loose << 7, 8, *at, bits, 0]) for at, bits, is_loose in parts)
     return f"ero:{((4 + len(data)).to_bytes(2, 'big') + bytes([20, 1]) + data).hex()}"
-
-
-WRAPPED = """#!{python}
-import os, signal, subprocess, sys, time
-room, words = {room!r}, sys.argv[1:]
-sys.stdout.reconfigure(write_through=False)  # a line is one write, also under PYTHONUNBUFFERED
-if words[0] != "solve":
-{first}
-    os.execv({program!r}, ["routed", *words])
-def touch(name):
-    open(f"{{room}}/{{name}}", "w").close()
-def wait(until):
-    end = time.monotonic() + 60
-    while not until():
-        if time.monotonic() > end:
-            os._exit(9)
-        time.sleep(0.01)
-def stop(status, text=""):
-    running.stdin.close()
-    running.wait()  # so that none of its lines comes behind the text
-    sys.stderr.write(text)
-    sys.stderr.flush()
-    os._exit(status)
-running = subprocess.Popen([{program!r}, "solve"], stdin=subprocess.PIPE)
-touch(f"solve.{{os.getpid()}}")
-for count, row in enumerate(iter(sys.stdin.readline, ""), 1):
-    row = row.rstrip("\\n")
-{script}
-    running.stdin.write(f"{{row}}\\n".encode())
-    running.stdin.flush()
-running.stdin.close()
-sys.exit(running.wait())
-"""
-
-
-def wrapped(program, room, script="", first=""):
-    """A program that is `routed`, and does in `solve` what the script says of each `row`, and in other commands first what `first` says."""
-    path = os.path.join(room, "wrapped")
-    with open(path, "w") as file:
-        file.write(WRAPPED.format(python=sys.executable, room=room, program=program.path,
-                                  script=textwrap.indent(script, "    "), first=textwrap.indent(first, "    ")))
-    os.chmod(path, 0o755)
-    return path
-
-
-DROPS = 'if row.startswith("drop,"):\n    '  # in a scenario
-HANGS = DROPS + ('print(os.getpid(), os.getppid(), file=open(room + "/new", "w"), flush=True); '
-                 'os.rename(room + "/new", room + "/hangs"); time.sleep(600)')
-FIRST = 'if row == "drop,1.1.1.1,10.0.12.1":\n    '  # in the first one of the ring
-THIRD = 'if row == "drop,2.2.2.2,10.0.23.2":\n    '
 
 
 def jobs(program, checks):
@@ -510,7 +271,7 @@ def small(room, rows, asks, most, program):
     for name, text in (("journal", rows), ("asks", asks)):
         with open(f"{room}/{name}", "w", encoding="ascii") as file:
             file.write(text)
-    code = ("import sys\nfrom routed import failures, solving, sweep\n"
+    code = ("import sys\nfrom routed.sweep import failures, solving, sweep\n"
             f"solving.MOST_ROWS, failures.MOST_ASKS = {most}, 4\nsys.exit(sweep.main(sys.argv[1:]))")
     ran = subprocess.run([sys.executable, "-c", code, f"{room}/journal", f"{room}/asks", "--fail", "pairs", "--program", program],
                          capture_output=True, text=True, env={**os.environ, "PYTHONPATH": os.path.join(TOP, "python")})
