@@ -1,6 +1,7 @@
 """What passed and what failed, and the last line that says it. Who imports this finds the tools of this tree, too."""
 import os
 import sys
+import traceback
 
 TOP = os.path.dirname(os.path.dirname(os.path.abspath(__file__)))
 sys.path.insert(1, os.path.join(TOP, "python"))
@@ -26,6 +27,13 @@ class Checks:
     def fail(self, text):
         self.failed += 1
         print(f"FAILED {text}")
+
+    def part(self, name, call, *given):
+        """Runs a part. One that raises has failed, with its traceback; what it had checked before counts, and the other parts go on."""
+        try:
+            call(*given)
+        except Exception:
+            self.fail(f"{name}: {traceback.format_exc().rstrip()}")
 
     def end(self):
         """Prints the last line, and ends with status 1 where anything failed."""

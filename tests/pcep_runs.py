@@ -30,12 +30,14 @@ TO_NORTH, TO_SOUTH = (f"PCUpd {' '.join(route)}" for route in (NORTH, SOUTH))
 class Client:
     """A PCC of the test's own."""
 
-    def __init__(self, port, source="127.0.0.1", key=None, narrow=False):
+    def __init__(self, port, source="127.0.0.1", key=None, narrow=0, segment=0):
         self.socket = socket.socket()
         if key:
             set_key(self.socket, "127.0.0.1", key)
-        if narrow:  # it takes few bytes that it doesn't read
-            self.socket.setsockopt(socket.SOL_SOCKET, socket.SO_RCVBUF, 4096)
+        if narrow:  # bytes that it takes and doesn't read
+            self.socket.setsockopt(socket.SOL_SOCKET, socket.SO_RCVBUF, narrow)
+        if segment:  # bytes of one
+            self.socket.setsockopt(socket.IPPROTO_TCP, socket.TCP_MAXSEG, segment)
         self.socket.settimeout(SILENT if key is not None else PATIENCE)
         self.socket.bind((source, 0))
         self.socket.connect(("127.0.0.1", port))
@@ -163,7 +165,7 @@ def sockets(program, checks, room):
     with Run(program.path, room) as run:
         checks.same("the first batch", run.publish(*rows()), b"version 1\n")
         begun(run).close()
-        clients = [Client(run.port, f"127.0.2.{at}", narrow=at == 2) for at in range(1, 65)]
+        clients = [Client(run.port, f"127.0.2.{at}", narrow=4096 if at == 2 else 0) for at in range(1, 65)]
         checks.same("64 PCCs open", [client.open() for client in clients], [["Open", "Keepalive"]] * 64)
         for client in clients[2:]:
             client.socket.sendall(request() * 50)

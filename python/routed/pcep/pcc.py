@@ -39,9 +39,9 @@ class Pcc:
         except BlockingIOError:
             pass
         except OSError as fault:
-            self.unsent = b""
+            self.unsent, why = b"", f"its connection is gone: {fault.strerror}"
             if self.connection.fileno() >= 0:
-                self.front.loop.after(0, lambda: self.session.stop(f"its connection is gone: {fault.strerror}"))
+                self.front.loop.after(0, lambda: self.session.stop(why))
         if self.is_ending and not self.unsent:
             self.close()
         elif hasattr(self, "session"):
