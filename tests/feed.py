@@ -4,6 +4,7 @@ However slow the machine is, the same comes of them: the feed goes by a clock th
 read all that it was sent and has nothing more to do. Where the real program is beside it, the clock is the real one,
 and what has to come is waited for.
 """
+import argparse
 import contextlib
 import os
 import re
@@ -1137,6 +1138,24 @@ def words(program, checks):
         checks.same(f"feed {turn} ends by a signal", (feed.end(), feed.process.returncode), ("", 0))
 
 
+def queued(checks):
+    """Short asks that wait for a program which takes no rows cost little, however many they are."""
+    from routed.feed.ospf import FULL, Feed as Real, Program
+    feed, reading = Real.__new__(Real), os.pipe()
+    feed.asks, feed.unread_asks, feed.batches = reading[0], b"", argparse.Namespace(ask=lambda: None)
+    feed.program, row, began = Program(["sleep", str(PATIENCE)]), b"ask,\n", time.process_time()
+    while len(feed.program.waiting) < FULL:
+        os.write(reading[1], row * 12000)  # less than the pipe holds
+        feed.take_asks()
+    took = time.process_time() - began
+    with feed.program.child as sleeping:
+        sleeping.kill()
+    for file in reading:
+        os.close(file)
+    checks.same("asks that wait", feed.program.waiting.count(row) * len(row), len(feed.program.waiting))
+    checks.true("asks that wait: seconds of a processor", took < 2, took)
+
+
 def feed(program, checks):
     try:
         socket.create_server(("127.0.0.1", 0)).close()
@@ -1144,7 +1163,7 @@ def feed(program, checks):
         print(f"skipped: the feed, since no socket can be had: {fault}")
         return
     for part in (columns, left_out, wrapped, changes, marks, runs, streams, anew, refusals, restarted, trickle, unreached, not_begun, journals,
-                 many, lab):
+                 many, queued, lab):
         part(checks)
     for part in (with_program, beside_server, once, words, behind_front):
         part(program, checks)

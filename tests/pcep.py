@@ -8,6 +8,7 @@ import re
 import socket
 import struct
 import tempfile
+import time
 
 import reference
 from reference import Network
@@ -28,6 +29,7 @@ from routed.places import Place, Stopped
 HERE = os.path.dirname(os.path.abspath(__file__))
 TOP = os.path.dirname(HERE)
 FREE = ",".join(["125000000"] * 8)
+LARGE = 32000  # bytes of an object that comes back in each reply
 # From 1 to 4 by 2 of cost 100, and by 3 of cost 200.
 CIRCUITS = [(1, 2, 50), (2, 4, 50), (1, 3, 100), (3, 4, 100)]
 
@@ -401,8 +403,8 @@ class Deaf:
     def send(self, data):
         if self.taken is None:
             raise BlockingIOError
-        self.taken += data
-        return len(data)
+        self.taken += data[:1 << 16]
+        return min(len(data), 1 << 16)
 
 
 def deaf(checks, room):
@@ -432,6 +434,28 @@ def deaf(checks, room):
     found = [told(kind, wire.objects_of(body)) for kind, body in wire.cut(pcc.connection.taken)[0]]
     checks.same("and then it gets the newest one alone", found[-1], f"PCUpd {' '.join(SOUTH)}")
     checks.true("in one message", len(pcc.connection.taken) - waits < 1000, len(pcc.connection.taken))
+
+
+def collected(checks, room):
+    """One message whose replies are each half as long as it is, for a PCC that reads them late."""
+    front = Front(room)
+    front.publish(*rows())
+    front.pccs, front.number, front.loop = {}, 1, argparse.Namespace(after=lambda *_: None)
+    line = front.reference.reply(1, "ask,1,10.0.0.1,10.0.0.4,7,0,0x0,0x0,0x0,")
+    front.ask = lambda row, call: call(line)
+    pcc, one = Connected(front, Deaf(), "10.0.0.1"), request()[4:]
+    pcc.session.take(wire.message(1, pack(1, bytes([0x20, 10, 40, 9]))) + wire.message(2), 0.0)
+    count = (wire.MOST - 4 - LARGE) // len(one)
+    data, before, began = wire.message(3, pack(11, bytes(LARGE - 4)), one * count), len(pcc.unsent), time.process_time()
+    pcc.session.take(data, 0.0)
+    replies, pcc.connection.taken = len(pcc.unsent) - before, bytearray()
+    while pcc.unsent:
+        pcc.flush()
+    took = time.process_time() - began
+    found = [told(kind, wire.objects_of(body)) for kind, body in wire.cut(bytes(pcc.connection.taken))[0]]
+    checks.true("one message: its replies", count > 1300 and found[2:] == [PATH] * count, (count, len(found)))
+    checks.true("one message: their bytes", replies > count * LARGE, replies)
+    checks.true("one message: seconds of a processor", took < 2, took)
 
 
 def places(checks, room):
@@ -956,11 +980,8 @@ def documented(checks, _):
 
 def pcep(_, checks):
     with tempfile.TemporaryDirectory() as room:
-        for part in (mapping, malformed, timers, deaf, places, moved, delegated, followed, races, updated, initiated, making, segments,
+        for part in (mapping, malformed, timers, deaf, collected, places, moved, delegated, followed, races, updated, initiated, making, segments,
                      documented):
             inner = os.path.join(room, part.__name__)
             os.mkdir(inner)
-            try:
-                part(checks, inner)
-            except Exception as fault:  # the others go on
-                checks.fail(f"{part.__name__}: {type(fault).__name__}: {fault}")
+            checks.part(part.__name__, part, checks, inner)

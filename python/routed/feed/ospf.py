@@ -66,19 +66,19 @@ class Program:
         self.source = self.child.stdout.fileno() if command else 0
         with naming(self.name):
             os.set_blocking(self.to, not command)
-        self.waiting, self.unread = b"", b""
+        self.waiting, self.unread = bytearray(), b""
         self.lines = collections.deque()  # whole ones that weren't taken yet
 
     def flush(self):
         with naming(f"{self.name}: rows can't be written"):
             try:
-                self.waiting = self.waiting[os.write(self.to, self.waiting[:1 << 16]):]
+                del self.waiting[:os.write(self.to, self.waiting[:1 << 16])]
             except BlockingIOError:
                 pass
             except BrokenPipeError:
                 if not select.select([self.source], [], [], PATIENCE)[0]:
                     raise
-                self.waiting = b""  # its last lines say why
+                self.waiting.clear()  # its last lines say why
 
     def read(self):
         with naming(f"{self.name}: lines can't be read"):

@@ -12,7 +12,7 @@ class Pcc:
 
     def __init__(self, front, connection, peer):
         self.front, self.connection, self.peer = front, connection, peer
-        self.unsent, self.is_ending, self.taken_at = b"", False, front.clock()
+        self.unsent, self.is_ending, self.taken_at = bytearray(), False, front.clock()
         self.session = Session(front, peer, front.number, self.send, self.end, front.clock())
         self.want()
 
@@ -25,8 +25,9 @@ class Pcc:
             self.front.loop.want(self.connection.fileno(), reads | (WRITE if self.unsent else 0), self.go_on)
 
     def send(self, data):
-        had, self.unsent = self.unsent, self.unsent + data
-        if not had:
+        has_waited = bool(self.unsent)
+        self.unsent += data
+        if not has_waited:
             self.taken_at = self.front.clock()
             self.flush()
         elif len(self.unsent) > FULL:
@@ -34,12 +35,13 @@ class Pcc:
 
     def flush(self):
         try:
-            sent = self.connection.send(self.unsent)
-            self.unsent, self.taken_at = self.unsent[sent:], self.front.clock()
+            del self.unsent[:self.connection.send(self.unsent)]
+            self.taken_at = self.front.clock()
         except BlockingIOError:
             pass
         except OSError as fault:
-            self.unsent, why = b"", f"its connection is gone: {fault.strerror}"
+            self.unsent.clear()
+            why = f"its connection is gone: {fault.strerror}"
             if self.connection.fileno() >= 0:
                 self.front.loop.after(0, lambda: self.session.stop(why))
         if self.is_ending and not self.unsent:
@@ -70,7 +72,7 @@ class Pcc:
         now = self.front.clock()
         self.session.tick(now)
         if self.unsent and now - self.taken_at > (self.session.dead or 120):
-            self.unsent = b""
+            self.unsent.clear()
             self.session.stop("its PCC reads nothing")
         self.want()
 
