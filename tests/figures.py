@@ -197,10 +197,10 @@ def counted(lines):
 def alarms(program, checks, room):
     """The rules are rules, and name figures that are there."""
     rules = os.path.join(TOP, "deploy/alarms.yml")
-    page = open(os.path.join(TOP, "docs/run/WATCHING.md"), encoding="utf-8").read()
+    page = "".join(open(os.path.join(TOP, "docs/run", name), encoding="utf-8").read() for name in ("WATCHING.md", "PCEP.md"))
     with open(rules, encoding="utf-8") as file:
         named = set(re.findall(r"routed_\w+", " ".join(re.findall(r"(?m)^ *expr: (.*)", file.read()))))
-    checks.same("figures of alarms that are not in WATCHING.md", [name for name in sorted(named) if f"`{name.removesuffix('_bucket')}`" not in page], [])
+    checks.same("figures of alarms that are not on a page", [name for name in sorted(named) if f"`{name.removesuffix('_bucket')}`" not in page], [])
     if tool := shutil.which("promtool"):
         ran = subprocess.run([tool, "check", "rules", rules], capture_output=True, text=True)
         checks.same("promtool on the alarms", ran.returncode, 0)

@@ -74,7 +74,7 @@ class Front:
     def capabilities(self):
         return b""
 
-    def later(self, seconds, call):
+    def later(self, seconds, call, owner=None):
         self.laters.append((self.time + seconds, call))
 
     def segments(self, head, route, version):
@@ -94,7 +94,7 @@ class Front:
     def unwanted(self, peer):
         return []
 
-    def ask(self, row, call):
+    def ask(self, row, call, owner=None):
         line = self.reference.reply(self.version, f"ask,1,{row}") if self.version is not None else None
         call(line) if self.held is None else self.held.append((call, line))
 
@@ -410,7 +410,7 @@ class Deaf:
 def deaf(checks, room):
     """A PCC that sends Keepalives, but reads nothing for its dead timer."""
     front = Front(room)
-    front.pccs, front.number, front.loop = {}, 1, argparse.Namespace(after=lambda *_: None)
+    front.pccs, front.number, front.loop = {}, 1, Loop()
     front.pccs["10.0.0.1"] = pcc = Connected(front, Deaf(), "10.0.0.1")
     pcc.session.take(wire.message(1, pack(1, bytes([0x20, 10, 40, 9]))) + wire.message(2), 0.0)
     for front.time, wanted in ((39.0, True), (40.0, True), (41.0, False)):
@@ -440,9 +440,9 @@ def collected(checks, room):
     """One message whose replies are each half as long as it is, for a PCC that reads them late."""
     front = Front(room)
     front.publish(*rows())
-    front.pccs, front.number, front.loop = {}, 1, argparse.Namespace(after=lambda *_: None)
+    front.pccs, front.number, front.loop = {}, 1, Loop()
     line = front.reference.reply(1, "ask,1,10.0.0.1,10.0.0.4,7,0,0x0,0x0,0x0,")
-    front.ask = lambda row, call: call(line)
+    front.ask = lambda row, call, owner: call(line)
     pcc, one = Connected(front, Deaf(), "10.0.0.1"), request()[4:]
     pcc.session.take(wire.message(1, pack(1, bytes([0x20, 10, 40, 9]))) + wire.message(2), 0.0)
     count = (wire.MOST - 4 - LARGE) // len(one)

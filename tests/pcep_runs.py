@@ -78,7 +78,7 @@ class Client:
 class Run:
     """`tools/listen` and `tools/pcep`."""
 
-    def __init__(self, program, room, *words, listen=(), between=None, is_stateful=True):
+    def __init__(self, program, room, *words, listen=(), between=None, is_stateful=True, tool=(PCEP,)):
         self.room, self.program, self.listen, self.words, self.version = room, program, None, listen, 0
         self.places = {word: os.path.join(room, word) for word in ("ask", "updates", "watch", "journal", "replies", "figures")}
         self.serve()
@@ -86,7 +86,7 @@ class Run:
         places = self.places_of(ask="ask", metrics="figures", replies="replies")
         if is_stateful:
             places += self.places_of(watch="watch", journal="journal") + ["--stateful"]
-        self.pcep = subprocess.Popen([PCEP, *places, "--port", "0", *words], stdout=subprocess.PIPE,
+        self.pcep = subprocess.Popen([*tool, *places, "--port", "0", *words], stdout=subprocess.PIPE,
                                      stderr=open(os.path.join(room, "said"), "wb"))
         self.port = int(self.pcep.stdout.readline().split(b":")[1])
         self.pcep.stdout.readline()
@@ -568,7 +568,7 @@ def figures(program, checks, room):
         twice = Client(run.port, "127.0.9.1")
         twice.read()
         found = run.figures()
-        wanted = {"sessions": 1, "lsps": 2, "lsps_without_route": 2, "version": 3,
+        wanted = {"sessions": 1, "lsps": 2, "lsps_without_route": 2, "version": 3, "exceptions_total": 0,
                   **{f'messages_total{{type="{kind}"}}': count for kind, count in ((1, 1), (2, 1), (3, asked + 3), (6, 1), (10, 6))},
                   **{f'requests_total{{outcome="{outcome}"}}': count for outcome, count in counted.items() if count},
                   **{f'errors_total{{error="{error}"}}': count for error, count in (("4/4", 2), ("3/1", 1), ("9/1", 1))},

@@ -1,6 +1,5 @@
 """PCCs whose TCP connections are reset, at a `tools/pcep` that serves the next PCC each time: before the Open, after it, with requests that
 wait for the server, and with replies that wait for the PCC."""
-import os
 import signal
 import socket
 import struct
@@ -15,7 +14,7 @@ from routed.pcep.wire import pack
 
 RESETS, AT_ONCE = 2000, 20  # of each kind, and between one PCC that is answered and the next
 ASKED = 5  # requests of a PCC that wait for the server
-LARGE, REPLIES = 32000, 8  # bytes of an object that comes back in each reply, and the replies that wait for a PCC
+LARGE, REPLIES = 32000, 6  # bytes of an object that comes back in each reply, and the replies that wait for a PCC
 NARROW, SEGMENT = 2304, 536  # bytes that a PCC takes unread, and of a segment: so the kernel keeps few of those that are sent to it
 
 

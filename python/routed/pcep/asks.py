@@ -62,8 +62,12 @@ class Connection:
         self.is_busy, self.is_served, self.is_settled = False, False, False
         self.socket = asks.place.connect()
         self.socket.setblocking(False)
-        asks.loop.want(self.socket.fileno(), READ, self.go_on)
-        asks.loop.after(AGAIN, self.settle)
+        self.loop = asks.loop.of(self)
+        self.loop.want(self.socket.fileno(), READ, self.go_on)
+        self.loop.after(AGAIN, self.settle)
+
+    def named(self):
+        return "a connection for asks"
 
     def settle(self):
         """It was kept for a while, so its end is no reason to wait before the next."""
@@ -83,7 +87,7 @@ class Connection:
             pass
         except OSError:  # its lines end, too
             self.unsent.clear()
-        self.asks.loop.want(self.socket.fileno(), READ | (WRITE if self.unsent else 0), self.go_on)
+        self.loop.want(self.socket.fileno(), READ | (WRITE if self.unsent else 0), self.go_on)
 
     def go_on(self, events):
         if events & WRITE:
@@ -112,6 +116,8 @@ class Connection:
 
     def close(self):
         if self.socket.fileno() >= 0:
-            self.asks.loop.want(self.socket.fileno(), 0)
+            self.loop.want(self.socket.fileno(), 0)
             self.socket.close()
             self.asks.gone(self)
+
+    fail = close

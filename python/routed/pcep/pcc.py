@@ -1,7 +1,8 @@
 """The connection of one PCC."""
 from ..loop import READ, WRITE
 from ..places import hang_up
-from .session import Session
+from . import wire
+from .session import OVER, UP, Session
 
 FULL, MOST_ASKED = 1 << 20, 256  # bytes that wait for a PCC, and its asks: beyond them nothing is read from it
 LINGER = 5  # seconds that a session's last bytes have
@@ -12,19 +13,30 @@ class Pcc:
 
     def __init__(self, front, connection, peer):
         self.front, self.connection, self.peer = front, connection, peer
-        self.unsent, self.is_ending, self.taken_at = bytearray(), False, front.clock()
-        self.session = Session(front, peer, front.number, self.send, self.end, front.clock())
+        self.loop, self.unsent, self.is_ending, self.is_closed, self.taken_at = front.loop.of(self), bytearray(), False, False, front.clock()
+        self.session = Session(front, peer, front.number, self.send, self.end, front.clock(), self)
         self.want()
+
+    def named(self):
+        return self.peer
+
+    def fail(self):
+        """Ends the connection for an exception, by a Close where the PCC isn't in the middle of a message."""
+        is_up, self.session.state, self.is_ending = self.session.state == UP, OVER, True
+        self.leave()
+        self.close(wire.close(1) if is_up and not self.unsent else b"")
 
     def is_held(self):
         return len(self.unsent) > FULL or self.session.asked > MOST_ASKED
 
     def want(self):
-        if self.connection.fileno() >= 0:
+        if not self.is_closed and self.connection.fileno() >= 0:
             reads = READ if not self.is_ending and not self.is_held() else 0
-            self.front.loop.want(self.connection.fileno(), reads | (WRITE if self.unsent else 0), self.go_on)
+            self.loop.want(self.connection.fileno(), reads | (WRITE if self.unsent else 0), self.go_on)
 
     def send(self, data):
+        if self.is_closed:
+            return
         has_waited = bool(self.unsent)
         self.unsent += data
         if not has_waited:
@@ -43,7 +55,7 @@ class Pcc:
             self.unsent.clear()
             why = f"its connection is gone: {fault.strerror}"
             if self.connection.fileno() >= 0:
-                self.front.loop.after(0, lambda: self.session.stop(why))
+                self.loop.after(0, lambda: self.session.stop(why))
         if self.is_ending and not self.unsent:
             self.close()
         elif hasattr(self, "session"):
@@ -79,15 +91,20 @@ class Pcc:
     def end(self):
         """Ends the connection once its last bytes are sent. Another session of this PCC may begin at once."""
         self.is_ending = True
-        if self.front.pccs.get(self.peer) is self:
-            del self.front.pccs[self.peer]
+        self.leave()
         if self.unsent:
-            self.front.loop.after(LINGER, self.close)
+            self.loop.after(LINGER, self.close)
             self.want()
         else:
             self.close()
 
-    def close(self):
-        if self.connection.fileno() >= 0:
-            self.front.loop.want(self.connection.fileno(), 0)
-            hang_up(self.front.loop, self.connection)
+    def leave(self):
+        """Another session of this PCC may begin."""
+        if self.front.pccs.get(self.peer) is self:
+            del self.front.pccs[self.peer]
+
+    def close(self, last=b""):
+        if not self.is_closed and self.connection.fileno() >= 0:
+            self.is_closed = True
+            self.loop.want(self.connection.fileno(), 0)
+            hang_up(self.front.loop, self.connection, last)

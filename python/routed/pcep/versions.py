@@ -10,7 +10,14 @@ class Watch:
     def __init__(self, front):
         self.front, self.unread, self.socket = front, b"", front.options.watch.connect()
         self.socket.setblocking(False)
-        front.loop.want(self.socket.fileno(), READ, self.read)
+        self.loop = front.loop.of(self)
+        self.loop.want(self.socket.fileno(), READ, self.read)
+
+    def named(self):
+        return "the connection for versions"
+
+    def fail(self):
+        self.front.lost("the connection for versions has ended")
 
     def read(self, _):
         try:
@@ -32,5 +39,5 @@ class Watch:
 
     def close(self):
         if self.socket.fileno() >= 0:
-            self.front.loop.want(self.socket.fileno(), 0)
+            self.loop.want(self.socket.fileno(), 0)
             self.socket.close()
