@@ -26,6 +26,7 @@ sys.path.insert(1, os.path.join(TOP, "python"))  # for a feed in a process of it
 FEED = os.path.join(TOP, "feeds/ospf")
 LISTEN = os.path.join(TOP, "tools/listen")
 NAN, INFINITE = float("nan"), float("inf")
+MANY_DIGITS = "1" * 5000  # more than Python makes a number of
 A, B, C = "1.1.1.1", "2.2.2.2", "3.3.3.3"
 A_B, B_A = "10.0.0.0", "10.0.0.1"  # addresses of the circuit between A and B; the first ends in .0
 B_C, C_B = "10.0.0.2", "10.0.0.3"
@@ -591,10 +592,11 @@ def refusals(checks):
     others = "another program has published, and the feed has to be the only one: end that program, and start the feed again"
     unknown = "the program's database isn't the one that the feed began with: start the feed again"
     for answer, said in [("batch 1 refused: exhausted", ""), ("batch 1 refused: expected 4", others), ("batch 1 refused: expected 1", others),
-                         ("version 2", others), ("batch 2 refused: long", others), ("batch 1 refused: absent 2", unknown)]:
+                         ("version 2", others), ("batch 2 refused: long", others), ("batch 1 refused: absent 2", unknown),
+                         (f"version {MANY_DIGITS}", others), (f"batch {MANY_DIGITS} refused: long", others)]:
         router, feed = begun()
         feed.batch(answer)
-        checks.same(f"{answer} ends the feed", feed.ended(), (1, "", f"ospf: {answer}{said and ': '}{said}\n"))
+        checks.same(f"{answer[:40]} ends the feed", feed.ended(), (1, "", f"ospf: {answer}{said and ': '}{said}\n"))
     for answer, said in [("too many rows", "the program takes no more rows"), ("version 1\nversion 2", f"version 2: {others}"),
                          ("row 9 refused: kind\nversion 1", f"row 9 refused: kind, and then version 1: {unknown}")]:
         router, feed = begun()
@@ -776,6 +778,14 @@ def not_begun(checks):
     feed = Feed(router, version=None, is_accepted=False)
     feed.process.stdin.close()
     checks.same("no version, but the end", feed.ended(), (1, "", f"{pipes}the program ended\n"))
+    from routed.feed.batches import Ended
+    from routed.feed.database import begun
+    program, lines = argparse.Namespace(name="it", waiting=bytearray()), [f"v{MANY_DIGITS} none", "v0"]
+    program.line = lambda: f"ask {program.waiting.split(b',')[1].decode()} {lines.pop(0)}" if lines else "no line"
+    try:
+        checks.fail(f"a version of many digits is none: {begun(program, None)}")
+    except Ended as fault:
+        checks.same("a version of many digits is none", str(fault), "it: its version was asked for, and it answered: no line")
     for version, told in (None, ()), (7, ()), (7, whole[:3]):
         feed = Feed(router, version=version, told=told, is_accepted=False)
         feed.waits(59.9)

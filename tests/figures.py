@@ -422,12 +422,25 @@ def screen(program, checks, room):
         checks.same("the screen", (found, err, lines.get("version"), lines.get("asks"), lines.get("refused rows"), lines.get("connections")),
                     (0, "", "1, 999,999 left", "none 1, route 1", "kind 1", "ask 1, metrics 1, updates 1"))
         checks.same("a place that is no HTTP", told(front.ask), (1, "", f"status: {front.ask}: timed out\n"))
+    with socket.create_server(("127.0.0.1", 0)) as wrong:
+        port, answer = str(wrong.getsockname()[1]), b"HTTP/1.1 200 OK\r\n\r\nrouted_version x\n"
+        telling = threading.Thread(target=lambda: tell(wrong, answer))
+        telling.start()
+        checks.same("a figure that is no number", told(port), (1, "", f"status: {port}: a figure is no number: could not convert string to float: 'x'\n"))
+        telling.join()
     absent = os.path.join(room, "absent")
     checks.same("a place that isn't there", told(absent), (1, "", f"status: {absent}: No such file or directory\n"))
     checks.same("no place", told("a:b")[0], 2)
     with socket.create_server(("127.0.0.1", 0)) as silent:
         port = str(silent.getsockname()[1])
         checks.same("a place that never answers", told(port), (1, "", f"status: {port}: timed out\n"))
+
+
+def tell(listener, answer):
+    """Answers one request."""
+    with listener.accept()[0] as taken:
+        taken.recv(1 << 16)
+        taken.sendall(answer)
 
 
 # ---- a feed

@@ -20,8 +20,9 @@ from routed.pcep.asks import Asks
 from routed.pcep.network import Network as Followed
 from routed.pcep.network import Sids
 from routed.pcep.pcc import Pcc as Connected
-from routed.pcep.requests import Request
+from routed.pcep.requests import Request, answer_of
 from routed.pcep.session import Session
+from routed.pcep.versions import Watch
 from routed.pcep.wanted import request_of, wanted
 from routed.pcep.wire import pack, tlv
 from routed.places import Place, Stopped
@@ -515,6 +516,34 @@ def moved(checks, room):
         asks.close()
 
 
+def strange(checks, room):
+    """What no server tells: lines of versions that aren't any, and replies that can't be read."""
+    path = os.path.join(room, "watch")
+    with socket.socket(socket.AF_UNIX) as server:
+        server.bind(path)
+        server.listen()
+        for text, wanted in [(b"version 1\nversion 7\nversion", [7]), (b"busy\n", ["the place of versions is busy"]), (b"", ["the server has ended"]),
+                             *((text, ["the place of versions tells something else"])
+                               for text in (b"version \n", b"version x\n", b"version -1\n", b"version " + b"9" * 5000 + b"\n",
+                                            b"version 1\nHTTP/1.1 400 Bad Request\r\n", b"\n", b"version " + b"1" * 200))]:
+            found, loop = [], Loop()
+            front = argparse.Namespace(options=argparse.Namespace(watch=Place(path)), loop=loop, told=found.append,
+                                       lost=lambda why="the server has ended", after=0: found.append(why))
+            watch, there = Watch(front), server.accept()[0]
+            there.sendall(text)
+            if not text:
+                there.close()
+            loop.turn()
+            checks.same(f"at the place of versions: {text[:40]}", found, wanted)
+            watch.close()
+            there.close()
+    for line in ("ask 1 v1 route cost=1 hops=1 again=no ero=000c14010", "ask 1 v1 route cost=1 hops=1 again=no ero=000c14010108",
+                 "ask 1 v1 route cost=1 hops=1 again=no ero=000c1401", f"ask 1 v{'1' * 5000} none",
+                 f"ask 1 v1 route cost={'1' * 5000} hops=1 again=no ero=000c140101080a000c022000", "row 1 refused: kind", ""):
+        checks.same(f"a reply that can't be read: {line[:60]}", answer_of(line), None)
+    checks.same("and one that can", answer_of("ask 7 v1 route cost=10 hops=1 again=no ero=000c140101080a000c022000"), (1, None, 10, ["10.0.12.2"]))
+
+
 def lost(pcc):
     return sum(lsp.is_lost for lsp in pcc.session.lsps.all.values())
 
@@ -980,7 +1009,7 @@ def documented(checks, _):
 
 def pcep(_, checks):
     with tempfile.TemporaryDirectory() as room:
-        for part in (mapping, malformed, timers, deaf, collected, places, moved, delegated, followed, races, updated, initiated, making, segments,
+        for part in (mapping, malformed, timers, deaf, collected, places, moved, strange, delegated, followed, races, updated, initiated, making, segments,
                      documented):
             inner = os.path.join(room, part.__name__)
             os.mkdir(inner)

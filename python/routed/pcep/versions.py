@@ -1,7 +1,11 @@
 """The place where the server tells versions."""
+import re
+
 from ..loop import READ
 
-BUSY_AGAIN = 1  # seconds from one try to connect to the next where the place has no room
+LATE_AGAIN = 1  # seconds from one try to connect to the next where the place has no room, or tells something else
+LONGEST = 100  # bytes of a line that has no end yet
+VERSION = re.compile(rb"version ([0-9]{1,20})")
 
 
 class Watch:
@@ -31,11 +35,13 @@ class Watch:
             return
         *lines, self.unread = (self.unread + data).split(b"\n")
         if b"busy" in lines:
-            self.front.lost("the place of versions is busy", BUSY_AGAIN)
+            self.front.lost("the place of versions is busy", LATE_AGAIN)
             return
-        versions = [int(line.split()[1]) for line in lines if line.startswith(b"version ")]
-        if versions:
-            self.front.told(versions[-1])
+        versions = [VERSION.fullmatch(line) for line in lines]
+        if None in versions or len(self.unread) > LONGEST:
+            self.front.lost("the place of versions tells something else", LATE_AGAIN)
+        elif versions:
+            self.front.told(int(versions[-1][1]))
 
     def close(self):
         if self.socket.fileno() >= 0:
