@@ -40,10 +40,7 @@ def figures(program, checks):
         for part in (text, sums, alarms, watched, half_closed, page, logged, priorities, blocked, each, screen, of_feed, audited):
             inner = os.path.join(room, part.__name__)
             os.mkdir(inner)
-            try:
-                part(program, checks, inner)
-            except Exception as fault:  # the others go on
-                checks.fail(f"{part.__name__}: {type(fault).__name__}: {fault}")
+            checks.part(part.__name__, part, program, checks, inner)
     print(f"figures: {CLIENTS} connections, {VERSIONS} versions, {time.monotonic() - start:.0f} s")
 
 

@@ -50,10 +50,7 @@ def listened(program, checks):
                      failed_snapshots, server_ends, causes, fresh):
             inner = os.path.join(room, part.__name__)
             os.mkdir(inner)
-            try:
-                part(program, checks, inner, versions)
-            except Exception as fault:  # the others go on
-                checks.fail(f"{part.__name__}: {type(fault).__name__}: {fault}")
+            checks.part(part.__name__, part, program, checks, inner, versions)
     print(f"listened: {CONNECTIONS} connections, {SIGNALS} signals, {time.monotonic() - start:.0f} s")
 
 
@@ -378,7 +375,7 @@ def places(program, checks, room, versions):
             checks.same(f"{option} {place!r}", (*found, os.listdir(room)), (2, "", [line], []))
             for name in os.listdir(room):
                 os.remove(os.path.join(room, name))
-    with Front(program, room, ask="./a:1", cwd=room) as front:
+    with Front(program, room, ask="./a:1", cwd=room):
         checks.same("a path with a colon and a slash", Connection(os.path.join(room, "a:1")).talk(f"{versions.asks[0]}\n"), f"{versions.replies[0][0]}\n")
 
 

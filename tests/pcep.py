@@ -23,7 +23,8 @@ from routed.pcep.pcc import Pcc as Connected
 from routed.pcep.requests import Request, answer_of
 from routed.pcep.session import Session
 from routed.pcep.versions import Watch
-from routed.pcep.wanted import request_of, wanted
+from routed.pcep.wanted import request_of
+from routed.pcep.wanted import wanted as read_wanted
 from routed.pcep.wire import pack, tlv
 from routed.places import Place, Stopped
 
@@ -749,7 +750,7 @@ def races(checks, room):
     (first, old), (second, _) = front.held
     front.publish(*rows([(1, 2, 50)]))
     front.held = []
-    second(front.reference.reply(3, f"ask,1,10.0.0.1,10.0.0.4,7,0,0x0,0x0,0x0,"))
+    second(front.reference.reply(3, "ask,1,10.0.0.1,10.0.0.4,7,0,0x0,0x0,0x0,"))
     front.network.reach(3)
     first(old)
     checks.same("an answer older than the network is asked for again", ([told(*one) for one in pcc.messages()], len(front.held)), ([], 1))
@@ -803,6 +804,7 @@ def making(checks, room):
     front, pcc, found = begun(1)
     checks.same("a PCC that makes none", found, [])
     front, pcc, found = begun()
+    checks.same("one that makes LSPs", found, [to_north])
     front.made = {"red": line(2)}
     checks.same("another end than it was made for", pcc.report(3, 0x89, wire.addresses_ero(NORTH)[4:], b"red", 1), ["PCInitiate "])
     front = Front(tempfile.mkdtemp(dir=room))
@@ -855,7 +857,7 @@ def initiated(checks, room):
     path = os.path.join(room, "wanted")
     with open(path, "w") as file:
         file.write("# name and ask\nred,10.0.0.1,10.0.0.4,7,1000,0x0,0x1,0x0\n\n")
-    found = wanted(path)
+    found = read_wanted(path)
     checks.same("a file of LSPs", [(key, request.row()) for key, request in found.items()],
                 [(("10.0.0.1", "red"), "10.0.0.1,10.0.0.4,7,1000,0x00000000,0x00000001,0x00000000,")])
     for line in ("red,10.0.0.1,10.0.0.4,7,1000,0x0,0x1", "red,10.0.0.1,10.0.0.1,7,1,0x0,0x1,0x0", "red,10.0.0.1,10.0.0.4,8,1,0x0,0x1,0x0",
@@ -863,7 +865,7 @@ def initiated(checks, room):
         with open(path, "w") as file:
             file.write(line)
         try:
-            checks.fail(f"{line} is taken for {wanted(path)}")
+            checks.fail(f"{line} is taken for {read_wanted(path)}")
         except Stopped as fault:
             checks.true(f"refused: {line}", "line " in str(fault), fault)
     front = Front(room, initiate=path)

@@ -283,7 +283,7 @@ def busy(program, checks, room):
         def taken(run):
             held = socket.socket(socket.AF_UNIX)
             held.connect(run.places["ask"])
-            held.sendall(f"ask,1,10.0.0.1,10.0.0.4,7,0,0x0,0x0,0x0,\n".encode())
+            held.sendall(b"ask,1,10.0.0.1,10.0.0.4,7,0,0x0,0x0,0x0,\n")
             held.recv(100)
             return held
 
@@ -296,7 +296,7 @@ def busy(program, checks, room):
                 client.report(1)
                 client.report(0, 0)
                 time.sleep(1)
-                checks.same(f"and an LSP there", client.ask(), "NO-PATH 1")
+                checks.same("and an LSP there", client.ask(), "NO-PATH 1")
                 run.held.close()
                 checks.same("it is asked for once a place is free", client.read(), TO_NORTH)
             else:
@@ -751,7 +751,4 @@ def pcep_runs(program, checks):
         for part in (sockets, keys, gone, full, busy, crowded, stateless, idle, shared, wanted_again, figures, rolled, long, drawn):
             inner = os.path.join(room, part.__name__)
             os.mkdir(inner)
-            try:
-                part(program, checks, inner)
-            except Exception as fault:  # the others go on
-                checks.fail(f"{part.__name__}: {type(fault).__name__}: {fault}")
+            checks.part(part.__name__, part, program, checks, inner)
