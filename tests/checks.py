@@ -54,7 +54,7 @@ class Checks:
         """Runs a part. One that raises has failed, with its traceback; what it had checked before counts, and the other parts go on."""
         try:
             call(*given)
-        except Exception:
+        except (Exception, SystemExit):
             self.fail(f"{name}: {traceback.format_exc().rstrip()}")
 
     def chosen(self, calls):

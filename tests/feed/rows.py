@@ -4,6 +4,7 @@ However slow the machine is, the same comes of them: the feed goes by a clock th
 read all that it was sent and has nothing more to do. Where the real program is beside it, the clock is the real one,
 and what has to come is waited for.
 """
+import argparse
 import contextlib
 import os
 import re
@@ -24,6 +25,7 @@ from tools.readers import dressed
 HERE = os.path.dirname(os.path.abspath(__file__))
 FEED = [TOOLS, "feed"]
 NAN, INFINITE = float("nan"), float("inf")
+MANY_DIGITS = "1" * 5000  # more than Python makes a number of
 A, B, C = "1.1.1.1", "2.2.2.2", "3.3.3.3"
 A_B, B_A = "10.0.0.0", "10.0.0.1"  # addresses of the circuit between A and B; the first ends in .0
 B_C, C_B = "10.0.0.2", "10.0.0.3"
@@ -589,10 +591,11 @@ def refusals(checks):
     others = "another program has published, and the feed has to be the only one: end that program, and start the feed again"
     unknown = "the program's database isn't the one that the feed began with: start the feed again"
     for answer, said in [("batch 1 refused: exhausted", ""), ("batch 1 refused: expected 4", others), ("batch 1 refused: expected 1", others),
-                         ("version 2", others), ("batch 2 refused: long", others), ("batch 1 refused: absent 2", unknown)]:
+                         ("version 2", others), ("batch 2 refused: long", others), ("batch 1 refused: absent 2", unknown),
+                         (f"version {MANY_DIGITS}", others), (f"batch {MANY_DIGITS} refused: long", others)]:
         router, feed = begun()
         feed.batch(answer)
-        checks.same(f"{answer} ends the feed", feed.ended(), (1, "", f"ospf: {answer}{said and ': '}{said}\n"))
+        checks.same(f"{answer[:40]} ends the feed", feed.ended(), (1, "", f"ospf: {answer}{said and ': '}{said}\n"))
     for answer, said in [("too many rows", "the program takes no more rows"), ("version 1\nversion 2", f"version 2: {others}"),
                          ("row 9 refused: kind\nversion 1", f"row 9 refused: kind, and then version 1: {unknown}")]:
         router, feed = begun()
@@ -774,6 +777,14 @@ def not_begun(checks):
     feed = Feed(router, version=None, is_accepted=False)
     feed.process.stdin.close()
     checks.same("no version, but the end", feed.ended(), (1, "", f"{pipes}the program ended\n"))
+    from routed.feed.batches import Ended
+    from routed.feed.database import begun
+    program, lines = argparse.Namespace(name="it", waiting=bytearray()), [f"v{MANY_DIGITS} none", "v0"]
+    program.line = lambda: f"ask {program.waiting.split(b',')[1].decode()} {lines.pop(0)}" if lines else "no line"
+    try:
+        checks.fail(f"a version of many digits is none: {begun(program, None)}")
+    except Ended as fault:
+        checks.same("a version of many digits is none", str(fault), "it: its version was asked for, and it answered: no line")
     for version, told in (None, ()), (7, ()), (7, whole[:3]):
         feed = Feed(router, version=version, told=told, is_accepted=False)
         feed.waits(59.9)
@@ -1136,6 +1147,24 @@ def words(program, checks):
         checks.same(f"feed {turn} ends by a signal", (feed.end(), feed.process.returncode), ("", 0))
 
 
+def queued(checks):
+    """Short asks that wait for a program which takes no rows cost little, however many they are."""
+    from routed.feed.ospf import FULL, Feed as Real, Program
+    feed, reading = Real.__new__(Real), os.pipe()
+    feed.asks, feed.unread_asks, feed.batches = reading[0], b"", argparse.Namespace(ask=lambda: None)
+    feed.program, row, began = Program(["sleep", str(PATIENCE)]), b"ask,\n", time.process_time()
+    while len(feed.program.waiting) < FULL:
+        os.write(reading[1], row * 12000)  # less than the pipe holds
+        feed.take_asks()
+    took = time.process_time() - began
+    with feed.program.child as sleeping:
+        sleeping.kill()
+    for file in reading:
+        os.close(file)
+    checks.same("asks that wait", feed.program.waiting.count(row) * len(row), len(feed.program.waiting))
+    checks.true("asks that wait: seconds of a processor", took < 2, took)
+
+
 def feed(program, checks):
     try:
         socket.create_server(("127.0.0.1", 0)).close()
@@ -1143,7 +1172,7 @@ def feed(program, checks):
         print(f"skipped: the feed, since no socket can be had: {fault}")
         return
     for part in (columns, left_out, wrapped, changes, marks, runs, streams, anew, refusals, restarted, trickle, unreached, not_begun, journals,
-                 many, lab):
+                 many, queued, lab):
         part(checks)
     for part in (with_program, beside_server, once, words, behind_front):
         part(program, checks)

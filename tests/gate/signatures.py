@@ -3,7 +3,6 @@
 Two rules hold for each call. Whatever allocates takes `alloc: Global`, after self and after rt. A call that may wait or starts workers
 takes `rt: &R`, where R may do so, and no other call does.
 """
-import os
 import re
 
 from checks import TOP

@@ -30,12 +30,14 @@ TO_NORTH, TO_SOUTH = (f"PCUpd {' '.join(route)}" for route in (NORTH, SOUTH))
 class Client:
     """A PCC of the test's own."""
 
-    def __init__(self, port, source="127.0.0.1", key=None, narrow=False):
+    def __init__(self, port, source="127.0.0.1", key=None, narrow=0, segment=0):
         self.socket = socket.socket()
         if key:
             set_key(self.socket, "127.0.0.1", key)
-        if narrow:  # it takes few bytes that it doesn't read
-            self.socket.setsockopt(socket.SOL_SOCKET, socket.SO_RCVBUF, 4096)
+        if narrow:  # bytes that it takes and doesn't read
+            self.socket.setsockopt(socket.SOL_SOCKET, socket.SO_RCVBUF, narrow)
+        if segment:  # bytes of one
+            self.socket.setsockopt(socket.IPPROTO_TCP, socket.TCP_MAXSEG, segment)
         self.socket.settimeout(SILENT if key is not None else PATIENCE)
         self.socket.bind((source, 0))
         self.socket.connect(("127.0.0.1", port))
@@ -76,7 +78,7 @@ class Client:
 class Run:
     """`routed-tools listen` and `routed-tools pcep`."""
 
-    def __init__(self, program, room, *words, listen=(), between=None, is_stateful=True):
+    def __init__(self, program, room, *words, listen=(), between=None, is_stateful=True, tool=(TOOLS, "pcep")):
         self.room, self.program, self.listen, self.words, self.version = room, program, None, listen, 0
         self.places = {word: os.path.join(room, word) for word in ("ask", "updates", "watch", "journal", "replies", "figures")}
         self.serve()
@@ -84,7 +86,7 @@ class Run:
         places = self.places_of(ask="ask", metrics="figures", replies="replies")
         if is_stateful:
             places += self.places_of(watch="watch", journal="journal") + ["--stateful"]
-        self.pcep = subprocess.Popen([TOOLS, "pcep", *places, "--port", "0", *words], stdout=subprocess.PIPE,
+        self.pcep = subprocess.Popen([*tool, *places, "--port", "0", *words], stdout=subprocess.PIPE,
                                      stderr=open(os.path.join(room, "said"), "wb"))
         self.port = int(self.pcep.stdout.readline().split(b":")[1])
         self.pcep.stdout.readline()
@@ -163,7 +165,7 @@ def sockets(program, checks, room):
     with Run(program.path, room) as run:
         checks.same("the first batch", run.publish(*rows()), b"version 1\n")
         begun(run).close()
-        clients = [Client(run.port, f"127.0.2.{at}", narrow=at == 2) for at in range(1, 65)]
+        clients = [Client(run.port, f"127.0.2.{at}", narrow=4096 if at == 2 else 0) for at in range(1, 65)]
         checks.same("64 PCCs open", [client.open() for client in clients], [["Open", "Keepalive"]] * 64)
         for client in clients[2:]:
             client.socket.sendall(request() * 50)
@@ -281,7 +283,7 @@ def busy(program, checks, room):
         def taken(run):
             held = socket.socket(socket.AF_UNIX)
             held.connect(run.places["ask"])
-            held.sendall(f"ask,1,10.0.0.1,10.0.0.4,7,0,0x0,0x0,0x0,\n".encode())
+            held.sendall(b"ask,1,10.0.0.1,10.0.0.4,7,0,0x0,0x0,0x0,\n")
             held.recv(100)
             return held
 
@@ -294,7 +296,7 @@ def busy(program, checks, room):
                 client.report(1)
                 client.report(0, 0)
                 time.sleep(1)
-                checks.same(f"and an LSP there", client.ask(), "NO-PATH 1")
+                checks.same("and an LSP there", client.ask(), "NO-PATH 1")
                 run.held.close()
                 checks.same("it is asked for once a place is free", client.read(), TO_NORTH)
             else:
@@ -566,7 +568,7 @@ def figures(program, checks, room):
         twice = Client(run.port, "127.0.9.1")
         twice.read()
         found = run.figures()
-        wanted = {"sessions": 1, "lsps": 2, "lsps_without_route": 2, "version": 3,
+        wanted = {"sessions": 1, "lsps": 2, "lsps_without_route": 2, "version": 3, "exceptions_total": 0,
                   **{f'messages_total{{type="{kind}"}}': count for kind, count in ((1, 1), (2, 1), (3, asked + 3), (6, 1), (10, 6))},
                   **{f'requests_total{{outcome="{outcome}"}}': count for outcome, count in counted.items() if count},
                   **{f'errors_total{{error="{error}"}}': count for error, count in (("4/4", 2), ("3/1", 1), ("9/1", 1))},
@@ -749,7 +751,4 @@ def pcep_runs(program, checks):
         for part in (sockets, keys, gone, full, busy, crowded, stateless, idle, shared, wanted_again, figures, rolled, long, drawn):
             inner = os.path.join(room, part.__name__)
             os.mkdir(inner)
-            try:
-                part(program, checks, inner)
-            except Exception as fault:  # the others go on
-                checks.fail(f"{part.__name__}: {type(fault).__name__}: {fault}")
+            checks.part(part.__name__, part, program, checks, inner)

@@ -8,6 +8,7 @@ import re
 import socket
 import struct
 import tempfile
+import time
 
 from checks import TOP
 from reference import formats
@@ -21,13 +22,16 @@ from routed.pcep.asks import Asks
 from routed.pcep.network import Network as Followed
 from routed.pcep.network import Sids
 from routed.pcep.pcc import Pcc as Connected
-from routed.pcep.requests import Request
+from routed.pcep.requests import Request, answer_of
 from routed.pcep.session import Session
-from routed.pcep.wanted import request_of, wanted
+from routed.pcep.versions import Watch
+from routed.pcep.wanted import request_of
+from routed.pcep.wanted import wanted as read_wanted
 from routed.pcep.wire import pack, tlv
 
 HERE = os.path.dirname(os.path.abspath(__file__))
 FREE = ",".join(["125000000"] * 8)
+LARGE = 32000  # bytes of an object that comes back in each reply
 # From 1 to 4 by 2 of cost 100, and by 3 of cost 200.
 CIRCUITS = [(1, 2, 50), (2, 4, 50), (1, 3, 100), (3, 4, 100)]
 
@@ -72,7 +76,7 @@ class Front:
     def capabilities(self):
         return b""
 
-    def later(self, seconds, call):
+    def later(self, seconds, call, owner=None):
         self.laters.append((self.time + seconds, call))
 
     def segments(self, head, route, version):
@@ -92,7 +96,7 @@ class Front:
     def unwanted(self, peer):
         return []
 
-    def ask(self, row, call):
+    def ask(self, row, call, owner=None):
         line = self.reference.reply(self.version, f"ask,1,{row}") if self.version is not None else None
         call(line) if self.held is None else self.held.append((call, line))
 
@@ -401,14 +405,14 @@ class Deaf:
     def send(self, data):
         if self.taken is None:
             raise BlockingIOError
-        self.taken += data
-        return len(data)
+        self.taken += data[:1 << 16]
+        return min(len(data), 1 << 16)
 
 
 def deaf(checks, room):
     """A PCC that sends Keepalives, but reads nothing for its dead timer."""
     front = Front(room)
-    front.pccs, front.number, front.loop = {}, 1, argparse.Namespace(after=lambda *_: None)
+    front.pccs, front.number, front.loop = {}, 1, Loop()
     front.pccs["10.0.0.1"] = pcc = Connected(front, Deaf(), "10.0.0.1")
     pcc.session.take(wire.message(1, pack(1, bytes([0x20, 10, 40, 9]))) + wire.message(2), 0.0)
     for front.time, wanted in ((39.0, True), (40.0, True), (41.0, False)):
@@ -432,6 +436,28 @@ def deaf(checks, room):
     found = [told(kind, wire.objects_of(body)) for kind, body in wire.cut(pcc.connection.taken)[0]]
     checks.same("and then it gets the newest one alone", found[-1], f"PCUpd {' '.join(SOUTH)}")
     checks.true("in one message", len(pcc.connection.taken) - waits < 1000, len(pcc.connection.taken))
+
+
+def collected(checks, room):
+    """One message whose replies are each half as long as it is, for a PCC that reads them late."""
+    front = Front(room)
+    front.publish(*rows())
+    front.pccs, front.number, front.loop = {}, 1, Loop()
+    line = front.reference.reply(1, "ask,1,10.0.0.1,10.0.0.4,7,0,0x0,0x0,0x0,")
+    front.ask = lambda row, call, owner: call(line)
+    pcc, one = Connected(front, Deaf(), "10.0.0.1"), request()[4:]
+    pcc.session.take(wire.message(1, pack(1, bytes([0x20, 10, 40, 9]))) + wire.message(2), 0.0)
+    count = (wire.MOST - 4 - LARGE) // len(one)
+    data, before, began = wire.message(3, pack(11, bytes(LARGE - 4)), one * count), len(pcc.unsent), time.process_time()
+    pcc.session.take(data, 0.0)
+    replies, pcc.connection.taken = len(pcc.unsent) - before, bytearray()
+    while pcc.unsent:
+        pcc.flush()
+    took = time.process_time() - began
+    found = [told(kind, wire.objects_of(body)) for kind, body in wire.cut(bytes(pcc.connection.taken))[0]]
+    checks.true("one message: its replies", count > 1300 and found[2:] == [PATH] * count, (count, len(found)))
+    checks.true("one message: their bytes", replies > count * LARGE, replies)
+    checks.true("one message: seconds of a processor", took < 2, took)
 
 
 def places(checks, room):
@@ -489,6 +515,34 @@ def moved(checks, room):
             asks.open()
         checks.same("asks whose connection ends", found, [("ask,1,row", "line of ask,1,row"), (None, None)])
         asks.close()
+
+
+def strange(checks, room):
+    """What no server tells: lines of versions that aren't any, and replies that can't be read."""
+    path = os.path.join(room, "watch")
+    with socket.socket(socket.AF_UNIX) as server:
+        server.bind(path)
+        server.listen()
+        for text, wanted in [(b"version 1\nversion 7\nversion", [7]), (b"busy\n", ["the place of versions is busy"]), (b"", ["the server has ended"]),
+                             *((text, ["the place of versions tells something else"])
+                               for text in (b"version \n", b"version x\n", b"version -1\n", b"version " + b"9" * 5000 + b"\n",
+                                            b"version 1\nHTTP/1.1 400 Bad Request\r\n", b"\n", b"version " + b"1" * 200))]:
+            found, loop = [], Loop()
+            front = argparse.Namespace(options=argparse.Namespace(watch=Place(path)), loop=loop, told=found.append,
+                                       lost=lambda why="the server has ended", after=0: found.append(why))
+            watch, there = Watch(front), server.accept()[0]
+            there.sendall(text)
+            if not text:
+                there.close()
+            loop.turn()
+            checks.same(f"at the place of versions: {text[:40]}", found, wanted)
+            watch.close()
+            there.close()
+    for line in ("ask 1 v1 route cost=1 hops=1 again=no ero=000c14010", "ask 1 v1 route cost=1 hops=1 again=no ero=000c14010108",
+                 "ask 1 v1 route cost=1 hops=1 again=no ero=000c1401", f"ask 1 v{'1' * 5000} none",
+                 f"ask 1 v1 route cost={'1' * 5000} hops=1 again=no ero=000c140101080a000c022000", "row 1 refused: kind", ""):
+        checks.same(f"a reply that can't be read: {line[:60]}", answer_of(line), None)
+    checks.same("and one that can", answer_of("ask 7 v1 route cost=10 hops=1 again=no ero=000c140101080a000c022000"), (1, None, 10, ["10.0.12.2"]))
 
 
 def lost(pcc):
@@ -696,7 +750,7 @@ def races(checks, room):
     (first, old), (second, _) = front.held
     front.publish(*rows([(1, 2, 50)]))
     front.held = []
-    second(front.reference.reply(3, f"ask,1,10.0.0.1,10.0.0.4,7,0,0x0,0x0,0x0,"))
+    second(front.reference.reply(3, "ask,1,10.0.0.1,10.0.0.4,7,0,0x0,0x0,0x0,"))
     front.network.reach(3)
     first(old)
     checks.same("an answer older than the network is asked for again", ([told(*one) for one in pcc.messages()], len(front.held)), ([], 1))
@@ -750,6 +804,7 @@ def making(checks, room):
     front, pcc, found = begun(1)
     checks.same("a PCC that makes none", found, [])
     front, pcc, found = begun()
+    checks.same("one that makes LSPs", found, [to_north])
     front.made = {"red": line(2)}
     checks.same("another end than it was made for", pcc.report(3, 0x89, wire.addresses_ero(NORTH)[4:], b"red", 1), ["PCInitiate "])
     front = Front(tempfile.mkdtemp(dir=room))
@@ -802,7 +857,7 @@ def initiated(checks, room):
     path = os.path.join(room, "wanted")
     with open(path, "w") as file:
         file.write("# name and ask\nred,10.0.0.1,10.0.0.4,7,1000,0x0,0x1,0x0\n\n")
-    found = wanted(path)
+    found = read_wanted(path)
     checks.same("a file of LSPs", [(key, request.row()) for key, request in found.items()],
                 [(("10.0.0.1", "red"), "10.0.0.1,10.0.0.4,7,1000,0x00000000,0x00000001,0x00000000,")])
     for line in ("red,10.0.0.1,10.0.0.4,7,1000,0x0,0x1", "red,10.0.0.1,10.0.0.1,7,1,0x0,0x1,0x0", "red,10.0.0.1,10.0.0.4,8,1,0x0,0x1,0x0",
@@ -810,7 +865,7 @@ def initiated(checks, room):
         with open(path, "w") as file:
             file.write(line)
         try:
-            checks.fail(f"{line} is taken for {wanted(path)}")
+            checks.fail(f"{line} is taken for {read_wanted(path)}")
         except Stopped as fault:
             checks.true(f"refused: {line}", "line " in str(fault), fault)
     front = Front(room, initiate=path)
@@ -956,11 +1011,8 @@ def documented(checks, _):
 
 def pcep(_, checks):
     with tempfile.TemporaryDirectory() as room:
-        for part in (mapping, malformed, timers, deaf, places, moved, delegated, followed, races, updated, initiated, making, segments,
+        for part in (mapping, malformed, timers, deaf, collected, places, moved, strange, delegated, followed, races, updated, initiated, making, segments,
                      documented):
             inner = os.path.join(room, part.__name__)
             os.mkdir(inner)
-            try:
-                part(checks, inner)
-            except Exception as fault:  # the others go on
-                checks.fail(f"{part.__name__}: {type(fault).__name__}: {fault}")
+            checks.part(part.__name__, part, checks, inner)

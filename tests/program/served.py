@@ -232,11 +232,11 @@ def closed(program, checks, room):
     rows = os.path.join(room, "rows")
     with open(rows, "w", encoding="ascii") as file:
         file.write("end,1,0\nask,7,1.1.1.1,2.2.2.2,0,5,0x0,0x0,0x0,\n")
-    for number, (streams, status, text) in enumerate([
+    for number, (shut, status, text) in enumerate([
         ("<&-", 2, ""), (">&-", 3, "end,1,0\n"), ("2>&-", 2, "end,1,0\n"), ("<&- >&-", 2, ""), ("<&- >&- 2>&-", 2, ""),
     ]):
         journal, out = (os.path.join(room, f"{kind}{number}") for kind in ("journal", "out"))
-        words = ["sh", "-c", f'exec "$@" {streams}', "sh", program.path, "serve", "--journal", journal, "--client", f"{rows}={out}"]
+        words = ["sh", "-c", f'exec "$@" {shut}', "sh", program.path, "serve", "--journal", journal, "--client", f"{rows}={out}"]
         ran = subprocess.run(words, input=b"end,1,0\n", stdout=subprocess.PIPE, stderr=subprocess.PIPE, timeout=PATIENCE)
         with open(journal, encoding="ascii") as kept, open(out, encoding="ascii") as lines:
             found = (ran.returncode, kept.read(), re.sub("^(ask 7 v)[01]", r"\1", lines.read(), flags=re.M))

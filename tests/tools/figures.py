@@ -191,10 +191,10 @@ def counted(lines):
 def alarms(program, checks, room):
     """The rules are rules, and name figures that are there."""
     rules = os.path.join(TOP, "deploy/alarms.yml")
-    page = open(os.path.join(TOP, "docs/run/WATCHING.md"), encoding="utf-8").read()
+    page = "".join(open(os.path.join(TOP, "docs/run", name), encoding="utf-8").read() for name in ("WATCHING.md", "PCEP.md"))
     with open(rules, encoding="utf-8") as file:
         named = set(re.findall(r"routed_\w+", " ".join(re.findall(r"(?m)^ *expr: (.*)", file.read()))))
-    checks.same("figures of alarms that are not in WATCHING.md", [name for name in sorted(named) if f"`{name.removesuffix('_bucket')}`" not in page], [])
+    checks.same("figures of alarms that are not on a page", [name for name in sorted(named) if f"`{name.removesuffix('_bucket')}`" not in page], [])
     if tool := shutil.which("promtool"):
         ran = subprocess.run([tool, "check", "rules", rules], capture_output=True, text=True)
         checks.same("promtool on the alarms", ran.returncode, 0)
@@ -416,12 +416,25 @@ def screen(program, checks, room):
         checks.same("the screen", (found, err, lines.get("version"), lines.get("asks"), lines.get("refused rows"), lines.get("connections")),
                     (0, "", "1, 999,999 left", "none 1, route 1", "kind 1", "ask 1, metrics 1, updates 1"))
         checks.same("a place that is no HTTP", told(front.ask), (1, "", f"status: {front.ask}: timed out\n"))
+    with socket.create_server(("127.0.0.1", 0)) as wrong:
+        port, answer = str(wrong.getsockname()[1]), b"HTTP/1.1 200 OK\r\n\r\nrouted_version x\n"
+        telling = threading.Thread(target=lambda: tell(wrong, answer))
+        telling.start()
+        checks.same("a figure that is no number", told(port), (1, "", f"status: {port}: a figure is no number: could not convert string to float: 'x'\n"))
+        telling.join()
     absent = os.path.join(room, "absent")
     checks.same("a place that isn't there", told(absent), (1, "", f"status: {absent}: No such file or directory\n"))
     checks.same("no place", told("a:b")[0], 2)
     with socket.create_server(("127.0.0.1", 0)) as silent:
         port = str(silent.getsockname()[1])
         checks.same("a place that never answers", told(port), (1, "", f"status: {port}: timed out\n"))
+
+
+def tell(listener, answer):
+    """Answers one request."""
+    with listener.accept()[0] as taken:
+        taken.recv(1 << 16)
+        taken.sendall(answer)
 
 
 # ---- a feed

@@ -49,10 +49,7 @@ def listened(program, checks):
                      failed_snapshots, server_ends, causes, fresh):
             inner = os.path.join(room, part.__name__)
             os.mkdir(inner)
-            try:
-                part(program, checks, inner, versions)
-            except Exception as fault:  # the others go on
-                checks.fail(f"{part.__name__}: {type(fault).__name__}: {fault}")
+            checks.part(part.__name__, part, program, checks, inner, versions)
     print(f"listened: {CONNECTIONS} connections, {SIGNALS} signals, {time.monotonic() - start:.0f} s")
 
 
@@ -93,11 +90,11 @@ class Connection:
 class Front:
     """A run of routed-tools listen."""
 
-    def __init__(self, program, room, *more, ask=None, updates=None, journal=None, **how):
+    def __init__(self, program, room, *more, ask=None, updates=None, journal=None, tool=tuple(LISTEN), **how):
         self.journal = os.path.join(room, "journal")
         self.ask, self.updates = (os.path.join(room, name) for name in ("ask", "updates"))
         words = ["--journal", journal or self.journal, "--ask", ask or self.ask, "--updates", updates or self.updates, *more]
-        self.child = subprocess.Popen([*LISTEN, "--program", program.path, *words], stdout=subprocess.PIPE, **{"stderr": subprocess.PIPE, **how})
+        self.child = subprocess.Popen([*tool, "--program", program.path, *words], stdout=subprocess.PIPE, **{"stderr": subprocess.PIPE, **how})
         self.said = Lines(self.child.stdout.fileno())
         self.errors = Lines(self.child.stderr.fileno()) if self.child.stderr else None
 
@@ -377,7 +374,7 @@ def places(program, checks, room, versions):
             checks.same(f"{option} {place!r}", (*found, os.listdir(room)), (2, "", [line], []))
             for name in os.listdir(room):
                 os.remove(os.path.join(room, name))
-    with Front(program, room, ask="./a:1", cwd=room) as front:
+    with Front(program, room, ask="./a:1", cwd=room):
         checks.same("a path with a colon and a slash", Connection(os.path.join(room, "a:1")).talk(f"{versions.asks[0]}\n"), f"{versions.replies[0][0]}\n")
 
 

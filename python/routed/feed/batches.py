@@ -90,7 +90,7 @@ class Batches:
         found = re.fullmatch(r"version (\d+)|batch (\d+) refused: (.+)", line)
         if not found:
             return False
-        if not self.sent or int(found[1] or found[2]) != self.version + 1:
+        if not self.sent or (found[1] or found[2]) != str(self.version + 1):
             raise Ended(f"{line}: {OTHERS}")
         self.before, self.behind = self.behind, 0
         if found[1]:

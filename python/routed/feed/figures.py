@@ -11,8 +11,8 @@ from ..net.loop import Loop
 class FeedFigures:
     """What a feed counts."""
 
-    def __init__(self, feed):
-        self.heard_at, self.links, self.marks, self.left, self.place = None, 0, 0, {}, None
+    def __init__(self, feed, say):
+        self.heard_at, self.links, self.marks, self.left, self.place, self.say = None, 0, 0, {}, None, say
         self.figures = figures = Figures()
         figures.gauge("routed_feed_connected", "Whether there is a connection to the router, 1 or 0.", lambda: int(feed.api is not None))
         figures.gauge("routed_feed_heard_age_seconds", "Seconds since the router sent anything; absent where it never did.",
@@ -22,6 +22,7 @@ class FeedFigures:
         figures.gauge("routed_feed_marks", "Routers without transit.", lambda: self.marks)
         figures.gauge("routed_feed_left_out", "Links that are left out, by the reason.", lambda: self.left, "reason")
         figures.counter("routed_feed_refused_batches_total", "Batches that the program refused, by the first word of the reason.", "word")
+        figures.counter("routed_feed_exceptions_total", "Connections that were ended by an exception in the code of this tool.")
 
     def looked(self, rows, left):
         """The network as it was looked at: its rows, and the links that are left out for each reason."""
@@ -31,9 +32,14 @@ class FeedFigures:
     def refused(self, word):
         self.figures.add("routed_feed_refused_batches_total", 1, word)
 
+    def failed(self, line):
+        """An exception has ended a connection."""
+        self.figures.add("routed_feed_exceptions_total")
+        self.say(line)
+
     def serve(self, place):
         """Begins to serve them at a place."""
-        listener, loop = place.bind(0o600), Loop()
+        listener, loop = place.bind(0o600), Loop(self.failed)
         self.place = place
         Page(loop, listener, self.figures.text)
         threading.Thread(target=turn, args=[loop], daemon=True).start()

@@ -43,6 +43,7 @@ class Account:
         figures.counter("routed_connections_total", "Connections that were taken, by their place.", "place", PLACES)
         figures.counter("routed_busy_total", "Connections that were told busy, by their place.", "place", PLACES)
         figures.counter("routed_cut_off_total", "Connections that were ended: for a line that isn't passed on, or as idle.", "reason", ("line", "idle"))
+        figures.counter("routed_exceptions_total", "Connections that were ended by an exception in the code of this tool.")
         figures.total("routed_log_dropped_total", "Lines of the log that were dropped.", lambda: log.dropped)
 
     def published(self, version):
@@ -77,6 +78,11 @@ class Account:
     def cut_off(self, place, number, reason):
         self.figures.add("routed_cut_off_total", 1, reason)
         self.log.say("info", f"{place} {number}: " + {"line": "refused, for a line that isn't passed on", "idle": "idle for too long"}[reason])
+
+    def failed(self, line):
+        """An exception has ended a connection."""
+        self.figures.add("routed_exceptions_total")
+        self.log.say("error", line)
 
     # ---- rows and lines
 

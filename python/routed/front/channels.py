@@ -10,7 +10,7 @@ import secrets
 import time
 
 from ..net.loop import READ, WRITE
-from ..net.places import Door, hang_up, peer_of
+from ..net.places import Door, Stopped, hang_up, peer_of
 from .accounts import Use
 
 LONGEST = 1 << 16  # bytes of a line and of a turn; the longest row that is accepted is far shorter
@@ -37,7 +37,9 @@ class Listener:
         peer, named = peer_of(connection)
         others = sum(channel.peer == peer for channel in self.channels if channel.connection) if self.each else 0
         if self.free and (not self.each or others < self.each):
-            self.free.popleft().begin(connection, peer, named)
+            channel = self.free.popleft()
+            channel.connection = connection  # it ends with the channel's use, however that begins
+            channel.loop.call(channel.begin, peer, named)
         else:
             self.channels[0].account.busy(self.channels[0].place, named)
             hang_up(self.loop, connection, b"busy\n")
@@ -47,7 +49,7 @@ class Listener:
         now = time.monotonic()
         for channel in self.channels:
             if channel.connection and channel.moved + self.idle <= now:
-                channel.end_idle(now)
+                channel.loop.call(channel.end_idle, now)
         first = min((channel.moved for channel in self.channels if channel.connection), default=now)
         self.loop.after(first + self.idle - now, self.end_idle)
 
@@ -80,10 +82,35 @@ class Channel:
         self.is_counted, self.state = True, None
         for file in (rows, lines):
             os.set_blocking(file, False)
+        self.loop = loop.of(self)
 
-    def begin(self, connection, peer=None, named="unknown"):
+    def named(self):
+        return f"{self.place} {self.use.number}"
+
+    def fail(self):
+        """Ends the connection for an exception. Its rows are the server's, its lines nobody's, and the next connection has this stream
+        behind the reply to a request of our own, as always. A stream that fails without a connection isn't used again."""
+        connection, self.connection, self.to_client, self.unread, self.is_over = self.connection, None, b"", b"", False
+        if connection is None:
+            self.retire()
+            return
+        connection.close()
+        use, self.use, self.peer, self.is_heard, self.state = self.use, Use(self.account, self.place, ""), None, False, None
+        self.end_rows()
+        self.settle()
+        if use.number:
+            use.end()
+
+    def retire(self):
+        """Takes the stream out of use."""
+        self.is_ended = True
+        with contextlib.suppress(ValueError):
+            self.free.remove(self)
+        self.account.log.say("error", f"{self.place}: a stream of the server isn't used again")
+
+    def begin(self, peer, named):
         self.use, self.peer = Use(self.account, self.place, named), peer
-        self.connection, self.unread, self.last, self.moved = connection, b"", b"", time.monotonic()
+        self.unread, self.last, self.moved = b"", b"", time.monotonic()
         self.is_new, self.is_taking, self.is_heard, self.is_over, self.is_read = True, True, True, False, False
         self.settle()
 
@@ -233,6 +260,13 @@ class Updates(Channel):
         super().__init__(loop, rows, lines, account)
         self.snapshots = snapshots
 
+    def fail(self):
+        self.snapshots.stop()
+        super().fail()
+
+    def retire(self):
+        raise Stopped("the server's stream of updates can't be used any more")
+
     def passed(self, end):
         return UPDATES.match(self.unread, 0, end).end()
 
@@ -240,8 +274,10 @@ class Updates(Channel):
         self.is_taking, self.last = False, last
         self.ask(self.drop_changes)
 
-    def drop_changes(self, _):
+    def drop_changes(self, version):
         """A batch that is refused takes the open changes away. Its line is nobody's."""
+        if version > self.account.version:  # an exception has swallowed its line
+            self.account.published(version)
         self.is_heard = self.is_counted = False
         self.to_server += b"end,0,0\n"
         self.ask(self.finish)

@@ -53,9 +53,9 @@ class Front:
     """The server, and the loop that serves its connections."""
 
     def __init__(self, options):
-        self.loop, self.options, self.listeners = Loop(), options, {}
         self.log = Log("listen", options.log_level)
         self.account = Account(self.log, options.journal)
+        self.loop, self.options, self.listeners = Loop(self.account.failed), options, {}
         self.snapshots, self.server, self.status = Snapshots(options.program, options.journal), None, None
         self.is_stopped = False
         self.channels, self.theirs = [], []  # ours, that of the updates first, and the server's ends of their pipes
@@ -81,7 +81,7 @@ class Front:
         os.close(self.theirs.pop(1))
         self.loop.want(self.signals, READ, self.signalled)
         self.channels[0].to_server = "".join(batches).encode()
-        self.channels[0].ask(lambda version: self.ready(version, len(batches)))
+        self.channels[0].ask(lambda version: self.loop.after(0, lambda: self.ready(version, len(batches))))  # which is the front's own
         self.channels[0].settle()
 
     def close_theirs(self):
@@ -119,7 +119,7 @@ class Front:
                 self.log.say("info", f"stopped by {number.name}")
                 self.server.terminate()
                 self.is_stopped = True
-        self.snapshots.look()
+        self.channels[0].loop.call(self.snapshots.look)
         self.status = self.server.poll()
 
     def run(self):
@@ -129,7 +129,8 @@ class Front:
             self.loop.turn()
         self.close_theirs()
         for channel in self.channels:
-            channel.read_rest()
+            if channel.connection:
+                channel.loop.call(channel.read_rest)
         if self.status and not self.is_stopped:
             what = f"ended with status {self.status}" if self.status > 0 else f"was ended by signal {-self.status}"
             self.log.say("error", f"{self.options.program} {what}")

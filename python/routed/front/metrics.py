@@ -107,8 +107,12 @@ class Reading:
 
     def __init__(self, page, connection):
         self.page, self.connection, self.asked, self.answer, self.is_over = page, connection, b"", b"", False
-        page.loop.want(connection.fileno(), READ, self.go_on)
-        page.loop.after(SECONDS, self.close)
+        self.loop = page.loop.of(self)
+        self.loop.want(connection.fileno(), READ, self.go_on)
+        self.loop.after(SECONDS, self.close)
+
+    def named(self):
+        return "a reader of figures"
 
     def go_on(self, _):
         try:
@@ -128,14 +132,16 @@ class Reading:
             self.close()
         elif b"\r\n\r\n" in self.asked or b"\n\n" in self.asked or len(self.asked) > HEAD or not is_http(self.asked):
             self.answer = answer_to(self.asked, self.page.text)
-            self.page.loop.want(self.connection.fileno(), WRITE, self.go_on)
+            self.loop.want(self.connection.fileno(), WRITE, self.go_on)
 
     def close(self):
         if not self.is_over:
             self.is_over = True
-            self.page.loop.want(self.connection.fileno(), 0)
+            self.loop.want(self.connection.fileno(), 0)
             hang_up(self.page.loop, self.connection)
             self.page.change(-1)
+
+    fail = close
 
 
 def is_http(asked):

@@ -12,11 +12,12 @@ class Snapshots:
     """Snapshots of the running journal, which `routed snapshot` makes beside the loop, one at a time."""
 
     def __init__(self, program, journal):
-        self.words, self.journal, self.child = [program, "snapshot", "--accept-torn", "--explain", "--journal", journal], journal, None
+        self.words, self.journal = [program, "snapshot", "--accept-torn", "--explain", "--journal", journal], journal
+        self.child, self.files = None, []
 
     def begin(self, version, say):
         """Gives `say` all lines of a snapshot once they are there, or the one that refuses it."""
-        self.head, self.say, self.files = f"version {version}\n".encode(), say, []
+        self.head, self.say = f"version {version}\n".encode(), say
         try:
             self.files += [os.memfd_create(name) for name in ("rows", "errors")]
             if self.is_cut_in_an_end():
@@ -42,13 +43,20 @@ class Snapshots:
             self.end(status, words if status else rows)
 
     def end(self, status, text):
-        for file in self.files:
-            os.close(file)
+        self.close()
         self.say(self.head + text + b"snapshot end\n" if status == 0 else b"snapshot refused: " + text + b"\n")
 
+    def close(self):
+        while self.files:
+            os.close(self.files.pop())
+
     def stop(self):
+        """Ends the program. Nobody is told of it."""
         if self.child:
             self.child.kill()
+            self.child.wait()
+            self.child = None
+        self.close()
 
 
 def die_with_us():

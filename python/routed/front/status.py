@@ -34,7 +34,10 @@ def read(place):
     head, _, body = data.partition(b"\r\n\r\n")
     if not re.match(rb"HTTP/1\.[01] 200 ", head):
         raise Unread(f"the answer is {head.partition(chr(13).encode())[0].decode(errors='backslashreplace') or 'empty'}")
-    return {(found[1], found[3]): float(found[4]) for line in body.decode(errors="replace").splitlines() if (found := SAMPLE.fullmatch(line))}
+    try:
+        return {(found[1], found[3]): float(found[4]) for line in body.decode(errors="replace").splitlines() if (found := SAMPLE.fullmatch(line))}
+    except ValueError as fault:
+        raise Unread(f"a figure is no number: {fault}") from None
 
 
 def labelled(figures, name):

@@ -26,12 +26,12 @@ class Watch:
             return
         watcher = Watcher(self, connection, self.account.begin("watch", named))
         self.watchers.add(watcher)
-        watcher.tell()
+        watcher.loop.call(watcher.tell)
 
     def tell(self):
         """A version is published."""
         for watcher in tuple(self.watchers):
-            watcher.tell()
+            watcher.loop.call(watcher.tell)
 
 
 class Watcher:
@@ -40,7 +40,11 @@ class Watcher:
     def __init__(self, watch, connection, number):
         self.watch, self.connection, self.number, self.begun_at = watch, connection, number, time.monotonic()
         self.unsent, self.begun, self.lines, self.is_heard = b"", None, 0, True
+        self.loop = watch.loop.of(self)
         self.wait()
+
+    def named(self):
+        return f"watch {self.number}"
 
     def tell(self):
         """Begins the newest version's line, unless one still waits."""
@@ -62,7 +66,7 @@ class Watcher:
 
     def wait(self):
         events = (READ if self.is_heard else 0) | (WRITE if self.unsent else 0)
-        self.watch.loop.want(self.connection.fileno(), events, self.go_on)
+        self.loop.want(self.connection.fileno(), events, self.go_on)
 
     def go_on(self, events):
         if events & READ and self.is_heard:
@@ -82,6 +86,10 @@ class Watcher:
 
     def close(self):
         self.watch.watchers.discard(self)
-        self.watch.account.end("watch", self.number, f"{self.lines} lines, {time.monotonic() - self.begun_at:.1f} s")
-        self.watch.loop.want(self.connection.fileno(), 0)
+        self.loop.want(self.connection.fileno(), 0)
         self.connection.close()
+        self.watch.account.end("watch", self.number, f"{self.lines} lines, {time.monotonic() - self.begun_at:.1f} s")
+
+    def fail(self):
+        if self in self.watch.watchers:
+            self.close()

@@ -1,19 +1,35 @@
-"""The event loop of the tools that have sockets."""
+"""The event loop of the tools that are connected to, and what becomes of an exception in the code of one connection."""
 import heapq
 import itertools
+import os
 import selectors
 import time
+import traceback
 
 READ, WRITE = selectors.EVENT_READ, selectors.EVENT_WRITE
+TOP = os.path.dirname(os.path.dirname(os.path.abspath(__file__)))
+MOST_TEXT = 500  # characters of an exception's text in a line of the log
+
+
+class Stopped(Exception):
+    """Its text is what was tried, and why it failed. It ends the tool, wherever it is raised."""
 
 
 class Loop:
-    """Calls what is to be done when a file can be read or written, and when a time has come."""
+    """Calls what is to be done when a file can be read or written, and when a time has come.
 
-    def __init__(self):
+    A callback may have an owner: a connection, which `named` names and `fail` ends. An exception in that callback ends its owner
+    alone, and `failed` is called with a line about it. In a callback without an owner it ends the tool."""
+
+    def __init__(self, failed=None):
         self.selector, self.keys, self.times, self.numbers = selectors.DefaultSelector(), {}, [], itertools.count()
+        self.failed = failed
 
-    def want(self, file, events, call=None):
+    def of(self, owner):
+        """This loop, for the callbacks of an owner."""
+        return Owned(self, owner)
+
+    def want(self, file, events, call=None, owner=None):
         """From now on calls this with the events that are there, and not at all without events."""
         key = self.keys.get(file)
         if events == (key.events if key else 0):
@@ -21,16 +37,63 @@ class Loop:
         if not events:
             self.selector.unregister(self.keys.pop(file).fd)
         else:
-            self.keys[file] = self.selector.modify(file, events, call) if key else self.selector.register(file, events, call)
+            self.keys[file] = (self.selector.modify if key else self.selector.register)(file, events, (owner, call))
 
-    def after(self, seconds, call):
-        heapq.heappush(self.times, (time.monotonic() + seconds, next(self.numbers), call))
+    def after(self, seconds, call, owner=None):
+        heapq.heappush(self.times, (time.monotonic() + seconds, next(self.numbers), owner, call))
 
     def turn(self):
         """Waits for an event or a time, and calls all that are there."""
         ready = self.selector.select(max(self.times[0][0] - time.monotonic(), 0) if self.times else None)
         for key, events in ready:
             if self.keys.get(key.fd) is key:  # else it was changed in this turn
-                key.data(events)
+                self.call(*key.data, events)
         while self.times and self.times[0][0] <= time.monotonic():
-            heapq.heappop(self.times)[2]()
+            self.call(*heapq.heappop(self.times)[2:])
+
+    def call(self, owner, call, *given):
+        """Calls this for its owner."""
+        try:
+            call(*given)
+        except Stopped:
+            raise
+        except Exception as fault:
+            if owner is None or self.failed is None:
+                raise
+            self.end(owner, fault)
+
+    def end(self, owner, fault):
+        """Ends an owner: its files are let go first, so that an exception in its end can't come again."""
+        self.failed(ended_by(owner.named(), fault))
+        for file in [file for file, key in self.keys.items() if key.data[0] is owner]:
+            self.want(file, 0)
+        try:
+            owner.fail()
+        except Stopped:
+            raise
+        except Exception as another:
+            self.failed(ended_by(owner.named(), another))
+
+
+class Owned:
+    """A loop for the callbacks of one owner."""
+
+    def __init__(self, loop, owner):
+        self.loop, self.owner, self.of = loop, owner, loop.of
+
+    def want(self, file, events, call=None):
+        self.loop.want(file, events, call, self.owner)
+
+    def after(self, seconds, call):
+        self.loop.after(seconds, call, self.owner)
+
+    def call(self, call, *given):
+        self.loop.call(self.owner, call, *given)
+
+
+def ended_by(name, fault):
+    """The line about a connection that an exception has ended: the exception's type, where it was raised, and its text."""
+    *_, (frame, line) = traceback.walk_tb(fault.__traceback__)
+    path = frame.f_code.co_filename
+    text = " ".join(str(fault).split())[:MOST_TEXT]
+    return f"{name}: ended by an exception, {type(fault).__name__} at {path.removeprefix(f'{TOP}/')}:{line}: {text}"

@@ -8,15 +8,11 @@ import re
 import socket
 import struct
 
-from .loop import READ
+from .loop import READ, Stopped
 
 BACKLOG = 128  # connections that wait to be accepted; a UNIX socket refuses others to a client that does not wait
 PAUSE, LINGER = 0.1, 1  # seconds: until accepting is tried again, and for what a closing connection still sends
 DROPPED = 1 << 16  # bytes of that which are dropped in a turn of the loop
-
-
-class Stopped(Exception):
-    """Its text is what was tried, and why it failed."""
 
 
 @contextlib.contextmanager
@@ -97,41 +93,59 @@ class Door:
     def accept(self, _):
         try:
             connection, _ = self.listener.accept()
-            connection.setblocking(False)
-            if connection.family != socket.AF_UNIX:
-                connection.setsockopt(socket.IPPROTO_TCP, socket.TCP_NODELAY, 1)
-                connection.setsockopt(socket.SOL_SOCKET, socket.SO_KEEPALIVE, 1)
         except OSError:  # it has gone already, or too many files are open
             self.loop.want(self.listener.fileno(), 0)
             self.loop.after(PAUSE, lambda: self.is_open and self.open())
             return
+        Held(self.loop, connection).loop.call(self.greet, connection)
+
+    def greet(self, connection):
+        connection.setblocking(False)
+        if connection.family != socket.AF_UNIX:
+            with contextlib.suppress(OSError):  # it has gone already, which its first read shows
+                connection.setsockopt(socket.IPPROTO_TCP, socket.TCP_NODELAY, 1)
+                connection.setsockopt(socket.SOL_SOCKET, socket.SO_KEEPALIVE, 1)
         self.take(connection)
+
+
+class Held:
+    """A connection that nobody has but the loop: it isn't taken yet, or has been hung up."""
+
+    def __init__(self, loop, connection):
+        self.loop, self.connection = loop.of(self), connection
+
+    def named(self):
+        return "a connection"
+
+    def close(self):
+        if self.connection.fileno() >= 0:
+            self.loop.want(self.connection.fileno(), 0)
+            self.connection.close()
+
+    fail = close
+
+    def drop(self, _):
+        """Reads what nobody wants any more."""
+        try:
+            if not self.connection.recv(DROPPED):
+                self.close()
+        except BlockingIOError:
+            pass
+        except OSError:
+            self.close()
 
 
 def hang_up(loop, connection, last=b"", is_read=False):
     """Ends a connection by its last line. What it still sends is read for a moment: closed before that, it could lose lines."""
-    def close():
-        if connection.fileno() >= 0:
-            loop.want(connection.fileno(), 0)
-            connection.close()
-
-    def drop(_):
-        try:
-            if not connection.recv(DROPPED):
-                close()
-        except BlockingIOError:
-            pass
-        except OSError:
-            close()
-
     with contextlib.suppress(OSError):
         connection.sendall(last)
         connection.shutdown(socket.SHUT_WR)
     if is_read:
         connection.close()
     else:
-        loop.want(connection.fileno(), READ, drop)
-        loop.after(LINGER, close)
+        held = Held(loop, connection)
+        held.loop.want(connection.fileno(), READ, held.drop)
+        held.loop.after(LINGER, held.close)
 
 
 def peer_of(connection):

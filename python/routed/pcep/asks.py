@@ -58,12 +58,16 @@ class Connection:
     """One connection: asks in order, whose lines come in that order."""
 
     def __init__(self, asks):
-        self.asks, self.calls, self.unsent, self.unread = asks, collections.deque(), b"", b""
+        self.asks, self.calls, self.unsent, self.unread = asks, collections.deque(), bytearray(), b""
         self.is_busy, self.is_served, self.is_settled = False, False, False
         self.socket = asks.place.connect()
         self.socket.setblocking(False)
-        asks.loop.want(self.socket.fileno(), READ, self.go_on)
-        asks.loop.after(AGAIN, self.settle)
+        self.loop = asks.loop.of(self)
+        self.loop.want(self.socket.fileno(), READ, self.go_on)
+        self.loop.after(AGAIN, self.settle)
+
+    def named(self):
+        return "a connection for asks"
 
     def settle(self):
         """It was kept for a while, so its end is no reason to wait before the next."""
@@ -71,18 +75,19 @@ class Connection:
 
     def ask(self, row, call, tries):
         self.calls.append((row, call, tries))
-        had, self.unsent = self.unsent, self.unsent + f"{row}\n".encode()
-        if not had:
+        has_waited = bool(self.unsent)
+        self.unsent += f"{row}\n".encode()
+        if not has_waited:
             self.send()
 
     def send(self):
         try:
-            self.unsent = self.unsent[self.socket.send(self.unsent):]
+            del self.unsent[:self.socket.send(self.unsent)]
         except BlockingIOError:
             pass
         except OSError:  # its lines end, too
-            self.unsent = b""
-        self.asks.loop.want(self.socket.fileno(), READ | (WRITE if self.unsent else 0), self.go_on)
+            self.unsent.clear()
+        self.loop.want(self.socket.fileno(), READ | (WRITE if self.unsent else 0), self.go_on)
 
     def go_on(self, events):
         if events & WRITE:
@@ -111,6 +116,8 @@ class Connection:
 
     def close(self):
         if self.socket.fileno() >= 0:
-            self.asks.loop.want(self.socket.fileno(), 0)
+            self.loop.want(self.socket.fileno(), 0)
             self.socket.close()
             self.asks.gone(self)
+
+    fail = close

@@ -23,7 +23,7 @@ class Front:
     """The PCCs, and what they share."""
 
     def __init__(self, options):
-        self.options, self.loop, self.log, self.clock = options, Loop(), Log("pcep", options.log_level), time.monotonic
+        self.options, self.loop, self.log, self.clock = options, Loop(self.failed), Log("pcep", options.log_level), time.monotonic
         self.sids = Sids(options.sids) if options.sids else None
         self.network, self.replies = Network(options.journal), Replies(options.replies) if options.replies else None
         self.version, self.is_away, self.pccs, self.number = 0, True, {}, int(time.time())
@@ -42,6 +42,7 @@ class Front:
         figures.counter("routed_pcep_errors_total", "Errors that were sent, by type and value.", "error")
         figures.counter("routed_pcep_refused_by_pccs_total", "Errors of PCCs, by type and value.", "error")
         figures.counter("routed_pcep_moves_total", "What was done with LSPs, by the reason.", "reason")
+        figures.counter("routed_pcep_exceptions_total", "Connections that were ended by an exception in the code of this tool.")
         self.signals, write = os.pipe()
         os.set_blocking(write, False)
         signal.set_wakeup_fd(write, warn_on_full_buffer=False)
@@ -57,8 +58,13 @@ class Front:
     def count(self, what, value):
         self.figures.add(f"routed_pcep_{what}_total", 1, value)
 
-    def later(self, seconds, call):
-        self.loop.after(seconds, call)
+    def failed(self, line):
+        """An exception has ended a connection."""
+        self.figures.add("routed_pcep_exceptions_total")
+        self.say("error", line)
+
+    def later(self, seconds, call, owner):
+        self.loop.after(seconds, call, owner)
 
     def capabilities(self):
         """TLVs of this side's Open."""
@@ -70,11 +76,11 @@ class Front:
         self.network.reach(version)
         return self.sids.segments(self.network, head, fars, version)
 
-    def ask(self, row, call):
+    def ask(self, row, call, owner):
         def answered(sent, line):
             if line is not None and self.replies and line.startswith("ask "):
                 self.replies.keep(sent, line)
-            call(line)
+            self.loop.call(owner, call, line)
 
         self.asks.ask(row, answered)
 
@@ -134,7 +140,7 @@ class Front:
     def again(self):
         for pcc in [*self.pccs.values()]:
             if pcc.session.state == UP:
-                pcc.session.again()
+                pcc.loop.call(pcc.session.again)
 
     # ---- PCCs
 
@@ -157,7 +163,7 @@ class Front:
     def tick(self):
         """Each second: timers, and SIDs that changed at no version of their own."""
         for pcc in [*self.pccs.values()]:
-            pcc.tick()
+            pcc.loop.call(pcc.tick)
         if self.sids and self.sids.look():
             self.again()
         self.loop.after(1, self.tick)
@@ -179,7 +185,7 @@ class Front:
         self.lsps_unwanted = {key: None for key in self.lsps_wanted.keys() | self.lsps_unwanted.keys() if key not in found}
         self.lsps_wanted = found
         for pcc in [*self.pccs.values()]:
-            pcc.session.lsps.making.reread()
+            pcc.loop.call(pcc.session.lsps.making.reread)
 
     def run(self):
         self.is_over = False
@@ -199,5 +205,5 @@ class Front:
         while not self.is_over:
             self.loop.turn()
         for pcc in [*self.pccs.values()]:
-            pcc.session.stop("this front ends", wire.close(1))
+            pcc.loop.call(pcc.session.stop, "this front ends", wire.close(1))
         return 0

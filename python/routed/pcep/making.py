@@ -73,7 +73,7 @@ class Making:
         if name not in self.initiated and name not in self.unmade:
             setup_type = max(self.session.setup_types)
             self.initiated[name] = 0, request
-            self.front.ask(request.row(self.session.group(setup_type)), lambda line: self.create(name, request, setup_type, line))
+            self.front.ask(request.row(self.session.group(setup_type)), lambda line: self.create(name, request, setup_type, line), self.session.owner)
 
     def create(self, name, request, setup_type, line):
         if self.session.state != "up":
@@ -90,11 +90,11 @@ class Making:
             self.initiated.pop(name, None)
             self.front.say("warning", f"{self.session.peer}: {name!r} isn't made: {why[1]}")
             if line is None and not self.front.is_away:
-                self.front.later(1, self.initiate)
+                self.front.later(1, self.initiate, self.session.owner)
             return
         self.initiated[name] = asked = self.lsps.next_srp(), request
         self.front.later(UNREPORTED, lambda: self.initiated.get(name) is asked and self.front.say(
-            "warning", f"{self.session.peer}: {name!r} was to be made, and isn't reported"))
+            "warning", f"{self.session.peer}: {name!r} was to be made, and isn't reported"), self.session.owner)
         self.front.count("moves", "made")
         self.session.send(wire.message(
             wire.INITIATE, self.lsps.srp_object(0, setup_type),

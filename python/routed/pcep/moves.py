@@ -21,14 +21,14 @@ class Moves:
             return
         lsp.is_asked = True
         request, group = lsp.request, self.session.group(lsp.setup_type)
-        self.front.ask(request.row(group), lambda line: self.answered(lsp, request, group, line))
+        self.front.ask(request.row(group), lambda line: self.answered(lsp, request, group, line), self.session.owner)
 
     def answered(self, lsp, request, group, line):
         lsp.is_asked = False
         if self.session.state != "up" or self.lsps.all.get(lsp.number) is not lsp or not lsp.is_ours():
             return
         if line is None and not self.front.is_away:  # the server is busy
-            self.front.later(1, lambda: self.lsps.all.get(lsp.number) is lsp and lsp.is_ours() and self.ask(lsp))
+            self.front.later(1, lambda: self.lsps.all.get(lsp.number) is lsp and lsp.is_ours() and self.ask(lsp), self.session.owner)
         answer = answer_of(line or "")
         if answer and request is lsp.request and answer.version >= self.front.network.version:
             self.judge(lsp, group, answer)
@@ -72,7 +72,8 @@ class Moves:
             return True
         if lsp.moved_at is None or self.front.clock() - lsp.moved_at >= options.calm:
             return False
-        self.front.later(lsp.moved_at + options.calm - self.front.clock(), lambda: self.lsps.all.get(lsp.number) is lsp and self.ask(lsp))
+        self.front.later(lsp.moved_at + options.calm - self.front.clock(), lambda: self.lsps.all.get(lsp.number) is lsp and self.ask(lsp),
+                         self.session.owner)
         return True
 
     def move(self, lsp, ero, why, answer):

@@ -1,7 +1,8 @@
 """The connection of one PCC."""
 from ..net.loop import READ, WRITE
 from ..net.places import hang_up
-from .session import Session
+from . import wire
+from .session import OVER, UP, Session
 
 FULL, MOST_ASKED = 1 << 20, 256  # bytes that wait for a PCC, and its asks: beyond them nothing is read from it
 LINGER = 5  # seconds that a session's last bytes have
@@ -12,21 +13,33 @@ class Pcc:
 
     def __init__(self, front, connection, peer):
         self.front, self.connection, self.peer = front, connection, peer
-        self.unsent, self.is_ending, self.taken_at = b"", False, front.clock()
-        self.session = Session(front, peer, front.number, self.send, self.end, front.clock())
+        self.loop, self.unsent, self.is_ending, self.is_closed, self.taken_at = front.loop.of(self), bytearray(), False, False, front.clock()
+        self.session = Session(front, peer, front.number, self.send, self.end, front.clock(), self)
         self.want()
+
+    def named(self):
+        return self.peer
+
+    def fail(self):
+        """Ends the connection for an exception, by a Close where the PCC isn't in the middle of a message."""
+        is_up, self.session.state, self.is_ending = self.session.state == UP, OVER, True
+        self.leave()
+        self.close(wire.close(1) if is_up and not self.unsent else b"")
 
     def is_held(self):
         return len(self.unsent) > FULL or self.session.asked > MOST_ASKED
 
     def want(self):
-        if self.connection.fileno() >= 0:
+        if not self.is_closed and self.connection.fileno() >= 0:
             reads = READ if not self.is_ending and not self.is_held() else 0
-            self.front.loop.want(self.connection.fileno(), reads | (WRITE if self.unsent else 0), self.go_on)
+            self.loop.want(self.connection.fileno(), reads | (WRITE if self.unsent else 0), self.go_on)
 
     def send(self, data):
-        had, self.unsent = self.unsent, self.unsent + data
-        if not had:
+        if self.is_closed:
+            return
+        has_waited = bool(self.unsent)
+        self.unsent += data
+        if not has_waited:
             self.taken_at = self.front.clock()
             self.flush()
         elif len(self.unsent) > FULL:
@@ -34,14 +47,15 @@ class Pcc:
 
     def flush(self):
         try:
-            sent = self.connection.send(self.unsent)
-            self.unsent, self.taken_at = self.unsent[sent:], self.front.clock()
+            del self.unsent[:self.connection.send(self.unsent)]
+            self.taken_at = self.front.clock()
         except BlockingIOError:
             pass
         except OSError as fault:
-            self.unsent = b""
+            self.unsent.clear()
+            why = f"its connection is gone: {fault.strerror}"
             if self.connection.fileno() >= 0:
-                self.front.loop.after(0, lambda: self.session.stop(f"its connection is gone: {fault.strerror}"))
+                self.loop.after(0, lambda: self.session.stop(why))
         if self.is_ending and not self.unsent:
             self.close()
         elif hasattr(self, "session"):
@@ -70,22 +84,27 @@ class Pcc:
         now = self.front.clock()
         self.session.tick(now)
         if self.unsent and now - self.taken_at > (self.session.dead or 120):
-            self.unsent = b""
+            self.unsent.clear()
             self.session.stop("its PCC reads nothing")
         self.want()
 
     def end(self):
         """Ends the connection once its last bytes are sent. Another session of this PCC may begin at once."""
         self.is_ending = True
-        if self.front.pccs.get(self.peer) is self:
-            del self.front.pccs[self.peer]
+        self.leave()
         if self.unsent:
-            self.front.loop.after(LINGER, self.close)
+            self.loop.after(LINGER, self.close)
             self.want()
         else:
             self.close()
 
-    def close(self):
-        if self.connection.fileno() >= 0:
-            self.front.loop.want(self.connection.fileno(), 0)
-            hang_up(self.front.loop, self.connection)
+    def leave(self):
+        """Another session of this PCC may begin."""
+        if self.front.pccs.get(self.peer) is self:
+            del self.front.pccs[self.peer]
+
+    def close(self, last=b""):
+        if not self.is_closed and self.connection.fileno() >= 0:
+            self.is_closed = True
+            self.loop.want(self.connection.fileno(), 0)
+            hang_up(self.front.loop, self.connection, last)

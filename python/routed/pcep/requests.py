@@ -18,7 +18,9 @@ UNAVAILABLE, UNKNOWN_TO, UNKNOWN_FROM = 1, 2, 4  # bits of the NO-PATH-VECTOR
 REVERSE = 1 << 4  # RP: both directions
 REOPTIMIZE = 1 << 3  # RP
 VECTORS = {"none": 0, "unknown-to": UNKNOWN_TO, "unknown-from": UNKNOWN_FROM}
-REPLY = re.compile(r"ask \d+ v(\d+) (?:route cost=(\d+) hops=\d+ again=(?:yes|no) ero=([0-9a-f]+)|(none|unknown-from|unknown-to))")
+NUMBER = "[0-9]{1,20}"
+REPLY = re.compile(rf"ask {NUMBER} v({NUMBER}) (?:route cost=({NUMBER}) hops={NUMBER} again=(?:yes|no) "
+                   "ero=([0-9a-f]{8}(?:[0-9a-f]{16})+)|(none|unknown-from|unknown-to))")  # the header, and 8 bytes of each link
 
 Answer = namedtuple("Answer", "version why cost fars")  # why there is no route: a word of a reply line; else its cost and far addresses
 

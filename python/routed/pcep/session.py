@@ -15,10 +15,11 @@ OPEN_WAIT, KEEP_WAIT, UP, OVER = "open wait", "keep wait", "up", "over"
 
 
 class Session:
-    """`front` has the options, asks and counts; `send` takes bytes for the PCC, and `end` closes once they are sent."""
+    """`front` has the options, asks and counts; `send` takes bytes for the PCC, and `end` closes once they are sent. An exception in
+    what is called later ends `owner`."""
 
-    def __init__(self, front, peer, number, send, end, now):
-        self.front, self.peer, self.number, self.put, self.end = front, peer, number, send, end
+    def __init__(self, front, peer, number, send, end, now, owner=None):
+        self.front, self.peer, self.number, self.put, self.end, self.owner = front, peer, number, send, end, owner
         self.state, self.unread, self.began_at, self.sent_at, self.heard_at = OPEN_WAIT, b"", now, now, now
         self.keepalive, self.dead, self.unknown = KEEPALIVE, 0, []
         self.capabilities, self.setup_types, self.most_sids = 0, {0}, None
@@ -207,7 +208,7 @@ class Session:
     def ask(self, asked, svec=b""):
         self.asked += 1
         self.vain.pop(asked.id, None)
-        self.front.ask(asked.request.row(self.group(asked.setup_type)), lambda line: self.answered(asked, svec, line))
+        self.front.ask(asked.request.row(self.group(asked.setup_type)), lambda line: self.answered(asked, svec, line), self.owner)
 
     def group(self, setup_type):
         """The group that links of a segment routing path have to be in."""
@@ -269,7 +270,7 @@ class Session:
         """A new version: asks again for what had no path, and for the LSPs."""
         for asked in [*self.vain.values()]:
             self.asked += 1
-            self.front.ask(asked.request.row(self.group(asked.setup_type)), lambda line, asked=asked: self.vain_answered(asked, line))
+            self.front.ask(asked.request.row(self.group(asked.setup_type)), lambda line, asked=asked: self.vain_answered(asked, line), self.owner)
         self.lsps.moves.again()
         self.lsps.making.initiate()
 

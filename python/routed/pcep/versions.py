@@ -1,7 +1,11 @@
 """The place where the server tells versions."""
+import re
+
 from ..net.loop import READ
 
-BUSY_AGAIN = 1  # seconds from one try to connect to the next where the place has no room
+LATE_AGAIN = 1  # seconds from one try to connect to the next where the place has no room, or tells something else
+LONGEST = 100  # bytes of a line that has no end yet
+VERSION = re.compile(rb"version ([0-9]{1,20})")
 
 
 class Watch:
@@ -10,7 +14,14 @@ class Watch:
     def __init__(self, front):
         self.front, self.unread, self.socket = front, b"", front.options.watch.connect()
         self.socket.setblocking(False)
-        front.loop.want(self.socket.fileno(), READ, self.read)
+        self.loop = front.loop.of(self)
+        self.loop.want(self.socket.fileno(), READ, self.read)
+
+    def named(self):
+        return "the connection for versions"
+
+    def fail(self):
+        self.front.lost("the connection for versions has ended")
 
     def read(self, _):
         try:
@@ -24,13 +35,15 @@ class Watch:
             return
         *lines, self.unread = (self.unread + data).split(b"\n")
         if b"busy" in lines:
-            self.front.lost("the place of versions is busy", BUSY_AGAIN)
+            self.front.lost("the place of versions is busy", LATE_AGAIN)
             return
-        versions = [int(line.split()[1]) for line in lines if line.startswith(b"version ")]
-        if versions:
-            self.front.told(versions[-1])
+        versions = [VERSION.fullmatch(line) for line in lines]
+        if None in versions or len(self.unread) > LONGEST:
+            self.front.lost("the place of versions tells something else", LATE_AGAIN)
+        elif versions:
+            self.front.told(int(versions[-1][1]))
 
     def close(self):
         if self.socket.fileno() >= 0:
-            self.front.loop.want(self.socket.fileno(), 0)
+            self.loop.want(self.socket.fileno(), 0)
             self.socket.close()

@@ -86,16 +86,17 @@ class Api:
             data = made.recv(1 << 16)
         if not data:
             raise ApiError("the router closed the connection")
-        data, found = self.unread[made] + data, []
-        while len(data) >= HEADER.size:
-            version, kind, length, _ = HEADER.unpack_from(data)
+        data, at, found = self.unread[made] + data, 0, []
+        while len(data) - at >= HEADER.size:
+            version, kind, length, _ = HEADER.unpack_from(data, at)
             if version != VERSION:
                 raise ApiError(f"a message of version {version}")
-            if len(data) < HEADER.size + length:
+            end = at + HEADER.size + length
+            if len(data) < end:
                 break
-            body, data = data[HEADER.size:HEADER.size + length], data[HEADER.size + length:]
+            body, at = data[at + HEADER.size:end], end
             if kind == REPLY and body[:1] not in (b"\0", b""):
                 raise ApiError(f"the router refused a request, code {body[0] - 256}")
             found.append((kind, body))
-        self.unread[made] = data
+        self.unread[made] = data[at:]
         return found

@@ -17,6 +17,7 @@ import subprocess
 import sys
 import time
 
+from ...net.loop import ended_by
 from ...net.places import Place, Stopped
 from ..batches import Batches, Ended, journal
 from ..database import begun
@@ -66,19 +67,19 @@ class Program:
         self.source = self.child.stdout.fileno() if command else 0
         with naming(self.name):
             os.set_blocking(self.to, not command)
-        self.waiting, self.unread = b"", b""
+        self.waiting, self.unread = bytearray(), b""
         self.lines = collections.deque()  # whole ones that weren't taken yet
 
     def flush(self):
         with naming(f"{self.name}: rows can't be written"):
             try:
-                self.waiting = self.waiting[os.write(self.to, self.waiting[:1 << 16]):]
+                del self.waiting[:os.write(self.to, self.waiting[:1 << 16])]
             except BlockingIOError:
                 pass
             except BrokenPipeError:
                 if not select.select([self.source], [], [], PATIENCE)[0]:
                     raise
-                self.waiting = b""  # its last lines say why
+                self.waiting.clear()  # its last lines say why
 
     def read(self):
         with naming(f"{self.name}: lines can't be read"):
@@ -120,7 +121,7 @@ class Feed:
         self.event_at = 0.0
         self.hold_until, self.awaited, self.awaited_sids = None, set(), {}  # links that the program has, and the router didn't tell of yet
         self.left, self.told = None, set()  # what was said
-        self.figures = FeedFigures(self)
+        self.figures = FeedFigures(self, say)
 
     def run(self):
         if self.asked.metrics:
@@ -194,13 +195,21 @@ class Feed:
     def soon(self, now, after):
         self.look_at = min(self.look_at or now + after, now + after)
 
-    def take_events(self, source):
+    def of_router(self, call, *given):
+        """What a call makes of what the router sent; None where that ends the connection to it."""
         try:
-            messages = self.api.messages(source)
+            return call(*given)
         except ApiError as fault:
             self.lose(fault)
-            return
-        now = time.monotonic()
+        except Exception as fault:
+            self.figures.failed(ended_by(f"{self.asked.router} port {self.asked.port}", fault))
+            self.lose("an exception has ended it")
+
+    def take_events(self, source):
+        self.of_router(self.take_messages, source)
+
+    def take_messages(self, source):
+        messages, now = self.api.messages(source), time.monotonic()
         self.figures.heard_at = now
         for kind, body in messages:
             if kind in (LSA_UPDATE, LSA_DELETE):
@@ -257,8 +266,11 @@ class Feed:
 
     def look(self, now):
         """Writes the next batch towards the network as it is."""
-        rows, left, wrapped = self.lsdb.network()
         self.look_at = None
+        network = self.of_router(self.lsdb.network)
+        if network is None:
+            return
+        rows, left, wrapped = network
         self.awaited -= rows.keys()
         self.awaited_sids = {key: label for key, label in self.awaited_sids.items() if key not in self.lsdb.sids}
         if self.hold_until is not None and now >= self.hold_until:

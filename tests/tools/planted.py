@@ -1,0 +1,71 @@
+"""A tool of this tree in whose callbacks exceptions are planted: `planted.py FILE TOOL WORDS`.
+
+Each line of FILE names one of PLACES, as `Channel.take`, and maybe whose, as `Pcc.tick 127.0.0.1` or `Watcher.tell 2`. The next call of the first line's place
+raises, before it does anything, or with a `!` behind the name after it has done all. The line is gone then."""
+import os
+import sys
+
+sys.dont_write_bytecode = True
+sys.path.insert(1, os.path.join(os.path.dirname(os.path.dirname(os.path.dirname(os.path.abspath(__file__)))), "python"))
+from routed import tools
+from routed.feed.ospf import lsas
+from routed.front import accounts, channels, listen, metrics, snapshots, watch
+from routed.net import places
+from routed.pcep import asks, front, making, moves, pcc, session, versions
+
+
+class Planted(Exception):
+    """What is planted."""
+
+
+PLACES = {
+    "listen": [(channels.Channel, "begin take settle read_lines end_idle finish"), (channels.Updates, "go_on drop_changes"),
+               (accounts.Account, "rows lines"), (snapshots.Snapshots, "begin look"), (watch.Watcher, "tell go_on"),
+               (metrics, "answer_to"), (metrics.Reading, "close"), (places.Held, "drop"), (channels, "peer_of"), (listen.Front, "signalled")],
+    "pcep": [(pcc.Pcc, "go_on flush tick close"), (session.Session, "message answered again"), (moves.Moves, "again answered"),
+             (making.Making, "reread"), (front.Front, "take signalled"), (asks.Connection, "read"), (versions.Watch, "read"),
+             (metrics, "answer_to")],
+    "feed": [(lsas.Lsdb, "take network"), (metrics, "answer_to")]}
+
+
+def plant(file, where, name):
+    real, title = getattr(where, name), f"{where.__name__.rpartition('.')[2]}.{name}"
+
+    def planted(*given):
+        if is_next(file, title, given):
+            raise Planted("of two\nlines")
+        found = real(*given)
+        if is_next(file, f"{title}!", given):
+            raise Planted("of two\nlines")
+        return found
+
+    setattr(where, name, planted)
+
+
+def is_next(file, title, given):
+    """Whether the file's first line is this call, which it has no more then."""
+    try:
+        with open(file, encoding="ascii") as lines:
+            first, *rest = lines.read().splitlines()
+    except (OSError, ValueError):  # it isn't there, or has no line
+        return False
+    wanted, _, whose = first.partition(" ")
+    if wanted != title or whose and whose != name_of(given[0]):
+        return False
+    with open(file, "w", encoding="ascii") as lines:
+        lines.write("".join(f"{line}\n" for line in rest))
+    return True
+
+
+def name_of(one):
+    """The number of a watcher; else the address of the PCC that this belongs to."""
+    if isinstance(one, watch.Watcher):
+        return str(one.number)
+    return one.peer if hasattr(one, "peer") else one.session.peer
+
+
+if __name__ == "__main__":
+    for place, names in PLACES[sys.argv[2]]:
+        for called in names.split():
+            plant(sys.argv[1], place, called)
+    sys.exit(tools.main(sys.argv[2:]))
