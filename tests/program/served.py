@@ -240,7 +240,7 @@ def closed(program, checks, room):
         ran = subprocess.run(words, input=b"end,1,0\n", stdout=subprocess.PIPE, stderr=subprocess.PIPE, timeout=PATIENCE)
         with open(journal, encoding="ascii") as kept, open(out, encoding="ascii") as lines:
             found = (ran.returncode, kept.read(), re.sub("^(ask 7 v)[01]", r"\1", lines.read(), flags=re.M))
-        checks.same(f"serve with {streams}", found, (status, text, "row 1 refused: kind\nask 7 v unknown-from\n"))
+        checks.same(f"serve with {shut}", found, (status, text, "row 1 refused: kind\nask 7 v unknown-from\n"))
 
 
 def hung_up(program, checks, room):
