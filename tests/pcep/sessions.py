@@ -438,6 +438,23 @@ def deaf(checks, room):
     checks.true("in one message", len(pcc.connection.taken) - waits < 1000, len(pcc.connection.taken))
 
 
+def reset(checks, room):
+    """A connection that is reset is closed as soon as that is known."""
+    front = Front(room)
+    front.pccs, front.number, front.loop = {}, 1, Loop()
+    with socket.create_server(("127.0.0.1", 0)) as listener:
+        client = socket.create_connection(listener.getsockname())
+        connection = listener.accept()[0]
+    connection.setblocking(False)
+    front.pccs["10.0.0.1"] = Connected(front, connection, "10.0.0.1")
+    client.setsockopt(socket.SOL_SOCKET, socket.SO_LINGER, struct.pack("ii", 1, 0))
+    client.close()
+    front.loop.turn()
+    checks.same("a reset: its session ends, and its end is waited for", (front.pccs, [*front.loop.keys]), ({}, [connection.fileno()]))
+    front.loop.turn()
+    checks.same("a reset: it is closed", (connection.fileno(), front.loop.keys), (-1, {}))
+
+
 def collected(checks, room):
     """One message whose replies are each half as long as it is, for a PCC that reads them late."""
     front = Front(room)
@@ -1011,7 +1028,7 @@ def documented(checks, _):
 
 def pcep(_, checks):
     with tempfile.TemporaryDirectory() as room:
-        for part in (mapping, malformed, timers, deaf, collected, places, moved, strange, delegated, followed, races, updated, initiated, making, segments,
+        for part in (mapping, malformed, timers, deaf, reset, collected, places, moved, strange, delegated, followed, races, updated, initiated, making, segments,
                      documented):
             inner = os.path.join(room, part.__name__)
             os.mkdir(inner)

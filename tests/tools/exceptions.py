@@ -17,8 +17,10 @@ from pcep.sessions import PATH, request, rows
 from pcep.runs import OPENED, TO_NORTH, TO_SOUTH, Client, Run, begun, wait
 from program.serving import PATIENCE
 
-from routed.front import metrics, status
+from routed.front import channels, metrics, status
+from routed.front.accounts import Account
 from routed.net import loop, places
+from routed.net.log import Log
 from routed.pcep import wire
 from routed.net.places import Place, Stopped
 
@@ -30,7 +32,7 @@ ASK, REPLY = ASKS["route"], re.compile(r"ask 1 v\d+ (?:route .*|unknown-from)\n"
 
 
 def exceptions(program, checks):
-    for part in (of_loop, of_door, of_listen, of_streams, of_updates, of_idle, of_pcep, of_server, of_feed):
+    for part in (of_loop, of_door, of_stream, of_listen, of_streams, of_updates, of_idle, of_pcep, of_server, of_feed):
         with tempfile.TemporaryDirectory() as room:
             checks.part(f"exceptions: {part.__name__}", part, program, checks, room)
 
@@ -137,6 +139,24 @@ def of_door(_, checks, room):
         one.close()
 
 
+def of_stream(_, checks, room):
+    """A stream that nobody has, and whose lines can't be read, is given to nobody."""
+    said, (rows, to_server), (from_server, lines) = [], os.pipe(), os.pipe()
+    account = Account(Log("listen", "error", None), os.path.join(room, "journal"))
+    account.log.say, account.lines, made = lambda level, text: said.append(text), None, loop.Loop(account.failed)
+    stream = channels.Channel(made, to_server, from_server, account)
+    stream.free.append(stream)
+    stream.settle()
+    os.write(lines, b"a line\n")
+    made.turn()
+    checks.same("a stream that nobody has", ([*stream.free], made.keys, account.figures.values["routed_exceptions_total"]), ([], {}, {None: 1}))
+    checks.true("its lines", len(said) == 2 and re.fullmatch(
+        r"ask 0: ended by an exception, TypeError at routed/channels\.py:\d+: 'NoneType' object is not callable", said[0])
+        and said[1] == "ask: a stream of the server isn't used again", said)
+    for file in (rows, to_server, from_server, lines):
+        os.close(file)
+
+
 # ---- listen
 
 
@@ -230,8 +250,11 @@ def of_listen(program, checks, room):
             checks.same(f"{place}: another watcher goes on", (seen.publish(updating), seen.watcher.lines.next()), (f"version {seen.version}\n",) * 2)
         for place in ("metrics.answer_to", "Reading.close"):
             seen.plant(place)
-            answered(sent(room, b"GET /metrics HTTP/1.1\r\n\r\n"))
+            reader = sent(room, b"GET /metrics HTTP/1.1\r\n\r\n")
             seen.judge(checks, place, "a reader of figures")
+            checks.same(f"{place}: readers that are there", figures_of(room)["routed_connections", "metrics"], 1)
+            found = answered(reader)[0].partition("\r\n")[0]
+            checks.same(f"{place}: it ends", found, "HTTP/1.1 200 OK" if place == "Reading.close" else "")
         for place, others in (("channels.peer_of", 0), ("Held.drop", 1)):
             others = [admitted(seen.front.ask, ASK)[0] for _ in range(others)]
             seen.plant(place)
