@@ -96,7 +96,7 @@ def of_loop(_, checks, room):
     made.of(owner).after(0, lambda: called.append("third"))
     made.turn()
     checks.same("times: the others come", (owner.ended, len(said), called), (2, 2, ["third"]))
-    checks.true("times: a line names the file of the tools", re.fullmatch(r"one: ended by an exception, TypeError at routed/places\.py:\d+: .*", said[1])
+    checks.true("times: a line names the file of the tools", re.fullmatch(r"one: ended by an exception, TypeError at routed/net/places\.py:\d+: .*", said[1])
                 or "/re/" in said[1], said)
     for name, who, fault in [("no owner", None, KeyError("key")), ("what ends the tool", Owner(), Stopped("word")),
                              ("a key of the user", Owner(), KeyboardInterrupt()), ("an end", Owner(), SystemExit(0))]:
@@ -151,7 +151,7 @@ def of_stream(_, checks, room):
     made.turn()
     checks.same("a stream that nobody has", ([*stream.free], made.keys, account.figures.values["routed_exceptions_total"]), ([], {}, {None: 1}))
     checks.true("its lines", len(said) == 2 and re.fullmatch(
-        r"ask 0: ended by an exception, TypeError at routed/channels\.py:\d+: 'NoneType' object is not callable", said[0])
+        r"ask 0: ended by an exception, TypeError at routed/front/channels\.py:\d+: 'NoneType' object is not callable", said[0])
         and said[1] == "ask: a stream of the server isn't used again", said)
     for file in (rows, to_server, from_server, lines):
         os.close(file)

@@ -7,7 +7,7 @@ import time
 import traceback
 
 READ, WRITE = selectors.EVENT_READ, selectors.EVENT_WRITE
-TOP = os.path.dirname(os.path.dirname(os.path.abspath(__file__)))
+TOP = os.path.dirname(os.path.dirname(os.path.dirname(os.path.abspath(__file__))))
 MOST_TEXT = 500  # characters of an exception's text in a line of the log
 
 
