@@ -1,1 +1,1 @@
-"""Tools round the route server `routed`; `routed-tools` runs them."""
+"""Tools round the path computation server `routed`; `routed-tools` runs them."""

@@ -12,7 +12,7 @@ HELP = f"routed (else ${NAME}, else on PATH, else of the source tree)"
 
 def find(option=None):
     """The path of `routed`: what an option gives, else what ROUTED_PROGRAM has, else what is on PATH, else where the source
-    tree builds it. Nobody says that it is there."""
+    tree builds it. It isn't checked that the file exists."""
     return option or os.environ.get(NAME) or shutil.which("routed") or (BUILT if IS_TREE else "routed")
 
 

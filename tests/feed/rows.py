@@ -232,7 +232,7 @@ class Feed:
             pass
 
     def go(self, seconds):
-        """Moves its clock on."""
+        """Moves the feed's clock on."""
         self.settle()
         self.at += seconds
         os.write(self.clock, struct.pack("d", self.at))
@@ -258,7 +258,7 @@ class Feed:
         return line.decode()
 
     def again(self):
-        """Lets it connect again."""
+        """Lets the feed connect again."""
         self.go(1.1)
         self.router.accept()
         self.settle()
@@ -294,7 +294,7 @@ class Feed:
         return rows
 
     def end(self):
-        """Ends the feed; what it said on standard error."""
+        """Ends the feed, and returns what it wrote to standard error."""
         if not self.is_real and self.process.poll() is None:
             self.settle()
         self.process.send_signal(signal.SIGTERM)
@@ -336,7 +336,7 @@ def columns(checks):
 
 
 def left_out(checks):
-    """Links that make no row, and the reason that is said."""
+    """Links that make no row, and the reason that the feed gives."""
     back = te_lsa(B, B_A, A, A_B)
     for why, name, *lsas in [
             ("no TE LSA", f"{A} {A_B}"),
@@ -378,7 +378,7 @@ def wrapped(checks):
 
 
 def changes(checks):
-    """What comes and goes: neighbors that die, links that come up, runs of changes."""
+    """Neighbors that die, links that come up, and many changes in a row."""
     alone = router_lsa(B, sequence=2)
     found, _ = fed(PAIR, update(alone), update(router_lsa(B, (A, B_A, 5), sequence=3)))
     checks.same("TE LSAs outlive an adjacency, and rows don't", found,
@@ -690,7 +690,7 @@ def restarted(checks):
 
 
 def trickle(checks):
-    """Links that come back one by one, and events without rest, hold nothing for longer."""
+    """Links that come back one by one, and events without a pause, don't prolong the time for which links are held."""
     names = [f"10.7.0.{n}" for n in range(8)]
     rows = [row(A, name, B, name.replace("7", "8")) for name in names]
     links = [te_lsa(A, name, B, name.replace("7", "8"), number=f"1.0.0.{n}") for n, name in enumerate(names)]
@@ -727,7 +727,7 @@ def trickle(checks):
 
 
 def unreached(checks):
-    """A feed that comes to a program with a database, whose router is gone: what is there stays, and the hold begins with the router."""
+    """A feed starts beside a program with a database while its router is gone: links stay, and `--hold` begins once the router is there."""
     router = Router()
     router.listening.close()
     feed = Feed(router, "--hold", "3", version=1, told=snapshot(1, CHAIN_ROWS), is_accepted=False)
@@ -745,7 +745,7 @@ def unreached(checks):
 
 
 def not_begun(checks):
-    """Programs of which the feed doesn't learn what they have: it ends, and has written nothing."""
+    """If the feed can't learn which database a program has, it ends and has written nothing."""
     def ended(version, *told, words=()):
         feed = Feed(router, *words, version=version, told=told, is_accepted=False)
         if not told:
@@ -831,7 +831,7 @@ def journals(checks):
 
 
 def until(test, what):
-    """Waits until it is so; answers what it found."""
+    """Waits until the condition holds, and returns what it gave."""
     end = time.monotonic() + PATIENCE
     while not (found := test()):
         if time.monotonic() > end:
@@ -841,7 +841,7 @@ def until(test, what):
 
 
 def beside_server(program, checks):
-    """The real `routed serve` on pipes that outlive feeds, which go by its journal; and its end."""
+    """A feed is started again beside a running `routed serve`, and learns the database from its journal. Then the server ends."""
     begun = "\n".join([*CHAIN_ROWS, "end,1,4\n"])
     with tempfile.TemporaryDirectory() as room, contextlib.ExitStack() as clean:
         path = os.path.join(room, "day.journal")
@@ -1027,7 +1027,7 @@ def lab_rows():
 
 
 def recorded():
-    """What a real router sent, part by part: seconds and messages."""
+    """What a real router sent, part by part, each with its seconds and its messages."""
     parts = {}
     for line in open(os.path.join(HERE, "captures/lab.messages")):
         if line.startswith("# "):

@@ -96,7 +96,7 @@ def lines(checks):
 
 
 def which(checks):
-    """Which SIDs are a link's own."""
+    """Which SIDs count as a link's own: not those of backups or groups."""
     for name, wanted, *lsas in [
             ("the first of several", 20, link_lsa(A, A_B, sid(20), sid(21))), ("not a backup's", 21, link_lsa(A, A_B, sid(20, OF_BACKUP), sid(21))),
             ("not a group's", 21, link_lsa(A, A_B, sid(20, OF_GROUP), sid(21))), ("no index", None, link_lsa(A, A_B, sid(20, INDEX, 4))),

@@ -118,7 +118,7 @@ class Chain:
         return [("the feed", self.feed), ("routed serve", self.program), ("what watches the router", self.watch)]
 
     def look(self):
-        """That all parts run."""
+        """Checks that all parts still run."""
         for part, process in self.processes():
             if process.poll() is not None:
                 raise Fault(f"{part} ended with status {process.returncode}")

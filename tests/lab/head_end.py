@@ -93,7 +93,7 @@ def sid_of(sids, near, version):
 
 
 def shortened(values):
-    """Without what repeats the value before it."""
+    """The values, without those that repeat the one before."""
     return [value for at, value in enumerate(values) if not at or value != values[at - 1]]
 
 

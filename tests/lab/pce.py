@@ -132,7 +132,7 @@ class PceChain(Chain):
                     self.lsps[number] = bool(flags & DELEGATED), path, since if path == had else at
 
     def published(self, do):
-        """Does it, and waits for the next version."""
+        """Makes a change, and waits for the next version."""
         with self.told:
             before = max(self.versions, default=0)
         do()

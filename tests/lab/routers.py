@@ -144,7 +144,7 @@ class Routers:
                 self.ospfd[router] = process
 
     def link(self, router, neighbor, state):
-        """Sets the interface of a router up or down; at the other end the carrier goes with it."""
+        """Sets the interface of a router up or down, by which the other end loses or gets its carrier."""
         command("ip", "-n", f"lab-{router}", "link", "set", interface(router, neighbor), state)
 
     def lose(self, a, b):

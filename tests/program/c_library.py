@@ -94,7 +94,7 @@ def answers(checks, solve, python, name, rows, lines):
 
 
 def sound(checks, solve, name, rows, lines):
-    """No run touches memory that isn't its own, and none leaves any."""
+    """No run accesses memory that isn't its own, and none leaves memory allocated."""
     for words in ([solve], [solve, "lines"]):
         status, out, err = ran([*VALGRIND, *words], rows)
         checks.same(f"{name} by the library for C in valgrind", (status, out == lines or words[1:] != [], err), (0, True, b""))

@@ -37,7 +37,7 @@ def limits(program, checks):
 
 
 def chain(program, checks):
-    """1,024 routers in a row, there and back: the longest least routes, and the router too many."""
+    """1,024 routers in a row, with links in both directions: the longest least routes, and a router above the limit."""
     def link(start, local, end, remote):
         return f"put,{start},{local},{end},{remote},4294967295,0x1,{FREE}\n"
 

@@ -223,7 +223,7 @@ def refused(program, checks):
             def judge(number):
                 ran, is_whole, is_right = command.run(refuser, number, flags)
                 fault = ran.fault()
-                # nothing refused, or a byte moved in place of many: as if nothing had been; what is refused by a full device isn't written again
+                # where nothing is refused, or a call moves one byte, the run ends as usual; what a full device refused isn't written again
                 is_as_ever, is_full = ran.refused == 0 or "short" in flags, flags in (("write",), ("write", "on"))
                 if fault is None and not (is_whole if is_as_ever else is_right and not (is_whole and is_full)):
                     fault = f"status {ran.status}, {ran.out[-200:]}, {ran.err[-200:]}"

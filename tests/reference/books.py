@@ -143,7 +143,7 @@ class Book:
         return [*lines, f"base {self.batches} v{self.version}"]
 
     def place(self, request):
-        """The line of an answer, of which only a route changes anything. The first refusal that applies is raised."""
+        """The line of an answer. The book changes only if the answer is a route. The first refusal that applies is raised."""
         others = self.others(request["id"])
         if self.version == MOST_VERSIONS:
             raise Refused("exhausted")

@@ -52,7 +52,7 @@ class SidFile:
             self.settled = dict(wanted)
 
     def put_off(self, batches, known, rows):
-        """The labels of SIDs that are gone whose links are changed by a later batch."""
+        """The labels of links whose SID is gone, if a later batch changes the link."""
         sent = {tuple(change.split(",")[1:3]) for change in batches.sent}
         return {key: label for key, label in self.settled.items()
                 if key not in known and key in batches.given and key not in sent and batches.given[key] != rows.get(key)}

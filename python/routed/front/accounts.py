@@ -112,7 +112,7 @@ class Account:
             self.others(use, said)
 
     def take_times(self, sent, count):
-        """So many of the rows that were passed on first have their lines now."""
+        """This many of the rows that were passed on first have their lines now."""
         now, buckets = monotonic(), self.times
         while count and sent:
             at, rows = sent[0]
@@ -153,13 +153,13 @@ class Use:
 
 
 class Journal:
-    """What the journal has so far. It is read once, as it grows."""
+    """What the journal has so far. Each part of it is read once, as it grows."""
 
     def __init__(self, path):
         self.path, self.read, self.rows, self.ends = path, 0, 0, 0
 
     def changes(self):
-        """How many rows of it are changes."""
+        """How many rows of the journal are changes."""
         try:
             with open(self.path, "rb") as file:
                 file.seek(self.read)

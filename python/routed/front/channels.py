@@ -216,7 +216,7 @@ class Channel:
             self.read_lines()
 
     def end_rows(self, last=b""):
-        """Takes no more rows. This line stands behind the lines of those that were taken."""
+        """Accepts no more rows. `last` is sent after the lines of the rows that were accepted."""
         self.is_taking, self.last = False, last
         self.ask(self.finish)
 

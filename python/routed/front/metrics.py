@@ -43,7 +43,7 @@ class Figures:
         found[value] = found.get(value, 0) + count
 
     def took(self, name, seconds, count=1):
-        """So many took these seconds each."""
+        """Counts this many values, each of these seconds."""
         buckets = self.values[name]
         buckets[0][bisect.bisect_left(TIMES, seconds)] += count
         buckets[1] += seconds * count

@@ -60,5 +60,5 @@ class Snapshots:
 
 
 def die_with_us():
-    """The child of a program that is killed is killed, too."""
+    """If the program is killed its child is killed, too."""
     PRCTL(PR_SET_PDEATHSIG, signal.SIGKILL)

@@ -35,7 +35,7 @@ class Watch:
 
 
 class Watcher:
-    """One connection: what of a line isn't sent yet, and the last version of which a line was begun."""
+    """One connection: the part of a line that isn't sent yet, and the version of the line that was begun last."""
 
     def __init__(self, watch, connection, number):
         self.watch, self.connection, self.number, self.begun_at = watch, connection, number, time.monotonic()

@@ -49,7 +49,7 @@ class Tokens:
         self.at += 1
 
     def pass_over(self):
-        """Behind the bracket that closes the one that was taken last."""
+        """Goes on after the bracket that closes the last open one."""
         depth = 1
         while depth:
             if self.is_end():

@@ -30,7 +30,7 @@ class Loop:
         return Owned(self, owner)
 
     def want(self, file, events, call=None, owner=None):
-        """From now on calls this with the events that are there, and not at all without events."""
+        """From now on calls `call` with the events of a file; without events it is no longer watched."""
         key = self.keys.get(file)
         if events == (key.events if key else 0):
             return
@@ -43,7 +43,7 @@ class Loop:
         heapq.heappush(self.times, (time.monotonic() + seconds, next(self.numbers), owner, call))
 
     def turn(self):
-        """Waits for an event or a time, and calls all that are there."""
+        """Waits for an event or a time, and makes all calls that are due."""
         ready = self.selector.select(max(self.times[0][0] - time.monotonic(), 0) if self.times else None)
         for key, events in ready:
             if self.keys.get(key.fd) is key:  # else it was changed in this turn

@@ -70,7 +70,7 @@ class Connection:
         return "a connection for asks"
 
     def settle(self):
-        """It was kept for a while, so its end is no reason to wait before the next."""
+        """The connection was used for a while, so its end is no reason to wait before the next try."""
         self.is_settled = True
 
     def ask(self, row, call, tries):

@@ -103,7 +103,7 @@ class Front:
     # ---- versions
 
     def connect(self):
-        """To the places of the server, again and again until they are there."""
+        """Connects to the places of the server, and tries again until they are there."""
         if self.options.watch:
             try:
                 self.watch = Watch(self)

@@ -16,7 +16,7 @@ class Moves:
                     self.ask(lsp)
 
     def ask(self, lsp):
-        """Asks for one. Where an ask is under way its answer is looked at first: one of an older version asks again."""
+        """Asks for the route of an LSP. If an ask is under way its answer comes first, and asks again if it is of an older version."""
         if not self.lsps.is_synced or self.front.is_away or lsp.is_asked or self.session.is_full:
             return
         lsp.is_asked = True
@@ -62,7 +62,7 @@ class Moves:
         self.move(lsp, ero, why, answer)
 
     def is_same(self, lsp, ero):
-        """Whether its present route is this one, told in another form."""
+        """Whether its present route is this one in another form."""
         return not lsp.srp and lsp.hops and None not in lsp.hops and wire.hops_of(ero[4:]) == lsp.hops
 
     def stays(self, lsp, had, cost):

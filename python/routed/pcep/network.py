@@ -49,7 +49,7 @@ class Network:
         self.begin()
 
     def begin(self):
-        """A new run: its journal is read from the beginning."""
+        """A new run has begun: its journal is read from the beginning."""
         self.forget()
         if self.tail:
             self.tail.close()
@@ -145,7 +145,7 @@ class Sids:
         return found
 
     def segments(self, network, head, fars, version):
-        """Near and far address and label of each link of a route; None where one has no SID."""
+        """The near address, the far address and the label of each link of a route; None if a link has no SID."""
         at, found = head, []
         for far in fars:
             links = ((link, self.find((link[0], link[1]), version)) for link in network.from_to(at, far))

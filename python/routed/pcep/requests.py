@@ -107,7 +107,7 @@ class Request:
         return f"{self.ends[0]},{self.ends[1]},{self.setup},{self.bandwidth},{masks},{self.hops}"
 
     def broken(self, cost):
-        """The bounds that the cost is above. The least cost is above it, and so is each other one."""
+        """The bounds that the least cost exceeds."""
         return [bound for bound in self.bounds if cost > bound]
 
 

@@ -49,7 +49,7 @@ class Session:
     # ---- time
 
     def tick(self, now):
-        """What the time brings; called each second or so."""
+        """Does what is due by now; called about once a second."""
         if self.state == OPEN_WAIT and now - self.began_at >= PATIENCE:
             self.fail(1, 2, "no Open came")
         elif self.state == KEEP_WAIT and now - self.began_at >= PATIENCE:

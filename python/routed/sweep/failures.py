@@ -8,13 +8,13 @@ docs/run/SWEEP.md says which requests are asked again. All others keep their ans
 - Hops. A router meets a hop, loose or strict, by its own address or by the local address of a link from it. A drop only takes such
   addresses away, so each hop is met by the same routers or by fewer. A strict hop keeps a route at routers that meet it or the one before
   it, so fewer routers mean fewer routes.
-- The route that was. Its routers stay while its links do, with their own addresses. It can be cut at the same routers as before, unless
-  one of them meets a hop by a dropped local address. Other routers don't matter.
-- Ties. Routes of one request are in a total order (cost, number of links, local addresses) that doesn't depend on other links. So the
-  least of all routes is the least of fewer, if it is one of them.
-- `none`. A request without a route gets none by a failure, so it has no line in a scenario.
-- `unknown-from`, `unknown-to`. An end disappears with its last link, which is then the first or the last link of the route, so the
-  request is asked again. Without a route before, the word makes no difference.
+- The route before the drop. While its links stay its routers do, with their own addresses. The route can be cut at the same routers as
+  before, unless one of them meets a hop by a dropped local address. Other routers don't matter.
+- Ties. Routes of one request are in a total order (cost, number of links, local addresses) that doesn't depend on other links. So if
+  the least route is still a route after the drop, it is still the least.
+- `none`. A request without a route doesn't get a route by a failure, so it has no line in a scenario.
+- `unknown-from`, `unknown-to`. A head-end or tail-end disappears with its last link, which is the first or the last link of the
+  route, so the request is asked again. If there was no route before, it makes no difference which of these words the answer has.
 """
 import collections
 import os

@@ -172,7 +172,7 @@ class Connections:
         return texts
 
     def begin(self):
-        """Reads what stands before the answers of a connection's first question."""
+        """Reads the lines before the answers to a connection's first question."""
         number = (self.asked - 1) // self.most + 1
         self.end()
         found = BEGINS.fullmatch(self.stream.readline().decode(errors="replace"))
@@ -182,7 +182,7 @@ class Connections:
         self.checked(self.heads)
 
     def end(self):
-        """Reads the end of the connection so far, if there is one. No more than the program's status stands there."""
+        """Reads the end of the connection so far, if there is one. It has only the program's status."""
         if self.name:
             status, lines = self.rest()
             if status or lines != [""]:
@@ -197,7 +197,7 @@ class Connections:
         return self.read
 
     def checked(self, heads):
-        """What the next lines say behind these heads. If the program has failed, the fault says how."""
+        """What the next lines say after these first words. If the program has failed, the fault says how."""
         try:
             return checked(self.name, heads, iter(self.line, None))
         except Stopped:

@@ -5,7 +5,7 @@ MOST = 10  # lines of each kind
 LINE = re.compile(r"most (requests|bandwidth) \d+ scenario (\d+) lost=(\d+) longer=(\d+) bandwidth=(\d+) out (.*)")
 
 # The order of failures, each a scenario's place, how many requests it costs and makes longer, the bandwidth of those that it costs, and
-# what is out. The earlier one of equals comes first.
+# what is out. Of two equal failures the earlier one comes first.
 ORDERS = {"requests": lambda failure: (-failure[1], -failure[2], failure[0]),
           "bandwidth": lambda failure: (-failure[3], -failure[1], -failure[2], failure[0])}
 

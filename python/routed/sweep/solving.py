@@ -31,7 +31,7 @@ def run(program, words, data, **options):
 
 
 def batches(changes, version):
-    """The rows that make these changes behind a version, most often one batch, and the version that they lead to."""
+    """The rows that make these changes after a version, most often as one batch, and the version after them."""
     rows = []
     for at in range(0, len(changes), MOST_CHANGES):
         some, version = changes[at:at + MOST_CHANGES], version + 1
@@ -45,7 +45,7 @@ def heads_of(rows):
 
 
 def checked(program, heads, lines):
-    """What these lines say behind the heads that they have to have."""
+    """What these lines say after the first words that they have to have."""
     said = []
     for head, line in zip(heads, lines):
         if not f"{line} ".startswith(f"{head} "):
@@ -94,7 +94,7 @@ class Solve:
         return said[question.replies]
 
     def exchange(self, rows, heads):
-        """Writes rows, and answers what the lines to them say behind these heads. The program is read while it is written to, so neither
+        """Writes rows, and returns what their lines say after these first words. The program is read while it is written to, so neither
         waits for the other."""
         self.rows += len(rows)
         into, out = self.process.stdin.fileno(), self.process.stdout.fileno()

@@ -23,7 +23,7 @@ from .ranking import Ranking
 
 
 def work(given, scenarios, at, jobs, readers, results):
-    """One of the jobs: the scenario at this index, and from there every so many-th as there are jobs."""
+    """One of the jobs: the scenario at this index, and then every Nth one, where N is the number of jobs."""
     for reader in readers:
         reader.close()  # so that a job whose results nobody takes any more ends
     try:
