@@ -47,7 +47,11 @@ class Loop:
         ready = self.selector.select(max(self.times[0][0] - time.monotonic(), 0) if self.times else None)
         for key, events in ready:
             if self.keys.get(key.fd) is key:  # else it was changed in this turn
-                self.call(*key.data, events)
+                owner, call = key.data
+                try:  # as `call` does, without one more call for each event
+                    call(events)
+                except Exception as fault:
+                    self.end(owner, fault)
         while self.times and self.times[0][0] <= time.monotonic():
             self.call(*heapq.heappop(self.times)[2:])
 
@@ -55,15 +59,13 @@ class Loop:
         """Calls this for its owner."""
         try:
             call(*given)
-        except Stopped:
-            raise
         except Exception as fault:
-            if owner is None or self.failed is None:
-                raise
             self.end(owner, fault)
 
     def end(self, owner, fault):
-        """Ends an owner: its files are let go first, so that an exception in its end can't come again."""
+        """Ends an owner for an exception. Its files are no longer waited for then, so that an exception in its end can't come again."""
+        if owner is None or self.failed is None or isinstance(fault, Stopped):
+            raise fault
         self.failed(ended_by(owner.named(), fault))
         for file in [file for file, key in self.keys.items() if key.data[0] is owner]:
             self.want(file, 0)
