@@ -59,7 +59,7 @@ def replies_wait(run, clients):
     for client in clients:
         client.open()
         client.socket.sendall(wire.message(wire.REQUEST, pack(wire.O_SVEC, bytes(LARGE)), one * REPLIES))
-    wait(lambda: answered(run) == before + len(clients) * REPLIES)
+    wait(lambda: answered(run) == before + len(clients) * REPLIES, 0.005)
     run.waiting = min(len(clients) * REPLIES * LARGE - kept(run.port), getattr(run, "waiting", 1 << 30))
     for client in clients:
         client.reset()

@@ -146,10 +146,10 @@ class Run:
                 process.wait()
 
 
-def wait(test):
+def wait(test, pause=0.05):
     end = time.monotonic() + PATIENCE
     while not test() and time.monotonic() < end:
-        time.sleep(0.05)
+        time.sleep(pause)
 
 
 def begun(run, source="127.0.1.1"):

@@ -27,7 +27,7 @@ from routed.net.places import Place, Stopped
 HERE = os.path.dirname(os.path.abspath(__file__))
 PLANTED = os.path.join(HERE, "planted.py")
 AT = "|".join(str(at) for at, line in enumerate(open(PLANTED, encoding="utf-8"), 1) if "raise Planted" in line)
-ENDED = rf"ended by an exception, Planted at {re.escape(PLANTED)}:(?:{AT}): of two lines"
+ENDED = rf"ended by an exception, Planted at {re.escape(PLANTED)}:(?:{AT})(?:, called at routed/[\w/]+\.py:\d+)?: of two lines"
 ASK, REPLY = ASKS["route"], re.compile(r"ask 1 v\d+ (?:route .*|unknown-from)\n")
 
 
@@ -91,13 +91,16 @@ def of_loop(_, checks, room):
         checks.true(f"{name}: its line", re.fullmatch(rf"one: ended by an exception, KeyError at {__file__}:\d+: 'key'", said[0]), said)
     said, owner, called = [], Owner(), []
     made = loop.Loop(said.append)
-    made.of(owner).after(0, lambda: metrics.labelled("a", None).missing)
+    made.of(owner).after(0, lambda: metrics.is_http(None))
     made.of(owner).after(0, lambda: places.Place(None))
     made.of(owner).after(0, lambda: called.append("third"))
     made.turn()
     checks.same("times: the others come", (owner.ended, len(said), called), (2, 2, ["third"]))
-    checks.true("times: a line names the file of the tools", re.fullmatch(r"one: ended by an exception, TypeError at routed/net/places\.py:\d+: .*", said[1])
-                or "/re/" in said[1], said)
+    checks.true("times: a line names the line of the tools", re.fullmatch(
+        rf"one: ended by an exception, AttributeError at routed/front/metrics\.py:{line_of('front/metrics.py', 'asked.partition(b')}: .*'partition'", said[0]), said)
+    checks.true("times: and the one that called another's code", re.fullmatch(
+        rf"one: ended by an exception, TypeError at {re.escape(re.__file__)}:\d+, called at routed/net/places\.py:{line_of('net/places.py', 're.fullmatch(')}: .*",
+        said[1]), said)
     for name, who, fault in [("no owner", None, KeyError("key")), ("what ends the tool", Owner(), Stopped("word")),
                              ("a key of the user", Owner(), KeyboardInterrupt()), ("an end", Owner(), SystemExit(0))]:
         made = loop.Loop(said.append)
@@ -109,6 +112,12 @@ def of_loop(_, checks, room):
             checks.same(f"{name}: it is raised", (found, who and who.ended), (fault, who and 0))
     for file in (reading, writing):
         os.close(file)
+
+
+def line_of(name, text):
+    """The number of the first line of a file of the tools that has this text."""
+    with open(os.path.join(os.path.dirname(loop.__file__), name), encoding="utf-8") as file:
+        return next(at for at, line in enumerate(file, 1) if text in line)
 
 
 class Gone(socket.socket):
@@ -151,7 +160,7 @@ def of_stream(_, checks, room):
     made.turn()
     checks.same("a stream that nobody has", ([*stream.free], made.keys, account.figures.values["routed_exceptions_total"]), ([], {}, {None: 1}))
     checks.true("its lines", len(said) == 2 and re.fullmatch(
-        r"ask 0: ended by an exception, TypeError at routed/front/channels\.py:\d+: 'NoneType' object is not callable", said[0])
+        rf"ask 0: ended by an exception, TypeError at routed/front/channels\.py:{line_of('front/channels.py', 'account.lines(')}: .* is not callable", said[0])
         and said[1] == "ask: a stream of the server isn't used again", said)
     for file in (rows, to_server, from_server, lines):
         os.close(file)

@@ -52,6 +52,11 @@ class Account:
         for tell in self.told:
             tell()
 
+    def failed(self, line):
+        """An exception has ended a connection."""
+        self.figures.add("routed_exceptions_total")
+        self.log.say("error", line)
+
     # ---- connections
 
     def change(self, place, change):
@@ -78,11 +83,6 @@ class Account:
     def cut_off(self, place, number, reason):
         self.figures.add("routed_cut_off_total", 1, reason)
         self.log.say("info", f"{place} {number}: " + {"line": "refused, for a line that isn't passed on", "idle": "idle for too long"}[reason])
-
-    def failed(self, line):
-        """An exception has ended a connection."""
-        self.figures.add("routed_exceptions_total")
-        self.log.say("error", line)
 
     # ---- rows and lines
 

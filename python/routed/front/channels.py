@@ -260,13 +260,6 @@ class Updates(Channel):
         super().__init__(loop, rows, lines, account)
         self.snapshots = snapshots
 
-    def fail(self):
-        self.snapshots.stop()
-        super().fail()
-
-    def retire(self):
-        raise Stopped("the server's stream of updates can't be used any more")
-
     def passed(self, end):
         return UPDATES.match(self.unread, 0, end).end()
 
@@ -296,3 +289,10 @@ class Updates(Channel):
         self.to_client, self.is_taking = self.to_client + text, True
         self.take()
         self.settle()
+
+    def fail(self):
+        self.snapshots.stop()
+        super().fail()
+
+    def retire(self):
+        raise Stopped("the server's stream of updates can't be used any more")

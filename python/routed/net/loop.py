@@ -7,7 +7,7 @@ import time
 import traceback
 
 READ, WRITE = selectors.EVENT_READ, selectors.EVENT_WRITE
-TOP = os.path.dirname(os.path.dirname(os.path.dirname(os.path.abspath(__file__))))
+TOP = os.path.dirname(os.path.dirname(os.path.dirname(os.path.abspath(__file__)))) + "/"
 MOST_TEXT = 500  # characters of an exception's text in a line of the log
 
 
@@ -94,8 +94,12 @@ class Owned:
 
 
 def ended_by(name, fault):
-    """The line about a connection that an exception has ended: the exception's type, where it was raised, and its text."""
-    *_, (frame, line) = traceback.walk_tb(fault.__traceback__)
-    path = frame.f_code.co_filename
-    text = " ".join(str(fault).split())[:MOST_TEXT]
-    return f"{name}: ended by an exception, {type(fault).__name__} at {path.removeprefix(f'{TOP}/')}:{line}: {text}"
+    """The line about a connection that an exception has ended: the exception's type, where it was raised and, if that isn't in these
+    tools, where they called that, and its text."""
+    places = [(frame.f_code.co_filename, line) for frame, line in traceback.walk_tb(fault.__traceback__)]
+    path, line = places[-1]
+    where = f"{path.removeprefix(TOP)}:{line}"
+    ours = [f"{path.removeprefix(TOP)}:{line}" for path, line in places if path.startswith(f"{TOP}routed/") and path != __file__]
+    if ours and ours[-1] != where:
+        where += f", called at {ours[-1]}"
+    return f"{name}: ended by an exception, {type(fault).__name__} at {where}: {' '.join(str(fault).split())[:MOST_TEXT]}"
