@@ -9,8 +9,8 @@ import re
 import secrets
 import time
 
-from ..net.loop import READ, WRITE
-from ..net.places import Door, Stopped, hang_up, peer_of
+from ..net.loop import READ, WRITE, Stopped
+from ..net.places import Door, hang_up, peer_of
 from .accounts import Use
 
 LONGEST = 1 << 16  # bytes of a line and of a turn; the longest row that is accepted is far shorter
