@@ -17,10 +17,8 @@ from pcep.sessions import PATH, request, rows
 from pcep.runs import OPENED, TO_NORTH, TO_SOUTH, Client, Run, begun, wait
 from program.serving import PATIENCE
 
-from routed.front import channels, metrics, status
-from routed.front.accounts import Account
+from routed.front import metrics, status
 from routed.net import loop, places
-from routed.net.log import Log
 from routed.pcep import wire
 from routed.net.places import Place, Stopped
 
@@ -32,7 +30,7 @@ ASK, REPLY = ASKS["route"], re.compile(r"ask 1 v\d+ (?:route .*|unknown-from)\n"
 
 
 def exceptions(program, checks):
-    for part in (of_loop, of_door, of_stream, of_listen, of_streams, of_updates, of_idle, of_pcep, of_server, of_feed):
+    for part in (of_loop, of_door, of_listen, of_streams, of_stream, of_updates, of_idle, of_pcep, of_server, of_feed):
         with tempfile.TemporaryDirectory() as room:
             checks.part(f"exceptions: {part.__name__}", part, program, checks, room)
 
@@ -116,7 +114,7 @@ def of_loop(_, checks, room):
 
 def line_of(name, text):
     """The number of the first line of a file of the tools that has this text."""
-    with open(os.path.join(os.path.dirname(loop.__file__), name), encoding="utf-8") as file:
+    with open(os.path.join(os.path.dirname(os.path.dirname(loop.__file__)), name), encoding="utf-8") as file:
         return next(at for at, line in enumerate(file, 1) if text in line)
 
 
@@ -148,24 +146,8 @@ def of_door(_, checks, room):
         one.close()
 
 
-def of_stream(_, checks, room):
-    """A stream that nobody has, and whose lines can't be read, is given to nobody."""
-    said, (rows, to_server), (from_server, lines) = [], os.pipe(), os.pipe()
-    account = Account(Log("listen", "error", None), os.path.join(room, "journal"))
-    account.log.say, account.lines, made = lambda level, text: said.append(text), None, loop.Loop(account.failed)
-    stream = channels.Channel(made, to_server, from_server, account)
-    stream.free.append(stream)
-    stream.settle()
-    os.write(lines, b"a line\n")
-    made.turn()
-    checks.same("a stream that nobody has", ([*stream.free], made.keys, account.figures.values["routed_exceptions_total"]), ([], {}, {None: 1}))
-    checks.true("its lines", len(said) == 2 and re.fullmatch(
-        rf"ask 0: ended by an exception, TypeError at routed/front/channels\.py:{line_of('front/channels.py', 'account.lines(')}: .* is not callable", said[0])
-        and said[1] == "ask: a stream of the server isn't used again", said)
-    for file in (rows, to_server, from_server, lines):
-        os.close(file)
-
-
+from routed.front import metrics, status
+from routed.net import loop, places
 # ---- listen
 
 
@@ -307,6 +289,35 @@ def of_streams(program, checks, room):
                                                 "listen: the server's stream of updates can't be used any more\n", said), (found, said))
         with open(seen.front.journal, encoding="ascii") as kept:
             checks.same("the journal then", kept.read().count("end,"), 2)
+
+
+UNASKED = '''#!/usr/bin/env python3
+import sys
+rows, lines = next(word for word in sys.argv if "=" in word).split("=")
+rows, lines = open(rows, "rb"), open(lines, "wb", buffering=0)
+for row in sys.stdin.buffer:
+    if row.startswith(b"ask,"):
+        print(f"ask {row.split(b',')[1].decode()} v0 unknown-from", flush=True)
+    else:
+        lines.write(b"a line\\n")
+'''
+
+
+def of_stream(_, checks, room):
+    """A stream that fails while nobody has it, by a program that writes what nobody asked for, is given to nobody."""
+    class Unasked:
+        path = os.path.join(room, "routed")
+
+    with open(Unasked.path, "w", encoding="ascii") as script:
+        script.write(UNASKED)
+    os.chmod(Unasked.path, 0o700)
+    with Front(Unasked, room, "--clients", "1", tool=planted(room, "listen")) as front:
+        plant(room, "Channel.read_lines")
+        Connection(front.updates).say("end,1,0\n")
+        lines = [front.errors.next() for _ in range(2)]
+        checks.true("a stream that nobody has: its lines", re.fullmatch(f"listen: ask 0: {ENDED}\n", lines[0])
+                    and lines[1] == "listen: ask: a stream of the server isn't used again\n", lines)
+        checks.same("a stream that nobody has", busy(front.ask), "busy\n")
 
 
 def of_updates(program, checks, room):
