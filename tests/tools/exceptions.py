@@ -146,8 +146,6 @@ def of_door(_, checks, room):
         one.close()
 
 
-from routed.front import metrics, status
-from routed.net import loop, places
 # ---- listen
 
 
