@@ -290,14 +290,17 @@ def of_streams(program, checks, room):
 
 
 UNASKED = '''#!/usr/bin/env python3
-import sys
+import sys, threading
+def answer(rows, lines, others):
+    for row in rows:
+        if row.startswith(b"ask,"):
+            lines.write(b"ask %s v0 unknown-from\\n" % row.split(b",")[1])
+        else:
+            others.write(b"a line\\n")
 rows, lines = next(word for word in sys.argv if "=" in word).split("=")
-rows, lines = open(rows, "rb"), open(lines, "wb", buffering=0)
-for row in sys.stdin.buffer:
-    if row.startswith(b"ask,"):
-        print(f"ask {row.split(b',')[1].decode()} v0 unknown-from", flush=True)
-    else:
-        lines.write(b"a line\\n")
+rows, lines, own = open(rows, "rb"), open(lines, "wb", buffering=0), open(1, "wb", buffering=0)
+threading.Thread(target=answer, args=(rows, lines, lines), daemon=True).start()
+answer(sys.stdin.buffer, own, lines)
 '''
 
 
@@ -310,8 +313,10 @@ def of_stream(_, checks, room):
         script.write(UNASKED)
     os.chmod(Unasked.path, 0o700)
     with Front(Unasked, room, "--clients", "1", tool=planted(room, "listen")) as front:
+        taken, updating = Connection(front.ask), Connection(front.updates)
+        checks.same("a stream, once it was used", (taken.talk(ASK), taken.leave()), ("ask 1 v0 unknown-from\n", ""))
         plant(room, "Channel.read_lines")
-        Connection(front.updates).say("end,1,0\n")
+        updating.say("end,1,0\n")
         lines = [front.errors.next() for _ in range(2)]
         checks.true("a stream that nobody has: its lines", re.fullmatch(f"listen: ask 0: {ENDED}\n", lines[0])
                     and lines[1] == "listen: ask: a stream of the server isn't used again\n", lines)
