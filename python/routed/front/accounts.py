@@ -10,7 +10,7 @@ from .metrics import TIMES, Figures
 
 VERSIONS = JOURNAL_ROWS = 1_000_000  # the most that a run publishes, and that the commands read of a journal
 AT_ONCE = 1 << 24  # bytes of the journal that are read for one reading of the figures
-ROW = re.compile(rb"[^\r\n]+")
+ROW = re.compile(rb"[^\r\n]+")  # a carriage return ends one, too
 END = re.compile(rb"(?m)^end,")
 OUTCOMES = [(b" route cost=", "route"), (b" none\n", "none"), (b" unknown-from\n", "unknown-from"), (b" unknown-to\n", "unknown-to")]
 OTHER = re.compile(rb"(?m)^(?:(version) (\d+)|((row|batch) \d+ refused: ([^ \n]+)[^\n]*))$")
@@ -84,15 +84,20 @@ class Account:
         self.figures.add("routed_cut_off_total", 1, reason)
         self.log.say("info", f"{place} {number}: " + {"line": "refused, for a line that isn't passed on", "idle": "idle for too long"}[reason])
 
+    def lineless(self, use, rows):
+        """The server has answered all rows, and so many had no line."""
+        self.log.say("info", f"{use.place} {use.number}: {rows} rows without a line")
+
     # ---- rows and lines
 
     def rows(self, use, data):
-        """These bytes, whole rows, are passed on to the server."""
+        """These bytes, whole lines, are for the server. How many rows they are."""
         is_plain = b"\r" not in data and b"\n\n" not in data and data[0] != 10
         count = data.count(b"\n") if is_plain else len(ROW.findall(data))  # a blank row has no line
         use.rows += count
         if use.place == "ask":
             use.sent.append((monotonic(), count))
+        return count
 
     def lines(self, use, said):
         """These lines of the server are a connection's."""

@@ -12,6 +12,7 @@ import time
 from ..net.loop import READ, WRITE, Stopped
 from ..net.places import Door, hang_up, peer_of
 from .accounts import Use
+from .turns import SILENCE, first_rows
 
 LONGEST = 1 << 16  # bytes of a line and of a turn; the longest row that is accepted is far shorter
 MARK = b"\xef\xbb\xbf"  # the byte order mark, which the server's reader skips at the beginning of a stream alone
@@ -64,21 +65,34 @@ def rest_of(file, data):
         return b""
 
 
+def own_request():
+    """The row of a request of our own, and how its reply begins."""
+    number = secrets.randbits(64)
+    return f"ask,{number},0.0.0.0,0.0.0.1,0,0,0x0,0x0,0x0,\n".encode(), f"ask {number} v".encode()
+
+
 class Channel:
     """A stream of the server, which connections use one after the other.
 
     Behind the rows of a connection stands a request of our own, which nobody can guess, and the lines before its reply are that
     connection's, also where it has gone. A connection is read while the server takes its rows, and the server while the connection
-    takes its lines. So one that doesn't read holds itself up."""
+    takes its lines. So one that doesn't read holds itself up.
+
+    The server gets further rows once it has answered those before. One row is passed on at once, but more only in a turn."""
 
     place = "ask"
 
-    def __init__(self, loop, rows, lines, account):
+    def __init__(self, loop, rows, lines, account, turns):
+        # fewer than 30 attributes, all set here: each ask takes CPython longer where an instance has more, or gets some later
         self.loop, self.rows, self.lines, self.account, self.free = loop, rows, lines, account, collections.deque()
         self.use, self.peer = Use(account, self.place, ""), None  # nobody's
         self.to_server, self.to_client, self.unsaid = b"", b"", b""  # what waits to be written, and the beginning of a line
-        self.awaited, self.answered = b"", None  # how the reply to our own request begins, and what is called with its version
+        self.turns, self.passing = turns, b""  # the rows that are being written
+        self.waiting, self.unanswered = 0, 0  # how many rows aren't passed on yet, and how many are that have no line yet
+        self.awaited = ()  # how the reply to our own request begins, and what is called with its version
+        self.probe = b""  # how the reply to a request begins that was sent where lines didn't come
         self.connection, self.is_taking, self.is_heard, self.is_over, self.is_ended = None, False, False, False, False
+        self.unread, self.last, self.moved, self.is_new, self.is_read = b"", b"", 0, True, False
         self.is_counted, self.state = True, None
         for file in (rows, lines):
             os.set_blocking(file, False)
@@ -104,6 +118,7 @@ class Channel:
     def retire(self):
         """Takes the stream out of use."""
         self.is_ended = True
+        self.turns.give_back(self)
         with contextlib.suppress(ValueError):
             self.free.remove(self)
         self.account.log.say("error", f"{self.place}: a stream of the server isn't used again")
@@ -116,27 +131,74 @@ class Channel:
 
     def settle(self, _=0):
         """Writes what can be written, and waits for what comes next."""
-        if self.to_server:
-            self.to_server = rest_of(self.rows, self.to_server)
+        held = 0  # 1 where lines wait for the connection, and 2 where no more are read
         if self.to_client:
             before, self.to_client = self.to_client, rest_of(self.connection.fileno(), self.to_client)
             if self.to_client is not before:
                 self.moved = time.monotonic()
+            held = 2 if len(self.to_client) >= LONGEST else 1 if self.to_client else 0
+            if held == 2:  # its rows wait for the connection then, and not for the server
+                self.turns.give_back(self)
         if self.is_over and not self.to_client:
             self.release()
+        if self.to_server or self.passing:
+            self.pass_on(held)
         # what is waited for hangs on these alone, and is the same most of the time
-        before, self.state = self.state, (self.connection, self.is_taking, self.is_ended, not self.to_server, not self.to_client)
+        before, self.state = self.state, (self.connection, self.is_taking, self.is_ended, not self.to_server, not self.passing, held)
         if self.state == before:
             return
-        self.loop.want(self.rows, WRITE if self.to_server else 0, self.settle)
-        self.loop.want(self.lines, 0 if self.to_client or self.is_ended else READ, self.read_lines)
+        self.loop.want(self.rows, WRITE if self.passing else 0, self.settle)
+        self.loop.want(self.lines, 0 if held == 2 or self.is_ended else READ, self.read_lines)
         if self.connection:
-            events = (READ if self.is_taking and not self.to_server else 0) | (WRITE if self.to_client else 0)
+            events = (READ if self.is_taking and not self.to_server and not self.passing else 0) | (WRITE if held else 0)
             self.loop.want(self.connection.fileno(), events, self.read_rows)
+
+    def pass_on(self, held):
+        """Passes on the rows that the server may have now: one, or those of a turn, which a connection that doesn't read has none of."""
+        if self.passing:
+            self.passing = rest_of(self.rows, self.passing)
+        if self.passing or not self.to_server:
+            return
+        if self.unanswered:
+            self.watch()
+        elif self.waiting <= 1:
+            self.unanswered, self.waiting = self.waiting, 0
+            self.passing, self.to_server = rest_of(self.rows, self.to_server), b""
+        elif not held and self.turns.take(self):
+            end, self.unanswered = first_rows(self.to_server)
+            self.passing, self.to_server = rest_of(self.rows, self.to_server[:end]), self.to_server[end:]
+            self.waiting -= self.unanswered
+            self.watch()
+
+    def begin_turn(self):
+        """Uses a turn that it has waited for, or gives it back, as where the server has ended the stream meanwhile."""
+        self.settle()
+        if not self.unanswered:
+            self.turns.give_back(self)
+
+    def watch(self):
+        """Sees to it that lines which are waited for come, or that no more of them are waited for."""
+        if self not in self.turns.watched:
+            self.turns.watched.add(self)
+            lines = self.use.lines
+            self.loop.after(SILENCE, lambda: self.look(lines))
+
+    def look(self, lines):
+        """Asks the server where no line has come. All lines come before the reply, so a wrong count holds nothing up for longer."""
+        self.turns.watched.discard(self)
+        if not self.unanswered or not self.to_server and self not in self.turns.taken:
+            return  # nobody waits
+        is_silent = self.use.lines == lines and len(self.to_client) < LONGEST
+        if is_silent and not self.probe and (self.to_server or not self.awaited):
+            row, self.probe = own_request()  # else one of ours is behind them already
+            self.passing += row
+            self.unanswered += 1
+        self.watch()
+        self.settle()
 
     def read_rows(self, events):
         """Reads once from the connection."""
-        if events & READ and self.is_taking and not self.to_server:
+        if events & READ and self.is_taking and not self.to_server and not self.passing:
             try:
                 data = os.read(self.connection.fileno(), LONGEST - len(self.unread))
             except BlockingIOError:
@@ -160,7 +222,7 @@ class Channel:
             end = self.unread.rfind(b"\n") + 1
         passed = self.passed(end)
         if passed:
-            self.account.rows(self.use, self.unread[:passed])
+            self.waiting += self.account.rows(self.use, self.unread[:passed])
         self.to_server += self.unread[:passed]
         self.unread = self.unread[passed:]
         if passed < end:
@@ -183,9 +245,10 @@ class Channel:
 
     def ask(self, answered):
         """Sends our own request, and calls this with the version of its reply."""
-        number = secrets.randbits(64)
-        self.to_server += f"ask,{number},0.0.0.0,0.0.0.1,0,0,0x0,0x0,0x0,\n".encode()
-        self.awaited, self.answered = f"ask {number} v".encode(), answered
+        row, begins = own_request()
+        self.to_server += row
+        self.waiting += 1
+        self.awaited = begins, answered
 
     def read_lines(self, _=0):
         """Reads once from the server, and passes the whole lines on."""
@@ -193,21 +256,32 @@ class Channel:
             data = os.read(self.lines, LONGEST)
         except BlockingIOError:
             return
+        if self.unanswered:
+            left = self.unanswered - data.count(b"\n")
+            self.unanswered = left if left > 0 else 0
         if not data:  # of the stream alone, or of the server
             self.is_ended, self.is_taking = True, False
+            self.to_server, self.passing, self.waiting, self.unanswered = b"", b"", 0, 0
             self.finish()
         data, version = self.unsaid + data, None
         end = data.rfind(b"\n") + 1
         said, self.unsaid = data[:end], data[end:]
-        if self.awaited and (at := said.find(self.awaited)) >= 0:
-            version, said = int(said[at + len(self.awaited):].split(b" ", 1)[0]), said[:at]
+        if self.probe and (at := said.find(self.probe)) >= 0:
+            if self.unanswered:
+                self.account.lineless(self.use, self.unanswered)
+            said, self.probe, self.unanswered = said[:at] + said[said.index(b"\n", at) + 1:], b"", 0
+        if self.awaited and (at := said.find(self.awaited[0])) >= 0:
+            version, said = int(said[at + len(self.awaited[0]):].split(b" ", 1)[0]), said[:at]
+            self.unanswered = 0
+        if not self.unanswered and self in self.turns.taken:
+            self.turns.give_back(self)
         if self.is_counted:
             self.account.lines(self.use, said)
         if self.is_heard:
             self.to_client += said
         if version is not None:
-            self.awaited = b""
-            self.answered(version)
+            (_, answered), self.awaited = self.awaited, ()
+            answered(version)
         self.settle()
 
     def read_rest(self):
@@ -256,9 +330,13 @@ class Updates(Channel):
 
     place = "updates"
 
-    def __init__(self, loop, rows, lines, account, snapshots):
-        super().__init__(loop, rows, lines, account)
+    def __init__(self, loop, rows, lines, account, turns, snapshots):
+        super().__init__(loop, rows, lines, account, turns)
         self.snapshots = snapshots
+
+    def pass_on(self, _):
+        """Passes on all rows: there is one such stream alone, which has nobody to wait for."""
+        self.passing, self.to_server, self.waiting = rest_of(self.rows, self.passing + self.to_server), b"", 0
 
     def passed(self, end):
         return UPDATES.match(self.unread, 0, end).end()

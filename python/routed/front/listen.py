@@ -44,6 +44,7 @@ from .accounts import Account
 from .channels import Channel, Listener, Updates
 from .metrics import Page
 from .snapshots import Snapshots
+from .turns import Turns
 from .watch import Watch
 
 IDLE = 300  # seconds, at a port
@@ -57,7 +58,7 @@ class Front:
         self.account = Account(self.log, options.journal)
         self.loop, self.options, self.listeners = Loop(self.account.failed), options, {}
         self.snapshots, self.server, self.status = Snapshots(options.program, options.journal), None, None
-        self.is_stopped = False
+        self.is_stopped, self.turns = False, Turns(len(os.sched_getaffinity(0)))
         self.channels, self.theirs = [], []  # ours, that of the updates first, and the server's ends of their pipes
         self.signals, write = os.pipe()  # a signal is a byte here, which waits for the loop
         os.set_blocking(write, False)
@@ -71,7 +72,7 @@ class Front:
         words = [self.options.program, "serve", "--explain", "--journal", self.options.journal]
         for number in range(self.options.clients + 1):
             (rows_out, rows_in), (lines_out, lines_in) = os.pipe(), os.pipe()
-            ours = self.loop, rows_in, lines_out, self.account
+            ours = self.loop, rows_in, lines_out, self.account, self.turns
             self.channels.append(Channel(*ours) if number else Updates(*ours, self.snapshots))
             self.theirs += [rows_out, lines_in]
             if number:  # inherited, an end of a pipe would stay open in the server whatever it closes: it opens its own
