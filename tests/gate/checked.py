@@ -12,39 +12,68 @@ def checked(checks):
     checks.parts((streams, printed, names, options), checks)
 
 
+def numbered(count):
+    """Rows that are numbers from 0 on."""
+    return [f"{number}" for number in range(count)]
+
+
 def streams(checks):
-    """Streams of numbers for rows, which differ by rules that are known."""
-    rows = list(range(100))
+    """Streams that differ by rules that are known."""
+    rows = numbered(100)
     for name, wanted, differs in [
-        ("one row of a hundred", [17], lambda some: 17 in some),
-        ("the first and the last row", [0, 99], lambda some: {0, 99} <= set(some)),
-        ("five rows apart", [3, 31, 32, 64, 98], lambda some: {3, 31, 32, 64, 98} <= set(some)),
-        ("a row that needs another one before it", [40, 60], lambda some: 60 in some and 40 in some[:some.index(60)]),
-        ("rows of which each needs the next one", [95, 96, 97, 98, 99], lambda some: some[-5:] == [95, 96, 97, 98, 99]),
-        ("a pair of rows, of which none differs alone", [4, 5], lambda some: 5 in some and all(row ^ 1 in some for row in some)),
+        ("one row of a hundred", ["17"], lambda some: "17" in some),
+        ("the first and the last row", ["0", "99"], lambda some: {"0", "99"} <= set(some)),
+        ("five rows apart", ["3", "31", "32", "64", "98"], lambda some: {"3", "31", "32", "64", "98"} <= set(some)),
+        ("a row that needs another one before it", ["40", "60"], lambda some: "60" in some and "40" in some[:some.index("60")]),
+        ("rows of which each needs the next one", rows[95:], lambda some: some[-5:] == rows[95:]),
+        ("a pair of rows, of which none differs alone", ["4", "5"], lambda some: "5" in some and all(str(int(row) ^ 1) in some for row in some)),
         ("no row at all", [], lambda some: True),
         ("all rows", rows, lambda some: some == rows),
     ]:
         checks.same(f"shortened to {name}", shortened(rows, differs), wanted)
-        checks.same(f"the rows that were shortened to {name} are as before", rows, list(range(100)))
+        checks.same(f"the rows that were shortened to {name} are as before", rows, numbered(100))
     tries = []
-    late = shortened(rows, lambda some: tries.append(some) or 5 in some, 3, lambda: len(tries))  # a second for each try
-    checks.same("the time is up after three tries", (len(tries), late), (3, [*range(32), *range(96, 100)]))
+    late = shortened(rows, lambda some: tries.append(some) or "5" in some, 3, lambda: len(tries))  # a second for each try
+    checks.same("the time is up after three tries", (len(tries), late), (3, [*rows[:32], *rows[96:]]))
+    batches = [row for number in range(1, 6) for row in (*(f"put,{number},{at}\n" for at in range(4)), f"end,{number},4\n", f"ask,{number}\n")]
+    checks.same("batches are shortened to one change", shortened(batches, lambda some: ("ask,4\n", "put,2,3\n") in published(some)),
+                ["put,2,3\n", "end,1,1\n", "ask,4\n"])
+    wrong = ["put,1,0\n", "end,1,2\n", "put,1,1\n", "end,1,1\n"]
+    checks.same("a wrong count stays where it is what differs", shortened(wrong, lambda some: "end,1,2\n" in some), ["end,1,2\n"])
+
+
+def published(rows):
+    """Each ask with each change before it that is in a batch of the right number and count."""
+    number, changes, known, found = 1, [], [], set()
+    for row in rows:
+        if row.startswith("end,"):
+            if row == f"end,{number},{len(changes)}\n":
+                known, number = known + changes, number + 1
+            changes = []
+        elif row.startswith("put,"):
+            changes.append(row)
+        else:
+            found |= {(row, change) for change in known}
+    return found
 
 
 def printed(checks):
     """What `Checks.stream` prints and counts: a stream that differs fails by its shortest rows."""
+    def length(some):
+        return len("".join(some))
+
     def judged(rows, found):
         own, said = Checks(), io.StringIO()
         with contextlib.redirect_stdout(said):
-            own.stream("a stream", rows, found, sum)
+            own.stream("a stream", rows, found, length)
         return own.passed, own.failed, said.getvalue()
 
-    rows = list(range(1, 60))
-    checks.same("a stream that doesn't differ", judged(rows, lambda some: sum(some)), (1, 0, ""))
-    passed, failed, said = judged(rows, lambda some: sum(some) + (7 in some))
+    rows = numbered(60)
+    checks.same("a stream that doesn't differ", judged(rows, length), (1, 0, ""))
+    passed, failed, said = judged(rows, lambda some: length(some) + ("17" in some))
     checks.same("a stream that differs fails once", (passed, failed), (0, 1))
-    checks.same("what is said of it", said.splitlines(), ["FAILED a stream", "  wanted 1770", "  found  1771", "  shortest [7]", "  wanted of it 7", "  found of it  8"])
+    checks.same("what is said of it", said.splitlines(),
+                ["FAILED a stream", "  wanted 110", "  found  111", "  shortest ['17']", "  wanted of it 2", "  found of it  3"])
     answers = iter([1, 2])
     passed, failed, said = judged([], lambda some: next(answers, 0))
     checks.same("one that differs once alone fails, too", (passed, failed, said.splitlines()[:1]), (0, 1, ["FAILED a stream"]))

@@ -81,11 +81,14 @@ def drawn_scripts():
 
 def answers(checks, solve, python, name, rows, lines):
     """One stream, in one call and in a call for each line."""
+    def bytes_of(some):
+        return "".join(some).encode("latin-1")
+
     def right(some):
-        text = b"".join(some)
+        text = bytes_of(some)
         return 0, lines if text == rows else lines_of(text), b""
 
-    checks.stream(f"{name} by the library for C", rows.splitlines(keepends=True), lambda some: ran([solve], b"".join(some)), right)
+    checks.stream(f"{name} by the library for C", rows.decode("latin-1").splitlines(keepends=True), lambda some: ran([solve], bytes_of(some)), right)
     if is_by_line(rows):
         checks.same(f"{name} by the library for C, line by line", ran([solve, "lines"], rows), (0, lines, b""))
         checks.same(f"{name} by the library for C from Python", ran(python, rows), (0, lines, b""))
