@@ -1149,7 +1149,7 @@ def words(program, checks):
 
 def queued(checks):
     """Short asks that wait for a program which takes no rows cost little, however many they are."""
-    from routed.feed.ospf import FULL, Feed as Real, Program
+    from routed.feed.ospf.ospf import FULL, Feed as Real, Program
     feed, reading = Real.__new__(Real), os.pipe()
     feed.asks, feed.unread_asks, feed.batches = reading[0], b"", argparse.Namespace(ask=lambda: None)
     feed.program, row, began = Program(["sleep", str(PATIENCE)]), b"ask,\n", time.process_time()
