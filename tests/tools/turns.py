@@ -39,7 +39,7 @@ UPDATES = 20  # batches beside them
 def turns(program, checks):
     start = time.monotonic()
     with tempfile.TemporaryDirectory() as room:
-        for part in (few, one_row, in_order, updates, short, last_row, gone, refused, ended, unread, idle, lineless, extra, late, full, two_fronts,
+        for part in (few, one_row, in_order, updates, short, last_row, gone, refused, ended, failed, unread, idle, lineless, extra, late, full, two_fronts,
                      counted, marked, real):
             inner = os.path.join(room, part.__name__)
             os.mkdir(inner)
@@ -61,7 +61,8 @@ class Streams:
             self.loop, self.turns, self.account = front.loop, front.turns, front.account
         else:
             self.log_file, file = os.pipe()
-            self.loop, self.account = Loop(), Account(Log("turns", "info", file), os.path.join(room, "journal"))
+            self.account = Account(Log("turns", "info", file), os.path.join(room, "journal"))
+            self.loop = Loop(self.account.failed)
             self.turns = Turns(most)
         self.free, self.channels, self.clients, self.files = collections.deque(), [], [], []
         self.part, self.unsaid, self.heard, self.left = [], [], [], []  # of the last, the rows that the server hasn't answered
@@ -358,6 +359,26 @@ def ended(program, checks, room):
         checks.same(f"the lines where it ends streams {gone_ones}", [streams.hear(at) for at in range(4)],
                     [(b"", True) if at in gone_ones else (lines(at, EACH), False) for at in range(4)])
         checks.same(f"no turn is left where it ends streams {gone_ones}", (streams.have_turns(), list(streams.free)), (([], []), []))
+
+
+def failed(program, checks, room):
+    """An exception ends the connection of a stream that has a turn or waits for one, a second one the use of the stream: others have turns."""
+    for name, at, count in (("with a turn", 0, 1), ("that waits", 1, 1), ("with a turn, twice", 0, 2), ("that waits, twice", 1, 2)):
+        streams = Streams(room, 3, 1)
+        for each in range(3):
+            streams.flood(each)
+        for _ in range(count):
+            streams.channels[at].loop.call(lambda: {}["key"])
+            streams.settle()
+        streams.answer_all()
+        for _ in range(2):
+            streams.pass_time()
+            streams.answer_all()
+        others = [each for each in range(3) if each != at]
+        checks.same(f"an exception of a stream {name}: the others", [streams.hear(each) for each in others],
+                    [(lines(each, EACH), False) for each in others])
+        checks.same(f"an exception of a stream {name}: turns", streams.have_turns(), ([], []))
+        checks.same(f"an exception of a stream {name}: its place", list(streams.free), [streams.channels[at]] * (2 - count))
 
 
 def unread(program, checks, room):

@@ -118,6 +118,7 @@ class Channel:
     def retire(self):
         """Takes the stream out of use."""
         self.is_ended = True
+        self.to_server, self.passing, self.waiting, self.unanswered = b"", b"", 0, 0  # or it would keep the next turn
         self.turns.give_back(self)
         with contextlib.suppress(ValueError):
             self.free.remove(self)
