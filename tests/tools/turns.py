@@ -39,8 +39,8 @@ UPDATES = 20  # batches beside them
 def turns(program, checks):
     start = time.monotonic()
     with tempfile.TemporaryDirectory() as room:
-        for part in (few, one_row, in_order, updates, short, last_row, gone, refused, ended, unread, idle, lineless, extra, late, full, two_fronts, counted, marked,
-                     real):
+        for part in (few, one_row, in_order, updates, short, last_row, gone, refused, ended, failed, unread, idle, lineless, extra, late, full, two_fronts,
+                     counted, marked, real):
             inner = os.path.join(room, part.__name__)
             os.mkdir(inner)
             try:
@@ -61,7 +61,8 @@ class Streams:
             self.loop, self.turns, self.account = front.loop, front.turns, front.account
         else:
             self.log_file, file = os.pipe()
-            self.loop, self.account = Loop(), Account(Log("turns", "info", file), os.path.join(room, "journal"))
+            self.account = Account(Log("turns", "info", file), os.path.join(room, "journal"))
+            self.loop = Loop(self.account.failed)
             self.turns = Turns(most)
         self.free, self.channels, self.clients, self.files = collections.deque(), [], [], []
         self.part, self.unsaid, self.heard, self.left = [], [], [], []  # of the last, the rows that the server hasn't answered
@@ -203,7 +204,8 @@ def few(program, checks, room):
     while any(found[-1]):
         streams.answer(max(range(FLOODING), key=found[-1].__getitem__), 1)
         found.append(streams.at_server())
-    checks.same("streams with rows at the server, and the most rows of one", (max(sum(map(bool, it)) for it in found), max(map(max, found))), (MOST, ROWS))
+    most = max(sum(map(bool, counts)) for counts in found), max(map(max, found))
+    checks.same("streams with rows at the server, and the most rows of one", most, (MOST, ROWS))
     for at in range(FLOODING):
         checks.same(f"the lines of stream {at}, which floods", streams.hear(at), (lines(at, EACH), False))
     checks.same("no turn is left", streams.have_turns(), ([], []))
@@ -297,9 +299,10 @@ def last_row(program, checks, room):
             streams.leave(at)
             streams.flood(2)
             most = streams.answer_all()
-            checks.same(f"a connection that ends behind {count} rows and a part of one, as number {at}", (most, streams.hear(at), list(streams.free)),
+            name = f"{count} rows and a part of one, as number {at}"
+            checks.same(f"a connection that ends behind {name}", (most, streams.hear(at), list(streams.free)),
                         (ROWS, (lines(at, count), True), [streams.channels[at]]))
-            checks.same(f"others beside {count} rows and a part of one, as number {at}", (streams.hear(1 - at), streams.hear(2), streams.have_turns()),
+            checks.same(f"others beside {name}", (streams.hear(1 - at), streams.hear(2), streams.have_turns()),
                         ((lines(1 - at, EACH), False), (lines(2, EACH), False), ([], [])))
 
 
@@ -358,6 +361,26 @@ def ended(program, checks, room):
         checks.same(f"no turn is left where it ends streams {gone_ones}", (streams.have_turns(), list(streams.free)), (([], []), []))
 
 
+def failed(program, checks, room):
+    """An exception ends the connection of a stream that has a turn or waits for one, a second one the use of the stream: others have turns."""
+    for name, at, count in (("with a turn", 0, 1), ("that waits", 1, 1), ("with a turn, twice", 0, 2), ("that waits, twice", 1, 2)):
+        streams = Streams(room, 3, 1)
+        for each in range(3):
+            streams.flood(each)
+        for _ in range(count):
+            streams.channels[at].loop.call(lambda: {}["key"])
+            streams.settle()
+        streams.answer_all()
+        for _ in range(2):
+            streams.pass_time()
+            streams.answer_all()
+        others = [each for each in range(3) if each != at]
+        checks.same(f"an exception of a stream {name}: the others", [streams.hear(each) for each in others],
+                    [(lines(each, EACH), False) for each in others])
+        checks.same(f"an exception of a stream {name}: turns", streams.have_turns(), ([], []))
+        checks.same(f"an exception of a stream {name}: its place", list(streams.free), [streams.channels[at]] * (2 - count))
+
+
 def unread(program, checks, room):
     """A connection that doesn't read has a turn for no longer than the server needs for its rows, and all of its lines once it reads."""
     for name, count, long in (("short lines", 400, b"." * 1000), ("long lines", EACH, b"." * LONG)):
@@ -370,10 +393,12 @@ def unread(program, checks, room):
         held = streams.channels[0]
         checks.true(f"a connection that doesn't read {name} is held up", held.to_client and held.to_server, (held.to_client[:9], held.to_server[:9]))
         checks.true(f"the lines that are kept for it, with {name}", len(held.to_client) < 2 * LONGEST + LONG, len(held.to_client))
-        checks.true(f"and neither has a turn nor waits for one, with {name}", not {0} & {*itertools.chain(*streams.have_turns())}, streams.have_turns())
+        found = streams.have_turns()
+        checks.true(f"and neither has a turn nor waits for one, with {name}", 0 not in found[0] + found[1], found)
         streams.flood(2)
         streams.answer_all(1, 2)
-        checks.same(f"others beside a connection that doesn't read {name}", [streams.hear(at) for at in (1, 2)], [(lines(at, EACH), False) for at in (1, 2)])
+        checks.same(f"others beside a connection that doesn't read {name}", [streams.hear(at) for at in (1, 2)],
+                    [(lines(at, EACH), False) for at in (1, 2)])
         wanted = lines(0, count, long=long)
         for _ in range(count):
             streams.answer_all(long=long)
@@ -427,7 +452,8 @@ def lineless(program, checks, room):
         for _ in range(2):
             streams.pass_time()
         streams.at_server()
-        checks.true(f"rows without a line {name}: the server is asked", [b",0.0.0.0," in row for row in streams.left[0]] == [True], streams.left[0])
+        found = [b",0.0.0.0," in row for row in streams.left[0]]
+        checks.same(f"rows without a line {name}: the server is asked", found, [True])
         streams.answer_all()
         last = ROWS if more is None else EACH
         checks.same(f"rows without a line {name}: the other lines", (streams.hear(0), streams.hear(1), streams.have_turns()),
@@ -465,7 +491,8 @@ def extra(program, checks, room):
             os.write(streams.files[1][1], b"." * LONG + b"\n")
         streams.settle()
     streams.answer_all(0, 2)
-    checks.same("others beside a connection that doesn't read lines without rows", [streams.hear(at) for at in (0, 2)], [(lines(at, EACH), False) for at in (0, 2)])
+    checks.same("others beside a connection that doesn't read lines without rows", [streams.hear(at) for at in (0, 2)],
+                [(lines(at, EACH), False) for at in (0, 2)])
     checks.same("it has no row at the server", (streams.at_server()[1], streams.have_turns()[0]), (0, []))
     for _ in range(EACH):
         streams.hear(1)
@@ -503,7 +530,8 @@ def late(program, checks, room):
     streams.pass_time()
     checks.same("nor is one that has our own request", streams.at_server(), [1, ROWS])
     streams.answer_all()
-    checks.same("the end beside a late server", (streams.hear(0), streams.hear(1)), ((lines(0, EACH) * 2 + lines(0, 2), True), (lines(1, EACH) * 2, False)))
+    checks.same("the end beside a late server", (streams.hear(0), streams.hear(1)),
+                ((lines(0, EACH) * 2 + lines(0, 2), True), (lines(1, EACH) * 2, False)))
     streams.clients[0] = streams.connect(0)
     streams.flood(1)
     streams.say(0, asks(0, 10) + b'ask,"\n')
@@ -580,7 +608,7 @@ while True:
         *whole, stream[2] = (stream[2] + data).split(b"\n")
         stream[3] += whole
     if not ready:  # nothing more comes before an answer
-        print(*(len(rows) for *_, rows in streams[1:]), file=counts, flush=True)
+        print(*(sum(b",0.0.0.0," not in row for row in rows) for *_, rows in streams[1:]), file=counts, flush=True)  # but our own
         _, file, _, rows = max(streams, key=lambda it: len(it[3]))
         os.write(file, b"".join(b"ask %s v0 none\n" % row.split(b",")[1] for row in rows))
         rows.clear()
@@ -604,7 +632,8 @@ def counted(program, checks, room):
             for at, taken in enumerate(together):
                 taken.socket.sendall(asks(at, rows))
             wanted = [f"ask {number} v0 none\n" for number in range(3)]
-            checks.same(f"one row each time beside streams that flood {processors} processors", [single.talk(f"ask,{number}\n") for number in range(3)], wanted)
+            found = [single.talk(f"ask,{number}\n") for number in range(3)]
+            checks.same(f"one row each time beside streams that flood {processors} processors", found, wanted)
             wanted = [lines(at, rows).decode().replace("v1", "v0") for at in range(FLOODING)]
             checks.same(f"the lines of streams that flood {processors} processors", [taken.leave() for taken in together], wanted)
             with open(os.path.join(inner, "counts"), encoding="ascii") as counts:

@@ -14,7 +14,7 @@ from ..net.places import Door, hang_up, peer_of
 from .accounts import Use
 from .turns import SILENCE, first_rows
 
-LONGEST = 1 << 16  # bytes of a line and of a turn; the longest row that is accepted is far shorter
+LONGEST = 1 << 16  # bytes of a line, and of one read or write; the longest row that is accepted is far shorter
 MARK = b"\xef\xbb\xbf"  # the byte order mark, which the server's reader skips at the beginning of a stream alone
 SNAPSHOT = (b"snapshot\n", b"snapshot\r\n")
 # Rows of the updates. A carriage return ends one, too.
@@ -118,6 +118,7 @@ class Channel:
     def retire(self):
         """Takes the stream out of use."""
         self.is_ended = True
+        self.to_server, self.passing, self.waiting, self.unanswered = b"", b"", 0, 0  # or it would keep the next turn
         self.turns.give_back(self)
         with contextlib.suppress(ValueError):
             self.free.remove(self)
@@ -335,7 +336,7 @@ class Updates(Channel):
         self.snapshots = snapshots
 
     def pass_on(self, _):
-        """Passes on all rows: there is one such stream alone, which has nobody to wait for."""
+        """Passes on all rows: the updates need no turn."""
         self.passing, self.to_server, self.waiting = rest_of(self.rows, self.passing + self.to_server), b"", 0
 
     def passed(self, end):
