@@ -21,7 +21,7 @@ check) echo "$* ${PWD##*/}" ;;
 *) echo "$*" ;;
 esac >>"$NOTES"
 case "$1 $#" in
-"ci 1") ls crates >>"$NOTES"; ends "$CI"; says '*' ;;
+"ci 1") ls crates >>"$NOTES"; ends "$WHOLE"; says '*' ;;
 ci*) grep -q 'rt ci NAME' "$HELP" || ends 2; ends "$NAMES"; says '*' ;;
 check*) [ "$UNPROVED" != "${PWD##*/}" ] || exit 1 ;;
 must-fail*) ends "$MUST_FAIL"; says "$2" ;;
@@ -92,7 +92,7 @@ def stopped(tree, checks):
     checks.same("tests/mutants: no edit is tried where rt must-fail ends with status 2", (status, said[-2:]), (2, [why, none]))
     checks.same("that ends the run", tree.noted(), ["help", "check left", "must-fail left"])
     tree.write("help", BARE)
-    status, said = tree.run("tests/mutants", CI="2")
+    status, said = tree.run("tests/mutants", WHOLE="2")
     checks.same("nor where rt ci does", (status, said[-2:]), (2, [f"NOT TRIED: `rt ci` ended with status 2: why it stopped {EVERY}", none]))
     tree.write("help", NAMED)
     status, said = tree.run("tests/mutants", NAMES="2")
