@@ -1,0 +1,164 @@
+"""A connection that never blocks: what comes is read as bytes or as lines, and what isn't taken at once waits."""
+from __future__ import annotations
+
+import contextlib
+import os
+import select
+import socket
+from collections.abc import Callable
+
+from .loop import READ, WRITE, Loop, Owned, Owner
+
+LONGEST = 1 << 16  # bytes of one read or write, and of a line
+LINGER = 1  # seconds in which what a connection that was hung up still sends is dropped
+
+
+class Stream:
+    """A socket, or a pipe to read from and one to write to, which are closed with it.
+
+    `waiting` has the bytes that aren't written yet. It is bounded by its user, who writes no more, and mostly reads no more where these
+    came from, once `is_full`. `is_ended` says that no more comes. `fault` keeps the error that ended this, or the writing: what is
+    written then is dropped. Until an owner takes it, and once it is hung up, a stream is its own. A shared one is of files whose
+    flags others see, as standard output: they may block, so it is read where something has come alone."""
+
+    __slots__ = "socket", "source", "to", "loop", "call", "most", "once", "is_shared", "waiting", "unread", "is_ended", "fault"
+
+    def __init__(self, loop: Loop | Owned, source: socket.socket | int, to: int | None = None, most: int = LONGEST,
+                 is_shared: bool = False) -> None:
+        self.socket = None if isinstance(source, int) else source
+        self.source = source if isinstance(source, int) else source.fileno()
+        self.to = self.source if to is None else to
+        self.most, self.once, self.is_shared = most, select.PIPE_BUF if is_shared else LONGEST, is_shared
+        self.waiting, self.unread = bytearray(), b""  # what was read of a line that isn't whole
+        self.is_ended, self.fault = False, None  # type: bool, OSError | None
+        self.loop, self.call = loop.of(self), self.drop  # type: Owned, Callable[[int], object]
+        if not is_shared:
+            for file in (self.source, self.to):
+                os.set_blocking(file, False)
+
+    def give(self, owner: Owner | None, call: Callable[[int], object]) -> None:
+        """From now on it is the owner's, whose `call` gets its events."""
+        self.wait(False, False)
+        self.loop, self.call = self.loop.of(owner), call
+
+    def wait(self, is_read: bool, is_written: bool = True) -> None:
+        """Waits for what comes, where it is read, and for room where something waits."""
+        reads = READ if is_read and not self.is_ended else 0
+        writes = WRITE if is_written and self.waiting else 0
+        if self.to == self.source:
+            self.loop.want(self.source, reads | writes, self.call)
+        else:
+            self.loop.want(self.source, reads, self.call)
+            self.loop.want(self.to, writes, self.call)
+
+    def read(self, most: int = LONGEST) -> bytes:
+        """What has come, up to so many bytes. None are the end where `is_ended` says so."""
+        try:
+            data = os.read(self.source, most)
+        except BlockingIOError:
+            return b""
+        except OSError as fault:
+            self.fault, data = fault, b""
+        if not data:
+            self.is_ended = True
+        return data
+
+    def text(self) -> bytes:
+        """The whole lines of what has come."""
+        data = self.read()
+        end = data.rfind(b"\n") + 1
+        if not end:
+            self.unread += data
+            return b""
+        found, self.unread = self.unread + data[:end], data[end:]
+        return found
+
+    def lines(self) -> list[bytes]:
+        """The same, each without its line feed."""
+        return self.text().split(b"\n")[:-1]
+
+    def write(self, data: bytes) -> None:
+        """Writes it, behind what waits."""
+        has_waited = bool(self.waiting)
+        self.waiting += data
+        if not has_waited:
+            self.flush()
+
+    def flush(self) -> int:
+        """Writes what is taken now of what waits. How many bytes that are."""
+        if self.is_shared and not has_room(self.to):
+            return 0
+        try:
+            count = os.write(self.to, self.waiting[:self.once])
+        except BlockingIOError:
+            return 0
+        except OSError as fault:
+            self.fault = fault
+            self.waiting.clear()
+            return 0
+        del self.waiting[:count]
+        return count
+
+    @property
+    def is_full(self) -> bool:
+        return len(self.waiting) >= self.most
+
+    @property
+    def is_closed(self) -> bool:
+        return self.source < 0
+
+    def why(self) -> str:
+        """The error that ended it, in words."""
+        return str(self.fault and self.fault.strerror or self.fault)
+
+    def shut(self) -> None:
+        """Writes no more, and drops what waits. It is read on."""
+        self.waiting.clear()
+        if self.socket:
+            with contextlib.suppress(OSError):  # it has gone already
+                self.socket.shutdown(socket.SHUT_WR)
+        elif self.to >= 0:
+            self.loop.want(self.to, 0)
+            os.close(self.to)
+            self.to = -1
+
+    def hang_up(self, last: bytes = b"") -> None:
+        """Ends it by its last bytes. What it still sends is read for a moment: closed before that, it could lose lines."""
+        self.waiting += last
+        self.flush()
+        self.shut()
+        if self.is_ended:
+            self.close()
+        else:
+            self.give(self, self.drop)
+            self.wait(True)
+            self.loop.after(LINGER, self.close)
+
+    def drop(self, _: int) -> None:
+        """Reads what nobody wants any more."""
+        self.read()
+        if self.is_ended:
+            self.close()
+
+    def close(self) -> None:
+        if self.is_closed:
+            return
+        self.wait(False, False)
+        if self.socket:
+            self.socket.close()
+        else:
+            for file in {self.source, self.to} - {-1}:
+                os.close(file)
+        self.source = self.to = -1
+
+    fail = close
+
+    def named(self) -> str:
+        return "a connection"
+
+
+def has_room(file: int) -> bool:
+    """Whether a file that may block takes as many bytes as a pipe takes at once, or refuses them."""
+    poll = select.poll()
+    poll.register(file, select.POLLOUT)
+    return bool(poll.poll(0))
