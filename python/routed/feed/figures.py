@@ -14,7 +14,7 @@ class FeedFigures:
     def __init__(self, feed, say):
         self.heard_at, self.links, self.marks, self.left, self.place, self.say = None, 0, 0, {}, None, say
         self.figures = figures = Figures()
-        figures.gauge("routed_feed_connected", "Whether there is a connection to the router, 1 or 0.", lambda: int(feed.api is not None))
+        figures.gauge("routed_feed_connected", "Whether there is a connection to the router, 1 or 0.", lambda: int(feed.is_connected))
         figures.gauge("routed_feed_heard_age_seconds", "Seconds since the router sent anything; absent where it never did.",
                       lambda: None if self.heard_at is None else time.monotonic() - self.heard_at)
         figures.gauge("routed_feed_version", "The version of the last batch that was accepted.", lambda: feed.batches.version if feed.batches else None)
