@@ -1,6 +1,6 @@
 """What the sessions of PCCs ask of the front that they share."""
 from argparse import Namespace
-from collections.abc import Callable, Iterable
+from collections.abc import Callable, Iterable, Sequence
 from typing import Protocol
 
 from .network import Network, Sids
@@ -34,7 +34,7 @@ class SessionFront(Protocol):
     def ask(self, row: str, call: Callable[[str | None], None], owner: object) -> None:
         """Asks the server, and gives its line to `call`; None where no line comes. An exception in it ends the owner."""
 
-    def segments(self, head: str, fars: list[str], version: int) -> list[Link] | None:
+    def segments(self, head: str, fars: Sequence[str], version: int) -> list[Link] | None:
         """The links of a route at a version, with their SIDs; None where a link has none."""
 
     def owner(self, session: object, head: str, name: str) -> bool:

@@ -37,11 +37,11 @@ class Watch:
         if b"busy" in lines:
             self.front.lost("the place of versions is busy", LATE_AGAIN)
             return
-        versions = [VERSION.fullmatch(line) for line in lines]
-        if None in versions or len(self.unread) > LONGEST:
+        versions = [int(found[1]) for line in lines if (found := VERSION.fullmatch(line))]
+        if len(versions) < len(lines) or len(self.unread) > LONGEST:
             self.front.lost("the place of versions tells something else", LATE_AGAIN)
         elif versions:
-            self.front.told(int(versions[-1][1]))
+            self.front.told(versions[-1])
 
     def close(self):
         if self.socket.fileno() >= 0:
