@@ -54,7 +54,8 @@ def kind_of_metric(found: Found, asked: str | None) -> str:
     lacks = {"cost": not ends or any(circuit.cost is None for circuit in found.circuits),
              "km": not ends or not is_on_earth(ends) or any(site.place is None for site in ends), "one": False}
     if asked and ends and lacks[asked]:
-        raise ValueError({"cost": "--metric cost: a link has no routing cost", "km": "--metric km: a site has no longitude and latitude"}[asked])
+        lacking = {"cost": "a link has no routing cost", "km": "a site has no longitude and latitude"}
+        raise ValueError(f"--metric {asked}: {lacking[asked]}")
     return asked or next(kind for kind, is_lacking in lacks.items() if not is_lacking)
 
 
@@ -128,7 +129,9 @@ def listed(found: Found, asked: argparse.Namespace, kind: str) -> Iterator[str]:
     yield from (f"one position for {count} sites: {place[0]:g} {place[1]:g}" for place, count in shared.items() if count > 1)
     if found.demands and not asked.requests:
         yield f"left out: {len(found.demands)} demands, which --requests FILE writes"
-    yield from (f"left out: {what} ({count} times)" if count > 1 else f"left out: {what}" for what, count in sorted(found.left.items()) if count)
+    for what, count in sorted(found.left.items()):
+        if count:
+            yield f"left out: {what}" + f" ({count} times)" * (count > 1)
 
 
 def options(words: list[str] | None) -> argparse.Namespace:
