@@ -6,7 +6,7 @@ import struct
 import tempfile
 import time
 
-from pcep.sessions import PATH, request, rows
+from pcep.played import PATH, request, rows
 from pcep.runs import OPENED, Client, Run, begun, wait
 
 from routed.pcep import wire

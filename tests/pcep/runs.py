@@ -13,7 +13,8 @@ import tempfile
 import time
 
 from checks import TOOLS, TOP
-from pcep.sessions import NORTH, PATH, SOUTH, bandwidth, changes, hop, ip, lspa, metric, request, rows, told
+from pcep.delegated import changes
+from pcep.played import NORTH, PATH, SOUTH, bandwidth, hop, ip, lspa, metric, request, rows, told
 from program.serving import PATIENCE
 from reference import formats
 

@@ -13,7 +13,7 @@ import time
 from feed import rows as feeds
 from tools.figures import ASKS, PAIR, answered, eventually, figures_of, sent
 from tools.listened import Connection, Front, admitted, busy
-from pcep.sessions import PATH, request, rows
+from pcep.played import PATH, request, rows
 from pcep.runs import OPENED, TO_NORTH, TO_SOUTH, Client, Run, begun, wait
 from program.serving import PATIENCE
 

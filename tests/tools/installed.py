@@ -12,9 +12,9 @@ import time
 from importlib.machinery import SourceFileLoader
 
 from checks import TOP
-from feed.rows import PAIR, Router
+from feed.played import PAIR, Router
 from pcep.runs import Client
-from pcep.sessions import request
+from pcep.played import request
 from tools.kept import started
 from tools.listened import PATIENCE, Connection
 
