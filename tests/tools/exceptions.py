@@ -10,11 +10,11 @@ import sys
 import tempfile
 import time
 
-from feed import rows as feeds
+from feed import played as feeds
 from tools.figures import ASKS, PAIR, answered, eventually, figures_of, sent
-from tools.listened import Connection, Front, admitted, busy
+from tools.fronts import Connection, Front, admitted, busy
 from pcep.played import PATH, request, rows
-from pcep.runs import OPENED, TO_NORTH, TO_SOUTH, Client, Run, begun, wait
+from pcep.beside import OPENED, TO_NORTH, TO_SOUTH, Client, Run, begun, wait
 from program.serving import PATIENCE
 
 from routed.front import metrics, status

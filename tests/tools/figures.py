@@ -13,9 +13,9 @@ import threading
 import time
 
 from checks import TOOLS, TOP
-from feed import rows as feeds
-from program.serving import PATIENCE
-from tools.listened import CLIENTS, Connection, Front, admitted, busy
+from feed import played as feeds
+from program.serving import CLIENTS, PATIENCE
+from tools.fronts import Connection, Front, admitted, busy
 
 from routed.front import metrics, status
 from routed.net import log
