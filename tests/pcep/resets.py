@@ -7,7 +7,7 @@ import tempfile
 import time
 
 from pcep.played import PATH, request, rows
-from pcep.runs import OPENED, Client, Run, begun, wait
+from pcep.beside import OPENED, Client, Run, begun, wait
 
 from routed.pcep import wire
 from routed.pcep.wire import pack
