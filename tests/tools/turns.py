@@ -25,10 +25,11 @@ from tools.listened import MARK, Connection, Front
 
 from routed.front import listen
 from routed.front.accounts import Account
-from routed.front.channels import LONGEST, Channel, Updates
+from routed.front.channels import Channel, Updates
 from routed.front.turns import ROWS, Turns
 from routed.net.log import Log
 from routed.net.loop import Loop
+from routed.net.stream import LONGEST, Stream
 
 MOST, FLOODING, EACH = 2, 6, 100  # turns at once, streams that flood, and the rows of each
 SOME, LONG = 20, 1 << 15  # rows behind those of a turn, and bytes of a long line
@@ -88,7 +89,7 @@ class Streams:
         for end in (client, connection):
             end.setblocking(False)
             end.setsockopt(socket.SOL_SOCKET, socket.SO_SNDBUF, 1 << 16)
-        self.channels[at].connection = connection
+        self.channels[at].connection = Stream(self.loop, connection)
         self.channels[at].begin(None, "here")
         return client
 
@@ -391,8 +392,9 @@ def unread(program, checks, room):
         while 0 in streams.have_turns()[1] and streams.answer(1):
             streams.answer_all(0, long=long)
         held = streams.channels[0]
-        checks.true(f"a connection that doesn't read {name} is held up", held.to_client and held.to_server, (held.to_client[:9], held.to_server[:9]))
-        checks.true(f"the lines that are kept for it, with {name}", len(held.to_client) < 2 * LONGEST + LONG, len(held.to_client))
+        kept = held.connection.waiting
+        checks.true(f"a connection that doesn't read {name} is held up", kept and held.to_server, (kept[:9], held.to_server[:9]))
+        checks.true(f"the lines that are kept for it, with {name}", len(kept) < 2 * LONGEST + LONG, len(kept))
         found = streams.have_turns()
         checks.true(f"and neither has a turn nor waits for one, with {name}", 0 not in found[0] + found[1], found)
         streams.flood(2)
@@ -550,7 +552,7 @@ def full(program, checks, room):
         fcntl.fcntl(streams.files[0][0], fcntl.F_SETPIPE_SZ, NARROW)
         streams.say(0, rows)
         streams.channels[0].end_idle(time.monotonic())  # our own request is behind them before they are written
-        checks.true(f"the pipe takes a part of {name}", streams.channels[0].passing, streams.channels[0].passing)
+        checks.true(f"the pipe takes a part of {name}", streams.channels[0].server.waiting, streams.at_server())
         streams.flood(1)
         for _ in range(EACH):
             streams.answer_all()

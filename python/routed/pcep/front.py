@@ -4,10 +4,12 @@ import signal
 import socket
 import time
 
-from ..front.metrics import Figures, Page
+from ..front.metrics import Figures
+from ..net.endpoints import BACKLOG, Door, tried
+from ..net.http import Page
 from ..net.log import Log
-from ..net.loop import READ, Loop
-from ..net.places import BACKLOG, Door, Stopped, hang_up, tried
+from ..net.loop import Loop, Stopped
+from ..net.signals import take_signals
 from . import wire
 from .asks import AGAIN, Asks
 from .keys import keys, set_key
@@ -43,11 +45,8 @@ class Front:
         figures.counter("routed_pcep_refused_by_pccs_total", "Errors of PCCs, by type and value.", "error")
         figures.counter("routed_pcep_moves_total", "What was done with LSPs, by the reason.", "reason")
         figures.counter("routed_pcep_exceptions_total", "Connections that were ended by an exception in the code of this tool.")
-        self.signals, write = os.pipe()
-        os.set_blocking(write, False)
-        signal.set_wakeup_fd(write, warn_on_full_buffer=False)
-        for number in (signal.SIGTERM, signal.SIGINT, signal.SIGHUP):
-            signal.signal(number, lambda *_: None)
+        self.is_over = False
+        take_signals(self.loop, (signal.SIGTERM, signal.SIGINT, signal.SIGHUP), self.signalled)
 
     def lsps(self):
         return (lsp for pcc in self.pccs.values() for lsp in pcc.session.lsps.all.values())
@@ -144,21 +143,20 @@ class Front:
 
     # ---- PCCs
 
-    def take(self, connection):
-        try:
-            peer = connection.getpeername()[0]
-        except OSError:  # it has gone already
-            connection.close()
+    def take(self, stream):
+        peer, _ = stream.peer()
+        if peer is None:  # it has gone already
+            stream.close()
             return
         if peer in self.pccs or len(self.pccs) >= self.options.pccs:
             is_twice = peer in self.pccs
             self.say("warning", f"{peer}: {'it has a session already' if is_twice else 'no session is free'}")
             if is_twice:
                 self.count("errors", "9/1")
-            hang_up(self.loop, connection, wire.error(9, 1) if is_twice else wire.close(1))
+            stream.hang_up(wire.error(9, 1) if is_twice else wire.close(1))
             return
         self.number += 1
-        self.pccs[peer] = Pcc(self, connection, peer)
+        self.pccs[peer] = Pcc(self, stream, peer)
 
     def tick(self):
         """Each second: timers, and SIDs that changed at no version of their own."""
@@ -168,8 +166,7 @@ class Front:
             self.again()
         self.loop.after(1, self.tick)
 
-    def signalled(self, _):
-        numbers = os.read(self.signals, 64)
+    def signalled(self, numbers):
         if signal.SIGTERM in numbers or signal.SIGINT in numbers:
             self.is_over = True
         elif signal.SIGHUP in numbers:
@@ -188,7 +185,6 @@ class Front:
             pcc.loop.call(pcc.session.lsps.making.reread)
 
     def run(self):
-        self.is_over = False
         with tried(f"{self.options.address}:{self.options.port}: bind"):
             listener = socket.create_server((self.options.address, self.options.port), backlog=BACKLOG)
         for peer, key in keys(self.options.keys):
@@ -197,7 +193,6 @@ class Front:
         if self.options.metrics:
             Page(self.loop, self.options.metrics.bind(0o600), self.figures.text)
         Door(self.loop, listener, self.take)
-        self.loop.want(self.signals, READ, self.signalled)
         self.connect()
         self.tick()
         with tried("standard output: write"):
