@@ -1,5 +1,6 @@
 """Connections to PCCs that read late or nothing, and those to the server."""
 import argparse
+import contextlib
 import os
 import socket
 import struct
@@ -7,9 +8,10 @@ import time
 
 from pcep.played import PATH, SOUTH, Front, report_of, request, rows, told
 
+from routed.net.endpoints import Endpoint
 from routed.net.loop import Loop
-from routed.net.places import Place
-from routed.pcep import pcc as connections, wire
+from routed.net.stream import Stream
+from routed.pcep import wire
 from routed.pcep.asks import Asks
 from routed.pcep.pcc import Pcc as Connected
 from routed.pcep.requests import answer_of
@@ -20,25 +22,34 @@ LARGE = 32000  # bytes of an object that comes back in each reply
 
 
 class Deaf:
-    """A connection whose other side reads nothing."""
+    """A connection that has no room, and whose other side reads late."""
 
-    taken = None
+    def __init__(self, loop):
+        connection, self.other = socket.socketpair()
+        self.stream, self.filled = Stream(loop, connection), 0
+        self.other.setblocking(False)
+        with contextlib.suppress(BlockingIOError):
+            while True:
+                self.filled += os.write(connection.fileno(), bytes(1 << 16))
 
-    def fileno(self):
-        return -1
-
-    def send(self, data):
-        if self.taken is None:
-            raise BlockingIOError
-        self.taken += data[:1 << 16]
-        return min(len(data), 1 << 16)
+    def hear(self, pcc):
+        """All that the PCC has for the other side."""
+        found = bytearray()
+        while True:
+            try:
+                found += self.other.recv(1 << 20)
+            except BlockingIOError:
+                if not pcc.stream.waiting:
+                    return bytes(found[self.filled:])
+            pcc.flush()
 
 
 def deaf(checks, room):
     """A PCC that sends Keepalives, but reads nothing for its dead timer."""
     front = Front(room)
     front.pccs, front.number, front.loop = {}, 1, Loop()
-    front.pccs["10.0.0.1"] = pcc = Connected(front, Deaf(), "10.0.0.1")
+    there = Deaf(front.loop)
+    front.pccs["10.0.0.1"] = pcc = Connected(front, there.stream, "10.0.0.1")
     pcc.session.take(wire.message(1, pack(1, bytes([0x20, 10, 40, 9]))) + wire.message(2), 0.0)
     for front.time, wanted in ((39.0, True), (40.0, True), (41.0, False)):
         if front.time < 40:
@@ -47,20 +58,20 @@ def deaf(checks, room):
         checks.same(f"a PCC that reads nothing for {front.time:.0f} s", pcc.peer in front.pccs, wanted)
     checks.true("a line says so", "its PCC reads nothing" in front.said[-1], front.said)
     front.publish(*rows())
-    pcc = Connected(front, Deaf(), "10.0.0.2")
+    there = Deaf(front.loop)
+    pcc = Connected(front, there.stream, "10.0.0.2")
     pcc.session.take(wire.message(1, pack(1, bytes([0x20, 10, 40, 9]) + tlv(16, struct.pack("!I", 5)))) + wire.message(2), front.time)
     pcc.session.take(report_of(1, 9) + report_of(0, 0), front.time)
-    most, connections.FULL = connections.FULL, 10_000
+    pcc.stream.most = 10_000
     for number in range(300):  # it is moved by each version, and has read of none
         front.publish(*rows([(1, 2, 50 + 200 * (number % 2))]))
         pcc.session.again()
-    waits, connections.FULL = len(pcc.unsent), most
+    waits = len(pcc.stream.waiting)
     checks.true("moves wait while a PCC reads nothing", 10_000 < waits < 11_000, waits)
-    pcc.connection.taken = b""
-    pcc.flush()
-    found = [told(kind, wire.objects_of(body)) for kind, body in wire.cut(pcc.connection.taken)[0]]
+    heard = there.hear(pcc)
+    found = [told(kind, wire.objects_of(body)) for kind, body in wire.cut(heard)[0]]
     checks.same("and then it gets the newest one alone", found[-1], f"PCUpd {' '.join(SOUTH)}")
-    checks.true("in one message", len(pcc.connection.taken) - waits < 1000, len(pcc.connection.taken))
+    checks.true("in one message", len(heard) - waits < 1000, len(heard))
 
 
 def reset(checks, room):
@@ -70,14 +81,11 @@ def reset(checks, room):
     with socket.create_server(("127.0.0.1", 0)) as listener:
         client = socket.create_connection(listener.getsockname())
         connection = listener.accept()[0]
-    connection.setblocking(False)
-    front.pccs["10.0.0.1"] = Connected(front, connection, "10.0.0.1")
+    front.pccs["10.0.0.1"] = Connected(front, Stream(front.loop, connection), "10.0.0.1")
     client.setsockopt(socket.SOL_SOCKET, socket.SO_LINGER, struct.pack("ii", 1, 0))
     client.close()
     front.loop.turn()
-    checks.same("a reset: its session ends, and its end is waited for", (front.pccs, [*front.loop.keys]), ({}, [connection.fileno()]))
-    front.loop.turn()
-    checks.same("a reset: it is closed", (connection.fileno(), front.loop.keys), (-1, {}))
+    checks.same("a reset: its session ends, and it is closed", (front.pccs, connection.fileno(), front.loop.keys), ({}, -1, {}))
 
 
 def collected(checks, room):
@@ -87,16 +95,16 @@ def collected(checks, room):
     front.pccs, front.number, front.loop = {}, 1, Loop()
     line = front.reference.reply(1, "ask,1,10.0.0.1,10.0.0.4,7,0,0x0,0x0,0x0,")
     front.ask = lambda row, call, owner: call(line)
-    pcc, one = Connected(front, Deaf(), "10.0.0.1"), request()[4:]
+    there, one = Deaf(front.loop), request()[4:]
+    pcc = Connected(front, there.stream, "10.0.0.1")
     pcc.session.take(wire.message(1, pack(1, bytes([0x20, 10, 40, 9]))) + wire.message(2), 0.0)
     count = (wire.MOST - 4 - LARGE) // len(one)
-    data, before, began = wire.message(3, pack(11, bytes(LARGE - 4)), one * count), len(pcc.unsent), time.process_time()
+    data, before, began = wire.message(3, pack(11, bytes(LARGE - 4)), one * count), len(pcc.stream.waiting), time.process_time()
     pcc.session.take(data, 0.0)
-    replies, pcc.connection.taken = len(pcc.unsent) - before, bytearray()
-    while pcc.unsent:
-        pcc.flush()
+    replies = len(pcc.stream.waiting) - before
+    heard = there.hear(pcc)
     took = time.process_time() - began
-    found = [told(kind, wire.objects_of(body)) for kind, body in wire.cut(bytes(pcc.connection.taken))[0]]
+    found = [told(kind, wire.objects_of(body)) for kind, body in wire.cut(heard)[0]]
     checks.true("one message: its replies", count > 1300 and found[2:] == [PATH] * count, (count, len(found)))
     checks.true("one message: their bytes", replies > count * LARGE, replies)
     checks.true("one message: seconds of a processor", took < 2, took)
@@ -108,7 +116,7 @@ def places(checks, room):
     with socket.socket(socket.AF_UNIX) as server:
         server.bind(path)
         server.listen()
-        asks = Asks(loop, Place(path), 3, lambda: ended.append(True))
+        asks = Asks(loop, Endpoint(path), 3, lambda: ended.append(True))
         asks.open()
         there = [server.accept()[0] for _ in range(3)]
         for at in range(3):
@@ -138,7 +146,7 @@ def moved(checks, room):
     with socket.socket(socket.AF_UNIX) as server:
         server.bind(path)
         server.listen()
-        asks = Asks(loop, Place(path), 2, lambda: None)
+        asks = Asks(loop, Endpoint(path), 2, lambda: None)
         asks.open()
         for is_answered in (True, False):
             there = [server.accept()[0] for _ in range(2)]
@@ -170,7 +178,7 @@ def strange(checks, room):
                                for text in (b"version \n", b"version x\n", b"version -1\n", b"version " + b"9" * 5000 + b"\n",
                                             b"version 1\nHTTP/1.1 400 Bad Request\r\n", b"\n", b"version " + b"1" * 200))]:
             found, loop = [], Loop()
-            front = argparse.Namespace(options=argparse.Namespace(watch=Place(path)), loop=loop, told=found.append,
+            front = argparse.Namespace(options=argparse.Namespace(watch=Endpoint(path)), loop=loop, told=found.append,
                                        lost=lambda why="the server has ended", after=0: found.append(why))
             watch, there = Watch(front), server.accept()[0]
             there.sendall(text)

@@ -148,7 +148,7 @@ def full(program, checks, room):
         fcntl.fcntl(streams.files[0][0], fcntl.F_SETPIPE_SZ, NARROW)
         streams.say(0, rows)
         streams.channels[0].end_idle(time.monotonic())  # our own request is behind them before they are written
-        checks.true(f"the pipe takes a part of {name}", streams.channels[0].passing, streams.channels[0].passing)
+        checks.true(f"the pipe takes a part of {name}", streams.channels[0].server.waiting, streams.at_server())
         streams.flood(1)
         for _ in range(EACH):
             streams.answer_all()

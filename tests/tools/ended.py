@@ -14,7 +14,7 @@ from tools.plants import ENDED, left, plant, planted
 from tools.reading import eventually, figures_of
 
 from routed.front import status
-from routed.net.places import Place
+from routed.net.endpoints import Endpoint
 from routed.pcep import wire
 
 
@@ -69,12 +69,12 @@ def of_pcep(program, checks, room):
         plant(room, "Front.take")
         checks.same("Front.take: it ends", Client(run.port, "127.0.30.99").read(), "end")
         judge("Front.take", "a connection")
-        plant(room, "metrics.answer_to")
+        plant(room, "http.answer_to")
         with socket.socket(socket.AF_UNIX) as reading:
             reading.connect(run.places["figures"])
             reading.sendall(b"GET /metrics HTTP/1.1\r\n\r\n")
-            checks.same("metrics.answer_to: it ends", reading.recv(100), b"")
-        judge("metrics.answer_to", "a reader of figures")
+            checks.same("http.answer_to: it ends", reading.recv(100), b"")
+        judge("http.answer_to", "a reader of figures")
         plant(room, "Front.signalled")
         run.pcep.send_signal(signal.SIGHUP)
         checks.same("an exception in the front's own code ends it", run.pcep.wait(PATIENCE), 1)
@@ -121,9 +121,9 @@ def of_feed(program, checks, room):
         router.accept()
         router.send(feeds.PAIR)
         eventually(checks, "and the next has its rows", lambda: figures_of(room, "feed").get(("routed_feed_version", None)), 1)
-        plant(room, "metrics.answer_to")
+        plant(room, "http.answer_to")
         with contextlib.suppress(status.Unread):
-            checks.fail(f"a reader of figures: {status.read(Place(place))}")
+            checks.fail(f"a reader of figures: {status.read(Endpoint(place))}")
         eventually(checks, "a reader of figures: a figure", lambda: figures_of(room, "feed").get(("routed_feed_exceptions_total", None)), 3)
     finally:
         made.terminate()

@@ -14,9 +14,8 @@ from tools.fronts import Connection, Front, admitted, busy
 from tools.plants import ENDED, left, plant, planted
 from tools.reading import ASKS, PAIR, answered, eventually, figures_of, sent
 
-from routed.front import metrics
-from routed.net import loop, places
-from routed.net.places import Stopped
+from routed.net import endpoints, http, loop
+from routed.net.endpoints import Stopped
 
 ASK, REPLY = ASKS["route"], re.compile(r"ask 1 v\d+ (?:route .*|unknown-from)\n")
 
@@ -65,15 +64,15 @@ def of_loop(_, checks, room):
         checks.true(f"{name}: its line", re.fullmatch(rf"one: ended by an exception, KeyError at {__file__}:\d+: 'key'", said[0]), said)
     said, owner, called = [], Owner(), []
     made = loop.Loop(said.append)
-    made.of(owner).after(0, lambda: metrics.is_http(None))
-    made.of(owner).after(0, lambda: places.Place(None))
+    made.of(owner).after(0, lambda: http.is_http(None))
+    made.of(owner).after(0, lambda: endpoints.Endpoint(None))
     made.of(owner).after(0, lambda: called.append("third"))
     made.turn()
     checks.same("times: the others come", (owner.ended, len(said), called), (2, 2, ["third"]))
     checks.true("times: a line names the line of the tools", re.fullmatch(
-        rf"one: ended by an exception, AttributeError at routed/front/metrics\.py:{line_of('front/metrics.py', 'asked.partition(b')}: .*'partition'", said[0]), said)
+        rf"one: ended by an exception, AttributeError at routed/net/http\.py:{line_of('net/http.py', 'asked.partition(b')}: .*'partition'", said[0]), said)
     checks.true("times: and the one that called another's code", re.fullmatch(
-        rf"one: ended by an exception, TypeError at {re.escape(re.__file__)}:\d+, called at routed/net/places\.py:{line_of('net/places.py', 're.fullmatch(')}: .*",
+        rf"one: ended by an exception, TypeError at {re.escape(re.__file__)}:\d+, called at routed/net/endpoints\.py:{line_of('net/endpoints.py', 're.fullmatch(')}: .*",
         said[1]), said)
     for name, who, fault in [("no owner", None, KeyError("key")), ("what ends the tool", Owner(), Stopped("word")),
                              ("a key of the user", Owner(), KeyboardInterrupt()), ("an end", Owner(), SystemExit(0))]:
@@ -113,7 +112,7 @@ def of_door(_, checks, room):
             connection, peer = accept()
             return Gone(fileno=connection.detach()), peer
 
-    places.Door(made, Listening(), taken.append)
+    endpoints.Door(made, Listening(), taken.append)
     both, began = [socket.create_connection(listener.getsockname()) for _ in range(2)], time.monotonic()
     while len(taken) < 2 and time.monotonic() < began + PATIENCE:
         made.turn()
@@ -213,14 +212,14 @@ def of_listen(program, checks, room):
             checks.same(f"{place}: it ends", heard(victim), "")
             seen.judge(checks, place, r"watch \d+")
             checks.same(f"{place}: another watcher goes on", (seen.publish(updating), seen.watcher.lines.next()), (f"version {seen.version}\n",) * 2)
-        for place in ("metrics.answer_to", "Reading.close"):
+        for place in ("http.answer_to", "Reading.close"):
             seen.plant(place)
             reader = sent(room, b"GET /metrics HTTP/1.1\r\n\r\n")
             seen.judge(checks, place, "a reader of figures")
             checks.same(f"{place}: readers that are there", figures_of(room)["routed_connections", "metrics"], 1)
             found = answered(reader)[0].partition("\r\n")[0]
             checks.same(f"{place}: it ends", found, "HTTP/1.1 200 OK" if place == "Reading.close" else "")
-        for place, others in (("channels.peer_of", 0), ("Held.drop", 1)):
+        for place, others in (("Stream.peer", 0), ("Stream.drop", 1)):
             others = [admitted(seen.front.ask, ASK)[0] for _ in range(others)]
             seen.plant(place)
             victim = Connection(seen.front.ask)

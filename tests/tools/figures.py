@@ -19,6 +19,7 @@ from tools.logs import blocked, logged, priorities
 from tools.reading import ASKS, PAIR, answered, eventually, exchanged, figures_of, got, seen, sent
 
 from routed.front import metrics, status
+from routed.net import http
 
 REFUSALS = [  # an alarm, its figure and a word of it, and whether one refusal is told of for good
     ("RoutedJournalFailed", "routed_refused_batches_total", "journal", True), ("RoutedJournalFailed", "routed_refused_batches_total", "stopped", True),
@@ -45,8 +46,8 @@ def text(program, checks, room):
     made.gauge("b", "Absent.", lambda: None)
     made.gauge("c", "Each.", lambda: {"p": 1, "q": 0.5}, "place")
     made.times("d_seconds", "Times.")
-    for took, count in ((0.0001, 1), (0.00011, 2), (99, 1)):
-        made.took("d_seconds", took, count)
+    made.values["d_seconds"][0][0], made.values["d_seconds"][0][1], made.values["d_seconds"][0][-1] = 1, 2, 1
+    made.values["d_seconds"][1] = 99.00032
     wanted = ["# HELP a_total Help.", "# TYPE a_total counter", 'a_total{word="x"} 0', 'a_total{word="y\\"\\\\\\n"} 2', "# HELP b Absent.", "# TYPE b gauge",
               "# HELP c Each.", "# TYPE c gauge", 'c{place="p"} 1', 'c{place="q"} 0.5', "# HELP d_seconds Times.", "# TYPE d_seconds histogram"]
     counts = [1] + [3] * (len(metrics.TIMES) - 1) + [4]
@@ -220,16 +221,16 @@ def page(program, checks, room):
         for name, data in (("no HTTP", b"ask,1,1.1.1.1,2.2.2.2,0,5,0x0,0x0,0x0,\n"), ("bytes", bytes(range(256)) * 40), ("a line feed", b"\n"),
                            ("no version", b"GET /metrics\r\n\r\n"), ("TLS", bytes.fromhex("16030100c8010000c403"))):
             checks.same(f"{name} at the place of figures", exchanged(room, data)[0].splitlines()[0], "HTTP/1.1 400 Bad Request")
-        checks.same("a head that is too long", exchanged(room, b"GET /metrics HTTP/1.1\r\nX: " + b"x" * metrics.HEAD)[0].splitlines()[0],
+        checks.same("a head that is too long", exchanged(room, b"GET /metrics HTTP/1.1\r\nX: " + b"x" * http.HEAD)[0].splitlines()[0],
                     "HTTP/1.1 431 Request Header Fields Too Large")
         asking = Connection(front.ask)
-        silent = [Connection(os.path.join(room, "metrics")) for _ in range(metrics.MOST)]
+        silent = [Connection(os.path.join(room, "metrics")) for _ in range(http.MOST)]
         silent[0].say("GET /metrics HTTP/1.1\r\n")
         began = time.monotonic()
         checks.same("an ask beside connections that send nothing", asking.talk(ASKS["route"]), "ask 1 v0 unknown-from\n")
         checks.true("a reader that comes then", ("routed_version", None) in figures_of_patiently(room), "")
-        checks.true("they have five seconds", time.monotonic() - began < metrics.SECONDS + 5, time.monotonic() - began)
-        checks.same("and end", [taken.rest() for taken in silent], [""] * metrics.MOST)
+        checks.true("they have five seconds", time.monotonic() - began < http.SECONDS + 5, time.monotonic() - began)
+        checks.same("and end", [taken.rest() for taken in silent], [""] * http.MOST)
         front.child.send_signal(signal.SIGSTOP)  # (so that none is accepted before all have come)
         readers = [sent(room, b"GET /metrics HTTP/1.1\r\n\r\n") for _ in range(100)]
         front.child.send_signal(signal.SIGCONT)

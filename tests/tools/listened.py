@@ -281,7 +281,7 @@ def idle(program, checks, versions, room):
         reading.socket.close()
         checks.same("the end of the one that asked", asking.rest(), "")
         checks.same("others are ended in their turn", [connection.rest() for connection in taken], [""] * 4)
-    found = [listen.idle_of(argparse.Namespace(idle=given, ask=listen.Place(text))) for given, text in [
+    found = [listen.idle_of(argparse.Namespace(idle=given, ask=listen.Endpoint(text))) for given, text in [
         (None, "8001"), (None, "[::1]:8001"), (None, "./8001"), (0, "8001"), (7, "8001"), (7, "./ask")]]
     checks.same("the seconds of --idle, by default and given", found, [300, 300, 0, 0, 7, 7])
 

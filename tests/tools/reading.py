@@ -7,7 +7,7 @@ from program.serving import PATIENCE
 from tools.fronts import Front
 
 from routed.front import status
-from routed.net.places import Place
+from routed.net.endpoints import Endpoint
 
 MASKS = "0x0,0x0,0x0"
 FREE = ",".join(["1000"] * 8)
@@ -24,7 +24,7 @@ def seen(program, room, *words, **how):
 
 def figures_of(room, name="metrics"):
     """The numbers by name and label's value."""
-    return status.read(Place(os.path.join(room, name)))
+    return status.read(Endpoint(os.path.join(room, name)))
 
 
 def eventually(checks, name, test, wanted):

@@ -14,6 +14,7 @@ from routed.front.channels import Channel
 from routed.front.turns import Turns
 from routed.net.log import Log
 from routed.net.loop import Loop
+from routed.net.stream import Stream
 
 MOST, FLOODING, EACH = 2, 6, 100  # turns at once, streams that flood, and the rows of each
 SOME, LONG = 20, 1 << 15  # rows behind those of a turn, and bytes of a long line
@@ -53,7 +54,7 @@ class Streams:
         for end in (client, connection):
             end.setblocking(False)
             end.setsockopt(socket.SOL_SOCKET, socket.SO_SNDBUF, 1 << 16)
-        self.channels[at].connection = connection
+        self.channels[at].connection = Stream(self.loop, connection)
         self.channels[at].begin(None, "here")
         return client
 

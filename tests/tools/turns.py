@@ -7,8 +7,9 @@ from tools.counts import TOGETHER, counted, extra, full, late, lineless, marked,
 from tools.fronts import MARK
 from tools.streams import EACH, FLOODING, LONG, MOST, SOME, Streams, asks, lines
 
-from routed.front.channels import LONGEST, Updates
+from routed.front.channels import Updates
 from routed.front.turns import ROWS
+from routed.net.stream import LONGEST
 
 
 def turns(program, checks):
@@ -222,8 +223,9 @@ def unread(program, checks, room):
         while 0 in streams.have_turns()[1] and streams.answer(1):
             streams.answer_all(0, long=long)
         held = streams.channels[0]
-        checks.true(f"a connection that doesn't read {name} is held up", held.to_client and held.to_server, (held.to_client[:9], held.to_server[:9]))
-        checks.true(f"the lines that are kept for it, with {name}", len(held.to_client) < 2 * LONGEST + LONG, len(held.to_client))
+        kept = held.connection.waiting
+        checks.true(f"a connection that doesn't read {name} is held up", kept and held.to_server, (kept[:9], held.to_server[:9]))
+        checks.true(f"the lines that are kept for it, with {name}", len(kept) < 2 * LONGEST + LONG, len(kept))
         found = streams.have_turns()
         checks.true(f"and neither has a turn nor waits for one, with {name}", 0 not in found[0] + found[1], found)
         streams.flood(2)

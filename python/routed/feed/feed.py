@@ -14,8 +14,8 @@ import time
 from collections.abc import Callable, Container
 from typing import NamedTuple, Protocol
 
-from ..net.loop import Loop, Owner
-from ..net.places import Place as Endpoint, Stopped
+from ..net.loop import Loop, Owner, Stopped
+from ..net.endpoints import Endpoint
 from ..net.stream import Stream
 from .batches import Batches, Ended, journal
 from .database import begun

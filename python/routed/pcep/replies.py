@@ -1,7 +1,7 @@
 """Requests and reply lines in files, as `routed audit` reads them: pairs N.requests and N.replies, of one run of the server each."""
 import os
 
-from ..net.places import tried
+from ..net.endpoints import tried
 
 MOST = 900_000  # rows of a pair; `routed audit` reads 1,000,000
 

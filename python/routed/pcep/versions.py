@@ -1,7 +1,13 @@
 """The place where the server tells versions."""
-import re
+from __future__ import annotations
 
-from ..net.loop import READ
+import re
+from typing import TYPE_CHECKING
+
+from ..net.stream import Stream
+
+if TYPE_CHECKING:
+    from .front import Front
 
 LATE_AGAIN = 1  # seconds from one try to connect to the next where the place has no room, or tells something else
 LONGEST = 100  # bytes of a line that has no end yet
@@ -11,39 +17,28 @@ VERSION = re.compile(rb"version ([0-9]{1,20})")
 class Watch:
     """A connection that tells versions."""
 
-    def __init__(self, front):
-        self.front, self.unread, self.socket = front, b"", front.options.watch.connect()
-        self.socket.setblocking(False)
-        self.loop = front.loop.of(self)
-        self.loop.want(self.socket.fileno(), READ, self.read)
+    def __init__(self, front: Front) -> None:
+        self.front, self.stream = front, Stream(front.loop, front.options.watch.connect())
+        self.stream.give(self, self.read)
+        self.stream.wait(True)
 
-    def named(self):
+    def named(self) -> str:
         return "the connection for versions"
 
-    def fail(self):
+    def fail(self) -> None:
         self.front.lost("the connection for versions has ended")
 
-    def read(self, _):
-        try:
-            data = self.socket.recv(1 << 16)
-        except BlockingIOError:
-            return
-        except OSError:
-            data = b""
-        if not data:
+    def read(self, _: int) -> None:
+        lines = self.stream.lines()
+        versions = [int(found[1]) for found in map(VERSION.fullmatch, lines) if found]
+        if self.stream.is_ended:
             self.front.lost()
-            return
-        *lines, self.unread = (self.unread + data).split(b"\n")
-        if b"busy" in lines:
+        elif b"busy" in lines:
             self.front.lost("the place of versions is busy", LATE_AGAIN)
-            return
-        versions = [VERSION.fullmatch(line) for line in lines]
-        if None in versions or len(self.unread) > LONGEST:
+        elif len(versions) < len(lines) or len(self.stream.unread) > LONGEST:
             self.front.lost("the place of versions tells something else", LATE_AGAIN)
         elif versions:
-            self.front.told(int(versions[-1][1]))
+            self.front.told(versions[-1])
 
-    def close(self):
-        if self.socket.fileno() >= 0:
-            self.loop.want(self.socket.fileno(), 0)
-            self.socket.close()
+    def close(self) -> None:
+        self.stream.close()

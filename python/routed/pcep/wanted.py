@@ -3,7 +3,7 @@ import re
 import struct
 
 from ..model import journals
-from ..net.places import Stopped, tried
+from ..net.endpoints import Stopped, tried
 from . import wire
 from .requests import Request
 
