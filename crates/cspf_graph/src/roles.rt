@@ -97,9 +97,9 @@ fn spread(roles: &mut [Role], rows: RoleRows, loose: bool)
     }
 }
 
-/// A router's role with what a target of a leg may do, added if a route may visit the router or
-/// begins there. The route may turn to the next leg there only if `own` says that the router is a
-/// target of this leg.
+/// The role of a router after it was found among the targets of a leg. `stands` says whether a
+/// route may enter it in the leg after the last hop, and `begins` whether it is the head-end. The
+/// route may turn to the next leg there only if `own` says that it is a target of this leg.
 fn with_more(old: Role, stands: bool, own: bool, begins: bool) -> Role
     ensures enter { IsTrue result.enter ↔ (IsTrue old.enter ⊎ IsTrue stands) }
     ensures target { IsTrue result.target
@@ -111,10 +111,9 @@ fn with_more(old: Role, stands: bool, own: bool, begins: bool) -> Role
     }
 }
 
-/// Adds to the roles of the routers `places` what targets of a leg may do. They are the targets of
-/// the leg before, or, if `own` holds, of this leg. A link may lead a route to each of these
-/// routers, and at this leg's targets the route may turn to the next leg. `from` is the index of
-/// the head-end.
+/// Adds to the roles of the routers `places`, which are the targets of the leg before, or of this
+/// leg if `own` holds. A link may lead a route to each of these routers. At the targets of this leg
+/// the route may also turn to the next leg. `from` is the index of the head-end.
 fn mark(roles: &mut [Role], rows: RoleRows, places: &[u16], own: bool, from: usize)
     requires rows { AreRoleRows rows roles.old }
     requires places { All (λ place. place < rows.count) places.now }

@@ -1,4 +1,4 @@
-//! Makes the threads of a run, gives them their decision, and joins them.
+//! Makes the threads of a run, makes the decision whether they begin, and joins them.
 
 ghost use Rattle.std.specs.Prelude.{◌≡◌, ℕ, ◌+◌, ◌<◌, ◌≤◌, [], Err, IfOk, IfErr, IsOkAnd, MatchResult, vec_len, vec_capacity};
 ghost use Rattle.std.specs.Result.{ForOk};
@@ -70,15 +70,15 @@ impl<'a, P, M: Meanwhile<Output = P>> Doer<()> for Lent<'a, M> {
     }
 }
 
-/// The result of a thread: the decision, and the job's output, or the job itself if it wasn't
-/// begun.
+/// The result of a thread: the decision that it heard, and the job's output. If the job wasn't
+/// begun, it is returned in place of the output.
 #[derive(Drop)]
 pub(crate) struct Came<'a, N: JobCount, J, O> {
     said: Said<'a, N>,
     ended: Result<O, J>,
 }
 
-/// What a thread is given: the place of the decision, the worker and the job.
+/// What a thread is given: the lock in which the decision is set, the worker and the job.
 #[derive(Drop)]
 pub(crate) struct Given<'a, N: JobCount, W, J> {
     word: &'a StartWord<N>,
@@ -91,7 +91,7 @@ impl<'a, N: JobCount, J, O, W: Doer<J, Output = O>> Promise<Came<'a, N, J, O>>
     ghost kept_by = { λ g c. HasCome W.Doer.done g.word.now.id g.worker.value g.job.value c };
 }
 
-/// Waits for the decision. At go the worker does the job, otherwise the job is returned.
+/// Waits for the decision. At go the worker does the job. Otherwise the job is returned.
 fn wait_and_work<'a, N: JobCount, J, O, W: Doer<J, Output = O> + Drop, R: Wait>(
     rt: &R,
     word: &'a StartWord<N>,
@@ -109,7 +109,7 @@ fn wait_and_work<'a, N: JobCount, J, O, W: Doer<J, Output = O> + Drop, R: Wait>(
     Came { said, ended }
 }
 
-/// Makes the decision. At go does the work of the calling thread.
+/// Makes the decision. At go it does the work of the calling thread.
 fn finish<'a, N: JobCount, P, M: Doer<(), Output = P> + Drop, R: Wait>(
     rt: &R,
     word: &'a StartWord<N>,
@@ -188,8 +188,8 @@ fn call_all<
     (said, ended)
 }
 
-/// Puts an output after the outputs of earlier jobs, or a job that wasn't begun after the earlier
-/// jobs.
+/// Puts the output of a job after the outputs of earlier jobs. A job that wasn't begun is put back
+/// after the earlier jobs.
 fn keep<J, O>(ended: Result<O, J>, jobs: &mut Vec<J>, outputs: &mut Vec<O>)
     requires { MatchResult ended (λ _. vec_len outputs.old < vec_capacity outputs.old) (λ _. vec_len jobs.old < vec_capacity jobs.old) }
     ensures jobs { MatchResult ended (λ _. jobs.new ≡ jobs.old) (IsPushed jobs.old jobs.new) }
@@ -215,7 +215,7 @@ fn refusal<'a, N: JobCount>(word: &'a StartWord<N>, said: &Said<'a, N>, count: u
     }
 }
 
-/// As `run_all`, where the work of the calling thread is a value.
+/// As `run_all`, but the work of the calling thread is given as a value.
 fn run_with<
     N: JobCount + Send + Sync + Drop,
     J: Send + Drop,
@@ -240,7 +240,7 @@ fn run_with<
     run_under(rt, &word, workers, jobs, room, last)
 }
 
-/// As `run_with`, where the caller gives the place of the decision.
+/// As `run_with`, but the lock in which the decision is set is given by the caller.
 fn run_under<
     'w,
     N: JobCount + Send + Sync + Drop,

@@ -34,7 +34,7 @@ impl Model for Go {
     ghost view = { λ g. g.threads };
 }
 
-/// Shows that each job of a run has a thread.
+/// Shows that each job of the run has a thread.
 #[derive(Drop)]
 pub(crate) struct GoForAll<N: JobCount> {
     go: Go,
@@ -81,7 +81,7 @@ pub(crate) struct ThreadCount {
 impl ThreadCount {
     ghost use Rattle.cspf_jobs.specs.Jobs.{with_thread, without_thread};
 
-    /// No job has a thread yet.
+    /// A count of no threads, without a refusal.
     pub(crate) fn new() -> ThreadCount
         ensures { result.made ≡ Ok 0 }
     {
@@ -108,7 +108,7 @@ impl ThreadCount {
         JobThread { thread }
     }
 
-    /// The decision: go if each job has a thread, else the first refusal.
+    /// The decision: go if each job has a thread, and otherwise the first refusal.
     pub(crate) fn word<N: JobCount>(&self) -> Result<GoForAll<N>, NoThread>
         requires { ForOk self.now.made (λ n. n ≡ N.jobs) }
         ensures { MatchResult result (λ _. IsOk self.now.made) (λ first. self.now.made ≡ Err first) }

@@ -16,7 +16,7 @@ pub struct NoThread {
 /// The decision whether the jobs begin. It is set once.
 pub(crate) type StartWord<N> = OnceLock<Result<GoForAll<N>, NoThread>>;
 
-/// A token that shows that the decision was made, and which.
+/// A token that shows that the decision is set, and what it is.
 pub(crate) type Said<'a, N> = OnceToken<'a, Result<GoForAll<N>, NoThread>>;
 
 /// Waits until the decision is made.

@@ -33,7 +33,7 @@ impl Change {
     ghost use Rattle.cspf_model.specs.Changes.{key_changed};
 
     /// The key of the link that is put or removed: its router and the address of its interface
-    /// there. For a change of transit it is the router, with no address.
+    /// there. For a change of a router's transit, the key is the router without an address.
     pub fn key(&self) -> (Addr, Option<Addr>)
         ensures { result ≡ key_changed self.now }
     {

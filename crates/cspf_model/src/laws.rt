@@ -13,8 +13,8 @@ mod network_laws;
 pub use hop_laws::{route_without_hops, worked_routes};
 pub use network_laws::{worked_ends, worked_marks, worked_reverses, worked_unknown_ends};
 
-/// The order of walks is total. Two walks of one request that differ have different local
-/// addresses, so of one request's routes only equal ones tie.
+/// The order of walks is total. Two different walks of one request have different local addresses.
+/// So of the routes of one request only equal routes tie.
 pub fn order_of_walks()
     ensures total { IsTotalOrder walk_cmp }
     ensures told { WalksAreTold }
@@ -54,7 +54,7 @@ pub fn counted_routers()
     ensures at_their_keys { LinksAreAtTheirKeys }
 {}
 
-/// A link is given by its attributes, and a request by its fields. Neither has anything more.
+/// A link consists of its attributes, and a request of its fields. Neither has anything else.
 pub fn fields_of_links_and_requests()
     ensures links { AreFieldsOfLinks }
     ensures requests { AreFieldsOfRequests }

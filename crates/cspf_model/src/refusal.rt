@@ -7,7 +7,7 @@ pub enum Refusal {
     /// The batch has more than `MOST_CHANGES` changes.
     #[error("more than {most} changes", most = MOST_CHANGES)]
     TooLong,
-    /// Two changes have the same key.
+    /// Two changes of the batch have the same key.
     #[error("change {at} is on the key of an earlier change")]
     Duplicate {
         /// The least place of a change that has the key of an earlier change.
@@ -16,7 +16,7 @@ pub enum Refusal {
     /// A change removes a link that the table doesn't have.
     #[error("change {at} removes a link that is not there")]
     Absent {
-        /// The least place of such a change.
+        /// The least place of a removal whose link the table doesn't have.
         at: usize,
     },
     /// The table would have more than `MOST_LINKS` links after the batch.

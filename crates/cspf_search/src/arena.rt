@@ -26,7 +26,7 @@ pub(crate) struct Node<'a> {
     pub(crate) router: Addr,
     /// The index of the node before the last link.
     pub(crate) parent: u16,
-    /// The leg of the request that the walk has reached, from 1.
+    /// The leg of the request that the walk has reached. The first leg is leg 1.
     pub(crate) leg: u16,
 }
 
@@ -84,7 +84,7 @@ pub(crate) fn links_to(
 }
 
 /// Compares the local addresses of two walks with the same number of links, from the first link on.
-/// Goes back from their last links, and stops where both walks have the same parent.
+/// The comparison goes back from the last links, and stops where both walks have the same parent.
 pub(crate) fn locals<'a>(nodes: &[Node<'a>], a: &Node<'a>, b: &Node<'a>) -> Ordering
     requires arena { AreNodes nodes.now }
     requires first { IsNext nodes.now a.now }

@@ -25,8 +25,9 @@ use std::cmp::Reverse;
 /// How many routers the backward search settles in the last leg at most.
 const RING: usize = 24;
 
-/// How many routers the backward search settles at most in a leg to a hop. More routers are settled
-/// there than in the last leg, because the search ends earlier in such a leg.
+/// How many routers the backward search settles at most in a leg to a hop. This limit is higher
+/// than `RING`, because the search from the head-end looks at more routers before such a leg is
+/// closed.
 const WIDE: usize = 64;
 
 /// Lowers the bound of the router `from` by the link from there to a router with the bound `base`.
@@ -161,7 +162,7 @@ fn is_dead_end(query: Query<'_>, leg_index: usize, ahead: &[u32]) -> bool
     true
 }
 
-/// The greater of two bounds, where `NO_WAY` as `bound` doesn't count.
+/// The greater of two bounds. If `bound` is `NO_WAY`, it is `top`.
 fn farther(top: u32, bound: u32) -> u32 {
     if bound < NO_WAY { bound.max(top) } else { top }
 }
@@ -237,9 +238,9 @@ fn search_back(
     grow(query, leg_index, WIDE, top, ring)
 }
 
-/// Computes the bound of each router in a leg from the bounds of the next leg. Returns the edge: a
-/// router's bound is the lesser of its bound in the ring and the edge. `to` is the index of the
-/// tail-end.
+/// Computes the bound of each router in a leg from the bounds of the next leg, and returns the
+/// edge. A router's bound is the lesser of its entry in `ring.near` and the edge. `to` is the index
+/// of the tail-end.
 fn leg_edge(
     query: Query<'_>,
     to: usize,
@@ -375,9 +376,9 @@ fn shut_at(bounds: &mut [u32], first: usize, places: &[u16])
     }
 }
 
-/// Looks for a strict leg that no route can pass. If there is one, sets the bounds of its start
-/// routers and of all earlier legs to `NO_WAY`. Returns whether there is one. `from` is the index
-/// of the head-end.
+/// Looks for a strict leg that no route can pass, and returns whether there is such a leg. If so,
+/// sets the bounds of its start routers and of all earlier legs to `NO_WAY`. `from` is the index of
+/// the head-end.
 fn shut_broken(query: Query<'_>, from: usize, bounds: &mut [u32]) -> bool
     requires query { IsQuery query }
     requires from { IsIndexOf query.table.now query.request.now.from from }

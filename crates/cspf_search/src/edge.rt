@@ -4,11 +4,11 @@ ghost use Rattle.std.specs.Prelude.{◌≡◌, ◌*◌, ◌^◌, ◌<◌};
 use crate::limits::COST_WEIGHT;
 use cspf_model::Link;
 
-/// A link, with its index among the links from its router, its reverse, and the router that it
-/// leads to.
+/// A link, with its index among the links from the same router, the index of its reverse, and the
+/// index of the router that it leads to.
 #[derive(Clone, Copy)]
 pub(crate) struct Edge<'a> {
-    /// The index of the link among those from the same router.
+    /// The index of the link among the links from the same router.
     pub(crate) row: usize,
     /// The link.
     pub(crate) link: &'a Link,

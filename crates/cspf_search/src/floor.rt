@@ -27,9 +27,8 @@ fn are_settled(query: Query<'_>, labels: &[Label], at: usize) -> bool
     true
 }
 
-/// The floor after the state `at` is settled. If this settles the last target that a route may
-/// visit in the state's leg, the floor is the first index of the next leg. Otherwise the floor
-/// stays.
+/// The floor after the state `at` is settled. If all targets of the state's leg that a route may
+/// visit are now settled, the floor is the first index of the next leg. Otherwise the floor stays.
 pub(crate) fn raised(query: Query<'_>, labels: &[Label], floor: usize, at: usize) -> usize
     requires query { IsQuery query }
     requires within { at < length query.roles.now }

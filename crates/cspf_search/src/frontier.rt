@@ -45,8 +45,8 @@ struct Source<'a> {
 }
 
 /// Compares the local addresses of the walks of two labels of the same rank, from the first link
-/// on. If both walks continue from the same node, their last links decide. Nodes are made of the
-/// labels only if one of them is a turn to the next leg.
+/// on. If both walks continue from the same node, their last links decide. The labels' nodes are
+/// only made if one of the labels is a turn to the next leg.
 fn compare_tied<'a>(table: &'a Table, nodes: &[Node<'a>], a: &Label, b: &Label) -> Ordering
     requires arena { AreNodes nodes.now }
     requires offered { IsOffer table.now nodes.now b.now }

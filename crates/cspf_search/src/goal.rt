@@ -9,8 +9,8 @@ use crate::limits::COST_WEIGHT;
 pub(crate) struct Goal<'a> {
     /// The index of the goal's state: the tail-end in the last leg.
     pub(crate) at: usize,
-    /// The states below this index are in closed legs. A leg is closed once each of its targets
-    /// that a route may visit is settled, and then so are all earlier legs. The other states of
+    /// The states below this index are in closed legs. A leg is closed once all of its targets that
+    /// a route may visit are settled, and all earlier legs are then closed too. The other states of
     /// closed legs needn't be settled.
     pub(crate) floor: usize,
     /// For each state, a lower bound of the cost from there to the tail-end.

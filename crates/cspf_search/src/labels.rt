@@ -22,7 +22,7 @@ use std::collections::BinaryHeap;
 #[derive(Clone, Copy, Debug)]
 pub(crate) struct Label {
     /// The walk's cost and number of links as one number above 0, as in `Node`. A settled state has
-    /// 0.
+    /// the rank 0.
     pub(crate) rank: u64,
     /// The index of the settled node that the walk continues from.
     pub(crate) parent: u16,
@@ -49,7 +49,7 @@ pub(crate) const SETTLED: Label = Label {
     row: 0,
 };
 
-/// The key of a waiting state, which is its rank plus its lift, and the index of the state.
+/// The key of a waiting state: its rank plus its lift, and then the index of the state.
 pub(crate) type Waiting = Reverse<(u64, u64)>;
 
 /// The last link of a label's walk, or none for a turn to the next leg.
@@ -107,7 +107,8 @@ pub(crate) fn put(
     Ok(())
 }
 
-/// Whether the state `at` is in an open leg, and this is the key of its present label.
+/// Whether the state `at` is in a leg that isn't closed, and the key matches the present label of
+/// the state.
 fn is_live(goal: Goal<'_>, labels: &[Label], key: u64, at: usize) -> bool
     requires within { at < length labels.now }
     requires bounds { length goal.bounds.now ≡ length labels.now }
@@ -117,8 +118,8 @@ fn is_live(goal: Goal<'_>, labels: &[Label], key: u64, at: usize) -> bool
     at >= goal.floor && labels[at].rank == key - lift(goal, at)
 }
 
-/// The waiting state with the least key, by its index. Keys of closed legs and keys that aren't of
-/// the state's present label are skipped.
+/// The index of the waiting state with the least key. Keys of states in closed legs are skipped,
+/// and so are keys that don't match the present label of their state.
 pub(crate) fn least(
     table: &Table,
     request: &Request,

@@ -18,8 +18,8 @@ pub(crate) const MOST_LIFT: u64 = 4_294_967_295 * COST_WEIGHT;
 /// How many waiting states a heap has room for at the start.
 pub(crate) const ROOM_FOR_WAITING: usize = 512;
 
-/// How many settled nodes there is room for at the start.
+/// How many settled nodes a search has room for at the start.
 pub(crate) const ROOM_FOR_NODES: usize = 64;
 
-/// How many links of a walk there is room for at the start.
+/// How many links a walk has room for at the start.
 pub(crate) const ROOM_FOR_LINKS: usize = 16;

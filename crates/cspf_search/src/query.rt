@@ -13,7 +13,7 @@ pub(crate) struct Query<'a> {
     pub(crate) request: &'a Request,
     /// How many legs a route has.
     pub(crate) legs: usize,
-    /// For each state what a route may do there.
+    /// For each state, what a route may do there.
     pub(crate) roles: &'a [Role],
     /// For each hop, the targets of the leg to that hop. Each target is given by its index in the
     /// list of routers.

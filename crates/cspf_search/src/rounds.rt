@@ -1,5 +1,6 @@
-//! One round of the plain search. It finds the first node that a turn or a link leads to from any
-//! settled node. A settled node is looked at again only if a node that it leads to may come first.
+//! One round of the search by rounds. It finds the first node that a turn or a link leads to from
+//! any settled node. A settled node is looked at again only if a node that it leads to may come
+//! first.
 
 ghost use Rattle.std.specs.Prelude.{◌≡◌, ◌⊎◌, ◌+◌, ◌-◌, ◌%◌, ◌<◌, ◌↔◌, true, Some, None, IsTrue, length, slice_get, slice_index_or};
 ghost use Rattle.std.specs.Option.{ForSome, IsSomeAnd};
@@ -25,7 +26,8 @@ use cspf_model::{Link, MOST_ROUTERS, Request};
 use std::cmp::Ordering;
 
 /// Compares two nodes by the cost of their walks, then by the number of links, then by the leg,
-/// then by the local addresses from the first link on. A rank is the cost and the number of links.
+/// then by the local addresses from the first link on. The ranks of the nodes compare the cost and
+/// the number of links at once.
 fn compare<'a>(nodes: &[Node<'a>], a: &Node<'a>, b: &Node<'a>) -> Ordering
     requires arena { AreNodes nodes.now }
     requires first { IsNext nodes.now a.now }
@@ -91,8 +93,9 @@ struct Look<'a, 'b> {
     star: ForwardStar<'b>,
 }
 
-/// The node that this node's turn to the next leg leads to. There is none after the last leg, if
-/// that state is already settled, or if the router isn't a target of this node's leg.
+/// The node that this node's turn to the next leg leads to. There is no such node in the last leg,
+/// or if the router's state in the next leg is already settled. There is none either if the router
+/// isn't a target of this node's leg.
 fn look_at_turn<'b>(look: Look<'_, 'b>) -> Option<Node<'b>>
     requires look { IsLook look }
     ensures { IsFirst look.entry.nodes.now (LeadsToRow look.entry 0) result }
@@ -157,8 +160,8 @@ fn look_at_link<'b>(look: Look<'_, 'b>, edge: Edge<'b>, best: &mut Option<Node<'
 }
 
 /// Keeps the node that the link in a row leads to as the best one, if it comes before the best one
-/// so far. That state must not be settled, the request must admit the link, and a route must be
-/// allowed to enter the router at its end. This node's walk may leave its router.
+/// so far. The state at the link's end must not be settled, and the request must admit the link. A
+/// route must be allowed to enter the router there. This node's walk may leave its router.
 fn look_at_row<'b>(look: Look<'_, 'b>, row: usize, best: &mut Option<Node<'b>>)
     requires look { IsLook look }
     requires leaves { NodeMayLeave look.query.table.now look.nodes.now look.at look.star.state }
@@ -183,8 +186,8 @@ fn look_at_row<'b>(look: Look<'_, 'b>, row: usize, best: &mut Option<Node<'b>>)
     look_at_link(look, edge, best);
 }
 
-/// The first node that the turn to the next leg leads to from this node, or a link if the walk may
-/// leave its router.
+/// The first node that this node leads to: by the turn to the next leg, or by a link if its walk
+/// may leave its router.
 fn look_from<'b>(look: Look<'_, 'b>) -> Option<Node<'b>>
     requires look { IsLook look }
     ensures { IsFirst look.entry.nodes.now
@@ -221,7 +224,8 @@ fn is_passed(best: &Option<Node<'_>>, low: u64) -> bool
     low == u64::MAX || low_of(best) < low
 }
 
-/// Keeps the found node, if there is one, as the best one, if it comes before the best one so far.
+/// Keeps the found node as the best one, if there is a found node and it comes before the best one
+/// so far.
 fn keep_found<'a>(nodes: &[Node<'a>], best: &mut Option<Node<'a>>, found: Option<Node<'a>>)
     requires arena { AreNodes nodes.now }
     requires first { ForSome best.old (IsNext nodes.now) }

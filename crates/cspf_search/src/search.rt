@@ -127,7 +127,8 @@ fn is_shut(goal: Goal<'_>, at: usize) -> bool
     goal.bounds[at] == NO_WAY
 }
 
-/// The floor after the state `at` is settled. The keys of states below the new floor are dropped.
+/// The floor after the state `at` is settled. If the floor rises, the keys of states below it are
+/// dropped from the heap.
 fn close(
     alloc: Global,
     query: Query<'_>,
@@ -268,11 +269,12 @@ fn best_by(
     answer(alloc, query, &nodes)
 }
 
-/// The best answer to a request in the table's database (RFC 2702 7). It is that the head-end or
-/// the tail-end is unknown, or the route before all others, or that there is no route. A route is a
-/// walk of admissible links that passes through no router without transit (RFC 6987). The hops of
-/// the request cut the route into legs (RFC 3209 4.3.3). The search settles states, which are
-/// routers in legs, from a heap.
+/// The best answer to a request in the table's database (RFC 2702 7). The answer is `UnknownFrom`
+/// if the database doesn't have the head-end, and otherwise `UnknownTo` if it doesn't have the
+/// tail-end. Otherwise it is the route before all others, or `NoRoute` if there is no route. A
+/// route is a walk of admissible links that passes through no router without transit (RFC 6987).
+/// The hops of the request cut the route into legs (RFC 3209 4.3.3). A state is a router in a leg,
+/// and the search settles states from a heap.
 pub fn best(alloc: Global, table: &Table, request: &Request) -> Result<Outcome, AllocError>
     ensures { IfOk result (λ outcome.
         IsBestAnswer table.now request.now (answer_of outcome)) }
@@ -282,8 +284,8 @@ pub fn best(alloc: Global, table: &Table, request: &Request) -> Result<Outcome, 
 
 /// The answer of `best`, computed with a tree. `Tree::grow` makes the tree for the request's
 /// tail-end and affinities in the same database. Without hops, the bounds of the tree may already
-/// give the least route, and then nothing is searched. Otherwise they are the bounds in the last
-/// leg, so the search settles fewer routers.
+/// give the least route, and then nothing is searched. Otherwise the search uses these bounds in
+/// the last leg, so it settles fewer routers.
 pub fn best_by_tree(
     alloc: Global,
     table: &Table,

@@ -11,9 +11,9 @@ use cspf_graph::listed;
 use cspf_model::{MOST_ROUTERS, Request};
 use std::alloc::{AllocError, Global};
 
-/// For each router, a lower bound of the cost from there to one tail-end. It holds for the links
-/// that pass the affinities of the tree, whatever their unreserved bandwidth. There is also a lower
-/// bound of the number of links of each way that costs no more than the first bound.
+/// For each router, a lower bound of the cost from there to one tail-end. It holds for ways over
+/// links that pass the affinities of the tree, whatever their unreserved bandwidth. For the ways
+/// that cost no more than this bound, the tree also has a lower bound of their number of links.
 #[derive(Drop)]
 pub struct Tree {
     /// For each router, the least cost found, or `NO_WAY`.
@@ -67,8 +67,8 @@ impl Tree {
     }
 
     /// A lower bound of the number of links of the ways that cost no more than the bound. The ways
-    /// begin at the router at the index `place` in the list of routers. It is 0 if the router's
-    /// bound is the edge.
+    /// begin at the router at the index `place` in the list of routers. The result is 0 if the
+    /// router's bound is the edge.
     pub(crate) fn least_links(&self, place: usize) -> u16
         requires { place < MOST_ROUTERS }
         ensures { result ≡ tree_links self.now place }

@@ -64,8 +64,8 @@ impl TreeRing {
         near < ahead || (near == ahead && self.links[at] <= count)
     }
 
-    /// Gives the router `from` a way of the cost `ahead` with `count` links, unless it has a way as
-    /// near. After a new way the router waits.
+    /// Gives the router `from` a way of the cost `ahead` with `count` links, unless it already has
+    /// a way that is as near. After it gets a new way, the router waits.
     pub(crate) fn lower(&mut self, from: u16, ahead: u32, count: u16) -> Result<(), AllocError>
         requires within { from < MOST_ROUTERS }
         ensures falls { OnOk result (TreeFalls self.old self.new) }

@@ -1,5 +1,5 @@
-//! Grows a tree: a search against the links from the tail-end, which settles all routers. It uses a
-//! link if the link has a reverse and passes the affinities.
+//! Grows a tree by a search against the links from the tail-end, which settles all routers. It uses
+//! a link if the link has a reverse and passes the affinities.
 
 ghost use Rattle.std.specs.Prelude.{◌≡◌, ◌≢◌, ◌<◌, ◌↔◌, ℕ, IsTrue, OnOk, length, slice_index};
 ghost use Rattle.cspf_columns.specs.declared.limits.TheConstants.{NO_LINK};
@@ -106,8 +106,8 @@ fn take(table: &Table, any: &Request, to: usize, ring: &mut TreeRing) -> Result<
     Ok(())
 }
 
-/// Settles the waiting routers: those of the least cost first, and of these those with the fewest
-/// links first.
+/// Settles the waiting routers. Those of the least cost come first, and at the same cost those with
+/// the fewest links.
 pub(crate) fn settle(table: &Table, any: &Request, ring: &mut TreeRing) -> Result<(), AllocError>
     requires any { any.now.bandwidth ≡ 0 }
     requires listed { AreListed table.now }
