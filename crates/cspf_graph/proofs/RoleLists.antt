@@ -43,7 +43,7 @@ with_index Old More Now Next n front place before here there p low =
           )
     ]
 
--- Setting a role in the leg leaves the roles outside of the leg.
+-- Setting a role in the leg doesn't change the roles outside of the leg.
 stays_set : (rows : RoleRows) (old now : List Role) (place : ℕ) (role : Role) → place < rows.count → StayElsewhere rows old now → StayElsewhere rows old (set now (rows.first + place) role)
 stays_set rows old now place role within stays = record {
   many = length-set now (rows.first + place) role ∙ stays.many;

@@ -43,8 +43,8 @@ pub record IsSpread (rows : RoleRows) (loose : Bool) (old new : List Role) : Typ
   pub elsewhere : StayElsewhere rows old new
 
 -- A link may also lead a route to each of the routers `places` that it may enter in the leg after the
--- last hop. If `own` holds, they are the targets of the leg. Then a route may turn to the next leg at
--- each of them that it may enter in the leg after the last hop, and at the head-end `from`.
+-- last hop. If `own` holds, `places` are the targets of the leg. Then a route may turn to the next leg
+-- at each of them that it may enter in the leg after the last hop, or that is the head-end `from`.
 pub record AreRolesMarked (rows : RoleRows) (places : List ℕ) (own : Bool) (from : ℕ) (old new : List Role) : Type 0 where
   pub enter : (p : ℕ) → p < rows.count → IsTrue (role_at new (rows.first + p)).enter
       ↔ (IsTrue (role_at old (rows.first + p)).enter

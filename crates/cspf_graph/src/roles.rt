@@ -72,8 +72,8 @@ fn set_last_roles(table: &Table, request: &Request, to: usize, roles: &mut [Role
     roles[first + to] = last_role(table, request, to);
 }
 
-/// Where the roles of a leg to a hop begin in a list of roles, and where those of the leg after the
-/// last hop begin. Each leg has one role for each of the `count` routers.
+/// The indexes at which the roles of two legs begin in a list of roles: of a leg to a hop, and of
+/// the leg after the last hop. Each leg has one role for each of the `count` routers.
 #[derive(Clone, Copy)]
 struct RoleRows {
     first: usize,

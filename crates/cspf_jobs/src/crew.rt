@@ -19,11 +19,11 @@ pub trait Doer<J> {
     /// The output of a job.
     type Output;
 
-    /// What must hold before `work` of the number of jobs that have a thread, the worker and the
+    /// The precondition of `work`, on the number of jobs that have a thread, the worker and the
     /// job.
     ghost ready: { ℕ → Self → J → Type 0 };
 
-    /// What holds after `work` of the worker, the job and the output.
+    /// The postcondition of `work`, on the worker, the job and the output.
     ghost done: { Self → J → Self.Output → Type 0 };
 
     /// Does the job. `go` shows how many jobs have a thread.
@@ -37,11 +37,11 @@ pub trait Meanwhile {
     /// The output of this work.
     type Output;
 
-    /// What must hold before `run` of the number of jobs that have a thread, and of this value.
+    /// The precondition of `run`, on the number of jobs that have a thread, and on this value.
     ghost ready: { ℕ → Self → Type 0 };
 
-    /// What holds after `run` of this value before the call, the output, and this value after the
-    /// call.
+    /// The postcondition of `run`, on this value before the call, the output, and this value after
+    /// the call.
     ghost ran: { Self → Self.Output → Self → Type 0 };
 
     /// Does the work. `go` shows how many jobs have a thread.

@@ -1,4 +1,4 @@
--- The labels after the turn and the links of one node were offered.
+-- The walks that are offered when one node is expanded: by its turn, and by each of its links.
 use Rattle.std.proofs.Common.{◌≡◌, ◌⊎◌, inl, inr, ℕ, ◌+◌, ◌-◌, ◌/◌, ◌%◌, ◌<◌, ◌≤◌, Bool, true, false, not, nat_eq, Some, None, List, [], ◌∷◌, ◌++◌, filter, length, take, slice_get, slice_index, slice_index_or, refl, sym, ap, subst, ◌∙◌, arith}
 use Rattle.std.specs.List.{All, Contains}
 use Rattle.std.proofs.lemmas.Bool.{cases_lt, eqb-true, eq-eqb}

@@ -38,7 +38,7 @@ first_empty [] = refl
 first_empty (l ∷ ls) = nothing_before (cost_of (l ∷ ls)) (length (l ∷ ls)) (locals_cmp [] (l ∷ ls)) (omega arith)
 
 module _ (d : Database) (q : Request) (links : List Link) (listed : AreLinksOf d links) (nodes : List Node) (apart : AreApart nodes) where
-  -- A walk that continues a node by a link crosses.
+  -- A walk that continues a node by a link to a state without a node crosses in the sense of `Crosses`.
   by_link_crosses : (at : ℕ) → at < length nodes → (l : Link) → IsLinkOf d l → (w : List Link) (t : State) → CrossesBy d q nodes at l w t → Crosses d q (labels_of nodes) w t
   by_link_crosses at within l of w t by =
       let is = get_or_from_slice_get nodes at by.node nowhere by.there in
@@ -54,7 +54,7 @@ module _ (d : Database) (q : Request) (links : List Link) (listed : AreLinksOf d
         still_open = ap (option_map (λ i. walk_at (walks nodes) i)) by.still_open;
       }
 
-  -- A walk that continues a node by the turn to the next leg crosses.
+  -- A walk that continues a node by the turn to a state without a node crosses as well.
   by_turn_crosses : (at : ℕ) → at < length nodes → (w : List Link) (t : State) → Turns d q nodes at w t → Crosses d q (labels_of nodes) w t
   by_turn_crosses at within w t turn =
       let is = get_or_from_slice_get nodes at turn.node nowhere turn.there in
@@ -122,7 +122,7 @@ module _ (d : Database) (q : Request) (links : List Link) (listed : AreLinksOf d
   pub crosses_to : (w : List Link) (t : State) → Crosses d q (labels_of nodes) w t → CrossesBelow d q nodes links (length nodes) w t
   crosses_to w t x = step_from x.front w x.state t x.step x.settled x.still_open
 
-  -- If no walk continues a node, no walk crosses.
+  -- If no turn and no link leads on from any node, no walk crosses.
   pub nothing_crosses : IsFirst nodes (CrossesBelow d q nodes links (length nodes)) None → IsStuck d q (labels_of nodes)
   nothing_crosses none = record {
     closed = 0;

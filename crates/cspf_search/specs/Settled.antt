@@ -62,7 +62,8 @@ pub record AreSettled (d : Database) (q : Request) (labels : Labels) : Type 0 wh
   pub reached : (s : State) (w : List Link) → labels s ≡ Some w → Reaches d q w s
   pub least : (s : State) (w x : List Link) → labels s ≡ Some w → Reaches d q x s → IsNoLater w x
 
--- The walk `w` with the state `t` continues a settled walk by one step, and `t` isn't settled.
+-- The walk `w` crosses to the state `t`: it continues a settled walk by one step, and `t` isn't
+-- settled.
 pub record Crosses (d : Database) (q : Request) (labels : Labels) (w : List Link) (t : State) : Type 0 where
   pub state : State
   pub front : List Link
@@ -76,8 +77,8 @@ abbrev pub IsClosed : Database → Request → Labels → ℕ → Type 0
 IsClosed d q labels leg =
     1 ≤ leg → (router : ℕ) → MayTurn d q leg router → labels (record { leg = leg; router = router }) ≡ None → ⊥
 
--- The walk is the next that may be settled. No other walk that crosses into its state comes before it.
--- No walk that crosses into a leg after the closed legs ranks before it by cost plus potential.
+-- The walk is the next that may be settled. No other walk that crosses to its state comes before it. No
+-- walk that crosses to a leg after the closed legs ranks before it by cost plus potential.
 pub record IsFirstCrossing (d : Database) (q : Request) (labels : Labels) (w : List Link) (t : State) : Type 0 where
   pub crosses : Crosses d q labels w t
   pub first_here : (x : List Link) → Crosses d q labels x t → IsNoLater w x
@@ -89,7 +90,7 @@ pub record IsFirstCrossing (d : Database) (q : Request) (labels : Labels) (w : L
   pub first : (x : List Link) (u : State) → Crosses d q labels x u → closed < u.leg
       → RanksNoLater potential t w u x
 
--- No walk crosses into a leg after the closed legs.
+-- No walk crosses to a state in a leg after the closed legs.
 pub record IsStuck (d : Database) (q : Request) (labels : Labels) : Type 0 where
   pub closed : ℕ
   pub is_closed : IsClosed d q labels closed

@@ -26,14 +26,14 @@ pub record IsEdge (d : Database) (place : ℕ) (edge : Edge) : Type 0 where
   pub end : IsIndexOf d edge.link.now.to edge.end
   pub reverse : IsReverseAt d edge.link.now edge.reverse
 
--- The labels and keys after all walks that continue a node before the source by one step were offered.
+-- The labels and keys are right once every node before the source is expanded.
 abbrev pub AreBefore : Source → List Label → List HeapKey → Type 0
 AreBefore source labels keys =
     AreLabels source.query.table.now source.query.request.now source.nodes.now (CrossesBefore source.query source.nodes.now source.at)
     source.goal labels keys
 
--- The labels and keys after those of `AreBefore`, the source's turn, and its links before the row were
--- offered.
+-- The labels and keys are right once every node before the source is expanded, and the source's turn
+-- and its links before the row were offered.
 abbrev pub AreUpToRow : Source → ℕ → List Label → List HeapKey → Type 0
 AreUpToRow source row labels keys =
     AreLabels source.query.table.now source.query.request.now source.nodes.now

@@ -65,10 +65,10 @@ pub record LeavesLater (walk route : List Link) : Type 0 where
   pub is_route : route ≡ front ++ (other ∷ rest)
   pub later : taken.local < other.local
 
--- The walk leads from the head-end to the router at `place`, and `from` is the index of the head-end.
--- Its cost and its number of links are the differences of the tree's values at both. A route with the
--- cost and the number of links that the tree gives the head-end begins with the walk, or leaves it by a
--- later link.
+-- The walk leads from the head-end, whose index is `from`, to the router at `place`. The walk's cost is
+-- the tree's bound at the head-end minus the bound at `place`. The number of links of the walk is the
+-- same difference of the tree's numbers of links. A route with the cost and the number of links that
+-- the tree gives the head-end begins with the walk, or leaves it by a later link.
 pub record IsTightWalk (d : Database) (q : Request) (tree : Tree) (from : ℕ) (walk : List Link) (place : ℕ) : Type 0 where
   pub within : place < length (router_list d)
   pub reaches : Reaches d q walk (record { leg = 1; router = router_at d place })

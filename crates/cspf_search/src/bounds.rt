@@ -30,9 +30,9 @@ const RING: usize = 24;
 /// closed.
 const WIDE: usize = 64;
 
-/// Lowers the bound of the router `from` by the link from there to a router with the bound `base`.
-/// `reverse` is the index of that link, or `NO_LINK`. The bound stays if there is no link, the
-/// request doesn't admit it, or no walk may leave the router `from`.
+/// Lowers the bound of the router `from`, if its link to a router with the bound `base` makes the
+/// way shorter. `reverse` is the index of that link, or `NO_LINK`. The bound stays if there is no
+/// link, the request doesn't admit it, or no walk may leave the router `from`.
 fn pass(
     query: Query<'_>,
     from: u16,
@@ -62,8 +62,8 @@ fn pass(
     ring.lower(from, ahead)
 }
 
-/// Lowers the bounds of the routers from which links arrive at the router `to`, whose bound is
-/// `base`. These links are the reverses of the links from `to`.
+/// Lowers the bound of each router with a link that ends at the router `to`. The bound of `to` is
+/// `base`. The links that end at `to` are the reverses of the links from there.
 fn walk(query: Query<'_>, to: usize, base: u32, ring: &mut Ring) -> Result<(), AllocError>
     requires query { IsQuery query }
     ensures falls { OnOk result (Falls ring.old ring.new) }
@@ -167,8 +167,8 @@ fn farther(top: u32, bound: u32) -> u32 {
     if bound < NO_WAY { bound.max(top) } else { top }
 }
 
-/// The bound at which the backward search may stop. If more targets wait than routers are settled,
-/// it is the bound of the farthest target.
+/// The bound at which the backward search may stop. If more than `WIDE` targets wait, it is the
+/// bound of the farthest target.
 fn far_enough(waiting: usize, farthest: u32) -> u32 {
     if waiting > WIDE { farthest } else { NO_WAY }
 }

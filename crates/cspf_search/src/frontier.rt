@@ -182,9 +182,9 @@ fn offer_link(
     offer(query.table, source.nodes, labels, heap, index, label, key)
 }
 
-/// Offers a label to each state that the node `at` leads to: by the turn to the next leg, and by
-/// each link from its router if its walk may leave that router. `state` is the index of the node's
-/// state.
+/// Offers a label to each state that the node `at` leads to. The turn to the next leg leads to a
+/// state. Each link from its router leads to a state, if its walk may leave that router. `state` is
+/// the index of the node's own state.
 pub(crate) fn expand(
     query: Query<'_>,
     nodes: &[Node<'_>],

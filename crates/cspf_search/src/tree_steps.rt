@@ -17,9 +17,9 @@ use cspf_graph::accepts;
 use cspf_model::{MOST_ROUTERS, Request};
 use std::alloc::AllocError;
 
-/// Offers the router `from` a way of `count` links by the link from there to a router with the cost
-/// `base`. `reverse` is the index of that link, or `NO_LINK`. Nothing is offered if there is no
-/// link, or the link doesn't pass the affinities of `any`, a request for no bandwidth.
+/// Offers the router `from` a way that begins with its link to a router with the cost `base`. The
+/// way has `count` links. `reverse` is the index of that link, or `NO_LINK`. Nothing is offered if
+/// there is no link, or the link doesn't pass the affinities of `any`, a request for no bandwidth.
 fn pass(
     table: &Table,
     any: &Request,
@@ -48,9 +48,9 @@ fn pass(
     ring.lower(from, ahead, count)
 }
 
-/// Offers ways over the router `to` to the routers from which links arrive there. A way has `count`
-/// links, and costs `base` from `to` on. The links that arrive at `to` are the reverses of the
-/// links from there.
+/// Offers a way over the router `to` to each router with a link that ends there. A way has `count`
+/// links, and costs `base` from `to` on. The links that end at `to` are the reverses of the links
+/// from there.
 fn walk(
     table: &Table,
     any: &Request,

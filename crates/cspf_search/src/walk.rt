@@ -1,9 +1,10 @@
 //! The route that the bounds of a tree give without a search. A link that the request may use is
 //! *tight* if two things hold: from its router to its end the bound falls by just its metric, and
-//! the number of links by just one. If a route costs no more than the head-end's bound, and has no
-//! more links than the tree gives the head-end, all its links are tight. Where two such routes
-//! part, the link in the earlier row has the lower local address, so its route comes first. So the
-//! walk over the first tight link of each router is the least route, if it leads to the tail-end.
+//! the number of links by just one. Take a route that costs no more than the head-end's bound, and
+//! has no more links than the tree gives the head-end. All links of such a route are tight. Where
+//! two such routes part, the link in the earlier row has the lower local address, so its route
+//! comes first. So the walk over the first tight link of each router is the least route, if it
+//! leads to the tail-end.
 
 ghost use Rattle.std.specs.Prelude.{◌≡◌, ◌<◌, ◌↔◌, IfOk, IfSome, IsTrue, length};
 ghost use Rattle.cspf_model.specs.Best.{IsBestRoute};

@@ -32,7 +32,7 @@ len-from_distinct (x ∷ xs) apart =
     none_of x (y ∷ ys) all =
         ap (λ b. b || list_any (eq_by_cmp nat_cmp x) ys) all.0 ∙ none_of x ys all.1
 
--- A test for a number that is already a member changes nothing.
+-- If only a member ties with a number, a tie doesn't change whether the number is a member.
 same_or : (tie there : Bool) → (tie ≡ true → there ≡ true) → there ≡ (tie || there)
 same_or true there tied = tied refl
 same_or false there tied = refl

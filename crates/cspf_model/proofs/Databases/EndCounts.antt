@@ -50,7 +50,7 @@ or_swap true true c = refl
 or_swap true false c = refl
 or_swap false b c = refl
 
--- The ends of links include a router that passes a test exactly if some link has such an end.
+-- Some end in the list of ends passes a test exactly if some link has an end that passes it.
 pub any-ends_of : (p : ℕ → Bool) (links : List Link)
     → list_any p (ends_of links) ≡ list_any (λ l. p l.from || p l.to) links
 any-ends_of p [] = refl

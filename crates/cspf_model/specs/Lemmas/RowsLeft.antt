@@ -28,7 +28,7 @@ removes_link (Put l) = false
 removes_link (Remove from local) = true
 removes_link (Node router transit) = false
 
--- the change puts a link
+-- Whether the change removes no link.
 abbrev pub puts_link : Change → Bool
 puts_link c = not (removes_link c)
 
