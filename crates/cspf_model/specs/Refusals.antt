@@ -80,8 +80,8 @@ IsRefusal d batch TooManyMarks =
     × (router_count (after_changes d batch.changes) ≤ MOST_ROUTERS)
     × (MOST_MARKS < mark_count (after_changes d batch.changes))
 
--- The first batch of the list that doesn't fit has this number, and this is the reason. The database is
--- the one that the batches before it make.
+-- The first batch of the list that doesn't fit has the number `number`, and is refused for the reason
+-- `why`. The earlier batches make the database that it doesn't fit.
 pub record IsFirstUnfit (batches : List NumberedChanges) (number : ℕ) (why : Refusal) : Type 0 where
   pub before : List NumberedChanges
   pub batch : NumberedChanges

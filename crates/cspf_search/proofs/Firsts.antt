@@ -1,5 +1,5 @@
--- Take the first walk of one kind and the first of another. The earlier of both is the first walk of
--- both kinds together.
+-- The first walk of two kinds together is the earlier of the first walk of one kind and the first walk
+-- of the other.
 use Rattle.std.proofs.Common.{◌≡◌, ◌⊎◌, inl, inr, ℕ, true, false, cond, Option, Some, None, List, refl, ap}
 use Rattle.std.specs.Ordering.{is_gt, ordering_reverse}
 use Rattle.std.specs.declared.cmp.Ordering.TheVariants.{Less, Equal, Greater}

@@ -100,7 +100,7 @@ module _ (d : Database) (q : Request) (goal : Goal) (labels : List Label) (old h
 abbrev pub blank : HeapKey
 blank = record { 0 = (0, 0) }
 
--- One more key of a heap was looked at. The keys of states from the floor on are kept.
+-- One more key of a heap was looked at. A key is kept if the index of its state is at least the floor.
 module _ (floor : ℕ) (items left : List HeapKey) (k : ℕ) (within : k < length items)
     (kept : (key : HeapKey) → Contains (take k items) key → floor ≤ key.0.1 → Contains left key) (none_else : (key : HeapKey) → Contains left key → Contains items key) where
   abbrev pub looked : HeapKey

@@ -17,7 +17,7 @@ use Rattle.cspf_search.specs.Settled.{IsWithin}
 use Rattle.cspf_search.specs.Bounds.{ArePassed, AreBounds, Falls, IsLegBound, IsRing, IsDeadEnd, AreLooked, bound_at, is_done}
 use Rattle.cspf_graph.proofs.RouterIndexes.{same_or_not}
 
--- As long as no router is done, `IsRing` asks for nothing.
+-- If no router is done, `IsRing` holds.
 pub none_done : (d : Database) (q : Request) (leg : ℕ) (ring : Ring) → ((w : ℕ) → is_done ring w ≡ false) → IsRing d q leg ring
 none_done d q leg ring none u w on l admissible enters from to = absurd (false≢true (sym (none w) ∙ on))
 

@@ -30,8 +30,8 @@ lowered cap lower ahead w h (inr b) = inr (beyond_lower cap lower ahead w h b)
 no_later_itself : (w : List Link) → IsNoLater w w
 no_later_itself w = ap is_gt (tied_itself walks_total w)
 
--- A label for the walks of one kind is right for another kind too, if its walk is the first of that
--- kind.
+-- A label that is right for the walks of one kind is right for another kind too, if its walk is the
+-- first of that kind.
 reached_on : (d : Database) (nodes : List Node) (P R : List Link → State → Type 0) (cap lower ahead : ℕ) (t : State) (label : Label) → IsReached d nodes P cap ahead t label
     → ((w : List Link) (t : State) → P w t → R w t) → ((w : List Link) → R w t → IsNoLater (walk_of nodes (node_of d nodes label)) w ⊎ IsBeyond lower ahead w)
     → IsReached d nodes R lower ahead t label
@@ -188,7 +188,7 @@ module _ (d : Database) (q : Request) (nodes : List Node) (are : AreNodes nodes)
   gets old label lower h (is_unreached left none first) better passes =
       becomes old label lower better passes left (λ w was. inr (beyond_lower cap lower (lift goal i) w h (first w was)))
 
-  -- A better label replaces the old one. The new keys contain all old keys.
+  -- A better label replaces the old one, and the new keys contain all old keys.
   labels_over : (label : Label) (new_keys : List HeapKey) → IsBetter d nodes P cap (lift goal i) (state_at d i) (label_at labels i) label x → Q x (state_at d i)
       → IsHeap heap_key_cmp new_keys → All (IsKey d q goal) new_keys → (0 < label.rank → Contains new_keys (key_at (label.rank + lift goal i) i))
       → ((key : HeapKey) → Contains keys key → Contains new_keys key) → AreLabels d q nodes R goal (set labels i label) new_keys

@@ -1,4 +1,4 @@
--- What holds before each round of the search with a heap, and what the search results in.
+-- What holds before each round of the search with a heap, and what holds of its result.
 use Rattle.std.proofs.Common.{◌≡◌, ◌<◌, ◌⊎◌, inl, inr, ℕ, zero, suc, ◌+◌, ◌-◌, ◌*◌, ◌/◌, ◌%◌, ◌≤◌, Some, None, option_map, List, [], ◌∷◌, ◌++◌, length, set, slice_get, slice_index, slice_index_or, refl, sym, ap, subst, ◌∙◌, arith}
 use Rattle.std.specs.List.{Contains}
 use Rattle.std.proofs.lemmas.Bool.{cases_lt}

@@ -64,7 +64,7 @@ none_at count w =
       | inr past ↦ get_or_past (replicate count false) w false (omega (arith, past, length-replicate count false))
     ]
 
--- As long as no router is done, `IsTreeRing` asks for nothing.
+-- If no router is done, `IsTreeRing` holds.
 pub none_done_yet : (d : Database) (q : Request) (ring : TreeRing) → ((w : ℕ) → is_settled_there ring w ≡ false) → IsTreeRing d q ring
 none_done_yet d q ring none u w on l in_q over from to = absurd (false≢true (sym (none w) ∙ on))
 

@@ -17,10 +17,10 @@ use Rattle.cspf_search.specs.States.{LeadsOn}
 abbrev pub bound_at : List ℕ → ℕ → ℕ
 bound_at bounds i = slice_index_or bounds i 0
 
--- A bound for each state. Over a link that leads on, the bound falls at most by the link's metric. Over
--- such a link, `NO_WAY` doesn't fall to a bound that means that there is a way. At a turn to the next
--- leg the bound doesn't fall. At the tail-end in the last leg it is 0. So it is a lower bound of the
--- cost from the state to the tail-end.
+-- A bound for each state. Over a link that leads on, the bound falls at most by the link's metric. If
+-- the bound at the link's end isn't `NO_WAY`, the bound at its router isn't `NO_WAY` either. At a turn
+-- to the next leg the bound doesn't fall. At the tail-end in the last leg the bound is 0. So it is a
+-- lower bound of the cost from the state to the tail-end.
 pub record AreBounds (d : Database) (q : Request) (bounds : List ℕ) : Type 0 where
   pub many : length bounds ≡ (length q.hops + 1) * MOST_ROUTERS
   pub small : (i : ℕ) → bound_at bounds i < 2 ^ 32
@@ -77,8 +77,8 @@ pub record Falls (old new : Ring) : Type 0 where
   pub kept : (i : ℕ) → is_done new i ≡ true
       → (is_done old i ≡ true) × (bound_at new.near.items i ≡ bound_at old.near.items i)
 
--- Let the request admit the link at the index `at`, and let a walk be able to leave the router `from`.
--- Then the bound of `from` is at most the link's metric plus `base`.
+-- Suppose that the request admits the link at the index `at`, and that a walk may leave the router
+-- `from`. Then the bound of `from` is at most the link's metric plus `base`.
 abbrev pub IsPassed : Database → Request → ℕ → Ring → ℕ → ℕ → Type 0
 IsPassed d q base ring from at =
     (l : Link) → slice_get (links_of d) at ≡ Some l → IsAdmitted q l → MayBeLeft d q (slice_index (router_list d) from)

@@ -18,14 +18,15 @@ Labels = State → Option (List Link)
 abbrev pub IsNoLater : List Link → List Link → Type 0
 IsNoLater v w = is_gt (walk_cmp v w) ≡ false
 
--- The order of two walks, each with its leg: by cost, then by the number of links, then by the leg.
+-- The order of two walks, of which each is given with its leg: by cost, then by the number of links,
+-- then by the leg.
 abbrev pub rank_cmp : ℕ × List Link → ℕ × List Link → Ordering
 rank_cmp a b =
     ordering_then (nat_cmp (cost_of a.1) (cost_of b.1))
     (ordering_then (nat_cmp (length a.1) (length b.1)) (nat_cmp a.0 b.0))
 
--- The order of two walks, each with its state: by cost plus potential, then by the number of links,
--- then by the leg.
+-- The order of two walks, of which each is given with its state: by cost plus potential, then by the
+-- number of links, then by the leg.
 abbrev pub potential_cmp : (State → ℕ) → State × List Link → State × List Link → Ordering
 potential_cmp potential a b =
     ordering_then (nat_cmp (potential a.0 + cost_of a.1) (potential b.0 + cost_of b.1))
@@ -34,8 +35,8 @@ potential_cmp potential a b =
 abbrev pub RanksNoLater : (State → ℕ) → State → List Link → State → List Link → Type 0
 RanksNoLater potential s v t w = is_gt (potential_cmp potential (s, v) (t, w)) ≡ false
 
--- The potential of a router is at most a link's metric plus the potential `ahead` of the link's end. If
--- there is a way from the end, there is a way from the router.
+-- The potential of a router is at most a link's metric plus `ahead`, the potential of the link's end.
+-- If `ahead` isn't `NO_WAY`, the potential of the router isn't `NO_WAY` either.
 abbrev pub IsWithin : ℕ → ℕ → ℕ → Type 0
 IsWithin potential ahead metric = (potential ≤ ahead + metric) × (ahead < NO_WAY → potential < NO_WAY)
 

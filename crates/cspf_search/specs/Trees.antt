@@ -39,10 +39,10 @@ abbrev pub tree_links : Tree → ℕ → ℕ
 tree_links tree place = if nat_lt (bound_at tree.near.items place) tree.edge then bound_at tree.links.items place else 0
 
 -- A tree for the tail-end and the affinities of a request in a database. Take a link in the request's
--- class whose end a way may lead over. From its router to its end the bound falls at most by its
--- metric, and `NO_WAY` doesn't fall to a bound that means that there is a way. If the bound falls by
--- exactly the metric, the number of links falls at most by one. At the tail-end the bound and the
--- number of links are 0.
+-- class whose end a way may lead over. From its router to its end, the bound falls at most by its
+-- metric. If the bound at its end isn't `NO_WAY`, the bound at its router isn't `NO_WAY` either. If the
+-- bound falls by exactly the metric, the number of links falls at most by one. At the tail-end the
+-- bound and the number of links are 0.
 -- So the bound of a router is at most the cost of any way from there to the tail-end, and it is
 -- `NO_WAY` only if there is no way. A way that costs exactly the bound has at least this number of
 -- links.
