@@ -35,8 +35,9 @@ pub record StayElsewhere (rows : RoleRows) (old new : List Role) : Type 0 where
   pub below : (i : ℕ) → i < rows.first → role_at new i ≡ role_at old i
   pub behind : (i : ℕ) → rows.first + rows.count ≤ i → role_at new i ≡ role_at old i
 
--- The first roles of a leg. In a loose leg, a link may lead a route to the same routers as in the leg
--- after the last hop. In a strict leg, a link may lead to no router. No router is a target.
+-- The roles with which a leg begins. In a loose leg, a link may lead a route to the same routers as in
+-- the leg after the last hop. In a strict leg, no link may lead a route to any router. No router is a
+-- target.
 pub record IsSpread (rows : RoleRows) (loose : Bool) (old new : List Role) : Type 0 where
   pub here : (p : ℕ) → p < rows.count → role_at new (rows.first + p)
       ≡ record { enter = loose && (role_at old (rows.last + p)).enter; target = false }

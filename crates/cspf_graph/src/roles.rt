@@ -82,8 +82,8 @@ struct RoleRows {
 }
 
 /// Sets the first roles of a leg to a hop. In a loose leg, a link may lead a route to each router
-/// that the route may leave or end at. In a strict leg, a link may lead to no router. No router is
-/// a target yet.
+/// that the route may leave or end at. In a strict leg, no link may lead a route to any router yet.
+/// No router is a target yet.
 fn spread(roles: &mut [Role], rows: RoleRows, loose: bool)
     requires rows { AreRoleRows rows roles.old }
     ensures { IsSpread rows loose roles.old roles.new }

@@ -31,8 +31,8 @@ IsTargetOf d to (Some hop) router = Owns d hop.prefix router
 IsTargetOf d to None router = router ≡ to
 
 -- The router is a target of a leg. The only target of leg 0, before the first hop, is the head-end. The
--- targets of leg i are the routers that own the prefix of hop i, counted from 1. The only target of the
--- leg after the last hop is the tail-end.
+-- targets of leg i are the routers that own the prefix of hop i, where the first hop is hop 1. The only
+-- target of the leg after the last hop is the tail-end.
 abbrev pub IsTarget : Database → Request → ℕ → ℕ → Type 0
 IsTarget d q zero router = router ≡ q.from
 IsTarget d q (suc i) router = IsTargetOf d q.to (slice_get q.hops i) router

@@ -18,15 +18,15 @@ Labels = State → Option (List Link)
 abbrev pub IsNoLater : List Link → List Link → Type 0
 IsNoLater v w = is_gt (walk_cmp v w) ≡ false
 
--- The order of two walks, of which each is given with its leg: by cost, then by the number of links,
--- then by the leg.
+-- The order of walks, each of which is given with its leg: by cost, then by the number of links, then
+-- by the leg.
 abbrev pub rank_cmp : ℕ × List Link → ℕ × List Link → Ordering
 rank_cmp a b =
     ordering_then (nat_cmp (cost_of a.1) (cost_of b.1))
     (ordering_then (nat_cmp (length a.1) (length b.1)) (nat_cmp a.0 b.0))
 
--- The order of two walks, of which each is given with its state: by cost plus potential, then by the
--- number of links, then by the leg.
+-- The order of walks, each of which is given with its state: by cost plus potential, then by the number
+-- of links, then by the leg.
 abbrev pub potential_cmp : (State → ℕ) → State × List Link → State × List Link → Ordering
 potential_cmp potential a b =
     ordering_then (nat_cmp (potential a.0 + cost_of a.1) (potential b.0 + cost_of b.1))
