@@ -19,8 +19,7 @@ pub enum Change {
         /// The address of the link's interface at that router.
         local: Addr,
     },
-    /// Sets whether the router with this Router ID has transit. The database needn't have such a
-    /// router.
+    /// Sets whether the router with this Router ID has transit. The database may lack this router.
     Node {
         /// The Router ID.
         router: Addr,

@@ -182,9 +182,9 @@ fn offer_link(
     offer(query.table, source.nodes, labels, heap, index, label, key)
 }
 
-/// Offers a label to each state that the node `at` leads to. The turn to the next leg leads to a
-/// state. Each link from its router leads to a state, if its walk may leave that router. `state` is
-/// the index of the node's own state.
+/// Offers labels to the states that the node `at` leads to. The first is the state of its turn to
+/// the next leg. If its walk may leave its router, the others are the states at the ends of that
+/// router's links. `state` is the index of the node's state.
 pub(crate) fn expand(
     query: Query<'_>,
     nodes: &[Node<'_>],

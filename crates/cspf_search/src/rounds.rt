@@ -42,7 +42,7 @@ fn compare<'a>(nodes: &[Node<'a>], a: &Node<'a>, b: &Node<'a>) -> Ordering
     locals(nodes, a, b)
 }
 
-/// Whether the best node has a lower rank than this one.
+/// Whether there is a best node, and its rank is lower than `rank`.
 fn is_late(best: &Option<Node<'_>>, rank: u64) -> bool
     ensures { IsTrue result ↔ IsSomeAnd best.now (λ kept. kept.rank < rank) }
 {
@@ -67,7 +67,7 @@ fn keep<'a>(nodes: &[Node<'a>], best: &mut Option<Node<'a>>, node: Node<'a>)
     *best = Some(node);
 }
 
-/// The state at the start of a round.
+/// What a round starts from: the query and the settled nodes.
 #[derive(Clone, Copy)]
 pub(crate) struct Round<'a, 'b> {
     pub(crate) query: Query<'b>,

@@ -26,7 +26,7 @@ none_some l e = cc
 same_Some : (l m : Link) → Some l ≡ Some m → l ≡ m
 same_Some l m e = cc
 
--- Without a link at that key, the link from 1.1.1.1 to 2.2.2.2 isn't usable.
+-- If there is no link at that key, the link from 1.1.1.1 to 2.2.2.2 isn't usable.
 pub one_way : IsUnusableAmong (from_1_to_2 ∷ [])
 one_way q usable =
     let r = usable.reverse in none_some r.0 (found (from_1_to_2 ∷ []) r.0 r.1 r.2)
@@ -39,7 +39,8 @@ pub other_from : IsUnusableAmong (from_1_to_2 ∷ back_from_other_router ∷ [])
 other_from q usable =
     let r = usable.reverse in none_some r.0 (found (from_1_to_2 ∷ back_from_other_router ∷ []) r.0 r.1 r.2)
 
--- With a link at that key that ends at another address or router, it isn't usable either.
+-- If the link at that key ends at another address or router, the link from 1.1.1.1 to 2.2.2.2 isn't
+-- usable either.
 pub other_remote : IsUnusableAmong (from_1_to_2 ∷ back_to_other_address ∷ [])
 other_remote q usable =
     let r = usable.reverse in
