@@ -161,8 +161,8 @@ Holds links to hops P =
     (d : Database) (q : Request)
     → IsNetwork d links → HasRequestFields q (asked_fields to hops) → P d q
 
--- There is such a database, and for any hops there is such a request. So a law of the form `Holds`
--- isn't empty.
+-- There is a database with exactly these links and no marks, and for any hops there is a request from
+-- 1.1.1.1 with them. So a law of the form `Holds` isn't empty.
 pub record AreFound (links : List Link) (to : ℕ) : Type 0 where
   pub database : (d : Database) × IsNetwork d links
   pub request : (hops : List Hop) → (q : Request) × HasRequestFields q (asked_fields to hops)

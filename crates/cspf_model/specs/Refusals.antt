@@ -81,7 +81,7 @@ IsRefusal d batch TooManyMarks =
     × (MOST_MARKS < mark_count (after_changes d batch.changes))
 
 -- The first batch of the list that doesn't fit has the number `number`, and is refused for the reason
--- `why`. The earlier batches make the database that it doesn't fit.
+-- `why`. It doesn't fit the database that the batches before it make.
 pub record IsFirstUnfit (batches : List NumberedChanges) (number : ℕ) (why : Refusal) : Type 0 where
   pub before : List NumberedChanges
   pub batch : NumberedChanges

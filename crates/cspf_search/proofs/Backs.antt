@@ -90,7 +90,8 @@ module _ (d : Database) (q : Request) (nodes : List Node) (are : AreNodes nodes)
             ap (λ y. is_gt (state_cmp me y)) whole ∙ ap is_gt (tied_itself states_total me);
       }
 
--- A node on the way back from another node, after `passed` links of the other node's walk.
+-- The node `n` is on the way back from another node whose walk has `count` links. The way back has
+-- passed the last `passed` links of that walk.
 pub record IsBehind (nodes : List Node) (n : Node) (passed : ℕ) (count : ℕ) : Type 0 where
   pub parent : n.parent < length nodes
   pub left : length (walk_of nodes n) + passed ≡ count

@@ -216,8 +216,8 @@ fn low_of(found: &Option<Node<'_>>) -> u64
     }
 }
 
-/// Whether the best node comes before every node that a settled node leads to. `low` is a lower
-/// bound of the ranks of these nodes.
+/// Whether a settled node can be skipped, because it leads to no node, or only to nodes after the
+/// best one. `low` is a lower bound of the ranks of the nodes that it leads to.
 fn is_passed(best: &Option<Node<'_>>, low: u64) -> bool
     ensures { result ≡ true → (low ≡ no_rank) ⊎ (low_of best.now < low) }
 {

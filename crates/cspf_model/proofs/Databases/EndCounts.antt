@@ -57,7 +57,8 @@ any-ends_of p [] = refl
 any-ends_of p (l ∷ links) =
     ap (λ b. p l.from || (p l.to || b)) (any-ends_of p links) ∙ or_assoc (p l.from) (p l.to) _
 
--- A link with a new key is added to the links of which some may pass a test.
+-- After an entry with a new key is added, some link passes a test exactly if the new link or an old
+-- link passes it.
 any-put : (p : Link → Bool) (k : Key) (v : Link) (es : List (Key × Link))
     → map.find key_cmp k es ≡ None
     → list_any p (map (λ e. e.1) (put key_cmp k v es)) ≡ (p v || list_any p (map (λ e. e.1) es))
