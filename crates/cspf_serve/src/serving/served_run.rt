@@ -166,7 +166,7 @@ fn close_all<J: Write, Q: Read + Drop, V: Replies + Drop>(
     served
 }
 
-/// Whether no row of any client was refused.
+/// Whether no row of the clients was refused.
 fn are_accepted<V>(clients: &[ServedClient<V>]) -> bool
     ensures { IsTrue result ↔ All (λ c. c.refused ≡ 0) clients.now }
 {
