@@ -66,8 +66,8 @@ unmarked rows (Put l ∷ cs) marks all = unmarked rows cs marks (All-tail (IsAli
 unmarked rows (Remove from local ∷ cs) marks all = absurd (All-head (IsAlike rows) (Remove from local) cs all)
 unmarked rows (Node router transit ∷ cs) marks all = absurd (All-head (IsAlike rows) (Node router transit) cs all)
 
--- if two pairs of links run between the same interfaces, one pair is reverses of each other if the
--- other pair is
+-- if `l` and `m` run between the same interfaces, and `r` and `s` do too, then `s` is the reverse
+-- of `m` if `r` is that of `l`
 reverse_alike : (l m r s : Link) → HasSameEnds l m → HasSameEnds r s → IsReverse l r → IsReverse m s
 reverse_alike l m r s same also is = record {
   from = sym also.from ∙ is.from ∙ same.to;

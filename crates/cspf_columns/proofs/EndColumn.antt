@@ -11,17 +11,17 @@ pub length-ends : (rows : List Link) (routers ends : List ℕ) → AreEndsOf row
 length-ends rows routers ends are =
     sym (length-map ends (λ e. slice_index routers e)) ∙ ap length are.each ∙ length-map rows (λ (l : Link). l.to)
 
--- mapping a list with one more item inserts the item's image
+-- if an item is inserted in a list, its image is inserted in the mapped list
 map-insert : {A B : Type 0} (f : A → B) (xs : List A) (i : ℕ) (x : A) → map f (insert xs i x) ≡ insert (map f xs) i (f x)
 map-insert f xs i x =
     map-append f (take i xs) (x ∷ drop i xs) ∙ (λ t. sym (take-map f i xs) t ++ f x ∷ sym (drop-map f i xs) t)
 
--- mapping a list with one item removed removes the item's image
+-- if an item is removed from a list, its image is removed from the mapped list
 map-without : {A B : Type 0} (f : A → B) (xs : List A) (i : ℕ) → map f (without xs i) ≡ without (map f xs) i
 map-without f xs i =
     map-append f (take i xs) (drop (suc i) xs) ∙ (λ t. sym (take-map f i xs) t ++ sym (drop-map f (suc i) xs) t)
 
--- what holds of all items, and of one more, holds after it is inserted
+-- what holds of all items, and of one more, holds of all after this one is inserted
 all_insert : {A : Type 0} (P : A → Type 0) (xs : List A) (i : ℕ) (x : A) → P x → All P xs → All P (insert xs i x)
 all_insert P xs i x p all = All-append P (take i xs) (x ∷ drop i xs) (All-take P i xs all) (All-cons P x (drop i xs) p (All-drop P i xs all))
 

@@ -1,5 +1,5 @@
--- The rows from one router are in order of their local addresses. So a prefix that covers no
--- address from the lowest to the highest of these covers none of the addresses.
+-- The rows from one router are in order of their local addresses. If a prefix covers no address
+-- from the lowest to the highest of these, it covers none of the local addresses.
 use Rattle.std.proofs.Common.{◌≡◌, ℕ, ◌+◌, ◌-◌, ◌<◌, ◌≤◌, ◌↔◌, inl, inr, Bool, true, false, IsTrue, List, All, length, filter, get_or, nat_eq, slice_index, refl, sym, ap, subst, ◌∙◌, arith}
 use Rattle.std.specs.Ordering.{nat_cmp, ordering_then}
 use Rattle.std.specs.declared.cmp.Ordering.TheVariants.{Less, Equal, Greater}

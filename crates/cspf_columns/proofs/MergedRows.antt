@@ -35,12 +35,12 @@ copied old rows at next le =
 at_next : (out rows : List Link) (next : ℕ) (d : Link) → next < length rows → get_or (out ++ drop next rows) (length out) d ≡ get_or rows next d
 at_next out rows next d h = ap (λ xs. get_or (out ++ xs) (length out) d) (drop_more rows next d h) ∙ get_or_at out (get_or rows next d) (drop (next + 1) rows) d (length out) refl
 
--- a link that replaces the next row is added to the merged rows, and that row isn't left any more
+-- if a link replaces the next row, it is added to the merged rows, and that row isn't left any more
 set-next : (out rows : List Link) (next : ℕ) (l : Link) → next < length rows → slice_set (out ++ drop next rows) (length out) l ≡ (out ++ l ∷ []) ++ drop (next + 1) rows
 set-next out rows next l h =
     ap (λ xs. slice_set (out ++ xs) (length out) l) (drop_more rows next l h) ∙ set_at out (get_or rows next l) (drop (next + 1) rows) l (length out) refl ∙ sym (append_assoc out (l ∷ []) (drop (next + 1) rows))
 
--- a link that is inserted before the next row is added to the merged rows
+-- if a link is inserted before the next row, it is added to the merged rows
 insert-next : (out rows : List Link) (next : ℕ) (l : Link) → insert (out ++ drop next rows) (length out) l ≡ (out ++ l ∷ []) ++ drop next rows
 insert-next out rows next l =
     ap (λ xs. xs ++ l ∷ drop (length out) (out ++ drop next rows)) (take_at out (drop next rows) (length out) refl) ∙ ap (λ xs. out ++ l ∷ xs) (drop_at out (drop next rows) (length out) refl)
@@ -55,7 +55,7 @@ without-next out rows next d h =
     (ap (drop (suc (length out))) (sym (append_assoc out (get_or rows next d ∷ []) (drop (next + 1) rows)))
     ∙ drop_at (out ++ get_or rows next d ∷ []) (drop (next + 1) rows) (suc (length out)) (length_push out (get_or rows next d) ∙ add-one (length out)))
 
--- a list with an index in it has a row
+-- if an index is within the rows, there is a row
 some_row : (rows : List Link) (next : ℕ) → next < length rows → Link
 some_row [] next h = absurd (omega arith)
 some_row (l ∷ rows) next h = l
@@ -71,7 +71,7 @@ entries-over old rows at next l by_key le h has =
     ∙ entries-hit (out ++ drop next rows) (length out) l (subst AreByKey (sym same) by_key) within (λ d. ap key_of (at_next out rows next d h) ∙ has d)
     ∙ ap (map entry_of) (set-next out rows next l h)
 
--- if the last merged row is below a key, all merged rows are
+-- if the last merged row is below a key, all merged rows are below it
 below_key : (out rest : List Link) (k : Key) → AreByKey (out ++ rest) → ((d : Link) → 0 < length out → key_cmp (key_of (get_or out (length out - 1) d)) k ≡ Less)
     → AllWithin (λ m. key_cmp (key_of m) k ≡ Less) (out ++ rest) 0 (length out)
 below_key out rest k by_key last i d lo h =
@@ -87,7 +87,8 @@ below_key out rest k by_key last i d lo h =
           subst (λ n. key_cmp (key_of (get_or (out ++ rest) n d)) k ≡ Less) (sym same) at_end
     ] refl
 
--- if the rows that are left are above a key, they are so after the merged rows too
+-- if the rows that are left are above a key, they are above it also in the list that begins with
+-- the merged rows
 above_copied : (out rows : List Link) (next : ℕ) (k : Key) → AllWithin (λ m. key_cmp (key_of m) k ≡ Greater) rows next (length rows)
     → AllWithin (λ m. key_cmp (key_of m) k ≡ Greater) (out ++ drop next rows) (length out) (length (out ++ drop next rows))
 above_copied out rows next k gap i d lo h =

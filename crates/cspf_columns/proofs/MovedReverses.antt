@@ -1,5 +1,5 @@
--- The column of reverses while a row with a key that is left out replaces another, is inserted, or
--- is removed.
+-- The column of reverses leaves out one key. A row with this key replaces another row, is inserted,
+-- or is removed.
 use Rattle.std.proofs.Common.{◌≡◌, ◌≢◌, ℕ, ◌+◌, ◌-◌, ◌<◌, ◌≤◌, ◌⊎◌, List, length, map, cond, eqb, leb, slice_index_or, slice_set, sym, ap, subst, ◌∙◌, inl, inr, arith}
 use Rattle.std.specs.List.{HoldsAt, insert, remove as without}
 use Rattle.std.proofs.lemmas.Bool.{cases_eq, cases_lt, eq-eqb, ne_eqb, le-leb, lt-leb}

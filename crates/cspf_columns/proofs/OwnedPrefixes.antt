@@ -23,7 +23,8 @@ same_number m n tie = grind (arith, nat_tests)
 ties : (m n : ℕ) → m ≡ n → nat_eq m n ≡ true
 ties m n is = grind (arith, nat_tests)
 
--- a row from the router has its local address in the prefix exactly if a link of the database does
+-- a row from the router has its local address in the prefix exactly if a link of the database from
+-- this router has
 pub tells_link : (prefix : PrefixParts) (router : ℕ) (d : Database) (rows : List Link) (b : Bool)
     → AreLinksOf d rows
     → (b ≡ true → (at : ℕ) × (at < length (filter (λ l. nat_eq l.from router) rows)) × HoldsAt (λ l. Covers prefix l.local) (filter (λ l. nat_eq l.from router) rows) at)
@@ -48,7 +49,8 @@ pub owned_itself : (d : Database) (prefix : PrefixParts) (router : ℕ) (b : Boo
 owned_itself d prefix router b on known covered =
     ((λ _. record { known = known; covered = inl covered }), λ _. on)
 
--- a router whose ID isn't in the prefix owns it exactly if the address of one of its interfaces is
+-- a router whose ID isn't in the prefix owns it exactly if the prefix covers the address of one of
+-- its interfaces
 pub owned_by_link : (d : Database) (prefix : PrefixParts) (router : ℕ) (b : Bool)
     → IsRouterOf d router → ¬ Covers prefix router
     → IsTrue b ↔ ((l : Link) × IsLinkOf d l × BeginsWithin prefix router l)

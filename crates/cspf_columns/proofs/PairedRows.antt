@@ -20,8 +20,8 @@ turned l r is = record { from = sym is.to; local = sym is.remote; to = sym is.fr
 pub one_key : (l r s : Link) → IsReverse l r → IsReverse l s → key_of r ≡ key_of s
 one_key l r s is also = λ t. ((is.from ∙ sym also.from) t, (is.local ∙ sym also.local) t)
 
--- The row at index `n` is the reverse of the row at index `i`, if there is such a row and neither
--- of the two has a key that is left out.
+-- The number `n` is the index of the reverse of the row at index `i`, or `NO_LINK`. A row whose key
+-- is left out has no reverse, and is no row's reverse.
 pub record IsPair (out : Key → Type 0) (rows : List Link) (d : Link) (i n : ℕ) : Type 0 where
   pub within : n ≢ NO_LINK → n < length rows
   pub found : n ≢ NO_LINK → IsReverse (slice_index_or rows i d) (slice_index_or rows n d)
@@ -63,7 +63,7 @@ paired out rows column are i d h = pair_of out rows d i (slice_index_or column i
 pub column_of : (out : Key → Type 0) (rows : List Link) (column : List ℕ) → length column ≡ length rows → ArePaired out rows column → AreReversesBut out rows column
 column_of out rows column many are = record { many = many; each = λ i d h. index_of_pair out rows d i (slice_index_or column i 0) (are i d h) }
 
--- a row has no reverse if its key is left out, or if the key of each possible reverse is
+-- a row has no reverse if its key is left out, or if the key of each possible reverse is left out
 pub open_pair : (out : Key → Type 0) (rows : List Link) (d : Link) (i : ℕ)
     → ((j : ℕ) → j < length rows → IsReverse (slice_index_or rows i d) (slice_index_or rows j d) → out (key_of (slice_index_or rows i d)) ⊎ out (key_of (slice_index_or rows j d)))
     → IsPair out rows d i NO_LINK
@@ -86,7 +86,7 @@ taken_in_unmet k rows column unmet are = column_of no_key rows column are.many (
   none = λ z j inside back. elim (is.none z j inside back) [ inl same ↦ absurd (unmet i d h same) | inr same ↦ absurd (unmet j d inside same) ];
 })
 
--- an index in the column that isn't `NO_LINK` is an index of the column
+-- an item of the column that isn't `NO_LINK` is the index of a row
 pub within_column : (rows : List Link) (column : List ℕ) (at : ℕ) → at < length rows → AreReversesBut no_key rows column → slice_index_or column at 0 ≢ NO_LINK → slice_index_or column at 0 < length column
 within_column [] column at h are some = absurd (omega arith)
 within_column (l ∷ rows) column at h are some = subst (λ n. slice_index_or column at 0 < n) (sym are.many) ((are.each at l h).within some)

@@ -30,7 +30,7 @@ alike true t there back = sym (there refl)
 alike false true there back = back refl
 alike false false there back = refl
 
--- two options of the empty type are equal if both have a value or neither has
+-- two options of `Unit` are equal if both have a value or neither has one
 same_nothing : (o p : Option (Unit {0})) → is_some o ≡ is_some p → o ≡ p
 same_nothing None None e = refl
 same_nothing None (Some v) e = absurd (cc)

@@ -41,12 +41,12 @@ put-new routers router at h gap = sym (put-gap nat_cmp_total with_nothing router
 pub rising-put : (routers more : List ℕ) (router : ℕ) → AreRising routers → map with_nothing more ≡ put nat_cmp router tt (map with_nothing routers) → AreRising more
 rising-put routers more router rising e = true_from_test _ (subst (λ es. T (is_sorted nat_cmp es)) (sym e) (is_sorted-put nat_cmp nat_cmp_total router tt (map with_nothing routers) (test_from_true _ rising)))
 
--- the numbers of entries that have nothing but a number
+-- entries that are made of numbers give these numbers back
 numbers_alone : (ns : List ℕ) → map (λ (e : ℕ × Unit {0}). e.0) (map with_nothing ns) ≡ ns
 numbers_alone [] = refl
 numbers_alone (n ∷ ns) = ap (λ ms. n ∷ ms) (numbers_alone ns)
 
--- the entries of these numbers
+-- numbers that are taken from entries of `Unit` make these entries again
 entries_alone : (es : List (ℕ × Unit {0})) → map with_nothing (map (λ e. e.0) es) ≡ es
 entries_alone [] = refl
 entries_alone (e ∷ es) = ap (λ fs. e ∷ fs) (entries_alone es)

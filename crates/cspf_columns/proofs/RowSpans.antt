@@ -106,7 +106,7 @@ module _ (rows : List Link) (router first end : ℕ) (rises : IsNonDecreasingBy 
         λ k d past h. not_upto (get_or rows k d).from router (behind k d past h),
       )
 
--- if the first and the last row of a range are from one router, all rows of the range are
+-- if the first and the last row of a range are from one router, all rows of the range are from it
 pub run_between : (rows : List Link) (router first end : ℕ) (l m : Link) → IsNonDecreasingBy (λ l. l.from) rows → first < end → end ≤ length rows → l ≡ get_or rows first l → m ≡ get_or rows (end - 1) m → l.from ≡ router → m.from ≡ router
     → (k : ℕ) (d : Link) → first ≤ k → k < end → (get_or rows k d).from ≡ router
 run_between rows router first end l m rises some bound reads also from to k d past h =

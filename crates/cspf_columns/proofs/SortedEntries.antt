@@ -11,17 +11,17 @@ use Rattle.std.specs.FinMap.Entries.{below_all, by_order}
 use Rattle.std.proofs.lemmas.List.{nil_from_length}
 use Rattle.std.proofs.lemmas.List.Sorted.{searchable_from_sorted}
 
--- both tests pass
+-- if two tests pass, their conjunction passes
 pub both : (a b : Bool) → T a → T b → T (a && b)
 both true b p q = q
 both false b p q = p
 
--- the first of two tests that both pass
+-- if a conjunction of two tests passes, the first test passes
 pub both_first : (a b : Bool) → T (a && b) → T a
 both_first true b h = tt
 both_first false b h = h
 
--- the second of two tests that both pass
+-- if a conjunction of two tests passes, the second test passes
 pub both_second : (a b : Bool) → T (a && b) → T b
 both_second true b h = h
 both_second false b h = absurd h

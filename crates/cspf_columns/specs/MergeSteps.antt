@@ -21,7 +21,7 @@ pub record AreMergedBelow (rows : List Link) (at : ℕ) (merged : Vec Link Globa
 
 -- The change is merged, and now the rows before the index `next` are merged. The merged rows,
 -- followed by the rows from `next` on, are what the change makes of the old merged rows, followed
--- by the rows from `at` on. They are at most one row more.
+-- by the rows from `at` on. The list has at most one row more than before.
 pub record IsMergedUpTo (change : Change) (rows : List Link) (at : ℕ) (old new : Vec Link Global) (next : ℕ) : Type 0 where
   pub bound : next ≤ length rows
   pub changed : database_of (new.items ++ drop next rows) ≡ relinked (database_of (old.items ++ drop at rows)) change

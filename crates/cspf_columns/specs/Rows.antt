@@ -50,8 +50,8 @@ pub record IsEndColumn (links : List Link) (routers : List ℕ) (indices : List 
   pub froms : All (λ l. Contains routers l.from) links
   pub ends : AreEndsOf links routers indices
 
--- From a list of routers those are kept that are ends of rows, in the same order. For each router
--- of the list, its place among the kept ones is listed. Both vectors keep their capacity.
+-- The routers of a list that are ends of rows are kept, in the same order. For each router of the
+-- list, its place among the kept routers is listed. Both vectors keep their capacity.
 pub record AreKeptEnds (rows : List Link) (routers : List ℕ) (old old_places new new_places : Vec ℕ Global) : Type 0 where
   pub kept : new.items ≡ filter (is_end_of rows) routers
   pub placed : ArePlacesIn new.items routers new_places.items
@@ -98,7 +98,7 @@ pub record AreTiedColumns (c : Columns) : Type 0 where
   pub few : length c.routers.items ≤ ROOM_FOR_ROUTERS
   pub column : IsEndColumn c.rows.items c.routers.items c.ends.items
 
--- such columns, and the column of reverses is right
+-- tied columns, whose column of reverses is right too
 pub record ArePaired (c : Columns) : Type 0 where
   pub tied : AreTiedColumns c
   pub reverses : AreReversesBut no_key c.rows.items c.reverses.items

@@ -43,7 +43,7 @@ fn step(rows: &[Link], at: usize, from: Addr, local: Addr) -> usize
     next
 }
 
-/// Whether the row at `next` has this key. Its key isn't below this one.
+/// Whether the row at `next` has this key. The row's key isn't below this key.
 fn is_at(rows: &[Link], next: usize, from: Addr, local: Addr) -> bool
     requires by_key { AreByKey rows.now }
     requires stop { next < length rows.now → (d : Linked)
@@ -175,7 +175,7 @@ fn copy_changes(sorted: &mut Vec<Change>, order: &[((Addr, Option<Addr>), u16)],
 }
 
 /// Copies changes that have distinct keys, in order of the key. Only their keys and indices are
-/// sorted, so each change is copied once. Takes no memory.
+/// sorted, so each change is copied once. It takes no memory.
 pub(crate) fn sort_changes(
     order: &mut Vec<((Addr, Option<Addr>), u16)>,
     sorted: &mut Vec<Change>,

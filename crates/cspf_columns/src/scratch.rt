@@ -67,7 +67,7 @@ impl Scratch {
     ghost use Rattle.cspf_model.specs.Refusals.{AreOnceEach};
 
     /// Makes changes with distinct keys to the rows and to the column of ends, however many rows
-    /// they move. They put links only between listed routers. Takes no memory.
+    /// they move. The changes put links only between listed routers. It takes no memory.
     pub(crate) fn change(&mut self, columns: &mut Columns, changes: &[Change])
         requires tied { AreTiedColumns columns.old }
         requires most { length columns.old.rows.items ≤ MOST_LINKS }

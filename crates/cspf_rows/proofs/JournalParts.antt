@@ -173,7 +173,7 @@ same_rest (l ∷ left) [] one two count a b = absurd (omega arith)
 same_rest (l ∷ left) (m ∷ more) rest.Clean rest.Torn count a b = absurd (cc)
 same_rest (l ∷ left) (m ∷ more) rest.Torn rest.Clean count a b = absurd (cc)
 
--- the same records are only one list of batches, with one rest
+-- no records are two different lists of batches, or have two different rests
 pub one_journal : (records : List (List (List ℕ))) (batches others : List NumberedChanges) (rest other : Rest)
     → IsJournal records batches rest → IsJournal records others other → (batches ≡ others) × (rest ≡ other)
 one_journal records batches others rest other a b =

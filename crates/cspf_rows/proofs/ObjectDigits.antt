@@ -18,7 +18,8 @@ both_decoded : {A B : Type 0} (r : Result A FromHexError) (more : A → Result B
 both_decoded (Ok a) more b same = (a, refl, same)
 both_decoded (Err e) more b same = absurd (cc)
 
--- if `count` bytes are decoded after a byte, then with it `count + 1` bytes are decoded
+-- if the byte of the first two digits is decoded, and `count` bytes after it, then `count + 1`
+-- bytes are decoded
 pair_more : (at count high low byte : ℕ) (digits rest : List ℕ) → pair_value high low at ≡ Ok byte → decode_pairs (at + 2) (take (2 * count) digits) ≡ Ok (take count rest)
     → decode_pairs at (take (2 * suc count) (high ∷ low ∷ digits)) ≡ Ok (take (suc count) (byte ∷ rest))
 unfolding decode_pairs

@@ -54,7 +54,7 @@ module _ (Holds : List (List (List ℕ)) → Type 0) (all left next : Option (Li
       go (Some all) (Some left) None split takes = absurd takes
       go (Some all) (Some left) (Some rest) split takes = (h.seen, rest, split ∙ rw takes refl, h.holds, h.counted)
 
--- an implication holds of a value that may be missing
+-- if `P` implies `Q` for each value, it does so for a value that may be missing
 pub if_some_more : {T : Type 0} {P Q : T → Type 0} (o : Option T) → ((x : T) → P x → Q x) → IfSome o P → IfSome o Q
 if_some_more None more h = tt
 if_some_more (Some x) more h = more x h

@@ -217,7 +217,8 @@ counted fields count x e r read =
     let h = passed_row (eqb (length fields) count) x e r read in
     (eqb-true (length fields) count h.0, h.1)
 
--- a consequence of a test on the first field: proved for the word, and for any other text
+-- a claim about a test of the first field holds if it holds for the tested word and for any other
+-- text
 by_word : {G : Type 0} (text name : List ℕ) (x y : Result Row RowError) (r : Row) (b : Bool) → b ≡ bytes_eq text name → cond b x y ≡ Ok r
     → (text ≡ name → x ≡ Ok r → G) → (y ≡ Ok r → G) → G
 by_word text name x y r true is read here there = here ((bytes_eq-Decides text name).0 (sym is)) read

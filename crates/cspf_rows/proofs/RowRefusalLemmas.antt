@@ -291,7 +291,8 @@ end_record texts fields e = counted fields 3 (end_row_of fields) (AreFieldsRefus
 ask_record : AreTextsRead → (fields : List (List ℕ)) (e : RowError) → (of_count 10 ask_row_of fields ≡ Err e) ↔ IsRefusedAs ask_kind fields e
 ask_record texts fields e = counted fields 10 (ask_row_of fields) (AreFieldsRefused ask_kind 2 (sorts_of ask_kind) fields) e (ask_refused texts fields e)
 
--- a consequence of a test on the first field: proved for the word, and for any other text
+-- a claim about a test of the first field holds if it holds for the tested word and for any other
+-- text
 at_word : {G : Type 0} (text name : List ℕ) (x y : Result Row RowError) (e : RowError) (b : Bool) → b ≡ bytes_eq text name → cond b x y ≡ Err e
     → (text ≡ name → x ≡ Err e → G) → (text ≢ name → y ≡ Err e → G) → G
 at_word text name x y e true is read here there = here ((bytes_eq-Decides text name).0 (sym is)) read

@@ -1,4 +1,4 @@
--- Private: the laws that reading rows rests on.
+-- Private: the laws of fields on which reading rows rests.
 use Rattle.cspf_addr.specs.Numbers.{AreSpelledOnce}
 use Rattle.cspf_addr.specs.AddressText.{AreAddressesSpelledOnce}
 use Rattle.cspf_addr.specs.MaskText.{AreMasksRead}

@@ -33,8 +33,8 @@ small_number_at fields place = do
   n ← number_at fields place
   if nat_lt n (2 ^ 32) then Ok n else Err (error.Number place)
 
--- the setup priority, 0 to 7, that the field spells; a number of 2^32 or more is refused as a
--- number
+-- the setup priority, 0 to 7, that the field spells; a number from 8 to 2^32 - 1 is refused as
+-- `Priority`
 unfoldable pub priority_at : List (List ℕ) → ℕ → Result ℕ RowError
 priority_at fields place = do
   n ← small_number_at fields place
@@ -45,7 +45,7 @@ abbrev pub flag_number : Bool → ℕ
 flag_number false = 0
 flag_number true = 1
 
--- the flag that the field spells; a number of 2^32 or more is refused as a number
+-- the flag that the field spells; a number other than 0 and 1 is refused as `Number`
 unfoldable pub flag_at : List (List ℕ) → ℕ → Result Bool RowError
 flag_at fields place = do
   n ← small_number_at fields place

@@ -23,7 +23,7 @@ abbrev pub HasFailed : {R : Type 0} → JournalReader R → Type 0
 HasFailed reader = has_failed reader.records ≡ true
 
 -- The reader has returned these batches, and it is right after their rows. The batches have the
--- numbers 1, 2, 3 and so on. `all` are the records of the journal, if they are known.
+-- numbers 1, 2, 3 and so on. `all` has the records of the journal, if they are known.
 pub record HasGiven {R : Type 0} (rem : R → Option (List ℕ)) (all : Option (List (List (List ℕ))))
     (reader : JournalReader R) (batches : List NumberedChanges) : Type 0 where
   pub numbers : AreNumberedFrom 1 batches

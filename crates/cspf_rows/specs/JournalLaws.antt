@@ -40,7 +40,7 @@ AreTextsCut = (batches : List NumberedChanges) → AreWritable batches → rows_
 abbrev pub AreJournalsReadBack : Type 0
 AreJournalsReadBack = (batches : List NumberedChanges) → AreWritable batches → IsJournal (rows_of (journal_text batches)) batches rest.Clean
 
--- records are only one list of batches, with one rest
+-- no records are two different lists of batches, or have two different rests
 abbrev pub IsOneJournal : Type 0
 IsOneJournal =
     (records : List (List (List ℕ))) (batches others : List NumberedChanges) (rest other : Rest)

@@ -47,7 +47,7 @@ abbrev pub SpellsHops : List ℕ → List Hop → Type 0
 SpellsHops text hops = SpellsHopList text hops ⊎ SpellsObject text hops
 
 -- The fields of a `put` row: the word, the router, the local address, the neighbor, the remote
--- address, the metric, the group, and the unreserved bandwidths at the priorities 0 to 7.
+-- address, the metric and the group. The unreserved bandwidths at the priorities 0 to 7 follow.
 pub record SaysPut (fields : List (List ℕ)) (link : Link) : Type 0 where
   pub count : length fields ≡ 15
   pub kind : field fields 1 ≡ codes "put"

@@ -25,7 +25,7 @@ pub enum Rest {
 pub enum JournalStep {
     /// One more whole batch.
     Batch,
-    /// There are no more batches. The rest is what follows the last one.
+    /// No batch is left. The value is what follows the last batch.
     End(Rest),
 }
 

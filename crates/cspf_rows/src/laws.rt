@@ -10,7 +10,7 @@ use cspf_addr::{
 use cspf_ero::objects_are_read;
 use cspf_model::fields_of_links_and_requests;
 
-/// Law: the laws of fields that reading rows rests on (`AreTextsRead`).
+/// The laws of fields on which reading rows rests (`AreTextsRead`).
 fn texts_are_read()
     ensures { AreTextsRead }
 {

@@ -9,7 +9,7 @@ use crate::output::open_writer::OpenWriter;
 use std::io::Write;
 
 /// Writes the whole text. If a write fails in any way or takes no byte, the error is how many bytes
-/// of the text were taken before. Takes no memory, and doesn't flush.
+/// of the text were taken before. It takes no memory, and doesn't flush.
 pub fn put_all<W: Write>(to: &mut W, text: &[u8]) -> Result<(), usize>
     ensures all { OnOk result (Appends (W.contents to.old) (W.contents to.new) text.now) }
     ensures front { IfErr result (λ n.

@@ -42,8 +42,9 @@ pub enum Row {
 impl Row {
     ghost use Rattle.cspf_rows.specs.Rows.{row_of, put_row_of, drop_row_of, node_row_of, end_row_of, ask_row_of};
 
-    /// The row that the fields of a record say, or the first refusal. Checked in this order: the
-    /// kind, the number of fields, each field, and whether both ends are the same router.
+    /// The row that the fields of a record say, or the first refusal. The checks come in this
+    /// order: the kind, the number of fields, each field, and whether both ends are the same
+    /// router.
     #[tactic(auto, unfolding(crate::specs::Rows::row_of))]
     pub fn read(fields: &ByteRecord) -> Result<Row, RowError>
         ensures { result ≡ row_of (fields_of fields.now) }

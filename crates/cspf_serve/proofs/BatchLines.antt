@@ -119,8 +119,7 @@ module _ (accept_torn : Bool) (kept asked : Option (List ℕ)) (published : List
   batch_ran (Err e) ran = tt
   batch_ran (Ok status) ran = ran_of kept asked status read of_rows ran
 
-  -- the version of an answer is above the number of the journal's batches, a fault that the run
-  -- returns
+  -- an answer whose version is above the number of the journal's batches is a fault of the run
   pub stray_in_run : (kept asked : Option (List ℕ)) (index version : ℕ) → IsPublished accept_torn kept published unfit → IfSome asked (λ bytes. AreRequestsOf (rows_of bytes) qs)
       → index < length qs → ((batches : List NumberedChanges) → ArePublishedOrRefused batches published unfit → length batches < version)
       → IsStrayInBatchRun accept_torn kept asked index version

@@ -11,8 +11,8 @@ kept_behind (Some xs) None new text written kept = absurd written
 kept_behind (Some xs) (Some ys) None text written kept = absurd kept
 kept_behind (Some xs) (Some ys) (Some zs) text written kept = kept ∙ written
 
--- the beginning of lines is written after a text; what holds of these lines implies what holds of
--- both
+-- if the beginning of some lines is written after a text, the beginning of the text with these
+-- lines is written
 pub begun_behind : (old mid new : Option (List ℕ)) (text : List ℕ) (P Q : List ℕ → Type 0) → Appends old mid text → Q text
     → ((lines : List ℕ) → P lines → Q (text ++ lines)) → HasBegun mid new P → HasBegun old new Q
 begun_behind old mid new text P Q written here more (inl kept) =
@@ -20,7 +20,8 @@ begun_behind old mid new text P Q written here more (inl kept) =
 begun_behind old mid new text P Q written here more (inr (lines, is, begun)) =
     inr (text ++ lines, more lines is, front_behind old mid new text lines written begun)
 
--- what holds of the lines implies something else, and their beginning is written
+-- if `P` of lines implies `Q` of them, the beginning of lines with `P` is the beginning of lines
+-- with `Q`
 pub begun_weaker : (old new : Option (List ℕ)) (P Q : List ℕ → Type 0) → ((lines : List ℕ) → P lines → Q lines) → HasBegun old new P → HasBegun old new Q
 begun_weaker old new P Q f (inl kept) = inl kept
 begun_weaker old new P Q f (inr (lines, is, begun)) = inr (lines, f lines is, begun)

@@ -189,7 +189,7 @@ held_in_part contents batches before after numbered few fresh going (inl same) =
 held_in_part contents batches before after numbered few fresh going (inr part) =
     held_applied contents batches before after part.0 part.1 numbered few fresh going part.2
 
--- a fact holds if the run ends by an error
+-- what always holds also holds if the run ends by an error
 pub at_error : {X : Type 0} (r : Result ℕ RunError) → X → IfErr r (λ e. X)
 at_error (Ok status) x = tt
 at_error (Err e) x = x

@@ -148,7 +148,8 @@ batch_after s b xs none room next fits are =
     let same : first.after.accepted ++ (open_batch first.after b.number ∷ []) ≡ s.accepted ++ (b ∷ []) = rw (first.accepted_are, open_ones) refl in
     rw cut.whole (rows_after s cut.front cut.back [] (version_line b.number) s.accepted (s.accepted ++ (b ∷ [])) (s.changes ++ b.changes) [] first (rw same at second))
 
--- batches that are numbered on and fit one after another are accepted, each with its version
+-- batches with the next numbers, each of which fits after the one before, are accepted with their
+-- versions
 journal_after : OneMoreBatch → (s : RunState) (bs : List NumberedChanges) (xs : Records) → s.changes ≡ [] → AreNumberedFrom (length s.accepted + 1) bs
     → AreLawfulAfter (database_after s.accepted) bs → length s.accepted + length bs ≤ 1000000 → map row_of xs ≡ read_rows (journal_rows bs)
     → IsAfter s xs (version_lines bs) (s.accepted ++ bs) []
@@ -187,7 +188,7 @@ few_batches (b ∷ bs) =
     let changes = map change_row b.changes in
     omega (arith, one, length-append (batch_rows b) (journal_rows bs), length-append changes (row.End b.number (length b.changes) ∷ []))
 
--- at most 1,000,000 rows, with no open change after them, are a whole run
+-- at most 1,000,000 rows that leave no change open are a whole run
 run_of : (rows : Records) (lines : List ℕ) (accepted : List NumberedChanges) → length rows ≤ 1000000 → IsAfter start rows lines accepted []
     → (summary : Summary) × IsSolveRun rows lines summary
 run_of rows lines accepted few after =

@@ -266,7 +266,7 @@ module _ {J : Type 0} (contents : J → Option (List ℕ)) (first : PublisherSta
 
 -- ---- the state that the code keeps
 
--- the rows of updates, as the state that the contracts name
+-- the rows of the updates, as the kept state that the contracts speak of
 abbrev pub kept_of : {J : Type 0} → Rows (CountedState J) → KeptUpdates J
 kept_of k = record { sink = k.sink; changes = k.changes; answers = k.answers; refused = k.refused }
 

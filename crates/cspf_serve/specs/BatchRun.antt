@@ -24,7 +24,8 @@ abbrev pub IsReplyTo : Database → ℕ → Request → List ℕ → Type 0
 IsReplyTo d version q line =
     (answer : Answer) × IsBestAnswer d q answer × IsReply q.id version answer line
 
--- the lines are the replies to the requests in order, all in one database at one version
+-- the lines are the replies to the requests in order, all computed in the same database at the same
+-- version
 abbrev pub AreReplies : Database → ℕ → List Request → List ℕ → Type 0
 AreReplies d version [] lines = lines ≡ []
 AreReplies d version (q ∷ qs) lines =

@@ -13,7 +13,7 @@ use Rattle.cspf_stream.specs.Lines.{refused_batch_line}
 use Rattle.cspf_work.specs.declared.serve_error.ServeError.{ServeError}
 use Rattle.cspf_work.specs.declared.serve_error.ServeError.TheVariants as serve_error
 
--- the line of a batch that isn't published because of its own fault; other faults have no line
+-- the line of a batch that isn't published because the batch is at fault; other faults have no line
 abbrev pub IsOwnFaultLine : ApplyError → ℕ → List ℕ → Type 0
 IsOwnFaultLine error.Stopped number line = ⊥
 IsOwnFaultLine error.Exhausted number line = line ≡ refused_batch_line number refusal.Exhausted

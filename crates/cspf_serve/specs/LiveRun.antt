@@ -30,7 +30,7 @@ AreRepliesWithin published (q ∷ qs) lines =
     × AreRepliesWithin published qs more
 
 -- Why the next batch after the published ones isn't published. It can't be for its number, or for
--- too many batches: both were checked when the journal was read.
+-- too many batches: both were checked when the updates were read.
 abbrev pub IsWhyNot : List NumberedChanges → NumberedChanges → ApplyError → Type 0
 IsWhyNot published b error.Stopped = ⊥
 IsWhyNot published b error.Exhausted = ⊥

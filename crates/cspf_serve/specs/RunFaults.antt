@@ -24,8 +24,7 @@ IsStreamFault e = (e ≡ Memory) ⊎ (e ≡ Device)
 abbrev pub IsOpeningFault : RunError → Type 0
 IsOpeningFault e = (e ≡ Memory) ⊎ (e ≡ Places)
 
--- a worker gave up, or the answer to a request has a version of which `IsStray` holds; `index` is
--- that of the request
+-- a worker gave up, or the answer to a request has a version of which `IsStray` holds
 abbrev pub IsAnsweringFault : (ℕ → ℕ → Type 0) → RunError → Type 0
 IsAnsweringFault IsStray e =
     ((fault : ServeError) × (e ≡ Serve fault) × IsFaultOfWorker fault)

@@ -39,7 +39,7 @@ pub record IsFreshReply (steps : List LogStep) (client place : ℕ) (q : Request
   pub reply : IsReply q.id version answer line
   pub read : IsReadBefore steps client place version
 
--- the line of a row is fresh; only a reply to a request has a version, so all other lines are
+-- the line of a row is fresh; only a reply to a request has a version, so every other line is fresh
 abbrev pub IsFreshLine : List LogStep → ℕ → ℕ → Result Row RowError → List ℕ → Type 0
 IsFreshLine steps client place (Err why) line = Unit {0}
 IsFreshLine steps client place (Ok (row.Put link)) line = Unit {0}
@@ -61,7 +61,7 @@ HasFreshLines bytes contents steps number client served =
     × HasStopped (IsAnsweredFresh steps number) (λ place s fields t. Unit {0}) why (option_map rows_of (bytes client.requests)) left failed tt tt (contents client.replies) (contents served.replies))
 
 -- In a served run each reply has a version that is at least the count of published batches before
--- its row was read. The steps that show this are the list that the run hands out.
+-- its row was read. The list of steps that the run hands out shows this.
 abbrev pub ServedRepliesAreFresh : Type 0 → Type 0 → Type 0 → Type 0 → Type 0
 ServedRepliesAreFresh W J Q V =
     (updates : Option (List ℕ)) (said : W → Option (List ℕ)) (recorded : J → Option (List ℕ)) (bytes : Q → Option (List ℕ)) (contents : V → Option (List ℕ))

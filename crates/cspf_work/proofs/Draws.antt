@@ -29,7 +29,7 @@ at_least xs rising (suc k) less =
     let same : get_or xs (suc k) 0 ≡ get_or xs (k + 1) 0 = ap (λ n. get_or xs n 0) (let e : suc k ≡ k + 1 = omega arith in e) in
     omega arith
 
--- so a rising list of `bound + 1` numbers can't have them all below the bound
+-- so the numbers of a rising list of `bound + 1` numbers can't all be below the bound
 pub too_many : (xs : List ℕ) (bound : ℕ) → IsStrictlyIncreasing xs → All (λ x. x < bound) xs → length xs ≡ bound + 1 → ⊥
 too_many xs bound rising below long =
     let least = at_least xs rising bound (omega arith) in
@@ -119,7 +119,7 @@ drawn_once bound word workers some all once x = elim (cases_lt x bound) [
   | inr past ↦ let none = times_in-past bound workers all x past in grind (arith, nat_tests)
 ]
 
--- so no request has no answer or two answers, and only memory can be refused
+-- so each request has exactly one answer, and refused memory is the only error of collecting
 pub only_memory : (bound word : ℕ) (workers : List Worker) (lists : List (Vec Reply Global)) (e : ServeError) → 0 < length workers → All (IsDrawnOut bound) workers
     → HoldsEachOnce word (all_drawn workers) → lists ≡ map (λ w. w.done) workers → IsCollectError bound lists e → e ≡ Memory
 only_memory bound word workers lists e some all once same (inl memory) = memory

@@ -128,7 +128,7 @@ pub put_free : (slots : List (Option Answer)) (done : List Reply) (r : Reply) (o
 put_free slots done r (Some a) at inside free is = absurd (false≢true (sym free))
 put_free slots done r None at inside free is = filled_more slots done r (slice_get_read slots (length slots) r.index None refl inside at) is
 
--- the item right after the first of two lists
+-- in `xs ++ y ∷ ys` the item at the index `length xs` is `y`
 pub slice_get-seam : {X : Type 0} (xs : List X) (y : X) (ys : List X) → slice_get (xs ++ y ∷ ys) (length xs) ≡ Some y
 slice_get-seam [] y ys = refl
 slice_get-seam (x ∷ xs) y ys = slice_get-seam xs y ys

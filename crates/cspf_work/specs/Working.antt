@@ -42,8 +42,8 @@ pub record IsIdle (id : CounterId) (w : Worker) : Type 0 where
   pub drawn : w.drawer.drawn ≡ []
   pub counter : w.drawer.counter ≡ id
 
--- At least one worker is there, all are idle, and the counter is for these requests. `before` is
--- what the askers know.
+-- There is at least one worker, all workers are idle, and the counter is for these requests.
+-- `before` is what the askers know.
 pub record AreReady (id : CounterId) (requests : List Request) (before : List AskerState) (workers : List Worker) : Type 0 where
   pub count : id.requests ≡ length requests
   pub some : 0 < length workers
@@ -57,7 +57,8 @@ pub record IsWorkerRun (id : CounterId) (requests : List Request) (before : Aske
   pub drawn : IsNone after.fault → HasDrawnAll (length requests) after
   pub fault : IfSome after.fault IsFaultOfWorker
 
--- what all workers, at least one, have done in their run, if their askers knew `before` at first
+-- what all workers have done in their run, if their askers knew `before` at first; there is at
+-- least one worker
 pub record AreRun (id : CounterId) (requests : List Request) (before : List AskerState) (workers : List Worker) : Type 0 where
   pub some : 0 < length workers
   pub count : length workers ≡ length before

@@ -112,8 +112,7 @@ pub(crate) fn employ<'a>(
     })
 }
 
-/// Takes workers that are done apart, into their askers, replies and drawers. Also returns the
-/// first fault.
+/// Splits workers that are done into their askers, replies and drawers, and finds the first fault.
 fn part<'a>(workers: Vec<Worker<'a>>, room: Room<'a>) -> (Results, Vec<Drawer<'a>>)
     requires room { IsRoomFor (vec_len workers) room }
     requires faults { All (λ w. IfSome w.fault IsFaultOfWorker) workers.items }

@@ -13,7 +13,7 @@ pub fn journals_are_read_back()
     masks_are_spelled();
 }
 
-/// Law: records are only one list of batches, with one rest.
+/// Law: no records are two different lists of batches, or have two different rests.
 pub fn journals_are_one()
     ensures { IsOneJournal }
 {}

@@ -8,8 +8,8 @@ use cspf_rows::journals_are_one;
 pub fn lines_of_a_script()
     ensures { AreLinesOfAScript }
 {
-    // Laws: records are only one journal, and one more batch makes its changes in the database of
-    // the batches before it.
+    // Laws: no records are two different journals, and one more batch makes its changes in the
+    // database of the batches before it.
     journals_are_one();
     absorbing();
 }

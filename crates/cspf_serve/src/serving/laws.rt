@@ -3,8 +3,8 @@ ghost use Rattle.cspf_serve.specs.ServedLaws.{NoReplyIsBehind, ServedRepliesAreF
 use cspf_ero::one_head;
 
 /// Law: in a served run each reply has a version that is at least the count of published batches
-/// before its row was read. The steps that show this are the list that the run hands out. No client
-/// learns of batches in another way before its last row.
+/// before its row was read. The list of steps that the run hands out shows this. Before its last
+/// row no client is notified of published batches.
 pub fn served_replies_are_fresh<W, J, Q, V>()
     ensures { ServedRepliesAreFresh W J Q V }
 {}

@@ -172,7 +172,7 @@ impl<J: Write> Updates<J> {
         self.rows.sink.publisher.tell()
     }
 
-    /// Closes the publisher, and hands its journal's writer back. May wait for clients that are
+    /// Closes the publisher, and hands its journal's writer back. It may wait for clients that are
     /// inside an ask.
     pub(crate) fn close<R: Wait>(self, rt: &R) -> J
         ensures { result ≡ self.sink.publisher.journal }
