@@ -94,8 +94,7 @@ end_from rows router passes =
           (some.0, some.2, λ d. subst (EndsAt router) (sym (get_or_default rows some.0 d some.1 some.2 ∙ some.3)) (inl (same_number some.1.from router some.4)))
     ] refl passes
 
--- routers of which those that are ends of rows are kept, with the column of ends changed to their
--- new places
+-- the routers that are ends of rows are kept, and the column of ends has their new places
 module _ (rows : List Link) (routers ends : List ℕ) (are : IsEndColumn rows routers ends) where
   -- the router that each row runs from is kept
   froms_kept : All (λ l. Contains (filter (is_end_of rows) routers) l.from) rows

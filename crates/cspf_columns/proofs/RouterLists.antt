@@ -98,7 +98,7 @@ Contains-router_list d keyed router = (
   λ is. Contains-from_any (λ x y e. nat_cmp-IsAntisymmetric x y ((Equal-is (nat_cmp x y)).0 e)) router (router_list d) (any-router_list d router ∙ (routers_counted d keyed router).1 is),
 )
 
--- a router that would be inserted isn't in the list
+-- a router that would be inserted between two others isn't in the list
 pub apart_from_gap : (routers : List ℕ) (router at : ℕ) → IsPartitionPoint (λ y. nat_cmp y router ≡ Less) (λ y. nat_cmp y router ≡ Greater) routers at → Contains routers router → ⊥
 apart_from_gap routers router at gap (k, h, is) =
     let tie : nat_cmp (get_or routers k router) router ≡ Equal = ap (λ y. nat_cmp y router) is ∙ tied_itself nat_cmp_total router in

@@ -48,7 +48,7 @@ module _ {A K X : Type 0} {R : K → K → Ordering} (o : IsTotalOrder R) (entry
   pub turned_less : (x y : K) → R x y ≡ Less → R y x ≡ Greater
   turned_less x y e = o.antisymm y x ∙ ap ordering_reverse e
 
-  -- an entry is inserted between those with lower keys and those with higher ones
+  -- an entry is inserted between the entries with lower keys and the entries with higher keys
   pub put-gap : (xs : List A) (i : ℕ) (a : A) → i ≤ length xs
       → AllWithin (λ y. R (entry y).0 (entry a).0 ≡ Less) xs 0 i → AllWithin (λ y. R (entry y).0 (entry a).0 ≡ Greater) xs i (length xs)
       → put R (entry a).0 (entry a).1 (map entry xs) ≡ map entry (insert xs i a)

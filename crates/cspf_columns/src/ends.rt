@@ -2,7 +2,8 @@
 ghost use Rattle.std.specs.Prelude.{◌≡◌, ◌<◌, ◌≤◌, All, length, map, slice_index};
 ghost use Rattle.std.specs.Vec.{vec_capacity};
 
-/// Replaces each index by the router's index in another list: `places` has this for each router.
+/// Replaces the index of each router by its index in another list: `places` has the new index for
+/// each old one.
 pub(crate) fn move_ends(ends: &mut Vec<u16>, places: &[u16])
     requires { All (λ end. end < length places.now) ends.old.items }
     ensures moved { ends.new.items ≡ map (λ end. slice_index places.now end) ends.old.items }

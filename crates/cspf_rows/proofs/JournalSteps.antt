@@ -80,7 +80,7 @@ module _ {R : Type 0} (rem : R → Option (List ℕ)) (all : Option (List (List 
   pub read_behind : (cs : List Change) → ReadsOne rem old new fields → HasRead rem all old bs cs true → new.count ≡ old.count → HasRead rem all new bs cs true
   read_behind cs one h same = read_next cs cs true true bs one h (same ∙ h.count) (λ seen parts. parts_behind bs cs seen fields parts)
 
-  -- there is a row after the last that a journal may have
+  -- there is a row more than a journal may have
   pub read_too_many : (cs : List Change) (ended : Bool) → HasRead rem all old bs cs ended → old.rows ≡ 1000000
       → Takes (rows_left rem old.records) (rows_left rem new.records) true fields → IfSome all (λ rows. 1000000 < length rows)
   read_too_many cs ended h most takes =

@@ -19,7 +19,7 @@ decimal_at [] place within = absurd (omega (arith, within))
 decimal_at (x ∷ xs) zero within = refl
 decimal_at (x ∷ xs) (suc place) within = decimal_at xs place (omega (arith, within))
 
--- the text of a number spells that number
+-- the text that is written for a value spells that value
 number_written : {bound : ℕ} (n : ℕ) → n < bound → SpellsNumber bound (decimal n) n
 number_written n small = record { small = small; written = refl }
 

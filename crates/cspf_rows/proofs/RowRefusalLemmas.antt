@@ -50,7 +50,8 @@ only_error : {A : Type 0} (o : Option A) (why e : RowError) → ok_or o why ≡ 
 only_error (Some x) why e same = absurd (cc)
 only_error None why e same = cc
 
--- an error of two steps is the first step's error, or the second's for a value of the first
+-- an error of two steps is the error of the first step, or the error of the second step for the
+-- first one's value
 first_error : {A B : Type 0} (r : Result A RowError) (f : A → Result B RowError) (e : RowError) → (r >>= f) ≡ Err e → (r ≡ Err e) ⊎ ((x : A) × (r ≡ Ok x) × (f x ≡ Err e))
 first_error (Ok x) f e same = inr (x, refl, same)
 first_error (Err found) f e same = inl (cc)

@@ -35,7 +35,7 @@ unfolding records_from next_record
 none_left zero = refl
 none_left (suc n) = refl
 
--- the records after a read don't depend on the limits `n` and `m` on their number
+-- the records after a read are the same for each limit on their number that is high enough
 same_after : (n m : ℕ) (xs : List ℕ) (o : Option Read) → IfSome o (IsShorter xs)
     → ((s : State) (ys : List ℕ) → length ys < length xs → records_from default_config n s ys ≡ records_from default_config m s ys)
     → records_next (records_from default_config n) o ≡ records_next (records_from default_config m) o

@@ -89,7 +89,7 @@ module _ (accept_torn : Bool) (published : List NumberedChanges) (unfit : Option
   batch_begun kept asked (Ok status) read of_rows begun = tt
   batch_begun kept asked (Err e) read of_rows begun = begun_of kept asked read of_rows begun
 
--- of the line that refuses a stream nothing is written, or the beginning
+-- nothing is written of the line that refuses a stream, or the beginning of this line is written
 pub run_refused_begun : (accept_torn : Bool) (kept asked : Option (List ℕ)) (s : EarlyEnd) (r : Result ℕ RunError) (old new : Option (List ℕ))
     → IfRefused s (λ line. IfSome kept (λ journal. IfSome asked (λ requests. AreStreamsRefused accept_torn (rows_of journal) (rows_of requests) line)))
     → OnErr r (IsRefusalBegun s old new) → OnErr r (IsBegunRun accept_torn kept asked old new)

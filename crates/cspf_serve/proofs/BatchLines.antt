@@ -111,7 +111,7 @@ module _ (accept_torn : Bool) (kept asked : Option (List ℕ)) (published : List
       let is = ran read.0 read.2 in
       (is.0, inr (read.0, read.1, inr (qs, of_rows, is.1)), is.2)
 
-  -- the run ends with a status: all is accepted, or a batch doesn't fit
+  -- the run ends with a status: all batches are accepted, or one doesn't fit
   pub batch_ran : (r : Result ℕ RunError)
       → IfOk r (λ status. (batches : List NumberedChanges) → ArePublishedOrRefused batches published unfit
       → Writes old new (λ lines. IsAcceptedOrUnfit batches qs lines status))

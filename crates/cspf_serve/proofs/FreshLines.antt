@@ -60,7 +60,7 @@ clients_kept place s t [] lines a = ap (λ (x : SessionState). x.client) a.1
 clients_kept place s t (fields ∷ rows) lines a = clients_kept (suc place) a.1 t rows a.2 a.5 ∙ client_kept place s a.1 (row_of fields) a.0 a.3
 
 module _ (all : KnownSteps) (number : ℕ) (order : AreOrderedFrom 0 0 all.steps) where
-  -- a client's row has a reading of the count among the steps
+  -- the steps have a reading of the count for the client's row
   read_of : (place : ℕ) (s t : SessionState) → s.client ≡ number → AreFirstSteps all t.steps → ReadsCount place s t → IsReadBefore all.steps number place (length t.known.batches)
   read_of place s t client first reads =
       let up = reads.caught_up in

@@ -218,7 +218,7 @@ module _ {J : Type 0} (contents : J → Option (List ℕ)) (batches : List Numbe
       numbered few fresh going up refl history answers.count within written)
       lines)
 
-  -- the run ends by an error: of the writer of the lines, or of a worker
+  -- the run ends by an error of the lines' writer or of a worker
   pub run_failed : (ran : Result (Live J) (ServeError × PublisherState J × Vec AskerState Global))
       → IfOk ran (λ live. IfErr ended IsStreamFault) → IfErr ran (λ e. ended ≡ Err (Serve e.0))
       → IfErr ran (λ e. IsFaultOfWorker e.0 ⊎ IsUnaccounted (length requests) (length (e.1).batches) e.0)

@@ -77,7 +77,7 @@ pub room_for_next : {A B : Type 0} (R : A → B → Type 0) (before : List A) (y
 room_for_next R before ys x left after all room pairs whole next most =
     omega (arith, length_pairs R before ys pairs, length-append before left, ap length whole, ap length next, most)
 
--- if no element is left, all were taken
+-- if no element is left, all elements were taken
 pub left_none : {X : Type 0} (before left all : List X) → before ++ left ≡ all → length left ≡ 0 → before ≡ all
 left_none before [] all whole none = sym (append-nil before) ∙ whole
 left_none before (x ∷ left) all whole none = absurd (omega (arith, none))

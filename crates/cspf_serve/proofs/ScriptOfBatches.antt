@@ -93,7 +93,7 @@ changes_after s (c ∷ cs) (x ∷ xs) are =
     row_after s t x xs [] [] s.accepted (s.changes ++ (c ∷ cs)) (change_answered (at_next_row s) c (row_of x) head)
     (rw (← append_assoc s.changes (c ∷ []) cs) (changes_after t cs xs rest))
 
--- records that are read as two lists of rows are two lists of records
+-- records that are read as two lists of rows, one after the other, can be cut into two lists
 record IsCut (xs : Records) (ys zs : List (Result Row RowError)) : Type 0 where
   front : Records
   back : Records

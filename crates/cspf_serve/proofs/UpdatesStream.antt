@@ -57,8 +57,8 @@ abbrev Rows : Type 0
 Rows = List (List (List ℕ))
 
 module _ {J : Type 0} (contents : J → Option (List ℕ)) (first : PublisherState J) where
-  -- If the code takes rows one after the other, they are answered from the state before the first
-  -- row to a state after the last one.
+  -- If the code takes rows one after the other, the specification's answers to them lead from the
+  -- state before the first row to a state after the last row.
   carried : (place : ℕ) (k k' : KeptUpdates J) (s : UpdatesState) (rows : Rows) (lines : List ℕ) → KeepsUpdates contents first k s → place ≡ s.run.rows + 1
       → AreAnswered (IsUpdateTaken contents) place k rows lines k'
       → (t : UpdatesState) × KeepsUpdates contents first k' t × AreAnswered IsUpdateAnsweredAt place s rows lines t × (place + length rows ≡ t.run.rows + 1)

@@ -32,7 +32,7 @@ IsFaultBeyond (error.Refused why) e = ⊥
 IsFaultBeyond error.Memory e = e ≡ Memory
 IsFaultBeyond (error.Journal written) e = e ≡ Device
 
--- How a run ends at a batch by an error. Memory was refused, or the journal failed, and then the
+-- How an error ends a run at a batch. Memory was refused, or the journal failed, and then the
 -- publisher is stopped; or the lines' writer failed, and the batch is published.
 abbrev pub IsPublishingFault : {W : Type 0} → PublisherState W → PublisherState W → NumberedChanges → JudgeError → Type 0
 IsPublishingFault before after b e =

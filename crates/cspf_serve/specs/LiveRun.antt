@@ -40,7 +40,7 @@ IsWhyNot published b error.Memory = Fits (database_after published) b
 IsWhyNot published b (error.Journal written) =
     Fits (database_after published) b × (written < length (batch_text b))
 
--- The bytes of a batch that isn't published which the journal got before its fault.
+-- For a batch that isn't published, the bytes that the journal got before its fault.
 abbrev pub begun_text : NumberedChanges → ApplyError → List ℕ
 begun_text b (error.Journal written) = take written (batch_text b)
 begun_text b why = []

@@ -11,7 +11,7 @@ use Rattle.cspf_judge.specs.Inputs.{AreBatchesOf}
 use Rattle.cspf_judge.specs.declared.early_end.JudgeError.{JudgeError}
 use Rattle.cspf_judge.specs.declared.early_end.JudgeError.TheVariants as judge_error
 
--- the error of a run for an error of reading or writing; each keeps its name
+-- the error of a run for each error of reading or writing, which keeps its name
 abbrev pub judged_error_of : JudgeError → RunError
 judged_error_of judge_error.Memory = Memory
 judged_error_of judge_error.Device = Device
@@ -30,7 +30,7 @@ IsAnsweringFault IsStray e =
     ((fault : ServeError) × (e ≡ Serve fault) × IsFaultOfWorker fault)
     ⊎ ((index : ℕ) × (version : ℕ) × (e ≡ Serve (Unaccounted index version)) × IsStray index version)
 
--- an error of the streams or of the answering ends the run
+-- an error of the streams or of answering the requests ends the run
 abbrev pub IsRunFault : (ℕ → ℕ → Type 0) → RunError → Type 0
 IsRunFault IsStray e = IsStreamFault e ⊎ IsAnsweringFault IsStray e
 

@@ -48,7 +48,7 @@ IsLastLineStopped error.Write line old new = IsLineStopped error.Write line old 
 IsLastLineStopped error.Flush line old new = IsLineStopped error.Flush line old new
 IsLastLineStopped error.TooManyRows line old new = ⊥
 
--- the line that counts the open changes is written, if there are any, or it fails
+-- the line that counts the open changes is written if there are any, or writing it fails
 abbrev pub IsLastLineSaid : Result (Unit {0}) StreamError → List ℕ → Option (List ℕ) → Option (List ℕ) → Type 0
 IsLastLineSaid said line old new =
     MatchResult said (λ done. Appends old new line) (λ error. IsLastLineStopped error line old new)
@@ -102,8 +102,8 @@ abbrev pub AreServedFrom : {Q V : Type 0} → (Q → Option (List ℕ)) → (V �
 AreServedFrom bytes contents published all number clients served =
     AreNumberedPairs (IsServedClient bytes contents published all) number clients served
 
--- The steps of one journal, from its first step on. They record the published batches, count them
--- as published, and begin with the steps `steps`.
+-- `all` has the steps of one journal, from its first step on. They record the published batches,
+-- count them as published, and begin with `steps`.
 pub record AreStepsOfRun (published : List NumberedChanges) (steps : List LogStep) (all : KnownSteps) : Type 0 where
   pub journal : AreJournalSteps all.steps
   pub recorded : BeginsWith (batches_of all.steps) published
@@ -116,7 +116,7 @@ pub record IsAllAccepted {V : Type 0} (t : UpdatesState) (clients : List (Served
   pub none_open : t.run.changes ≡ []
   pub each : All (λ c. c.refused ≡ 0) clients
 
--- the status is 0 if all was accepted, and 2 otherwise
+-- the status is 0 if nothing was refused or left open, and 2 otherwise
 abbrev pub IsServedStatus : {V : Type 0} → UpdatesState → List (ServedClient V) → ℕ → Type 0
 IsServedStatus t clients status =
     (IsAllAccepted t clients × (status ≡ 0)) ⊎ ((¬ IsAllAccepted t clients) × (status ≡ 2))

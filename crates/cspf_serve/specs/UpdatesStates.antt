@@ -50,8 +50,8 @@ pub record IsFresh {J : Type 0} (k : KeptUpdates J) : Type 0 where
   pub clean : k.refused ≡ 0
 
 -- The publisher has the source that it had at the beginning. Its published batches are the accepted
--- ones, and its journal has grown by the text of the state. Its steps go on from those of the
--- state.
+-- ones, and its journal has grown by the text of the state. The steps in `c` go on from the steps
+-- of the state.
 pub record ArePublished {J : Type 0} (contents : J → Option (List ℕ)) (first : PublisherState J) (c : CountedState J) (s : UpdatesState) : Type 0 where
   pub source : c.publisher.source ≡ first.source
   pub batches : c.publisher.batches ≡ s.run.accepted

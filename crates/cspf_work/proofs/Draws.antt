@@ -62,7 +62,7 @@ pub record IsDrawnOut (bound : ℕ) (w : Worker) : Type 0 where
   pub inside : All (λ r. r.index < bound) w.done.items
   pub drawn : HasDrawnAll bound w
 
--- this holds of each worker, if no asker had a fault
+-- if no asker had a fault, each worker did so
 pub drawn_out : (id : CounterId) (requests : List Request) (before : List AskerState) (workers : List Worker) → AreRun id requests before workers
     → All (λ (w : Worker). IsNone w.fault) workers → All (IsDrawnOut (length requests)) workers
 drawn_out id requests before workers run none i d less = record {

@@ -241,7 +241,7 @@ missing_collected count slots lists e long is (inr missing) =
 pub left_step : {X : Type 0} (before : List X) (x : X) (left after all : List X) → before ++ left ≡ all → left ≡ x ∷ after → (before ++ x ∷ []) ++ after ≡ all
 left_step before x left after all whole next = append_assoc before (x ∷ []) after ∙ ap (λ l. before ++ l) (sym next) ∙ whole
 
--- if no item is left, all were taken
+-- if no item is left, all items were taken
 pub left_none : {X : Type 0} (before left all : List X) → before ++ left ≡ all → length left ≡ 0 → before ≡ all
 left_none before [] all whole none = sym (append-nil before) ∙ whole
 left_none before (x ∷ left) all whole none = absurd (omega arith)

@@ -1,7 +1,7 @@
 //! Workers answer many requests at once. Meanwhile a publisher may apply batches. Each worker has
 //! an asker and a thread.
 //!
-//! The workers draw the indexes of their requests from one counter, which is in `cspf_draw`.
+//! The workers draw the indexes of their requests from one counter, which `cspf_draw` defines.
 //!
 //! `specs/Served.antt` defines which answers are right, and which worker answered which request.
 //! `specs/Applied.antt` defines the state after batches are applied up to the first that is

@@ -110,8 +110,8 @@ fn answer_from<J: Write, W: Write, G: Gate + Sync, T: Threads + Sync>(
     }
 }
 
-/// The error of a part, with the index of a request changed from the part's to the whole list's.
-/// `first` is the index of the part's first request.
+/// The error of a part, in which a request's index in the part is replaced by its index in the
+/// whole list. `first` is the index of the part's first request.
 fn error_of_list(first: usize, error: ServeError) -> ServeError
     ensures { IsErrorOfPart first error result }
 {

@@ -138,8 +138,8 @@ pub fn run_batch_with<
     answer(rt, alloc, streams, writer, workers, options.trees, gate)
 }
 
-/// Publishes the batches of a journal, and then answers requests at the last version. What the
-/// publisher writes to its own journal is dropped. Returns the status.
+/// Publishes the batches of a journal, and then answers requests at the last version. The
+/// publisher's journal keeps nothing. Returns the status.
 fn answer<R: Read + Drop, Q: Read + Drop, W: Write, G: Gate + Sync, T: Threads + Wait + Sync>(
     rt: &T,
     alloc: Global,

@@ -20,8 +20,8 @@ use std::io::{Read, Write};
 use std::sync::Wait;
 
 /// Publishes the batches of a journal as they are read, with one batch at a time in memory. The
-/// first batch that doesn't fit isn't published, nor is any batch after it, and the line of that
-/// batch is returned. The journal is read to its end. Rows after the batches are skipped if
+/// first batch that doesn't fit isn't published, and its line is returned. No later batch is
+/// published either. The journal is read to its end. Rows after the batches are skipped if
 /// `accept_torn` says so, and refused otherwise.
 pub(super) fn publish_journal<R: Read + Drop, J: Write, T: Wait>(
     rt: &T,
