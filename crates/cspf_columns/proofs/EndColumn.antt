@@ -66,7 +66,7 @@ module _ (rows : List Link) (routers ends : List ℕ) (are : IsEndColumn rows ro
     };
   }
 
--- the ends of two lists of rows, one after the other
+-- if two lists of rows are joined, so are their columns of ends
 pub ends_joined : (rows more : List Link) (routers ends more_ends : List ℕ) → AreEndsOf rows routers ends → AreEndsOf more routers more_ends → AreEndsOf (rows ++ more) routers (ends ++ more_ends)
 ends_joined rows more routers ends more_ends are also = record {
   within = All-append (λ e. e < length routers) ends more_ends are.within also.within;
@@ -74,14 +74,14 @@ ends_joined rows more routers ends more_ends are also = record {
       map-append (λ e. slice_index routers e) ends more_ends ∙ (λ t. are.each t ++ also.each t) ∙ sym (map-append (λ (l : Link). l.to) rows more);
 }
 
--- the ends of the rows from an index on
+-- the rows from an index on have the column of ends from this index on
 pub ends_behind : (rows : List Link) (routers ends : List ℕ) (at : ℕ) → AreEndsOf rows routers ends → AreEndsOf (drop at rows) routers (drop at ends)
 ends_behind rows routers ends at are = record {
   within = All-drop (λ e. e < length routers) at ends are.within;
   each = sym (drop-map (λ e. slice_index routers e) at ends) ∙ ap (drop at) are.each ∙ drop-map (λ (l : Link). l.to) at rows;
 }
 
--- the ends of the rows between two indices
+-- the rows between two indices have the column of ends between these indices
 pub ends_between : (rows : List Link) (routers ends : List ℕ) (at next : ℕ) → AreEndsOf rows routers ends → AreEndsOf (between at next rows) routers (between at next ends)
 ends_between rows routers ends at next are =
     let behind = ends_behind rows routers ends at are in
@@ -91,7 +91,7 @@ ends_between rows routers ends at next are =
           sym (take-map (λ e. slice_index routers e) (next - at) (drop at ends)) ∙ ap (take (next - at)) behind.each ∙ take-map (λ (l : Link). l.to) (next - at) (drop at rows);
     }
 
--- the ends after one more row
+-- if one more row is appended, the index of the router that it runs to is appended to the column
 pub ends_pushed : (rows : List Link) (routers ends : List ℕ) (l : Link) (end : ℕ) → AreEndsOf rows routers ends → IsPlaceOf routers l.to end → AreEndsOf (rows ++ l ∷ []) routers (ends ++ end ∷ [])
 ends_pushed rows routers ends l end are place =
     ends_joined rows (l ∷ []) routers ends (end ∷ []) are (record {

@@ -29,7 +29,7 @@ kept_below at n m some h = ap (λ b. cond b n (cond (leb at n) m n)) (ne_eqb n N
 
 -- rows and a column of reverses that leaves a key out
 module _ (rows : List Link) (column : List ℕ) (k : Key) (few : length rows ≤ ROOM_FOR_LINKS) (are : AreReversesBut (same_key k) rows column) where
-  -- the pair of a row after the indices are moved
+  -- if indices are moved, a row and its moved index are still a pair
   pair_moved : (new : List Link) (move : ℕ → ℕ) (d : Link) (i j : ℕ) → i < length rows → slice_index_or new j d ≡ slice_index_or rows i d
       → ((n : ℕ) → n < length rows → n ≢ NO_LINK → (¬ same_key k (key_of (slice_index_or rows n d))) → (move n ≢ NO_LINK) × (move n < length new) × (slice_index_or new (move n) d ≡ slice_index_or rows n d))
       → ((n : ℕ) → n ≡ NO_LINK → move n ≡ NO_LINK) → ((x : ℕ) → x < length new → IsFrom (same_key k) rows new d x)
@@ -115,7 +115,7 @@ module _ (rows : List Link) (column : List ℕ) (k : Key) (few : length rows ≤
         ]
       ]
 
-      -- the pair of a row after the insertion
+      -- after the insertion, a row and its moved index are a pair
       pair_behind : (d : Link) (i j : ℕ) → i < length rows → slice_index_or wider j d ≡ slice_index_or rows i d → IsPair (same_key k) wider d j (index_behind at (slice_index_or column i 0))
       pair_behind d i j old same =
           pair_moved wider (index_behind at) d i j old same (λ n inside some _. elim (cases_lt n at) [

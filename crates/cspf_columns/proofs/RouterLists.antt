@@ -117,7 +117,7 @@ none_from_search d router (Err at) place keyed e gap = rw e (λ is. apart_from_g
 pub router_list-nil : [] ≡ router_list (database_of [])
 router_list-nil = router_list-entries [] [] refl (sym (nil_from_length _ (sym (finite.len-entries _) ∙ finite.len-empty nat_cmp (Unit {0}))))
 
--- the ends of a range of the rows
+-- in a range of the rows, the column of ends names the routers that these rows run to
 pub ends_between : (rows : List Link) (routers ends : List ℕ) (first end : ℕ) (part : List Link) → AreEndsOf rows routers ends → between first end rows ≡ part
     → map (λ e. slice_index routers e) (between first end ends) ≡ map (λ (l : Link). l.to) part
 ends_between rows routers ends first end part so is =
@@ -162,7 +162,7 @@ span_within d rows marks routers spans at span e all are h read =
     let is = span_read d rows marks routers spans at span e all are h read in
     (is.order, is.bound)
 
--- the ends of the rows in a router's span
+-- in a router's span, the column of ends names the routers that its links run to
 pub ends_at_part : (d : Database) (rows : List Link) (marks : List ℕ) (routers ends : List ℕ) (first end at : ℕ) → marked_database rows marks ≡ d → routers ≡ router_list (database_of rows) → AreEndsOf rows routers ends
     → between first end rows ≡ links_from_index d at → map (λ n. slice_index (router_list d) n) (between first end ends) ≡ map (λ (l : Link). l.to) (links_from_index d at)
 ends_at_part d rows marks routers ends first end at e all so is =

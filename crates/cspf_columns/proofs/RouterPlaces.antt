@@ -47,7 +47,7 @@ filter_place p (r ∷ rs) (suc k) h on =
       | false ↦ rest
     ]
 
--- the places of all items that the filter keeps
+-- the list of places has the place of each item that the filter keeps
 pub filter_places : (p : ℕ → Bool) (routers places : List ℕ) → ((k : ℕ) → k < length routers → slice_index places k ≡ length (filter p (take k routers))) → ArePlacesIn (filter p routers) routers places
 filter_places p routers places placed at h among =
     subst (IsPlaceOf (filter p routers) (slice_index routers at)) (sym (placed at h))
@@ -64,7 +64,7 @@ moved_one f xs ns i h is =
     let read : slice_index ns i ≡ x = ap (λ ys. slice_index ys i) split ∙ get_or_at front x rest 0 i at in
     (λ t. slice_set (split t) i (f (read t))) ∙ set_at front x rest (f x) i at ∙ sym (ap (λ ys. ys ++ rest) (map_more f xs i 0 h) ∙ append_assoc front (f x ∷ []) rest)
 
--- the ends, changed to the places of their routers in another list
+-- if each end is replaced by its router's place in another list, the ends name the same routers
 pub moved_ends : (others routers places ends : List ℕ) → All (λ e. e < length routers) ends → All (Contains others) (map (λ e. slice_index routers e) ends) → ArePlacesIn others routers places
     → All (λ e. e < length others) (map (λ e. slice_index places e) ends) × (map (λ e. slice_index others e) (map (λ e. slice_index places e) ends) ≡ map (λ e. slice_index routers e) ends)
 moved_ends others routers places [] within among are = (All-nil _, refl)
@@ -77,7 +77,8 @@ moved_ends others routers places (e ∷ ends) within among are =
 pub ends_kept : (others routers ends : List ℕ) → All (λ e. e < length routers) ends → All (Contains others) routers → All (Contains others) (map (λ e. slice_index routers e) ends)
 ends_kept others routers ends within kept = All-map (Contains others) (λ e. slice_index routers e) ends (λ k d h. kept (get_or ends k d) 0 (within k d h))
 
--- the column of ends, for a list that has more routers
+-- if the replaced ends name the same routers in a list of more routers, they are the column of ends
+-- for it
 pub column_more : (rows : List Link) (routers ends others moved : List ℕ) → IsEndColumn rows routers ends → All (Contains others) routers → All (λ e. e < length others) moved
     → map (λ e. slice_index others e) moved ≡ map (λ e. slice_index routers e) ends → IsEndColumn rows others moved
 column_more rows routers ends others moved are kept within same = record {

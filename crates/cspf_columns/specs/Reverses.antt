@@ -27,10 +27,11 @@ no_key k = ⊥
 abbrev pub same_key : Key → Key → Type 0
 same_key key k = k ≡ key
 
--- the index of a row after another row was inserted at the index `at`; `NO_LINK` stays
+-- the new index of a row, after another row was inserted at the index `at`; `NO_LINK` stays as it
+-- is
 abbrev pub index_behind : ℕ → ℕ → ℕ
 index_behind at n = cond (nat_eq n NO_LINK) n (cond (nat_le at n) (n + 1) n)
 
--- the index of a row after the row before the index `at` was removed; `NO_LINK` stays
+-- the new index of a row, after the row before the index `at` was removed; `NO_LINK` stays as it is
 abbrev pub index_before : ℕ → ℕ → ℕ
 index_before at n = cond (nat_eq n NO_LINK) n (cond (nat_le at n) (n - 1) n)

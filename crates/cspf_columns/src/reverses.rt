@@ -117,7 +117,7 @@ pub(crate) fn pair(columns: &mut Columns, at: usize)
     columns.reverses[at] = other;
 }
 
-/// The index of a row after another row was inserted at `at`; `NO_LINK` stays.
+/// The new index of a row, after another row was inserted at `at`. `NO_LINK` stays as it is.
 fn behind(reverse: u16, at: usize) -> u16
     ensures { result ≡ index_behind at reverse }
 {
@@ -128,7 +128,7 @@ fn behind(reverse: u16, at: usize) -> u16
     }
 }
 
-/// The index of a row after the row before `at` was removed; `NO_LINK` stays.
+/// The new index of a row, after the row before `at` was removed. `NO_LINK` stays as it is.
 fn before(reverse: u16, at: usize) -> u16
     ensures { result ≡ index_before at reverse }
 {

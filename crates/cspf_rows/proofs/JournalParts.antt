@@ -114,7 +114,7 @@ parts_behind bs cs seen fields h = record {
   ended = some_more h.behind fields;
 }
 
--- the rows of the records in `whole`, and then what the records in `left` are read as
+-- records are read as the rows of those in `whole`, and then as what those in `left` are read as
 said : (whole left seen : Records) (rows : List Row) → seen ≡ whole ++ left → map row_of whole ≡ read_rows rows → map row_of seen ≡ read_rows rows ++ map row_of left
 said whole left seen rows split read = rw (split, map-append row_of whole left, read) refl
 

@@ -1,5 +1,5 @@
-//! Journals: the longest prefix of a stream of rows that is whole batches with the numbers 1, 2, 3
-//! and so on, and whether rows follow it.
+//! Journals. A journal's batches are the longest prefix of its rows that is whole batches with the
+//! numbers 1, 2, 3 and so on. Rows may follow them.
 
 mod laws;
 mod reader;

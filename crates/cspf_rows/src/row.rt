@@ -129,7 +129,7 @@ impl Row {
     }
 
     /// The row of 10 fields that asks for a route. The first field isn't checked, so another format
-    /// can have rows with these fields after a word of its choice.
+    /// can have rows with these fields after another word.
     #[tactic(auto, using(crate::proofs::AttributeLemmas::refused_ends), unfolding(crate::specs::Rows::ask_row_of))]
     pub fn ask(fields: &ByteRecord) -> Result<Row, RowError>
         ensures { result ≡ ask_row_of (fields_of fields.now) }

@@ -41,7 +41,7 @@ use Rattle.cspf_serve.proofs.Pairs.{numbered_weaker}
 abbrev Rows : Type 0
 Rows = List (List (List ℕ))
 
--- no claim about a row that gets no answer
+-- nothing is claimed of a row that gets no answer
 abbrev Nothing : ℕ → Unit {0} → List (List ℕ) → Unit {0} → Type 0
 Nothing place s fields t = Unit {0}
 

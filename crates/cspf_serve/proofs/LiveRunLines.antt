@@ -271,7 +271,7 @@ IsWrittenLive updates requests status old new begun held =
     IfSome updates (λ kept. IfSome requests (λ asked. (lines : List ℕ) × (text : List ℕ) × IsLiveRun (rows_of kept) (rows_of asked) lines text status
     × Appends old new lines × Appends begun held text))
 
--- both streams are read, and the run is over their batches and requests
+-- both streams are read, and the run publishes their batches and answers their requests
 pub live_ran : (updates requests : Option (List ℕ)) (bs : List NumberedChanges) (qs : List Request) (r : Result ℕ RunError) (old new begun held : Option (List ℕ))
     → IfSome updates (λ bytes. AreBatchesOf false (rows_of bytes) bs) → IfSome requests (λ bytes. AreRequestsOf (rows_of bytes) qs)
     → (AreNumberedFrom 1 bs → IfOk r (λ status. (lines : List ℕ) × (text : List ℕ) × AreAnsweredLive bs qs lines text status

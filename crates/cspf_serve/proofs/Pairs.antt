@@ -5,7 +5,7 @@ use Rattle.cspf_serve.specs.NumberedPairs.{AreNumberedPairs}
 use Rattle.std.proofs.Math.Seq.{take-append_seam}
 use Rattle.std.proofs.lemmas.List.Elements.{All-cons, All-head, All-nil, All-pop, All-tail}
 
--- one more pair
+-- one more pair of related elements
 pub pairs_push : {A B : Type 0} (R : A → B → Type 0) (xs : List A) (ys : List B) (x : A) (y : B) → AllZip R xs ys → R x y → AllZip R (xs ++ x ∷ []) (ys ++ y ∷ [])
 pairs_push R [] [] x y all one = (one, tt)
 pairs_push R [] (b ∷ ys) x y all one = absurd all

@@ -48,7 +48,7 @@ version_more bs made numbered within =
     let number : (get_or bs made none).number ≡ made + 1 = number_at 1 bs made none numbered within ∙ omega arith in
     rw (add-one made, take-suc bs made none within, ← add-one made) (simp flat_map-append (rw (number, append-nil (version_line (made + 1))) refl))
 
--- the versions before one are written, and the beginning of that version's line
+-- the lines of the first `made` versions are written, and the beginning of the next version's line
 pub version_front : (bs : List NumberedChanges) (made : ℕ) (old mid new : Option (List ℕ)) → AreNumberedFrom 1 bs → made < length bs
     → Appends old mid (version_lines (take made bs)) → WritesFront mid new (version_line (made + 1)) → WritesFront old new (version_lines bs)
 version_front bs made old mid new numbered within before begun =

@@ -32,8 +32,8 @@ IsFaultBeyond (error.Refused why) e = ⊥
 IsFaultBeyond error.Memory e = e ≡ Memory
 IsFaultBeyond (error.Journal written) e = e ≡ Device
 
--- How an error ends a run at a batch. Memory was refused, or the journal failed, and then the
--- publisher is stopped; or the lines' writer failed, and the batch is published.
+-- How an error ends a run at a batch. Memory was refused, or a device failed. If the device is the
+-- journal, the publisher is stopped. If it is the lines' writer, the batch is published.
 abbrev pub IsPublishingFault : {W : Type 0} → PublisherState W → PublisherState W → NumberedChanges → JudgeError → Type 0
 IsPublishingFault before after b e =
     (e ≡ Memory)

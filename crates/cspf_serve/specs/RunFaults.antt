@@ -24,7 +24,7 @@ IsStreamFault e = (e ≡ Memory) ⊎ (e ≡ Device)
 abbrev pub IsOpeningFault : RunError → Type 0
 IsOpeningFault e = (e ≡ Memory) ⊎ (e ≡ Places)
 
--- a worker gave up, or the answer to a request has a version of which `IsStray` holds
+-- a worker gave up, or `IsStray` holds of the index of a request and the version of its answer
 abbrev pub IsAnsweringFault : (ℕ → ℕ → Type 0) → RunError → Type 0
 IsAnsweringFault IsStray e =
     ((fault : ServeError) × (e ≡ Serve fault) × IsFaultOfWorker fault)

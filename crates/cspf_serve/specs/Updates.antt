@@ -84,7 +84,7 @@ pub record IsOtherUpdate (s : UpdatesState) (r : Result Row RowError) (line : Li
   pub answered : IsRowAnswered s.run r line t.run
   pub same : t ≡ record { run = t.run; stopped = s.stopped; text = s.text; steps = s.steps }
 
--- one more row is read
+-- the state with one more row read
 abbrev pub at_next_update : UpdatesState → UpdatesState
 at_next_update s = record s { run = at_next_row s.run }
 
