@@ -20,7 +20,7 @@ judged_error_of judge_error.Device = Device
 abbrev pub IsStreamFault : RunError → Type 0
 IsStreamFault e = (e ≡ Memory) ⊎ (e ≡ Device)
 
--- memory was refused, or the list of the journal's readers had no place left
+-- memory was refused, or the replicas of the database had no place left for a reader
 abbrev pub IsOpeningFault : RunError → Type 0
 IsOpeningFault e = (e ≡ Memory) ⊎ (e ≡ Places)
 

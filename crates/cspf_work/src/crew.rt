@@ -20,8 +20,8 @@ pub(crate) struct Room<'a> {
     pub(crate) lists: Vec<Vec<Reply>>,
 }
 
-/// The workers, the last seat of the counter from which they draw, and the memory for their
-/// results.
+/// The workers, the counter from which they draw, and the memory for their results. `first` is the
+/// counter's seat with the draws that no worker was given.
 #[derive(Drop)]
 pub(crate) struct Crew<'a> {
     pub(crate) counter: &'a Counter,

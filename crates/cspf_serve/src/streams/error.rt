@@ -20,11 +20,11 @@ pub enum RunError {
     /// A read failed, or a write failed or took no bytes.
     #[error("a read or a write failed")]
     Device,
-    /// The list of the journal's readers has no place left. No run shows it, since `open` makes a
-    /// place for each reader.
+    /// The replicas of the database have no place left for a reader. No run shows it, since `open`
+    /// makes a place for each reader.
     #[error("no place for a reader")]
     Places,
-    /// A worker didn't answer the requests.
+    /// The workers didn't answer all requests.
     #[error("{0}")]
     Serve(ServeError),
 }
