@@ -16,6 +16,7 @@ use std::thread::Threads;
 /// it, until no index is left. Each index is drawn once, and the indexes that a worker draws are
 /// rising. All workers run at once, each in its own thread. If no thread can be made, they run one
 /// after the other.
+///
 /// All askers are handed back in order, after an error too, and know at least what they knew
 /// before. If several workers have faults, the fault of the first of them is returned.
 pub fn answer_all<G: Gate + Sync, R: Threads + Sync>(

@@ -301,6 +301,7 @@ fn close_run<W, J: Write, Q: Read + Drop, V: Replies + Drop, T: Wait>(
 /// an asker and a thread that answer it, and waits neither for another client nor for the
 /// publisher. Publisher and askers have at most `trees` trees together. The run ends when the
 /// updates and all clients have ended: `IsServedRun`.
+///
 /// An error comes before anything is read. It gives back all inputs except for the updates.
 pub fn run_serve<
     R: Read + Drop,
