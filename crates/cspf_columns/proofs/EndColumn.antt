@@ -31,7 +31,7 @@ all_without P xs i all = All-append P (take i xs) (drop (suc i) xs) (All-take P 
 
 -- rows whose column of ends changes along with them
 module _ (rows : List Link) (routers ends : List ℕ) (are : IsEndColumn rows routers ends) where
-  -- a row for a link whose router is at the index `end`
+  -- a link, and the index `end` of the router that it runs to
   module _ (l : Link) (end : ℕ) (from : Contains routers l.from) (within : end < length routers) (found : slice_index routers end ≡ l.to) where
     -- the row is put over another
     pub put_over : (at : ℕ) → IsEndColumn (slice_set rows at l) routers (slice_set ends at end)

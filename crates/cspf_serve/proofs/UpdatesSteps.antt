@@ -216,7 +216,7 @@ module _ {J : Type 0} (contents : J → Option (List ℕ)) (first : PublisherSta
           (said, ap (λ (x : RunState). x.accepted) d.3),
         )
 
-  -- one more open change
+  -- the row is one more open change
   changed : (c : Change) → IsOfUpdates contents first (record r { changes = r.changes ++ c ∷ [] }) (record s { run = after_change_row s.run c })
   changed c = record {
     published = still_published contents first r.sink s (record s { run = after_change_row s.run c }) of.published refl refl refl refl;

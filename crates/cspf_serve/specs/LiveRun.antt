@@ -29,7 +29,7 @@ AreRepliesWithin published (q ∷ qs) lines =
     (line : List ℕ) × (more : List ℕ) × IsReplyWithin published q line × (lines ≡ line ++ more)
     × AreRepliesWithin published qs more
 
--- Why the next batch after the published ones isn't published. It can't be for its number, or for
+-- Why the first batch after the published ones isn't published. It can't be for its number, or for
 -- too many batches: both were checked when the updates were read.
 abbrev pub IsWhyNot : List NumberedChanges → NumberedChanges → ApplyError → Type 0
 IsWhyNot published b error.Stopped = ⊥

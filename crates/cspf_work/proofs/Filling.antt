@@ -36,7 +36,7 @@ indexes-append (x ∷ xs) ys = ap (λ l. x.index ∷ l) (indexes-append xs ys)
 pub times-append : (x : ℕ) (xs ys : List ℕ) → times x (xs ++ ys) ≡ times x xs + times x ys
 times-append x xs ys = sum_by-append (λ y. cond (eqb y x) 1 0) xs ys
 
--- one more item in a list counts once for the number that it is
+-- a number is in a list with one more item once more, if this item is the number
 pub times-push : (x : ℕ) (xs : List ℕ) (y : ℕ) → times x (xs ++ y ∷ []) ≡ times x xs + cond (eqb y x) 1 0
 times-push x xs y = sum_by_push (λ z. cond (eqb z x) 1 0) xs y
 
