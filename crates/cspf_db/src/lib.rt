@@ -1,5 +1,5 @@
-//! The table that keeps a traffic engineering database. `cspf_model` has the definitions that its contracts
-//! cite, and the types, which stand here too.
+//! The table that keeps a traffic engineering database. Its types, and the definitions that its
+//! contracts use, are those of `cspf_model`, which this crate exports, too.
 #![tactic(auto)]
 
 mod limits;
