@@ -1,4 +1,4 @@
--- A row is known by its step.
+-- Each step is that of only one row.
 use Rattle.std.proofs.Common.{◌≡◌, refl, subst}
 use Rattle.cspf_model.specs.declared.batch.Change.TheVariants as change
 use Rattle.cspf_rows.specs.declared.row.Row.{Row}
