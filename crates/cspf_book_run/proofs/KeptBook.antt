@@ -111,7 +111,7 @@ counted : (b : Bool) (x : Result BookRow RowError) (r : BookRow) → cond b x (E
 counted true x r is = (refl, is)
 counted false x r is = absurd (cc)
 
--- the rows of a book that are made of an `ask` row, of an id, and of a row of the base
+-- the result of a record that is read as this row of a book
 abbrev read_as : BookRow → Result BookRow RowError
 read_as r = Ok r
 
