@@ -17,7 +17,7 @@ use Rattle.cspf_book.specs.Placements.{ends_of_link}
 use Rattle.cspf_book.specs.Alike.{AreAlike}
 use Rattle.cspf_book.proofs.KeyTests.{same_tests}
 
--- the content of an option that has one
+-- the content of an option that isn't `None`
 some_of : {A : Type 0} (o : Option A) → IsSome o → (x : A) × (o ≡ Some x)
 some_of (Some x) h = (x, refl)
 some_of None h = absurd (cc)

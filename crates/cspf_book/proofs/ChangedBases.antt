@@ -12,7 +12,7 @@ use Rattle.cspf_model.specs.Changes.{ChangeKey, change_key_cmp, link_key, mark_k
 use Rattle.cspf_model.proofs.Databases.Keys.{change_keys_same, link_keys_same, mark_apart}
 use Rattle.cspf_model.proofs.Databases.LastChanges.{link_at-after_changes, tied_alone, after_mark, after_changes-append}
 
--- The change is of this key.
+-- The change has this key.
 abbrev pub on_key : ChangeKey → Change → Bool
 on_key k c = eq_by_cmp change_key_cmp k (key_changed c)
 
@@ -46,7 +46,7 @@ marked-after_change d (Node router transit) q =
     chosen true = refl
     chosen false = refl
 
--- The same after changes, which are listed here from the last to the first.
+-- Whether a router is marked after changes. The changes are listed here from the last to the first.
 marked-after_reversed : (d : Database) (cs : List Change) (q : ℕ)
     → set.contains (after_changes d (reverse cs)).marks q ≡ mark_after (find (on_key (mark_key q)) cs) (set.contains d.marks q)
 marked-after_reversed d [] q = refl
@@ -56,7 +56,7 @@ marked-after_reversed d (c ∷ cs) q =
     ∙ marked-after_change (after_changes d (reverse cs)) c q
     ∙ elim (on_key (mark_key q) c) as (λ b. mark_after (cond b (Some c) None) (set.contains (after_changes d (reverse cs)).marks q) ≡ mark_after (cond b (Some c) (find (on_key (mark_key q)) cs)) (set.contains d.marks q)) [ true ↦ refl | false ↦ marked-after_reversed d cs q ]
 
--- The last change of a router's mark decides whether it is marked.
+-- The last change of a router's mark decides whether the router is marked.
 pub marked-after_changes : (d : Database) (cs : List Change) (q : ℕ)
     → set.contains (after_changes d cs).marks q ≡ mark_after (last_on (mark_key q) cs) (set.contains d.marks q)
 marked-after_changes d cs q =
@@ -86,7 +86,7 @@ pub keyed_by_base : (d : Database) (k : Key) (o : Option Link) → AreAtTheirKey
 keyed_by_base d k None keyed is = tt
 keyed_by_base d k (Some l) keyed is = keyed k l (sym is)
 
--- A router is unmarked if a test that equals that of its mark fails.
+-- If two tests are equal, the first fails exactly if the second doesn't hold.
 unmarked : (a b : Bool) → a ≡ b → IsTrue (not b) ↔ (¬ IsTrue a)
 unmarked a true e = (λ t. absurd (false≢true t), λ marked. absurd (marked e))
 unmarked a false e = (λ t marked. false≢true (sym e ∙ marked), λ marked. refl)

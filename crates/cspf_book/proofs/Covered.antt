@@ -16,7 +16,7 @@ use Rattle.cspf_book.proofs.EffectiveLinks.{effective_at}
 use Rattle.cspf_book.proofs.Figures.{figure-le, figure-le-left, free-effective_link}
 use Rattle.cspf_book.proofs.KeyTests.{same_key_test}
 
--- Without one placement, no more is counted than with all.
+-- Without one placement, no more is counted than with all placements.
 pub counted-others : (id : ℕ) (placements : List Placement) (k : Key) (priority : ℕ)
     → counted (others id placements) k priority ≤ counted placements k priority
 counted-others id [] k priority = omega arith

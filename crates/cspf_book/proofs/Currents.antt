@@ -1,4 +1,4 @@
--- Keys at which an effective database is up to date, and how one is updated.
+-- Keys at which an effective database is up to date, and how an effective database is updated.
 use Rattle.std.proofs.Common.{◌≡◌, ℕ, ◌+◌, ◌<◌, ◌||◌, ◌&&◌, Bool, true, false, cond, Option, Some, None, List, [], ◌∷◌, ◌++◌, T, length, map, drop, nat_eq, nat_le, remove, get_or, refl, sym, ap, ◌∙◌, arith}
 use Rattle.std.proofs.Math.Path.{fun_ext}
 use Rattle.std.specs.Ordering.{eq_by_cmp, is_lt}
@@ -78,7 +78,7 @@ same_held before after k l key same =
     ap (λ held. with_free l (figures l.free held) refl)
     (fun_ext (λ p. ap (λ q. counted before q p) key ∙ same p ∙ ap (λ q. counted after q p) (sym key)))
 
--- If the sums of a link are the same for two lists of placements, it stays up to date.
+-- If the sums of a link are the same for two lists of placements, the link stays up to date.
 pub current_along : (base : Database) (before after : List Placement) (d : Database) (k : Key) → AreAtTheirKeys base
     → ((p : ℕ) → counted before k p ≡ counted after k p) → IsCurrentAt base before d k → IsCurrentAt base after d k
 current_along base before after d k keyed same current = current ∙ mapped (link_at base k) refl
@@ -149,7 +149,7 @@ puts_none (Put l) other k = absurd (other l refl)
 puts_none (Remove from local) other k = refl
 puts_none (Node router transit) other k = refl
 
--- In a list of changes, one more was passed over that puts no link.
+-- In a list of changes, one more change was passed over, which puts no link.
 pub current_past : (base : Database) (placements : List Placement) (d : Database) (changes : List Change) (i : ℕ) (c : Change) → i < length changes
     → ((k : Key) → puts_key k (get_or changes i c) ≡ false) → IsCurrentButPut base placements d (drop i changes)
     → IsCurrentButPut base placements d (drop (i + 1) changes)

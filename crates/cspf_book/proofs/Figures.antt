@@ -1,4 +1,4 @@
--- The effective bandwidths of links. A figure is one at a priority.
+-- The figures of links. A figure is the effective bandwidth of a link at a priority.
 use Rattle.std.proofs.Common.{◌≡◌, ℕ, zero, suc, ◌+◌, ◌-◌, ◌<◌, ◌≤◌, List, [], slice_index, refl, ◌∙◌, arith}
 use Rattle.cspf_model.specs.declared.link.Link.{Link}
 use Rattle.cspf_model.specs.Database.{key_of}
@@ -20,7 +20,7 @@ slice_index-figures free held (suc (suc (suc (suc (suc (suc zero)))))) h = refl
 slice_index-figures free held (suc (suc (suc (suc (suc (suc (suc zero))))))) h = refl
 slice_index-figures free held (suc (suc (suc (suc (suc (suc (suc (suc p)))))))) h = absurd (omega arith)
 
--- A figure is at most the figure at each lower number of the priority.
+-- A figure is at most the figure at each more important priority.
 pub figure-le : (free : List ℕ) (held : ℕ → ℕ) (p d q : ℕ) → q ≡ d + p
     → figure free held q ≤ figure free held p
 figure-le free held p zero q e =

@@ -14,7 +14,7 @@ pub remove-behind : (placements : List Placement) (at : ℕ) → length placemen
 remove-behind placements at behind =
     rw (take_all at placements behind, drop_all (suc at) placements (omega arith)) (append-nil placements)
 
--- an index is at most the length
+-- The index of an id is at most the number of placements.
 pub index_of-le : (id : ℕ) (placements : List Placement) → index_of_id id placements ≤ length placements
 index_of-le id placements = prefix_len-le-length (λ p. not (nat_eq (id_of p) id)) placements
 
@@ -93,7 +93,7 @@ none-behind id (p ∷ ps) behind =
       | false ↦ λ e. none-behind id ps (omega arith)
     ] behind
 
--- the placement at the index of an id has it
+-- The placement at the index of an id has this id.
 pub id_at-index_of : (id : ℕ) (placements : List Placement) → index_of_id id placements < length placements
     → has_id id placements ≡ true
 id_at-index_of id [] within = absurd (omega arith)
@@ -103,7 +103,7 @@ id_at-index_of id (p ∷ ps) within =
       | false ↦ λ e. id_at-index_of id ps (omega arith)
     ] within
 
--- The index of an id if none of the placements has the id.
+-- The index of an id, if none of the placements has the id.
 pub index_of-all : (id : ℕ) (placements : List Placement) (at : ℕ) → length placements ≤ at → at ≤ length placements
     → ((k : ℕ) (d : Placement) → k < at → nat_eq (id_of (get_or placements k d)) id ≡ false)
     → at ≡ index_of_id id placements
@@ -111,7 +111,7 @@ index_of-all id [] at behind within before = omega arith
 index_of-all id (p ∷ ps) at behind within before =
     sym (position_or_len_is (λ q. nat_eq (id_of q) id) (p ∷ ps) at p within (λ k h. before k p h) (λ h. absurd (omega arith)))
 
--- The index of an id if the placement at this index has it, and none before has.
+-- The index of an id, if the placement at this index has the id and no placement before has it.
 pub index_of-found : (id : ℕ) (placements : List Placement) (at : ℕ) (p : Placement) → at ≤ length placements
     → ((k : ℕ) (d : Placement) → k < at → nat_eq (id_of (get_or placements k d)) id ≡ false)
     → p ≡ get_or placements at p → id_of p ≡ id → at ≡ index_of_id id placements

@@ -17,7 +17,7 @@ use Rattle.cspf_book.specs.Kept.{no_sums, sums_at, sum_at, HasKeys, KeepsKeys, I
 use Rattle.cspf_book.proofs.Covered.{counted-others}
 use Rattle.cspf_book.proofs.KeyTests.{same_tests, same_key_test}
 
--- One of the first i + 1 links has a key if one of the first i has it, or the next link.
+-- One of the first i + 1 links has a key exactly if one of the first i links has it, or the next link has it.
 has_key-more : (links : List Link) (i : ℕ) (d : Link) (k : Key) → i < length links
     → has_key (take (i + 1) links) k ≡ (has_key (take i links) k || eq_by_cmp key_cmp (key_of (get_or links i d)) k)
 has_key-more links i d k within =
@@ -198,7 +198,7 @@ is_counted c placements at p within is = record {
 pub small_after : (version n m : ℕ) → n ≤ version * 2 ^ 64 → m ≤ n → m ≤ (version + 1) * 2 ^ 64
 small_after version n m small less = omega arith
 
--- A sum and one more bandwidth are within the bound of the next version.
+-- A sum plus one bandwidth is within the bound of the next version.
 pub small_with : (version n m bandwidth : ℕ) → n ≤ version * 2 ^ 64 → bandwidth < 2 ^ 64 → m ≤ n + bandwidth → m ≤ (version + 1) * 2 ^ 64
 small_with version n m bandwidth small narrow more = omega arith
 
@@ -214,7 +214,7 @@ counted_least (r ∷ rs) k p q least =
     same : bandwidth_on k q r ≡ bandwidth_on k p r
     same = ap (λ b. cond (b && has_key r.route k) r.request.bandwidth 0) test
 
--- Sums are small if the placements count at most what those of a version count.
+-- The sums are small if the placements count at most as much as all placements of a version.
 pub sums_small : (c d : Counts) (placements rest : List Placement) (version : ℕ) → HasSameSums c d → IsCountOf c rest
     → ((k : Key) (p : ℕ) → counted rest k p ≤ counted placements k p)
     → ((k : Key) (p : ℕ) → counted placements k p ≤ version * 2 ^ 64) → version < 1000000 → AreSmall d

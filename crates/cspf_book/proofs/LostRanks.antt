@@ -107,7 +107,7 @@ module _ (before after : Database) where
     are = old.are;
   }
 
--- The placement at index i is looked at after the first i.
+-- The placement at index i is looked at after the first i placements.
 module _ (before after : Database) (placements : List Placement) (i : ℕ) (p : Placement) (other : HaveOtherIds placements)
     (within : i < length placements) (is : p ≡ get_or placements i p) where
   whole : take (i + 1) placements ≡ take i placements ++ p ∷ []
@@ -126,7 +126,7 @@ module _ (before after : Database) (placements : List Placement) (i : ℕ) (p : 
   ranks_same ranks new kept are old =
       rw (whole, are) (ranks_kept before after (take i placements) p ranks kept old)
 
--- Swapping two elements and then applying a function is the same as the other order.
+-- Swapping two elements before or after a function is applied to all elements gives the same list.
 map-swap : {A B : Type 0} (f : A → B) (xs : List A) (i j : ℕ) → i < length xs → j < length xs
     → map f (swap xs i j) ≡ swap (map f xs) i j
 map-swap f [] i j first second = refl
@@ -155,7 +155,8 @@ ranked lost sorted moved =
           ap (λ zs. swap zs i j) are ∙ sym (map-swap order_rank order i j i_within j_within),
         )
 
--- A pair that isn't below another pair: the first part is greater, or equal and the second part isn't below.
+-- If a pair isn't below another pair, its first part is greater, or the first parts are equal and its second part
+-- isn't below.
 not_below : (a b m n : ℕ) → is_lt (ordering_then (nat_cmp a b) (nat_cmp m n)) ≡ false → (b < a) ⊎ ((a ≡ b) × (n ≤ m))
 not_below a b m n above = grind (arith, nat_tests)
 

@@ -42,7 +42,7 @@ pub record IsPlacementOf (q : Request) (priority : ℕ) (walk : List Link) (p : 
 abbrev pub links_placed : List Placement → ℕ
 links_placed placements = sum_by (λ p. length p.route) placements
 
--- The book has fewer than the most placements, not counting a placement with this id.
+-- Without a placement of this id, the book has fewer than `MOST_PLACEMENTS` placements.
 abbrev pub HasRoomFor : BookState → ℕ → Type 0
 HasRoomFor s id = length (others id s.placements) < MOST_PLACEMENTS
 

@@ -12,11 +12,11 @@ use Rattle.cspf_book.specs.declared.placement.Placement.{Placement}
 use Rattle.cspf_book.specs.Placements.{ends_of_link, id_of}
 use Rattle.cspf_book.specs.LostRoutes.{IsLost}
 
--- One of the changes is of a link from the router, or of the router's mark.
+-- One of the changes affects the router: a link from it, or its mark.
 abbrev pub changes_router : List Change → ℕ → Bool
 changes_router changes router = list_any (λ c. nat_eq (key_changed c).0 router) changes
 
--- One of the changes is of a router on the placement's route.
+-- One of the changes affects a router on the placement's route.
 abbrev pub touches : List Change → Placement → Bool
 touches changes p =
     changes_router changes p.request.from || list_any (λ l. changes_router changes l.to) p.route
@@ -37,7 +37,7 @@ pub record MayGoOn (d : Database) (q : Request) (links router : ℕ) (l : Link) 
 abbrev pub HaveOtherIds : List Placement → Type 0
 HaveOtherIds placements = AllPairs (λ p r. id_of p ≢ id_of r) placements
 
--- the rank by which placements are sorted: 7 - the holding priority, then the id
+-- the rank by which placements are sorted: 7 minus the holding priority, then the id
 abbrev pub order_rank : Placement → ℕ × ℕ
 order_rank p = (7 - p.hold, id_of p)
 

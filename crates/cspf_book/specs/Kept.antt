@@ -32,11 +32,11 @@ pub record AreSmall (c : Counts) : Type 0 where
 pub record IsWithinSums (c : Counts) (p : Placement) : Type 0 where
   pub at : (k : Key) (priority : ℕ) → priority < 8 → bandwidth_on k priority p ≤ sum_at c k priority
 
--- Each of these links has an entry at its key.
+-- There is an entry at the key of each of these links.
 pub record HasKeys (c : Counts) (links : List Link) : Type 0 where
   pub at : (k : Key) → has_key links k ≡ true → IsSome (get key_cmp c.sums k)
 
--- The placement at an index, if there is one, has an entry for each link of its route.
+-- There is an entry for each link of the route of the placement at an index, if there is such a placement.
 abbrev pub HasKeysAt : Counts → List Placement → ℕ → Type 0
 HasKeysAt c placements at = (d : Placement) → at < length placements → HasKeys c (slice_index_or placements at d).route
 

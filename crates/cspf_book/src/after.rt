@@ -11,7 +11,8 @@ use cspf_addr::Addr;
 use cspf_db::Table;
 use cspf_model::{Change, Link};
 
-/// Whether the change is of this key: of the key of a link, or of the mark of a router.
+/// Whether the change has this key. A change of a link has the link's key, and a change of a mark
+/// has the router and `None`.
 fn is_on(change: &Change, key: (Addr, Option<Addr>)) -> bool
     ensures { result ≡ eq_by_cmp change_key_cmp key (key_changed change.now) }
 {
@@ -19,7 +20,7 @@ fn is_on(change: &Change, key: (Addr, Option<Addr>)) -> bool
     key.0 == other.0 && key.1 == other.1
 }
 
-/// The last change of this key, if there is one.
+/// The last change with this key, if there is one.
 fn last_on(changes: &[Change], key: (Addr, Option<Addr>)) -> Option<&Change>
     ensures { option_copied result ≡ last_on key changes.now }
 {

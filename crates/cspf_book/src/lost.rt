@@ -72,22 +72,22 @@ fn admits(base: &Table, changes: &[Change], placement: &Placement) -> bool
     true
 }
 
-/// Whether one of the changes is of a link from the router, or of the router's mark.
+/// Whether one of the changes affects the router: a link from it, or its mark.
 fn changes_router(changes: &[Change], router: Addr) -> bool
     ensures { result ≡ changes_router changes.now router }
 {
     changes.iter().any(|change| change.key().0 == router)
 }
 
-/// Whether one of the changes is of a router to which one of the links runs.
+/// Whether one of the changes affects a router to which one of the links runs.
 fn changes_end(changes: &[Change], links: &[Link]) -> bool
     ensures { result ≡ list_any (λ l. changes_router changes.now l.to) links.now }
 {
     links.iter().any(|link| changes_router(changes, link.to))
 }
 
-/// Whether one of the changes is of a router on the placement's route. If not, the base still
-/// admits the route after the changes.
+/// Whether one of the changes affects a router on the placement's route. If not, the base still
+/// admits a route that it admits now.
 fn touches(changes: &[Change], placement: &Placement) -> bool
     ensures { result ≡ touches changes.now placement.now }
 {
@@ -102,8 +102,7 @@ fn is_lost(base: &Table, changes: &[Change], placement: &Placement) -> bool
     touches(changes, placement) && !admits(base, changes, placement) && admits(base, &[], placement)
 }
 
-/// Lists a rank for each placement that loses its route: the pair of 7 - the holding priority and
-/// the id.
+/// Lists a rank for each placement that loses its route: 7 minus the holding priority, and the id.
 fn list_ranks(
     alloc: Global,
     base: &Table,

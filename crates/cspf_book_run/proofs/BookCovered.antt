@@ -43,7 +43,7 @@ CoveredOr X b l priority = IsLinkOf b.base l → IsCovered b.placements l priori
 
 -- ---- a line among other lines
 
--- A text that is part of the second of two texts is part of both together.
+-- A text that is part of the second of two texts is part of the joined text.
 later_part : (first before m after : List ℕ) → first ++ (before ++ m ++ after) ≡ first ++ before ++ m ++ after
 later_part first before m after = sym (append_assoc first (before ++ m) after) ∙ ap (λ (z : List ℕ). z ++ after) (sym (append_assoc first before m))
 

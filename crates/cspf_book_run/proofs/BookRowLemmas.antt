@@ -50,7 +50,7 @@ readable_release : (r : Result ℕ RowError) → IfOk (result_map_both book_row.
 readable_release (Ok id) = tt
 readable_release (Err e) = tt
 
--- A row that is read keeps within what a row of a book may have.
+-- A row that is read is readable: a request to place has setup priority 7, and its holding priority is at most 7.
 pub readable_row : (fields : List (List ℕ)) → IfOk (book_row_of fields) IsReadable
 unfolding book_row_of
 readable_row fields =

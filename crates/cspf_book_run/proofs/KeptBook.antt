@@ -134,7 +134,7 @@ of_base : (x : Result Row RowError) (r : BookRow) → result_map_both book_row.B
 of_base (Ok b) r is = (b, sym (ok_same (book_row.Base b) r is), refl)
 of_base (Err e) r is = absurd (cc)
 
--- What a `place` row, a `release` row and a row of the base are read from.
+-- the records from which a `place` row, a `release` row and a row of the base are read
 from_place : (fields : List (List ℕ)) (r : BookRow) → place_row_of fields ≡ Ok r → (q : Request) × (hold : ℕ) × (r ≡ book_row.Place q hold) × (length fields ≡ 10)
 from_place fields r is =
     let n = counted (length fields == 10) (placed_as_asked (ask_row_of fields)) r is in
@@ -147,7 +147,7 @@ from_release fields r is =
     let made = of_id (number_at fields 2) r n.1 in
     (made.0, made.1, eqb-true (length fields) 2 n.0)
 
--- A row of the base is read from the record as it is.
+-- A row of the base is the row of a database that the record spells.
 base_of : (fields : List (List ℕ)) (b : Row) → IsOfKind fields → book_row_of fields ≡ Ok (book_row.Base b) → row_of fields ≡ Ok b
 base_of fields b (inl place) is =
     let made = from_place fields (book_row.Base b) (sym place.1 ∙ is) in absurd (let e : book_row.Base b ≡ book_row.Place made.0 made.1 = made.2 in cc)
@@ -252,7 +252,7 @@ module _ (laws : ReadsRows) where
 abbrev bare : BookState → ℕ → ℕ → BookRunState
 bare book batches answers = record { book = book; batches = batches; changes = []; answers = answers; refused = 0 }
 
--- The text that is kept of n rows is a list of records, and a run over these records has the same book. The
+-- The text that is kept of n rows is a list of records, and a run over these records ends with the same book. The
 -- records and the open changes are together at most as many as the rows.
 record Remakes (n : ℕ) (s t : BookRunState) (text : List ℕ) : Type 0 where
   records : List (List (List ℕ))

@@ -140,8 +140,8 @@ impl BookRows {
         }
     }
 
-    /// The text of the open changes as the batch with this number. Only the changes for which there
-    /// was room are in it.
+    /// The text of the open changes as the batch with this number. It has only those open changes
+    /// that are kept.
     fn text_of_batch(&mut self, alloc: Global, number: u32) -> Result<Vec<u8>, AllocError>
         ensures text { IfOk result (λ text. (s : BookRunState) → KeepsBook self.old s
             → length s.changes ≤ MOST_CHANGES → text.items ≡ batch_text (open_base_batch s number)) }

@@ -43,7 +43,7 @@ fn write_over(alloc: Global, lines: &mut Vec<u8>, over: &[Over]) -> Result<(), A
     Ok(())
 }
 
-/// The line of a link with less than is counted on it.
+/// The `over` line of a link and a priority.
 fn line_of_over(alloc: Global, over: &Over) -> Result<Vec<u8>, AllocError>
     ensures { IfOk result (λ line. line.items ≡ over_line over.now) }
 {

@@ -1,7 +1,7 @@
 use cspf_model::{Change, Request};
 use cspf_rows::Row;
 
-/// What a row asks for, whatever its fields are.
+/// What a row asks for.
 #[derive(Clone, Copy)]
 pub enum Step {
     /// A change, which stays open.

@@ -26,7 +26,7 @@ same_there : (d : Database) (c : Change) (k : Key) → eq_by_cmp change_key_cmp 
 same_there d c k apart =
     link_at-relinked d c k ∙ ap (λ t. cond t (link_left c) (link_at d k)) (change_keys_apart (key_changed c) (link_key k) apart)
 
--- A change doesn't affect whether a change of another key adds a link.
+-- A change doesn't affect whether a change with another key adds a link.
 adds_same : (d : Database) (c b : Change) → eq_by_cmp change_key_cmp (key_changed c) (key_changed b) ≡ false → adds_link (relinked d c) b ≡ adds_link d b
 adds_same d c (Put l) apart = ap (λ o. not (is_some o)) (same_there d c (key_of l) apart)
 adds_same d c (Remove from local) apart = refl
@@ -38,7 +38,7 @@ present_same d c (Put l) apart present = tt
 present_same d c (Node router transit) apart present = tt
 present_same d c (Remove from local) apart present = subst IsSome (sym (same_there d c (from, local) apart)) present
 
--- A change doesn't affect how many changes of other keys add a link.
+-- A change doesn't affect how many changes with other keys add a link.
 counts_same : (d : Database) (c : Change) (cs : List Change) → AllByRecursion (λ y. eq_by_cmp change_key_cmp (key_changed c) y ≡ false) (map key_changed cs)
     → count_by (adds_link (relinked d c)) cs ≡ count_by (adds_link d) cs
 counts_same d c [] apart = refl
@@ -73,7 +73,7 @@ one_count d (Remove from local) present =
 joined : (after between before less more also one two : ℕ) → after + less ≡ between + also → also ≡ more → between + one ≡ before + two → after + (one + less) ≡ before + (two + more)
 joined after between before less more also one two e same step = omega arith
 
--- How many links there are after changes of distinct keys.
+-- How many links there are after changes with distinct keys.
 count_after : (d : Database) (cs : List Change) → AreOnceEach cs → AllByRecursion (IsPresent d) cs
     → link_count (all_relinked d cs) + count_by removes_link cs ≡ link_count d + count_by (adds_link d) cs
 unfolding IsDistinct

@@ -204,7 +204,7 @@ one_mark marks (Node router true) =
 joined : (after between before less more also one two gone : ℕ) → after + less ≡ between + also → also ≡ more → less ≡ gone → between + one ≡ before + two → after + (one + gone) ≡ before + (two + more)
 joined after between before less more also one two gone e same alike step = omega arith
 
--- How many marks there are after changes of distinct keys.
+-- How many marks there are after changes with distinct keys.
 pub marks_count : (marks : set.FinSet nat_cmp) (cs : List Change) → AreOnceEach cs → set.len (all_marked marks cs) + count_by (removes_mark marks) cs ≡ set.len marks + count_by (adds_mark marks) cs
 unfolding IsDistinct
 marks_count marks [] once = refl

@@ -123,7 +123,7 @@ left_first d (Remove from local) = get-remove keys_total d.links (from, local) (
 left_first d (Node router transit) =
     after_mark d.marks router router transit ∙ ap (λ b. cond b (not transit) (set.contains d.marks router)) ((eq_by_cmp_equiv nat_cmp_total).refl router)
 
--- After another change of another key, the database still has what the first change leaves.
+-- After a change with another key, the database still has what the first change leaves.
 left_then : (e : Database) (c b : Change) → eq_by_cmp change_key_cmp (key_changed c) (key_changed b) ≡ false → HasLeft e c → HasLeft (after_change e b) c
 left_then e (Put l) b apart is = link_at-after_change e b (key_of l) ∙ ap (λ t. cond t (link_left b) (link_at e (key_of l))) apart ∙ is
 left_then e (Remove from local) b apart is = link_at-after_change e b (from, local) ∙ ap (λ t. cond t (link_left b) (link_at e (from, local))) apart ∙ is
@@ -136,7 +136,7 @@ left_at_last : (e : Database) (c : Change) (cs : List Change) → AllByRecursion
 left_at_last e c [] apart is = is
 left_at_last e c (b ∷ cs) apart is = left_at_last (after_change e b) c cs apart.1 (left_then e c b apart.0 is)
 
--- After changes of distinct keys, the database has what each of them leaves.
+-- After changes with distinct keys, the database has what each of them leaves.
 each_left : (d : Database) (cs : List Change) → AreOnceEach cs → AllByRecursion (HasLeft (after_changes d cs)) cs
 unfolding IsDistinct
 each_left d [] once = tt
@@ -157,6 +157,6 @@ any_changes d e (c ∷ cs) left on is =
       | false ↦ λ _ rest. any_changes d e cs left.1 rest is
     ] refl on
 
--- If one of the changes, which are of distinct keys, changes the shape, the database afterwards has another shape.
+-- If changes have distinct keys and one of them changes the shape, the database afterwards has another shape.
 pub shape_changed : (d : Database) (cs : List Change) → AreOnceEach cs → list_any (reshapes d) cs ≡ true → HaveOneShape d (after_changes d cs) → ⊥
 shape_changed d cs once on is = any_changes d (after_changes d cs) cs (each_left d cs once) on is

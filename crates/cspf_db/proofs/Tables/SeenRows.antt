@@ -1,4 +1,4 @@
--- Which row each change is of, and changes of which no two are of the same row.
+-- Which row each change affects, and changes of which no two affect the same row.
 use mathlib.Core.Bool.{true≢false}
 use Rattle.std.proofs.Common.{◌≡◌, ◌≢◌, ℕ, ◌+◌, ◌<◌, ◌||◌, Bool, true, false, not, Option, Some, None, IfSome, IfNone, List, All, [], ◌∷◌, take, length, get_or, slice_index_or, Result, Ok, Err, IfOk, IsOkAnd, IsSomeAnd, inl, inr, refl, sym, ap, subst, ◌∙◌, arith}
 use Rattle.std.specs.Ordering.{eq_by_cmp}
@@ -25,7 +25,7 @@ pub record IsRowWith (rows : List Link) (k : Key) (row : Option ℕ) : Type 0 wh
   pub some : IfSome row (HoldsAt (λ l. key_of l ≡ k) rows)
   pub none : IfNone row (All (λ l. key_of l ≢ k) rows)
 
--- A change of a link's key is of the row with this key.
+-- A change with a link's key affects the row with this key.
 pub row_of_key : (rows : List Link) (change : Change) (k : Key) (row : Option ℕ) → link_key k ≡ key_changed change → IsRowWith rows k row → IsRowOf rows change row
 row_of_key rows change k None is found = record { bound = tt; some = tt; none = λ i d h e. found.none i d h (link_keys_same (key_of (get_or rows i d)) k (e ∙ sym is)) }
 row_of_key rows change k (Some at) is found = record { bound = found.bound; some = λ d. ap link_key (found.some d) ∙ is; none = tt }
@@ -66,7 +66,7 @@ seen_more rows by_key changes at change h is (Some row) found old new one before
       ap not (list_any_more tie changes at change h ∙ ap (λ b. b || tie (get_or changes at change)) others ∙ this);
 }
 
--- If the tally knows it, no two changes have the same key.
+-- If the tally says so, no two changes have the same key.
 pub told_apart : (c : Columns) (changes : List Change) (r : Result Tally ℕ) → IfOk r (IsTallyOf c changes) → IsOkAnd r (λ t. t.apart ≡ true) → AreOnceEach changes
 told_apart c changes (Ok t) is on = is.apart on
 told_apart c changes (Err at) is on = absurd on

@@ -1,4 +1,4 @@
--- Private: which row each change is of, and what a tally of changes says.
+-- Private: which row each change affects, and what a tally of changes says.
 use Rattle.std.specs.Prelude.{◌≡◌, ◌≢◌, ◌*◌, ◌<◌, ◌≤◌, ℕ, Bool, true, false, Option, IfSome, IfNone, List, All, length, count_by, take, slice_index_or, slice_set}
 use Rattle.std.specs.List.{AllWithin, HoldsAt}
 use Rattle.cspf_columns.specs.AlikeChanges.{IsAlike}
@@ -14,7 +14,7 @@ use Rattle.cspf_model.specs.Lemmas.RepeatedKeys.{IsNewAt}
 use Rattle.cspf_model.specs.Lemmas.RowsLeft.{adds_link, is_untouched}
 use Rattle.cspf_model.specs.Refusals.{AreOnceEach, RemovesNothing}
 
--- the index of the row that the change is of, if there is one
+-- the index of the row with the change's key, if there is one
 pub record IsRowOf (rows : List Link) (change : Change) (row : Option ℕ) : Type 0 where
   pub bound : IfSome row (λ at. at < length rows)
   pub some : IfSome row (HoldsAt (λ l. link_key (key_of l) ≡ key_changed change) rows)

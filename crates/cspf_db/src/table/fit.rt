@@ -41,7 +41,7 @@ fn has_too_many_links(columns: &Columns, changes: &[Change], added: usize) -> bo
     after > MOST_LINKS
 }
 
-/// Whether the tally knows that no two changes are of the same key.
+/// Whether the tally says that no two changes have the same key.
 fn tells_apart(tally: &Result<Tally, usize>) -> bool
     ensures { result ≡ true → IsOkAnd tally.now (λ tally. tally.apart ≡ true) }
 {

@@ -87,7 +87,8 @@ fn set_mark(marks: &mut Vec<Addr>, router: Addr, transit: bool)
     }
 }
 
-/// Makes those changes that are of marks. There is room, so this takes no memory.
+/// Makes the changes of marks, and leaves out all other changes. There is room, so this takes no
+/// memory.
 pub(super) fn change_marks(marks: &mut Vec<Addr>, changes: &[Change])
     requires rising { AreRising marks.old.items }
     requires room { vec_len marks.old + length changes.now ≤ vec_capacity marks.old }

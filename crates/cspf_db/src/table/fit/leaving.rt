@@ -67,8 +67,7 @@ fn is_gone(columns: &Columns, changes: &[Change], place: usize) -> bool
     !any_left_to(&columns.rows, &columns.ends, changes, place)
 }
 
-/// Whether a router leaves that is an end of the row that the change is of. If there is no such
-/// row, none leaves.
+/// Whether the change affects a row, and an end of this row is a router that leaves.
 fn takes_one(columns: &Columns, changes: &[Change], change: &Change) -> bool
     requires columns { AreColumns columns.now }
     ensures { result ≡ true → HasGone columns.now.rows.items columns.now.routers.items changes.now }

@@ -32,11 +32,11 @@ pub struct Tally {
     pub brought: usize,
     /// Whether each change puts a link over a link that runs between the same interfaces.
     pub alike: bool,
-    /// Whether it is known that no two changes are of the same row.
+    /// Whether it is known that no two changes affect the same row.
     pub apart: bool,
 }
 
-/// The index of the row that the change is of, if there is one.
+/// The index of the row with the change's key, if there is one.
 fn row_of(rows: &[Link], change: &Change) -> Option<usize>
     requires { AreByKey rows.now }
     ensures { IsRowOf rows.now change.now result }
@@ -72,7 +72,7 @@ fn count_new_end(columns: &Columns, at: usize, link: &Link) -> usize
     }
 }
 
-/// What a put does. `row` is the index of the row that it is of.
+/// What a put does. `row` is the index of the row with the link's key, if there is one.
 fn tally_put(columns: &Columns, link: &Link, row: Option<usize>) -> Tally
     requires columns { AreColumns columns.now }
     requires row { IsRowOf columns.now.rows.items (Change.Put link.now) row }
@@ -100,8 +100,8 @@ fn tally_put(columns: &Columns, link: &Link, row: Option<usize>) -> Tally
     }
 }
 
-/// What a change does. `row` is the index of the row that it is of. `None` if it removes a link
-/// that isn't there.
+/// What a change does, or `None` if it removes a link that isn't there. `row` is the index of the
+/// row with the change's key, if there is one.
 fn tally_one(columns: &Columns, change: &Change, row: Option<usize>) -> Option<Tally>
     requires columns { AreColumns columns.now }
     requires row { IsRowOf columns.now.rows.items change.now row }
@@ -139,8 +139,8 @@ fn tally_one(columns: &Columns, change: &Change, row: Option<usize>) -> Option<T
     }
 }
 
-/// Marks the row that a change is of as seen. Returns false if there is no such row, or no room for
-/// its mark, or if it was seen already.
+/// Marks a row as seen. Returns false if there is no row, if `seen` has no place for it, or if it
+/// was seen already.
 fn see(seen: &mut [bool], row: Option<usize>) -> bool
     ensures { result ≡ true → IsSomeAnd row (IsSeenAt seen.old seen.new) }
 {
@@ -185,7 +185,8 @@ fn tally_each(columns: &Columns, changes: &[Change], seen: &mut [bool]) -> Resul
 }
 
 /// What the changes do. If one removes a link that isn't there, returns the index of the first such
-/// change. Only for many changes it is found out whether no two are of the same row.
+/// change. Only for more than `FEW` changes it is found out whether no two changes affect the same
+/// row.
 pub(super) fn tally_all(columns: &Columns, changes: &[Change]) -> Result<Tally, usize>
     requires columns { AreColumns columns.now }
     requires short { length changes.now ≤ MOST_CHANGES }
