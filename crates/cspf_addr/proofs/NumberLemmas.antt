@@ -19,7 +19,7 @@ pub chosen : (b : Bool) (v n : ℕ) → cond b (Some v) None ≡ Some n → (b �
 chosen true v n same = (refl, cc)
 chosen false v n same = absurd (cc)
 
--- The first byte of a text with several bytes isn't `0`.
+-- A text without a leading zero isn't empty, and its first byte is `0` only if this is its only byte.
 plain_start : (text : List ℕ) → has_plain_start text ≡ true
     → (0 < length text) × (get_or text 0 0 ≡ 48 → length text ≡ 1)
 plain_start text plain = (

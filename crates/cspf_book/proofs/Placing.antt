@@ -36,7 +36,7 @@ answer_placed old new q hold room (route walk) p (own, its, few) left placements
   version = version;
 }
 
--- If nothing is offered to the request in the effective database, it isn't placed.
+-- If nothing is offered to the request in the effective database, the request isn't placed.
 pub place_error : (s : BookState) (q : Request) (room : ℕ) (why : PlaceError)
     → HasRoomFor s q.id → links_placed (others q.id s.placements) + room ≡ MOST_ROUTES_LINKS
     → IsOfferRefused (effective_beside s q.id) q room why → IsPlaceError s q why

@@ -117,7 +117,7 @@ followed_from d q (w ∷ ws) (l ∷ ls) is_walk along =
       followed_later d q 1 l.to ws ls is_walk.links.1 (subst (λ r. AreJoined r ws) (to_same w l alike) is_walk.joined.1) is_walk.transit rest,
     )
 
--- The database admits a placement's route exactly if it can be followed by the request with bandwidth 0.
+-- The database admits a placement's route exactly if the route can be followed by the request with bandwidth 0.
 pub admits_followed : (d : Database) (p : Placement)
     → IsFollowed d (without_bandwidth p.request) 0 p.request.from p.route ↔ AdmitsRoute d p
 admits_followed d p = (
@@ -141,7 +141,7 @@ its_link d q l found is keyed to admitted = (
       subst (HasReverse d) (sym one) its.admissible.usable.reverse,
 )
 
--- The link at index i of a route that can be followed from there.
+-- The link at index i of a route that can be followed from this index on.
 module _ (d : Database) (q : Request) (route items : List Link) (i router : ℕ) (l : Link) (whole : items ≡ route) (within : i < length items)
     (is : l ≡ get_or items i l) where
   first_of : IsFollowed d q i router (drop i route) ≡ IsFollowed d q i router (l ∷ drop (i + 1) route)

@@ -1,5 +1,5 @@
 //! The table that keeps a traffic engineering database, with the lists that the search reads. Each
-//! module of `table/` has one list, or one step of a change.
+//! module of `table/` has one list, or one step of absorbing a batch.
 
 ghost use Rattle.std.specs.Prelude.{◌≡◌, ◌<◌, ◌≤◌, ◌↔◌, ℕ, All, Contains, length, map, slice_index, slice_index_or, IfOk, OnOk, IfErr, OnErr, IfSome, IfNone, IsTrue};
 ghost use Rattle.std.specs.Vec.{vec_capacity};

@@ -25,7 +25,7 @@ take-append-short zero xs x short = absurd (omega arith)
 take-append-short (suc n) [] x short = ap (λ ys. x ∷ ys) (sym (take-nil n))
 take-append-short (suc n) (y ∷ xs) x short = ap (λ ys. y ∷ ys) (take-append-short n xs x (omega arith))
 
--- If a prefix is full, one more change at the end of the list doesn't change it.
+-- If a prefix is full, one more change at the end of the list doesn't change the prefix.
 take-append-full : {A : Type 0} (n : ℕ) (xs ys : List A) → n ≤ length (take n xs) → take n xs ≡ take n (xs ++ ys)
 take-append-full zero xs ys full = refl
 take-append-full (suc n) [] ys full = absurd (omega arith)

@@ -18,7 +18,7 @@ refused_batch_line number refusal = codes "batch " ++ decimal number ++ codes " 
 abbrev pub unended_line : ℕ → List ℕ
 unended_line count = codes "unended " ++ decimal count ++ codes "\n"
 
--- the line that stands for rows that aren't read
+-- the line in place of the rows past the limit, which aren't read
 abbrev pub too_many_line : List ℕ
 too_many_line = codes "too many rows\n"
 

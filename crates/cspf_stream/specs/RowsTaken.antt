@@ -55,7 +55,7 @@ module _ {S : Type 0} (spec : SinkSpec S) where
     pub line_is : line ≡ version_line number
     pub after : t ≡ record { sink = t.sink; changes = []; answers = s.answers; refused = s.refused }
 
-  -- The batch of an end row is refused. Afterwards no change is open, too.
+  -- The batch of an end row is refused. Afterwards no change is open.
   pub record IsEndRefused (s : RowsState S) (number count : ℕ) (line : List ℕ) (t : RowsState S) : Type 0 where
     pub why : BatchRefusal
     pub dropped : IsBatchDropped s.sink number count s.changes why t.sink

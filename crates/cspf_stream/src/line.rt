@@ -11,7 +11,7 @@ pub enum StreamLine {
     RefusedBatch { number: u32, refusal: BatchRefusal },
     /// This many changes are still open after the last row, so they are in no batch.
     Unended { count: u64 },
-    /// The line that stands for the rows past the limit, which aren't read.
+    /// The line in place of the rows past the limit, which aren't read.
     TooManyRows,
 }
 

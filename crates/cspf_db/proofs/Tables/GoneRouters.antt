@@ -52,7 +52,7 @@ all_three true false true from to = absurd (cc)
 all_three true false false from to = refl
 all_three false f t from to = refl
 
--- If no row is left from a router, and no row is left to it, then it is no end of a row that is left.
+-- If no row that is left runs from a router, and none runs to it, then the router is no end of a row that is left.
 pub nothing_left : (rows : List Link) (routers ends : List ℕ) (cs : List Change) (place : ℕ) → AreRising routers → AreEndsOf rows routers ends → place < length routers
     → list_any (is_untouched cs) (filter (λ l. nat_eq l.from (slice_index routers place)) rows) ≡ false
     → ((at : ℕ) (d : Link) → at < length rows → (nat_eq (slice_index ends at) place && is_untouched cs (slice_index_or rows at d)) ≡ false)

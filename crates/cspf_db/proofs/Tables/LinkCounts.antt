@@ -98,7 +98,8 @@ difference_after rows cs by_key once present = less _ _ _ (sum_after rows cs by_
     less : (n r s : ℕ) → n + r ≡ s → n ≡ s - r
     less n r s e = omega arith
 
--- If something holds of the elements before an index and of the element at it, it holds of all up to it.
+-- If P holds of the elements before an index and of the element at this index, P holds of all elements before the
+-- next index.
 pub within_more : {A : Type 0} (P : A → Type 0) (xs : List A) (at : ℕ) (x : A) → at < length xs → x ≡ get_or xs at x → P x → AllWithin P xs 0 at → AllWithin P xs 0 (at + 1)
 within_more P xs at x h is here before = AllWithin-more P xs 0 at before (λ d. subst P (is ∙ get_or_default xs at x d h) here)
 

@@ -46,7 +46,7 @@ new_here [] changes at change row seen h is inside on unseen before d = absurd (
 new_here (l ∷ rows) changes at change row seen h is inside on unseen before d =
     subst (λ k. is_changed (take at changes) k ≡ false) (on l ∙ ap key_changed (is ∙ get_or_default changes at change d h)) (off (is_changed (take at changes) (link_key (key_of (get_or (l ∷ rows) row l)))) (before.untouched row l inside unseen))
 
--- After the row is marked as seen, this also holds for the next index.
+-- After the row of the change at an index is marked as seen, `AreOnSeenRows` holds for the next index.
 pub seen_more : (rows : List Link) → AreByKey rows → (changes : List Change) (at : ℕ) (change : Change) → at < length changes → change ≡ get_or changes at change → (row : Option ℕ) → IsRowOf rows change row
     → (old new : List Bool) → IsSomeAnd row (IsSeenAt old new) → AreOnSeenRows rows changes old at → AreOnSeenRows rows changes new (at + 1)
 seen_more rows by_key changes at change h is None found old new one before = absurd one

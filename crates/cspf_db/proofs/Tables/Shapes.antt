@@ -51,7 +51,7 @@ ends-shapes_in : (es : List (Key × Link)) → ends_of (map (λ e. e.1) es) ≡ 
 ends-shapes_in [] = refl
 ends-shapes_in (e ∷ es) = ap (λ ns. e.1.from ∷ e.1.to ∷ ns) (ends-shapes_in es)
 
--- They have the same routers in the same order.
+-- Two databases with the same shape have the same routers in the same order.
 pub shapes_tell : ShapesTellRouters
 unfolding router_list
 shapes_tell d e is =

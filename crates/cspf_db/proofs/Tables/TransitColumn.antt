@@ -17,8 +17,8 @@ use Rattle.cspf_db.proofs.Tables.MarkChanges.{marked_at}
 use Rattle.cspf_columns.proofs.RouterPlaces.{lower}
 
 module _ (marks : List ℕ) (router at : ℕ) (rising : AreRising marks) (below : (k : ℕ) → k < at → slice_index marks k < router) where
-  -- If the marks before an index are below a router, and the mark at it is above, the router isn't among the
-  -- marks.
+  -- If the marks before an index are below a router, and the mark at this index is above it, the router isn't
+  -- among the marks.
   none_there : (at < length marks → router < slice_index marks at) → Contains marks router → ⊥
   none_there above (k, h, is) =
       let here : slice_index marks k ≡ router = get_or_default marks k 0 router h ∙ is in

@@ -58,8 +58,9 @@ fn add_puts(routers: &mut Routers, changes: &[Change]) -> bool
     true
 }
 
-/// Whether a quick count shows that there are at most 1,024 routers after the changes. Either the
-/// new routers, each counted once, don't make more. Or they make 1,025, and some router leaves.
+/// Whether a quick count shows that there are at most 1,024 routers after the changes. Either there
+/// are at most 1,024 routers if all stay and each new router is counted once. Or there would be
+/// 1,025, and some router leaves.
 fn fit_by_one(columns: &Columns, changes: &[Change]) -> bool
     requires columns { AreColumns columns.now }
     requires short { length changes.now ≤ MOST_CHANGES }

@@ -11,12 +11,12 @@ use std::marker::Model;
 /// How many slots the hash table of the set has.
 const SLOTS: usize = 4096;
 
-/// In how many slots a router is searched at most.
+/// How many slots are tried at most for a router.
 const TRIES: u32 = 16;
 
 /// A set of at most 1,024 routers, kept as numbers in `found`. `places` is a hash table: a slot has
-/// the place of a router in `found`, counted from 1, or 0 if the slot is free. A router has the
-/// first free slot of those that follow its hash.
+/// the place of a router in `found`, counted from 1, or 0 if the slot is free. The place of a
+/// router is in the first slot, from its hash on, that was free.
 #[derive(Drop)]
 pub struct Routers {
     found: [u32; MOST_ROUTERS],
