@@ -1,4 +1,4 @@
-//! Lookups in the database that the base would become by changes. The changes aren't made.
+//! Lookups in the database that changes would make of the base. The changes aren't made.
 
 ghost use Rattle.std.specs.Prelude.{◌≡◌, ◌↔◌, IsTrue, IfSome};
 ghost use Rattle.std.specs.Ordering.{eq_by_cmp};

@@ -79,7 +79,7 @@ impl Book {
         })
     }
 
-    /// The version: how many base batches, placements and releases were accepted.
+    /// The version: how many base batches, placements and releases were accepted together.
     pub fn version(&self) -> u32
         ensures { result ≡ self.now.version }
     {
@@ -122,8 +122,8 @@ impl Book {
         best(alloc, &self.effective, request)
     }
 
-    /// Lists where the batch puts a link with less unreserved bandwidth than the placements count
-    /// on its key. There is one entry for each such link and priority, in the batch's order and
+    /// Lists the links that the batch puts with less unreserved bandwidth than the placements count
+    /// on their keys. There is one entry for each such link and priority, in the batch's order and
     /// from priority 0 to 7. It isn't checked whether the batch fits.
     pub fn over(&self, alloc: Global, batch: &Batch) -> Result<Vec<Over>, AllocError>
         ensures { IfOk result (λ list. list.items ≡ over self.now.placements batch.now.changes) }

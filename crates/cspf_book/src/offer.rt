@@ -110,8 +110,8 @@ fn offer(
     offer_of(alloc, outcome, request, hold, room)
 }
 
-/// As `offer`, and makes entries of `counts` for the links of the offered placement. No sum
-/// changes.
+/// Does the same as `offer`, and makes entries of `counts` for the links of the offered placement.
+/// No sum changes.
 pub(crate) fn offer_counted(
     alloc: Global,
     table: &Table,

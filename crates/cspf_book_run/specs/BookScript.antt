@@ -126,8 +126,9 @@ IsBaseRefusal s number count (refusal.Unfit why) =
 IsBaseRefusal s number count refusal.Memory = ⊥
 IsBaseRefusal s number count (refusal.Journal written) = ⊥
 
--- The lines of an accepted base batch: an `over` line for each link and priority at which more is counted than the
--- link has, a `lost` line for each placement that loses its route, and the line of the batch.
+-- The lines of an accepted base batch. First comes an `over` line for each link and priority at which more is
+-- counted than the link has. Then comes a `lost` line for each placement that loses its route, and last the line
+-- of the batch.
 abbrev pub AreBaseLines : BookRunState → ℕ → List ℕ → Type 0
 AreBaseLines s number lines =
     (ids : List ℕ) × AreLost s.book.base (after_changes s.book.base s.changes) s.book.placements ids

@@ -32,8 +32,8 @@ abbrev pub IsSaidOver : List ℕ → Link → ℕ → Type 0
 IsSaidOver lines l priority =
     (before : List ℕ) × (after : List ℕ) × (lines ≡ before ++ over_line (over_at l priority) ++ after)
 
--- From a state in which each link is covered, as at the start, any rows lead to a state in which each link of the
--- base is covered at each priority, or the lines of these rows have the link's `over` line.
+-- From a state in which each link is covered, as at the start, any rows lead to a state of which this holds. Each
+-- link of the base is covered at each priority, or the lines of these rows have the link's `over` line.
 abbrev pub RowsCoverOrSay : Type 0
 RowsCoverOrSay =
     (place : ℕ) (s t : BookRunState) (rows : List (List (List ℕ))) (lines : List ℕ)

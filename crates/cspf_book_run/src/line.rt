@@ -11,9 +11,9 @@ use cspf_ero::reply_line;
 use cspf_model::Outcome;
 use std::alloc::{AllocError, Global};
 
-/// The lines of an accepted base batch: an `over` line for each link and priority with less
-/// bandwidth than is counted, a `lost` line for each placement that loses its route, and the line
-/// of the batch.
+/// The lines of an accepted base batch. First comes an `over` line for each link and priority with
+/// less bandwidth than is counted. Then comes a `lost` line for each placement that loses its
+/// route, and last the line of the batch.
 pub(crate) fn base_lines(
     alloc: Global,
     over: &[Over],

@@ -4,9 +4,9 @@ ghost use Rattle.csv.specs.Records.{fields_of};
 use csv::ByteRecord;
 use std::alloc::{AllocError, Global};
 
-/// Answers the rows of a stream, one after the other. It gets the fields of each row, so an
-/// implementation can have rows of its kind; `Row::read` reads the rows of a database. `context` is
-/// what answering needs but no answer depends on, such as the handle of a runtime.
+/// Answers the rows of a stream, one after the other. An implementation reads the fields of each
+/// row itself, so it decides which rows there are. `Row::read` reads the rows of a database.
+/// `context` is what answering needs but no answer depends on, such as the handle of a runtime.
 pub trait Answering<C> {
     /// The relation between the row's number, counted from 1, the state before, the fields, the
     /// line, and the state after.
