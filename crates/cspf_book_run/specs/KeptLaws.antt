@@ -16,7 +16,7 @@ pub record RemakesBook (text : List ℕ) (most : ℕ) (t : BookRunState) : Type 
   pub changes : after.changes ≡ []
   pub refused : after.refused ≡ 0
 
--- The kept text of rows restores their book, with no more rows.
+-- The kept text of rows restores their book, and has at most as many rows.
 abbrev pub KeptIsTheBook : Type 0
 KeptIsTheBook =
     (rows : List (List (List ℕ))) (text : List ℕ) (t : BookRunState) → AreBookRowsKept rows text t → RemakesBook text (length rows) t

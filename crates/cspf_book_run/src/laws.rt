@@ -34,7 +34,8 @@ pub fn covered_books()
 }
 
 /// Law: the kept texts of rows restore their book. A run over the texts ends with the same base,
-/// version and placements. It refuses nothing, leaves no changes open, and has no more rows.
+/// version and placements. It refuses nothing and leaves no changes open. The texts have at most as
+/// many rows as were read.
 pub fn kept_is_the_book()
     ensures { KeptIsTheBook }
 {

@@ -21,7 +21,8 @@ pub enum StreamError {
     /// A line was written, but the flush after it failed.
     #[error("a flush failed")]
     Flush,
-    /// There are more than `MOST_STREAM_ROWS` rows. No run reads as many.
+    /// There are more rows than the limit allows. `answer_rows` has the limit `MOST_STREAM_ROWS`,
+    /// which no run reaches.
     #[error("too many rows")]
     TooManyRows,
 }
