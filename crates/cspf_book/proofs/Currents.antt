@@ -22,13 +22,13 @@ use Rattle.cspf_book.specs.Alike.{AreAlike, IsCurrentAt, IsCurrentBut, IsCurrent
 use Rattle.cspf_book.proofs.EffectiveLinks.{effective_at}
 use Rattle.cspf_book.proofs.KeyTests.{same_key_test}
 
--- Replacing the links of entries leaves it unchanged whether all entries are below a key.
+-- Whether a key is below the keys of all entries doesn't depend on the links of the entries.
 below_all-mapped : (f : Link → Link) (k : Key) (es : List (Key × Link))
     → below_all key_cmp k (map (λ e. (e.0, f e.1)) es) ≡ below_all key_cmp k es
 below_all-mapped f k [] = refl
 below_all-mapped f k (e ∷ es) = ap (λ b. is_lt (key_cmp k e.0) && b) (below_all-mapped f k es)
 
--- Replacing the links of entries leaves it unchanged whether the entries are sorted.
+-- Whether entries are sorted by their keys doesn't depend on their links.
 is_sorted-mapped : (f : Link → Link) (es : List (Key × Link))
     → map.is_sorted key_cmp (map (λ e. (e.0, f e.1)) es) ≡ map.is_sorted key_cmp es
 is_sorted-mapped f [] = refl
@@ -42,7 +42,7 @@ unfolding effective_link
 ends_kept placements (Some l) = refl
 ends_kept placements None = refl
 
--- Replacing the links of entries leaves the number of entries unchanged.
+-- The number of entries stays the same if their links are replaced.
 len-mapped : (base : Database) (es : List (Key × Link)) → T (map.is_sorted key_cmp es)
     → length es ≡ length (map.entries base.links) → map.len (map.from_entries {R = key_cmp} es) ≡ map.len base.links
 len-mapped base es sorted many =

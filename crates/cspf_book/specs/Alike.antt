@@ -20,7 +20,8 @@ pub record AreAlike (d e : Database) : Type 0 where
   pub count : link_count e ≡ link_count d
   pub ends : (k : Key) → option_map ends_of_link (link_at e k) ≡ option_map ends_of_link (link_at d k)
 
--- At this key `d` has the base's link with its effective bandwidths, or no link if the base has none.
+-- `d` is up to date at this key: it has the base's link with its effective bandwidths, or no link if the base has
+-- none.
 abbrev pub IsCurrentAt : Database → List Placement → Database → Key → Type 0
 IsCurrentAt base placements d k = link_at d k ≡ option_map (effective_link placements) (link_at base k)
 

@@ -56,7 +56,8 @@ ReleasingKeepsCovered =
     → IsCovered placements l priority → IsCovered (others id placements) l priority
 
 -- Changes of the base keep each covered link covered, unless `over` lists the link. Each link that the base has
--- after the changes was already a link of the base, or is covered at the priority, or is listed by `over` there.
+-- after the changes was already a link of the base, or is covered at the priority, or `over` lists it at the
+-- priority.
 abbrev pub AbsorbingKeepsCovered : Type 0
 AbsorbingKeepsCovered =
     (base : Database) (placements : List Placement) (changes : List Change) (l : Link) (priority : ℕ)

@@ -22,7 +22,7 @@ is_over placements l priority =
 abbrev pub over_at : Link → ℕ → Over
 over_at l priority = record { from = l.from; local = l.local; priority = priority }
 
--- the link's key with each priority at which the link is over, in order
+-- the link's key with each priority at which `is_over` holds, in order
 abbrev pub over_on : List Placement → Link → List Over
 over_on placements l = map (over_at l) (filter (is_over placements l) priorities)
 

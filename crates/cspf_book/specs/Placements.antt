@@ -36,6 +36,6 @@ has_id id placements = list_any (λ p. nat_eq (id_of p) id) placements
 abbrev pub others : ℕ → List Placement → List Placement
 others id placements = filter (λ p. not (nat_eq (id_of p) id)) placements
 
--- the index of the first placement with this id, or how many placements there are if none has it
+-- the index of the first placement with this id, or the number of placements if no placement has the id
 abbrev pub index_of_id : ℕ → List Placement → ℕ
 index_of_id id placements = position_or_len (λ p. nat_eq (id_of p) id) placements

@@ -15,8 +15,8 @@ use cspf_db::Table;
 use cspf_model::Batch;
 use std::alloc::AllocError;
 
-/// The index of the first placement with this id. If no placement has the id, it is how many
-/// placements there are.
+/// The index of the first placement with this id. If no placement has the id, the result is the
+/// number of placements.
 pub(crate) fn index_of(placements: &[Placement], id: u64) -> usize
     ensures { result ≡ index_of_id id placements.now }
 {

@@ -34,7 +34,7 @@ pub struct BookRows {
     ghost fewer: { batches ≤ book.version },
 }
 
-/// The lines that answer a row, and the text of the row that is kept.
+/// The lines that answer a row, and the text that is kept of the row.
 #[derive(Drop)]
 pub(crate) struct KeptLine {
     /// The lines. A change has none.
@@ -70,8 +70,8 @@ impl BookRows {
         })
     }
 
-    /// Answers the row with this number, counted from 1, from its fields. Also returns the text of
-    /// the row that is kept.
+    /// Answers the row with this number, counted from 1, from its fields. Also returns the text
+    /// that is kept of the row.
     pub(crate) fn answer(
         &mut self,
         alloc: Global,

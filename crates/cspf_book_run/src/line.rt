@@ -11,9 +11,9 @@ use cspf_ero::reply_line;
 use cspf_model::Outcome;
 use std::alloc::{AllocError, Global};
 
-/// The lines of an accepted base batch. First comes an `over` line for each link and priority with
-/// less bandwidth than is counted. Then comes a `lost` line for each placement that loses its
-/// route, and last the line of the batch.
+/// The lines of an accepted base batch. First comes an `over` line for each link and priority at
+/// which the link has less bandwidth than is counted on it. Then comes a `lost` line for each
+/// placement that loses its route, and last the line of the batch.
 pub(crate) fn base_lines(
     alloc: Global,
     over: &[Over],
@@ -32,7 +32,8 @@ pub(crate) fn base_lines(
     Ok(lines)
 }
 
-/// Writes an `over` line for each link and priority with less bandwidth than is counted.
+/// Writes an `over` line for each link and priority at which the link has less bandwidth than is
+/// counted on it.
 fn write_over(alloc: Global, lines: &mut Vec<u8>, over: &[Over]) -> Result<(), AllocError>
     ensures { OnOk result (lines.new.items ≡ lines.old.items ++ flat_map over_line over.now) }
 {

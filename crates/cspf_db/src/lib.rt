@@ -1,5 +1,5 @@
-//! The table that keeps a traffic engineering database. Its types, and the definitions that its
-//! contracts use, are those of `cspf_model`, which this crate exports, too.
+//! The table that keeps a traffic engineering database. Its contracts use the definitions of
+//! `cspf_model`. This crate also exports the types of `cspf_model`.
 #![tactic(auto)]
 
 mod limits;

@@ -1,5 +1,6 @@
 //! A stream of rows that are answered one by one. The line of each row is written before the next
-//! row is read. The only limit is the 64-bit count of rows, unless the caller sets a lower one.
+//! row is read. A stream has at most as many rows as a 64-bit number can count, or as its caller
+//! allows.
 //!
 //! The `Answering` of a stream answers each row. `specs/RowAnswers.antt` defines the answers to a
 //! stream of rows. `specs/StreamStops.antt` defines what was read, answered and written if a stream
