@@ -43,7 +43,7 @@ pub record BookRunState : Type 0 where
   pub book : BookState
   -- how many base batches were accepted
   pub batches : ℕ
-  -- the open changes, for which no end row has come yet
+  -- the open changes: those after the last end row
   pub changes : List Change
   -- how many requests were answered, from `ask` and `place` rows together
   pub answers : ℕ

@@ -16,7 +16,8 @@ BooksHaveOneReply =
     (rows : List (List (List ℕ))) (first second : List ℕ) (a b : Summary) → IsBookRun rows first a → IsBookRun rows second b
     → (first ≡ second) × (a ≡ b)
 
--- Each link of the base is covered at each priority: at most as much is counted as the link has.
+-- Each link of the base is covered at each priority: the placements count at most the link's unreserved bandwidth
+-- on it.
 abbrev pub IsBookCovered : BookState → Type 0
 IsBookCovered s = (l : Link) (priority : ℕ) → IsLinkOf s.base l → priority < 8 → IsCovered s.placements l priority
 

@@ -19,10 +19,10 @@ pub fn one_reply_of_books()
     one_refusal();
 }
 
-/// Law: each link stays covered, or an `over` line says otherwise. A link is covered if at most as
-/// much is counted on it as it has. At the start each link is covered. Then each link stays covered
-/// until the next base batch is accepted. After any rows a link is covered, or its `over` line was
-/// written.
+/// Law: each link stays covered, or an `over` line says otherwise. A link is covered if the
+/// placements count at most its unreserved bandwidth on it, at each priority. At the start each
+/// link is covered. Then each link stays covered until the next base batch is accepted. After any
+/// rows a link is covered, or its `over` line was written.
 pub fn covered_books()
     ensures start { IsBookCovered book_start.book }
     ensures placed { RowsKeepCovered }

@@ -14,7 +14,7 @@ use std::alloc::{AllocError, Global};
 /// The state between two rows. It takes no more memory as rows are read.
 #[derive(Drop)]
 pub struct Rows<S> {
-    /// What takes the batches and answers the requests.
+    /// The sink, which accepts or refuses the batches and answers the requests.
     pub sink: S,
     /// The open changes.
     pub changes: OpenChanges,

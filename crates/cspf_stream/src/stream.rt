@@ -25,7 +25,7 @@ struct Manner {
 }
 
 /// Answers all rows that the reader hasn't read yet, in order. The line of a row is written and
-/// flushed before the next row is read. It is one write if the writer takes the line whole. An
+/// flushed before the next row is read. It is written in one write if the writer takes it whole. An
 /// empty line isn't written. Memory is taken only for the longest row, and for what the answers
 /// need.
 ///

@@ -44,7 +44,7 @@ apart_marks marks rising =
 pub len-marks_in : (marks : List ℕ) → AreRising marks → set.len (marks_in marks) ≡ length marks
 len-marks_in marks rising = len-from_distinct marks (apart_marks marks rising)
 
--- A test of the numbers after one more number is inserted.
+-- Whether one of the numbers passes a test, after one more number is inserted.
 any-insert : (p : ℕ → Bool) (ns : List ℕ) (at n : ℕ) → at ≤ length ns → list_any p (insert ns at n) ≡ (p n || list_any p ns)
 any-insert p ns zero n h = refl
 any-insert p [] (suc at) n h = absurd (omega arith)
@@ -72,7 +72,7 @@ not_among n (m ∷ ns) apart q tie =
     let same : q ≡ n = set.nat_cmp-IsAntisymmetric q n ((Equal-is (nat_cmp q n)).0 tie) in
     ap (λ b. b || list_any (eq_by_cmp nat_cmp q) ns) (ap (λ k. eq_by_cmp nat_cmp k m) same ∙ apart.0) ∙ not_among n ns apart.1 q tie
 
--- A test of the numbers after one number is taken out.
+-- Whether one of the numbers passes a test, after one number is taken out.
 any-without : (ns : List ℕ) (at n d : ℕ) → IsDistinct (eq_by_cmp nat_cmp) ns → at < length ns → get_or ns at d ≡ n → (q : ℕ)
     → list_any (eq_by_cmp nat_cmp q) (without ns at) ≡ (not (eq_by_cmp nat_cmp q n) && list_any (eq_by_cmp nat_cmp q) ns)
 unfolding IsDistinct

@@ -154,7 +154,7 @@ fn see(seen: &mut [bool], row: Option<usize>) -> bool
     true
 }
 
-/// What the changes do. If one removes a link that isn't there, returns the index of the first such
+/// What the changes do. If a change removes a link that isn't there, returns the index of the first such
 /// change. `seen` has a mark for each row that was seen.
 fn tally_each(columns: &Columns, changes: &[Change], seen: &mut [bool]) -> Result<Tally, usize>
     requires columns { AreColumns columns.now }
@@ -184,7 +184,7 @@ fn tally_each(columns: &Columns, changes: &[Change], seen: &mut [bool]) -> Resul
     })
 }
 
-/// What the changes do. If one removes a link that isn't there, returns the index of the first such
+/// What the changes do. If a change removes a link that isn't there, returns the index of the first such
 /// change. Only for more than `FEW` changes it is found out whether no two changes affect the same
 /// row.
 pub(super) fn tally_all(columns: &Columns, changes: &[Change]) -> Result<Tally, usize>
