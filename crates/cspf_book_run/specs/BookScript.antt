@@ -155,7 +155,8 @@ IsPlaceRefusal s q unplaced.Links = (s.book.version < MOST_VERSIONS) × IsPlaceE
 IsPlaceRefusal s q unplaced.Twice = (s.book.version < MOST_VERSIONS) × IsPlaceError s.book q Twice
 
 -- The answer to a `place` row. It is the best answer in the effective database without the request's earlier
--- placement, and a route is placed. The line has the version of the book afterwards. Before, the book has room.
+-- placement, and a route is placed. The line has the version of the book afterwards. Before the row the book has
+-- room for one more placement and one more version.
 pub record IsPlaceAnswered (s : BookRunState) (q : Request) (hold : ℕ) (line : List ℕ) (book : BookState) : Type 0 where
   pub room : s.book.version < MOST_VERSIONS
   pub few : HasRoomFor s.book q.id

@@ -154,8 +154,8 @@ fn see(seen: &mut [bool], row: Option<usize>) -> bool
     true
 }
 
-/// What the changes do. If a change removes a link that isn't there, returns the index of the first such
-/// change. `seen` has a mark for each row that was seen.
+/// What the changes do. If a change removes a link that isn't there, returns the index of the first
+/// such change. `seen` marks each row that was seen.
 fn tally_each(columns: &Columns, changes: &[Change], seen: &mut [bool]) -> Result<Tally, usize>
     requires columns { AreColumns columns.now }
     requires short { length changes.now ≤ MOST_CHANGES }
@@ -184,9 +184,9 @@ fn tally_each(columns: &Columns, changes: &[Change], seen: &mut [bool]) -> Resul
     })
 }
 
-/// What the changes do. If a change removes a link that isn't there, returns the index of the first such
-/// change. Only for more than `FEW` changes it is found out whether no two changes affect the same
-/// row.
+/// What the changes do. If a change removes a link that isn't there, returns the index of the first
+/// such change. Whether no two changes affect the same row is found out only for more than `FEW`
+/// changes.
 pub(super) fn tally_all(columns: &Columns, changes: &[Change]) -> Result<Tally, usize>
     requires columns { AreColumns columns.now }
     requires short { length changes.now ≤ MOST_CHANGES }
